@@ -1,0 +1,13 @@
+//! What every part of the model of page pinning counts and names with: bounded numbers, rights, page table
+//! entries and how they are packed, short lists without an allocator, and want of memory.
+#![tactic(auto)]
+
+mod entry;
+mod lists;
+mod memory;
+mod numbers;
+
+pub use entry::{Allowed, Entry, Rights, Want, Zone, pack, unpack};
+pub use lists::{Parts, Words};
+pub use memory::NoMemory;
+pub use numbers::{ActorNo, FrameNo, HandleNo, MirrorNo, PageNo, ProcNo, WordNo};

@@ -1,0 +1,80 @@
+//! Short lists of a fixed greatest length, which take no memory.
+ghost use Rattle.std.specs.Prelude.{◌≡◌, ◌<◌, [], ◌∷◌, ◌++◌, length};
+
+use arrayvec::ArrayVec;
+use std::marker::Model;
+
+/// The segments of a transfer: where each begins in the pin, and how many words it has. At most 8.
+#[derive(Debug, Drop)]
+pub struct Parts {
+    parts: ArrayVec<(u32, u8), 8>,
+}
+
+impl Model for Parts {
+    ghost use Rattle.std.specs.Prelude.{ℕ, List};
+
+    ghost Value = { List (ℕ × ℕ) };
+
+    ghost view = { λ p. p.parts.items };
+}
+
+impl Parts {
+    pub fn new() -> Self
+        ensures { result ≡ [] }
+    {
+        Parts {
+            parts: ArrayVec::new(),
+        }
+    }
+
+    /// Puts a segment of `n` words from word `index` on at the end.
+    pub fn push(&mut self, index: u32, n: u8)
+        requires { length self.old < 8 }
+        ensures { self.new ≡ self.old ++ (index, n) ∷ [] }
+    {
+        self.parts.push((index, n));
+    }
+
+    pub fn as_slice(&self) -> &[(u32, u8)]
+        ensures { result.now ≡ self.now }
+    {
+        self.parts.as_slice()
+    }
+}
+
+/// The words that a transfer moved. At most 64.
+#[derive(Debug, Drop)]
+pub struct Words {
+    words: ArrayVec<u64, 64>,
+}
+
+impl Model for Words {
+    ghost use Rattle.std.specs.Prelude.{ℕ, List};
+
+    ghost Value = { List ℕ };
+
+    ghost view = { λ w. w.words.items };
+}
+
+impl Words {
+    pub fn new() -> Self
+        ensures { result ≡ [] }
+    {
+        Words {
+            words: ArrayVec::new(),
+        }
+    }
+
+    pub fn push(&mut self, v: u64)
+        requires { length self.old < 64 }
+        ensures { self.new ≡ self.old ++ v ∷ [] }
+    {
+        self.words.push(v);
+    }
+
+    pub fn as_slice(&self) -> &[u64]
+        ensures { result.now ≡ self.now }
+    {
+        self.words.as_slice()
+    }
+}

@@ -1,0 +1,36 @@
+-- What a script says, as contracts see it: the value of a `Script`.
+use Rattle.std.specs.Prelude.{ℕ, Bool, List, Option, slice_get}
+use Rattle.gup_script.specs.declared.op.Op.{Op}
+use Rattle.gup_script.specs.declared.op.Kind.{Kind}
+
+-- how many frames the movable and the normal zone have, and how many tables
+pub record FrameCounts : Type 0 where
+  pub movable : ℕ
+  pub normal : ℕ
+  pub tables : ℕ
+
+-- a process: a `process` line's is born at the start, a `child` line's is brought by a fork
+pub record Process : Type 0 where
+  pub name : List ℕ
+  pub born : Bool
+
+-- an actor with its operations in order
+pub record Actor : Type 0 where
+  pub name : List ℕ
+  pub kind : Kind
+  pub ops : List Op
+
+-- A script. Processes, actors, handles and mirror slots are numbered from 0 in the order in which they are
+-- declared; `turns` are the actors of the written turns.
+pub record ScriptValue : Type 0 where
+  pub frames : FrameCounts
+  pub processes : List Process
+  pub actors : List Actor
+  pub handles : List (List ℕ)
+  pub mirrors : List (List ℕ)
+  pub turns : List ℕ
+  pub seed : ℕ
+
+-- what is declared under a number
+abbrev pub actor_at : ScriptValue → ℕ → Option Actor
+actor_at s a = slice_get s.actors a

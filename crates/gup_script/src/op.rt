@@ -1,0 +1,35 @@
+use gup_base::{PageNo, ProcNo, Rights, WordNo};
+
+/// An operation of an actor.
+#[derive(Clone, Copy, Debug, PartialEq, Eq)]
+pub enum Op {
+    /// `map p n r` or `map p n rw`: n pages from p on get these rights (`mmap`).
+    Map {
+        page: PageNo,
+        n: u16,
+        rights: Rights,
+    },
+    /// `unmap p n`: the pages from p to p + n - 1 lose their mapping (`munmap`).
+    Unmap {
+        page: PageNo,
+        n: u16,
+    },
+    /// `load p.w`: reads a word.
+    Load {
+        page: PageNo,
+        word: WordNo,
+    },
+    /// `store p.w v`: writes a word.
+    Store {
+        page: PageNo,
+        word: WordNo,
+        value: u64,
+    },
+}
+
+/// What an actor is.
+#[derive(Clone, Copy, Debug, PartialEq, Eq)]
+pub enum Kind {
+    /// A CPU thread of a process.
+    Thread(ProcNo),
+}
