@@ -1,0 +1,20 @@
+//! The law of simulation: what the core machine does to the plain state is its plain events, whatever the order of
+//! its events.
+#![tactic(auto)]
+
+ghost use Rattle.std.specs.Prelude.{ℕ, Bool};
+ghost use Rattle.gup_events.specs.State.{CoreState, start};
+ghost use Rattle.gup_events.specs.Event.{CoreEvent, Can};
+ghost use Rattle.gup_events.specs.Sound.{IsSound, Simulates};
+
+/// The start of the core machine is sound.
+pub fn starts_sound()
+    ensures { (movable normal : ℕ) (is_born : ℕ → Bool) → IsSound (start movable normal is_born) }
+{
+}
+
+/// A core event that can happen in a sound state leaves a sound state, and does its plain event to the plain state.
+pub fn simulates()
+    ensures { (s : CoreState) (e : CoreEvent) → IsSound s → Can s e → Simulates s e }
+{
+}

@@ -1,0 +1,5 @@
+pub mod Put
+pub mod State
+pub mod Event
+pub mod Note
+pub mod Kinds
