@@ -1,0 +1,99 @@
+-- A journal follows its script where each actor's notes are those of its operations in order, and the notes of one
+-- operation have one of the shapes of its kind.
+use Rattle.std.specs.Prelude.{◌≡◌, ℕ, ◌+◌, ◌==◌, ◌&&◌, ◌⊎◌, Bool, true, false, IsTrue, List, [], ◌∷◌, ◌++◌, map, filter, zero, suc}
+use Rattle.gup_plain.specs.Note.{NoteValue}
+use Rattle.gup_plain.specs.declared.answer.Answer.{Answer}
+use Rattle.gup_plain.specs.declared.answer.Answer.TheVariants as answers
+use Rattle.gup_plain.specs.declared.event.PlainEvent.TheVariants as events
+use Rattle.gup_plain.specs.declared.note.What.{What}
+use Rattle.gup_plain.specs.declared.note.What.TheVariants.{Silent, Idle, Wait, Event, Done}
+use Rattle.gup_script.specs.declared.op.Op.{Op}
+use Rattle.gup_script.specs.declared.op.Op.TheVariants.{Map, Unmap, Load, Store}
+use Rattle.gup_script.specs.Script.{ScriptValue}
+use Rattle.gup_follows.specs.Place.{process_of, ops_of}
+
+-- an operation: its actor, the actor's process, and its number in the actor, from 1
+pub record Who : Type 0 where
+  pub actor : ℕ
+  pub proc : ℕ
+  pub number : ℕ
+
+abbrev pub note_of : (turn actor number : ℕ) → What → NoteValue
+note_of turn actor number what = record { turn = turn; actor = actor; op = number; what = what }
+
+abbrev pub notes_of_turn : (turn actor number : ℕ) → List What → List NoteValue
+notes_of_turn turn actor number whats = map (note_of turn actor number) whats
+
+-- the notes are those of one turn of the operation
+abbrev pub IsTurn : Who → List NoteValue → List What → Type 0
+IsTurn who notes whats = (turn : ℕ) × (notes ≡ notes_of_turn turn who.actor who.number whats)
+
+-- which refusals an operation has
+abbrev pub refuses : Op → Answer → Bool
+refuses (Load page word) answers.Missing = true
+refuses (Load page word) answers.NoFrame = true
+refuses (Store page word value) answers.Missing = true
+refuses (Store page word value) answers.Forbidden = true
+refuses (Store page word value) answers.NoFrame = true
+refuses (Map page n rights) answers.Overlap = true
+refuses (Map page n rights) answers.Full = true
+refuses op answers.Unborn = true
+refuses op answer = false
+
+-- a refusal is one turn
+abbrev pub IsRefused : Who → Op → List NoteValue → Type 0
+IsRefused who op notes = (answer : Answer) × IsTrue (refuses op answer) × IsTurn who notes (Done answer ∷ [])
+
+-- one page in a turn: with its event, or passed in silence
+abbrev pub TakesDown : Who → ℕ → List NoteValue → Type 0
+TakesDown who page notes =
+    IsTurn who notes (Event (events.Unmap who.actor who.proc page) ∷ []) ⊎ IsTurn who notes (Silent ∷ [])
+
+-- the last page, with the answer
+abbrev pub TakesDownLast : Who → ℕ → List NoteValue → Type 0
+TakesDownLast who page notes =
+    IsTurn who notes (Event (events.Unmap who.actor who.proc page) ∷ Done answers.Plain ∷ [])
+    ⊎ IsTurn who notes (Done answers.Plain ∷ [])
+
+-- n pages from this one on, one a turn, in rising order
+abbrev pub TakesDownAll : Who → (page n : ℕ) → List NoteValue → Type 0
+TakesDownAll who page zero notes = ⊥
+TakesDownAll who page (suc zero) notes = TakesDownLast who page notes
+TakesDownAll who page (suc (suc n)) notes =
+    (front rest : List NoteValue) × (notes ≡ front ++ rest) × TakesDown who page front × TakesDownAll who (page + 1) (suc n) rest
+
+-- the shapes of an operation's notes
+abbrev pub Shape : Who → Op → List NoteValue → Type 0
+Shape who (Load page word) notes =
+    ((value : ℕ) × IsTurn who notes (Event (events.Load who.actor who.proc page word value) ∷ Done (answers.Value value) ∷ []))
+    ⊎ IsRefused who (Load page word) notes
+Shape who (Store page word value) notes =
+    IsTurn who notes (Event (events.Store who.actor who.proc page word value) ∷ Done answers.Plain ∷ [])
+    ⊎ IsRefused who (Store page word value) notes
+Shape who (Map page n rights) notes =
+    IsTurn who notes (Event (events.Map who.actor who.proc page n rights) ∷ Done answers.Plain ∷ [])
+    ⊎ IsRefused who (Map page n rights) notes
+Shape who (Unmap page n) notes = TakesDownAll who page n notes ⊎ IsRefused who (Unmap page n) notes
+
+-- the notes are those of some of the operations, from the first on, each in one of its shapes
+abbrev pub Shapes : (actor proc number : ℕ) → List Op → List NoteValue → Type 0
+Shapes actor proc number [] notes = notes ≡ []
+Shapes actor proc number (op ∷ ops) notes =
+    (notes ≡ [])
+    ⊎ ((front rest : List NoteValue) × (notes ≡ front ++ rest)
+    × Shape (record { actor = actor; proc = proc; number = number }) op front
+    × Shapes actor proc (number + 1) ops rest)
+
+-- the notes of an actor's operations: neither that it waits nor that it has finished
+abbrev pub is_of_operation : What → Bool
+is_of_operation Silent = true
+is_of_operation (Event e) = true
+is_of_operation (Done answer) = true
+is_of_operation Idle = false
+is_of_operation (Wait waiting) = false
+
+abbrev pub own_notes : ℕ → List NoteValue → List NoteValue
+own_notes a notes = filter (λ (n : NoteValue). (n.actor == a) && is_of_operation n.what) notes
+
+abbrev pub Follows : ScriptValue → List NoteValue → Type 0
+Follows script notes = (a : ℕ) → Shapes a (process_of script a) 1 (ops_of script a) (own_notes a notes)

@@ -1,0 +1,5 @@
+pub mod Place
+pub mod Denial
+pub mod Plain
+pub mod Follows
+pub mod Order

@@ -1,0 +1,100 @@
+-- A journal is plain where its events, from the script's start on, each can happen in the plain state, and where
+-- the plain state's denials stand exactly where it gives them.
+use Rattle.std.specs.Prelude.{◌≡◌, ℕ, ◌+◌, ◌<◌, Bool, true, false, List, [], ◌∷◌, Option, Some, None}
+use Rattle.gup_plain.specs.Note.{NoteValue}
+use Rattle.gup_plain.specs.Put.{put}
+use Rattle.gup_plain.specs.State.{PlainState, Birth, unborn, growing, born, failed, start}
+use Rattle.gup_plain.specs.Event.{CanHappen, happened}
+use Rattle.gup_plain.specs.declared.answer.Answer.{Answer}
+use Rattle.gup_plain.specs.declared.note.What.{What}
+use Rattle.gup_plain.specs.declared.note.What.TheVariants.{Silent, Idle, Wait, Event, Done}
+use Rattle.gup_script.specs.declared.op.Op.{Op}
+use Rattle.gup_script.specs.declared.op.Op.TheVariants.{Map, Unmap, Load, Store}
+use Rattle.gup_script.specs.Script.{ScriptValue}
+use Rattle.gup_follows.specs.Place.{Place, first_place, place_after, process_of, present_op, starts_born}
+use Rattle.gup_follows.specs.Denial.{denial, is_denial}
+
+-- No operation ends while its process is yet to be born.
+abbrev pub IsSettled : Birth → Type 0
+IsSettled born = Unit {0}
+IsSettled failed = Unit {0}
+IsSettled unborn = ⊥
+IsSettled (growing parent) = ⊥
+
+-- Where an operation goes page by page, a turn without an event passes a page that is not named.
+abbrev pub Passes : PlainState → ℕ → Op → (far : ℕ) → Type 0
+Passes s p (Unmap page n) far = far < n → s.right p (page + far) ≡ None
+Passes s p (Map page n rights) far = Unit {0}
+Passes s p (Load page word) far = Unit {0}
+Passes s p (Store page word value) far = Unit {0}
+
+-- An answer without an event is the denial, if the plain state gives one, and else no denial.
+abbrev pub IsAnswerOf : Option Answer → Answer → Type 0
+IsAnswerOf None answer = is_denial answer ≡ false
+IsAnswerOf (Some denied) answer = answer ≡ denied
+
+-- the same where the operation had an event: it was judged in the state before that
+abbrev pub IsAnswerAfter : (had : Bool) → Option Answer → Answer → Type 0
+IsAnswerAfter true denied answer = is_denial answer ≡ false
+IsAnswerAfter false denied answer = IsAnswerOf denied answer
+
+-- an operation that is denied has no event
+abbrev pub IsUndeniedAt : (had : Bool) → Option Answer → Type 0
+IsUndeniedAt true denied = Unit {0}
+IsUndeniedAt false denied = denied ≡ None
+
+-- the note of an actor of process p, at this place of its operation, is right in the plain state
+abbrev pub IsRightOf : PlainState → ℕ → Place → Op → What → Type 0
+IsRightOf s p place op Silent = Passes s p op place.far
+IsRightOf s p place op (Event e) = CanHappen s e × IsUndeniedAt place.had (denial s p op)
+IsRightOf s p place op (Done answer) =
+    IsSettled (s.birth p) × IsAnswerAfter place.had (denial s p op) answer × Passes s p op place.far
+IsRightOf s p place op Idle = Unit {0}
+IsRightOf s p place op (Wait waiting) = Unit {0}
+
+-- behind its last operation an actor has neither events nor answers
+abbrev pub IsRightBehind : What → Type 0
+IsRightBehind Silent = ⊥
+IsRightBehind (Event e) = ⊥
+IsRightBehind (Done answer) = ⊥
+IsRightBehind Idle = Unit {0}
+IsRightBehind (Wait waiting) = Unit {0}
+
+abbrev pub IsRightAt : PlainState → ℕ → Place → Option Op → What → Type 0
+IsRightAt s p place (Some op) what = IsRightOf s p place op what
+IsRightAt s p place None what = IsRightBehind what
+
+-- what the notes so far have led to
+pub record Judged : Type 0 where
+  pub plain : PlainState
+  pub places : ℕ → Place
+
+abbrev pub plain_after : PlainState → What → PlainState
+plain_after s (Event e) = happened s e
+plain_after s Silent = s
+plain_after s Idle = s
+plain_after s (Wait waiting) = s
+plain_after s (Done answer) = s
+
+abbrev pub judged_after : Judged → NoteValue → Judged
+judged_after j note =
+    record {
+      plain = plain_after j.plain note.what;
+      places = put note.actor (place_after (j.places note.actor) note.what) j.places;
+    }
+
+abbrev pub IsRight : ScriptValue → Judged → NoteValue → Type 0
+IsRight script j note =
+    let place = j.places note.actor in
+    IsRightAt j.plain (process_of script note.actor) place (present_op script note.actor place) note.what
+
+-- each note is right in what the notes before it have led to
+abbrev pub ArePlain : ScriptValue → Judged → List NoteValue → Type 0
+ArePlain script j [] = Unit {0}
+ArePlain script j (note ∷ notes) = IsRight script j note × ArePlain script (judged_after j note) notes
+
+abbrev pub judged_first : ScriptValue → Judged
+judged_first script = record { plain = start (starts_born script); places = λ _. first_place }
+
+abbrev pub IsPlain : ScriptValue → List NoteValue → Type 0
+IsPlain script notes = ArePlain script (judged_first script) notes

@@ -1,0 +1,31 @@
+//! The turns of the core machine and the core run of a script, as definitions, and the laws of the core run.
+#![tactic(auto)]
+
+ghost use Rattle.std.specs.Prelude.{◌≡◌, List};
+ghost use Rattle.gup_plain.specs.Note.{NoteValue};
+ghost use Rattle.gup_script.specs.Script.{ScriptValue};
+ghost use Rattle.gup_script.specs.Valid.{IsScript};
+ghost use Rattle.gup_follows.specs.Plain.{IsPlain};
+ghost use Rattle.gup_follows.specs.Follows.{Follows};
+ghost use Rattle.gup_follows.specs.Order.{InOrder};
+ghost use Rattle.gup_turns.specs.Run.{RunState, IsCoreRun};
+
+/// A script has one core run.
+pub fn one_core_run()
+    ensures { (script : ScriptValue) (m n : List NoteValue) (c d : RunState) → IsCoreRun script m c → IsCoreRun script n d → m ≡ n }
+{}
+
+/// The core run of a script follows it.
+pub fn core_run_follows()
+    ensures { (script : ScriptValue) (notes : List NoteValue) (end : RunState) → IsScript script → IsCoreRun script notes end → Follows script notes }
+{}
+
+/// The core run of a script is in the script's order.
+pub fn core_run_is_in_order()
+    ensures { (script : ScriptValue) (notes : List NoteValue) (end : RunState) → IsScript script → IsCoreRun script notes end → InOrder script notes }
+{}
+
+/// The core run of a script is plain.
+pub fn core_run_is_plain()
+    ensures { (script : ScriptValue) (notes : List NoteValue) (end : RunState) → IsScript script → IsCoreRun script notes end → IsPlain script notes }
+{}
