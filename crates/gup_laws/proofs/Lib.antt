@@ -1,0 +1,4 @@
+pub mod Puts
+pub mod Mappings
+pub mod Faults
+pub mod Data
