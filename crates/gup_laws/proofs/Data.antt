@@ -1,14 +1,14 @@
 -- The events that read and write a word of a page.
-use Rattle.std.proofs.Common.{◌≡◌, ℕ, ◌+◌, ◌-◌, ◌<◌, ◌≤◌, Bool, true, false, refl, sym, ap, arith}
-use Rattle.std.specs.Prelude.{Option, Some, None, IsSome, if◌then◌else◌}
+use Rattle.std.proofs.Common.{◌≡◌, ℕ, true, refl, arith}
+use Rattle.std.specs.Prelude.{Some, IsSome}
 use Rattle.std.proofs.lemmas.Bool.Decides.{nat_tests}
 use Rattle.gup_base.specs.declared.entry.Entry.{Entry}
 use Rattle.gup_base.specs.declared.entry.Rights.{Rights}
 use Rattle.gup_base.specs.declared.entry.Rights.TheVariants.{RW}
-use Rattle.gup_plain.specs.Put.{put, put2}
-use Rattle.gup_events.specs.State.{CoreState, plain_of}
-use Rattle.gup_events.specs.Event.{CoreEvent, Can, happens, entry_of, load, store}
-use Rattle.gup_events.specs.Sound.{IsSound, Simulates, CanTell}
+use Rattle.gup_events.specs.State.{CoreState}
+use Rattle.gup_events.specs.Event.{Can, happens, entry_of, load, store}
+use Rattle.gup_events.specs.Sound.{IsSound, Simulates}
+use Rattle.gup_laws.proofs.Clauses.{PreparedZero, EntryWords, UntouchedZero}
 
 -- the page of an entry is mapped
 entry_is_mapped : (s : CoreState) → IsSound s → (p g : ℕ) (e : Entry) → s.entry p g ≡ Some e → IsSome (s.right p g)
@@ -27,8 +27,7 @@ simulates-store s a p page word f value h c =
     let S : CoreState = happens s (store a p page word f value) in
     let here : s.entry p page ≡ Some (entry_of f true) = c.1 in
     let allowed : s.right p page ≡ Some RW = h.entry_allowed p page (entry_of f true) here refl in
-    let prepared_zero : (b d w : ℕ) → S.prepared b ≡ Some d → S.word d w ≡ 0 = λ b d w. grind (arith, nat_tests, h.prepared_zero b d w, h.prepared_apart b d p page (entry_of f true)) in
-    let entry_words : (q g w : ℕ) (e : Entry) → S.entry q g ≡ Some e → S.word e.frame w ≡ S.content (S.object q g) w = λ q g w e. grind (arith, nat_tests, h.entry_words q g w e, h.entry_mapped q g, h.entry_alone q g p page e (entry_of f true), λ (r : Rights). h.object_alone q g p page r RW) in
-    let untouched_zero : (q g w : ℕ) (r : Rights) → S.right q g ≡ Some r → S.entry q g ≡ None → S.content (S.object q g) w ≡ 0 = λ q g w r. grind (arith, nat_tests, h.untouched_zero q g w r, h.object_alone q g p page r RW) in
-    let sound : IsSound S = assumption in
-    record { sound = sound; can = (c.0, allowed); same = refl }
+    let prepared_zero : PreparedZero S = λ b d w. grind (arith, nat_tests, h.prepared_zero b d w, h.prepared_apart b d p page (entry_of f true)) in
+    let entry_words : EntryWords S = λ q g w e. grind (arith, nat_tests, h.entry_words q g w e, h.entry_mapped q g, h.entry_alone q g p page e (entry_of f true), λ (r : Rights). h.object_alone q g p page r RW) in
+    let untouched_zero : UntouchedZero S = λ q g w r. grind (arith, nat_tests, h.untouched_zero q g w r, h.object_alone q g p page r RW) in
+    record { sound = assumption; can = (c.0, allowed); same = refl }
