@@ -1,11 +1,19 @@
 -- What is left of a transfer that was broken off, where the bytes are told.
 use Rattle.std.specs.Prelude.{◌≡◌, ℕ, ◌<◌, ◌≤◌, List, Option, Some, None, length, take, drop}
 use Rattle.std.specs.Io.KnownBytes.{Appends}
+use Rattle.gup_io.specs.declared.source.ReadToEnd.{ReadToEnd}
+use Rattle.gup_io.specs.declared.source.ReadToEnd.TheVariants.{Failed, NoMemory}
 
--- told bytes lose some of their first, at most so many
-abbrev pub LosesUpTo : ℕ → Option (List ℕ) → Option (List ℕ) → Type 0
-LosesUpTo most None new = Unit {0}
-LosesUpTo most (Some bytes) new = (n : ℕ) × (n ≤ most) × (new ≡ Some (drop n bytes))
+-- how many bytes were read at least before reading broke off: want of memory comes only behind a byte
+abbrev pub least_read : ReadToEnd → ℕ
+least_read Failed = 0
+least_read NoMemory = 1
+
+-- told bytes lose their first ones, from `least` to `most` of them
+abbrev pub Loses : ℕ → ℕ → Option (List ℕ) → Option (List ℕ) → Type 0
+Loses least most None new = Unit {0}
+Loses least most (Some bytes) new =
+    (n : ℕ) × (least ≤ n) × (n ≤ most) × (n ≤ length bytes) × (new ≡ Some (drop n bytes))
 
 -- told bytes grow by the front of a text, and not by all of it
 abbrev pub AppendsPart : Option (List ℕ) → Option (List ℕ) → List ℕ → Type 0

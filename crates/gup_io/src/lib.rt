@@ -6,6 +6,8 @@ mod pace;
 mod real;
 mod sink;
 mod source;
+#[cfg(test)]
+mod tests;
 
 pub use memory::{MemSink, MemSource, SureSource};
 pub use pace::{NoPace, Pace};

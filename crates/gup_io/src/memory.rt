@@ -149,9 +149,9 @@ impl Source for SureSource {
         ensures bytes { IfOk result (λ n. Consumes (Some self.old) (Some self.new) (take n buf.new)) }
         ensures end { IfOk result (λ n. (n ≡ 0) ↔ (self.old ≡ [])) }
     {
-        let n = copy_front(&self.bytes[self.at..], buf);
-        self.at += n;
-        Ok(n)
+        let given = copy_front(&self.bytes[self.at..], buf);
+        self.at += given;
+        Ok(given)
     }
 }
 
@@ -182,8 +182,9 @@ impl MemSink {
     /// A sink with room for so many bytes, which is reserved here: no write takes memory. Its write number k,
     /// from 1, fails where k stands in `fails`.
     pub fn with_room(alloc: Global, room: usize, fails: Vec<u32>) -> Result<MemSink, NoMemory>
-        ensures { IfOk result
+        ensures value { IfOk result
             (λ s. s ≡ record { bytes = []; room = room; calls = 0; fails = fails.items; faults = 0 }) }
+        ensures no_room { room ≡ 0 → IsOk result }
     {
         let bytes = Vec::with_capacity(alloc, room)?;
         Ok(MemSink {
@@ -230,10 +231,10 @@ impl Sink for MemSink {
         ensures cause { OnErr result (HasCause self.old.faults self.new.faults) }
         ensures never_falls { self.old.faults ≤ self.new.faults }
     {
-        let does_fail = is_next_in(self.fails.as_slice(), self.calls);
+        let is_listed = is_next_in(self.fails.as_slice(), self.calls);
         self.calls = self.calls.saturating_add(1);
         let n = piece.len().min(self.room - self.bytes.len());
-        if does_fail || n == 0 {
+        if is_listed || n == 0 {
             self.faults = self.faults.saturating_add(1);
             return Err(Failed);
         }

@@ -1,7 +1,7 @@
 ghost use Rattle.std.specs.Prelude.{◌≡◌, ℕ, ◌+◌, ◌<◌, ◌≤◌, ◌↔◌, List, [], ◌++◌, Option, Some, length, take, drop, vec_len, IfOk, IfErr, IfSome, OnOk, OnErr};
 ghost use Rattle.std.specs.Io.KnownBytes.{Consumes, Keeps};
 ghost use Rattle.gup_io.specs.Faults.{HasCause, IsCauseOf};
-ghost use Rattle.gup_io.specs.Transfers.{LosesUpTo};
+ghost use Rattle.gup_io.specs.Transfers.{least_read, Loses};
 
 use crate::Failed;
 use std::alloc::Global;
@@ -63,7 +63,8 @@ pub fn read_up_to<S: Source>(
     ensures bytes { IfOk result (λ v. IfSome (S.remaining source.old) (λ bytes. v.items ≡ take most bytes)) }
     ensures rest { OnOk result (IfSome (S.remaining source.old)
         (λ bytes. S.remaining source.new ≡ Some (drop most bytes))) }
-    ensures broken_off { OnErr result (LosesUpTo most (S.remaining source.old) (S.remaining source.new)) }
+    ensures broken_off { IfErr result
+        (λ e. Loses (least_read e) most (S.remaining source.old) (S.remaining source.new)) }
 
     ensures uncounted { OnOk result (S.faults source.new ≡ S.faults source.old) }
     ensures cause { IfErr result (λ e. IsCauseOf e (S.faults source.old) (S.faults source.new)) }
@@ -91,7 +92,8 @@ fn read_more<S: Source>(
         × (bytes.new.items ≡ bytes.old.items ++ given)
         × Consumes (S.remaining source.old) (S.remaining source.new) given) }
     ensures end { IfOk result (λ n. IfSome (S.remaining source.old) (λ bytes. (n ≡ 0) ↔ (bytes ≡ []))) }
-    ensures broken_off { OnErr result (LosesUpTo most (S.remaining source.old) (S.remaining source.new)) }
+    ensures broken_off { IfErr result
+        (λ e. Loses (least_read e) most (S.remaining source.old) (S.remaining source.new)) }
     ensures uncounted { OnOk result (S.faults source.new ≡ S.faults source.old) }
     ensures cause { IfErr result (λ e. IsCauseOf e (S.faults source.old) (S.faults source.new)) }
     ensures never_falls { S.faults source.old ≤ S.faults source.new }

@@ -1,10 +1,10 @@
 use Rattle.std.proofs.Common.{arith, refl, inl, inr}
 use Rattle.gup_io.proofs.memory.MemSinkSink.write.Goals as goal
-use Rattle.gup_io.proofs.memory.MemSinkSink.write.Goals.{then-does_fail-via-then-does_fail, then-does_fail-via-else-does_fail+then-n-eq0}
+use Rattle.gup_io.proofs.memory.MemSinkSink.write.Goals.{then-is_listed-via-then-is_listed, then-is_listed-via-else-is_listed+then-n-eq0}
 
-pub returns-then-does_fail-clause-fails : goal.returns-then-does_fail-clause-fails
-returns-then-does_fail-clause-fails c =
-    elim c.then-does_fail.branch [
-      | then-does_fail-via-then-does_fail w ↦ (λ _. inl (rw (← c.self.view_is) (rw c.as_slice.ensures.value at (c.is_next_in-does_fail.ensures.stands.0 w.if-does_fail.true))), λ _. refl)
-      | then-does_fail-via-else-does_fail+then-n-eq0 w ↦ (λ _. inr (rw (← c.self.view_is) (omega (arith, c.self.inside.bytes.ok.0))), λ _. refl)
+pub returns-then-is_listed-clause-fails : goal.returns-then-is_listed-clause-fails
+returns-then-is_listed-clause-fails c =
+    elim c.then-is_listed.branch [
+      | then-is_listed-via-then-is_listed w ↦ (λ _. inl (rw (← c.self.view_is) (rw c.as_slice.ensures.value at (c.is_next_in-is_listed.ensures.stands.0 w.if-is_listed.true))), λ _. refl)
+      | then-is_listed-via-else-is_listed+then-n-eq0 w ↦ (λ _. inr (rw (← c.self.view_is) (omega (arith, c.self.inside.bytes.ok.0))), λ _. refl)
     ]

@@ -4,5 +4,5 @@ use Rattle.gup_io.proofs.memory.SureSourceSource.read.Goals as goal
 
 pub returns-clause-bytes : goal.returns-clause-bytes
 returns-clause-bytes c =
-    let copied = rw take_rest at c.copy_front-n.ensures.copied in
+    let copied = rw take_rest at c.copy_front-given.ensures.copied in
     rw (← c.self.view_is) (drop_split _ _ _ _ (rw c.deref.ensures.value at copied))
