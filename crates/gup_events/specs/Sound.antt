@@ -27,6 +27,8 @@ pub record IsSound (s : CoreState) : Type 0 where
   pub prepared_apart : (a f p g : ℕ) (e : Entry) → s.prepared a ≡ Some f → s.entry p g ≡ Some e → e.frame ≡ f → ⊥
   pub owed_apart : (a f p g : ℕ) (e : Entry) → s.owed a ≡ Some f → s.entry p g ≡ Some e → e.frame ≡ f → ⊥
   pub prepared_not_owed : (a b f : ℕ) → s.prepared a ≡ Some f → s.owed b ≡ Some f → ⊥
+  -- and a frame that has none is free
+  pub unnamed_free : (f : ℕ) → ((p g : ℕ) (e : Entry) → s.entry p g ≡ Some e → e.frame ≡ f → ⊥) → ((a : ℕ) → s.prepared a ≡ Some f → ⊥) → ((a : ℕ) → s.owed a ≡ Some f → ⊥) → s.count f ≡ 0
   -- an entry is of a mapped page, its frame is marked, and it is writable only where the page's rights allow it
   pub entry_mapped : (p g : ℕ) → s.right p g ≡ None → s.entry p g ≡ None
   pub entry_marked : (p g : ℕ) (e : Entry) → s.entry p g ≡ Some e → s.mark e.frame ≡ true

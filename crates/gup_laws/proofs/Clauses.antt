@@ -36,6 +36,10 @@ module _ (s : CoreState) where
   abbrev pub PreparedNotOwed : Type 0
   PreparedNotOwed = (a b f : ℕ) → s.prepared a ≡ Some f → s.owed b ≡ Some f → ⊥
 
+  -- a frame with none
+  abbrev pub UnnamedFree : Type 0
+  UnnamedFree = (f : ℕ) → ((p g : ℕ) (e : Entry) → s.entry p g ≡ Some e → e.frame ≡ f → ⊥) → ((a : ℕ) → s.prepared a ≡ Some f → ⊥) → ((a : ℕ) → s.owed a ≡ Some f → ⊥) → s.count f ≡ 0
+
   -- entries
   abbrev pub EntryMapped : Type 0
   EntryMapped = (p g : ℕ) → s.right p g ≡ None → s.entry p g ≡ None

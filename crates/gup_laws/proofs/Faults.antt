@@ -1,12 +1,12 @@
 -- The events of a page fault: a frame is taken, filled into an entry, made writable and given back.
-use Rattle.std.proofs.Common.{◌≡◌, ℕ, false, refl, arith}
+use Rattle.std.proofs.Common.{◌≡◌, ℕ, true, false, refl, arith}
 use Rattle.std.specs.Prelude.{Some}
 use Rattle.std.proofs.lemmas.Bool.Decides.{nat_tests}
 use Rattle.gup_base.specs.declared.entry.Entry.{Entry}
 use Rattle.gup_events.specs.State.{CoreState}
 use Rattle.gup_events.specs.Event.{Can, happens, entry_of, take_frame, fill, upgrade, put_entry}
 use Rattle.gup_events.specs.Sound.{IsSound, Simulates}
-use Rattle.gup_laws.proofs.Clauses.{EntryCounted, PreparedCounted, OwedCounted, EntryAlone, PreparedAlone, OwedAlone, PreparedApart, OwedApart, PreparedNotOwed, EntryMapped, EntryMarked, EntryAllowed, PreparedZero, EntryWords, UntouchedZero}
+use Rattle.gup_laws.proofs.Clauses.{EntryCounted, PreparedCounted, OwedCounted, EntryAlone, PreparedAlone, OwedAlone, PreparedApart, OwedApart, PreparedNotOwed, UnnamedFree, EntryMapped, EntryMarked, EntryAllowed, PreparedZero, EntryWords, UntouchedZero}
 
 -- a frame without references is in no entry, and neither prepared nor owed
 pub simulates-take_frame : (s : CoreState) (a f : ℕ) → IsSound s → Can s (take_frame a f) → Simulates s (take_frame a f)
@@ -22,6 +22,7 @@ simulates-take_frame s a f h c =
     let entry_marked : EntryMarked S = λ q g e. grind (arith, nat_tests, h.entry_marked q g e, h.entry_counted q g e) in
     let prepared_zero : PreparedZero S = λ b d w. grind (arith, nat_tests, h.prepared_zero b d w) in
     let entry_words : EntryWords S = λ q g w e. grind (arith, nat_tests, h.entry_words q g w e, h.entry_counted q g e) in
+    let unnamed_free : UnnamedFree S = λ d no_entry no_prepared no_owed. let old = h.unnamed_free d no_entry (λ b. grind (arith, nat_tests, no_prepared b)) no_owed in grind (arith, nat_tests, old, no_prepared a) in
     record { sound = assumption; can = tt; same = refl }
 
 -- the prepared frame is zero, as the page's object is so far
@@ -42,6 +43,7 @@ simulates-fill s a p page f h c =
     let prepared_zero : PreparedZero S = λ b d w. grind (arith, nat_tests, h.prepared_zero b d w) in
     let entry_words : EntryWords S = λ q g w e. grind (arith, nat_tests, h.entry_words q g w e, h.prepared_zero a f w, h.untouched_zero p page w) in
     let untouched_zero : UntouchedZero S = λ q g w r. grind (arith, nat_tests, h.untouched_zero q g w r) in
+    let unnamed_free : UnnamedFree S = λ d no_entry no_prepared no_owed. h.unnamed_free d (λ q g e. grind (arith, nat_tests, no_entry q g e)) (λ b. grind (arith, nat_tests, no_prepared b, no_entry p page (entry_of f false))) no_owed in
     record { sound = assumption; can = tt; same = refl }
 
 -- the entry keeps its frame
@@ -59,6 +61,7 @@ simulates-upgrade s a p page f h c =
     let entry_allowed : EntryAllowed S = λ q g e. grind (arith, nat_tests, h.entry_allowed q g e) in
     let entry_words : EntryWords S = λ q g w e. grind (arith, nat_tests, h.entry_words q g w e, h.entry_words p page w was) in
     let untouched_zero : UntouchedZero S = λ q g w r. grind (arith, nat_tests, h.untouched_zero q g w r) in
+    let unnamed_free : UnnamedFree S = λ d no_entry no_prepared no_owed. h.unnamed_free d (λ q g e. grind (arith, nat_tests, no_entry q g e, no_entry p page (entry_of f true))) no_prepared no_owed in
     record { sound = assumption; can = tt; same = refl }
 
 -- the owed frame is in no entry, and nobody else's
@@ -73,4 +76,5 @@ simulates-put_entry s a f h c =
     let owed_apart : OwedApart S = λ b d q g e. grind (arith, nat_tests, h.owed_apart b d q g e) in
     let prepared_not_owed : PreparedNotOwed S = λ b u d. grind (arith, nat_tests, h.prepared_not_owed b u d) in
     let entry_marked : EntryMarked S = λ q g e. grind (arith, nat_tests, h.entry_marked q g e, h.owed_apart a f q g e) in
+    let unnamed_free : UnnamedFree S = λ d no_entry no_prepared no_owed. grind (arith, nat_tests, h.owed_counted a f, h.unnamed_free d no_entry no_prepared) in
     record { sound = assumption; can = tt; same = refl }

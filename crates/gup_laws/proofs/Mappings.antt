@@ -9,7 +9,7 @@ use Rattle.gup_events.specs.State.{CoreState}
 use Rattle.gup_events.specs.Event.{Can, happens, map_pages, drop_entry}
 use Rattle.gup_events.specs.Sound.{IsSound, Simulates}
 use Rattle.gup_laws.proofs.Puts.{within_each}
-use Rattle.gup_laws.proofs.Clauses.{EntryCounted, OwedCounted, EntryAlone, OwedAlone, PreparedApart, OwedApart, PreparedNotOwed, EntryMapped, EntryMarked, EntryAllowed, EntryWords, UntouchedZero, ObjectMade, ObjectAlone}
+use Rattle.gup_laws.proofs.Clauses.{EntryCounted, OwedCounted, EntryAlone, OwedAlone, PreparedApart, OwedApart, PreparedNotOwed, UnnamedFree, EntryMapped, EntryMarked, EntryAllowed, EntryWords, UntouchedZero, ObjectMade, ObjectAlone}
 
 -- fresh pages get fresh objects of zeros
 pub simulates-map_pages : (s : CoreState) (a p page n : ℕ) (rights : Rights) → IsSound s → Can s (map_pages a p page n rights) → Simulates s (map_pages a p page n rights)
@@ -42,4 +42,5 @@ simulates-drop_entry s a p page was h c =
     let untouched_zero : UntouchedZero S = λ q g w r. grind (arith, nat_tests, h.untouched_zero q g w r) in
     let object_made : ObjectMade S = λ q g r. grind (arith, nat_tests, h.object_made q g r) in
     let object_alone : ObjectAlone S = λ q g u k r t. grind (arith, nat_tests, h.object_alone q g u k r t) in
+    let unnamed_free : UnnamedFree S = λ d no_entry no_prepared no_owed. h.unnamed_free d (λ q g e. grind (arith, nat_tests, no_entry q g e, no_owed a)) no_prepared (λ b. grind (arith, nat_tests, no_owed b)) in
     record { sound = assumption; can = (c.0, c.2); same = refl }
