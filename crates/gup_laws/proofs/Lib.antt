@@ -1,0 +1,5 @@
+pub mod Puts
+pub mod Clauses
+pub mod Faults
+pub mod Mappings
+pub mod Data
