@@ -1,0 +1,5 @@
+pub mod Puts
+pub mod Through
+pub mod Shapes
+pub mod Searches
+pub mod Ops
