@@ -3,3 +3,7 @@ pub mod Through
 pub mod Shapes
 pub mod Searches
 pub mod Ops
+pub mod Scripts
+pub mod Steps
+pub mod Stands
+pub mod Rightness

@@ -1,7 +1,7 @@
 -- The shapes of a turn: what its notes say, by the operation and the plain state before it.
 use Rattle.std.proofs.Common.{◌≡◌, ℕ, ◌+◌, ◌<◌, Bool, true, false, IsTrue, List, [], ◌∷◌, Option, Some, None}
 use Rattle.gup_base.specs.declared.entry.Rights.{Rights}
-use Rattle.gup_plain.specs.State.{PlainState}
+use Rattle.gup_plain.specs.State.{PlainState, born}
 use Rattle.gup_plain.specs.declared.answer.Answer.{Answer}
 use Rattle.gup_plain.specs.declared.answer.Answer.TheVariants as answers
 use Rattle.gup_plain.specs.declared.event.PlainEvent.TheVariants as events
@@ -24,12 +24,16 @@ use Rattle.gup_turns.proofs.Through.{all_told, events_of}
 abbrev pub AtFirst : Place → Type 0
 AtFirst place = (place.far ≡ 0) × (place.had ≡ false)
 
--- where an actor may stand in its present operation, of a process that is born or not
+-- where an actor may stand in its present operation
 abbrev pub FitsOp : Op → Place → Type 0
 FitsOp (Map page n rights) place = AtFirst place
 FitsOp (Unmap page n) place = place.far < n
 FitsOp (Load page word) place = AtFirst place
 FitsOp (Store page word value) place = AtFirst place
+
+abbrev pub FitsAt : Option Op → Place → Type 0
+FitsAt None place = AtFirst place
+FitsAt (Some op) place = FitsOp op place
 
 -- The turns of an operation of actor a of the born process p that stands at this place.
 pub data TurnOf (s : PlainState) (a p : ℕ) (place : Place) : Op → List What → Type 0 where
@@ -48,7 +52,7 @@ pub data TurnOf (s : PlainState) (a p : ℕ) (place : Place) : Op → List What 
 pub data TurnAt (s : PlainState) (a p : ℕ) (place : Place) : Option Op → Option Waiting → List What → Type 0 where
   idles : (waiting : Option Waiting) → TurnAt s a p place None waiting (Idle ∷ [])
   waits : (op : Op) (waiting : Waiting) → TurnAt s a p place (Some op) (Some waiting) (Wait waiting ∷ [])
-  goes : (op : Op) (whats : List What) → TurnOf s a p place op whats → TurnAt s a p place (Some op) None whats
+  goes : (op : Op) (whats : List What) → s.birth p ≡ born → TurnOf s a p place op whats → TurnAt s a p place (Some op) None whats
 
 -- between two turns no actor keeps a frame
 pub record AtRest (s : CoreState) : Type 0 where
