@@ -7,3 +7,4 @@ pub mod Scripts
 pub mod Steps
 pub mod Stands
 pub mod Rightness
+pub mod Runs
