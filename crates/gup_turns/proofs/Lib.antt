@@ -8,3 +8,5 @@ pub mod Steps
 pub mod Stands
 pub mod Rightness
 pub mod Runs
+pub mod Pointer
+pub mod Ordering
