@@ -10,3 +10,6 @@ pub mod Rightness
 pub mod Runs
 pub mod Pointer
 pub mod Ordering
+pub mod Owning
+pub mod Following
+pub mod FollowRuns
