@@ -1,10 +1,8 @@
 -- A run follows its script, by induction over its turns.
-use Rattle.std.proofs.Common.{◌≡◌, ℕ, ◌+◌, ◌<◌, ◌==◌, ◌++◌, Bool, true, false, List, [], ◌∷◌, length, Option, Some, None, slice_get, drop, inl, refl, sym, ap, ap₂, ◌∙◌, subst, eqb-true, if◌then◌else◌, arith}
+use Rattle.std.proofs.Common.{◌≡◌, ℕ, ◌+◌, ◌<◌, ◌==◌, ◌++◌, Bool, true, false, List, [], ◌∷◌, length, Option, Some, None, inl, refl, sym, ap, ap₂, ◌∙◌, subst, eqb-true, if◌then◌else◌, arith}
 use Rattle.std.proofs.lemmas.Bool.Decides.{nat_tests}
 use Rattle.gup_plain.specs.Note.{NoteValue}
-use Rattle.gup_plain.specs.State.{Birth, born}
-use Rattle.gup_plain.specs.declared.note.What.{What}
-use Rattle.gup_plain.specs.declared.note.Waiting.{Waiting}
+use Rattle.gup_plain.specs.State.{born}
 use Rattle.gup_script.specs.Script.{ScriptValue}
 use Rattle.gup_script.specs.Valid.{IsScript}
 use Rattle.gup_script.specs.declared.op.Op.{Op}
@@ -13,7 +11,7 @@ use Rattle.gup_follows.specs.Follows.{own_notes, notes_of_turn}
 use Rattle.gup_follows.specs.Order.{Turn, journal_of, waiting_at}
 use Rattle.gup_follows.specs.Place.{Place, place_behind, process_of, ops_of}
 use Rattle.gup_turns.specs.Run.{RunState, Runs, run_after, op_in, waiting_with, waiting_in, taken_in, is_ready, can_go}
-use Rattle.gup_turns.proofs.Following.{LeftAt, Left, Goes, ops_split, ops_over, turn_left, other_left}
+use Rattle.gup_turns.proofs.Following.{LeftAt, Left, ops_split, ops_over, turn_left, other_left}
 use Rattle.gup_turns.proofs.Owning.{own_append}
 use Rattle.gup_turns.proofs.Pointer.{PointerFits, none_can_go, pointer_fits}
 use Rattle.gup_turns.proofs.Scripts.{has_ops_declared}

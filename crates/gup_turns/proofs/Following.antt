@@ -1,21 +1,15 @@
 -- A run follows its script: what an actor's notes are from a state on, backwards from the end.
-use Rattle.std.proofs.Common.{◌≡◌, ℕ, ◌+◌, ◌-◌, ◌<◌, ◌≤◌, ◌==◌, ◌++◌, ◌⊎◌, inl, inr, Bool, true, false, IsTrue, List, [], ◌∷◌, length, Option, Some, None, slice_get, drop, refl, sym, ap, ◌∙◌, subst, eqb-true, append_assoc, add-one, if◌then◌else◌, zero, suc, arith}
+use Rattle.std.proofs.Common.{◌≡◌, ℕ, ◌+◌, ◌-◌, ◌<◌, ◌≤◌, ◌==◌, ◌++◌, ◌⊎◌, inl, inr, false, List, [], ◌∷◌, Option, Some, None, slice_get, drop, refl, sym, ap, ◌∙◌, subst, append_assoc, zero, suc, arith}
 use Rattle.std.proofs.Math.Seq.{drop-nil}
-use Rattle.std.proofs.lemmas.Bool.Decides.{nat_tests}
 use Rattle.gup_plain.specs.Note.{NoteValue}
-use Rattle.gup_plain.specs.State.{PlainState, Birth, born}
-use Rattle.gup_plain.specs.declared.answer.Answer.{Answer}
+use Rattle.gup_plain.specs.State.{PlainState}
 use Rattle.gup_plain.specs.declared.note.What.{What}
 use Rattle.gup_plain.specs.declared.note.What.TheVariants.{Idle, Wait}
 use Rattle.gup_plain.specs.declared.note.Waiting.{Waiting}
-use Rattle.gup_script.specs.Script.{ScriptValue}
-use Rattle.gup_script.specs.Valid.{IsScript}
 use Rattle.gup_script.specs.declared.op.Op.{Op}
 use Rattle.gup_script.specs.declared.op.Op.TheVariants.{Map, Unmap, Load, Store}
-use Rattle.gup_events.specs.State.{plain_of}
-use Rattle.gup_follows.specs.Follows.{Who, IsTurn, IsRefused, TakesDown, TakesDownLast, TakesDownAll, Shape, Shapes, own_notes, notes_of_turn}
-use Rattle.gup_follows.specs.Order.{Turn, journal_of}
-use Rattle.gup_follows.specs.Place.{Place, place_behind, process_of, ops_of}
+use Rattle.gup_follows.specs.Follows.{Who, IsRefused, TakesDown, TakesDownLast, TakesDownAll, Shape, Shapes, own_notes, notes_of_turn}
+use Rattle.gup_follows.specs.Place.{Place, place_behind}
 use Rattle.gup_turns.proofs.Puts.{some_same}
 use Rattle.gup_turns.proofs.Shapes.{TurnOf, refused, mapped, loaded, stored, took, took_last, passed, passed_last, TurnAt, idles, waits, goes}
 use Rattle.gup_turns.proofs.Ordering.{op_moves}
@@ -147,7 +141,7 @@ turn_left s a p t place op waiting ops whats later (goes o ws birth turn) is lef
     let own = own_same a t number ws (op_moves s a p place o ws turn).2 in
     let here = op_left s a p t place o ops ws later turn split left in
     subst (λ (ns : List NoteValue). LeftAt a p ops place (ns ++ later)) (sym own)
-      (subst (λ (os : List Op). Left a p number os place.far (notes_of_turn t a number ws ++ later)) (sym split) here)
+    (subst (λ (os : List Op). Left a p number os place.far (notes_of_turn t a number ws ++ later)) (sym split) here)
 
 -- a turn of another actor changes nothing
 pub other_left : (a p b t n : ℕ) (place : Place) (ops : List Op) (whats : List What) (later : List NoteValue) → (b == a) ≡ false → LeftAt a p ops place later → LeftAt a p ops place (own_notes a (notes_of_turn t b n whats) ++ later)

@@ -1,10 +1,9 @@
 -- The turns of single operations can be done, and have their shapes.
-use Rattle.std.proofs.Common.{◌≡◌, ℕ, ◌+◌, ◌<◌, ◌≤◌, ◌==◌, ◌||◌, nat_lt, Bool, true, false, IsTrue, IsSome, is_some, cond, List, [], ◌∷◌, Option, Some, None, refl, ap, sym, subst, ◌∙◌, inl, inr, ◌⊎◌, eq-or-lt_of_le, zero, suc, arith}
+use Rattle.std.proofs.Common.{◌≡◌, ℕ, ◌+◌, ◌<◌, ◌==◌, Bool, true, false, IsTrue, IsSome, is_some, [], ◌∷◌, Option, Some, None, refl, ap, sym, subst, ◌∙◌, arith}
 use Rattle.std.proofs.lemmas.Bool.Decides.{nat_tests}
 use Rattle.gup_base.specs.declared.entry.Entry.{Entry}
 use Rattle.gup_base.specs.declared.entry.Rights.{Rights}
 use Rattle.gup_base.specs.declared.entry.Rights.TheVariants.{R, RW}
-use Rattle.gup_plain.specs.Event.{most_pages}
 use Rattle.gup_plain.specs.Put.{put}
 use Rattle.gup_plain.specs.State.{born}
 use Rattle.gup_laws.specs.Run.{AllCan}
@@ -16,17 +15,17 @@ use Rattle.gup_plain.specs.declared.event.PlainEvent.TheVariants as events
 use Rattle.gup_script.specs.Grammar.{IsOp}
 use Rattle.gup_script.specs.declared.op.Op.{Op}
 use Rattle.gup_script.specs.declared.op.Op.TheVariants.{Map, Unmap, Load, Store}
-use Rattle.gup_events.specs.State.{CoreState, Job, idle, plain_of}
-use Rattle.gup_events.specs.Event.{MayPrepare, AreUnlocked, Can, happens, entry_of, take_frame, fill, upgrade, put_entry, map_pages, drop_entry, load, store}
+use Rattle.gup_events.specs.State.{CoreState, plain_of}
+use Rattle.gup_events.specs.Event.{MayPrepare, AreUnlocked, Can, happens, entry_of, take_frame, fill, drop_entry}
 use Rattle.gup_events.specs.Sound.{IsSound}
-use Rattle.gup_follows.specs.Denial.{any_below, any_mapped, map_denial, op_denial, load_denial, store_denial}
+use Rattle.gup_follows.specs.Denial.{any_mapped, map_denial, op_denial, load_denial}
 use Rattle.gup_follows.specs.Place.{Place}
 use Rattle.gup_follows.specs.Follows.{refuses}
 use Rattle.gup_follows.specs.Plain.{IsAnswerOf, Passes}
 use Rattle.gup_turns.specs.Run.{state_after}
-use Rattle.gup_turns.specs.Turn.{Taken, answers_with, lowest, free_frame, loads, loads_by_fill, loads_by_fault, load_turn, stores_behind, stores_by_fill, stores_by_upgrade, stores_by_fault, allows_store, frame_in, store_turn_by, store_turn, map_turn_by, map_turn, done_if, gives_back, unmap_turn_by, unmap_turn, op_turn}
+use Rattle.gup_turns.specs.Turn.{Taken, answers_with, free_frame, loads, loads_by_fault, load_turn, stores_behind, stores_by_fill, stores_by_upgrade, stores_by_fault, allows_store, frame_in, store_turn_by, store_turn, map_turn_by, done_if, gives_back, unmap_turn_by, op_turn}
 use Rattle.gup_turns.proofs.Puts.{put_same, put2_same, none_of}
-use Rattle.gup_turns.proofs.Searches.{lowest_passes, free_frame_free, none_below, undenied_map, denied_map}
+use Rattle.gup_turns.proofs.Searches.{free_frame_free, none_below, undenied_map, denied_map}
 use Rattle.gup_turns.proofs.Shapes.{AtFirst, FitsOp, TurnOf, refused, mapped, loaded, stored, took, took_last, passed, passed_last, AtRest, IsDone}
 
 -- the turn can be done and has its shape

@@ -1,5 +1,5 @@
 -- The turns of a run are in the script's order.
-use Rattle.std.proofs.Common.{◌≡◌, ℕ, ◌+◌, ◌<◌, ◌≤◌, Bool, true, false, List, [], ◌∷◌, length, Option, Some, None, is_none, slice_get, nat_le, refl, sym, ap, ◌∙◌, subst, zero, suc, arith}
+use Rattle.std.proofs.Common.{◌≡◌, ℕ, Bool, true, false, List, [], ◌∷◌, length, Option, Some, None, is_none, slice_get, nat_le, refl, sym, ap, ◌∙◌, subst, zero, suc, arith}
 use Rattle.std.proofs.Math.Dec.{leb-zero, leb-suc-zero, leb-suc-suc}
 use Rattle.gup_plain.specs.State.{PlainState}
 use Rattle.gup_plain.specs.declared.note.What.{What}
@@ -8,7 +8,7 @@ use Rattle.gup_script.specs.Script.{ScriptValue}
 use Rattle.gup_script.specs.Valid.{IsScript}
 use Rattle.gup_script.specs.declared.op.Op.{Op}
 use Rattle.gup_events.specs.State.{plain_of}
-use Rattle.gup_follows.specs.Order.{Turn, Ordered, Moves, AreOfOperation, IsWrittenTurn, IsPassedOver, IsPassed, IsPointedTurn, IsNextTurn, AreInOrder, behind_by, pointer_after, written_turn, waiting_of, finished_in}
+use Rattle.gup_follows.specs.Order.{Turn, Ordered, Moves, IsWrittenTurn, IsPassedOver, IsPassed, IsPointedTurn, IsNextTurn, AreInOrder, behind_by, written_turn, waiting_of, finished_in}
 use Rattle.gup_follows.specs.Place.{Place, process_of, ops_of}
 use Rattle.gup_turns.specs.Run.{RunState, Runs, next_actor, next_by, written_in, turn_in, run_after, op_in, waiting_with, waiting_in, taken_in, is_ready, can_go}
 use Rattle.gup_turns.proofs.Pointer.{PointerFits, IsFirstToGo, pointed_some, none_can_go, pointer_fits}
@@ -72,7 +72,7 @@ module _ (script : ScriptValue) (valid : IsScript script) (r : RunState) (h : St
   turn_written : (a : ℕ) → IsWrittenTurn (finished_in script (ordered_of r) a) (waiting_of script (ordered_of r) a) (taken_in script r a).whats
   turn_written a =
       written_right (plain_of r.core) a (process_of script a) (r.places a) (op_in script r a) (waiting_in script r a) (taken_in script r a).whats (taken script valid r h a).shape
-        (finished_in script (ordered_of r) a) (waiting_of script (ordered_of r) a) (sees a)
+      (finished_in script (ordered_of r) a) (waiting_of script (ordered_of r) a) (sees a)
 
   pub is_passed : (a : ℕ) → can_go script r a ≡ false → IsPassed script (ordered_of r) a
   is_passed a is = passed_over (op_in script r a) (waiting_in script r a) (finished_in script (ordered_of r) a) (waiting_of script (ordered_of r) a) (sees a) is

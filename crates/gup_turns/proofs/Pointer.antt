@@ -1,5 +1,5 @@
 -- Where the pointer goes: round the circle of actors, to the first that can take a turn.
-use Rattle.std.proofs.Common.{◌≡◌, ℕ, ◌+◌, ◌<◌, ◌==◌, Bool, true, false, cond, Option, Some, None, if◌then◌else◌, length, refl, sym, subst, ap, ◌∙◌, nat_le, ◌-◌, ◌≤◌, leb-true, leb-false, zero, suc, arith}
+use Rattle.std.proofs.Common.{◌≡◌, ℕ, ◌+◌, ◌<◌, ◌==◌, Bool, true, false, cond, Option, Some, None, length, refl, sym, subst, ap, ◌∙◌, nat_le, ◌-◌, ◌≤◌, leb-true, leb-false, zero, suc, arith}
 use Rattle.std.proofs.lemmas.Bool.Decides.{nat_tests}
 use Rattle.gup_script.specs.Script.{ScriptValue}
 use Rattle.gup_follows.specs.Order.{behind, behind_by, pointer_after}

@@ -1,5 +1,5 @@
 -- The notes of a turn are right in the plain state.
-use Rattle.std.proofs.Common.{◌≡◌, ℕ, ◌+◌, ◌<◌, ◌==◌, ◌++◌, Bool, true, false, List, [], ◌∷◌, Option, Some, None, slice_get, refl, sym, ap, ◌∙◌, subst, arith}
+use Rattle.std.proofs.Common.{◌≡◌, ℕ, ◌+◌, ◌++◌, Bool, true, false, List, [], ◌∷◌, Option, Some, None, slice_get, refl, sym, ap, ◌∙◌, subst, arith}
 use Rattle.gup_plain.specs.Event.{CanHappen, happened}
 use Rattle.gup_plain.specs.Note.{NoteValue}
 use Rattle.gup_plain.specs.Put.{put}
@@ -13,14 +13,13 @@ use Rattle.gup_plain.specs.declared.note.What.TheVariants.{Silent, Idle, Wait, E
 use Rattle.gup_plain.specs.declared.note.Waiting.{Waiting}
 use Rattle.gup_script.specs.Script.{ScriptValue}
 use Rattle.gup_script.specs.declared.op.Op.{Op}
-use Rattle.gup_script.specs.declared.op.Op.TheVariants.{Map, Unmap, Load, Store}
 use Rattle.gup_follows.specs.Denial.{denial, op_denial, denial_at, is_denial}
 use Rattle.gup_follows.specs.Follows.{notes_of_turn, note_of}
 use Rattle.gup_follows.specs.Order.{plain_behind}
 use Rattle.gup_follows.specs.Place.{Place, place_after, place_behind, process_of, ops_of}
-use Rattle.gup_follows.specs.Plain.{Judged, judged_after, ArePlain, IsRight, IsRightAt, IsRightOf, IsSettled, IsAnswerAfter, IsAnswerOf, IsUndeniedAt, Passes, plain_after}
+use Rattle.gup_follows.specs.Plain.{Judged, judged_after, ArePlain, IsRightAt, IsRightOf, IsSettled, IsAnswerAfter, IsAnswerOf, IsUndeniedAt, Passes, plain_after}
 use Rattle.gup_turns.proofs.Puts.{put_same, put_twice, put_own}
-use Rattle.gup_turns.proofs.Shapes.{AtFirst, TurnOf, refused, mapped, loaded, stored, took, took_last, passed, passed_last, TurnAt, idles, waits, goes}
+use Rattle.gup_turns.proofs.Shapes.{TurnOf, refused, mapped, loaded, stored, took, took_last, passed, passed_last, TurnAt, idles, waits, goes}
 use Rattle.gup_turns.proofs.Through.{events_of, AllCanHappen}
 
 -- the notes of one turn are right, each in what those before it have led to
@@ -56,10 +55,14 @@ module _ (ops : List Op) (s : PlainState) (p : ℕ) (place : Place) (op : Op) (i
   -- an event and its answer
   two_right : (e : PlainEvent) (answer : Answer) → CanHappen s e → op_denial s p op ≡ None → is_denial answer ≡ false → (happened s e).birth ≡ s.birth → Passes (happened s e) p op (place.far + 1) → AreRight ops p s place (Event e ∷ Done answer ∷ [])
   two_right e answer can free plain births passes =
-      let at : (w : What) (q : PlainState) (pl : Place) → IsRightOf q p pl op w → IsRightAt q p pl (Some op) w = λ w q pl h. h in
-      (subst (λ (o : Option Op). IsRightAt s p place o (Event e)) (sym is) (event_right e can free),
-       (subst (λ (o : Option Op). IsRightAt (happened s e) p (place_after place (Event e)) o (Done answer)) (sym is)
-          (settled ((happened s e).birth p) (ap (λ (f : ℕ → Birth). f p) births ∙ birth), plain, passes), tt))
+      let at : (w : What) (q : PlainState) (pl : Place) → IsRightOf q p pl op w → IsRightAt q p pl (Some op) w = λ w q pl h. h in (
+        subst (λ (o : Option Op). IsRightAt s p place o (Event e)) (sym is) (event_right e can free),
+        (
+          subst (λ (o : Option Op). IsRightAt (happened s e) p (place_after place (Event e)) o (Done answer)) (sym is)
+              (settled ((happened s e).birth p) (ap (λ (f : ℕ → Birth). f p) births ∙ birth), plain, passes),
+          tt,
+        ),
+      )
 
   done_right : (answer : Answer) → IsAnswerAfter place.had (denial s p op) answer → Passes s p op place.far → AreRight ops p s place (Done answer ∷ [])
   done_right answer right passes = one_right (Done answer) (settled (s.birth p) birth, right, passes)
@@ -93,7 +96,7 @@ judged_step : (j : Judged) (t a n : ℕ) (what : What) (whats : List What) → j
 judged_step j t a n what whats =
     let next = place_after (j.places a) what in
     let same : put a (place_behind (put a next j.places a) whats) (put a next j.places) ≡ put a (place_behind next whats) j.places =
-      ap (λ (q : Place). put a (place_behind q whats) (put a next j.places)) (put_same a next j.places) ∙ put_twice a next (place_behind next whats) j.places in
+    ap (λ (q : Place). put a (place_behind q whats) (put a next j.places)) (put_same a next j.places) ∙ put_twice a next (place_behind next whats) j.places in
     ap (λ (places : ℕ → Place). record { plain = plain_behind (plain_after j.plain what) whats; places = places }) same
 
 -- a turn's notes, and then the rest

@@ -1,16 +1,15 @@
 -- Facts of whole runs, by induction over their turns.
-use Rattle.std.proofs.Common.{◌≡◌, ℕ, ◌+◌, List, [], ◌∷◌, Option, Some, None, refl, sym, ap, ◌∙◌, subst}
-use Rattle.gup_plain.specs.Note.{NoteValue}
+use Rattle.std.proofs.Common.{◌≡◌, ℕ, ◌+◌, List, [], ◌∷◌, refl, sym, ap, ◌∙◌, subst}
 use Rattle.gup_plain.specs.State.{PlainState}
 use Rattle.gup_script.specs.Script.{ScriptValue}
 use Rattle.gup_script.specs.Valid.{IsScript}
 use Rattle.gup_events.specs.State.{plain_of}
-use Rattle.gup_follows.specs.Order.{Turn, journal_of, places_behind}
-use Rattle.gup_follows.specs.Place.{Place, process_of, ops_of}
+use Rattle.gup_follows.specs.Order.{Turn, journal_of}
+use Rattle.gup_follows.specs.Place.{process_of, ops_of}
 use Rattle.gup_follows.specs.Plain.{Judged, ArePlain}
-use Rattle.gup_turns.specs.Run.{RunState, Runs, next_actor, turn_in, run_after, op_in, waiting_in, taken_in}
+use Rattle.gup_turns.specs.Run.{RunState, Runs, turn_in, run_after, op_in, waiting_in, taken_in}
 use Rattle.gup_turns.proofs.Puts.{some_same}
-use Rattle.gup_turns.proofs.Rightness.{judged_behind, turn_right, plain_append}
+use Rattle.gup_turns.proofs.Rightness.{turn_right, plain_append}
 use Rattle.gup_turns.proofs.Stands.{stands_on, same_plain, plain_can}
 use Rattle.gup_turns.proofs.Steps.{Stands, taken}
 use Rattle.gup_turns.proofs.Through.{Law}

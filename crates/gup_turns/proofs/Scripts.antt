@@ -1,12 +1,12 @@
 -- What is true of the operations of every script.
-use Rattle.std.proofs.Common.{◌≡◌, ℕ, ◌+◌, ◌<◌, ◌≤◌, false, List, [], Option, Some, None, slice_get, length, All, refl, subst, arith}
+use Rattle.std.proofs.Common.{◌≡◌, ℕ, ◌<◌, ◌≤◌, false, List, Option, Some, None, slice_get, length, All, refl, subst, arith}
 use Rattle.std.proofs.lemmas.Option.{slice_get_within, get_or_from_slice_get}
 use Rattle.gup_script.specs.Grammar.{IsOp}
 use Rattle.gup_script.specs.Script.{ScriptValue, Actor, actor_at}
 use Rattle.gup_script.specs.Valid.{IsScript}
 use Rattle.gup_script.specs.declared.op.Op.{Op}
 use Rattle.gup_script.specs.declared.op.Op.TheVariants.{Map, Unmap, Load, Store}
-use Rattle.gup_follows.specs.Place.{Place, ops_in, ops_of}
+use Rattle.gup_follows.specs.Place.{ops_in, ops_of}
 use Rattle.gup_turns.proofs.Shapes.{FitsOp, FitsAt}
 
 -- what holds of each element holds of the one at a place

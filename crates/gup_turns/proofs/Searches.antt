@@ -1,5 +1,5 @@
 -- What the searches of the turn table find: the free frame, and what denies a mapping.
-use Rattle.std.proofs.Common.{◌≡◌, ℕ, ◌+◌, ◌<◌, ◌≤◌, ◌==◌, ◌||◌, nat_lt, Bool, true, false, IsTrue, cond, Option, Some, None, refl, ap, subst, ◌∙◌, inl, inr, eq-or-lt_of_le, zero, suc, arith}
+use Rattle.std.proofs.Common.{◌≡◌, ℕ, ◌+◌, ◌<◌, ◌≤◌, ◌==◌, ◌||◌, nat_lt, Bool, true, false, IsTrue, cond, Some, None, refl, ap, subst, ◌∙◌, inl, inr, eq-or-lt_of_le, zero, suc, arith}
 use Rattle.std.proofs.lemmas.Bool.Decides.{nat_tests}
 use Rattle.gup_base.specs.declared.entry.Rights.{Rights}
 use Rattle.gup_plain.specs.Event.{most_pages}
@@ -54,4 +54,3 @@ denied_map page n rights false pages answer is = go (nat_lt most_pages (pages + 
     go : (b : Bool) → cond b (Some answers.Full) None ≡ Some answer → IsTrue (refuses (Map page n rights) answer)
     go true now = subst (λ (x : Answer). IsTrue (refuses (Map page n rights) x)) (some_same now) refl
     go false now = absurd (cc now)
-

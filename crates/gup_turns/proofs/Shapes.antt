@@ -1,5 +1,5 @@
 -- The shapes of a turn: what its notes say, by the operation and the plain state before it.
-use Rattle.std.proofs.Common.{◌≡◌, ℕ, ◌+◌, ◌<◌, Bool, true, false, IsTrue, List, [], ◌∷◌, Option, Some, None}
+use Rattle.std.proofs.Common.{◌≡◌, ℕ, ◌+◌, ◌<◌, false, IsTrue, List, [], ◌∷◌, Option, Some, None}
 use Rattle.gup_base.specs.declared.entry.Rights.{Rights}
 use Rattle.gup_plain.specs.State.{PlainState, born}
 use Rattle.gup_plain.specs.declared.answer.Answer.{Answer}
@@ -10,7 +10,7 @@ use Rattle.gup_plain.specs.declared.note.What.TheVariants.{Silent, Idle, Wait, E
 use Rattle.gup_plain.specs.declared.note.Waiting.{Waiting}
 use Rattle.gup_script.specs.declared.op.Op.{Op}
 use Rattle.gup_script.specs.declared.op.Op.TheVariants.{Map, Unmap, Load, Store}
-use Rattle.gup_events.specs.State.{CoreState, plain_of}
+use Rattle.gup_events.specs.State.{CoreState}
 use Rattle.gup_laws.specs.Run.{AllCan}
 use Rattle.gup_follows.specs.Denial.{op_denial}
 use Rattle.gup_follows.specs.Place.{Place}

@@ -1,5 +1,5 @@
 -- What stands between two turns of a run stands at its start, and each turn keeps it.
-use Rattle.std.proofs.Common.{◌≡◌, ℕ, ◌+◌, ◌<◌, ◌==◌, Bool, true, false, cond, List, [], ◌∷◌, Option, Some, None, slice_get, refl, sym, ap, ◌∙◌, subst, eqb-true, if◌then◌else◌, arith}
+use Rattle.std.proofs.Common.{◌≡◌, ℕ, ◌+◌, ◌<◌, ◌==◌, Bool, true, false, List, Option, Some, refl, sym, ap, ◌∙◌, subst, eqb-true, if◌then◌else◌, arith}
 use Rattle.gup_plain.specs.State.{PlainState, Birth, born, unborn, failed}
 use Rattle.gup_plain.specs.declared.event.PlainEvent.{PlainEvent}
 use Rattle.gup_plain.specs.declared.note.What.{What}
@@ -7,16 +7,15 @@ use Rattle.gup_plain.specs.declared.note.Waiting.{Waiting}
 use Rattle.gup_script.specs.Script.{ScriptValue}
 use Rattle.gup_script.specs.Valid.{IsScript}
 use Rattle.gup_script.specs.declared.op.Op.{Op}
-use Rattle.gup_script.specs.declared.op.Op.TheVariants.{Unmap}
-use Rattle.gup_events.specs.State.{CoreState, plain_of, start}
+use Rattle.gup_events.specs.State.{plain_of, start}
 use Rattle.gup_events.specs.Sound.{IsSound}
 use Rattle.gup_follows.specs.Order.{plain_behind}
-use Rattle.gup_follows.specs.Place.{Place, place_behind, process_of, ops_of, present_op, starts_born}
-use Rattle.gup_turns.specs.Run.{RunState, run_start, run_after, state_after, op_in, waiting_in, taken_in}
+use Rattle.gup_follows.specs.Place.{Place, place_behind, process_of, present_op, starts_born}
+use Rattle.gup_turns.specs.Run.{RunState, run_start, run_after, op_in, waiting_in, taken_in}
 use Rattle.gup_turns.proofs.Scripts.{fresh_fits}
 use Rattle.gup_turns.proofs.Shapes.{FitsAt, TurnOf, refused, mapped, loaded, stored, took, took_last, passed, passed_last, TurnAt, idles, waits, goes}
-use Rattle.gup_turns.proofs.Steps.{Stands, IsTaken, taken}
-use Rattle.gup_turns.proofs.Through.{Law, Leads, leads, births_stay, plain_through, plain_behind-through, AllCanHappen, events_of}
+use Rattle.gup_turns.proofs.Steps.{Stands, taken}
+use Rattle.gup_turns.proofs.Through.{Law, leads, births_stay, plain_through, plain_behind-through, AllCanHappen, events_of}
 
 -- an actor stands where its operation can
 abbrev pub FitsPlace : ScriptValue → ℕ → Place → Type 0

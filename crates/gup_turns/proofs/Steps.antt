@@ -1,22 +1,20 @@
 -- A run's turns: what stands between two of them, and that each can be done and has one of the shapes.
-use Rattle.std.proofs.Common.{◌≡◌, ℕ, ◌+◌, ◌<◌, ◌==◌, Bool, true, false, cond, List, [], ◌∷◌, Option, Some, None, slice_get, refl, sym, ap, ◌∙◌, subst, eqb-true, arith}
-use Rattle.gup_plain.specs.State.{PlainState, Birth, unborn, growing, born, failed}
-use Rattle.gup_plain.specs.declared.note.What.{What}
+use Rattle.std.proofs.Common.{◌≡◌, ℕ, ◌<◌, Bool, true, false, Option, Some, None, refl, sym, ap, ◌∙◌, subst}
+use Rattle.gup_plain.specs.State.{Birth, unborn, growing, born, failed}
 use Rattle.gup_plain.specs.declared.note.Waiting.{Waiting}
 use Rattle.gup_script.specs.Grammar.{IsOp}
 use Rattle.gup_script.specs.Script.{ScriptValue}
 use Rattle.gup_script.specs.Valid.{IsScript}
 use Rattle.gup_script.specs.declared.op.Op.{Op}
-use Rattle.gup_events.specs.State.{CoreState, plain_of, start}
+use Rattle.gup_events.specs.State.{CoreState, plain_of}
 use Rattle.gup_events.specs.Sound.{IsSound}
-use Rattle.gup_follows.specs.Order.{waiting_at, plain_behind}
-use Rattle.gup_follows.specs.Place.{Place, place_behind, process_of, ops_of, present_op, is_born, starts_born}
-use Rattle.gup_turns.specs.Run.{RunState, run_start, run_after, state_after, op_in, waiting_with, waiting_in, taken_by, taken_in}
+use Rattle.gup_follows.specs.Order.{waiting_at}
+use Rattle.gup_follows.specs.Place.{Place, process_of}
+use Rattle.gup_turns.specs.Run.{RunState, op_in, waiting_with, waiting_in, taken_by, taken_in}
 use Rattle.gup_turns.specs.Turn.{Taken, turn_at, op_turn, waits_at, waits_for_locks, needs_locks, waiting_for}
-use Rattle.gup_turns.proofs.Ops.{IsTurned, IsOpen, op_turned}
-use Rattle.gup_turns.proofs.Scripts.{op_is_op, fresh_fits}
-use Rattle.gup_turns.proofs.Shapes.{FitsAt, TurnOf, refused, mapped, loaded, stored, took, took_last, passed, passed_last, TurnAt, idles, waits, goes, AtRest, IsDone}
-use Rattle.gup_turns.proofs.Through.{Law, Leads, leads, births_stay, plain_behind-through}
+use Rattle.gup_turns.proofs.Ops.{IsTurned, op_turned}
+use Rattle.gup_turns.proofs.Scripts.{op_is_op}
+use Rattle.gup_turns.proofs.Shapes.{FitsAt, TurnAt, idles, waits, goes, AtRest, IsDone}
 
 -- what holds of a run between two turns
 pub record Stands (script : ScriptValue) (r : RunState) : Type 0 where
@@ -62,6 +60,7 @@ waiting_agrees s a p op h =
     unlocked : (needed : Bool) (structure table : Option ℕ) → structure ≡ None → table ≡ None → waits_for_locks needed a structure table ≡ None
     unlocked true structure table e f = rw (e, f) refl
     unlocked false structure table e f = refl
+
     alone : (b : Birth) → waits_at b p None ≡ waiting_at p b
     alone unborn = refl
     alone (growing parent) = refl

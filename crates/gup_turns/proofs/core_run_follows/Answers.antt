@@ -1,6 +1,5 @@
 -- By induction over the turns of the run, backwards from its end.
-use Rattle.std.proofs.Common.{List, sym, subst}
-use Rattle.gup_plain.specs.Note.{NoteValue}
+use Rattle.std.proofs.Common.{sym, subst}
 use Rattle.gup_follows.specs.Follows.{Follows, own_notes}
 use Rattle.gup_follows.specs.Order.{journal_of}
 use Rattle.gup_follows.specs.Place.{first_place, process_of, ops_of}
@@ -15,5 +14,5 @@ returns c script notes end valid run =
     let h = stands_first c.starts_sound.ensures script valid in
     let left = follows_run c.simulates.ensures script valid run.0 1 (run_start script) end h (λ some. some) run.2 in
     let follows : Follows script (journal_of 1 (λ _. first_place) run.0) =
-      λ a. left_shapes a (process_of script a) 1 (ops_of script a) (own_notes a (journal_of 1 (λ _. first_place) run.0)) (left a) in
+    λ a. left_shapes a (process_of script a) 1 (ops_of script a) (own_notes a (journal_of 1 (λ _. first_place) run.0)) (left a) in
     subst (Follows script) (sym run.1) follows

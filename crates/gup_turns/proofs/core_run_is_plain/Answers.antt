@@ -1,6 +1,5 @@
 -- By induction over the turns of the run.
-use Rattle.std.proofs.Common.{List, sym, subst}
-use Rattle.gup_plain.specs.Note.{NoteValue}
+use Rattle.std.proofs.Common.{sym, subst}
 use Rattle.gup_follows.specs.Plain.{IsPlain}
 use Rattle.gup_turns.specs.Run.{run_start}
 use Rattle.gup_turns.proofs.Runs.{plain_run}
