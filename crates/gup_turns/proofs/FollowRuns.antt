@@ -6,7 +6,6 @@ use Rattle.gup_plain.specs.State.{born}
 use Rattle.gup_script.specs.Script.{ScriptValue}
 use Rattle.gup_script.specs.Valid.{IsScript}
 use Rattle.gup_script.specs.declared.op.Op.{Op}
-use Rattle.gup_events.specs.State.{plain_of}
 use Rattle.gup_follows.specs.Follows.{own_notes, notes_of_turn}
 use Rattle.gup_follows.specs.Order.{Turn, journal_of, waiting_at}
 use Rattle.gup_follows.specs.Place.{Place, place_behind, process_of, ops_of}
@@ -49,7 +48,7 @@ turn_of_any script valid r h b t a later true e left =
     let whats = (taken_in script r b).whats in
     let behind = place_behind (r.places b) whats in
     let here : LeftOf script b behind later = subst (λ (k : ℕ). LeftOf script k behind later) same left in
-    let before = turn_left (plain_of r.core) b (process_of script b) t (r.places b) (op_in script r b) (waiting_in script r b) (ops_of script b) whats later (taken script valid r h b).shape refl here in
+    let before = turn_left b (process_of script b) t (r.places b) (ops_of script b) later (taken script valid r h b).shape refl here in
     subst (λ (k : ℕ). LeftOf script k (r.places k) (own_notes k (notes_of_turn t b ((r.places b).answered + 1) whats) ++ later)) (sym same) before
 turn_of_any script valid r h b t a later false e left =
     other_left a (process_of script a) b t ((r.places b).answered + 1) (r.places a) (ops_of script a) (taken_in script r b).whats later (grind (arith, nat_tests)) left

@@ -8,7 +8,7 @@ use Rattle.gup_plain.specs.declared.note.What.TheVariants.{Idle, Wait}
 use Rattle.gup_plain.specs.declared.note.Waiting.{Waiting}
 use Rattle.gup_script.specs.declared.op.Op.{Op}
 use Rattle.gup_script.specs.declared.op.Op.TheVariants.{Map, Unmap, Load, Store}
-use Rattle.gup_follows.specs.Follows.{Who, IsRefused, TakesDown, TakesDownLast, TakesDownAll, Shape, Shapes, own_notes, notes_of_turn}
+use Rattle.gup_follows.specs.Follows.{Who, IsRefused, TakesDown, TakesDownLast, TakesDownAll, Shape, Shapes, own_notes, notes_of_turn, is_of_operation}
 use Rattle.gup_follows.specs.Place.{Place, place_behind}
 use Rattle.gup_turns.proofs.Puts.{some_same}
 use Rattle.gup_turns.proofs.Shapes.{TurnOf, refused, mapped, loaded, stored, took, took_last, passed, passed_last, TurnAt, idles, waits, goes}
@@ -69,29 +69,9 @@ takes_down : (who : Who) (page m : ℕ) (now later : List NoteValue) → 1 ≤ m
 takes_down who page zero now later some down all = absurd (omega arith)
 takes_down who page (suc m) now later some down all = (now, later, refl, down, all)
 
--- from behind a turn to before it
-
--- the operation ends with this turn
-left_ends : (a p number : ℕ) (op : Op) (ops : List Op) (far : ℕ) (now later : List NoteValue) → RestOf (record { actor = a; proc = p; number = number }) op far now → Left a p (number + 1) ops 0 later → Left a p number (op ∷ ops) far (now ++ later)
-left_ends a p number op ops far now later rest left = inr (now, later, refl, rest, left_shapes a p (number + 1) ops later left)
-
--- it takes one page down, and goes on
-left_goes_on : (a p number page n far : ℕ) (ops : List Op) (now later : List NoteValue) → far + 1 < n → TakesDown (record { actor = a; proc = p; number = number }) (page + far) now → Left a p number (Unmap page n ∷ ops) (far + 1) later → Left a p number (Unmap page n ∷ ops) far (now ++ later)
-left_goes_on a p number page n far ops now later more down (inl none) = absurd (let e = none.0 in omega arith)
-left_goes_on a p number page n far ops now later more down (inr (front, rest, is, inr refusal, shapes)) = absurd (let e = refusal.0 in omega arith)
-left_goes_on a p number page n far ops now later more down (inr (front, rest, is, inl all, shapes)) =
-    let who : Who = record { actor = a; proc = p; number = number } in
-    let next : page + (far + 1) ≡ page + far + 1 = omega arith in
-    let many : suc (n - (far + 1)) ≡ n - far = omega arith in
-    let there : TakesDownAll who (page + far + 1) (n - (far + 1)) front = subst (λ (g : ℕ). TakesDownAll who g (n - (far + 1)) front) next all in
-    let whole : TakesDownAll who (page + far) (n - far) (now ++ front) = subst (λ (k : ℕ). TakesDownAll who (page + far) k (now ++ front)) many (takes_down who (page + far) (n - (far + 1)) now front (omega arith) down there) in
-    inr (now ++ front, rest, ap (λ (ns : List NoteValue). now ++ ns) is ∙ sym (append_assoc now front rest), inl whole, shapes)
-
--- the last page
-last_rest : (who : Who) (page n far : ℕ) (now : List NoteValue) → far + 1 ≡ n → TakesDownLast who (page + far) now → RestOf who (Unmap page n) far now
-last_rest who page n far now last down =
-    let one : 1 ≡ n - far = omega arith in
-    inl (subst (λ (k : ℕ). TakesDownAll who (page + far) k now) one down)
+-- what is left of an actor at a place
+abbrev pub LeftAt : (a p : ℕ) → List Op → Place → List NoteValue → Type 0
+LeftAt a p ops place notes = Left a p (place.answered + 1) (drop place.answered ops) place.far notes
 
 refused_rest : (who : Who) (op : Op) (far : ℕ) (now : List NoteValue) → far ≡ 0 → IsRefused who op now → RestOf who op far now
 refused_rest who (Map page n rights) far now first refusal = inr refusal
@@ -99,49 +79,67 @@ refused_rest who (Unmap page n) far now first refusal = inr (first, refusal)
 refused_rest who (Load page word) far now first refusal = inr refusal
 refused_rest who (Store page word value) far now first refusal = inr refusal
 
--- what is left of an actor at a place
-abbrev pub LeftAt : (a p : ℕ) → List Op → Place → List NoteValue → Type 0
-LeftAt a p ops place notes = Left a p (place.answered + 1) (drop place.answered ops) place.far notes
+last_rest : (who : Who) (page n far : ℕ) (now : List NoteValue) → far + 1 ≡ n → TakesDownLast who (page + far) now → RestOf who (Unmap page n) far now
+last_rest who page n far now last down =
+    let one : 1 ≡ n - far = omega arith in
+    inl (subst (λ (k : ℕ). TakesDownAll who (page + far) k now) one down)
 
-op_left : (s : PlainState) (a p t : ℕ) (place : Place) (op : Op) (ops : List Op) (whats : List What) (later : List NoteValue) → TurnOf s a p place op whats → drop place.answered ops ≡ op ∷ drop (place.answered + 1) ops → LeftAt a p ops (place_behind place whats) later → Left a p (place.answered + 1) (op ∷ drop (place.answered + 1) ops) place.far (notes_of_turn t a (place.answered + 1) whats ++ later)
-op_left s a p t place op ops whats later (refused o answer first refusal right passes) is left =
-    let who : Who = record { actor = a; proc = p; number = place.answered + 1 } in
-    let now = notes_of_turn t a (place.answered + 1) whats in
-    left_ends a p (place.answered + 1) o (drop (place.answered + 1) ops) place.far now later (refused_rest who o place.far now first.0 (answer, refusal, (t, refl))) left
-op_left s a p t place op ops whats later (mapped page n rights first free) is left =
-    left_ends a p (place.answered + 1) op (drop (place.answered + 1) ops) place.far (notes_of_turn t a (place.answered + 1) whats) later (inl (t, refl)) left
-op_left s a p t place op ops whats later (loaded page word value first free) is left =
-    left_ends a p (place.answered + 1) op (drop (place.answered + 1) ops) place.far (notes_of_turn t a (place.answered + 1) whats) later (inl (value, (t, refl))) left
-op_left s a p t place op ops whats later (stored page word value first free) is left =
-    left_ends a p (place.answered + 1) op (drop (place.answered + 1) ops) place.far (notes_of_turn t a (place.answered + 1) whats) later (inl (t, refl)) left
-op_left s a p t place op ops whats later (took page n more) is left =
-    let on : Left a p (place.answered + 1) (Unmap page n ∷ drop (place.answered + 1) ops) (place.far + 1) later = subst (λ (os : List Op). Left a p (place.answered + 1) os (place.far + 1) later) is left in
-    left_goes_on a p (place.answered + 1) page n place.far (drop (place.answered + 1) ops) (notes_of_turn t a (place.answered + 1) whats) later more (inl (t, refl)) on
-op_left s a p t place op ops whats later (passed page n more none) is left =
-    let on : Left a p (place.answered + 1) (Unmap page n ∷ drop (place.answered + 1) ops) (place.far + 1) later = subst (λ (os : List Op). Left a p (place.answered + 1) os (place.far + 1) later) is left in
-    left_goes_on a p (place.answered + 1) page n place.far (drop (place.answered + 1) ops) (notes_of_turn t a (place.answered + 1) whats) later more (inr (t, refl)) on
-op_left s a p t place op ops whats later (took_last page n last) is left =
-    let who : Who = record { actor = a; proc = p; number = place.answered + 1 } in
-    let now = notes_of_turn t a (place.answered + 1) whats in
-    left_ends a p (place.answered + 1) op (drop (place.answered + 1) ops) place.far now later (last_rest who page n place.far now last (inl (t, refl))) left
-op_left s a p t place op ops whats later (passed_last page n last none) is left =
-    let who : Who = record { actor = a; proc = p; number = place.answered + 1 } in
-    let now = notes_of_turn t a (place.answered + 1) whats in
-    left_ends a p (place.answered + 1) op (drop (place.answered + 1) ops) place.far now later (last_rest who page n place.far now last (inr (t, refl))) left
+-- from behind turn t of the actor to before it
+module _ (a p t : ℕ) (place : Place) (ops : List Op) (later : List NoteValue) where
+  abbrev present : Who
+  present = record { actor = a; proc = p; number = place.answered + 1 }
 
--- any turn of the actor's
-pub turn_left : (s : PlainState) (a p t : ℕ) (place : Place) (op : Option Op) (waiting : Option Waiting) (ops : List Op) (whats : List What) (later : List NoteValue) → TurnAt s a p place op waiting whats → slice_get ops place.answered ≡ op → LeftAt a p ops (place_behind place whats) later → LeftAt a p ops place (own_notes a (notes_of_turn t a (place.answered + 1) whats) ++ later)
-turn_left s a p t place op waiting ops whats later (idles w) is left =
-    subst (λ (ns : List NoteValue). LeftAt a p ops place (ns ++ later)) (sym (own_idle a t (place.answered + 1) Idle refl)) left
-turn_left s a p t place op waiting ops whats later (waits o w) is left =
-    subst (λ (ns : List NoteValue). LeftAt a p ops place (ns ++ later)) (sym (own_idle a t (place.answered + 1) (Wait w) refl)) left
-turn_left s a p t place op waiting ops whats later (goes o ws birth turn) is left =
-    let number = place.answered + 1 in
-    let split = ops_split ops place.answered o is in
-    let own = own_same a t number ws (op_moves s a p place o ws turn).2 in
-    let here = op_left s a p t place o ops ws later turn split left in
-    subst (λ (ns : List NoteValue). LeftAt a p ops place (ns ++ later)) (sym own)
-    (subst (λ (os : List Op). Left a p number os place.far (notes_of_turn t a number ws ++ later)) (sym split) here)
+  abbrev now : List What → List NoteValue
+  now whats = notes_of_turn t a (place.answered + 1) whats
+
+  abbrev ops_behind : List Op
+  ops_behind = drop (place.answered + 1) ops
+
+  -- what is left before the turn: of this operation, and of those behind it
+  abbrev LeftBefore : Op → List NoteValue → Type 0
+  LeftBefore op notes = Left a p (place.answered + 1) (op ∷ ops_behind) place.far notes
+
+  -- the operation ends with this turn
+  ends : (op : Op) (whats : List What) → RestOf present op place.far (now whats) → Left a p (place.answered + 1 + 1) ops_behind 0 later → LeftBefore op (now whats ++ later)
+  ends op whats rest left = inr (now whats, later, refl, rest, left_shapes a p (place.answered + 1 + 1) ops_behind later left)
+
+  -- it takes one page down, and goes on
+  takes_and_goes : (page n : ℕ) (whats : List What) → place.far + 1 < n → TakesDown present (page + place.far) (now whats) → Left a p (place.answered + 1) (Unmap page n ∷ ops_behind) (place.far + 1) later → LeftBefore (Unmap page n) (now whats ++ later)
+  takes_and_goes page n whats more down (inl none) = absurd (let e = none.0 in omega arith)
+  takes_and_goes page n whats more down (inr (front, rest, is, inr refusal, shapes)) = absurd (let e = refusal.0 in omega arith)
+  takes_and_goes page n whats more down (inr (front, rest, is, inl all, shapes)) =
+      let first = page + place.far in
+      let left = n - (place.far + 1) in
+      let next : page + (place.far + 1) ≡ first + 1 = omega arith in
+      let many : suc left ≡ n - place.far = omega arith in
+      let there : TakesDownAll present (first + 1) left front = subst (λ (g : ℕ). TakesDownAll present g left front) next all in
+      let whole : TakesDownAll present first (n - place.far) (now whats ++ front) = subst (λ (k : ℕ). TakesDownAll present first k (now whats ++ front)) many (takes_down present first left (now whats) front (omega arith) down there) in
+      inr (now whats ++ front, rest, ap (λ (ns : List NoteValue). now whats ++ ns) is ∙ sym (append_assoc (now whats) front rest), inl whole, shapes)
+
+  op_left : {s : PlainState} (op : Op) (whats : List What) → TurnOf s a p place op whats → drop place.answered ops ≡ op ∷ ops_behind → LeftAt a p ops (place_behind place whats) later → LeftBefore op (now whats ++ later)
+  op_left op whats (refused o answer first refusal right passes) is left = ends op whats (refused_rest present op place.far (now whats) first.0 (answer, refusal, (t, refl))) left
+  op_left op whats (mapped page n rights first free) is left = ends op whats (inl (t, refl)) left
+  op_left op whats (loaded page word value first free) is left = ends op whats (inl (value, (t, refl))) left
+  op_left op whats (stored page word value first free) is left = ends op whats (inl (t, refl)) left
+  op_left op whats (took page n more) is left = takes_and_goes page n whats more (inl (t, refl)) (subst (λ (os : List Op). Left a p (place.answered + 1) os (place.far + 1) later) is left)
+  op_left op whats (passed page n more none) is left = takes_and_goes page n whats more (inr (t, refl)) (subst (λ (os : List Op). Left a p (place.answered + 1) os (place.far + 1) later) is left)
+  op_left op whats (took_last page n last) is left = ends op whats (last_rest present page n place.far (now whats) last (inl (t, refl))) left
+  op_left op whats (passed_last page n last none) is left = ends op whats (last_rest present page n place.far (now whats) last (inr (t, refl))) left
+
+  -- a turn without notes of an operation
+  same_left : (what : What) → is_of_operation what ≡ false → LeftAt a p ops place later → LeftAt a p ops place (own_notes a (now (what ∷ [])) ++ later)
+  same_left what other left = subst (λ (ns : List NoteValue). LeftAt a p ops place (ns ++ later)) (sym (own_idle a t (place.answered + 1) what other)) left
+
+  -- any turn of the actor's
+  pub turn_left : {s : PlainState} {op : Option Op} {waiting : Option Waiting} {whats : List What} → TurnAt s a p place op waiting whats → slice_get ops place.answered ≡ op → LeftAt a p ops (place_behind place whats) later → LeftAt a p ops place (own_notes a (now whats) ++ later)
+  turn_left (idles waiting) is left = same_left Idle refl left
+  turn_left (waits op waiting) is left = same_left (Wait waiting) refl left
+  turn_left (goes op whats birth turn) is left =
+      let split = ops_split ops place.answered op is in
+      let own = own_same a t (place.answered + 1) whats (op_moves turn).2 in
+      let here = op_left op whats turn split left in
+      subst (λ (ns : List NoteValue). LeftAt a p ops place (ns ++ later)) (sym own)
+      (subst (λ (os : List Op). Left a p (place.answered + 1) os place.far (now whats ++ later)) (sym split) here)
 
 -- a turn of another actor changes nothing
 pub other_left : (a p b t n : ℕ) (place : Place) (ops : List Op) (whats : List What) (later : List NoteValue) → (b == a) ≡ false → LeftAt a p ops place later → LeftAt a p ops place (own_notes a (notes_of_turn t b n whats) ++ later)

@@ -25,37 +25,37 @@ finished_is (op ∷ ops) zero = leb-suc-zero (length ops)
 finished_is (op ∷ ops) (suc k) = leb-suc-suc (length ops) k ∙ finished_is ops k
 
 -- a turn of an operation has one to three notes of it
-pub op_moves : (s : PlainState) (a p : ℕ) (place : Place) (op : Op) (whats : List What) → TurnOf s a p place op whats → Moves whats
-op_moves s a p place op whats (refused o answer first refusal right passes) = (omega arith, omega arith, (refl, tt))
-op_moves s a p place op whats (mapped page n rights first free) = (omega arith, omega arith, (refl, (refl, tt)))
-op_moves s a p place op whats (loaded page word value first free) = (omega arith, omega arith, (refl, (refl, tt)))
-op_moves s a p place op whats (stored page word value first free) = (omega arith, omega arith, (refl, (refl, tt)))
-op_moves s a p place op whats (took page n more) = (omega arith, omega arith, (refl, tt))
-op_moves s a p place op whats (took_last page n last) = (omega arith, omega arith, (refl, (refl, tt)))
-op_moves s a p place op whats (passed page n more none) = (omega arith, omega arith, (refl, tt))
-op_moves s a p place op whats (passed_last page n last none) = (omega arith, omega arith, (refl, tt))
+pub op_moves : {s : PlainState} {a p : ℕ} {place : Place} {op : Op} {whats : List What} → TurnOf s a p place op whats → Moves whats
+op_moves (refused op answer first refusal right passes) = (omega arith, omega arith, (refl, tt))
+op_moves (mapped page n rights first free) = (omega arith, omega arith, (refl, (refl, tt)))
+op_moves (loaded page word value first free) = (omega arith, omega arith, (refl, (refl, tt)))
+op_moves (stored page word value first free) = (omega arith, omega arith, (refl, (refl, tt)))
+op_moves (took page n more) = (omega arith, omega arith, (refl, tt))
+op_moves (took_last page n last) = (omega arith, omega arith, (refl, (refl, tt)))
+op_moves (passed page n more none) = (omega arith, omega arith, (refl, tt))
+op_moves (passed_last page n last none) = (omega arith, omega arith, (refl, tt))
 
 -- what the order sees of an actor: that it has no operation left, and what it waits for if it has one
 pub record Sees (finished : Bool) (seen : Option Waiting) (op : Option Op) (waiting : Option Waiting) : Type 0 where
   pub finishes : finished ≡ is_none op
   pub waits_so : (o : Op) → op ≡ Some o → seen ≡ waiting
 
-written_right : (s : PlainState) (a p : ℕ) (place : Place) (op : Option Op) (waiting : Option Waiting) (whats : List What) → TurnAt s a p place op waiting whats → (finished : Bool) (seen : Option Waiting) → Sees finished seen op waiting → IsWrittenTurn finished seen whats
-written_right s a p place op waiting whats (idles w) finished seen h = rw h.finishes refl
-written_right s a p place op waiting whats (waits o w) finished seen h = rw (h.finishes, h.waits_so o refl) refl
-written_right s a p place op waiting whats (goes o ws birth turn) finished seen h = rw (h.finishes, h.waits_so o refl) (op_moves s a p place o ws turn)
+written_right : {s : PlainState} {a p : ℕ} {place : Place} {op : Option Op} {waiting : Option Waiting} {whats : List What} {finished : Bool} {seen : Option Waiting} → TurnAt s a p place op waiting whats → Sees finished seen op waiting → IsWrittenTurn finished seen whats
+written_right (idles waiting) h = rw h.finishes refl
+written_right (waits op waiting) h = rw (h.finishes, h.waits_so op refl) refl
+written_right (goes op whats birth turn) h = rw (h.finishes, h.waits_so op refl) (op_moves turn)
 
 -- an actor that can't go is passed over
-passed_over : (op : Option Op) (waiting : Option Waiting) (finished : Bool) (seen : Option Waiting) → Sees finished seen op waiting → is_ready op waiting ≡ false → IsPassedOver finished seen
-passed_over None waiting finished seen h is = rw h.finishes tt
-passed_over (Some o) (Some w) finished seen h is = rw (h.finishes, h.waits_so o refl) tt
-passed_over (Some o) None finished seen h is = absurd (cc is)
+passed_over : (op : Option Op) (waiting : Option Waiting) {finished : Bool} {seen : Option Waiting} → Sees finished seen op waiting → is_ready op waiting ≡ false → IsPassedOver finished seen
+passed_over None waiting h is = rw h.finishes tt
+passed_over (Some op) (Some w) h is = rw (h.finishes, h.waits_so op refl) tt
+passed_over (Some op) None h is = absurd (cc is)
 
 -- one that can go has not finished, and waits for nothing
-goes_on : (op : Option Op) (waiting : Option Waiting) (finished : Bool) (seen : Option Waiting) → Sees finished seen op waiting → is_ready op waiting ≡ true → (finished ≡ false) × (seen ≡ None)
-goes_on None waiting finished seen h is = absurd (cc is)
-goes_on (Some o) (Some w) finished seen h is = absurd (cc is)
-goes_on (Some o) None finished seen h is = (h.finishes, h.waits_so o refl)
+goes_on : (op : Option Op) (waiting : Option Waiting) {finished : Bool} {seen : Option Waiting} → Sees finished seen op waiting → is_ready op waiting ≡ true → (finished ≡ false) × (seen ≡ None)
+goes_on None waiting h is = absurd (cc is)
+goes_on (Some op) (Some w) h is = absurd (cc is)
+goes_on (Some op) None h is = (h.finishes, h.waits_so op refl)
 
 -- what a run has led to, as the judge of the order sees it
 abbrev pub ordered_of : RunState → Ordered
@@ -70,16 +70,14 @@ module _ (script : ScriptValue) (valid : IsScript script) (r : RunState) (h : St
       }
 
   turn_written : (a : ℕ) → IsWrittenTurn (finished_in script (ordered_of r) a) (waiting_of script (ordered_of r) a) (taken_in script r a).whats
-  turn_written a =
-      written_right (plain_of r.core) a (process_of script a) (r.places a) (op_in script r a) (waiting_in script r a) (taken_in script r a).whats (taken script valid r h a).shape
-      (finished_in script (ordered_of r) a) (waiting_of script (ordered_of r) a) (sees a)
+  turn_written a = written_right (taken script valid r h a).shape (sees a)
 
   pub is_passed : (a : ℕ) → can_go script r a ≡ false → IsPassed script (ordered_of r) a
-  is_passed a is = passed_over (op_in script r a) (waiting_in script r a) (finished_in script (ordered_of r) a) (waiting_of script (ordered_of r) a) (sees a) is
+  is_passed a is = passed_over (op_in script r a) (waiting_in script r a) (sees a) is
 
   is_pointed : (a : ℕ) → IsFirstToGo script r (length script.actors) r.pointer a → IsPointedTurn script (ordered_of r) (turn_in script r a)
   is_pointed a found =
-      let free = goes_on (op_in script r a) (waiting_in script r a) (finished_in script (ordered_of r) a) (waiting_of script (ordered_of r) a) (sees a) found.4 in
+      let free = goes_on (op_in script r a) (waiting_in script r a) (sees a) found.4 in
       let finished : finished_in script (ordered_of r) a ≡ false = free.0 in
       let moves : IsWrittenTurn false None (taken_in script r a).whats = subst (λ (w : Option Waiting). IsWrittenTurn false w (taken_in script r a).whats) free.1 (subst (λ (b : Bool). IsWrittenTurn b (waiting_of script (ordered_of r) a) (taken_in script r a).whats) finished (turn_written a)) in
       record {

@@ -45,47 +45,43 @@ answers_undenied : (had : Bool) (denied : Option Answer) (answer : Answer) → d
 answers_undenied true denied answer e plain = plain
 answers_undenied false denied answer e plain = subst (λ (d : Option Answer). IsAnswerOf d answer) (sym e) plain
 
-module _ (ops : List Op) (s : PlainState) (p : ℕ) (place : Place) (op : Op) (is : slice_get ops place.answered ≡ Some op) (birth : s.birth p ≡ born) where
-  one_right : (what : What) → IsRightOf s p place op what → AreRight ops p s place (what ∷ [])
-  one_right what right = (subst (λ (o : Option Op). IsRightAt s p place o what) (sym is) right, tt)
+module _ (ops : List Op) (s : PlainState) (a p : ℕ) (place : Place) (birth : s.birth p ≡ born) where
+  -- one note of the present operation
+  one_right : (op : Op) (what : What) → slice_get ops place.answered ≡ Some op → IsRightOf s p place op what → AreRight ops p s place (what ∷ [])
+  one_right op what is right = (subst (λ (o : Option Op). IsRightAt s p place o what) (sym is) right, tt)
 
-  event_right : (e : PlainEvent) → CanHappen s e → op_denial s p op ≡ None → IsRightOf s p place op (Event e)
-  event_right e can free = (can, undenied place.had (denial s p op) (denial_born s p op birth ∙ free))
+  event_right : (op : Op) (e : PlainEvent) → CanHappen s e → op_denial s p op ≡ None → IsRightOf s p place op (Event e)
+  event_right op e can free = (can, undenied place.had (denial s p op) (denial_born s p op birth ∙ free))
+
+  done_right : (op : Op) (answer : Answer) → slice_get ops place.answered ≡ Some op → IsAnswerAfter place.had (denial s p op) answer → Passes s p op place.far → AreRight ops p s place (Done answer ∷ [])
+  done_right op answer is right passes = one_right op (Done answer) is (settled (s.birth p) birth, right, passes)
 
   -- an event and its answer
-  two_right : (e : PlainEvent) (answer : Answer) → CanHappen s e → op_denial s p op ≡ None → is_denial answer ≡ false → (happened s e).birth ≡ s.birth → Passes (happened s e) p op (place.far + 1) → AreRight ops p s place (Event e ∷ Done answer ∷ [])
-  two_right e answer can free plain births passes =
-      let at : (w : What) (q : PlainState) (pl : Place) → IsRightOf q p pl op w → IsRightAt q p pl (Some op) w = λ w q pl h. h in (
-        subst (λ (o : Option Op). IsRightAt s p place o (Event e)) (sym is) (event_right e can free),
-        (
-          subst (λ (o : Option Op). IsRightAt (happened s e) p (place_after place (Event e)) o (Done answer)) (sym is)
-              (settled ((happened s e).birth p) (ap (λ (f : ℕ → Birth). f p) births ∙ birth), plain, passes),
-          tt,
-        ),
-      )
+  two_right : (op : Op) (e : PlainEvent) (answer : Answer) → slice_get ops place.answered ≡ Some op → CanHappen s e → op_denial s p op ≡ None → is_denial answer ≡ false → (happened s e).birth ≡ s.birth → Passes (happened s e) p op (place.far + 1) → AreRight ops p s place (Event e ∷ Done answer ∷ [])
+  two_right op e answer is can free plain births passes =
+      let born_then = settled ((happened s e).birth p) (ap (λ (f : ℕ → Birth). f p) births ∙ birth) in
+      let first = subst (λ (o : Option Op). IsRightAt s p place o (Event e)) (sym is) (event_right op e can free) in
+      let second = subst (λ (o : Option Op). IsRightAt (happened s e) p (place_after place (Event e)) o (Done answer)) (sym is) (born_then, plain, passes) in
+      (first, (second, tt))
 
-  done_right : (answer : Answer) → IsAnswerAfter place.had (denial s p op) answer → Passes s p op place.far → AreRight ops p s place (Done answer ∷ [])
-  done_right answer right passes = one_right (Done answer) (settled (s.birth p) birth, right, passes)
+  -- a turn of each shape
+  op_right : (op : Op) (whats : List What) → TurnOf s a p place op whats → slice_get ops place.answered ≡ Some op → AllCanHappen s (events_of whats) → AreRight ops p s place whats
+  op_right op whats (refused o answer first refusal right passes) is can =
+      let judged : IsAnswerOf (denial s p op) answer = subst (λ (d : Option Answer). IsAnswerOf d answer) (sym (denial_born s p op birth)) right in
+      done_right op answer is (subst (λ (b : Bool). IsAnswerAfter b (denial s p op) answer) (sym first.1) judged) passes
+  op_right op whats (mapped page n rights first free) is can = two_right op (events.Map a p page n rights) answers.Plain is can.0 free refl refl tt
+  op_right op whats (loaded page word value first free) is can = two_right op (events.Load a p page word value) (answers.Value value) is can.0 free refl refl tt
+  op_right op whats (stored page word value first free) is can = two_right op (events.Store a p page word value) answers.Plain is can.0 free refl refl tt
+  op_right op whats (took page n more) is can = let e = events.Unmap a p (page + place.far) in one_right op (Event e) is (event_right op e can.0 refl)
+  op_right op whats (took_last page n last) is can = two_right op (events.Unmap a p (page + place.far)) answers.Plain is can.0 refl refl refl (λ less. absurd (omega arith))
+  op_right op whats (passed page n more none) is can = one_right op Silent is (λ less. none)
+  op_right op whats (passed_last page n last none) is can =
+      done_right op answers.Plain is (answers_undenied place.had (denial s p op) answers.Plain (denial_born s p op birth) refl) (λ less. none)
 
-op_right : (ops : List Op) (s : PlainState) (a p : ℕ) (place : Place) (op : Op) (whats : List What) → TurnOf s a p place op whats → slice_get ops place.answered ≡ Some op → s.birth p ≡ born → AllCanHappen s (events_of whats) → AreRight ops p s place whats
-op_right ops s a p place op whats (refused o answer first refusal right passes) is birth can =
-    let judged : IsAnswerOf (denial s p op) answer = subst (λ (d : Option Answer). IsAnswerOf d answer) (sym (denial_born s p op birth)) right in
-    done_right ops s p place op is birth answer (subst (λ (b : Bool). IsAnswerAfter b (denial s p op) answer) (sym first.1) judged) passes
-op_right ops s a p place op whats (mapped page n rights first free) is birth can = two_right ops s p place op is birth (events.Map a p page n rights) answers.Plain can.0 free refl refl tt
-op_right ops s a p place op whats (loaded page word value first free) is birth can = two_right ops s p place op is birth (events.Load a p page word value) (answers.Value value) can.0 free refl refl tt
-op_right ops s a p place op whats (stored page word value first free) is birth can = two_right ops s p place op is birth (events.Store a p page word value) answers.Plain can.0 free refl refl tt
-op_right ops s a p place op whats (took page n more) is birth can =
-    one_right ops s p place op is birth (Event (events.Unmap a p (page + place.far))) (event_right ops s p place op is birth (events.Unmap a p (page + place.far)) can.0 refl)
-op_right ops s a p place op whats (took_last page n last) is birth can =
-    two_right ops s p place op is birth (events.Unmap a p (page + place.far)) answers.Plain can.0 refl refl refl (λ less. absurd (omega arith))
-op_right ops s a p place op whats (passed page n more none) is birth can = one_right ops s p place op is birth Silent (λ less. none)
-op_right ops s a p place op whats (passed_last page n last none) is birth can =
-    done_right ops s p place op is birth answers.Plain (answers_undenied place.had (denial s p op) answers.Plain (denial_born s p op birth) refl) (λ less. none)
-
-pub turn_right : (ops : List Op) (s : PlainState) (a p : ℕ) (place : Place) (op : Option Op) (waiting : Option Waiting) (whats : List What) → TurnAt s a p place op waiting whats → slice_get ops place.answered ≡ op → AllCanHappen s (events_of whats) → AreRight ops p s place whats
-turn_right ops s a p place op waiting whats (idles w) is can = (subst (λ (o : Option Op). IsRightAt s p place o Idle) (sym is) tt, tt)
-turn_right ops s a p place op waiting whats (waits o w) is can = (subst (λ (q : Option Op). IsRightAt s p place q (Wait w)) (sym is) tt, tt)
-turn_right ops s a p place op waiting whats (goes o ws birth turn) is can = op_right ops s a p place o ws turn is birth can
+pub turn_right : (ops : List Op) {s : PlainState} {a p : ℕ} {place : Place} {op : Option Op} {waiting : Option Waiting} {whats : List What} → TurnAt s a p place op waiting whats → slice_get ops place.answered ≡ op → AllCanHappen s (events_of whats) → AreRight ops p s place whats
+turn_right ops {s = s} {p = p} {place = place} (idles waiting) is can = (subst (λ (o : Option Op). IsRightAt s p place o Idle) (sym is) tt, tt)
+turn_right ops {s = s} {p = p} {place = place} (waits op waiting) is can = (subst (λ (o : Option Op). IsRightAt s p place o (Wait waiting)) (sym is) tt, tt)
+turn_right ops {s = s} {a = a} {p = p} {place = place} (goes op whats birth turn) is can = op_right ops s a p place birth op whats turn is can
 
 -- what has been judged behind notes of one actor
 abbrev pub judged_behind : Judged → ℕ → List What → Judged

@@ -11,7 +11,7 @@ use Rattle.gup_events.specs.State.{plain_of, start}
 use Rattle.gup_events.specs.Sound.{IsSound}
 use Rattle.gup_follows.specs.Order.{plain_behind}
 use Rattle.gup_follows.specs.Place.{Place, place_behind, process_of, present_op, starts_born}
-use Rattle.gup_turns.specs.Run.{RunState, run_start, run_after, op_in, waiting_in, taken_in}
+use Rattle.gup_turns.specs.Run.{RunState, run_start, run_after, taken_in}
 use Rattle.gup_turns.proofs.Scripts.{fresh_fits}
 use Rattle.gup_turns.proofs.Shapes.{FitsAt, TurnOf, refused, mapped, loaded, stored, took, took_last, passed, passed_last, TurnAt, idles, waits, goes}
 use Rattle.gup_turns.proofs.Steps.{Stands, taken}
@@ -22,26 +22,26 @@ abbrev pub FitsPlace : ScriptValue → ℕ → Place → Type 0
 FitsPlace script a place = FitsAt (present_op script a place) place
 
 -- behind a turn of its operation an actor stands at the next page, or at the next operation
-op_keeps : (script : ScriptValue) → IsScript script → (s : PlainState) (a p : ℕ) (place : Place) (op : Op) (whats : List What) → TurnOf s a p place op whats → present_op script a place ≡ Some op → FitsPlace script a (place_behind place whats)
-op_keeps script valid s a p place op whats (refused o answer first refusal right passes) is = fresh_fits script valid a (place.answered + 1)
-op_keeps script valid s a p place op whats (mapped page n rights first undenied) is = fresh_fits script valid a (place.answered + 1)
-op_keeps script valid s a p place op whats (loaded page word value first undenied) is = fresh_fits script valid a (place.answered + 1)
-op_keeps script valid s a p place op whats (stored page word value first undenied) is = fresh_fits script valid a (place.answered + 1)
-op_keeps script valid s a p place op whats (took page n more) is = subst (λ (o : Option Op). FitsAt o (place_behind place whats)) (sym is) more
-op_keeps script valid s a p place op whats (took_last page n last) is = fresh_fits script valid a (place.answered + 1)
-op_keeps script valid s a p place op whats (passed page n more none) is = subst (λ (o : Option Op). FitsAt o (place_behind place whats)) (sym is) more
-op_keeps script valid s a p place op whats (passed_last page n last none) is = fresh_fits script valid a (place.answered + 1)
+op_keeps : (script : ScriptValue) → IsScript script → {s : PlainState} {a p : ℕ} {place : Place} {op : Op} {whats : List What} → TurnOf s a p place op whats → present_op script a place ≡ Some op → FitsPlace script a (place_behind place whats)
+op_keeps script valid {a = a} {place = place} (refused op answer first refusal right passes) is = fresh_fits script valid a (place.answered + 1)
+op_keeps script valid {a = a} {place = place} (mapped page n rights first undenied) is = fresh_fits script valid a (place.answered + 1)
+op_keeps script valid {a = a} {place = place} (loaded page word value first undenied) is = fresh_fits script valid a (place.answered + 1)
+op_keeps script valid {a = a} {place = place} (stored page word value first undenied) is = fresh_fits script valid a (place.answered + 1)
+op_keeps script valid {place = place} {whats = whats} (took page n more) is = subst (λ (o : Option Op). FitsAt o (place_behind place whats)) (sym is) more
+op_keeps script valid {a = a} {place = place} (took_last page n last) is = fresh_fits script valid a (place.answered + 1)
+op_keeps script valid {place = place} {whats = whats} (passed page n more none) is = subst (λ (o : Option Op). FitsAt o (place_behind place whats)) (sym is) more
+op_keeps script valid {a = a} {place = place} (passed_last page n last none) is = fresh_fits script valid a (place.answered + 1)
 
-keeps : (script : ScriptValue) → IsScript script → (s : PlainState) (a p : ℕ) (place : Place) (op : Option Op) (waiting : Option Waiting) (whats : List What) → TurnAt s a p place op waiting whats → present_op script a place ≡ op → FitsPlace script a place → FitsPlace script a (place_behind place whats)
-keeps script valid s a p place op waiting whats (idles w) is fits = fits
-keeps script valid s a p place op waiting whats (waits o w) is fits = fits
-keeps script valid s a p place op waiting whats (goes o ws birth turn) is fits = op_keeps script valid s a p place o ws turn is
+keeps : (script : ScriptValue) → IsScript script → {s : PlainState} {a p : ℕ} {place : Place} {op : Option Op} {waiting : Option Waiting} {whats : List What} → TurnAt s a p place op waiting whats → present_op script a place ≡ op → FitsPlace script a place → FitsPlace script a (place_behind place whats)
+keeps script valid (idles waiting) is fits = fits
+keeps script valid (waits op waiting) is fits = fits
+keeps script valid (goes op whats birth turn) is fits = op_keeps script valid turn is
 
 -- and only an actor of a born process comes into the middle of an operation
-keeps_begun : (s : PlainState) (a p : ℕ) (place : Place) (op : Option Op) (waiting : Option Waiting) (whats : List What) → TurnAt s a p place op waiting whats → (0 < place.far → s.birth p ≡ born) → 0 < (place_behind place whats).far → s.birth p ≡ born
-keeps_begun s a p place op waiting whats (idles w) begun = begun
-keeps_begun s a p place op waiting whats (waits o w) begun = begun
-keeps_begun s a p place op waiting whats (goes o ws birth turn) begun = λ _. birth
+keeps_begun : {s : PlainState} {a p : ℕ} {place : Place} {op : Option Op} {waiting : Option Waiting} {whats : List What} → TurnAt s a p place op waiting whats → (0 < place.far → s.birth p ≡ born) → 0 < (place_behind place whats).far → s.birth p ≡ born
+keeps_begun (idles waiting) begun = begun
+keeps_begun (waits op waiting) begun = begun
+keeps_begun (goes op whats birth turn) begun = λ _. birth
 
 -- the actor's place is changed, and no other
 at_each : (P : ℕ → Place → Type 0) (a : ℕ) (new : Place) (places : ℕ → Place) → P a new → ((b : ℕ) → P b (places b)) → (b : ℕ) → P b (if b == a then new else places b)
@@ -54,13 +54,11 @@ at_each P a new places here there b = go (b == a) refl
 pub stands_on : Law → (script : ScriptValue) → IsScript script → (r : RunState) → Stands script r → (a : ℕ) → Stands script (run_after script r a)
 stands_on law script valid r h a =
     let turn = taken script valid r h a in
-    let p = process_of script a in
-    let place = r.places a in
-    let behind = place_behind place (taken_in script r a).whats in
+    let behind = place_behind (r.places a) (taken_in script r a).whats in
     let led = leads law r.core (taken_in script r a).events h.sound turn.done.can in
     let births = births_stay r.core (taken_in script r a).events in
-    let here = keeps script valid (plain_of r.core) a p place (op_in script r a) (waiting_in script r a) (taken_in script r a).whats turn.shape refl (h.fits a) in
-    let begun = at_each (λ (b : ℕ) (q : Place). 0 < q.far → r.core.birth (process_of script b) ≡ born) a behind r.places (keeps_begun (plain_of r.core) a p place (op_in script r a) (waiting_in script r a) (taken_in script r a).whats turn.shape (h.begun a)) h.begun in
+    let here = keeps script valid turn.shape refl (h.fits a) in
+    let begun = at_each (λ (b : ℕ) (q : Place). 0 < q.far → r.core.birth (process_of script b) ≡ born) a behind r.places (keeps_begun turn.shape (h.begun a)) h.begun in
     record {
       sound = led.sound;
       rest = turn.done.rest;
