@@ -18,14 +18,23 @@ pub fn one_core_run()
 /// The core run of a script follows it.
 pub fn core_run_follows()
     ensures { (script : ScriptValue) (notes : List NoteValue) (end : RunState) → IsScript script → IsCoreRun script notes end → Follows script notes }
-{}
+{
+    gup_laws::simulates();
+    gup_laws::starts_sound();
+}
 
 /// The core run of a script is in the script's order.
 pub fn core_run_is_in_order()
     ensures { (script : ScriptValue) (notes : List NoteValue) (end : RunState) → IsScript script → IsCoreRun script notes end → InOrder script notes }
-{}
+{
+    gup_laws::simulates();
+    gup_laws::starts_sound();
+}
 
 /// The core run of a script is plain.
 pub fn core_run_is_plain()
     ensures { (script : ScriptValue) (notes : List NoteValue) (end : RunState) → IsScript script → IsCoreRun script notes end → IsPlain script notes }
-{}
+{
+    gup_laws::simulates();
+    gup_laws::starts_sound();
+}

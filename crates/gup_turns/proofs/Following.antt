@@ -1,0 +1,146 @@
+-- A run follows its script: what an actor's notes are from a state on, backwards from the end.
+use Rattle.std.proofs.Common.{◌≡◌, ℕ, ◌+◌, ◌-◌, ◌<◌, ◌≤◌, ◌==◌, ◌++◌, ◌⊎◌, inl, inr, false, List, [], ◌∷◌, Option, Some, None, slice_get, drop, refl, sym, ap, ◌∙◌, subst, append_assoc, zero, suc, arith}
+use Rattle.std.proofs.Math.Seq.{drop-nil}
+use Rattle.gup_plain.specs.Note.{NoteValue}
+use Rattle.gup_plain.specs.State.{PlainState}
+use Rattle.gup_plain.specs.declared.note.What.{What}
+use Rattle.gup_plain.specs.declared.note.What.TheVariants.{Idle, Wait}
+use Rattle.gup_plain.specs.declared.note.Waiting.{Waiting}
+use Rattle.gup_script.specs.declared.op.Op.{Op}
+use Rattle.gup_script.specs.declared.op.Op.TheVariants.{Map, Unmap, Load, Store}
+use Rattle.gup_follows.specs.Follows.{Who, IsRefused, TakesDown, TakesDownLast, TakesDownAll, Shape, Shapes, own_notes, notes_of_turn, is_of_operation}
+use Rattle.gup_follows.specs.Place.{Place, place_behind}
+use Rattle.gup_turns.proofs.Puts.{some_same}
+use Rattle.gup_turns.proofs.Shapes.{TurnOf, refused, mapped, loaded, stored, took, took_last, passed, passed_last, TurnAt, idles, waits, goes}
+use Rattle.gup_turns.proofs.Ordering.{op_moves}
+use Rattle.gup_turns.proofs.Owning.{own_other, own_same, own_idle}
+
+-- what is left of an operation of which so many turns are over
+abbrev pub RestOf : Who → Op → (far : ℕ) → List NoteValue → Type 0
+RestOf who (Unmap page n) far notes = TakesDownAll who (page + far) (n - far) notes ⊎ ((far ≡ 0) × IsRefused who (Unmap page n) notes)
+RestOf who (Map page n rights) far notes = Shape who (Map page n rights) notes
+RestOf who (Load page word) far notes = Shape who (Load page word) notes
+RestOf who (Store page word value) far notes = Shape who (Store page word value) notes
+
+-- what is left of the operation, and then those behind it
+abbrev pub Goes : (a p number : ℕ) → Op → List Op → (far : ℕ) → List NoteValue → Type 0
+Goes a p number op ops far notes =
+    (front rest : List NoteValue) × (notes ≡ front ++ rest) × RestOf (record { actor = a; proc = p; number = number }) op far front
+    × Shapes a p (number + 1) ops rest
+
+-- The notes that are left of an actor with these operations left, of the first of which so many turns are over. An
+-- operation that has begun is ended.
+abbrev pub Left : (a p number : ℕ) → List Op → (far : ℕ) → List NoteValue → Type 0
+Left a p number [] far notes = notes ≡ []
+Left a p number (op ∷ ops) far notes = (far ≡ 0) × (notes ≡ []) ⊎ Goes a p number op ops far notes
+
+-- the operations from the present one on
+
+pub ops_split : (ops : List Op) (k : ℕ) (op : Op) → slice_get ops k ≡ Some op → drop k ops ≡ op ∷ drop (k + 1) ops
+ops_split [] k op is = absurd (cc is)
+ops_split (o ∷ ops) zero op is = ap (λ (x : Op). x ∷ ops) (some_same is)
+ops_split (o ∷ ops) (suc k) op is = let same : suc (k + 1) ≡ suc k + 1 = omega arith in ops_split ops k op is ∙ ap (λ (n : ℕ). op ∷ drop n (o ∷ ops)) same
+
+pub ops_over : (ops : List Op) (k : ℕ) → slice_get ops k ≡ None → drop k ops ≡ []
+ops_over [] k is = drop-nil k
+ops_over (o ∷ ops) zero is = absurd (cc is)
+ops_over (o ∷ ops) (suc k) is = ops_over ops k is
+
+-- an operation of which no turn is over
+
+shape_of : (who : Who) (op : Op) (notes : List NoteValue) → RestOf who op 0 notes → Shape who op notes
+shape_of who (Unmap page n) notes (inl all) =
+    let first : page + 0 ≡ page = omega arith in
+    let many : n - 0 ≡ n = omega arith in
+    inl (subst (λ (k : ℕ). TakesDownAll who page k notes) many (subst (λ (g : ℕ). TakesDownAll who g (n - 0) notes) first all))
+shape_of who (Unmap page n) notes (inr refusal) = inr refusal.1
+shape_of who (Map page n rights) notes rest = rest
+shape_of who (Load page word) notes rest = rest
+shape_of who (Store page word value) notes rest = rest
+
+pub left_shapes : (a p number : ℕ) (ops : List Op) (notes : List NoteValue) → Left a p number ops 0 notes → Shapes a p number ops notes
+left_shapes a p number [] notes left = left
+left_shapes a p number (op ∷ ops) notes (inl none) = inl none.1
+left_shapes a p number (op ∷ ops) notes (inr more) =
+    inr (more.0, more.1, more.2, shape_of (record { actor = a; proc = p; number = number }) op more.0 more.3, more.4)
+
+-- one page more in front
+takes_down : (who : Who) (page m : ℕ) (now later : List NoteValue) → 1 ≤ m → TakesDown who page now → TakesDownAll who (page + 1) m later → TakesDownAll who page (suc m) (now ++ later)
+takes_down who page zero now later some down all = absurd (omega arith)
+takes_down who page (suc m) now later some down all = (now, later, refl, down, all)
+
+-- what is left of an actor at a place
+abbrev pub LeftAt : (a p : ℕ) → List Op → Place → List NoteValue → Type 0
+LeftAt a p ops place notes = Left a p (place.answered + 1) (drop place.answered ops) place.far notes
+
+refused_rest : (who : Who) (op : Op) (far : ℕ) (now : List NoteValue) → far ≡ 0 → IsRefused who op now → RestOf who op far now
+refused_rest who (Map page n rights) far now first refusal = inr refusal
+refused_rest who (Unmap page n) far now first refusal = inr (first, refusal)
+refused_rest who (Load page word) far now first refusal = inr refusal
+refused_rest who (Store page word value) far now first refusal = inr refusal
+
+last_rest : (who : Who) (page n far : ℕ) (now : List NoteValue) → far + 1 ≡ n → TakesDownLast who (page + far) now → RestOf who (Unmap page n) far now
+last_rest who page n far now last down =
+    let one : 1 ≡ n - far = omega arith in
+    inl (subst (λ (k : ℕ). TakesDownAll who (page + far) k now) one down)
+
+-- from behind turn t of the actor to before it
+module _ (a p t : ℕ) (place : Place) (ops : List Op) (later : List NoteValue) where
+  abbrev present : Who
+  present = record { actor = a; proc = p; number = place.answered + 1 }
+
+  abbrev now : List What → List NoteValue
+  now whats = notes_of_turn t a (place.answered + 1) whats
+
+  abbrev ops_behind : List Op
+  ops_behind = drop (place.answered + 1) ops
+
+  -- what is left before the turn: of this operation, and of those behind it
+  abbrev LeftBefore : Op → List NoteValue → Type 0
+  LeftBefore op notes = Left a p (place.answered + 1) (op ∷ ops_behind) place.far notes
+
+  -- the operation ends with this turn
+  ends : (op : Op) (whats : List What) → RestOf present op place.far (now whats) → Left a p (place.answered + 1 + 1) ops_behind 0 later → LeftBefore op (now whats ++ later)
+  ends op whats rest left = inr (now whats, later, refl, rest, left_shapes a p (place.answered + 1 + 1) ops_behind later left)
+
+  -- it takes one page down, and goes on
+  takes_and_goes : (page n : ℕ) (whats : List What) → place.far + 1 < n → TakesDown present (page + place.far) (now whats) → Left a p (place.answered + 1) (Unmap page n ∷ ops_behind) (place.far + 1) later → LeftBefore (Unmap page n) (now whats ++ later)
+  takes_and_goes page n whats more down (inl none) = absurd (let e = none.0 in omega arith)
+  takes_and_goes page n whats more down (inr (front, rest, is, inr refusal, shapes)) = absurd (let e = refusal.0 in omega arith)
+  takes_and_goes page n whats more down (inr (front, rest, is, inl all, shapes)) =
+      let first = page + place.far in
+      let left = n - (place.far + 1) in
+      let next : page + (place.far + 1) ≡ first + 1 = omega arith in
+      let many : suc left ≡ n - place.far = omega arith in
+      let there : TakesDownAll present (first + 1) left front = subst (λ (g : ℕ). TakesDownAll present g left front) next all in
+      let whole : TakesDownAll present first (n - place.far) (now whats ++ front) = subst (λ (k : ℕ). TakesDownAll present first k (now whats ++ front)) many (takes_down present first left (now whats) front (omega arith) down there) in
+      inr (now whats ++ front, rest, ap (λ (ns : List NoteValue). now whats ++ ns) is ∙ sym (append_assoc (now whats) front rest), inl whole, shapes)
+
+  op_left : {s : PlainState} (op : Op) (whats : List What) → TurnOf s a p place op whats → drop place.answered ops ≡ op ∷ ops_behind → LeftAt a p ops (place_behind place whats) later → LeftBefore op (now whats ++ later)
+  op_left op whats (refused o answer first refusal right passes) is left = ends op whats (refused_rest present op place.far (now whats) first.0 (answer, refusal, (t, refl))) left
+  op_left op whats (mapped page n rights first free) is left = ends op whats (inl (t, refl)) left
+  op_left op whats (loaded page word value first free) is left = ends op whats (inl (value, (t, refl))) left
+  op_left op whats (stored page word value first free) is left = ends op whats (inl (t, refl)) left
+  op_left op whats (took page n more) is left = takes_and_goes page n whats more (inl (t, refl)) (subst (λ (os : List Op). Left a p (place.answered + 1) os (place.far + 1) later) is left)
+  op_left op whats (passed page n more none) is left = takes_and_goes page n whats more (inr (t, refl)) (subst (λ (os : List Op). Left a p (place.answered + 1) os (place.far + 1) later) is left)
+  op_left op whats (took_last page n last) is left = ends op whats (last_rest present page n place.far (now whats) last (inl (t, refl))) left
+  op_left op whats (passed_last page n last none) is left = ends op whats (last_rest present page n place.far (now whats) last (inr (t, refl))) left
+
+  -- a turn without notes of an operation
+  same_left : (what : What) → is_of_operation what ≡ false → LeftAt a p ops place later → LeftAt a p ops place (own_notes a (now (what ∷ [])) ++ later)
+  same_left what other left = subst (λ (ns : List NoteValue). LeftAt a p ops place (ns ++ later)) (sym (own_idle a t (place.answered + 1) what other)) left
+
+  -- any turn of the actor's
+  pub turn_left : {s : PlainState} {op : Option Op} {waiting : Option Waiting} {whats : List What} → TurnAt s a p place op waiting whats → slice_get ops place.answered ≡ op → LeftAt a p ops (place_behind place whats) later → LeftAt a p ops place (own_notes a (now whats) ++ later)
+  turn_left (idles waiting) is left = same_left Idle refl left
+  turn_left (waits op waiting) is left = same_left (Wait waiting) refl left
+  turn_left (goes op whats birth turn) is left =
+      let split = ops_split ops place.answered op is in
+      let own = own_same a t (place.answered + 1) whats (op_moves turn).2 in
+      let here = op_left op whats turn split left in
+      subst (λ (ns : List NoteValue). LeftAt a p ops place (ns ++ later)) (sym own)
+      (subst (λ (os : List Op). Left a p (place.answered + 1) os place.far (now whats ++ later)) (sym split) here)
+
+-- a turn of another actor changes nothing
+pub other_left : (a p b t n : ℕ) (place : Place) (ops : List Op) (whats : List What) (later : List NoteValue) → (b == a) ≡ false → LeftAt a p ops place later → LeftAt a p ops place (own_notes a (notes_of_turn t b n whats) ++ later)
+other_left a p b t n place ops whats later e left = subst (λ (ns : List NoteValue). LeftAt a p ops place (ns ++ later)) (sym (own_other a t b n whats e)) left

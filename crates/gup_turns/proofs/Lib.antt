@@ -1,0 +1,15 @@
+pub mod Puts
+pub mod Through
+pub mod Shapes
+pub mod Searches
+pub mod Ops
+pub mod Scripts
+pub mod Steps
+pub mod Stands
+pub mod Rightness
+pub mod Runs
+pub mod Pointer
+pub mod Ordering
+pub mod Owning
+pub mod Following
+pub mod FollowRuns

@@ -1,0 +1,105 @@
+-- The notes of a turn are right in the plain state.
+use Rattle.std.proofs.Common.{◌≡◌, ℕ, ◌+◌, ◌++◌, Bool, true, false, List, [], ◌∷◌, Option, Some, None, slice_get, refl, sym, ap, ◌∙◌, subst, arith}
+use Rattle.gup_plain.specs.Event.{CanHappen, happened}
+use Rattle.gup_plain.specs.Note.{NoteValue}
+use Rattle.gup_plain.specs.Put.{put}
+use Rattle.gup_plain.specs.State.{PlainState, Birth, born}
+use Rattle.gup_plain.specs.declared.answer.Answer.{Answer}
+use Rattle.gup_plain.specs.declared.answer.Answer.TheVariants as answers
+use Rattle.gup_plain.specs.declared.event.PlainEvent.{PlainEvent}
+use Rattle.gup_plain.specs.declared.event.PlainEvent.TheVariants as events
+use Rattle.gup_plain.specs.declared.note.What.{What}
+use Rattle.gup_plain.specs.declared.note.What.TheVariants.{Silent, Idle, Wait, Event, Done}
+use Rattle.gup_plain.specs.declared.note.Waiting.{Waiting}
+use Rattle.gup_script.specs.Script.{ScriptValue}
+use Rattle.gup_script.specs.declared.op.Op.{Op}
+use Rattle.gup_follows.specs.Denial.{denial, op_denial, denial_at, is_denial}
+use Rattle.gup_follows.specs.Follows.{notes_of_turn, note_of}
+use Rattle.gup_follows.specs.Order.{plain_behind}
+use Rattle.gup_follows.specs.Place.{Place, place_after, place_behind, process_of, ops_of}
+use Rattle.gup_follows.specs.Plain.{Judged, judged_after, ArePlain, IsRightAt, IsRightOf, IsSettled, IsAnswerAfter, IsAnswerOf, IsUndeniedAt, Passes, plain_after}
+use Rattle.gup_turns.proofs.Puts.{put_same, put_twice, put_own}
+use Rattle.gup_turns.proofs.Shapes.{TurnOf, refused, mapped, loaded, stored, took, took_last, passed, passed_last, TurnAt, idles, waits, goes}
+use Rattle.gup_turns.proofs.Through.{events_of, AllCanHappen}
+
+-- the notes of one turn are right, each in what those before it have led to
+abbrev pub AreRight : List Op → ℕ → PlainState → Place → List What → Type 0
+AreRight ops p s place [] = Unit {0}
+AreRight ops p s place (what ∷ whats) =
+    IsRightAt s p place (slice_get ops place.answered) what × AreRight ops p (plain_after s what) (place_after place what) whats
+
+-- in a born process
+
+settled : (b : Birth) → b ≡ born → IsSettled b
+settled b e = subst IsSettled (sym e) tt
+
+denial_born : (s : PlainState) (p : ℕ) (op : Op) → s.birth p ≡ born → denial s p op ≡ op_denial s p op
+denial_born s p op e = ap (λ (b : Birth). denial_at b (op_denial s p op)) e
+
+undenied : (had : Bool) (denied : Option Answer) → denied ≡ None → IsUndeniedAt had denied
+undenied true denied e = tt
+undenied false denied e = e
+
+-- an answer that is no denial is right where nothing denies
+answers_undenied : (had : Bool) (denied : Option Answer) (answer : Answer) → denied ≡ None → is_denial answer ≡ false → IsAnswerAfter had denied answer
+answers_undenied true denied answer e plain = plain
+answers_undenied false denied answer e plain = subst (λ (d : Option Answer). IsAnswerOf d answer) (sym e) plain
+
+module _ (ops : List Op) (s : PlainState) (a p : ℕ) (place : Place) (birth : s.birth p ≡ born) where
+  -- one note of the present operation
+  one_right : (op : Op) (what : What) → slice_get ops place.answered ≡ Some op → IsRightOf s p place op what → AreRight ops p s place (what ∷ [])
+  one_right op what is right = (subst (λ (o : Option Op). IsRightAt s p place o what) (sym is) right, tt)
+
+  event_right : (op : Op) (e : PlainEvent) → CanHappen s e → op_denial s p op ≡ None → IsRightOf s p place op (Event e)
+  event_right op e can free = (can, undenied place.had (denial s p op) (denial_born s p op birth ∙ free))
+
+  done_right : (op : Op) (answer : Answer) → slice_get ops place.answered ≡ Some op → IsAnswerAfter place.had (denial s p op) answer → Passes s p op place.far → AreRight ops p s place (Done answer ∷ [])
+  done_right op answer is right passes = one_right op (Done answer) is (settled (s.birth p) birth, right, passes)
+
+  -- an event and its answer
+  two_right : (op : Op) (e : PlainEvent) (answer : Answer) → slice_get ops place.answered ≡ Some op → CanHappen s e → op_denial s p op ≡ None → is_denial answer ≡ false → (happened s e).birth ≡ s.birth → Passes (happened s e) p op (place.far + 1) → AreRight ops p s place (Event e ∷ Done answer ∷ [])
+  two_right op e answer is can free plain births passes =
+      let born_then = settled ((happened s e).birth p) (ap (λ (f : ℕ → Birth). f p) births ∙ birth) in
+      let first = subst (λ (o : Option Op). IsRightAt s p place o (Event e)) (sym is) (event_right op e can free) in
+      let second = subst (λ (o : Option Op). IsRightAt (happened s e) p (place_after place (Event e)) o (Done answer)) (sym is) (born_then, plain, passes) in
+      (first, (second, tt))
+
+  -- a turn of each shape
+  op_right : (op : Op) (whats : List What) → TurnOf s a p place op whats → slice_get ops place.answered ≡ Some op → AllCanHappen s (events_of whats) → AreRight ops p s place whats
+  op_right op whats (refused o answer first refusal right passes) is can =
+      let judged : IsAnswerOf (denial s p op) answer = subst (λ (d : Option Answer). IsAnswerOf d answer) (sym (denial_born s p op birth)) right in
+      done_right op answer is (subst (λ (b : Bool). IsAnswerAfter b (denial s p op) answer) (sym first.1) judged) passes
+  op_right op whats (mapped page n rights first free) is can = two_right op (events.Map a p page n rights) answers.Plain is can.0 free refl refl tt
+  op_right op whats (loaded page word value first free) is can = two_right op (events.Load a p page word value) (answers.Value value) is can.0 free refl refl tt
+  op_right op whats (stored page word value first free) is can = two_right op (events.Store a p page word value) answers.Plain is can.0 free refl refl tt
+  op_right op whats (took page n more) is can = let e = events.Unmap a p (page + place.far) in one_right op (Event e) is (event_right op e can.0 refl)
+  op_right op whats (took_last page n last) is can = two_right op (events.Unmap a p (page + place.far)) answers.Plain is can.0 refl refl refl (λ less. absurd (omega arith))
+  op_right op whats (passed page n more none) is can = one_right op Silent is (λ less. none)
+  op_right op whats (passed_last page n last none) is can =
+      done_right op answers.Plain is (answers_undenied place.had (denial s p op) answers.Plain (denial_born s p op birth) refl) (λ less. none)
+
+pub turn_right : (ops : List Op) {s : PlainState} {a p : ℕ} {place : Place} {op : Option Op} {waiting : Option Waiting} {whats : List What} → TurnAt s a p place op waiting whats → slice_get ops place.answered ≡ op → AllCanHappen s (events_of whats) → AreRight ops p s place whats
+turn_right ops {s = s} {p = p} {place = place} (idles waiting) is can = (subst (λ (o : Option Op). IsRightAt s p place o Idle) (sym is) tt, tt)
+turn_right ops {s = s} {p = p} {place = place} (waits op waiting) is can = (subst (λ (o : Option Op). IsRightAt s p place o (Wait waiting)) (sym is) tt, tt)
+turn_right ops {s = s} {a = a} {p = p} {place = place} (goes op whats birth turn) is can = op_right ops s a p place birth op whats turn is can
+
+-- what has been judged behind notes of one actor
+abbrev pub judged_behind : Judged → ℕ → List What → Judged
+judged_behind j a whats =
+    record { plain = plain_behind j.plain whats; places = put a (place_behind (j.places a) whats) j.places }
+
+judged_step : (j : Judged) (t a n : ℕ) (what : What) (whats : List What) → judged_behind (judged_after j (note_of t a n what)) a whats ≡ judged_behind j a (what ∷ whats)
+judged_step j t a n what whats =
+    let next = place_after (j.places a) what in
+    let same : put a (place_behind (put a next j.places a) whats) (put a next j.places) ≡ put a (place_behind next whats) j.places =
+    ap (λ (q : Place). put a (place_behind q whats) (put a next j.places)) (put_same a next j.places) ∙ put_twice a next (place_behind next whats) j.places in
+    ap (λ (places : ℕ → Place). record { plain = plain_behind (plain_after j.plain what) whats; places = places }) same
+
+-- a turn's notes, and then the rest
+pub plain_append : (script : ScriptValue) (t a n : ℕ) (whats : List What) (rest : List NoteValue) (j : Judged) → AreRight (ops_of script a) (process_of script a) j.plain (j.places a) whats → ArePlain script (judged_behind j a whats) rest → ArePlain script j (notes_of_turn t a n whats ++ rest)
+plain_append script t a n [] rest j right later = subst (λ (places : ℕ → Place). ArePlain script (record { plain = j.plain; places = places }) rest) (put_own a j.places) later
+plain_append script t a n (what ∷ whats) rest j right later =
+    let next = place_after (j.places a) what in
+    let more = subst (λ (q : Place). AreRight (ops_of script a) (process_of script a) (plain_after j.plain what) q whats) (sym (put_same a next j.places)) right.1 in
+    let after = subst (λ (k : Judged). ArePlain script k rest) (sym (judged_step j t a n what whats)) later in
+    (right.0, plain_append script t a n whats rest (judged_after j (note_of t a n what)) more after)

@@ -1,0 +1,67 @@
+-- The shapes of a turn: what its notes say, by the operation and the plain state before it.
+use Rattle.std.proofs.Common.{◌≡◌, ℕ, ◌+◌, ◌<◌, false, IsTrue, List, [], ◌∷◌, Option, Some, None}
+use Rattle.gup_base.specs.declared.entry.Rights.{Rights}
+use Rattle.gup_plain.specs.State.{PlainState, born}
+use Rattle.gup_plain.specs.declared.answer.Answer.{Answer}
+use Rattle.gup_plain.specs.declared.answer.Answer.TheVariants as answers
+use Rattle.gup_plain.specs.declared.event.PlainEvent.TheVariants as events
+use Rattle.gup_plain.specs.declared.note.What.{What}
+use Rattle.gup_plain.specs.declared.note.What.TheVariants.{Silent, Idle, Wait, Event, Done}
+use Rattle.gup_plain.specs.declared.note.Waiting.{Waiting}
+use Rattle.gup_script.specs.declared.op.Op.{Op}
+use Rattle.gup_script.specs.declared.op.Op.TheVariants.{Map, Unmap, Load, Store}
+use Rattle.gup_events.specs.State.{CoreState}
+use Rattle.gup_laws.specs.Run.{AllCan}
+use Rattle.gup_follows.specs.Denial.{op_denial}
+use Rattle.gup_follows.specs.Place.{Place}
+use Rattle.gup_follows.specs.Plain.{IsAnswerOf, Passes}
+use Rattle.gup_follows.specs.Follows.{refuses}
+use Rattle.gup_turns.specs.Run.{state_after}
+use Rattle.gup_turns.specs.Turn.{Taken}
+use Rattle.gup_turns.proofs.Through.{all_told, events_of}
+
+-- an operation stands at its first turn
+abbrev pub AtFirst : Place → Type 0
+AtFirst place = (place.far ≡ 0) × (place.had ≡ false)
+
+-- where an actor may stand in its present operation
+abbrev pub FitsOp : Op → Place → Type 0
+FitsOp (Map page n rights) place = AtFirst place
+FitsOp (Unmap page n) place = place.far < n
+FitsOp (Load page word) place = AtFirst place
+FitsOp (Store page word value) place = AtFirst place
+
+abbrev pub FitsAt : Option Op → Place → Type 0
+FitsAt None place = AtFirst place
+FitsAt (Some op) place = FitsOp op place
+
+-- The turns of an operation of actor a of the born process p that stands at this place.
+pub data TurnOf (s : PlainState) (a p : ℕ) (place : Place) : Op → List What → Type 0 where
+  -- its only turn: it is refused, or has its event
+  refused : (op : Op) (answer : Answer) → AtFirst place → IsTrue (refuses op answer) → IsAnswerOf (op_denial s p op) answer → Passes s p op place.far → TurnOf s a p place op (Done answer ∷ [])
+  mapped : (page n : ℕ) (rights : Rights) → AtFirst place → op_denial s p (Map page n rights) ≡ None → TurnOf s a p place (Map page n rights) (Event (events.Map a p page n rights) ∷ Done answers.Plain ∷ [])
+  loaded : (page word value : ℕ) → AtFirst place → op_denial s p (Load page word) ≡ None → TurnOf s a p place (Load page word) (Event (events.Load a p page word value) ∷ Done (answers.Value value) ∷ [])
+  stored : (page word value : ℕ) → AtFirst place → op_denial s p (Store page word value) ≡ None → TurnOf s a p place (Store page word value) (Event (events.Store a p page word value) ∷ Done answers.Plain ∷ [])
+  -- one page of several
+  took : (page n : ℕ) → place.far + 1 < n → TurnOf s a p place (Unmap page n) (Event (events.Unmap a p (page + place.far)) ∷ [])
+  took_last : (page n : ℕ) → place.far + 1 ≡ n → TurnOf s a p place (Unmap page n) (Event (events.Unmap a p (page + place.far)) ∷ Done answers.Plain ∷ [])
+  passed : (page n : ℕ) → place.far + 1 < n → s.right p (page + place.far) ≡ None → TurnOf s a p place (Unmap page n) (Silent ∷ [])
+  passed_last : (page n : ℕ) → place.far + 1 ≡ n → s.right p (page + place.far) ≡ None → TurnOf s a p place (Unmap page n) (Done answers.Plain ∷ [])
+
+-- The turns of an actor: idle where it has finished, waiting, or of its operation.
+pub data TurnAt (s : PlainState) (a p : ℕ) (place : Place) : Option Op → Option Waiting → List What → Type 0 where
+  idles : (waiting : Option Waiting) → TurnAt s a p place None waiting (Idle ∷ [])
+  waits : (op : Op) (waiting : Waiting) → TurnAt s a p place (Some op) (Some waiting) (Wait waiting ∷ [])
+  goes : (op : Op) (whats : List What) → s.birth p ≡ born → TurnOf s a p place op whats → TurnAt s a p place (Some op) None whats
+
+-- between two turns no actor keeps a frame
+pub record AtRest (s : CoreState) : Type 0 where
+  pub prepared : (a : ℕ) → s.prepared a ≡ None
+  pub owed : (a : ℕ) → s.owed a ≡ None
+
+-- A turn's core events can happen, they leave the actors without frames, and the plain events that stand at them
+-- are those of the notes.
+pub record IsDone (s : CoreState) (turn : Taken) : Type 0 where
+  pub can : AllCan s turn.events
+  pub rest : AtRest (state_after s turn.events)
+  pub told : all_told turn.events ≡ events_of turn.whats
