@@ -2,9 +2,11 @@
 #![tactic(auto)]
 
 mod op;
+mod reader;
 mod refusal;
 mod script;
 
 pub use op::{Kind, Op};
+pub use reader::{one_script, read_script};
 pub use refusal::{ReadRefusal, Reason, ScriptFault};
 pub use script::Script;
