@@ -2,9 +2,11 @@ ghost use Rattle.std.specs.Prelude.{◌≡◌, ◌<◌, length, Some, IfOk};
 ghost use Rattle.gup_script.specs.Script.{Process as ProcessValue, Actor as ActorValue, process_at, actor_at};
 ghost use Rattle.gup_script.specs.Valid.{IsScript};
 ghost use Rattle.gup_script.specs.FirstPath.{IsFirstPath};
+ghost use Rattle.gup_script.specs.Reading.{frame_counts, one_thread};
 
 use crate::op::{Kind, Op};
 use gup_base::{ActorNo, NoMemory, ProcNo};
+use std::alloc::{AllocError, Global};
 use std::marker::Model;
 
 #[derive(Clone, Debug, Drop)]
@@ -48,6 +50,41 @@ impl Model for Script {
 }
 
 impl Script {
+    /// The script of one process and one thread of it, which have these names.
+    pub(crate) fn one_thread(
+        alloc: Global,
+        frames: (u32, u32, u32),
+        process: &str,
+        thread: &str,
+        ops: Vec<Op>,
+    ) -> Result<Script, AllocError>
+        requires valid { IsScript (one_thread (frame_counts frames) process.now thread.now ops.items) }
+        requires form { IsFirstPath (one_thread (frame_counts frames) process.now thread.now ops.items) }
+        ensures { IfOk result (λ script. script ≡ one_thread (frame_counts frames) process.now thread.now ops.items) }
+    {
+        let mut processes = Vec::new(alloc);
+        let mut actors = Vec::new(alloc);
+        processes.push(Process {
+            name: String::from_str(alloc, process)?,
+            born: true,
+        })?;
+        actors.push(Actor {
+            name: String::from_str(alloc, thread)?,
+            kind: Kind::Thread(ProcNo::new(0).unwrap()),
+            ops,
+        })?;
+        let (movable, normal, tables) = frames;
+        Ok(Script {
+            movable,
+            normal,
+            tables,
+            processes,
+            actors,
+            turns: Vec::new(alloc),
+            seed: 0,
+        })
+    }
+
     /// How many frames the movable and the normal zone have, and how many tables there are.
     pub fn frames(&self) -> (u32, u32, u32)
         ensures counts { result ≡ (self.now.frames.movable, self.now.frames.normal, self.now.frames.tables) }
