@@ -4,3 +4,7 @@ pub mod Addresses
 pub mod SpelledOperations
 pub mod Bare
 pub mod Cuts
+pub mod ItemLines
+pub mod Shape
+pub mod Laws
+pub mod Copies

@@ -1,5 +1,5 @@
 //! The reader of a script's text.
-ghost use Rattle.std.specs.Prelude.{◌≡◌, ◌≤◌, ℕ, List, length, map, option_map, IfOk, IfErr};
+ghost use Rattle.std.specs.Prelude.{◌≡◌, ◌+◌, ◌≤◌, nat_le, ℕ, List, length, map, option_map, IfOk, IfErr};
 ghost use Rattle.gup_script.specs.Script.{ScriptValue};
 ghost use Rattle.gup_script.specs.FirstPath.{Accepts, IsRefusalOf};
 ghost use Rattle.gup_script.specs.Reading.{frame_counts, counts_in, frames_in, process_in, thread_in, on_in, ops_in, declared_in, body_of, reading};
@@ -108,6 +108,12 @@ fn ops(alloc: Global, actor: &str, lines: &[&str]) -> Result<Option<Vec<Op>>, Al
     Ok(Some(ops))
 }
 
+fn has_frame(frames: (u32, u32, u32)) -> bool
+    ensures { result ≡ nat_le 1 (frames.0 + frames.1) }
+{
+    frames.0 > 0 || frames.1 > 0
+}
+
 /// The script that the lines behind the head declare.
 #[tactic(auto, unfolding(crate::specs::Reading::declared_in))]
 fn declared(
@@ -135,7 +141,7 @@ fn declared(
     let Some(ops) = ops(alloc, thread, ons)? else {
         return Ok(None);
     };
-    if counts.0 == 0 && counts.1 == 0 || !shares_page(ops.as_slice()) {
+    if !has_frame(counts) || !shares_page(ops.as_slice()) {
         return Ok(None);
     }
     let script = Script::one_thread(alloc, counts, process, thread, ops)?;
