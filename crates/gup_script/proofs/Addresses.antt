@@ -1,13 +1,11 @@
 -- An address that is read is spelled by its text, and the text that spells an address is read as it.
-use Rattle.std.proofs.Common.{◌≡◌, ℕ, suc, ◌+◌, ◌-◌, ◌^◌, ◌<◌, ◌≤◌, ◌⊎◌, ◌&&◌, not, Bool, true, false, cond, eqb, ltb, leb, List, [], ◌∷◌, ◌++◌, length, get_or, take, drop, Option, Some, None, refl, sym, ap, subst, ◌∙◌, inl, inr, append_assoc, arith}
-use Rattle.std.specs.Prelude.{decimal, codes}
-use Rattle.std.specs.Char.{digit_value}
+use Rattle.std.proofs.Common.{◌≡◌, ℕ, suc, ◌+◌, ◌^◌, ◌<◌, ◌≤◌, ◌&&◌, not, true, false, cond, ltb, leb, List, [], ◌∷◌, ◌++◌, length, get_or, drop, Some, None, refl, sym, ap, subst, ◌∙◌, append_assoc, arith}
+use Rattle.std.specs.Prelude.{decimal}
 use Rattle.std.specs.Int.{IsInRange}
-use Rattle.std.specs.List.{All, AllByRecursion, position_or_len, before_first, after_first}
-use Rattle.std.specs.Str.Parse.{AllDigits}
+use Rattle.std.specs.List.{position_or_len, before_first, after_first}
 use Rattle.std.proofs.lemmas.Bool.{ltb-true, lt-ltb, eqb-true, not-false, ne_eqb}
 use Rattle.std.proofs.lemmas.Bool.Decides.{nat_tests}
-use Rattle.std.proofs.lemmas.List.{length-append, get_or_append_left, get_or_at, take_at, drop_at, get_or_past}
+use Rattle.std.proofs.lemmas.List.{length-append, get_or_append_left, get_or_at, take_at, drop_at}
 use Rattle.std.proofs.lemmas.List.Sums.{prefix_len_is, prefix_len_stops, split_at_first}
 use Rattle.std.proofs.lemmas.Str.Parse.{digit_at}
 use Rattle.std.proofs.lemmas.Fmt.{decimal_is_IsNumeral}
@@ -52,8 +50,8 @@ address_again page word p w =
     let regrouped : address page word ≡ a ++ (46 ∷ b) = append_assoc a (46 ∷ []) b in
     let len : length (a ++ (46 ∷ b)) ≡ length a + suc (length b) = length-append a (46 ∷ b) in
     let digits : (k : ℕ) → k < length a → not (is_dot (get_or (a ++ (46 ∷ b)) k 0)) ≡ true = λ k h.
-      let d = decimal_at page k (omega arith) h in
-      rw (get_or_append_left a (46 ∷ b) 0 k h, ne_eqb (get_or a k 0) 46 (λ e. absurd (omega arith))) refl in
+    let d = decimal_at page k (omega arith) h in
+    rw (get_or_append_left a (46 ∷ b) 0 k h, ne_eqb (get_or a k 0) 46 (λ e. absurd (omega arith))) refl in
     let dot : length a < length (a ++ (46 ∷ b)) → not (is_dot (get_or (a ++ (46 ∷ b)) (length a) 0)) ≡ false = λ h. rw (get_or_at a 46 b 0 (length a) refl) refl in
     let at : position_or_len is_dot (a ++ (46 ∷ b)) ≡ length a = prefix_len_is (λ x. not (is_dot x)) (a ++ (46 ∷ b)) (length a) 0 (omega arith) digits dot in
     let within : ltb (position_or_len is_dot (a ++ (46 ∷ b))) (length (a ++ (46 ∷ b))) ≡ true = lt-ltb _ _ (omega arith) in

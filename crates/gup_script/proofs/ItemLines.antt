@@ -1,24 +1,23 @@
 -- What is read from the words of a line is spelled by them, and what they spell is read from them.
-use Rattle.std.proofs.Common.{◌≡◌, ◌≢◌, ℕ, ◌+◌, ◌^◌, ◌<◌, ◌≤◌, ◌⊎◌, ◌&&◌, not, Bool, true, false, cond, eqb, leb, ltb, List, [], ◌∷◌, ◌++◌, length, map, Option, Some, None, refl, sym, ap, subst, ◌∙◌, inl, inr, arith, rules}
+use Rattle.std.proofs.Common.{◌≡◌, ℕ, ◌+◌, ◌<◌, ◌≤◌, ◌⊎◌, ◌&&◌, not, Bool, true, false, cond, leb, ltb, List, [], ◌∷◌, length, map, Option, Some, None, refl, sym, ap, subst, ◌∙◌, inl, inr, arith, rules}
 use Rattle.std.specs.Prelude.{decimal, codes}
 use Rattle.std.specs.Char.{is_ascii_lowercase, is_ascii_digit}
-use Rattle.std.specs.List.{All, AllByRecursion, list_all, join_with_byte}
+use Rattle.std.specs.List.{AllByRecursion, list_all, join_with_byte}
 use Rattle.std.specs.Str.{bytes_eq}
-use Rattle.std.proofs.lemmas.Bool.{not-true}
 use Rattle.std.proofs.lemmas.Bool.Decides.{nat_tests}
 use Rattle.std.proofs.lemmas.List.Elements.{recursion_from_All, All-from_recursion}
 use Rattle.std.proofs.lemmas.List.Splits.{join_with_byte-slice_split}
 use Rattle.std.proofs.lemmas.Slice.Eq.{bytes_eq-Decides}
 use Rattle.gup_script.specs.declared.op.Op.{Op}
 use Rattle.gup_script.specs.Script.{FrameCounts}
-use Rattle.gup_script.specs.Grammar.{Item, head, frames, process, thread, on, item_words, IsLetter, IsDigit, IsName, IsOp, AreFrameCounts}
+use Rattle.gup_script.specs.Grammar.{Item, frames, process, thread, on, item_words, IsLetter, IsDigit, IsName, IsOp, AreFrameCounts}
 use Rattle.gup_script.specs.Text.{◌>>=◌, parts, number_in, is_name, is_name_byte}
 use Rattle.gup_script.specs.Operations.{op_in}
 use Rattle.gup_script.specs.Reading.{frame_counts, counts_in, frames_in, process_in, thread_in, on_in, ops_in}
 use Rattle.gup_script.proofs.Steps.{step_taken, test_passed, way_taken, same_given}
 use Rattle.gup_script.proofs.Numbers.{number_taken, number_again}
 use Rattle.gup_script.proofs.SpelledOperations.{op_taken, op_again}
-use Rattle.gup_script.proofs.Bare.{IsBare, AreBare, bare_decimal, bare_name, bare_op, all_lack_separator, lacks_separator}
+use Rattle.gup_script.proofs.Bare.{AreBare, bare_name, bare_op, all_lack_separator, lacks_separator}
 use Rattle.gup_script.proofs.Cuts.{parts_again}
 
 pub same_word : (a b : List ℕ) → bytes_eq a b ≡ true → a ≡ b
@@ -41,13 +40,13 @@ rest_taken (c ∷ cs) e =
     let here : is_name_byte c ≡ true = grind arith in
     let rest : list_all is_name_byte cs ≡ true = grind arith in
     (byte_taken c here, rest_taken cs rest) where
-  byte_taken : (b : ℕ) → is_name_byte b ≡ true → IsLetter b ⊎ IsDigit b
-  byte_taken b h = letter (is_ascii_lowercase b) refl where
-    letter : (t : Bool) → is_ascii_lowercase b ≡ t → IsLetter b ⊎ IsDigit b
-    letter true e = inl (grind (arith, nat_tests), grind (arith, nat_tests))
-    letter false e =
-        let digit : is_ascii_digit b ≡ true = grind arith in
-        inr (grind (arith, nat_tests), grind (arith, nat_tests))
+      byte_taken : (b : ℕ) → is_name_byte b ≡ true → IsLetter b ⊎ IsDigit b
+      byte_taken b h = letter (is_ascii_lowercase b) refl where
+        letter : (t : Bool) → is_ascii_lowercase b ≡ t → IsLetter b ⊎ IsDigit b
+        letter true e = inl (grind (arith, nat_tests), grind (arith, nat_tests))
+        letter false e =
+            let digit : is_ascii_digit b ≡ true = grind arith in
+            inr (grind (arith, nat_tests), grind (arith, nat_tests))
 
 rest_again : (cs : List ℕ) → AllByRecursion (λ b. IsLetter b ⊎ IsDigit b) cs → list_all is_name_byte cs ≡ true
 rest_again [] h = refl
@@ -148,11 +147,10 @@ thread_taken p (x ∷ y ∷ z ∷ []) a e =
     let kind : bytes_eq x (codes "thread") ≡ true = grind arith in
     let name : is_name y ≡ true = grind arith in
     let of : bytes_eq z p ≡ true = grind arith in
-    let other : bytes_eq y p ≡ false = grind arith in
-    (
+    let other : bytes_eq y p ≡ false = grind arith in (
       cc (same_word x (codes "thread") kind, g.1, same_word z p of),
       subst IsName g.1 (name_taken y name),
-      λ same. let equal : bytes_eq y p ≡ true = (bytes_eq-Decides y p).1 (g.1 ∙ same) in absurd cc
+      λ same. let equal : bytes_eq y p ≡ true = (bytes_eq-Decides y p).1 (g.1 ∙ same) in absurd cc,
     )
 
 pub thread_again : (p a : List ℕ) → IsName a → (a ≡ p → ⊥) → thread_in p (item_words (thread a p)) ≡ Some a

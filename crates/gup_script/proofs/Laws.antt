@@ -1,9 +1,9 @@
 -- What is read is spelled by the text, and what a text spells is read from it.
-use Rattle.std.proofs.Common.{◌≡◌, ℕ, zero, suc, ◌+◌, ◌<◌, ◌≤◌, ◌⊎◌, ◌&&◌, Bool, true, false, cond, leb, List, [], ◌∷◌, ◌++◌, length, map, Option, Some, None, refl, sym, ap, subst, ◌∙◌, inl, inr, arith, rules}
+use Rattle.std.proofs.Common.{◌≡◌, ℕ, ◌+◌, ◌<◌, ◌≤◌, ◌&&◌, true, cond, leb, List, [], ◌∷◌, ◌++◌, length, map, Option, Some, None, refl, sym, ap, subst, ◌∙◌, arith, rules}
 use Rattle.std.specs.Prelude.{codes}
 use Rattle.std.specs.List.{AllByRecursion, flat_map, join_with_byte}
-use Rattle.std.specs.Str.{IsAscii, IsUtf8, bytes_eq}
-use Rattle.std.proofs.lemmas.Bool.{leb-true, le-leb}
+use Rattle.std.specs.Str.{IsUtf8, bytes_eq}
+use Rattle.std.proofs.lemmas.Bool.{le-leb}
 use Rattle.std.proofs.lemmas.Bool.Decides.{nat_tests}
 use Rattle.std.proofs.lemmas.List.{length-map}
 use Rattle.std.proofs.lemmas.List.Elements.{All-from_recursion}
@@ -12,8 +12,8 @@ use Rattle.std.proofs.lemmas.Str.{IsUtf8-from_ascii}
 use Rattle.std.proofs.lemmas.Str.Ascii.{IsAscii-from_all}
 use Rattle.gup_script.specs.declared.op.Op.{Op}
 use Rattle.gup_script.specs.Script.{ScriptValue, FrameCounts}
-use Rattle.gup_script.specs.Grammar.{Item, head, frames, process, thread, on, item_words, line_of, IsName, IsOp, Spells}
-use Rattle.gup_script.specs.FirstPath.{IsFirstPath, Accepts}
+use Rattle.gup_script.specs.Grammar.{Item, head, process, thread, on, item_words, line_of, IsName, IsOp}
+use Rattle.gup_script.specs.FirstPath.{Accepts}
 use Rattle.gup_script.specs.Text.{◌>>=◌, parts}
 use Rattle.gup_script.specs.Operations.{shares_page}
 use Rattle.gup_script.specs.Reading.{frames_in, process_in, thread_in, ops_in, one_thread, declared_in, script_in, body_of, reading}
@@ -21,8 +21,8 @@ use Rattle.gup_script.proofs.Steps.{step_taken, test_passed, way_taken, same_giv
 use Rattle.gup_script.proofs.SpelledOperations.{shared_taken, shared_again}
 use Rattle.gup_script.proofs.Bare.{AreBare, IsBare, Lacks, bare_decimal, bare_name, line_lacks_feed}
 use Rattle.gup_script.proofs.Cuts.{parts_again, lines_joined, body_taken, body_again}
-use Rattle.gup_script.proofs.ItemLines.{same_word, equal_word, frames_of, AreCounts, frames_taken, frames_again, process_taken, process_again, thread_taken, thread_again, line_text, words_again, line_is, ops_taken, bare_on, ops_again}
-use Rattle.gup_script.proofs.Shape.{Fits, form_items, described, of_form, HasForm, has_form}
+use Rattle.gup_script.proofs.ItemLines.{same_word, frames_of, AreCounts, frames_taken, frames_again, process_taken, process_again, thread_taken, thread_again, line_text, words_again, line_is, ops_taken, bare_on, ops_again}
+use Rattle.gup_script.proofs.Shape.{Fits, form_items, described, of_form, has_form}
 
 -- the texts of the lines of operations
 abbrev pub on_lines : List ℕ → List Op → List (List ℕ)

@@ -1,13 +1,12 @@
 -- A number that is read is spelled by its word, and the word that spells a number is read as it.
-use Rattle.std.proofs.Common.{◌≡◌, ℕ, ◌+◌, ◌^◌, ◌<◌, ◌≤◌, ◌⊎◌, ◌&&◌, Bool, true, false, cond, ltb, leb, List, [], ◌∷◌, ◌++◌, length, get_or, Option, Some, None, Result, Ok, Err, refl, sym, ap, subst, ◌∙◌, inl, inr, arith}
+use Rattle.std.proofs.Common.{◌≡◌, ℕ, ◌^◌, ◌<◌, ◌⊎◌, ◌&&◌, true, cond, ltb, List, Option, Some, None, Result, Ok, Err, refl, sym, ap, subst, ◌∙◌, inl, inr, arith}
 use Rattle.std.specs.Prelude.{decimal}
 use Rattle.std.specs.Str.{bytes_eq}
 use Rattle.std.specs.Str.Parse.{digits_value, ParsesUnsigned}
-use Rattle.std.proofs.lemmas.Bool.{ltb-true, lt-ltb, cases_lt}
-use Rattle.std.proofs.lemmas.Bool.Decides.{nat_tests}
+use Rattle.std.proofs.lemmas.Bool.{ltb-true, lt-ltb}
 use Rattle.std.proofs.lemmas.Slice.Eq.{bytes_eq-Decides}
-use Rattle.std.proofs.lemmas.Fmt.{decimal_is_IsNumeral, parse-decimal, decimal_injective}
-use Rattle.gup_script.specs.Text.{◌>>=◌, number_in, page_in, word_no_in}
+use Rattle.std.proofs.lemmas.Fmt.{decimal_is_IsNumeral, parse-decimal}
+use Rattle.gup_script.specs.Text.{number_in, page_in, word_no_in}
 use Rattle.gup_script.proofs.Steps.{step_taken, test_passed}
 
 pub number_taken : (word : List ℕ) (n : ℕ) → number_in word ≡ Some n → (word ≡ decimal n) × (n < 2 ^ 64)
@@ -47,9 +46,9 @@ pub none_from_other_text : {E : Type 0} (word : List ℕ) (r : Result ℕ E) (n 
 none_from_other_text word r n h e other =
     elim (number_cases word) [
       | inl x ↦
-        let f : r ≡ Ok x.0 = parse-decimal 64 x.0 word r x.1 x.1 x.2 h in
-        let same : n ≡ x.0 = cc in
-        absurd (other (ap decimal same ∙ sym x.2))
+          let f : r ≡ Ok x.0 = parse-decimal 64 x.0 word r x.1 x.1 x.2 h in
+          let same : n ≡ x.0 = cc in
+          absurd (other (ap decimal same ∙ sym x.2))
       | inr none ↦ none
     ]
 

@@ -1,13 +1,13 @@
 -- What a script of the accepted form is: one process, one thread of it, and that thread's operations.
-use Rattle.std.proofs.Common.{◌≡◌, ℕ, zero, suc, ◌+◌, ◌<◌, ◌≤◌, ◌⊎◌, true, List, [], ◌∷◌, ◌++◌, length, get_or, map, Option, Some, None, refl, sym, ap, subst, ◌∙◌, append_assoc, append-nil, arith}
+use Rattle.std.proofs.Common.{◌≡◌, ℕ, zero, suc, ◌+◌, ◌<◌, ◌≤◌, true, List, [], ◌∷◌, ◌++◌, length, get_or, map, Some, refl, sym, ap, subst, ◌∙◌, append_assoc, append-nil, arith}
 use Rattle.std.specs.Prelude.{slice_get}
 use Rattle.std.specs.List.{All, AllByRecursion, Contains}
-use Rattle.std.proofs.lemmas.List.{length-append, length_push}
+use Rattle.std.proofs.lemmas.List.{length_push}
 use Rattle.std.proofs.lemmas.List.Elements.{All-nil, All-cons, All-head, recursion_from_All, All-from_recursion}
 use Rattle.gup_script.specs.declared.op.Op.{Op}
 use Rattle.gup_script.specs.declared.op.Kind.TheVariants.{Thread}
-use Rattle.gup_script.specs.Script.{ScriptValue, FrameCounts, Process, Actor}
-use Rattle.gup_script.specs.Grammar.{Item, head, frames, process, thread, on, IsName, IsOp, IsUnused, process_names, actor_names, empty_script, with_op, IsNext, Declares, Describes, AreFrameCounts}
+use Rattle.gup_script.specs.Script.{ScriptValue, FrameCounts, Actor}
+use Rattle.gup_script.specs.Grammar.{Item, head, frames, process, thread, on, IsName, IsOp, IsUnused, process_names, actor_names, empty_script, with_op, Declares, Describes}
 use Rattle.gup_script.specs.FirstPath.{IsOfPage, IsFirstPath}
 use Rattle.gup_script.specs.Valid.{KindFits, IsScript}
 use Rattle.gup_script.specs.Reading.{one_thread}

@@ -1,7 +1,7 @@
 -- An operation that is read is spelled by its words, and the words that spell an operation are read as it.
-use Rattle.std.proofs.Common.{◌≡◌, ℕ, ◌+◌, ◌^◌, ◌<◌, ◌≤◌, ◌⊎◌, ◌&&◌, ◌==◌, Bool, true, false, cond, eqb, List, [], ◌∷◌, ◌++◌, length, Option, Some, None, refl, sym, ap, subst, ◌∙◌, inl, inr, arith}
-use Rattle.std.specs.Prelude.{decimal, codes}
-use Rattle.std.specs.List.{All, AllByRecursion, list_all}
+use Rattle.std.proofs.Common.{◌≡◌, ℕ, true, cond, List, [], ◌∷◌, Option, Some, None, refl, sym, ap, subst, ◌∙◌, inl, inr, arith}
+use Rattle.std.specs.Prelude.{codes}
+use Rattle.std.specs.List.{AllByRecursion, list_all}
 use Rattle.std.specs.Str.{bytes_eq}
 use Rattle.std.proofs.lemmas.Bool.Decides.{nat_tests}
 use Rattle.std.proofs.lemmas.Bool.{eqb-true, eq-eqb}
@@ -10,10 +10,10 @@ use Rattle.gup_base.specs.declared.entry.Rights.{Rights}
 use Rattle.gup_base.specs.declared.entry.Rights.TheVariants.{R, RW}
 use Rattle.gup_script.specs.declared.op.Op.{Op}
 use Rattle.gup_script.specs.declared.op.Op.TheVariants.{Map, Unmap, Load, Store}
-use Rattle.gup_script.specs.Grammar.{address, rights_word, op_words, IsRange, IsOp}
+use Rattle.gup_script.specs.Grammar.{rights_word, op_words, IsOp}
 use Rattle.gup_script.specs.FirstPath.{IsOfPage}
 use Rattle.gup_script.specs.Text.{◌>>=◌, number_in, address_in, range_in}
-use Rattle.gup_script.specs.Operations.{rights_in, map_in, unmap_in, load_in, store_in, op_in, page_of, is_write, is_of_page, shares_page}
+use Rattle.gup_script.specs.Operations.{rights_in, map_in, unmap_in, load_in, store_in, op_in, page_of, is_of_page, shares_page}
 use Rattle.gup_script.proofs.Steps.{step_taken, test_passed, way_taken, way_chosen, same_given}
 use Rattle.gup_script.proofs.Numbers.{number_taken, number_again}
 use Rattle.gup_script.proofs.Addresses.{address_taken, address_again, range_taken, range_again}
@@ -28,8 +28,8 @@ rights_taken word r e =
     elim (way_chosen (bytes_eq word (codes "r")) (Some R) (cond (bytes_eq word (codes "rw")) (Some RW) None) r e) [
       | inl x ↦ (bytes_eq-Decides word (codes "r")).0 x.0 ∙ ap rights_word (same_given R r x.1)
       | inr x ↦
-        let g = test_passed (bytes_eq word (codes "rw")) RW r x.1 in
-        (bytes_eq-Decides word (codes "rw")).0 g.0 ∙ ap rights_word g.1
+          let g = test_passed (bytes_eq word (codes "rw")) RW r x.1 in
+          (bytes_eq-Decides word (codes "rw")).0 g.0 ∙ ap rights_word g.1
     ]
 
 rights_again : (r : Rights) → rights_in (rights_word r) ≡ Some r
@@ -99,8 +99,8 @@ op_taken (kind ∷ words) op e =
         | inr y ↦ elim (way_chosen (bytes_eq kind (codes "load")) (load_in words) last op y.1) [
           | inl z ↦ word_is kind (codes "load") words op z.0 (load_taken words op z.1)
           | inr z ↦
-            let w = way_taken (bytes_eq kind (codes "store")) (store_in words) op z.1 in
-            word_is kind (codes "store") words op w.0 (store_taken words op w.1)
+              let w = way_taken (bytes_eq kind (codes "store")) (store_in words) op z.1 in
+              word_is kind (codes "store") words op w.0 (store_taken words op w.1)
         ]
       ]
     ]

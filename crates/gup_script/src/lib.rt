@@ -12,3 +12,6 @@ pub use op::{Kind, Op};
 pub use reader::{one_script, read_script};
 pub use refusal::{ReadRefusal, Reason, ScriptFault};
 pub use script::Script;
+
+#[cfg(test)]
+mod tests;

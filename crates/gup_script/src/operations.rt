@@ -97,9 +97,11 @@ fn is_of_page(op: &Op, page: PageNo) -> bool
     ensures { result ≡ is_of_page page op.now }
 {
     match op {
-        Op::Map { page: first, n, rights } => {
-            *first == page && *n == 1 && *rights == Rights::RW
-        }
+        Op::Map {
+            page: first,
+            n,
+            rights,
+        } => { *first == page && *n == 1 && *rights == Rights::RW }
         Op::Unmap { page: first, n } => *first == page && *n == 1,
         Op::Load { page: at, .. } | Op::Store { page: at, .. } => *at == page,
     }

@@ -11,6 +11,10 @@ use crate::script::Script;
 use crate::text::{is_name, lines, number, words};
 use std::alloc::{AllocError, Global};
 
+const MAX_FRAMES: u64 = 1_024;
+
+const MAX_TABLES: u64 = 8_192;
+
 const MAX_OPS: usize = 1_024;
 
 /// The one fault that is told so far.
@@ -27,7 +31,7 @@ fn counts(movable: &str, normal: &str, tables: &str) -> Option<(u32, u32, u32)>
     let movable = number(movable)?;
     let normal = number(normal)?;
     let tables = number(tables)?;
-    if movable <= 1_024 && normal <= 1_024 - movable && tables <= 8_192 {
+    if movable <= MAX_FRAMES && normal <= MAX_FRAMES - movable && tables <= MAX_TABLES {
         Some((movable as u32, normal as u32, tables as u32))
     } else {
         None
@@ -192,5 +196,4 @@ pub fn read_script(alloc: Global, text: &[u8]) -> Result<Script, ReadRefusal>
 /// The bytes are at most one script.
 pub fn one_script()
     ensures { (text : List ℕ) (a b : ScriptValue) → Accepts text a → Accepts text b → a ≡ b }
-{
-}
+{}

@@ -7,6 +7,12 @@ use gup_base::{PageNo, WordNo};
 use itoa::Buffer;
 use std::alloc::{AllocError, Global};
 
+/// How many pages a range may have.
+const MAX_RANGE: u64 = 1_024;
+
+/// How many pages there are.
+const PAGES: u64 = 1 << 35;
+
 /// The parts of the text between its line feeds.
 pub fn lines(alloc: Global, text: &str) -> Result<Vec<&str>, AllocError>
     ensures { IfOk result (λ lines. map (λ line. line.now) lines.items ≡ parts 10 text.now) }
@@ -73,7 +79,7 @@ pub fn range(first: &str, count: &str) -> Option<(PageNo, u16)>
 {
     let page = page(first)?;
     let n = number(count)?;
-    if 1 <= n && n <= 1_024 && page.get() + n <= 1 << 35 {
+    if 1 <= n && n <= MAX_RANGE && page.get() + n <= PAGES {
         Some((page, n as u16))
     } else {
         None
@@ -88,9 +94,7 @@ pub fn is_name(word: &str) -> bool
     match word.as_bytes() {
         [] => false,
         [first, rest @ ..] => {
-            first.is_ascii_lowercase()
-                && rest.len() < 16
-                && are_name_bytes(rest)
+            first.is_ascii_lowercase() && rest.len() < 16 && are_name_bytes(rest)
         }
     }
 }

@@ -1,4 +1,4 @@
-use Rattle.std.proofs.Common.{◌≡◌, List, ℕ, Option, Some, None, refl, sym, ap, ◌∙◌}
+use Rattle.std.proofs.Common.{◌≡◌, List, ℕ, Some, None, refl}
 use Rattle.gup_script.specs.Script.{ScriptValue}
 use Rattle.gup_script.specs.FirstPath.{Accepts}
 use Rattle.gup_script.specs.Reading.{reading}

@@ -1,8 +1,8 @@
-use Rattle.std.proofs.Common.{◌≡◌, Some, None, ◌<◌, true, false, ltb, length, List, ℕ, sym, ap, ◌∙◌, arith, lit<, refl}
+use Rattle.std.proofs.Common.{◌≡◌, Some, None, true, false, ltb, length, arith, lit<, refl}
 use Rattle.std.specs.List.{position_or_len}
 use Rattle.std.proofs.lemmas.Bool.{le-ltb, lt-ltb}
 use Rattle.std.proofs.lemmas.Str.Pattern.{split_once_first}
-use Rattle.gup_script.specs.Text.{address_in, page_and_word_in, is_dot}
+use Rattle.gup_script.specs.Text.{address_in, is_dot}
 use Rattle.gup_script.proofs.text.address.Goals as goal
 
 pub returns-in-None : goal.returns-in-None

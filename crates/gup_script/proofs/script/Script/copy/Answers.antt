@@ -1,4 +1,4 @@
-use Rattle.std.proofs.Common.{◌≡◌, ap, List, ℕ, map, arith, rules, ◌∙◌, sym, refl, subst}
+use Rattle.std.proofs.Common.{◌≡◌, map, rules, ◌∙◌, sym, refl, subst}
 use Rattle.std.proofs.lemmas.List.Elements.{same_from_all_zip}
 use Rattle.gup_script.specs.Script.{ScriptValue}
 use Rattle.gup_script.specs.Valid.{IsScript}
