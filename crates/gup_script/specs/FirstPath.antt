@@ -5,6 +5,8 @@ use Rattle.gup_script.specs.declared.op.Op.{Op}
 use Rattle.gup_script.specs.declared.op.Op.TheVariants.{Map, Unmap, Load, Store}
 use Rattle.gup_script.specs.declared.refusal.ScriptFault.{ScriptFault}
 use Rattle.gup_script.specs.declared.refusal.Reason.TheVariants.{Later}
+use Rattle.gup_script.specs.declared.refusal.ReadRefusal.{ReadRefusal}
+use Rattle.gup_script.specs.declared.refusal.ReadRefusal.TheVariants.{Fault, NoMemory}
 use Rattle.gup_script.specs.Script.{ScriptValue, Actor}
 use Rattle.gup_script.specs.Grammar.{Spells}
 
@@ -30,3 +32,8 @@ Accepts text script = Spells text script × IsFirstPath script
 -- `later`, at line 0.
 abbrev pub HasFault : List ℕ → ScriptFault → Type 0
 HasFault text fault = (fault.line ≡ 0) × (fault.reason ≡ Later) × ((script : ScriptValue) → Accepts text script → ⊥)
+
+-- A refusal for a fault is right where the text has the fault. Want of memory says nothing of the text.
+abbrev pub IsRefusalOf : List ℕ → ReadRefusal → Type 0
+IsRefusalOf text (Fault fault) = HasFault text fault
+IsRefusalOf text NoMemory = Unit {0}

@@ -32,5 +32,9 @@ pub record ScriptValue : Type 0 where
   pub seed : ℕ
 
 -- what is declared under a number
+
+abbrev pub process_at : ScriptValue → ℕ → Option Process
+process_at s p = slice_get s.processes p
+
 abbrev pub actor_at : ScriptValue → ℕ → Option Actor
 actor_at s a = slice_get s.actors a

@@ -1,0 +1,10 @@
+pub mod Steps
+pub mod Numbers
+pub mod Addresses
+pub mod SpelledOperations
+pub mod Bare
+pub mod Cuts
+pub mod ItemLines
+pub mod Shape
+pub mod Laws
+pub mod Copies
