@@ -13,7 +13,7 @@ use Rattle.std.proofs.lemmas.Str.Ascii.{IsAscii-from_all}
 use Rattle.gup_script.specs.declared.op.Op.{Op}
 use Rattle.gup_script.specs.Script.{ScriptValue, FrameCounts}
 use Rattle.gup_script.specs.Grammar.{Item, head, process, thread, on, item_words, line_of, IsName, IsOp}
-use Rattle.gup_script.specs.FirstPath.{Accepts}
+use Rattle.gup_script.specs.FirstPath.{Accepts, most_bytes}
 use Rattle.gup_script.specs.Text.{◌>>=◌, parts}
 use Rattle.gup_script.specs.Operations.{shares_page}
 use Rattle.gup_script.specs.Reading.{frames_in, process_in, thread_in, ops_in, one_thread, declared_in, script_in, body_of, reading}
@@ -111,9 +111,9 @@ text_of counts p a ops = lines_joined line_text head (frames_of counts ∷ proce
 
 -- ---- what is read is spelled
 
-pub found : (text : List ℕ) (s : ScriptValue) → reading text ≡ Some s → Accepts text s
+pub found : (text : List ℕ) (s : ScriptValue) → length text ≤ most_bytes → reading text ≡ Some s → Accepts text s
 unfolding reading
-found text s e =
+found text s short e =
     let x = step_taken (body_of text) (λ body. script_in (parts 10 body)) s e in
     let r = script_taken (parts 10 x.0) s x.2 in
     let k = r.counts in
@@ -121,7 +121,7 @@ found text s e =
     let a = r.thread_name in
     let joined : x.0 ≡ join_with_byte 10 (form_lines k p a r.ops) = sym (join_with_byte-slice_split 10 x.0) ∙ ap (join_with_byte 10) r.lines_are in
     let spelled : text ≡ flat_map line_of (form_items k p a r.ops) = body_taken text x.0 x.1 ∙ ap (λ (t : List ℕ). t ++ 10 ∷ []) joined ∙ sym (text_of k p a r.ops) in
-    subst (λ (u : ScriptValue). Accepts text u) (sym r.script_is) ((form_items k p a r.ops, spelled, described k p a r.ops r.fits), of_form k p a r.ops r.fits)
+    subst (λ (u : ScriptValue). Accepts text u) (sym r.script_is) ((form_items k p a r.ops, spelled, described k p a r.ops r.fits), of_form k p a r.ops r.fits, short)
 
 -- ---- what is spelled is read
 

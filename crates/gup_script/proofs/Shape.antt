@@ -6,7 +6,7 @@ use Rattle.std.proofs.lemmas.List.{length_push}
 use Rattle.std.proofs.lemmas.List.Elements.{All-nil, All-cons, All-head, recursion_from_All, All-from_recursion}
 use Rattle.gup_script.specs.declared.op.Op.{Op}
 use Rattle.gup_script.specs.declared.op.Kind.TheVariants.{Thread}
-use Rattle.gup_script.specs.Script.{ScriptValue, FrameCounts, Actor}
+use Rattle.gup_script.specs.Script.{Process, ScriptValue, FrameCounts, Actor}
 use Rattle.gup_script.specs.Grammar.{Item, head, frames, process, thread, on, IsName, IsOp, IsUnused, process_names, actor_names, empty_script, with_op, Declares, Describes}
 use Rattle.gup_script.specs.FirstPath.{IsOfPage, IsFirstPath}
 use Rattle.gup_script.specs.Valid.{KindFits, IsScript}
@@ -63,13 +63,16 @@ the_actor a ops = record { name = a; kind = Thread 0; ops = ops }
 pub of_form : (counts : FrameCounts) (p a : List ℕ) (ops : List Op) → Fits counts p a ops → IsFirstPath (one_thread counts p a ops)
 of_form counts p a ops f =
     let page : ℕ = f.one_page.0 in
+    let born : (q : Process) → Type 0 = λ q. q.born ≡ true in
     let few : (x : Actor) → Type 0 = λ x. length x.ops ≤ 1024 in
     let paged : (x : Actor) → Type 0 = λ x. All (IsOfPage page) x.ops in
     record {
       some_frame = f.some_frame;
       one_process = refl;
+      born = All-cons born (record { name = p; born = true }) [] refl (All-nil born);
       one_actor = refl;
       few_ops = All-cons few (the_actor a ops) [] f.few (All-nil few);
+      unwritten = refl;
       one_page = (page, All-cons paged (the_actor a ops) [] (All-from_recursion (IsOfPage page) ops f.one_page.1) (All-nil paged));
     }
 

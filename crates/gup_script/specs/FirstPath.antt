@@ -1,5 +1,5 @@
 -- The form of scripts that is accepted so far: one process, one thread of it, and one page.
-use Rattle.std.specs.Prelude.{◌≡◌, ℕ, ◌+◌, ◌≤◌, List, length, All}
+use Rattle.std.specs.Prelude.{◌≡◌, ℕ, true, [], ◌+◌, ◌≤◌, List, length, All}
 use Rattle.gup_base.specs.declared.entry.Rights.TheVariants.{RW}
 use Rattle.gup_script.specs.declared.op.Op.{Op}
 use Rattle.gup_script.specs.declared.op.Op.TheVariants.{Map, Unmap, Load, Store}
@@ -7,7 +7,7 @@ use Rattle.gup_script.specs.declared.refusal.ScriptFault.{ScriptFault}
 use Rattle.gup_script.specs.declared.refusal.Reason.TheVariants.{Later}
 use Rattle.gup_script.specs.declared.refusal.ReadRefusal.{ReadRefusal}
 use Rattle.gup_script.specs.declared.refusal.ReadRefusal.TheVariants.{Fault, NoMemory}
-use Rattle.gup_script.specs.Script.{ScriptValue, Actor}
+use Rattle.gup_script.specs.Script.{ScriptValue, Process, Actor}
 use Rattle.gup_script.specs.Grammar.{Spells}
 
 -- the operation names this page and no other, and maps it to read and write
@@ -20,13 +20,19 @@ IsOfPage page (Store at word value) = at ≡ page
 pub record IsFirstPath (s : ScriptValue) : Type 0 where
   pub some_frame : 1 ≤ s.frames.movable + s.frames.normal
   pub one_process : length s.processes ≡ 1
+  pub born : All (λ (p : Process). p.born ≡ true) s.processes
   pub one_actor : length s.actors ≡ 1
   pub few_ops : All (λ (a : Actor). length a.ops ≤ 1024) s.actors
+  pub unwritten : s.turns ≡ []
   pub one_page : (page : ℕ) × All (λ (a : Actor). All (IsOfPage page) a.ops) s.actors
+
+-- a script's text has at most this many bytes
+abbrev pub most_bytes : ℕ
+most_bytes = 1048576
 
 -- the bytes are a script of the accepted form
 abbrev pub Accepts : List ℕ → ScriptValue → Type 0
-Accepts text script = Spells text script × IsFirstPath script
+Accepts text script = Spells text script × IsFirstPath script × (length text ≤ most_bytes)
 
 -- The bytes have this first fault. Of a text that is not of the accepted form only that is said: the fault is
 -- `later`, at line 0.

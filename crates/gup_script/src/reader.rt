@@ -17,6 +17,8 @@ const MAX_TABLES: u64 = 8_192;
 
 const MAX_OPS: usize = 1_024;
 
+const MAX_BYTES: usize = 1_048_576;
+
 /// The one fault that is told so far.
 const LATER: ScriptFault = ScriptFault {
     line: 0,
@@ -183,6 +185,9 @@ pub fn read_script(alloc: Global, text: &[u8]) -> Result<Script, ReadRefusal>
     ensures script { IfOk result (λ script. Accepts text.now script) }
     ensures refused { IfErr result (λ refusal. IsRefusalOf text.now refusal) }
 {
+    if text.len() > MAX_BYTES {
+        return Err(ReadRefusal::Fault(LATER));
+    }
     let Ok(text) = str::from_utf8(text) else {
         return Err(ReadRefusal::Fault(LATER));
     };

@@ -1,4 +1,4 @@
-use Rattle.std.proofs.Common.{◌≡◌, List, ℕ, Some, None, refl}
+use Rattle.std.proofs.Common.{◌≡◌, List, ℕ, Some, None, refl, arith}
 use Rattle.gup_script.specs.Script.{ScriptValue}
 use Rattle.gup_script.specs.FirstPath.{Accepts}
 use Rattle.gup_script.specs.Reading.{reading}
@@ -14,7 +14,7 @@ returns-in_default-clause-refused c = (refl, refl, λ s h. c.in_default.ensures.
 pub returns-in-Ok-Some-clause-script : goal.returns-in-Ok-Some-clause-script
 returns-in-Ok-Some-clause-script c =
     let read : reading c.args.text.now ≡ Some c.in-Ok-Some.script = cc (c.in-Ok.ensures.cases.0, c.in-Ok-Some.ensures, c.in-Ok-Some.field-0-is) in
-    found c.args.text.now c.in-Ok-Some.script read
+    found c.args.text.now c.in-Ok-Some.script (omega arith) read
 
 pub returns-in-Ok-None-clause-refused : goal.returns-in-Ok-None-clause-refused
 returns-in-Ok-None-clause-refused c =
