@@ -166,7 +166,9 @@ impl Script {
 
     /// An equal script, in memory of its own.
     pub fn copy(&self) -> Result<Script, NoMemory>
-        ensures { IfOk result (λ script. script ≡ self.now) }
+        ensures equal { IfOk result (λ script. script ≡ self.now) }
+        ensures valid { IsScript self.now }
+        ensures form { IsFirstPath self.now }
     {
         Ok(Script {
             movable: self.movable,

@@ -18,5 +18,5 @@ same c =
 pub invariant_of-result : goal.invariant_of-result
 invariant_of-result c = subst (λ (s : ScriptValue). IsScript s × IsFirstPath s) (sym (same c)) c.self.invariant
 
-pub returns : goal.returns
-returns c = same c ∙ c.self.view_is
+pub returns-clause-equal : goal.returns-clause-equal
+returns-clause-equal c = same c ∙ c.self.view_is
