@@ -53,8 +53,8 @@ impl Error for ReadToEnd {}
 /// Reads to the end of the source, to its first fault, or until `most` bytes were given.
 /// It never asks for more than `most` bytes in all, and what was read is dropped where it breaks off.
 pub fn read_up_to<S: Source>(
-    source: &mut S,
     alloc: Global,
+    source: &mut S,
     most: usize,
 ) -> Result<Vec<u8>, ReadToEnd>
     ensures within { IfOk result (λ v. vec_len v ≤ most) }

@@ -71,14 +71,14 @@ fn reads_up_to_a_limit(rt: HostRuntime) -> Result<(), Fail> {
     let text = b"hello";
     for (most, want) in [(0, 0), (3, 3), (5, 5), (9, 5)] {
         let mut source = SureSource::new(text.to_vec(rt.alloc())?);
-        let got = read_up_to(&mut source, rt.alloc(), most)?;
+        let got = read_up_to(rt.alloc(), &mut source, most)?;
         assert_eq!(rt; got.as_slice(), &text[..want], "up to {most}");
     }
     let long = vec![in rt.alloc(); 7u8; 10_000]?;
     let mut source = SureSource::new(long);
-    let first = read_up_to(&mut source, rt.alloc(), 9_000)?;
+    let first = read_up_to(rt.alloc(), &mut source, 9_000)?;
     assert_eq!(rt; first.len(), 9_000);
-    let rest = read_up_to(&mut source, rt.alloc(), 9_000)?;
+    let rest = read_up_to(rt.alloc(), &mut source, 9_000)?;
     assert_eq!(rt; rest.len(), 1_000);
     Ok(())
 }
@@ -87,9 +87,9 @@ fn reads_up_to_a_limit(rt: HostRuntime) -> Result<(), Fail> {
 fn reading_breaks_off_at_a_fault(rt: HostRuntime) -> Result<(), Fail> {
     let fails = [1].to_vec(rt.alloc())?;
     let mut source = MemSource::new(b"hello".to_vec(rt.alloc())?, fails);
-    let broken = read_up_to(&mut source, rt.alloc(), 9).err();
+    let broken = read_up_to(rt.alloc(), &mut source, 9).err();
     assert_eq!(rt; broken, Some(ReadToEnd::Failed));
-    let again = read_up_to(&mut source, rt.alloc(), 9)?;
+    let again = read_up_to(rt.alloc(), &mut source, 9)?;
     assert_eq!(rt; again.as_slice(), b"hello".as_slice());
     Ok(())
 }
@@ -120,13 +120,13 @@ fn writes_a_whole_text_or_its_front(rt: HostRuntime) -> Result<(), Fail> {
 #[test]
 fn std_reader_is_a_source(rt: HostRuntime) -> Result<(), Fail> {
     let mut source = FromStd::new(b"hello".as_slice());
-    let got = read_up_to(&mut source, rt.alloc(), 9)?;
+    let got = read_up_to(rt.alloc(), &mut source, 9)?;
     assert_eq!(rt; got.as_slice(), b"hello".as_slice());
 
     let mut failing = FromStd::new(FailsSecond { reads: 0 });
-    let broken = read_up_to(&mut failing, rt.alloc(), 9).err();
+    let broken = read_up_to(rt.alloc(), &mut failing, 9).err();
     assert_eq!(rt; broken, Some(ReadToEnd::Failed));
-    let rest = read_up_to(&mut failing, rt.alloc(), 9)?;
+    let rest = read_up_to(rt.alloc(), &mut failing, 9)?;
     assert_eq!(rt; rest.len(), 0);
     Ok(())
 }
