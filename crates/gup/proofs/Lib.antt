@@ -1,0 +1,6 @@
+pub mod Fronts
+pub mod Shown
+pub mod Mapped
+pub mod Scripts
+pub mod Turns
+pub mod Underway

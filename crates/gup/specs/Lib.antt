@@ -1,0 +1,4 @@
+pub mod Text
+pub mod Page
+pub mod Machine
+pub mod Ran
