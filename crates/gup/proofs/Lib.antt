@@ -4,3 +4,4 @@ pub mod Mapped
 pub mod Scripts
 pub mod Turns
 pub mod Underway
+pub mod Told

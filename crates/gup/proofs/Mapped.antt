@@ -29,10 +29,10 @@ map_denial-page : (right : ℕ → Option Rights) (page : ℕ) (r : Option Right
 map_denial-page right page r is =
     let P : Option Rights → Type 0 = λ o. map_denial (is_some o) (mapped_pages r) 1 ≡ overlap_if r in
     subst P (sym (ap right (add-zero page) ∙ is)) (denied r)
-    where
-      denied : (r : Option Rights) → map_denial (is_some r) (mapped_pages r) 1 ≡ overlap_if r
-      denied None = refl
-      denied (Some r) = refl
+  where
+    denied : (r : Option Rights) → map_denial (is_some r) (mapped_pages r) 1 ≡ overlap_if r
+    denied None = refl
+    denied (Some r) = refl
 
 map-page-shown : (s : CoreState) (p page : ℕ) (rights : Rights) (r : Option Rights) (e : Option Entry) (ws : List ℕ) → ShowsPage (page_of r e ws) p page s
     → Shown (mapped r rights (page_of r e ws)) (map_whats p page 1 rights (map_answer r)) p page s (map_turn_by (overlap_if r) 0 p page 1 rights)
@@ -41,27 +41,27 @@ map-page-shown s p page rights None e ws h =
     record {
       whats_are = refl;
       page_is =
-        record {
-          is_born = h.is_born;
-          structure = h.structure;
-          table = h.table;
-          right = grind (arith, nat_tests);
-          pages = grind (arith, nat_tests, h.pages);
-          entry = h.entry;
-          count = h.count;
-          frame = h.frame;
-          mark = h.mark;
-          untouched = λ is. cc;
-          sized = h.sized;
-          words = h.words
-        }
+          record {
+            is_born = h.is_born;
+            structure = h.structure;
+            table = h.table;
+            right = grind (arith, nat_tests);
+            pages = grind (arith, nat_tests, h.pages);
+            entry = h.entry;
+            count = h.count;
+            frame = h.frame;
+            mark = h.mark;
+            untouched = λ is. cc;
+            sized = h.sized;
+            words = h.words;
+          };
     }
 
 map-shown : (s : CoreState) (p page : ℕ) (rights : Rights) (r : Option Rights) (e : Option Entry) (ws : List ℕ) → ShowsPage (page_of r e ws) p page s
     → Shown (mapped r rights (page_of r e ws)) (map_whats p page 1 rights (map_answer r)) p page s (map_turn_by (map_denial (any_mapped (s.right p) page 1) (s.pages p) 1) 0 p page 1 rights)
 map-shown s p page rights r e ws h =
     let denied : map_denial (any_mapped (s.right p) page 1) (s.pages p) 1 ≡ overlap_if r =
-      ap (λ n. map_denial (any_mapped (s.right p) page 1) n 1) h.pages ∙ map_denial-page (s.right p) page r h.right in
+    ap (λ n. map_denial (any_mapped (s.right p) page 1) n 1) h.pages ∙ map_denial-page (s.right p) page r h.right in
     let P : Option Answer → Type 0 = λ d. Shown (mapped r rights (page_of r e ws)) (map_whats p page 1 rights (map_answer r)) p page s (map_turn_by d 0 p page 1 rights) in
     subst P (sym denied) (map-page-shown s p page rights r e ws h)
 
@@ -73,39 +73,39 @@ unmap-page-shown s p page (Some r) None ws h =
     record {
       whats_are = refl;
       page_is =
-        record {
-          is_born = h.is_born;
-          structure = h.structure;
-          table = h.table;
-          right = grind (arith, nat_tests);
-          pages = grind (arith, nat_tests, h.pages);
-          entry = grind (arith, nat_tests);
-          count = h.count;
-          frame = λ d is. cc;
-          mark = λ d is. cc;
-          untouched = λ is. refl;
-          sized = h.sized;
-          words = λ d w is small. cc
-        }
+          record {
+            is_born = h.is_born;
+            structure = h.structure;
+            table = h.table;
+            right = grind (arith, nat_tests);
+            pages = grind (arith, nat_tests, h.pages);
+            entry = grind (arith, nat_tests);
+            count = h.count;
+            frame = λ d is. cc;
+            mark = λ d is. cc;
+            untouched = λ is. refl;
+            sized = h.sized;
+            words = λ d w is small. cc;
+          };
     }
 unmap-page-shown s p page (Some r) (Some e) ws h =
     record {
       whats_are = refl;
       page_is =
-        record {
-          is_born = h.is_born;
-          structure = h.structure;
-          table = h.table;
-          right = grind (arith, nat_tests);
-          pages = grind (arith, nat_tests, h.pages);
-          entry = grind (arith, nat_tests);
-          count = grind (arith, nat_tests, h.count, h.frame e refl);
-          frame = λ d is. cc;
-          mark = λ d is. cc;
-          untouched = λ is. refl;
-          sized = h.sized;
-          words = λ d w is small. cc
-        }
+          record {
+            is_born = h.is_born;
+            structure = h.structure;
+            table = h.table;
+            right = grind (arith, nat_tests);
+            pages = grind (arith, nat_tests, h.pages);
+            entry = grind (arith, nat_tests);
+            count = grind (arith, nat_tests, h.count, h.frame e refl);
+            frame = λ d is. cc;
+            mark = λ d is. cc;
+            untouched = λ is. refl;
+            sized = h.sized;
+            words = λ d w is small. cc;
+          };
     }
 
 unmap-shown : (s : CoreState) (p page : ℕ) (r : Option Rights) (e : Option Entry) (ws : List ℕ) → ShowsPage (page_of r e ws) p page s

@@ -16,15 +16,15 @@ use Rattle.gup_follows.specs.Place.{ops_in, ops_of, process_in, process_of, proc
 pub ops_found : (script : ScriptValue) (a : ℕ) (ops : List Op) → a < length script.actors → ((x : Actor) → actor_at script a ≡ Some x → ops ≡ x.ops) → ops ≡ ops_of script a
 ops_found script a ops h each =
     elim (slice_get_cases script.actors a).1 [
-      inl there ↦ each there.0 there.2 ∙ ap ops_in (sym there.2)
-    | inr past ↦ absurd (omega (arith, past.0))
+      | inl there ↦ each there.0 there.2 ∙ ap ops_in (sym there.2)
+      | inr past ↦ absurd (omega (arith, past.0))
     ]
 
 pub process_found : (script : ScriptValue) (a : ℕ) (kind : Kind) → a < length script.actors → ((x : Actor) → actor_at script a ≡ Some x → kind ≡ x.kind) → process_of_kind kind ≡ process_of script a
 process_found script a kind h each =
     elim (slice_get_cases script.actors a).1 [
-      inl there ↦ ap process_of_kind (each there.0 there.2) ∙ ap process_in (sym there.2)
-    | inr past ↦ absurd (omega (arith, past.0))
+      | inl there ↦ ap process_of_kind (each there.0 there.2) ∙ ap process_in (sym there.2)
+      | inr past ↦ absurd (omega (arith, past.0))
     ]
 
 -- the one actor of the first path has number 0, and at most 1,024 operations, which name one page

@@ -49,12 +49,12 @@ fill-shown s p page r ws h =
       mark = λ e is. refl;
       untouched = λ is. cc;
       sized = zeros-length;
-      words = λ e w is small. sym (zeros-at w small)
+      words = λ e w is small. sym (zeros-at w small);
     }
-    where
-      frame_or_zero : Option Entry → ℕ
-      frame_or_zero None = 0
-      frame_or_zero (Some e) = e.frame
+  where
+    frame_or_zero : Option Entry → ℕ
+    frame_or_zero None = 0
+    frame_or_zero (Some e) = e.frame
 
 load-fill-shown : (s : CoreState) (p page word : ℕ) (r : Rights) (free : Option ℕ) (ws : List ℕ) → free ≡ Some 0 → ShowsPage (page_of (Some r) None ws) p page s
     → Shown (loaded None (Some r) (page_of (Some r) None ws)) (load_whats p page word (load_answer None (Some r) ws word)) p page s (loads_by_fill 0 p page word free)
@@ -90,20 +90,20 @@ write-shown : (s : CoreState) (p page word value : ℕ) (r : Option Rights) (e :
 write-shown s p page word value r e ws small h =
     let within : word < length ws = omega (arith, h.sized) in
     let page_is : ShowsPage (page_of r (Some e) (slice_set ws word value)) p page (state_after s (stores_behind [] 0 p page word e.frame value).events) =
-      record {
-        is_born = h.is_born;
-        structure = h.structure;
-        table = h.table;
-        right = h.right;
-        pages = h.pages;
-        entry = h.entry;
-        count = h.count;
-        frame = h.frame;
-        mark = h.mark;
-        untouched = h.untouched;
-        sized = length-set ws word value ∙ h.sized;
-        words = λ d w is below. words-set s ws e.frame word value (h.frame e refl) within (λ v small. h.words e v refl small) w below
-      } in
+    record {
+      is_born = h.is_born;
+      structure = h.structure;
+      table = h.table;
+      right = h.right;
+      pages = h.pages;
+      entry = h.entry;
+      count = h.count;
+      frame = h.frame;
+      mark = h.mark;
+      untouched = h.untouched;
+      sized = length-set ws word value ∙ h.sized;
+      words = λ d w is below. words-set s ws e.frame word value (h.frame e refl) within (λ v small. h.words e v refl small) w below;
+    } in
     record { whats_are = refl; page_is = page_is }
 
 -- an upgraded entry is writable, and all else stays
@@ -123,7 +123,7 @@ upgrade-shown s p page r e ws h =
       mark = λ d is. h.mark e refl;
       untouched = λ is. let no = h.untouched is in cc;
       sized = h.sized;
-      words = λ d w is below. h.words e w refl below
+      words = λ d w is below. h.words e w refl below;
     }
 
 -- a store behind other events: the notes are those of the store
@@ -142,7 +142,7 @@ store-upgrade-shown s p page word value true e ws small is h =
     let S : CoreState = state_after s (upgrade 0 p page e.frame ∷ []) in
     let P : ℕ → Type 0 = λ f. Shown (written word value (page_of (Some RW) (Some e) ws)) (store_whats p page word value (store_answer false (Some RW))) p page S (stores_behind [] 0 p page word f value) in
     behind-shown s p page word value (upgrade 0 p page e.frame ∷ []) _ _ e.frame
-      (subst P (sym (h.frame e refl)) (write-shown S p page word value (Some RW) (entry_of 0 true) ws small (upgrade-shown s p page (Some RW) e ws h)))
+    (subst P (sym (h.frame e refl)) (write-shown S p page word value (Some RW) (entry_of 0 true) ws small (upgrade-shown s p page (Some RW) e ws h)))
 
 store-fill-shown : (s : CoreState) (p page word value : ℕ) (free : Option ℕ) (ws : List ℕ) → word < 512 → free ≡ Some 0 → ShowsPage (page_of (Some RW) None ws) p page s
     → Shown (written word value (filled (page_of (Some RW) None ws))) (store_whats p page word value (store_answer false (Some RW))) p page s (stores_by_fill 0 p page word value free)
@@ -152,9 +152,9 @@ store-fill-shown s p page word value free ws small is h =
     let there : ShowsPage (page_of (Some RW) (Some (entry_of 0 false)) zeros) p page S = fill-shown s p page RW ws h in
     let P : Option ℕ → Type 0 = λ o. Shown (written word value (filled (page_of (Some RW) None ws))) (store_whats p page word value (store_answer false (Some RW))) p page s (stores_by_fill 0 p page word value o) in
     subst P (sym is)
-      (behind-shown s p page word value (take_frame 0 0 ∷ fill 0 p page 0 ∷ upgrade 0 p page 0 ∷ []) _ _ 0
-        (write-shown (state_after S (upgrade 0 p page 0 ∷ [])) p page word value (Some RW) (entry_of 0 true) zeros small
-          (upgrade-shown S p page (Some RW) (entry_of 0 false) zeros there)))
+    (behind-shown s p page word value (take_frame 0 0 ∷ fill 0 p page 0 ∷ upgrade 0 p page 0 ∷ []) _ _ 0
+    (write-shown (state_after S (upgrade 0 p page 0 ∷ [])) p page word value (Some RW) (entry_of 0 true) zeros small
+    (upgrade-shown S p page (Some RW) (entry_of 0 false) zeros there)))
 
 store-fault-shown : (s : CoreState) (p page word value : ℕ) (r : Option Rights) (e : Option Entry) (ws : List ℕ) → word < 512 → (e ≡ None → free_frame s ≡ Some 0) → ShowsPage (page_of r e ws) p page s
     → Shown (stored false r e word value (page_of r e ws)) (store_whats p page word value (store_answer false r)) p page s (stores_by_fault s 0 p page word value r e)

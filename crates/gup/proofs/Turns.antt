@@ -153,7 +153,7 @@ turn-shown m page r (Some op) valid form names is h =
     record {
       whats_are = shown.whats_are;
       page_is = shown.page_is;
-      place_is = place-answered m.answered _ (op_answered (process_of m.script 0) m.page op)
+      place_is = place-answered m.answered _ (op_answered (process_of m.script 0) m.page op);
     }
 
 -- the turn of the core run is the one of the next operation, at its beginning
@@ -186,16 +186,17 @@ machine-shown m page r valid form names few h =
     let whats : (taken_in m.script r 0).whats ≡ machine_whats m = ap (λ (k : Taken). k.whats) is ∙ t.whats_are in
     let P : Taken → Type 0 = λ k. ShowsPage M.page (process_of m.script 0) page (state_after r.core k.events) in
     let Q : ScriptValue → Type 0 = λ s. ShowsPage M.page (process_of s 0) page (state_after r.core (taken_in m.script r 0).events) in
-    let zones = state_after-movable r.core (taken_in m.script r 0).events in
-    (whats,
+    let zones = state_after-movable r.core (taken_in m.script r 0).events in (
+      whats,
       record {
         movable = zones.0 ∙ h.movable ∙ ap (λ (s : ScriptValue). s.frames.movable) (sym script_is);
         normal = zones.1 ∙ h.normal ∙ ap (λ (s : ScriptValue). s.frames.normal) (sym script_is);
         core = subst Q (sym script_is) (subst P (sym is) t.page_is);
         place = ap (λ ws. place_behind (r.places 0) ws) whats ∙ ap (λ (q : Place). place_behind q (machine_whats m)) h.place ∙ t.place_is;
         pointer = pointer-back m.script r.pointer r.turns form;
-        turns = ap (λ n. n + 1) h.turns ∙ grind (arith, nat_tests) ∙ sym turns_are
-      })
+        turns = ap (λ n. n + 1) h.turns ∙ grind (arith, nat_tests) ∙ sym turns_are;
+      },
+    )
 
 pub turn-taken : (m : MachineValue) (page : ℕ) (r : RunState) (actor : ℕ) (notes : List NoteValue) → IsScript m.script → IsFirstPath m.script → actor ≡ 0 → notes ≡ notes_of_turn (counted m.turns) actor (m.answered + 1) (machine_whats m)
     → NamesOnly m.script page → m.turns < 2 ^ 32 - 1 → Shows m page r → TakesTurn m (machine_after m) page r notes
@@ -204,12 +205,12 @@ turn-taken m page r actor notes valid form first said names few h =
     let number : r.turns + 1 ≡ counted m.turns = ap (λ n. n + 1) h.turns ∙ grind (arith, nat_tests) in
     record {
       said =
-        said
-        ∙ ap (λ a. notes_of_turn (counted m.turns) a (m.answered + 1) (machine_whats m)) first
-        ∙ ap (λ n. notes_of_turn n 0 (m.answered + 1) (machine_whats m)) (sym number)
-        ∙ ap (λ (q : Place). notes_of_turn (r.turns + 1) 0 (q.answered + 1) (machine_whats m)) (sym h.place)
-        ∙ ap (λ ws. notes_of_turn (r.turns + 1) 0 ((r.places 0).answered + 1) ws) (sym t.0);
-      shown = t.1
+          said
+          ∙ ap (λ a. notes_of_turn (counted m.turns) a (m.answered + 1) (machine_whats m)) first
+          ∙ ap (λ n. notes_of_turn n 0 (m.answered + 1) (machine_whats m)) (sym number)
+          ∙ ap (λ (q : Place). notes_of_turn (r.turns + 1) 0 (q.answered + 1) (machine_whats m)) (sym h.place)
+          ∙ ap (λ ws. notes_of_turn (r.turns + 1) 0 ((r.places 0).answered + 1) ws) (sym t.0);
+      shown = t.1;
     }
 
 pub waits-none : (m : MachineValue) (page : ℕ) (r : RunState) → Shows m page r → None ≡ waiting_in m.script r 0

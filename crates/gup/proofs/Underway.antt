@@ -36,19 +36,20 @@ pub record Underway (script : ScriptValue) (m : MachineValue) (notes : List Note
 process_born : (script : ScriptValue) → IsScript script → IsFirstPath script → starts_born script (process_of script 0) ≡ true
 process_born script valid form =
     elim (slice_get_cases script.actors 0).1 [
-      inl there ↦
-        of_process (process_of script 0)
+      | inl there ↦
+          of_process (process_of script 0)
           (let P : Option Actor → Type 0 = λ o. process_in o < length script.processes in
-           subst P (sym there.2) (fits there.0.kind (all_at (λ (a : Actor). KindFits script a.kind) script.actors 0 there.0 valid.kinds there.2)))
-    | inr past ↦ let one = form.one_actor in absurd (omega (arith, past.0))
+          subst P (sym there.2) (fits there.0.kind (all_at (λ (a : Actor). KindFits script a.kind) script.actors 0 there.0 valid.kinds there.2)))
+      | inr past ↦ let one = form.one_actor in absurd (omega (arith, past.0))
     ]
   where
     of_process : (p : ℕ) → p < length script.processes → is_born (slice_get script.processes p) ≡ true
     of_process p h =
         elim (slice_get_cases script.processes p).1 [
-          inl there ↦ ap is_born there.2 ∙ all_at (λ (q : Process). q.born ≡ true) script.processes p there.0 form.born there.2
-        | inr past ↦ absurd (omega (arith, past.0))
+          | inl there ↦ ap is_born there.2 ∙ all_at (λ (q : Process). q.born ≡ true) script.processes p there.0 form.born there.2
+          | inr past ↦ absurd (omega (arith, past.0))
         ]
+
     fits : (kind : Kind) → KindFits script kind → process_of_kind kind < length script.processes
     fits (Thread p) h = h
 
@@ -57,30 +58,30 @@ underway-first script page valid form =
     record {
       same = refl;
       shown =
-        record {
-          movable = refl;
-          normal = refl;
-          core =
-            record {
-              is_born = ap (λ b. cond b born unborn) (process_born script valid form);
-              structure = refl;
-              table = refl;
-              right = refl;
-              pages = refl;
-              entry = refl;
-              count = refl;
-              frame = λ e is. cc;
-              mark = λ e is. cc;
-              untouched = λ is. refl;
-              sized = zeros-length;
-              words = λ e w is small. cc
-            };
-          place = refl;
-          pointer = refl;
-          turns = refl
-        };
+          record {
+            movable = refl;
+            normal = refl;
+            core =
+                record {
+                  is_born = ap (λ b. cond b born unborn) (process_born script valid form);
+                  structure = refl;
+                  table = refl;
+                  right = refl;
+                  pages = refl;
+                  entry = refl;
+                  count = refl;
+                  frame = λ e is. cc;
+                  mark = λ e is. cc;
+                  untouched = λ is. refl;
+                  sized = zeros-length;
+                  words = λ e w is small. cc;
+                };
+            place = refl;
+            pointer = refl;
+            turns = refl;
+          };
       turns = refl;
-      goes_on = λ ts end runs. (ts, refl, runs)
+      goes_on = λ ts end runs. (ts, refl, runs);
     }
 
 -- the one actor is ready exactly where it has an operation left
@@ -101,13 +102,14 @@ underway-end script m notes page r form done u =
     let none : next_op m ≡ None = ap (λ (s : ScriptValue). slice_get (ops_of s 0) m.answered) u.same ∙ slice_get_past (ops_of script 0) m.answered over in
     let idle : can_go script r 0 ≡ false = ap (λ (s : ScriptValue). can_go s r 0) (sym u.same) ∙ ready-is m page r None u.shown none in
     let stop : next_actor script r ≡ None = next-one script r false form u.shown.pointer idle in
-    let P : List NoteValue → Type 0 = λ ns. IsCoreRun script ns r in
-    (r,
+    let P : List NoteValue → Type 0 = λ ns. IsCoreRun script ns r in (
+      r,
       subst P (append-nil notes) (u.goes_on [] r (stop, refl)),
       λ a h.
-        let first = actor_is_first script a form h in
-        let Q : ℕ → Type 0 = λ b. has_finished script b (r.places b) ≡ true in
-        subst Q (sym first) (ap (λ (q : Place). leb (length (ops_of script 0)) q.answered) u.shown.place ∙ done))
+          let first = actor_is_first script a form h in
+          let Q : ℕ → Type 0 = λ b. has_finished script b (r.places b) ≡ true in
+          subst Q (sym first) (ap (λ (q : Place). leb (length (ops_of script 0)) q.answered) u.shown.place ∙ done),
+    )
 
 -- a turn: one more operation is answered
 pub underway-turn : (script : ScriptValue) (m n : MachineValue) (notes told : List NoteValue) (page : ℕ) (r : RunState) → IsFirstPath script → leb (length (ops_of script 0)) m.answered ≡ false
@@ -115,31 +117,31 @@ pub underway-turn : (script : ScriptValue) (m n : MachineValue) (notes told : Li
 underway-turn script m n notes told page r form going after taken u =
     let more : m.answered < length (ops_of script 0) = leb-false _ _ going in
     elim (slice_get_cases (ops_of script 0) m.answered).1 [
-      inl there ↦
-        let next : next_op m ≡ Some there.0 = ap (λ (s : ScriptValue). slice_get (ops_of s 0) m.answered) u.same ∙ there.2 in
-        let is : n ≡ machine_by m (Some there.0) = after ∙ ap (machine_by m) next in
-        let few : length (ops_of script 0) ≤ 1024 = few_ops script form in
-        let same : n.script ≡ script = ap (λ (k : MachineValue). k.script) is ∙ u.same in
-        let went : n.turns ≡ counted m.turns = ap (λ (k : MachineValue). k.turns) is in
-        let answered : n.answered ≡ m.answered + 1 = ap (λ (k : MachineValue). k.answered) is in
-        let so_far : m.turns ≡ m.answered = u.turns in
-        let turns : n.turns ≡ n.answered = grind (arith, nat_tests) in
-        let ready : can_go script r 0 ≡ true = ap (λ (s : ScriptValue). can_go s r 0) (sym u.same) ∙ ready-is m page r (Some there.0) u.shown next in
-        let go : next_actor script r ≡ Some 0 = next-one script r true form u.shown.pointer ready in
-        let A : ScriptValue → Type 0 = λ s. Shows n page (run_after s r 0) in
-        let B : ScriptValue → Type 0 = λ s. told ≡ notes_of_turn (r.turns + 1) 0 ((r.places 0).answered + 1) (taken_in s r 0).whats in
-        let said = subst B u.same taken.said in
-        record {
-          same = same;
-          shown = subst A u.same taken.shown;
-          turns = turns;
-          goes_on = λ ts end runs.
-            let behind : List NoteValue = journal_of ((run_after script r 0).turns + 1) (run_after script r 0).places ts in
-            let whole = u.goes_on (turn_in script r 0 ∷ ts) end (go, refl, runs) in
-            let P : List NoteValue → Type 0 = λ ns. IsCoreRun script ns end in
-            let joined : notes ++ journal_of (r.turns + 1) r.places (turn_in script r 0 ∷ ts) ≡ (notes ++ told) ++ behind =
-              ap (λ t. notes ++ (t ++ behind)) (sym said) ∙ sym (append_assoc notes told behind) in
-            subst P joined whole
-        }
-    | inr past ↦ absurd (omega (arith, past.0))
+      | inl there ↦
+          let next : next_op m ≡ Some there.0 = ap (λ (s : ScriptValue). slice_get (ops_of s 0) m.answered) u.same ∙ there.2 in
+          let is : n ≡ machine_by m (Some there.0) = after ∙ ap (machine_by m) next in
+          let few : length (ops_of script 0) ≤ 1024 = few_ops script form in
+          let same : n.script ≡ script = ap (λ (k : MachineValue). k.script) is ∙ u.same in
+          let went : n.turns ≡ counted m.turns = ap (λ (k : MachineValue). k.turns) is in
+          let answered : n.answered ≡ m.answered + 1 = ap (λ (k : MachineValue). k.answered) is in
+          let so_far : m.turns ≡ m.answered = u.turns in
+          let turns : n.turns ≡ n.answered = grind (arith, nat_tests) in
+          let ready : can_go script r 0 ≡ true = ap (λ (s : ScriptValue). can_go s r 0) (sym u.same) ∙ ready-is m page r (Some there.0) u.shown next in
+          let go : next_actor script r ≡ Some 0 = next-one script r true form u.shown.pointer ready in
+          let A : ScriptValue → Type 0 = λ s. Shows n page (run_after s r 0) in
+          let B : ScriptValue → Type 0 = λ s. told ≡ notes_of_turn (r.turns + 1) 0 ((r.places 0).answered + 1) (taken_in s r 0).whats in
+          let said = subst B u.same taken.said in
+          record {
+            same = same;
+            shown = subst A u.same taken.shown;
+            turns = turns;
+            goes_on = λ ts end runs.
+                let behind : List NoteValue = journal_of ((run_after script r 0).turns + 1) (run_after script r 0).places ts in
+                let whole = u.goes_on (turn_in script r 0 ∷ ts) end (go, refl, runs) in
+                let P : List NoteValue → Type 0 = λ ns. IsCoreRun script ns end in
+                let joined : notes ++ journal_of (r.turns + 1) r.places (turn_in script r 0 ∷ ts) ≡ (notes ++ told) ++ behind =
+                ap (λ t. notes ++ (t ++ behind)) (sym said) ∙ sym (append_assoc notes told behind) in
+                subst P joined whole;
+          }
+      | inr past ↦ absurd (omega (arith, past.0))
     ]

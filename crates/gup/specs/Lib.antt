@@ -2,3 +2,4 @@ pub mod Text
 pub mod Page
 pub mod Machine
 pub mod Ran
+pub mod Report

@@ -128,7 +128,7 @@ first_machine script =
       script = script;
       page = record { rights = None; entry = None; words = zeros };
       answered = 0;
-      turns = 0
+      turns = 0;
     }
 
 -- the script is of the first path, and no more is answered than it has

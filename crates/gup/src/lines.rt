@@ -2,12 +2,13 @@
 ghost use Rattle.std.specs.Prelude.{◌≡◌, ℕ, ◌<◌, List, [], ◌++◌, length, codes, decimal, IfOk, OnOk, OnErr};
 ghost use Rattle.std.specs.List.{flat_map};
 ghost use Rattle.gup_script.specs.Script.{actor_at};
-ghost use Rattle.gup.specs.Text.{name_in, cause_text, word_text, answer_text, line_of, outcome_of, outcomes_of, BeginsWith};
+ghost use Rattle.gup.specs.Report.{reason_text, refusal_text};
+ghost use Rattle.gup.specs.Text.{text_of, name_in, cause_text, word_text, answer_text, line_of, outcome_of, outcomes_of, BeginsWith};
 
 use crate::answers::{Outcome, Outcomes};
 use gup_base::{ActorNo, NoMemory, Words};
 use gup_plain::{Answer, Cause, Journal, Note, What};
-use gup_script::Script;
+use gup_script::{Reason, Script, ScriptFault};
 use itoa::Buffer;
 use std::alloc::{AllocError, Global};
 
@@ -141,14 +142,24 @@ fn push_answer(text: &mut Vec<u8>, answer: Answer, words: &[u64]) -> Result<(), 
     }
 }
 
+// The actor's name; nothing where no such actor is declared.
+fn name_of(script: &Script, actor: ActorNo) -> &str
+    ensures { result.now ≡ name_in (actor_at script.now actor) }
+{
+    if actor.get() < u64::from(script.actors()) {
+        script.name_of(actor)
+    } else {
+        ""
+    }
+}
+
 #[tactic(auto, using(crate::proofs::Fronts::fronts))]
 fn push_head(script: &Script, actor: ActorNo, op: u32, text: &mut Vec<u8>) -> Result<(), NoMemory>
-    requires { actor < length script.now.actors }
     ensures ok { OnOk result (text.new.items ≡ text.old.items
         ++ (name_in (actor_at script.now actor) ++ codes " " ++ decimal op ++ codes " ")) }
     ensures err { OnErr result (BeginsWith text.new.items text.old.items) }
 {
-    push_text(text, script.name_of(actor))?;
+    push_text(text, name_of(script, actor))?;
     push_counted(text, " ", u64::from(op))?;
     push_text(text, " ")
 }
@@ -157,11 +168,61 @@ fn push_head(script: &Script, actor: ActorNo, op: u32, text: &mut Vec<u8>) -> Re
 /// memory is wanted the text has at least what it had.
 #[tactic(auto, using(crate::proofs::Fronts::fronts))]
 pub fn push_line(script: &Script, o: &Outcome, text: &mut Vec<u8>) -> Result<(), NoMemory>
-    requires { o.now.actor < length script.now.actors }
     ensures ok { OnOk result (text.new.items ≡ text.old.items ++ line_of script.now o.now) }
     ensures err { OnErr result (BeginsWith text.new.items text.old.items) }
 {
     push_head(script, o.actor, o.op, text)?;
     push_answer(text, o.answer, o.words.as_slice())?;
     push_text(text, "\n")
+}
+
+/// The text of a journal: a line for each answer, in order.
+pub fn journal_text(alloc: Global, script: &Script, journal: &Journal) -> Result<Vec<u8>, NoMemory>
+    ensures { IfOk result (λ text. text.items ≡ text_of script.now journal.now.notes) }
+{
+    let outcomes = outcomes(alloc, journal)?;
+    lines_of(alloc, script, outcomes.all())
+}
+
+fn lines_of(alloc: Global, script: &Script, outcomes: &[Outcome]) -> Result<Vec<u8>, NoMemory>
+    ensures { IfOk result (λ text. text.items ≡ flat_map (line_of script.now) outcomes.now) }
+{
+    let mut text = Vec::new(alloc);
+    for o in outcomes {
+        push_line(script, o, &mut text)?;
+    }
+    Ok(text)
+}
+
+/// The line of a refused script: `line n: reason`.
+pub fn refusal_line(alloc: Global, fault: ScriptFault) -> Result<Vec<u8>, NoMemory>
+    ensures { IfOk result (λ text. text.items ≡ refusal_text fault) }
+{
+    let mut text = Vec::new(alloc);
+    push_counted(&mut text, "line ", u64::from(fault.line))?;
+    push_text(&mut text, ": ")?;
+    push_text(&mut text, reason_name(fault.reason))?;
+    push_text(&mut text, "\n")?;
+    Ok(text)
+}
+
+fn reason_name(reason: Reason) -> &'static str
+    ensures { result.now ≡ reason_text reason }
+{
+    match reason {
+        Reason::Long => "long",
+        Reason::Byte => "byte",
+        Reason::End => "end",
+        Reason::Space => "space",
+        Reason::Head => "head",
+        Reason::Frames => "frames",
+        Reason::Word => "word",
+        Reason::Shape => "shape",
+        Reason::Number => "number",
+        Reason::Name => "name",
+        Reason::Twice => "twice",
+        Reason::Limit => "limit",
+        Reason::Later => "later",
+        Reason::Short => "short",
+    }
 }

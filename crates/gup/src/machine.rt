@@ -157,26 +157,56 @@ fn take(page: &mut Page, actor: ActorNo, proc: ProcNo, op: Op) -> (Option<PlainE
     ensures whats { whats_of result.0 result.1 ≡ op_whats proc page.old op }
 {
     match op {
-        Op::Map { page: first, n, rights } => {
+        Op::Map {
+            page: first,
+            n,
+            rights,
+        } => {
             let answer = page.map(rights);
-            let event = (answer == Answer::Plain).then_some(PlainEvent::Map { actor, proc, page: first, n, rights });
+            let event = (answer == Answer::Plain).then_some(PlainEvent::Map {
+                actor,
+                proc,
+                page: first,
+                n,
+                rights,
+            });
             (event, answer)
         }
         Op::Unmap { page: first, n: _ } => {
-            let event = page.unmap().then_some(PlainEvent::Unmap { actor, proc, page: first });
+            let event = page.unmap().then_some(PlainEvent::Unmap {
+                actor,
+                proc,
+                page: first,
+            });
             (event, Answer::Plain)
         }
         Op::Load { page: at, word } => {
             let answer = page.load(word);
             let event = match answer {
-                Answer::Value(value) => Some(PlainEvent::Load { actor, proc, page: at, word, value }),
+                Answer::Value(value) => Some(PlainEvent::Load {
+                    actor,
+                    proc,
+                    page: at,
+                    word,
+                    value,
+                }),
                 _ => None,
             };
             (event, answer)
         }
-        Op::Store { page: at, word, value } => {
+        Op::Store {
+            page: at,
+            word,
+            value,
+        } => {
             let answer = page.store(word, value);
-            let event = (answer == Answer::Plain).then_some(PlainEvent::Store { actor, proc, page: at, word, value });
+            let event = (answer == Answer::Plain).then_some(PlainEvent::Store {
+                actor,
+                proc,
+                page: at,
+                word,
+                value,
+            });
             (event, answer)
         }
     }

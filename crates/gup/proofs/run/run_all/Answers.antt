@@ -55,11 +55,11 @@ turns-preserved c =
 smaller : (m n : MachineValue) → n ≡ machine_after m → m.answered < length (ops_of m.script 0) → length (ops_of n.script 0) - n.answered < length (ops_of m.script 0) - m.answered
 smaller m n is more =
     elim (slice_get_cases (ops_of m.script 0) m.answered).1 [
-      inl there ↦
-        let by : n ≡ machine_by m (Some there.0) = is ∙ ap (machine_by m) there.2 in
-        let P : MachineValue → Type 0 = λ k. length (ops_of k.script 0) - k.answered < length (ops_of m.script 0) - m.answered in
-        subst P (sym by) (omega arith)
-    | inr past ↦ absurd (omega (arith, past.0))
+      | inl there ↦
+          let by : n ≡ machine_by m (Some there.0) = is ∙ ap (machine_by m) there.2 in
+          let P : MachineValue → Type 0 = λ k. length (ops_of k.script 0) - k.answered < length (ops_of m.script 0) - m.answered in
+          subst P (sym by) (omega arith)
+      | inr past ↦ absurd (omega (arith, past.0))
     ]
 
 pub turns-smaller : goal.turns-smaller

@@ -1,0 +1,39 @@
+-- What was read of a source, and the script that its told bytes are.
+use Rattle.std.proofs.Common.{◌≡◌, ℕ, ◌+◌, ◌<◌, ◌≤◌, List, length, take, Option, Some, None, refl, sym, subst, ◌∙◌, ap, arith, leb, inl, inr}
+use Rattle.std.specs.Prelude.{IfSome, Bool, true, false}
+use Rattle.std.proofs.lemmas.Bool.{leb-true, leb-false}
+use Rattle.std.proofs.lemmas.List.{take_all, length-take-le}
+use Rattle.gup_script.specs.Script.{ScriptValue}
+use Rattle.gup_script.specs.FirstPath.{Accepts, most_bytes}
+use Rattle.gup.specs.Report.{OfScript, AreScript, IsScriptOf}
+
+-- a front that is shorter than what was asked for is all
+whole : (n : ℕ) (v bytes : List ℕ) → length v < n → v ≡ take n bytes → v ≡ bytes
+whole n v bytes short is = by_test (leb n (length bytes)) refl
+  where
+    by_test : (b : Bool) → leb n (length bytes) ≡ b → v ≡ bytes
+    by_test true long = absurd (omega (arith, ap (λ (xs : List ℕ). length xs) is, length-take-le n bytes (leb-true _ _ long)))
+    by_test false few = let less = leb-false n (length bytes) few in is ∙ take_all n bytes (omega arith)
+
+-- the script that the bytes read are is the one that the told bytes are
+pub told_script : (told : Option (List ℕ)) (v : List ℕ) (s : ScriptValue) → IfSome told (λ bytes. v ≡ take 1048577 bytes) → Accepts v s → IsScriptOf told s
+told_script None v s read h = tt
+told_script (Some bytes) v s read h =
+    let P : List ℕ → Type 0 = λ b. Accepts b s in
+    subst P (whole 1048577 v bytes (omega (arith, h.2)) read) h
+
+-- where the bytes read are no script, the told ones are none
+pub told_none : (told : Option (List ℕ)) (v : List ℕ) → IfSome told (λ bytes. v ≡ take 1048577 bytes) → ((s : ScriptValue) → Accepts v s → ⊥) → OfScript told (λ script. ⊥)
+told_none None v read none = tt
+told_none (Some bytes) v read none = λ s h.
+    let P : List ℕ → Type 0 = λ b. Accepts b s in
+    none s (subst P (sym (read ∙ take_all 1048577 bytes (omega (arith, h.2)))) h)
+
+-- what holds of the script that was read holds of the one that the told bytes are
+pub of_script : (told : Option (List ℕ)) (s : ScriptValue) (P : ScriptValue → Type 0) → ((text : List ℕ) (a b : ScriptValue) → Accepts text a → Accepts text b → a ≡ b) → IsScriptOf told s → P s → OfScript told P
+of_script None s P one read p = tt
+of_script (Some bytes) s P one read p = λ t h. subst P (one bytes s t read h) p
+
+pub are_script : (told : Option (List ℕ)) (s : ScriptValue) → IsScriptOf told s → AreScript told
+are_script None s read = tt
+are_script (Some bytes) s read = (s, read)

@@ -1,0 +1,18 @@
+use Rattle.std.proofs.Common.{◌≡◌, List, ℕ, ap, subst, sym}
+use Rattle.gup_script.specs.declared.refusal.ReadRefusal.{ReadRefusal}
+use Rattle.gup_script.specs.FirstPath.{Accepts, HasFault, IsRefusalOf}
+use Rattle.gup.proofs.Told.{told_script, told_none}
+use Rattle.gup.proofs.top.read.Goals as goal
+
+pub returns-in-Ok-read_script-clause-script : goal.returns-in-Ok-read_script-clause-script
+returns-in-Ok-read_script-clause-script g c =
+    let s = c.in-Ok-read_script.script in
+    let P : List ℕ → Type 0 = λ v. Accepts v s in
+    told_script (g.S.Source.remaining c.args.source.now) c.in-Ok.text.items s c.in-Ok.ensures.bytes (subst P c.as_slice.ensures.value c.in-Ok-read_script.ensures.script)
+
+pub returns-in-Err-Fault-clause-unread : goal.returns-in-Err-Fault-clause-unread
+returns-in-Err-Fault-clause-unread g c =
+    let P : ReadRefusal → Type 0 = λ r. IsRefusalOf c.as_slice.result.now r in
+    let Q : List ℕ → Type 0 = λ v. HasFault v c.in-Err-Fault.fault in
+    let fault = subst Q c.as_slice.ensures.value (subst P c.in-Err-Fault.field-0-is c.in-Err-Fault.ensures.refused) in
+    (fault.0, fault.1, told_none (g.S.Source.remaining c.args.source.now) c.in-Ok.text.items c.in-Ok.ensures.bytes fault.2)

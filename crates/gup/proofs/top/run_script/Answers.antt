@@ -1,0 +1,13 @@
+use Rattle.gup.proofs.top.run_script.Goals as goal
+
+pub returns-clause-run : goal.returns-clause-run
+returns-clause-run c =
+    let script = c.args.script.now in
+    let valid = c.actors-actors.ensures.valid in
+    let run = c.in_ok-run.ensures.core in
+    record {
+      follows = c.core_run_follows.ensures script _ run.0 valid run.1;
+      in_order = c.core_run_is_in_order.ensures script _ run.0 valid run.1;
+      plain = c.core_run_is_plain.ensures script _ run.0 valid run.1;
+      core = run;
+    }

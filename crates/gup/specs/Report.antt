@@ -1,0 +1,84 @@
+-- What the top call is asked, and what it may answer.
+use Rattle.std.specs.Prelude.{◌≡◌, ℕ, ◌⊎◌, List, [], ◌∷◌, ◌++◌, codes, decimal, Option, None, Some}
+use Rattle.gup_plain.specs.Note.{NoteValue}
+use Rattle.gup_turns.specs.Run.{RunState, IsCoreRun}
+use Rattle.gup_io.specs.Faults.{HasCause}
+use Rattle.gup_follows.specs.Plain.{IsPlain}
+use Rattle.gup_follows.specs.Follows.{Follows}
+use Rattle.gup_follows.specs.Order.{InOrder}
+use Rattle.gup.specs.declared.top.Unread.{Unread}
+use Rattle.gup.specs.declared.top.Unread.TheVariants.{Failed, Fault, NoMemory}
+use Rattle.gup.specs.Ran.{HaveFinished}
+use Rattle.gup_script.specs.declared.refusal.Reason.{Reason}
+use Rattle.gup_script.specs.declared.refusal.Reason.TheVariants as reasons
+use Rattle.gup_script.specs.declared.refusal.ScriptFault.{ScriptFault}
+use Rattle.gup_script.specs.Script.{ScriptValue}
+use Rattle.gup_script.specs.FirstPath.{Accepts}
+
+-- The one command so far: the word `run` alone.
+abbrev pub IsRun : List (List ℕ) → Type 0
+IsRun words = words ≡ codes "run" ∷ []
+
+-- the statuses that the program has
+abbrev pub IsStatus : ℕ → Type 0
+IsStatus status = (status ≡ 0) ⊎ (status ≡ 2) ⊎ (status ≡ 3) ⊎ (status ≡ 5) ⊎ (status ≡ 6) ⊎ (status ≡ 7)
+
+-- what is written where the words are no command
+abbrev pub usage : List ℕ
+usage = codes "usage: gup COMMAND\n"
+
+abbrev pub reason_text : Reason → List ℕ
+reason_text reasons.Long = codes "long"
+reason_text reasons.Byte = codes "byte"
+reason_text reasons.End = codes "end"
+reason_text reasons.Space = codes "space"
+reason_text reasons.Head = codes "head"
+reason_text reasons.Frames = codes "frames"
+reason_text reasons.Word = codes "word"
+reason_text reasons.Shape = codes "shape"
+reason_text reasons.Number = codes "number"
+reason_text reasons.Name = codes "name"
+reason_text reasons.Twice = codes "twice"
+reason_text reasons.Limit = codes "limit"
+reason_text reasons.Later = codes "later"
+reason_text reasons.Short = codes "short"
+
+-- what is written where the script is refused
+abbrev pub refusal_text : ScriptFault → List ℕ
+refusal_text fault = codes "line " ++ decimal fault.line ++ codes ": " ++ reason_text fault.reason ++ codes "\n"
+
+-- Where the source tells its bytes, this holds of the script that they are, if they are one.
+abbrev pub OfScript : Option (List ℕ) → (ScriptValue → Type 0) → Type 0
+OfScript None P = Unit {0}
+OfScript (Some bytes) P = (script : ScriptValue) → Accepts bytes script → P script
+
+-- Where the source tells its bytes, they are a script.
+abbrev pub AreScript : Option (List ℕ) → Type 0
+AreScript None = Unit {0}
+AreScript (Some bytes) = (script : ScriptValue) × Accepts bytes script
+
+-- the journal is the script's core run, in which every actor has finished
+abbrev pub IsFinishedRun : ScriptValue → List NoteValue → Type 0
+IsFinishedRun script notes = (end : RunState) × IsCoreRun script notes end × HaveFinished script end
+
+-- where the source tells its bytes, they are this script
+abbrev pub IsScriptOf : Option (List ℕ) → ScriptValue → Type 0
+IsScriptOf None script = Unit {0}
+IsScriptOf (Some bytes) script = Accepts bytes script
+
+-- The fault that a script is refused for so far, and why: where the source tells its bytes, they are no script.
+abbrev pub IsRefusedFor : Option (List ℕ) → ScriptFault → Type 0
+IsRefusedFor told fault = (fault.line ≡ 0) × (fault.reason ≡ reasons.Later) × OfScript told (λ script. ⊥)
+
+-- why there is no script: a read failed, the bytes are none, or memory ran out
+abbrev pub IsUnreadFor : Option (List ℕ) → (faults faults_after : ℕ) → Unread → Type 0
+IsUnreadFor told faults faults_after Failed = HasCause faults faults_after
+IsUnreadFor told faults faults_after (Fault fault) = IsRefusedFor told fault
+IsUnreadFor told faults faults_after NoMemory = Unit {0}
+
+-- what is said of a run, of the script that was read
+pub record IsRunOf (script : ScriptValue) (notes : List NoteValue) : Type 0 where
+  pub follows : Follows script notes
+  pub in_order : InOrder script notes
+  pub plain : IsPlain script notes
+  pub core : IsFinishedRun script notes
