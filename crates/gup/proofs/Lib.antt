@@ -5,3 +5,4 @@ pub mod Scripts
 pub mod Turns
 pub mod Underway
 pub mod Told
+pub mod Free

@@ -16,8 +16,8 @@ use Rattle.gup_events.specs.State.{CoreState}
 use Rattle.gup_follows.specs.Denial.{any_mapped, map_denial}
 use Rattle.gup_turns.specs.Turn.{Taken, map_turn_by, unmap_turn_by, load_turn, store_turn, store_turn_by, free_frame, lowest, turn_at, turn_of, op_turn}
 use Rattle.gup_turns.specs.Run.{state_after}
-use Rattle.gup.specs.Page.{PageValue, map_answer, mapped, unmapped, allows_store, load_answer, loaded, store_answer, stored}
-use Rattle.gup.specs.Machine.{ShowsPage, map_whats, unmap_whats, load_whats, store_whats, mapped_pages, op_whats, page_after, references}
+use Rattle.gup.specs.Page.{PageValue, references, map_answer, mapped, unmapped, allows_store, load_answer, loaded, store_answer, stored}
+use Rattle.gup.specs.Machine.{ShowsPage, map_whats, unmap_whats, load_whats, store_whats, mapped_pages, op_whats, page_after}
 use Rattle.gup.proofs.Shown.{Shown, page_of, load-entry-shown, store-allowed-shown}
 
 -- the denial of a mapping of the page alone: that it is mapped
@@ -49,6 +49,7 @@ map-page-shown s p page rights None e ws h =
             pages = grind (arith, nat_tests, h.pages);
             entry = h.entry;
             count = h.count;
+            others = h.others;
             frame = h.frame;
             mark = h.mark;
             untouched = λ is. cc;
@@ -81,6 +82,7 @@ unmap-page-shown s p page (Some r) None ws h =
             pages = grind (arith, nat_tests, h.pages);
             entry = grind (arith, nat_tests);
             count = h.count;
+            others = h.others;
             frame = λ d is. cc;
             mark = λ d is. cc;
             untouched = λ is. refl;
@@ -100,6 +102,7 @@ unmap-page-shown s p page (Some r) (Some e) ws h =
             pages = grind (arith, nat_tests, h.pages);
             entry = grind (arith, nat_tests);
             count = grind (arith, nat_tests, h.count, h.frame e refl);
+            others = λ f pos. grind (arith, nat_tests, h.others f pos, h.frame e refl);
             frame = λ d is. cc;
             mark = λ d is. cc;
             untouched = λ is. refl;

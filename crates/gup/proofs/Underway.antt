@@ -70,6 +70,7 @@ underway-first script page valid form =
                   pages = refl;
                   entry = refl;
                   count = refl;
+                  others = λ f pos. refl;
                   frame = λ e is. cc;
                   mark = λ e is. cc;
                   untouched = λ is. refl;

@@ -1,7 +1,9 @@
 -- The machine of the first path, and the states of the core run that it shows.
-use Rattle.std.specs.Prelude.{◌≡◌, ℕ, ◌+◌, ◌-◌, ◌^◌, ◌<◌, ◌≤◌, ◌==◌, Bool, true, false, if◌then◌else◌, List, [], ◌∷◌, Option, Some, None, IsSome, length, min, slice_get, slice_index, All}
+use Rattle.std.specs.Prelude.{◌≡◌, ℕ, ◌+◌, ◌-◌, ◌^◌, ◌<◌, ◌≤◌, ◌==◌, Bool, true, false, if◌then◌else◌, List, [], ◌∷◌, Option, Some, None, IsSome, length, min, slice_get, slice_index, All, zero, suc}
 use Rattle.gup_base.specs.declared.entry.Entry.{Entry}
 use Rattle.gup_base.specs.declared.entry.Rights.{Rights}
+use Rattle.gup_base.specs.declared.entry.Zone.{Zone}
+use Rattle.gup_base.specs.declared.entry.Zone.TheVariants.{Movable, Normal}
 use Rattle.gup_plain.specs.Note.{NoteValue}
 use Rattle.gup_plain.specs.State.{born}
 use Rattle.gup_plain.specs.declared.answer.Answer.{Answer}
@@ -19,7 +21,7 @@ use Rattle.gup_events.specs.State.{CoreState}
 use Rattle.gup_follows.specs.Place.{Place, ops_of, process_of, first_place}
 use Rattle.gup_follows.specs.Follows.{notes_of_turn}
 use Rattle.gup_turns.specs.Run.{RunState, taken_in, run_after}
-use Rattle.gup.specs.Page.{PageValue, zeros, allows_store, load_answer, loaded, store_answer, stored, map_answer, mapped, unmapped}
+use Rattle.gup.specs.Page.{PageValue, references, zeros, allows_store, load_answer, loaded, store_answer, stored, map_answer, mapped, unmapped}
 
 -- A machine: its script, the page, how many operations the actor has answered, and how many turns are over.
 pub record MachineValue : Type 0 where
@@ -36,10 +38,6 @@ abbrev pub mapped_pages : Option Rights → ℕ
 mapped_pages None = 0
 mapped_pages (Some rights) = 1
 
-abbrev pub references : Option Entry → ℕ
-references None = 0
-references (Some e) = 1
-
 -- the core state has this page of process p as the machine has it
 pub record ShowsPage (value : PageValue) (p page : ℕ) (s : CoreState) : Type 0 where
   pub is_born : s.birth p ≡ born
@@ -49,6 +47,7 @@ pub record ShowsPage (value : PageValue) (p page : ℕ) (s : CoreState) : Type 0
   pub pages : s.pages p ≡ mapped_pages value.rights
   pub entry : s.entry p page ≡ value.entry
   pub count : s.count 0 ≡ references value.entry
+  pub others : (f : ℕ) → 0 < f → s.count f ≡ 0
   pub frame : (e : Entry) → value.entry ≡ Some e → e.frame ≡ 0
   pub mark : (e : Entry) → value.entry ≡ Some e → s.mark 0 ≡ true
   pub untouched : value.rights ≡ None → value.entry ≡ None
@@ -147,3 +146,17 @@ whats_of (Some event) answer = Event event ∷ Done answer ∷ []
 pub record TakesTurn (old new : MachineValue) (page : ℕ) (r : RunState) (notes : List NoteValue) : Type 0 where
   pub said : notes ≡ notes_of_turn (r.turns + 1) 0 ((r.places 0).answered + 1) (taken_in old.script r 0).whats
   pub shown : Shows new page (run_after old.script r 0)
+
+-- how many of the n frames from this one on are free, and of a zone
+abbrev pub free_from : CoreState → (first n : ℕ) → ℕ
+free_from s first zero = 0
+free_from s first (suc n) = (if s.count first == 0 then 1 else 0) + free_from s (first + 1) n
+
+abbrev pub free_in : CoreState → Zone → ℕ
+free_in s Movable = free_from s 0 s.movable
+free_in s Normal = free_from s s.movable s.normal
+
+-- the same, where the first frame of all has so many references and no other has any
+abbrev pub free_beside : (movable normal used : ℕ) → Zone → ℕ
+free_beside movable normal used Movable = movable - used
+free_beside movable normal used Normal = if movable == 0 then normal - used else normal

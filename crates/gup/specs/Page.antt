@@ -70,3 +70,8 @@ unmapped page = record page { rights = None; entry = None }
 abbrev pub allows_store : Option Entry → Bool
 allows_store None = false
 allows_store (Some e) = e.writable
+
+-- the references to the frame of an entry: the entry's own
+abbrev pub references : Option Entry → ℕ
+references None = 0
+references (Some e) = 1

@@ -27,8 +27,8 @@ fn told_by(note: &Note) -> Option<Outcome>
     }
 }
 
-/// The answers of the journal, in order.
-pub fn outcomes(alloc: Global, journal: &Journal) -> Result<Outcomes, NoMemory>
+/// The answers of the script's journal, in order.
+pub fn outcomes(alloc: Global, _script: &Script, journal: &Journal) -> Result<Outcomes, NoMemory>
     ensures { IfOk result (λ outcomes. outcomes ≡ outcomes_of journal.now.notes) }
 {
     Ok(Outcomes::of(told_in(alloc, journal.notes())?))
@@ -180,7 +180,7 @@ pub fn push_line(script: &Script, o: &Outcome, text: &mut Vec<u8>) -> Result<(),
 pub fn journal_text(alloc: Global, script: &Script, journal: &Journal) -> Result<Vec<u8>, NoMemory>
     ensures { IfOk result (λ text. text.items ≡ text_of script.now journal.now.notes) }
 {
-    let outcomes = outcomes(alloc, journal)?;
+    let outcomes = outcomes(alloc, script, journal)?;
     lines_of(alloc, script, outcomes.all())
 }
 

@@ -5,11 +5,11 @@ ghost use Rattle.gup_follows.specs.Follows.{notes_of_turn};
 ghost use Rattle.gup_script.specs.Valid.{IsScript};
 ghost use Rattle.gup_script.specs.FirstPath.{IsFirstPath};
 ghost use Rattle.gup_turns.specs.Run.{RunState, waiting_in};
-ghost use Rattle.gup.specs.Machine.{MachineValue, NamesOnly, Shows, TakesTurn, counted, op_whats, whats_of, page_after, next_op, machine_whats, machine_after, first_machine};
+ghost use Rattle.gup.specs.Machine.{MachineValue, NamesOnly, Shows, TakesTurn, free_in, free_beside, counted, op_whats, whats_of, page_after, next_op, machine_whats, machine_after, first_machine};
 
 use crate::page::Page;
 use crate::turn::Turn;
-use gup_base::{ActorNo, NoMemory, ProcNo};
+use gup_base::{ActorNo, NoMemory, ProcNo, Zone};
 use gup_plain::{Answer, Note, PlainEvent, Waiting, What};
 use gup_script::{Kind, Op, Script};
 use std::alloc::Global;
@@ -76,6 +76,14 @@ impl Machine {
         None
     }
 
+    /// How many frames of a zone are free.
+    pub fn free_frames(&self, zone: Zone) -> u32
+        ensures { (page : ℕ) (r : RunState) → Shows self.now page r → result ≡ free_in r.core zone }
+    {
+        let (movable, normal, _tables) = self.script.frames();
+        free_of(movable, normal, self.page.references(), zone)
+    }
+
     // Takes the actor's turn.
     fn take_turn(&mut self, actor: ActorNo) -> Turn
         requires { actor < length self.old.script.actors }
@@ -106,6 +114,22 @@ impl Machine {
         ensures more { IfSome result (λ _. self.now.answered < length (ops_of self.now.script 0)) }
     {
         op_at(ops(&self.script, actor), self.answered as usize)
+    }
+}
+
+// How many frames of a zone are free, where so many references are to the first frame of all.
+fn free_of(movable: u32, normal: u32, used: u32, zone: Zone) -> u32
+    ensures { result ≡ free_beside movable normal used zone }
+{
+    match zone {
+        Zone::Movable => movable.saturating_sub(used),
+        Zone::Normal => {
+            if movable == 0 {
+                normal.saturating_sub(used)
+            } else {
+                normal
+            }
+        }
     }
 }
 

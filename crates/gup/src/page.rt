@@ -1,7 +1,7 @@
 //! The one page that a script of the first path names, with the one frame that it needs.
 ghost use Rattle.std.specs.Prelude.{◌≡◌, ◌<◌, true, false, if◌then◌else◌, None, Some, is_some, IfOk, vec_len};
 ghost use Rattle.gup_follows.specs.Denial.{load_denial};
-ghost use Rattle.gup.specs.Page.{allows_store, written, zeros, filled, load_answer, loaded, store_answer, stored, map_answer, mapped, unmapped};
+ghost use Rattle.gup.specs.Page.{references, allows_store, written, zeros, filled, load_answer, loaded, store_answer, stored, map_answer, mapped, unmapped};
 
 use gup_base::{Entry, FrameNo, NoMemory, Rights, WordNo};
 use gup_plain::Answer;
@@ -21,7 +21,7 @@ pub struct Page {
 impl Model for Page {
     ghost use Rattle.std.specs.Prelude.{◌≡◌, vec_len};
     ghost use Rattle.std.specs.Option.{ForSome};
-    ghost use Rattle.gup.specs.Page.{allows_store, written, PageValue};
+    ghost use Rattle.gup.specs.Page.{references, allows_store, written, PageValue};
 
     ghost Value = { PageValue };
 
@@ -58,11 +58,11 @@ impl Page {
         })
     }
 
-    /// Whether the frame is free: the page has no entry.
-    pub fn is_untouched(&self) -> bool
-        ensures { is_some self.now.entry ≡ (if result then false else true) }
+    /// How many references the frame has: its entry's.
+    pub fn references(&self) -> u32
+        ensures { result ≡ references self.now.entry }
     {
-        self.entry.is_none()
+        u32::from(self.entry.is_some())
     }
 
     // Gives the page a fresh frame in a read-only entry.

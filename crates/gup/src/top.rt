@@ -210,6 +210,10 @@ pub fn gup<S: Source, K: Sink>(
     ensures read_fault { result.status ≡ 5 → HasCause (S.faults source.old) (S.faults source.new) }
     ensures write_fault { result.status ≡ 6 → HasCause (K.faults sink.old) (K.faults sink.new) }
     ensures unwritten { (result.status ≡ 5) ⊎ (result.status ≡ 7) → sink.new ≡ sink.old }
+
+    // No script ran.
+    ensures unrun { (result.status ≡ 2) ⊎ (result.status ≡ 3) ⊎ (result.status ≡ 5) ⊎ (result.status ≡ 7)
+        → result.journal.notes ≡ [] }
 {
     one_script();
     if !is_run(words) {
