@@ -5,44 +5,53 @@ ghost use Rattle.gup_base.specs.Packing.{pack_of, unpack_of};
 
 use crate::numbers::FrameNo;
 
-/// What a process may do with a mapped page: read it, or read and write it.
+/// What a process may do with a mapped page (of Linux's rights, `VM_READ` and `VM_WRITE`).
 #[derive(Clone, Copy, Debug, PartialEq, Eq)]
 pub enum Rights {
+    /// Read it.
     R,
+    /// Read and write it.
     RW,
 }
 
-/// Where a frame lies. Frames of the movable zone can be migrated (`ZONE_MOVABLE`), and no long-term pin
-/// leaves its frame there.
+/// Where a frame lies, as in Linux.
 #[derive(Clone, Copy, Debug, PartialEq, Eq)]
 pub enum Zone {
+    /// Its frames can be migrated (`ZONE_MOVABLE`), and no long-term pin leaves its frame here.
     Movable,
+    /// Its frames may stay where they are (`ZONE_NORMAL`).
     Normal,
 }
 
 /// The zones that a frame may be taken from.
 #[derive(Clone, Copy, Debug, PartialEq, Eq)]
 pub enum Allowed {
+    /// Either zone.
     Any,
+    /// This zone and no other: the normal one for a long-term pin, the one that a migration names.
     Only(Zone),
 }
 
-/// What a pin asks for: to write (`FOLL_WRITE`), and to stay for long (`FOLL_LONGTERM`).
+/// What a pin asks for, in the flags of Linux's `pin_user_pages`.
 #[derive(Clone, Copy, Debug, PartialEq, Eq)]
 pub struct Want {
+    /// To write the pages (`FOLL_WRITE`), and not only to read them.
     pub write: bool,
+    /// To keep them for long (`FOLL_LONGTERM`).
     pub long: bool,
 }
 
 /// A page table entry that is present.
 #[derive(Clone, Copy, Debug, PartialEq, Eq)]
 pub struct Entry {
+    /// The frame that has the page's words.
     pub frame: FrameNo,
+    /// Whether a write may go through the entry. A read always may.
     pub writable: bool,
 }
 
 /// The word of a page table that holds the entry, as x86-64 lays it out: bit 0 says present, bit 1 writable,
-/// and the frame's number stands from bit 12 on. An absent entry is the word 0.
+/// and the frame's number stands from bit 12 on. All other bits are 0, and an absent entry is the word 0.
 pub fn pack(e: Option<Entry>) -> u64
     ensures { result ≡ pack_of e }
 {
@@ -55,8 +64,8 @@ pub fn pack(e: Option<Entry>) -> u64
     }
 }
 
-/// The entry that a word of a page table holds: none exactly where bit 0 is 0, else bit 1 and the 14 bits
-/// from bit 12 on. What [`pack`] wrote is read back.
+/// The entry that a word of a page table holds: none exactly where bit 0 is 0, else bit 1 says writable, and the
+/// 14 bits from bit 12 on are the frame's number. No other bit is read. What [`pack`] wrote is read back.
 pub fn unpack(word: u64) -> Option<Entry>
     ensures value { result ≡ unpack_of word }
     ensures absent { IsNone result ↔ (word % 2 ≡ 0) }

@@ -11,3 +11,6 @@ pub use entry::{Allowed, Entry, Rights, Want, Zone, pack, unpack};
 pub use lists::{Parts, Words};
 pub use memory::NoMemory;
 pub use numbers::{ActorNo, FrameNo, HandleNo, MirrorNo, PageNo, ProcNo, WordNo};
+
+#[cfg(test)]
+mod tests;

@@ -4,7 +4,8 @@ ghost use Rattle.std.specs.Prelude.{◌≡◌, ◌<◌, [], ◌∷◌, ◌++◌,
 use arrayvec::ArrayVec;
 use std::marker::Model;
 
-/// The segments of a transfer: where each begins in the pin, and how many words it has. At most 8.
+/// The segments of a transfer, in order: where each begins in the pin, and how many words it has. At most 8.
+/// Contracts see the list of these pairs.
 #[derive(Debug, Drop)]
 pub struct Parts {
     parts: ArrayVec<(u32, u8), 8>,
@@ -19,6 +20,7 @@ impl Model for Parts {
 }
 
 impl Parts {
+    /// No segments.
     pub fn new() -> Self
         ensures { result ≡ [] }
     {
@@ -27,7 +29,8 @@ impl Parts {
         }
     }
 
-    /// Puts a segment of `n` words from word `index` on at the end.
+    /// Puts a segment of `n` words on at the end. It begins at word `index`, counted from 0 over the pages of the
+    /// pin, 512 to a page. Neither number is judged here.
     pub fn push(&mut self, index: u32, n: u8)
         requires { length self.old < 8 }
         ensures { self.new ≡ self.old ++ (index, n) ∷ [] }
@@ -35,6 +38,7 @@ impl Parts {
         self.parts.push((index, n));
     }
 
+    /// The segments as they were put on, each as its first word and how many words it has.
     pub fn as_slice(&self) -> &[(u32, u8)]
         ensures { result.now ≡ self.now }
     {
@@ -42,7 +46,7 @@ impl Parts {
     }
 }
 
-/// The words that a transfer moved. At most 64.
+/// The words that a transfer moved, in order. At most 64. Contracts see the list of them.
 #[derive(Debug, Drop)]
 pub struct Words {
     words: ArrayVec<u64, 64>,
@@ -57,6 +61,7 @@ impl Model for Words {
 }
 
 impl Words {
+    /// No words.
     pub fn new() -> Self
         ensures { result ≡ [] }
     {
@@ -65,6 +70,7 @@ impl Words {
         }
     }
 
+    /// Puts a word on at the end.
     pub fn push(&mut self, v: u64)
         requires { length self.old < 64 }
         ensures { self.new ≡ self.old ++ v ∷ [] }
@@ -72,6 +78,7 @@ impl Words {
         self.words.push(v);
     }
 
+    /// The words as they were put on.
     pub fn as_slice(&self) -> &[u64]
         ensures { result.now ≡ self.now }
     {

@@ -4,9 +4,8 @@ ghost use Rattle.std.specs.Prelude.{◌≡◌, ◌^◌, ◌<◌, IsSome, IfSome,
 
 use std::marker::Model;
 
-/// The number of a page of a process's memory, below 2^35.
-/// The last of a 47-bit address space's 2^35 pages is a number too; Linux on x86-64 keeps that page from
-/// programs (`TASK_SIZE_MAX`).
+/// The number of a page of a process's memory, below 2^35: an address of 47 bits, divided by the 4,096 bytes of a
+/// page. The last of these pages is a number too; Linux on x86-64 keeps it from programs (`TASK_SIZE_MAX`).
 #[derive(Clone, Copy, Debug, PartialEq, Eq, PartialOrd, Ord)]
 pub struct PageNo {
     number: u64,
@@ -37,6 +36,7 @@ impl PageNo {
         }
     }
 
+    /// The number, which is below the bound.
     pub fn get(self) -> u64
         ensures value { result ≡ self }
         ensures below { result < 2 ^ 35 }
@@ -45,7 +45,7 @@ impl PageNo {
     }
 }
 
-/// The number of a frame, below 16,384: 14 bits of a packed entry.
+/// The number of a frame, below 16,384: it takes 14 bits of a packed entry.
 #[derive(Clone, Copy, Debug, PartialEq, Eq, PartialOrd, Ord)]
 pub struct FrameNo {
     number: u16,
@@ -76,6 +76,7 @@ impl FrameNo {
         }
     }
 
+    /// The number, which is below the bound.
     pub fn get(self) -> u64
         ensures value { result ≡ self }
         ensures below { result < 16384 }
@@ -115,6 +116,7 @@ impl ProcNo {
         }
     }
 
+    /// The number, which is below the bound.
     pub fn get(self) -> u64
         ensures value { result ≡ self }
         ensures below { result < 16 }
@@ -154,6 +156,7 @@ impl ActorNo {
         }
     }
 
+    /// The number, which is below the bound.
     pub fn get(self) -> u64
         ensures value { result ≡ self }
         ensures below { result < 81 }
@@ -162,7 +165,7 @@ impl ActorNo {
     }
 }
 
-/// The number of a handle of a script, below 1,024.
+/// The number of a handle in the order of a script's declarations, below 1,024.
 #[derive(Clone, Copy, Debug, PartialEq, Eq, PartialOrd, Ord)]
 pub struct HandleNo {
     number: u16,
@@ -193,6 +196,7 @@ impl HandleNo {
         }
     }
 
+    /// The number, which is below the bound.
     pub fn get(self) -> u64
         ensures value { result ≡ self }
         ensures below { result < 1024 }
@@ -201,7 +205,7 @@ impl HandleNo {
     }
 }
 
-/// The number of a mirror slot of a script, below 64.
+/// The number of a mirror slot in the order of a script's declarations, below 64.
 #[derive(Clone, Copy, Debug, PartialEq, Eq, PartialOrd, Ord)]
 pub struct MirrorNo {
     number: u8,
@@ -232,6 +236,7 @@ impl MirrorNo {
         }
     }
 
+    /// The number, which is below the bound.
     pub fn get(self) -> u64
         ensures value { result ≡ self }
         ensures below { result < 64 }
@@ -240,7 +245,7 @@ impl MirrorNo {
     }
 }
 
-/// The number of a word within its page, below 512.
+/// The number of a word within its page, below 512: a page has 4,096 bytes, and a word 8.
 #[derive(Clone, Copy, Debug, PartialEq, Eq, PartialOrd, Ord)]
 pub struct WordNo {
     number: u16,
@@ -271,6 +276,7 @@ impl WordNo {
         }
     }
 
+    /// The number, which is below the bound.
     pub fn get(self) -> u64
         ensures value { result ≡ self }
         ensures below { result < 512 }

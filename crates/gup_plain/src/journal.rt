@@ -31,14 +31,15 @@ impl Journal {
         }
     }
 
+    /// The notes, the first of them first.
     pub fn notes(&self) -> &[Note]
         ensures { result.now ≡ self.now.notes }
     {
         self.notes.as_slice()
     }
 
-    /// Puts a note on at the end. Only where no room is left is memory wanted; where there is none, nothing
-    /// changes.
+    /// Puts a note on at the end, and leaves at most one less room. Memory is wanted only where no room is left;
+    /// where there is none to be had, the notes stay as they were.
     pub fn push(&mut self, note: Note) -> Result<(), NoMemory>
         ensures ok { OnOk result (self.new.notes ≡ self.old.notes ++ note ∷ []) }
         ensures room { self.old.room ≤ self.new.room + 1 }
@@ -48,7 +49,7 @@ impl Journal {
         Ok(())
     }
 
-    /// Makes room for `n` more notes, at least.
+    /// Makes room for `n` more notes, at least. The notes stay, also where memory is wanted and there is none.
     pub fn reserve(&mut self, n: u32) -> Result<(), NoMemory>
         ensures notes { self.new.notes ≡ self.old.notes }
         ensures ok { OnOk result (n ≤ self.new.room) }

@@ -11,3 +11,6 @@ pub use answer::{Answer, Cause};
 pub use event::PlainEvent;
 pub use journal::Journal;
 pub use note::{Note, Waiting, What};
+
+#[cfg(test)]
+mod tests;

@@ -59,6 +59,7 @@ impl Model for Note {
 }
 
 impl Note {
+    /// The note that says this. Nothing is judged here: whoever writes a journal counts its turns and operations.
     pub fn new(turn: u32, actor: ActorNo, op: u32, what: What) -> Self
         ensures { result ≡ record { turn = turn; actor = actor; op = op; what = what } }
     {
@@ -70,26 +71,28 @@ impl Note {
         }
     }
 
-    /// The number of the note's turn.
+    /// The number of the note's turn, from 1. The one to three notes of a turn have the same.
     pub fn turn(&self) -> u32
         ensures { result ≡ self.now.turn }
     {
         self.turn
     }
 
+    /// The actor whose turn it is.
     pub fn actor(&self) -> ActorNo
         ensures { result ≡ self.now.actor }
     {
         self.actor
     }
 
-    /// The number of the actor's operation.
+    /// The number of the operation among those of its actor, from 1.
     pub fn op(&self) -> u32
         ensures { result ≡ self.now.op }
     {
         self.op
     }
 
+    /// What happened.
     pub fn what(&self) -> What
         ensures { result ≡ self.now.what }
     {
