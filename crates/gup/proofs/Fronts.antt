@@ -1,5 +1,5 @@
 -- Lists that begin with a list: what writing piece by piece leaves where it breaks off.
-use Rattle.std.proofs.Common.{◌≡◌, ℕ, ◌≤◌, List, [], ◌∷◌, ◌++◌, length, take, drop, refl, sym, ◌∙◌, arith, ap, length-append, subst}
+use Rattle.std.proofs.Common.{◌≡◌, ℕ, ◌≤◌, List, ◌++◌, length, take, sym, ◌∙◌, arith, ap, length-append, subst}
 use Rattle.std.proofs.lemmas.List.{take-take, take-append-le, take_all}
 use Rattle.gup.specs.Text.{BeginsWith}
 

@@ -6,3 +6,4 @@ pub mod Turns
 pub mod Underway
 pub mod Told
 pub mod Free
+pub mod Causes

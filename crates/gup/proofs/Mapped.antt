@@ -1,11 +1,9 @@
 -- Mappings, and the whole turn of an operation, as the machine's page does them.
-use Rattle.std.proofs.Common.{◌≡◌, ℕ, ◌+◌, ◌-◌, ◌<◌, ◌≤◌, Bool, true, false, Option, Some, None, List, [], ◌∷◌, refl, sym, subst, ◌∙◌, ap, arith, zero, suc, eqb, length, is_some, add-zero}
+use Rattle.std.proofs.Common.{◌≡◌, ℕ, ◌+◌, ◌≤◌, Bool, true, Option, Some, None, List, refl, sym, subst, ◌∙◌, ap, arith, zero, suc, eqb, is_some, add-zero}
 use Rattle.std.proofs.lemmas.Bool.Decides.{nat_tests}
 use Rattle.gup_base.specs.declared.entry.Entry.{Entry}
 use Rattle.gup_base.specs.declared.entry.Rights.{Rights}
-use Rattle.gup_base.specs.declared.entry.Rights.TheVariants.{R, RW}
-use Rattle.gup_plain.specs.Event.{most_pages}
-use Rattle.gup_plain.specs.State.{Birth, born, unborn, growing, failed}
+use Rattle.gup_plain.specs.State.{Birth}
 use Rattle.gup_plain.specs.declared.answer.Answer.{Answer}
 use Rattle.gup_plain.specs.declared.answer.Answer.TheVariants as answers
 use Rattle.gup_script.specs.declared.op.Op.{Op}
@@ -14,9 +12,8 @@ use Rattle.gup_script.specs.Grammar.{IsOp}
 use Rattle.gup_script.specs.FirstPath.{IsOfPage}
 use Rattle.gup_events.specs.State.{CoreState}
 use Rattle.gup_follows.specs.Denial.{any_mapped, map_denial}
-use Rattle.gup_turns.specs.Turn.{Taken, map_turn_by, unmap_turn_by, load_turn, store_turn, store_turn_by, free_frame, lowest, turn_at, turn_of, op_turn}
-use Rattle.gup_turns.specs.Run.{state_after}
-use Rattle.gup.specs.Page.{PageValue, references, map_answer, mapped, unmapped, allows_store, load_answer, loaded, store_answer, stored}
+use Rattle.gup_turns.specs.Turn.{map_turn_by, unmap_turn_by, load_turn, store_turn, free_frame, lowest, turn_at, turn_of, op_turn}
+use Rattle.gup.specs.Page.{PageValue, map_answer, mapped, unmapped, allows_store, load_answer, loaded, store_answer, stored}
 use Rattle.gup.specs.Machine.{ShowsPage, map_whats, unmap_whats, load_whats, store_whats, mapped_pages, op_whats, page_after}
 use Rattle.gup.proofs.Shown.{Shown, page_of, load-entry-shown, store-allowed-shown}
 

@@ -1,11 +1,11 @@
 -- What the readers of a script give, as what its actors have.
-use Rattle.std.proofs.Common.{◌≡◌, ℕ, ◌+◌, ◌<◌, ◌≤◌, Bool, true, Option, Some, None, List, [], ◌∷◌, length, refl, sym, ap, subst, ◌∙◌, arith, leb}
-use Rattle.std.specs.Prelude.{slice_get, All, zero, suc}
-use Rattle.std.proofs.lemmas.Option.{slice_get_cases, slice_get_past}
-use Rattle.std.proofs.Common.{◌⊎◌, inl, inr}
+use Rattle.std.proofs.Common.{◌≡◌, ℕ, ◌<◌, ◌≤◌, Option, Some, None, List, length, refl, sym, ap, ◌∙◌, arith}
+use Rattle.std.specs.Prelude.{slice_get, All}
+use Rattle.std.proofs.lemmas.Option.{slice_get_cases}
+use Rattle.std.proofs.Common.{inl, inr}
 use Rattle.gup_script.specs.declared.op.Op.{Op}
 use Rattle.gup_script.specs.declared.op.Kind.{Kind}
-use Rattle.gup_script.specs.Script.{ScriptValue, Actor, Process, actor_at}
+use Rattle.gup_script.specs.Script.{ScriptValue, Actor, actor_at}
 use Rattle.gup_script.specs.FirstPath.{IsFirstPath, IsOfPage}
 use Rattle.gup_script.specs.Grammar.{IsOp}
 use Rattle.gup_script.specs.Valid.{IsScript}

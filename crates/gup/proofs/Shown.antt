@@ -1,5 +1,5 @@
 -- The machine's page does what the core machine's turn does.
-use Rattle.std.proofs.Common.{◌≡◌, ℕ, ◌+◌, ◌<◌, ◌≤◌, Bool, true, false, Option, Some, None, List, [], ◌∷◌, refl, sym, subst, ◌∙◌, ap, arith, zero, suc, get_or, slice_index, slice_set, length}
+use Rattle.std.proofs.Common.{◌≡◌, ℕ, ◌<◌, Bool, true, false, Option, Some, None, List, [], ◌∷◌, refl, sym, subst, ◌∙◌, ap, arith, slice_index, slice_set, length}
 use Rattle.std.proofs.Math.ListN.{length-set}
 use Rattle.std.proofs.lemmas.Bool.Decides.{nat_tests}
 use Rattle.std.proofs.lemmas.List.{get_or-replicate}
@@ -8,7 +8,7 @@ use Rattle.gup_base.specs.declared.entry.Rights.{Rights}
 use Rattle.gup_base.specs.declared.entry.Rights.TheVariants.{R, RW}
 use Rattle.gup_plain.specs.declared.note.What.{What}
 use Rattle.std.proofs.lemmas.Grind.{common_steps}
-use Rattle.gup_plain.specs.Put.{put, put2}
+use Rattle.gup_plain.specs.Put.{put2}
 use Rattle.gup_events.specs.State.{CoreState}
 use Rattle.gup_events.specs.Event.{CoreEvent, happens, entry_of, take_frame, fill, upgrade}
 use Rattle.gup_turns.specs.Turn.{Taken, load_turn, loads, loads_by_fault, loads_by_fill, store_turn_by, stores_by_fault, stores_by_fill, stores_by_upgrade, stores_behind, free_frame}

@@ -1,10 +1,11 @@
 -- What was read of a source, and the script that its told bytes are.
-use Rattle.std.proofs.Common.{◌≡◌, ℕ, ◌+◌, ◌<◌, ◌≤◌, List, length, take, Option, Some, None, refl, sym, subst, ◌∙◌, ap, arith, leb, inl, inr}
+use Rattle.std.proofs.Common.{◌≡◌, ℕ, ◌<◌, List, [], length, take, drop, Option, Some, None, refl, sym, subst, ◌∙◌, ap, arith, leb}
 use Rattle.std.specs.Prelude.{IfSome, Bool, true, false}
 use Rattle.std.proofs.lemmas.Bool.{leb-true, leb-false}
-use Rattle.std.proofs.lemmas.List.{take_all, length-take-le}
+use Rattle.std.proofs.lemmas.List.{take_all, length-take-le, drop_all}
 use Rattle.gup_script.specs.Script.{ScriptValue}
-use Rattle.gup_script.specs.FirstPath.{Accepts, most_bytes}
+use Rattle.gup_script.specs.FirstPath.{Accepts}
+use Rattle.gup_io.specs.Transfers.{Loses}
 use Rattle.gup.specs.Report.{OfScript, AreScript, IsScriptOf}
 
 -- a front that is shorter than what was asked for is all
@@ -37,3 +38,19 @@ of_script (Some bytes) s P one read p = λ t h. subst P (one bytes s t read h) p
 pub are_script : (told : Option (List ℕ)) (s : ScriptValue) → IsScriptOf told s → AreScript told
 are_script None s read = tt
 are_script (Some bytes) s read = (s, read)
+
+-- told bytes lost their first ones, or all
+pub loses_first : (most : ℕ) (old new : Option (List ℕ)) → IfSome old (λ bytes. new ≡ Some (drop most bytes)) → Loses 0 most old new
+loses_first most None new rest = tt
+loses_first most (Some bytes) new rest = by_test (leb most (length bytes)) refl
+  where
+    by_test : (b : Bool) → leb most (length bytes) ≡ b → Loses 0 most (Some bytes) new
+    by_test true enough = (most, omega arith, omega arith, leb-true _ _ enough, rest)
+    by_test false few =
+        let less = leb-false _ _ few in
+        (length bytes, omega arith, omega arith, omega arith, rest ∙ ap (λ (xs : List ℕ). Some xs) (drop_all most bytes (omega arith) ∙ sym (drop_all (length bytes) bytes (omega arith))))
+
+-- the bytes of a script are read to their end
+pub read_all : (told new : Option (List ℕ)) (s : ScriptValue) → IsScriptOf told s → IfSome told (λ bytes. new ≡ Some (drop 1048577 bytes)) → IfSome told (λ bytes. new ≡ Some [])
+read_all None new s is rest = tt
+read_all (Some bytes) new s is rest = rest ∙ ap (λ (xs : List ℕ). Some xs) (drop_all 1048577 bytes (omega (arith, is.2)))

@@ -1,18 +1,18 @@
 -- A turn of the machine is the turn of the core run.
-use Rattle.std.proofs.Common.{◌≡◌, ℕ, ◌+◌, ◌-◌, ◌^◌, ◌<◌, ◌≤◌, Bool, true, false, Option, Some, None, List, [], ◌∷◌, refl, sym, subst, ◌∙◌, ap, arith, zero, suc, length, min, cond, eqb}
+use Rattle.std.proofs.Common.{◌≡◌, ℕ, ◌+◌, ◌-◌, ◌^◌, ◌<◌, ◌≤◌, Bool, true, false, Option, Some, None, List, [], ◌∷◌, refl, sym, subst, ◌∙◌, ap, arith, length}
 use Rattle.std.specs.Prelude.{slice_get}
 use Rattle.std.proofs.lemmas.Bool.Decides.{nat_tests}
+use Rattle.gup_base.specs.declared.entry.Entry.{Entry}
 use Rattle.gup_base.specs.declared.entry.Rights.{Rights}
-use Rattle.gup_plain.specs.State.{Birth, born, unborn, growing, failed}
+use Rattle.gup_base.specs.declared.entry.Rights.TheVariants.{R, RW}
 use Rattle.gup_plain.specs.declared.answer.Answer.{Answer}
 use Rattle.gup_plain.specs.declared.answer.Answer.TheVariants as answers
 use Rattle.gup_plain.specs.declared.event.PlainEvent.{PlainEvent}
 use Rattle.gup_plain.specs.declared.event.PlainEvent.TheVariants as events
 use Rattle.gup_plain.specs.declared.note.What.{What}
-use Rattle.gup_plain.specs.declared.note.Waiting.{Waiting}
 use Rattle.gup_script.specs.declared.op.Op.{Op}
 use Rattle.gup_script.specs.declared.op.Op.TheVariants.{Map, Unmap, Load, Store}
-use Rattle.gup_script.specs.Script.{ScriptValue, Actor}
+use Rattle.gup_script.specs.Script.{ScriptValue}
 use Rattle.gup_script.specs.Valid.{IsScript}
 use Rattle.gup_script.specs.FirstPath.{IsFirstPath}
 use Rattle.gup_events.specs.State.{CoreState}
@@ -20,12 +20,12 @@ use Rattle.gup_events.specs.Event.{CoreEvent, happens, take_frame, fill, upgrade
 use Rattle.gup_follows.specs.Place.{Place, place_behind, process_of, ops_of}
 use Rattle.gup_plain.specs.Note.{NoteValue}
 use Rattle.gup_follows.specs.Follows.{notes_of_turn}
-use Rattle.gup_follows.specs.Order.{pointer_after, behind}
-use Rattle.gup_turns.specs.Turn.{Taken, turn_of, waits_at, waits_for_locks, waiting_for, needs_locks}
-use Rattle.gup_turns.specs.Run.{RunState, state_after, waiting_with, waiting_in, op_in, taken_by, taken_in, run_after, written_in}
+use Rattle.gup_follows.specs.Order.{pointer_after}
+use Rattle.gup_turns.specs.Turn.{Taken, waits_at, waits_for_locks, needs_locks}
+use Rattle.gup_turns.specs.Run.{RunState, state_after, waiting_with, waiting_in, op_in, taken_by, taken_in, run_after}
 use Rattle.gup.specs.Page.{PageValue, load_answer, store_answer, map_answer, allows_store}
-use Rattle.gup.specs.Machine.{MachineValue, NamesOnly, ShowsPage, Shows, TakesTurn, counted, whats_of, load_whats, store_whats, map_whats, unmap_whats, op_whats, page_after, whats_by, machine_by, next_op, machine_whats, machine_after}
-use Rattle.gup.proofs.Shown.{Shown}
+use Rattle.gup.specs.Machine.{MachineValue, NamesOnly, ShowsPage, Shows, TakesTurn, counted, whats_of, load_whats, store_whats, map_whats, unmap_whats, op_whats, whats_by, machine_by, next_op, machine_whats, machine_after}
+use Rattle.gup.specs.Cause.{IsKnownAnswer}
 use Rattle.gup.proofs.Mapped.{op-shown}
 use Rattle.gup.proofs.Scripts.{op_fits}
 
@@ -60,83 +60,98 @@ unwaiting s p page v (Some op) h =
     ∙ ap (λ l. waits_for_locks (needs_locks s p op) 0 None l) h.table
     ∙ unlocked (needs_locks s p op)
 
--- what an operation says is an answer, perhaps behind an event
-abbrev IsAnswered : List What → Type 0
-IsAnswered whats = (e : Option PlainEvent) × (a : Answer) × (whats ≡ whats_of e a)
+-- what an operation says is a known answer, perhaps behind an event
+abbrev pub IsAnswered : List What → Type 0
+IsAnswered whats = (e : Option PlainEvent) × (a : Answer) × IsKnownAnswer a × (whats ≡ whats_of e a)
 
 place-answered : (n : ℕ) (whats : List What) → IsAnswered whats → place_behind (record { answered = n; far = 0; had = false }) whats ≡ record { answered = n + 1; far = 0; had = false }
-place-answered n whats (e, a, is) = ap (place_behind (record { answered = n; far = 0; had = false })) is ∙ behind_answer e
+place-answered n whats (e, a, known, is) = ap (place_behind (record { answered = n; far = 0; had = false })) is ∙ behind_answer e
   where
     behind_answer : (e : Option PlainEvent) → place_behind (record { answered = n; far = 0; had = false }) (whats_of e a) ≡ record { answered = n + 1; far = 0; had = false }
     behind_answer None = refl
     behind_answer (Some e) = refl
 
-load_answered : (p page word : ℕ) (a : Answer) → IsAnswered (load_whats p page word a)
-load_answered p page word (answers.Value v) = (Some (events.Load 0 p page word v), answers.Value v, refl)
-load_answered p page word answers.Plain = (None, answers.Plain, refl)
-load_answered p page word (answers.Pinned n) = (None, answers.Pinned n, refl)
-load_answered p page word (answers.Short g w c) = (None, answers.Short g w c, refl)
-load_answered p page word answers.Words = (None, answers.Words, refl)
-load_answered p page word answers.Missing = (None, answers.Missing, refl)
-load_answered p page word answers.Forbidden = (None, answers.Forbidden, refl)
-load_answered p page word (answers.Unmovable c) = (None, answers.Unmovable c, refl)
-load_answered p page word answers.NoFrame = (None, answers.NoFrame, refl)
-load_answered p page word answers.NotHeld = (None, answers.NotHeld, refl)
-load_answered p page word answers.Range = (None, answers.Range, refl)
-load_answered p page word answers.Overlap = (None, answers.Overlap, refl)
-load_answered p page word answers.Full = (None, answers.Full, refl)
-load_answered p page word (answers.Busy c) = (None, answers.Busy c, refl)
-load_answered p page word answers.Untouched = (None, answers.Untouched, refl)
-load_answered p page word answers.Stale = (None, answers.Stale, refl)
-load_answered p page word answers.Unborn = (None, answers.Unborn, refl)
+load_answered : (p page word : ℕ) (a : Answer) → IsKnownAnswer a → IsAnswered (load_whats p page word a)
+load_answered p page word answers.Plain known = (None, answers.Plain, known, refl)
+load_answered p page word (answers.Value v) known = (Some (events.Load 0 p page word v), (answers.Value v), known, refl)
+load_answered p page word (answers.Pinned n) known = (None, (answers.Pinned n), known, refl)
+load_answered p page word (answers.Short g w c) known = (None, (answers.Short g w c), known, refl)
+load_answered p page word answers.Words known = (None, answers.Words, known, refl)
+load_answered p page word answers.Missing known = (None, answers.Missing, known, refl)
+load_answered p page word answers.Forbidden known = (None, answers.Forbidden, known, refl)
+load_answered p page word (answers.Unmovable c) known = (None, (answers.Unmovable c), known, refl)
+load_answered p page word answers.NoFrame known = (None, answers.NoFrame, known, refl)
+load_answered p page word answers.NotHeld known = (None, answers.NotHeld, known, refl)
+load_answered p page word answers.Range known = (None, answers.Range, known, refl)
+load_answered p page word answers.Overlap known = (None, answers.Overlap, known, refl)
+load_answered p page word answers.Full known = (None, answers.Full, known, refl)
+load_answered p page word (answers.Busy c) known = (None, (answers.Busy c), known, refl)
+load_answered p page word answers.Untouched known = (None, answers.Untouched, known, refl)
+load_answered p page word answers.Stale known = (None, answers.Stale, known, refl)
+load_answered p page word answers.Unborn known = (None, answers.Unborn, known, refl)
 
-store_answered : (p page word value : ℕ) (a : Answer) → IsAnswered (store_whats p page word value a)
-store_answered p page word value answers.Plain = (Some (events.Store 0 p page word value), answers.Plain, refl)
-store_answered p page word value (answers.Value v) = (None, answers.Value v, refl)
-store_answered p page word value (answers.Pinned n) = (None, answers.Pinned n, refl)
-store_answered p page word value (answers.Short g w c) = (None, answers.Short g w c, refl)
-store_answered p page word value answers.Words = (None, answers.Words, refl)
-store_answered p page word value answers.Missing = (None, answers.Missing, refl)
-store_answered p page word value answers.Forbidden = (None, answers.Forbidden, refl)
-store_answered p page word value (answers.Unmovable c) = (None, answers.Unmovable c, refl)
-store_answered p page word value answers.NoFrame = (None, answers.NoFrame, refl)
-store_answered p page word value answers.NotHeld = (None, answers.NotHeld, refl)
-store_answered p page word value answers.Range = (None, answers.Range, refl)
-store_answered p page word value answers.Overlap = (None, answers.Overlap, refl)
-store_answered p page word value answers.Full = (None, answers.Full, refl)
-store_answered p page word value (answers.Busy c) = (None, answers.Busy c, refl)
-store_answered p page word value answers.Untouched = (None, answers.Untouched, refl)
-store_answered p page word value answers.Stale = (None, answers.Stale, refl)
-store_answered p page word value answers.Unborn = (None, answers.Unborn, refl)
+store_answered : (p page word value : ℕ) (a : Answer) → IsKnownAnswer a → IsAnswered (store_whats p page word value a)
+store_answered p page word value answers.Plain known = (Some (events.Store 0 p page word value), answers.Plain, known, refl)
+store_answered p page word value (answers.Value v) known = (None, (answers.Value v), known, refl)
+store_answered p page word value (answers.Pinned n) known = (None, (answers.Pinned n), known, refl)
+store_answered p page word value (answers.Short g w c) known = (None, (answers.Short g w c), known, refl)
+store_answered p page word value answers.Words known = (None, answers.Words, known, refl)
+store_answered p page word value answers.Missing known = (None, answers.Missing, known, refl)
+store_answered p page word value answers.Forbidden known = (None, answers.Forbidden, known, refl)
+store_answered p page word value (answers.Unmovable c) known = (None, (answers.Unmovable c), known, refl)
+store_answered p page word value answers.NoFrame known = (None, answers.NoFrame, known, refl)
+store_answered p page word value answers.NotHeld known = (None, answers.NotHeld, known, refl)
+store_answered p page word value answers.Range known = (None, answers.Range, known, refl)
+store_answered p page word value answers.Overlap known = (None, answers.Overlap, known, refl)
+store_answered p page word value answers.Full known = (None, answers.Full, known, refl)
+store_answered p page word value (answers.Busy c) known = (None, (answers.Busy c), known, refl)
+store_answered p page word value answers.Untouched known = (None, answers.Untouched, known, refl)
+store_answered p page word value answers.Stale known = (None, answers.Stale, known, refl)
+store_answered p page word value answers.Unborn known = (None, answers.Unborn, known, refl)
 
-map_answered : (p page k : ℕ) (rights : Rights) (a : Answer) → IsAnswered (map_whats p page k rights a)
-map_answered p page k rights answers.Plain = (Some (events.Map 0 p page k rights), answers.Plain, refl)
-map_answered p page k rights (answers.Value v) = (None, answers.Value v, refl)
-map_answered p page k rights (answers.Pinned n) = (None, answers.Pinned n, refl)
-map_answered p page k rights (answers.Short g w c) = (None, answers.Short g w c, refl)
-map_answered p page k rights answers.Words = (None, answers.Words, refl)
-map_answered p page k rights answers.Missing = (None, answers.Missing, refl)
-map_answered p page k rights answers.Forbidden = (None, answers.Forbidden, refl)
-map_answered p page k rights (answers.Unmovable c) = (None, answers.Unmovable c, refl)
-map_answered p page k rights answers.NoFrame = (None, answers.NoFrame, refl)
-map_answered p page k rights answers.NotHeld = (None, answers.NotHeld, refl)
-map_answered p page k rights answers.Range = (None, answers.Range, refl)
-map_answered p page k rights answers.Overlap = (None, answers.Overlap, refl)
-map_answered p page k rights answers.Full = (None, answers.Full, refl)
-map_answered p page k rights (answers.Busy c) = (None, answers.Busy c, refl)
-map_answered p page k rights answers.Untouched = (None, answers.Untouched, refl)
-map_answered p page k rights answers.Stale = (None, answers.Stale, refl)
-map_answered p page k rights answers.Unborn = (None, answers.Unborn, refl)
+map_answered : (p page k : ℕ) (rights : Rights) (a : Answer) → IsKnownAnswer a → IsAnswered (map_whats p page k rights a)
+map_answered p page k rights answers.Plain known = (Some (events.Map 0 p page k rights), answers.Plain, known, refl)
+map_answered p page k rights (answers.Value v) known = (None, (answers.Value v), known, refl)
+map_answered p page k rights (answers.Pinned n) known = (None, (answers.Pinned n), known, refl)
+map_answered p page k rights (answers.Short g w c) known = (None, (answers.Short g w c), known, refl)
+map_answered p page k rights answers.Words known = (None, answers.Words, known, refl)
+map_answered p page k rights answers.Missing known = (None, answers.Missing, known, refl)
+map_answered p page k rights answers.Forbidden known = (None, answers.Forbidden, known, refl)
+map_answered p page k rights (answers.Unmovable c) known = (None, (answers.Unmovable c), known, refl)
+map_answered p page k rights answers.NoFrame known = (None, answers.NoFrame, known, refl)
+map_answered p page k rights answers.NotHeld known = (None, answers.NotHeld, known, refl)
+map_answered p page k rights answers.Range known = (None, answers.Range, known, refl)
+map_answered p page k rights answers.Overlap known = (None, answers.Overlap, known, refl)
+map_answered p page k rights answers.Full known = (None, answers.Full, known, refl)
+map_answered p page k rights (answers.Busy c) known = (None, (answers.Busy c), known, refl)
+map_answered p page k rights answers.Untouched known = (None, answers.Untouched, known, refl)
+map_answered p page k rights answers.Stale known = (None, answers.Stale, known, refl)
+map_answered p page k rights answers.Unborn known = (None, answers.Unborn, known, refl)
 
 unmap_answered : (p page : ℕ) (r : Option Rights) → IsAnswered (unmap_whats p page r)
-unmap_answered p page None = (None, answers.Plain, refl)
-unmap_answered p page (Some r) = (Some (events.Unmap 0 p page), answers.Plain, refl)
+unmap_answered p page None = (None, answers.Plain, tt, refl)
+unmap_answered p page (Some r) = (Some (events.Unmap 0 p page), answers.Plain, tt, refl)
 
-op_answered : (p : ℕ) (v : PageValue) (op : Op) → IsAnswered (op_whats p v op)
-op_answered p v (Map page n rights) = map_answered p page n rights (map_answer v.rights)
+load_known : (e : Option Entry) (r : Option Rights) (ws : List ℕ) (word : ℕ) → IsKnownAnswer (load_answer e r ws word)
+load_known (Some e) r ws word = tt
+load_known None (Some r) ws word = tt
+load_known None None ws word = tt
+
+store_known : (allowed : Bool) (r : Option Rights) → IsKnownAnswer (store_answer allowed r)
+store_known true r = tt
+store_known false None = tt
+store_known false (Some R) = tt
+store_known false (Some RW) = tt
+
+map_known : (r : Option Rights) → IsKnownAnswer (map_answer r)
+map_known None = tt
+map_known (Some r) = tt
+
+pub op_answered : (p : ℕ) (v : PageValue) (op : Op) → IsAnswered (op_whats p v op)
+op_answered p v (Map page n rights) = map_answered p page n rights (map_answer v.rights) (map_known v.rights)
 op_answered p v (Unmap page n) = unmap_answered p page v.rights
-op_answered p v (Load page word) = load_answered p page word (load_answer v.entry v.rights v.words word)
-op_answered p v (Store page word value) = store_answered p page word value (store_answer (allows_store v.entry) v.rights)
+op_answered p v (Load page word) = load_answered p page word (load_answer v.entry v.rights v.words word) (load_known v.entry v.rights v.words word)
+op_answered p v (Store page word value) = store_answered p page word value (store_answer (allows_store v.entry) v.rights) (store_known (allows_store v.entry) v.rights)
 
 -- what a turn by this operation, or by none, says and leaves
 record TurnShown (m : MachineValue) (page : ℕ) (r : RunState) (o : Option Op) (t : Taken) : Type 0 where

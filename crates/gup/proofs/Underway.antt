@@ -1,6 +1,6 @@
 -- The loop over the turns: what is true between two of them.
-use Rattle.std.proofs.Common.{◌≡◌, ℕ, ◌+◌, ◌-◌, ◌^◌, ◌<◌, ◌≤◌, Bool, true, false, Option, Some, None, List, [], ◌∷◌, ◌++◌, refl, sym, subst, ◌∙◌, ap, arith, zero, suc, length, leb, cond, eqb, append_assoc, append-nil}
-use Rattle.std.specs.Prelude.{slice_get, All}
+use Rattle.std.proofs.Common.{◌≡◌, ℕ, ◌+◌, ◌<◌, ◌≤◌, Bool, true, false, Option, Some, None, List, [], ◌∷◌, ◌++◌, refl, sym, subst, ◌∙◌, ap, arith, length, leb, cond, append_assoc, append-nil}
+use Rattle.std.specs.Prelude.{slice_get}
 use Rattle.std.proofs.lemmas.Bool.{leb-true, leb-false}
 use Rattle.std.proofs.lemmas.Bool.Decides.{nat_tests}
 use Rattle.std.proofs.lemmas.Option.{slice_get_past, slice_get_cases}
@@ -10,18 +10,21 @@ use Rattle.gup_script.specs.declared.op.Op.{Op}
 use Rattle.gup_script.specs.declared.op.Kind.{Kind}
 use Rattle.gup_script.specs.declared.op.Kind.TheVariants.{Thread}
 use Rattle.std.proofs.Common.{inl, inr}
-use Rattle.gup_script.specs.Script.{ScriptValue, Actor, Process, actor_at}
+use Rattle.gup_script.specs.Script.{ScriptValue, Actor, Process}
 use Rattle.gup_script.specs.Valid.{IsScript, KindFits}
 use Rattle.gup_script.specs.FirstPath.{IsFirstPath}
 use Rattle.gup_follows.specs.Place.{Place, ops_of, process_of, process_in, process_of_kind, starts_born, is_born, has_finished}
 use Rattle.gup_follows.specs.Follows.{notes_of_turn}
-use Rattle.gup_follows.specs.Order.{Turn, journal_of, behind}
-use Rattle.gup_turns.specs.Run.{RunState, run_start, run_after, turn_in, taken_in, op_in, waiting_in, is_ready, can_go, pointed, next_by, next_actor, Runs, IsCoreRun}
+use Rattle.gup_follows.specs.Order.{Turn, journal_of}
+use Rattle.gup_turns.specs.Run.{RunState, run_start, run_after, turn_in, taken_in, op_in, is_ready, can_go, next_actor, Runs, IsCoreRun}
 use Rattle.gup_turns.proofs.Scripts.{all_at}
-use Rattle.gup.specs.Machine.{MachineValue, NamesOnly, ShowsPage, Shows, TakesTurn, next_op, machine_by, machine_after, first_machine, counted}
+use Rattle.gup.specs.Machine.{MachineValue, Shows, TakesTurn, whats_of, whats_by, machine_whats, next_op, machine_by, machine_after, first_machine, counted}
 use Rattle.gup.specs.Ran.{HaveFinished}
 use Rattle.gup.proofs.Shown.{zeros-length}
-use Rattle.gup.proofs.Turns.{waits-none}
+use Rattle.gup.specs.Text.{outcomes_of}
+use Rattle.gup.specs.Cause.{AreKnown, operations}
+use Rattle.gup.proofs.Causes.{known-append, known_turn, one_outcome, outcomes-append, operations-first}
+use Rattle.gup.proofs.Turns.{waits-none, op_answered}
 use Rattle.gup.proofs.Scripts.{actor_is_first, few_ops}
 
 -- The machine shows a state of the core run, and whatever run goes on from there is, behind the notes so far, the
@@ -30,6 +33,9 @@ pub record Underway (script : ScriptValue) (m : MachineValue) (notes : List Note
   pub same : m.script ≡ script
   pub shown : Shows m page r
   pub turns : m.turns ≡ m.answered
+  pub within : m.answered ≤ length (ops_of script 0)
+  pub known : AreKnown notes
+  pub lines : length (outcomes_of notes) ≡ m.answered
   pub goes_on : (ts : List Turn) (end : RunState) → Runs script r ts end → IsCoreRun script (notes ++ journal_of (r.turns + 1) r.places ts) end
 
 -- the process of the one thread is born
@@ -82,6 +88,9 @@ underway-first script page valid form =
             turns = refl;
           };
       turns = refl;
+      within = omega arith;
+      known = tt;
+      lines = refl;
       goes_on = λ ts end runs. (ts, refl, runs);
     }
 
@@ -113,9 +122,9 @@ underway-end script m notes page r form done u =
     )
 
 -- a turn: one more operation is answered
-pub underway-turn : (script : ScriptValue) (m n : MachineValue) (notes told : List NoteValue) (page : ℕ) (r : RunState) → IsFirstPath script → leb (length (ops_of script 0)) m.answered ≡ false
-    → n ≡ machine_after m → TakesTurn m n page r told → Underway script m notes page r → Underway script n (notes ++ told) page (run_after script r 0)
-underway-turn script m n notes told page r form going after taken u =
+pub underway-turn : (script : ScriptValue) (m n : MachineValue) (notes told : List NoteValue) (page : ℕ) (r : RunState) (turn actor op : ℕ) → IsFirstPath script → leb (length (ops_of script 0)) m.answered ≡ false
+    → n ≡ machine_after m → told ≡ notes_of_turn turn actor op (machine_whats m) → TakesTurn m n page r told → Underway script m notes page r → Underway script n (notes ++ told) page (run_after script r 0)
+underway-turn script m n notes told page r turn actor op form going after noted taken u =
     let more : m.answered < length (ops_of script 0) = leb-false _ _ going in
     elim (slice_get_cases (ops_of script 0) m.answered).1 [
       | inl there ↦
@@ -132,10 +141,22 @@ underway-turn script m n notes told page r form going after taken u =
           let A : ScriptValue → Type 0 = λ s. Shows n page (run_after s r 0) in
           let B : ScriptValue → Type 0 = λ s. told ≡ notes_of_turn (r.turns + 1) 0 ((r.places 0).answered + 1) (taken_in s r 0).whats in
           let said = subst B u.same taken.said in
+          let answer = op_answered (process_of m.script 0) m.page there.0 in
+          let one : told ≡ notes_of_turn turn actor op (whats_of answer.0 answer.1) =
+          noted ∙ ap (λ ws. notes_of_turn turn actor op ws) (ap (whats_by m) next ∙ answer.3) in
+          let K : List NoteValue → Type 0 = λ ns. AreKnown ns in
+          let known : AreKnown told = subst K (sym one) (known_turn turn actor op answer.0 answer.1 answer.2) in
+          let line : length (outcomes_of told) ≡ 1 = ap (λ ns. length (outcomes_of ns)) one ∙ one_outcome turn actor op answer.0 answer.1 in
+          let before : length (outcomes_of notes) ≡ m.answered = u.lines in
+          let both = outcomes-append notes told in
+          let lines : length (outcomes_of (notes ++ told)) ≡ n.answered = omega arith in
           record {
             same = same;
             shown = subst A u.same taken.shown;
             turns = turns;
+            within = omega (arith, more, answered);
+            known = known-append notes told u.known known;
+            lines = lines;
             goes_on = λ ts end runs.
                 let behind : List NoteValue = journal_of ((run_after script r 0).turns + 1) (run_after script r 0).places ts in
                 let whole = u.goes_on (turn_in script r 0 ∷ ts) end (go, refl, runs) in
@@ -146,3 +167,13 @@ underway-turn script m n notes told page r form going after taken u =
           }
       | inr past ↦ absurd (omega (arith, past.0))
     ]
+
+-- all is answered at the end
+pub underway-lines : (script : ScriptValue) (m : MachineValue) (notes : List NoteValue) (page : ℕ) (r : RunState) → IsFirstPath script → leb (length (ops_of script 0)) m.answered ≡ true → Underway script m notes page r
+    → length (outcomes_of notes) ≡ operations script
+underway-lines script m notes page r form done u =
+    let over = leb-true (length (ops_of script 0)) m.answered done in
+    let all = operations-first script form in
+    let lines = u.lines in
+    let within = u.within in
+    omega arith

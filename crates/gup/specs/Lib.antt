@@ -3,3 +3,4 @@ pub mod Page
 pub mod Machine
 pub mod Ran
 pub mod Report
+pub mod Cause

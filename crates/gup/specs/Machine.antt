@@ -1,5 +1,5 @@
 -- The machine of the first path, and the states of the core run that it shows.
-use Rattle.std.specs.Prelude.{◌≡◌, ℕ, ◌+◌, ◌-◌, ◌^◌, ◌<◌, ◌≤◌, ◌==◌, Bool, true, false, if◌then◌else◌, List, [], ◌∷◌, Option, Some, None, IsSome, length, min, slice_get, slice_index, All, zero, suc}
+use Rattle.std.specs.Prelude.{◌≡◌, ℕ, ◌+◌, ◌-◌, ◌^◌, ◌<◌, ◌≤◌, ◌==◌, true, false, if◌then◌else◌, List, [], ◌∷◌, Option, Some, None, length, min, slice_get, slice_index, All, zero, suc}
 use Rattle.gup_base.specs.declared.entry.Entry.{Entry}
 use Rattle.gup_base.specs.declared.entry.Rights.{Rights}
 use Rattle.gup_base.specs.declared.entry.Zone.{Zone}
@@ -18,7 +18,7 @@ use Rattle.gup_script.specs.FirstPath.{IsOfPage, IsFirstPath}
 use Rattle.gup_script.specs.Valid.{IsScript}
 use Rattle.gup_script.specs.Script.{ScriptValue, Actor}
 use Rattle.gup_events.specs.State.{CoreState}
-use Rattle.gup_follows.specs.Place.{Place, ops_of, process_of, first_place}
+use Rattle.gup_follows.specs.Place.{ops_of, process_of}
 use Rattle.gup_follows.specs.Follows.{notes_of_turn}
 use Rattle.gup_turns.specs.Run.{RunState, taken_in, run_after}
 use Rattle.gup.specs.Page.{PageValue, references, zeros, allows_store, load_answer, loaded, store_answer, stored, map_answer, mapped, unmapped}

@@ -1,5 +1,5 @@
 -- The one page that a script of the first path names, and what each operation does to it.
-use Rattle.std.specs.Prelude.{◌≡◌, ℕ, ◌+◌, Bool, true, false, if◌then◌else◌, List, [], ◌∷◌, Option, Some, None, IsSome, length, replicate, slice_index, slice_set}
+use Rattle.std.specs.Prelude.{ℕ, Bool, true, false, List, Option, Some, None, replicate, slice_index, slice_set}
 use Rattle.gup_base.specs.declared.entry.Entry.{Entry}
 use Rattle.gup_base.specs.declared.entry.Rights.{Rights}
 use Rattle.gup_base.specs.declared.entry.Rights.TheVariants.{R, RW}

@@ -1,5 +1,5 @@
 -- What the top call is asked, and what it may answer.
-use Rattle.std.specs.Prelude.{◌≡◌, ℕ, ◌⊎◌, List, [], ◌∷◌, ◌++◌, codes, decimal, Option, None, Some}
+use Rattle.std.specs.Prelude.{◌≡◌, ℕ, ◌⊎◌, List, [], ◌∷◌, ◌++◌, codes, decimal, length, Option, None, Some}
 use Rattle.gup_plain.specs.Note.{NoteValue}
 use Rattle.gup_turns.specs.Run.{RunState, IsCoreRun}
 use Rattle.gup_io.specs.Faults.{HasCause}
@@ -8,6 +8,8 @@ use Rattle.gup_follows.specs.Follows.{Follows}
 use Rattle.gup_follows.specs.Order.{InOrder}
 use Rattle.gup.specs.declared.top.Unread.{Unread}
 use Rattle.gup.specs.declared.top.Unread.TheVariants.{Failed, Fault, NoMemory}
+use Rattle.gup.specs.Cause.{HasCauses, operations}
+use Rattle.gup.specs.Text.{outcomes_of}
 use Rattle.gup.specs.Ran.{HaveFinished}
 use Rattle.gup_script.specs.declared.refusal.Reason.{Reason}
 use Rattle.gup_script.specs.declared.refusal.Reason.TheVariants as reasons
@@ -82,3 +84,5 @@ pub record IsRunOf (script : ScriptValue) (notes : List NoteValue) : Type 0 wher
   pub in_order : InOrder script notes
   pub plain : IsPlain script notes
   pub core : IsFinishedRun script notes
+  pub causes : HasCauses script notes
+  pub lines : length (outcomes_of notes) ≡ operations script

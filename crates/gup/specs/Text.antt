@@ -1,5 +1,5 @@
 -- The text of a journal: a line for each answer, in order.
-use Rattle.std.specs.Prelude.{◌≡◌, ℕ, take, length, List, [], ◌∷◌, ◌++◌, codes, decimal, Option, Some, None}
+use Rattle.std.specs.Prelude.{◌≡◌, ℕ, take, length, List, [], ◌++◌, codes, decimal, Option, Some, None}
 use Rattle.std.specs.List.{flat_map, filter_map}
 use Rattle.gup_plain.specs.Note.{NoteValue}
 use Rattle.gup_plain.specs.declared.answer.Answer.{Answer}

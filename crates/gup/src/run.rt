@@ -1,9 +1,11 @@
 //! The order of a run: whose turn is next, to the end.
-ghost use Rattle.std.specs.Prelude.{◌≡◌, ℕ, ◌++◌, false, IfOk, OnOk};
+ghost use Rattle.std.specs.Prelude.{◌≡◌, ℕ, ◌++◌, false, length, IfOk, OnOk};
 ghost use Rattle.gup_plain.specs.Note.{NoteValue};
 ghost use Rattle.gup_turns.specs.Run.{RunState, IsCoreRun};
 ghost use Rattle.gup.specs.Machine.{first_machine};
+ghost use Rattle.gup.specs.Cause.{AreKnown, operations};
 ghost use Rattle.gup.specs.Ran.{HaveFinished};
+ghost use Rattle.gup.specs.Text.{outcomes_of};
 
 use crate::machine::Machine;
 use crate::turn::Turn;
@@ -24,6 +26,9 @@ pub struct Run {
 pub fn run_all(alloc: Global, machine: Machine, script: &Script) -> Result<Run, NoMemory>
     requires { machine ≡ first_machine script.now }
     ensures core { IfOk result (λ run. (end : RunState) × IsCoreRun script.now run.journal.notes end × HaveFinished script.now end) }
+    // Each operation is answered once, and each refusal has its cause in the plain state.
+    ensures known { IfOk result (λ run. AreKnown run.journal.notes) }
+    ensures lines { IfOk result (λ run. length (outcomes_of run.journal.notes) ≡ operations script.now) }
     ensures ends { IfOk result (λ run. run.stuck ≡ false) }
 {
     let mut machine = machine;

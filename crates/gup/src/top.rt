@@ -1,13 +1,15 @@
 //! The top call: what the program does, from its words and its bytes to its text.
-ghost use Rattle.std.specs.Prelude.{◌≡◌, ℕ, ◌⊎◌, List, [], None, Some, IsSome, IfSome, IfOk, IfErr, IsTrue, ◌↔◌, map, codes, string_bytes, length, take, ◌+◌};
+ghost use Rattle.std.specs.Prelude.{◌≡◌, ℕ, ◌⊎◌, List, [], None, Some, IsSome, IfSome, IfOk, OnOk, IfErr, Err, IsTrue, ◌↔◌, map, codes, string_bytes, length, take, ◌+◌};
 ghost use Rattle.std.specs.Io.KnownBytes.{Appends};
+ghost use Rattle.gup_io.specs.Transfers.{Loses, AppendsPart};
 ghost use Rattle.gup_io.specs.Faults.{HasCause};
 ghost use Rattle.gup_script.specs.Script.{ScriptValue};
 ghost use Rattle.gup_script.specs.FirstPath.{Accepts, HasFault};
 ghost use Rattle.gup_follows.specs.Plain.{IsPlain};
 ghost use Rattle.gup_follows.specs.Follows.{Follows};
 ghost use Rattle.gup_follows.specs.Order.{InOrder};
-ghost use Rattle.gup.specs.Text.{text_of};
+ghost use Rattle.gup.specs.Cause.{HasCauses, operations};
+ghost use Rattle.gup.specs.Text.{text_of, outcomes_of};
 ghost use Rattle.gup.specs.Report.{IsRun, IsStatus, OfScript, AreScript, IsFinishedRun, IsRunOf, IsScriptOf, IsUnreadFor, IsRefusedFor, usage, refusal_text};
 
 use crate::lines::{journal_text, refusal_line};
@@ -75,7 +77,11 @@ enum Unread {
 // Reads the source to its end, or past the length of a script, and the script that its bytes are.
 fn read<S: Source>(alloc: Global, source: &mut S) -> Result<Script, Unread>
     ensures script { IfOk result (λ script. IsScriptOf (S.remaining source.old) script) }
-    ensures unread { IfErr result (λ why. IsUnreadFor (S.remaining source.old) (S.faults source.old) (S.faults source.new) why) }
+    ensures unread { IfErr result
+        (λ why. IsUnreadFor (S.remaining source.old) (S.faults source.old) (S.faults source.new) why) }
+    ensures reading { Loses 0 1048577 (S.remaining source.old) (S.remaining source.new) }
+    ensures ended { OnOk result (IfSome (S.remaining source.old) (λ bytes. S.remaining source.new ≡ Some [])) }
+    ensures uncounted { (result ≡ Err Unread.Failed → ⊥) → S.faults source.new ≡ S.faults source.old }
 {
     let text = match read_up_to(alloc, source, READ_AT_MOST) {
         Ok(text) => text,
@@ -110,7 +116,9 @@ fn refuse<K: Sink>(alloc: Global, sink: &mut K, fault: ScriptFault) -> Report
     ensures refusal { result.refusal ≡ Some fault }
     ensures journal { result.journal.notes ≡ [] }
     ensures text { result.status ≡ 3 → Appends (K.taken sink.old) (K.taken sink.new) (refusal_text fault) }
+    ensures part { result.status ≡ 6 → AppendsPart (K.taken sink.old) (K.taken sink.new) (refusal_text fault) }
     ensures write_fault { result.status ≡ 6 → HasCause (K.faults sink.old) (K.faults sink.new) }
+    ensures uncounted { (result.status ≡ 6 → ⊥) → K.faults sink.new ≡ K.faults sink.old }
     ensures unwritten { result.status ≡ 7 → sink.new ≡ sink.old }
 {
     let Ok(text) = refusal_line(alloc, fault) else {
@@ -128,10 +136,13 @@ fn refuse<K: Sink>(alloc: Global, sink: &mut K, fault: ScriptFault) -> Report
 fn run_and_write<K: Sink>(alloc: Global, sink: &mut K, script: &Script) -> Report
     ensures statuses { (result.status ≡ 0) ⊎ (result.status ≡ 6) ⊎ (result.status ≡ 7) }
     ensures refusal { result.refusal ≡ None }
-    ensures run { result.status ≡ 0 → IsRunOf script.now result.journal.notes }
+    ensures run { (result.status ≡ 7 → ⊥) → IsRunOf script.now result.journal.notes }
     ensures text { result.status ≡ 0
         → Appends (K.taken sink.old) (K.taken sink.new) (text_of script.now result.journal.notes) }
+    ensures part { result.status ≡ 6
+        → AppendsPart (K.taken sink.old) (K.taken sink.new) (text_of script.now result.journal.notes) }
     ensures write_fault { result.status ≡ 6 → HasCause (K.faults sink.old) (K.faults sink.new) }
+    ensures uncounted { (result.status ≡ 6 → ⊥) → K.faults sink.new ≡ K.faults sink.old }
     ensures unwritten { result.status ≡ 7 → sink.new ≡ sink.old }
     ensures unrun { result.status ≡ 7 → result.journal.notes ≡ [] }
 {
@@ -156,7 +167,9 @@ fn show_usage<K: Sink>(alloc: Global, sink: &mut K) -> Report
     ensures refusal { result.refusal ≡ None }
     ensures journal { result.journal.notes ≡ [] }
     ensures text { result.status ≡ 2 → Appends (K.taken sink.old) (K.taken sink.new) usage }
+    ensures part { result.status ≡ 6 → AppendsPart (K.taken sink.old) (K.taken sink.new) usage }
     ensures write_fault { result.status ≡ 6 → HasCause (K.faults sink.old) (K.faults sink.new) }
+    ensures uncounted { (result.status ≡ 6 → ⊥) → K.faults sink.new ≡ K.faults sink.old }
 {
     let status = if write_all(sink, b"usage: gup COMMAND\n").is_ok() {
         2
@@ -192,8 +205,21 @@ pub fn gup<S: Source, K: Sink>(
     ensures core { result.status ≡ 0
         → OfScript (S.remaining source.old) (λ script. IsFinishedRun script result.journal.notes) }
 
-    // Which statuses there are. Status 2 comes exactly where the words are no command, unless the sink fails.
+    // Each operation has one answer, and each refusal its cause in the plain state.
+    ensures lines { result.status ≡ 0 → OfScript (S.remaining source.old)
+        (λ script. length (outcomes_of result.journal.notes) ≡ operations script) }
+    ensures causes { result.status ≡ 0
+        → OfScript (S.remaining source.old) (λ script. HasCauses script result.journal.notes) }
+
+    // Which statuses there are. Words that are a command and bytes that are a script give status 0, where neither
+    // the source nor the sink has failed, unless memory runs out.
     ensures statuses { IsStatus result.status }
+    ensures complete { IsRun (map string_bytes words.now)
+        → (HasCause (S.faults source.old) (S.faults source.new) → ⊥)
+        → (HasCause (K.faults sink.old) (K.faults sink.new) → ⊥)
+        → OfScript (S.remaining source.old) (λ script. (result.status ≡ 0) ⊎ (result.status ≡ 7)) }
+
+    // Status 2 comes exactly where the words are no command, unless the sink fails.
     ensures usage { result.status ≡ 2 → IsRun (map string_bytes words.now) → ⊥ }
     ensures no_command { (IsRun (map string_bytes words.now) → ⊥) → (result.status ≡ 2) ⊎ (result.status ≡ 6) }
     ensures unread { (IsRun (map string_bytes words.now) → ⊥) → source.new ≡ source.old }
@@ -206,10 +232,23 @@ pub fn gup<S: Source, K: Sink>(
     ensures refusal_text { result.status ≡ 3 → IfSome result.refusal
         (λ fault. Appends (K.taken sink.old) (K.taken sink.new) (refusal_text fault)) }
 
-    // The outside has failed where a status says so, and the status of a read comes before anything is written.
+    // Status 5 comes exactly where a read failed, and then nothing is written. The source is read to its end, to its
+    // first fault, or until one byte more than a script may have was given.
     ensures read_fault { result.status ≡ 5 → HasCause (S.faults source.old) (S.faults source.new) }
-    ensures write_fault { result.status ≡ 6 → HasCause (K.faults sink.old) (K.faults sink.new) }
+    ensures no_read_fault { (result.status ≡ 5 → ⊥) → S.faults source.new ≡ S.faults source.old }
+    ensures reading { Loses 0 1048577 (S.remaining source.old) (S.remaining source.new) }
     ensures unwritten { (result.status ≡ 5) ⊎ (result.status ≡ 7) → sink.new ≡ sink.old }
+
+    // Status 6 comes exactly where a write failed, in place of 0, 2 and 3, and what was taken is a front of the text.
+    ensures write_fault { result.status ≡ 6 → HasCause (K.faults sink.old) (K.faults sink.new) }
+    ensures no_write_fault { (result.status ≡ 6 → ⊥) → K.faults sink.new ≡ K.faults sink.old }
+    ensures usage_part { result.status ≡ 6 → (IsRun (map string_bytes words.now) → ⊥)
+        → AppendsPart (K.taken sink.old) (K.taken sink.new) usage }
+    ensures refusal_part { result.status ≡ 6 → IfSome result.refusal
+        (λ fault. AppendsPart (K.taken sink.old) (K.taken sink.new) (refusal_text fault)) }
+    ensures text_part { result.status ≡ 6 → IsRun (map string_bytes words.now) → OfScript (S.remaining source.old)
+        (λ script. IsRunOf script result.journal.notes
+        × AppendsPart (K.taken sink.old) (K.taken sink.new) (text_of script result.journal.notes)) }
 
     // No script ran.
     ensures unrun { (result.status ≡ 2) ⊎ (result.status ≡ 3) ⊎ (result.status ≡ 5) ⊎ (result.status ≡ 7)

@@ -106,6 +106,7 @@ happens s (drop_entry a p page was) =
     record s {
       entry = put2 p page None s.entry;
       right = put2 p page None s.right;
+      object = put2 p page 0 s.object;
       pages = put p (s.pages p - 1) s.pages;
       owed = put a (option_map (λ (e : Entry). e.frame) was) s.owed;
     }

@@ -31,6 +31,10 @@ happened s (Map actor p page n rights) =
       pages = put p (s.pages p + n) s.pages;
     }
 happened s (Unmap actor p page) =
-    record s { right = put2 p page None s.right; pages = put p (s.pages p - 1) s.pages }
+    record s {
+      right = put2 p page None s.right;
+      object = put2 p page 0 s.object;
+      pages = put p (s.pages p - 1) s.pages;
+    }
 happened s (Load actor p page word value) = s
 happened s (Store actor p page word value) = record s { content = put2 (s.object p page) word value s.content }

@@ -1,4 +1,4 @@
-use Rattle.std.proofs.Common.{◌≡◌, ℕ, ◌-◌, ◌^◌, ◌+◌, ◌<◌, Option, Some, None, inl, inr, List, [], ◌++◌, sym, subst, ◌∙◌, ap, arith, true, false, leb, length}
+use Rattle.std.proofs.Common.{◌≡◌, ℕ, ◌-◌, ◌^◌, ◌<◌, Option, Some, None, inl, inr, List, [], sym, subst, ◌∙◌, ap, arith, true, false, leb, length}
 use Rattle.gup_plain.specs.Note.{NoteValue}
 use Rattle.gup_turns.specs.Run.{RunState, run_start, run_after}
 use Rattle.gup_follows.specs.Place.{ops_of}
@@ -8,8 +8,8 @@ use Rattle.std.proofs.lemmas.Option.{slice_get_cases}
 use Rattle.gup_script.specs.declared.op.Op.{Op}
 use Rattle.gup_script.specs.Script.{ScriptValue}
 use Rattle.gup.proofs.Scripts.{few_ops}
-use Rattle.gup.specs.Machine.{MachineValue, NamesOnly, machine_by, machine_after, first_machine}
-use Rattle.gup.proofs.Underway.{Underway, underway-first, underway-turn, underway-end}
+use Rattle.gup.specs.Machine.{MachineValue, NamesOnly, machine_by, machine_after}
+use Rattle.gup.proofs.Underway.{Underway, underway-first, underway-turn, underway-end, underway-lines}
 use Rattle.gup.proofs.run.run_all.Goals as goal
 
 pub turns-init : goal.turns-init
@@ -49,7 +49,7 @@ turns-preserved c =
     let few : c.turns.machine.turns < 2 ^ 32 - 1 = omega (arith, leb-false _ _ go, few_ops script form, u.turns) in
     let taken = c.turn-turn.ensures.core page r names few u.shown in
     let Q : List NoteValue → Type 0 = λ ns. Underway script c.turn-turn.new.self ns page (run_after script r 0) in
-    (page, inv.1, (run_after script r 0, subst Q (sym c.in_ok-push_turn.ensures) (underway-turn script c.turns.machine c.turn-turn.new.self c.turns.journal.notes c.turn-turn.result page r form go c.turn-turn.ensures.machine taken u)))
+    (page, inv.1, (run_after script r 0, subst Q (sym c.in_ok-push_turn.ensures) (underway-turn script c.turns.machine c.turn-turn.new.self c.turns.journal.notes c.turn-turn.result page r _ _ _ form go c.turn-turn.ensures.machine c.turn-turn.ensures.notes taken u)))
 
 -- one more is answered
 smaller : (m n : MachineValue) → n ≡ machine_after m → m.answered < length (ops_of m.script 0) → length (ops_of n.script 0) - n.answered < length (ops_of m.script 0) - m.answered
@@ -69,11 +69,22 @@ turns-smaller c =
     let P : ScriptValue → Type 0 = λ s. c.turns.machine.answered < length (ops_of s 0) in
     smaller c.turns.machine c.turn-turn.new.self c.turn-turn.ensures.machine (subst P (sym u.same) (leb-false _ _ (going c inv.0 inv.2.0 u)))
 
+-- at the end nothing is left
+done : (c : goal.After-turns) → (page : ℕ) (r : RunState) → Underway c.args.script.now c.turns.machine c.turns.journal.notes page r → leb (length (ops_of c.args.script.now 0)) c.turns.machine.answered ≡ true
+done c page r u =
+    let actor = first c.new.result c.unwrap-actor.result c.new.ensures.value c.unwrap-actor.ensures in
+    let ops : ops_of c.turns.machine.script c.unwrap-actor.result ≡ ops_of c.args.script.now 0 = ap (ops_of c.turns.machine.script) actor ∙ ap (λ (s : ScriptValue). ops_of s 0) u.same in
+    ap (λ (os : List Op). leb (length os) c.turns.machine.answered) (sym ops) ∙ sym c.finished.ensures ∙ c.turns-test.false
+
 pub returns-clause-core : goal.returns-clause-core
 returns-clause-core c =
     let inv = c.turns.invariant in
-    let u = inv.2.1 in
-    let actor = first c.new.result c.unwrap-actor.result c.new.ensures.value c.unwrap-actor.ensures in
-    let ops : ops_of c.turns.machine.script c.unwrap-actor.result ≡ ops_of c.args.script.now 0 = ap (ops_of c.turns.machine.script) actor ∙ ap (λ (s : ScriptValue). ops_of s 0) u.same in
-    let done : leb (length (ops_of c.args.script.now 0)) c.turns.machine.answered ≡ true = ap (λ (os : List Op). leb (length os) c.turns.machine.answered) (sym ops) ∙ sym c.finished.ensures ∙ c.turns-test.false in
-    underway-end c.args.script.now c.turns.machine c.turns.journal.notes inv.0 inv.2.0 c.actors-actors.ensures.form done u
+    underway-end c.args.script.now c.turns.machine c.turns.journal.notes inv.0 inv.2.0 c.actors-actors.ensures.form (done c inv.0 inv.2.0 inv.2.1) inv.2.1
+
+pub returns-clause-known : goal.returns-clause-known
+returns-clause-known c = c.turns.invariant.2.1.known
+
+pub returns-clause-lines : goal.returns-clause-lines
+returns-clause-lines c =
+    let inv = c.turns.invariant in
+    underway-lines c.args.script.now c.turns.machine c.turns.journal.notes inv.0 inv.2.0 c.actors-actors.ensures.form (done c inv.0 inv.2.0 inv.2.1) inv.2.1

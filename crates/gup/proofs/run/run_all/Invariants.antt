@@ -1,6 +1,4 @@
-use Rattle.std.proofs.Common.{◌≡◌, ◌-◌, ℕ, length}
-use Rattle.gup_script.specs.Valid.{IsScript}
-use Rattle.gup_script.specs.FirstPath.{IsFirstPath}
+use Rattle.std.proofs.Common.{◌-◌, ℕ, length}
 use Rattle.gup_follows.specs.Place.{ops_of}
 use Rattle.gup_turns.specs.Run.{RunState}
 use Rattle.gup.specs.Machine.{NamesOnly}

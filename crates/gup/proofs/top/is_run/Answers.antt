@@ -1,4 +1,4 @@
-use Rattle.std.proofs.Common.{◌≡◌, ℕ, ◌<◌, ◌≤◌, List, [], ◌∷◌, map, length, get_or, sym, ap, subst, ◌∙◌, arith, IsTrue, Bool}
+use Rattle.std.proofs.Common.{◌≡◌, ℕ, ◌<◌, ◌≤◌, List, [], ◌∷◌, map, length, get_or, sym, ap, ◌∙◌, arith, IsTrue, Bool}
 use Rattle.std.specs.Prelude.{codes, ◌↔◌, string_bytes}
 use Rattle.gup.specs.Report.{IsRun}
 use Rattle.gup.proofs.top.is_run.Goals as goal

@@ -1,4 +1,4 @@
-use Rattle.std.proofs.Common.{◌≡◌, ℕ, ap, sym, ◌∙◌}
+use Rattle.std.proofs.Common.{◌≡◌, ℕ, ap, ◌∙◌}
 use Rattle.gup.specs.Page.{references}
 use Rattle.gup.specs.Machine.{MachineValue, free_beside}
 use Rattle.gup.proofs.Free.{free_shown}
