@@ -1,13 +1,10 @@
 ghost use Rattle.std.specs.Prelude.{None};
 
 use super::*;
-use crate::lines::{outcomes, push_line};
 use crate::machine::Machine;
-use crate::run::run_all;
 use crate::top::Report;
 use gup_base::ActorNo;
 use gup_io::{Failed, MemSink, MemSource, Sink, Source, SureSource};
-use gup_plain::{Answer, What};
 use gup_script::{Reason, ScriptFault, read_script};
 use std::alloc::{AllocError, Global};
 use std::process::Abort;
@@ -270,28 +267,16 @@ fn each_read_and_each_write_fails(rt: HostRuntime) -> Result<(), Fail> {
     expect_faults(&rt, rt.alloc(), 0, text.len() as u64 + 1, 0, text)
 }
 
+// The calls of a machine that a run makes are tried by the runs above: this is the one that none makes.
 #[test]
-fn a_machine_by_hand(rt: HostRuntime) -> Result<(), Fail> {
+fn nobody_waits(rt: HostRuntime) -> Result<(), Fail> {
     let script = read_script(rt.alloc(), FIRST.as_bytes())
         .ok()
         .ok_or("the text is a script")?;
     let _actors = script.actors();
     let actor = ActorNo::new(0).ok_or("an actor")?;
-    let mut machine = Machine::new(rt.alloc(), &script)?;
-    assert!(rt; !machine.finished(actor));
+    let machine = Machine::new(rt.alloc(), &script)?;
     assert_eq!(rt; machine.waits(actor), None);
-    let turn = machine.turn(actor);
-    let said = turn.notes();
-    assert_eq!(rt; said.len(), 2);
-    assert_eq!(rt; (said[1].turn(), said[1].op()), (1, 1));
-    assert_eq!(rt; said[1].what(), What::Done(Answer::Plain));
-
-    let run = run_all(rt.alloc(), Machine::new(rt.alloc(), &script)?, &script)?;
-    assert!(rt; !run.stuck);
-    let answers = outcomes(rt.alloc(), &run.journal)?;
-    assert_eq!(rt; answers.all().len(), 6);
-    let mut text = Vec::new(rt.alloc());
-    push_line(&script, &answers.all()[3], &mut text)?;
-    assert_eq!(rt; text.as_slice(), b"t 4 ok 7\n".as_slice());
+    assert!(rt; !machine.finished(actor));
     Ok(())
 }
