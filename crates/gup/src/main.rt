@@ -6,6 +6,8 @@ mod lines;
 mod machine;
 mod page;
 mod run;
+#[cfg(test)]
+mod tests;
 mod top;
 mod turn;
 
