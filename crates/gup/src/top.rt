@@ -250,7 +250,9 @@ pub fn gup<S: Source, K: Sink>(
         (λ script. IsRunOf script result.journal.notes
         × AppendsPart (K.taken sink.old) (K.taken sink.new) (text_of script result.journal.notes)) }
 
-    // No script ran.
+    // A refusal is there exactly where a script was refused, and a journal only where one ran.
+    ensures no_refusal { (result.status ≡ 0) ⊎ (result.status ≡ 2) ⊎ (result.status ≡ 5) → result.refusal ≡ None }
+    ensures refused_unrun { IfSome result.refusal (λ fault. result.journal.notes ≡ []) }
     ensures unrun { (result.status ≡ 2) ⊎ (result.status ≡ 3) ⊎ (result.status ≡ 5) ⊎ (result.status ≡ 7)
         → result.journal.notes ≡ [] }
 {
