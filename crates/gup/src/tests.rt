@@ -3,7 +3,7 @@ ghost use Rattle.std.specs.Prelude.{None};
 use super::*;
 use crate::machine::Machine;
 use crate::top::Report;
-use gup_base::ActorNo;
+use gup_base::{ActorNo, Zone};
 use gup_io::{Failed, MemSink, MemSource, Sink, Source, SureSource};
 use gup_script::{Reason, ScriptFault, read_script};
 use std::alloc::{AllocError, Global};
@@ -267,16 +267,20 @@ fn each_read_and_each_write_fails(rt: HostRuntime) -> Result<(), Fail> {
     expect_faults(&rt, rt.alloc(), 0, text.len() as u64 + 1, 0, text)
 }
 
-// The calls of a machine that a run makes are tried by the runs above: this is the one that none makes.
+// A machine by hand, and its first turn, which maps the page.
 #[test]
-fn nobody_waits(rt: HostRuntime) -> Result<(), Fail> {
+fn first_turn(rt: HostRuntime) -> Result<(), Fail> {
     let script = read_script(rt.alloc(), FIRST.as_bytes())
         .ok()
         .ok_or("the text is a script")?;
     let _actors = script.actors();
     let actor = ActorNo::new(0).ok_or("an actor")?;
-    let machine = Machine::new(rt.alloc(), &script)?;
+    let mut machine = Machine::new(rt.alloc(), &script)?;
     assert_eq!(rt; machine.waits(actor), None);
     assert!(rt; !machine.finished(actor));
+    let turn = machine.turn(actor);
+    assert_eq!(rt; turn.notes().len(), 2);
+    assert_eq!(rt; machine.free_frames(Zone::Movable), 8);
+    assert_eq!(rt; machine.free_frames(Zone::Normal), 8);
     Ok(())
 }
