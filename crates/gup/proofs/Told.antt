@@ -54,3 +54,8 @@ loses_first most (Some bytes) new rest = by_test (leb most (length bytes)) refl
 pub read_all : (told new : Option (List ℕ)) (s : ScriptValue) → IsScriptOf told s → IfSome told (λ bytes. new ≡ Some (drop 1048577 bytes)) → IfSome told (λ bytes. new ≡ Some [])
 read_all None new s is rest = tt
 read_all (Some bytes) new s is rest = rest ∙ ap (λ (xs : List ℕ). Some xs) (drop_all 1048577 bytes (omega (arith, is.2)))
+
+-- what holds at all holds of the script
+pub of_any : (told : Option (List ℕ)) (P : Type 0) → P → OfScript told (λ script. P)
+of_any None P p = tt
+of_any (Some bytes) P p = λ script is. p

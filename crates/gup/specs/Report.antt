@@ -1,5 +1,5 @@
 -- What the top call is asked, and what it may answer.
-use Rattle.std.specs.Prelude.{◌≡◌, ℕ, ◌⊎◌, List, [], ◌∷◌, ◌++◌, codes, decimal, length, Option, None, Some}
+use Rattle.std.specs.Prelude.{◌≡◌, ℕ, ◌⊎◌, List, [], ◌∷◌, ◌++◌, codes, decimal, drop, length, Option, None, Some}
 use Rattle.gup_plain.specs.Note.{NoteValue}
 use Rattle.gup_turns.specs.Run.{RunState, IsCoreRun}
 use Rattle.gup_io.specs.Faults.{HasCause}
@@ -86,3 +86,14 @@ pub record IsRunOf (script : ScriptValue) (notes : List NoteValue) : Type 0 wher
   pub core : IsFinishedRun script notes
   pub causes : HasCauses script notes
   pub lines : length (outcomes_of notes) ≡ operations script
+
+-- told bytes are read to their end, or so far that no script is that long
+abbrev pub IsReadThrough : Option (List ℕ) → Option (List ℕ) → Type 0
+IsReadThrough None after = Unit {0}
+IsReadThrough (Some bytes) after = after ≡ Some (drop 1048577 bytes)
+
+-- a fact for the case that the bytes are no script
+abbrev pub IfFault : Unread → Type 0 → Type 0
+IfFault (Fault fault) P = P
+IfFault Failed P = Unit {0}
+IfFault NoMemory P = Unit {0}

@@ -10,7 +10,7 @@ ghost use Rattle.gup_follows.specs.Follows.{Follows};
 ghost use Rattle.gup_follows.specs.Order.{InOrder};
 ghost use Rattle.gup.specs.Cause.{HasCauses, operations};
 ghost use Rattle.gup.specs.Text.{text_of, outcomes_of};
-ghost use Rattle.gup.specs.Report.{IsRun, IsStatus, OfScript, AreScript, IsFinishedRun, IsRunOf, IsScriptOf, IsUnreadFor, IsRefusedFor, usage, refusal_text};
+ghost use Rattle.gup.specs.Report.{IsRun, IsStatus, OfScript, AreScript, IsFinishedRun, IsRunOf, IsScriptOf, IsUnreadFor, IsRefusedFor, IsReadThrough, IfFault, usage, refusal_text};
 
 use crate::lines::{journal_text, refusal_line};
 use crate::machine::Machine;
@@ -80,7 +80,9 @@ fn read<S: Source>(alloc: Global, source: &mut S) -> Result<Script, Unread>
     ensures unread { IfErr result
         (λ why. IsUnreadFor (S.remaining source.old) (S.faults source.old) (S.faults source.new) why) }
     ensures reading { Loses 0 1048577 (S.remaining source.old) (S.remaining source.new) }
-    ensures ended { OnOk result (IfSome (S.remaining source.old) (λ bytes. S.remaining source.new ≡ Some [])) }
+    ensures ended { OnOk result (IsReadThrough (S.remaining source.old) (S.remaining source.new)) }
+    ensures refused { IfErr result
+        (λ why. IfFault why (IsReadThrough (S.remaining source.old) (S.remaining source.new))) }
     ensures uncounted { (result ≡ Err Unread.Failed → ⊥) → S.faults source.new ≡ S.faults source.old }
 {
     let text = match read_up_to(alloc, source, READ_AT_MOST) {
@@ -237,6 +239,8 @@ pub fn gup<S: Source, K: Sink>(
     ensures read_fault { result.status ≡ 5 → HasCause (S.faults source.old) (S.faults source.new) }
     ensures no_read_fault { (result.status ≡ 5 → ⊥) → S.faults source.new ≡ S.faults source.old }
     ensures reading { Loses 0 1048577 (S.remaining source.old) (S.remaining source.new) }
+    ensures read_through { IsRun (map string_bytes words.now) → (result.status ≡ 5 → ⊥) → (result.status ≡ 7 → ⊥)
+        → IsReadThrough (S.remaining source.old) (S.remaining source.new) }
     ensures unwritten { (result.status ≡ 5) ⊎ (result.status ≡ 7) → sink.new ≡ sink.old }
 
     // Status 6 comes exactly where a write failed, in place of 0, 2 and 3, and what was taken is a front of the text.

@@ -1,7 +1,7 @@
 use Rattle.std.proofs.Common.{List, ℕ, subst}
 use Rattle.gup_script.specs.declared.refusal.ReadRefusal.{ReadRefusal}
 use Rattle.gup_script.specs.FirstPath.{Accepts, HasFault, IsRefusalOf}
-use Rattle.gup.proofs.Told.{told_script, told_none, loses_first, read_all}
+use Rattle.gup.proofs.Told.{told_script, told_none, loses_first}
 use Rattle.gup.proofs.top.read.Goals as goal
 
 pub returns-in-Ok-read_script-clause-script : goal.returns-in-Ok-read_script-clause-script
@@ -19,13 +19,6 @@ returns-in-Err-Fault-clause-unread g c =
 
 pub returns-in-Ok-read_script-clause-reading : goal.returns-in-Ok-read_script-clause-reading
 returns-in-Ok-read_script-clause-reading g c = loses_first 1048577 (g.S.Source.remaining c.args.source.now) _ c.in-Ok.ensures.rest
-
-pub returns-in-Ok-read_script-clause-ended : goal.returns-in-Ok-read_script-clause-ended
-returns-in-Ok-read_script-clause-ended g c =
-    let s = c.in-Ok-read_script.script in
-    let P : List ℕ → Type 0 = λ v. Accepts v s in
-    let is = told_script (g.S.Source.remaining c.args.source.now) c.in-Ok.text.items s c.in-Ok.ensures.bytes (subst P c.as_slice.ensures.value c.in-Ok-read_script.ensures.script) in
-    read_all (g.S.Source.remaining c.args.source.now) _ s is c.in-Ok.ensures.rest
 
 pub returns-in-Err-Fault-clause-reading : goal.returns-in-Err-Fault-clause-reading
 returns-in-Err-Fault-clause-reading g c = loses_first 1048577 (g.S.Source.remaining c.args.source.now) _ c.in-Ok.ensures.rest
