@@ -1,5 +1,5 @@
 -- The plain state.
-use Rattle.std.specs.Prelude.{◌≡◌, ℕ, Bool, false, if◌then◌else◌, List, [], Option, None, IsSome}
+use Rattle.std.specs.Prelude.{◌≡◌, ℕ, Bool, false, if◌then◌else◌, List, [], Option, None, Some, IsSome}
 use Rattle.gup_base.specs.declared.entry.Rights.{Rights}
 
 -- A process is declared, then perhaps brought by a fork, in whose course it grows. A fork that fails leaves it
@@ -67,6 +67,18 @@ start is_born =
       store = λ _ _. 0;
       slot = λ _. None;
     }
+
+-- the objects of a handle that is made, in the order of its pages
+abbrev pub objects_of : Handle → List ℕ
+objects_of (held by objects write) = objects
+objects_of (given to objects write) = objects
+objects_of unmade = []
+objects_of gone = []
+
+-- the object where there are rights, and 0 where there are none
+abbrev pub named_or_zero : Option Rights → ℕ → ℕ
+named_or_zero None object = 0
+named_or_zero (Some rights) object = object
 
 -- the page of a born process is named
 abbrev pub IsNamed : PlainState → ℕ → ℕ → Type 0

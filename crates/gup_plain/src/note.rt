@@ -3,7 +3,7 @@ ghost use Rattle.gup_plain.specs.Kinds.{kind_of, kind_of_waiting, kind_of_event,
 
 use crate::answer::{Answer, Cause};
 use crate::event::PlainEvent;
-use gup_base::{ActorNo, HandleNo, PageNo, ProcNo, Rights, WordNo};
+use gup_base::{ActorNo, HandleNo, MirrorNo, PageNo, ProcNo, Rights, WordNo};
 use std::marker::Model;
 
 /// What one note of a turn says.
@@ -120,6 +120,18 @@ enum Kind {
         proc: ProcNo,
         page: PageNo,
     },
+    Discard {
+        actor: ActorNo,
+        proc: ProcNo,
+        page: PageNo,
+    },
+    Protect {
+        actor: ActorNo,
+        proc: ProcNo,
+        rights: Rights,
+        n: u16,
+        page: PageNo,
+    },
     Load {
         actor: ActorNo,
         proc: ProcNo,
@@ -133,6 +145,81 @@ enum Kind {
         word: WordNo,
         page: PageNo,
         value: u64,
+    },
+    PinTry {
+        actor: ActorNo,
+        proc: ProcNo,
+        write: bool,
+        page: PageNo,
+    },
+    PinDrop {
+        actor: ActorNo,
+        page: PageNo,
+    },
+    PinOk {
+        actor: ActorNo,
+        handle: HandleNo,
+    },
+    Unpin {
+        actor: ActorNo,
+        handle: HandleNo,
+    },
+    Give {
+        actor: ActorNo,
+        to: ActorNo,
+        handle: HandleNo,
+    },
+    Take {
+        actor: ActorNo,
+        handle: HandleNo,
+    },
+    MoveOut {
+        actor: ActorNo,
+        handle: HandleNo,
+        index: u32,
+        slot: u32,
+        value: u64,
+    },
+    MoveIn {
+        actor: ActorNo,
+        handle: HandleNo,
+        index: u32,
+        slot: u32,
+        value: u64,
+    },
+    MirrorFill {
+        actor: ActorNo,
+        proc: ProcNo,
+        mirror: MirrorNo,
+        page: PageNo,
+    },
+    Look {
+        actor: ActorNo,
+        mirror: MirrorNo,
+        word: WordNo,
+        value: u64,
+    },
+    ForkBegin {
+        parent: ProcNo,
+        child: ProcNo,
+    },
+    ForkPage {
+        parent: ProcNo,
+        child: ProcNo,
+        page: PageNo,
+    },
+    ForkWord {
+        parent: ProcNo,
+        child: ProcNo,
+        word: WordNo,
+        page: PageNo,
+    },
+    ForkEnd {
+        parent: ProcNo,
+        child: ProcNo,
+    },
+    ForkFail {
+        child: ProcNo,
     },
     DonePlain,
     DoneWords,
@@ -199,6 +286,20 @@ impl Kind {
                 page,
             },
             PlainEvent::Unmap { actor, proc, page } => Kind::Unmap { actor, proc, page },
+            PlainEvent::Discard { actor, proc, page } => Kind::Discard { actor, proc, page },
+            PlainEvent::Protect {
+                actor,
+                proc,
+                page,
+                n,
+                rights,
+            } => Kind::Protect {
+                actor,
+                proc,
+                rights,
+                n,
+                page,
+            },
             PlainEvent::Load {
                 actor,
                 proc,
@@ -225,6 +326,93 @@ impl Kind {
                 page,
                 value,
             },
+            PlainEvent::PinTry {
+                actor,
+                proc,
+                page,
+                write,
+            } => Kind::PinTry {
+                actor,
+                proc,
+                write,
+                page,
+            },
+            PlainEvent::PinDrop { actor, page } => Kind::PinDrop { actor, page },
+            PlainEvent::PinOk { actor, handle } => Kind::PinOk { actor, handle },
+            PlainEvent::Unpin { actor, handle } => Kind::Unpin { actor, handle },
+            PlainEvent::Give { actor, handle, to } => Kind::Give { actor, to, handle },
+            PlainEvent::Take { actor, handle } => Kind::Take { actor, handle },
+            PlainEvent::MoveOut {
+                actor,
+                handle,
+                index,
+                slot,
+                value,
+            } => Kind::MoveOut {
+                actor,
+                handle,
+                index,
+                slot,
+                value,
+            },
+            PlainEvent::MoveIn {
+                actor,
+                handle,
+                index,
+                slot,
+                value,
+            } => Kind::MoveIn {
+                actor,
+                handle,
+                index,
+                slot,
+                value,
+            },
+            PlainEvent::MirrorFill {
+                actor,
+                mirror,
+                proc,
+                page,
+            } => Kind::MirrorFill {
+                actor,
+                proc,
+                mirror,
+                page,
+            },
+            PlainEvent::Look {
+                actor,
+                mirror,
+                word,
+                value,
+            } => Kind::Look {
+                actor,
+                mirror,
+                word,
+                value,
+            },
+            PlainEvent::ForkBegin { parent, child } => Kind::ForkBegin { parent, child },
+            PlainEvent::ForkPage {
+                parent,
+                child,
+                page,
+            } => Kind::ForkPage {
+                parent,
+                child,
+                page,
+            },
+            PlainEvent::ForkWord {
+                parent,
+                child,
+                page,
+                word,
+            } => Kind::ForkWord {
+                parent,
+                child,
+                word,
+                page,
+            },
+            PlainEvent::ForkEnd { parent, child } => Kind::ForkEnd { parent, child },
+            PlainEvent::ForkFail { child } => Kind::ForkFail { child },
         }
     }
 
@@ -290,6 +478,24 @@ impl Kind {
                 proc,
                 page,
             }),
+            Kind::Discard { actor, proc, page } => What::Event(PlainEvent::Discard {
+                actor,
+                proc,
+                page,
+            }),
+            Kind::Protect {
+                actor,
+                proc,
+                rights,
+                n,
+                page,
+            } => What::Event(PlainEvent::Protect {
+                actor,
+                proc,
+                page,
+                n,
+                rights,
+            }),
             Kind::Load {
                 actor,
                 proc,
@@ -316,6 +522,96 @@ impl Kind {
                 word,
                 value,
             }),
+            Kind::PinTry {
+                actor,
+                proc,
+                write,
+                page,
+            } => What::Event(PlainEvent::PinTry {
+                actor,
+                proc,
+                page,
+                write,
+            }),
+            Kind::PinDrop { actor, page } => What::Event(PlainEvent::PinDrop { actor, page }),
+            Kind::PinOk { actor, handle } => What::Event(PlainEvent::PinOk { actor, handle }),
+            Kind::Unpin { actor, handle } => What::Event(PlainEvent::Unpin { actor, handle }),
+            Kind::Give { actor, to, handle } => What::Event(PlainEvent::Give { actor, handle, to }),
+            Kind::Take { actor, handle } => What::Event(PlainEvent::Take { actor, handle }),
+            Kind::MoveOut {
+                actor,
+                handle,
+                index,
+                slot,
+                value,
+            } => What::Event(PlainEvent::MoveOut {
+                actor,
+                handle,
+                index,
+                slot,
+                value,
+            }),
+            Kind::MoveIn {
+                actor,
+                handle,
+                index,
+                slot,
+                value,
+            } => What::Event(PlainEvent::MoveIn {
+                actor,
+                handle,
+                index,
+                slot,
+                value,
+            }),
+            Kind::MirrorFill {
+                actor,
+                proc,
+                mirror,
+                page,
+            } => What::Event(PlainEvent::MirrorFill {
+                actor,
+                mirror,
+                proc,
+                page,
+            }),
+            Kind::Look {
+                actor,
+                mirror,
+                word,
+                value,
+            } => What::Event(PlainEvent::Look {
+                actor,
+                mirror,
+                word,
+                value,
+            }),
+            Kind::ForkBegin { parent, child } => What::Event(PlainEvent::ForkBegin {
+                parent,
+                child,
+            }),
+            Kind::ForkPage {
+                parent,
+                child,
+                page,
+            } => What::Event(PlainEvent::ForkPage {
+                parent,
+                child,
+                page,
+            }),
+            Kind::ForkWord {
+                parent,
+                child,
+                word,
+                page,
+            } => What::Event(PlainEvent::ForkWord {
+                parent,
+                child,
+                page,
+                word,
+            }),
+            Kind::ForkEnd { parent, child } => What::Event(PlainEvent::ForkEnd { parent, child }),
+            Kind::ForkFail { child } => What::Event(PlainEvent::ForkFail { child }),
             Kind::DonePlain => What::Done(Answer::Plain),
             Kind::DoneWords => What::Done(Answer::Words),
             Kind::DoneMissing => What::Done(Answer::Missing),
