@@ -2,6 +2,5 @@ pub mod Put
 pub mod State
 pub mod Event
 pub mod Denial
-pub mod LastWrite
 pub mod Note
 pub mod Kinds
