@@ -179,5 +179,54 @@ kind_of-what_of (kinds.ShortForbidden got wanted) = refl
 kind_of-what_of (kinds.ShortNoFrame got wanted) = refl
 kind_of-what_of (kinds.ShortUnmovable got wanted count) = refl
 
+-- and nothing is added
+pub what_of-kind_of : (w : What) → what_of (kind_of w) ≡ w
+what_of-kind_of whats.Silent = refl
+what_of-kind_of whats.Idle = refl
+what_of-kind_of (whats.Wait (waitings.Holder x)) = refl
+what_of-kind_of (whats.Wait (waitings.Handle x)) = refl
+what_of-kind_of (whats.Wait (waitings.Process x)) = refl
+what_of-kind_of (whats.Event (events.Map actor proc page n rights)) = refl
+what_of-kind_of (whats.Event (events.Unmap actor proc page)) = refl
+what_of-kind_of (whats.Event (events.Discard actor proc page)) = refl
+what_of-kind_of (whats.Event (events.Protect actor proc page n rights)) = refl
+what_of-kind_of (whats.Event (events.Load actor proc page word value)) = refl
+what_of-kind_of (whats.Event (events.Store actor proc page word value)) = refl
+what_of-kind_of (whats.Event (events.PinTry actor proc page write)) = refl
+what_of-kind_of (whats.Event (events.PinDrop actor page)) = refl
+what_of-kind_of (whats.Event (events.PinOk actor handle)) = refl
+what_of-kind_of (whats.Event (events.Unpin actor handle)) = refl
+what_of-kind_of (whats.Event (events.Give actor handle to)) = refl
+what_of-kind_of (whats.Event (events.Take actor handle)) = refl
+what_of-kind_of (whats.Event (events.MoveOut actor handle index slot value)) = refl
+what_of-kind_of (whats.Event (events.MoveIn actor handle index slot value)) = refl
+what_of-kind_of (whats.Event (events.MirrorFill actor mirror proc page)) = refl
+what_of-kind_of (whats.Event (events.Look actor mirror word value)) = refl
+what_of-kind_of (whats.Event (events.ForkBegin parent child)) = refl
+what_of-kind_of (whats.Event (events.ForkPage parent child page)) = refl
+what_of-kind_of (whats.Event (events.ForkWord parent child page word)) = refl
+what_of-kind_of (whats.Event (events.ForkEnd parent child)) = refl
+what_of-kind_of (whats.Event (events.ForkFail child)) = refl
+what_of-kind_of (whats.Done answers.Plain) = refl
+what_of-kind_of (whats.Done answers.Words) = refl
+what_of-kind_of (whats.Done answers.Missing) = refl
+what_of-kind_of (whats.Done answers.Forbidden) = refl
+what_of-kind_of (whats.Done answers.NoFrame) = refl
+what_of-kind_of (whats.Done answers.NotHeld) = refl
+what_of-kind_of (whats.Done answers.Range) = refl
+what_of-kind_of (whats.Done answers.Overlap) = refl
+what_of-kind_of (whats.Done answers.Full) = refl
+what_of-kind_of (whats.Done answers.Untouched) = refl
+what_of-kind_of (whats.Done answers.Stale) = refl
+what_of-kind_of (whats.Done answers.Unborn) = refl
+what_of-kind_of (whats.Done (answers.Value x)) = refl
+what_of-kind_of (whats.Done (answers.Unmovable x)) = refl
+what_of-kind_of (whats.Done (answers.Busy x)) = refl
+what_of-kind_of (whats.Done (answers.Pinned x)) = refl
+what_of-kind_of (whats.Done (answers.Short got wanted causes.Missing)) = refl
+what_of-kind_of (whats.Done (answers.Short got wanted causes.Forbidden)) = refl
+what_of-kind_of (whats.Done (answers.Short got wanted causes.NoFrame)) = refl
+what_of-kind_of (whats.Done (answers.Short got wanted (causes.Unmovable count))) = refl
+
 pub fields-note_value : (a : Inside) → fields_of (note_value a) ≡ a
 fields-note_value a = ap (λ (k : Kind). record { turn = a.turn; op = a.op; actor = a.actor; kind = k }) (kind_of-what_of a.kind)
