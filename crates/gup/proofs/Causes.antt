@@ -13,7 +13,8 @@ use Rattle.gup_script.specs.declared.op.Op.{Op}
 use Rattle.gup_script.specs.Script.{ScriptValue, Actor}
 use Rattle.gup_script.specs.FirstPath.{IsFirstPath}
 use Rattle.gup_follows.specs.Place.{Place, ops_in, ops_of, process_of, present_op}
-use Rattle.gup_follows.specs.Denial.{denial, is_denial}
+use Rattle.gup_plain.specs.Denial.{is_denial}
+use Rattle.gup_follows.specs.Denial.{denial}
 use Rattle.gup_follows.specs.Follows.{notes_of_turn}
 use Rattle.gup_follows.specs.Plain.{Judged, judged_after, IsAnswerOf, IsAnswerAfter, IsRightAt, ArePlain}
 use Rattle.gup.specs.Cause.{IsKnownAnswer, IsKnown, AreKnown, is_ok, IsCausedAt, AreCaused, operations}

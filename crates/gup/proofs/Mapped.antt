@@ -11,7 +11,7 @@ use Rattle.gup_script.specs.declared.op.Op.TheVariants.{Map, Unmap, Load, Store}
 use Rattle.gup_script.specs.Grammar.{IsOp}
 use Rattle.gup_script.specs.FirstPath.{IsOfPage}
 use Rattle.gup_events.specs.State.{CoreState}
-use Rattle.gup_follows.specs.Denial.{any_mapped, map_denial}
+use Rattle.gup_plain.specs.Denial.{any_mapped, map_denial}
 use Rattle.gup_turns.specs.Turn.{map_turn_by, unmap_turn_by, load_turn, store_turn, free_frame, lowest, turn_at, turn_of, op_turn}
 use Rattle.gup.specs.Page.{PageValue, map_answer, mapped, unmapped, allows_store, load_answer, loaded, store_answer, stored}
 use Rattle.gup.specs.Machine.{ShowsPage, map_whats, unmap_whats, load_whats, store_whats, mapped_pages, op_whats, page_after}

@@ -59,6 +59,9 @@ outcome_of actor op Idle = None
 outcome_of actor op (Wait waiting) = None
 outcome_of actor op (Event event) = None
 
+unfoldable pub told_of : NoteValue → Option Outcome
+told_of note = outcome_of note.actor note.op note.what
+
 abbrev pub outcomes_of : List NoteValue → List Outcome
 outcomes_of notes = filter_map (λ (note : NoteValue). outcome_of note.actor note.op note.what) notes
 

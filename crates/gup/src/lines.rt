@@ -1,9 +1,9 @@
 //! The text of a journal: a line for each answer.
 ghost use Rattle.std.specs.Prelude.{◌≡◌, ℕ, ◌<◌, List, [], ◌++◌, length, codes, decimal, IfOk, OnOk, OnErr};
-ghost use Rattle.std.specs.List.{flat_map};
+ghost use Rattle.std.specs.List.{flat_map, filter_map};
 ghost use Rattle.gup_script.specs.Script.{actor_at};
 ghost use Rattle.gup.specs.Report.{reason_text, refusal_text};
-ghost use Rattle.gup.specs.Text.{text_of, name_in, cause_text, word_text, answer_text, line_of, outcome_of, outcomes_of, BeginsWith};
+ghost use Rattle.gup.specs.Text.{text_of, name_in, cause_text, word_text, answer_text, line_of, told_of, outcomes_of, BeginsWith};
 
 use crate::answers::{Outcome, Outcomes};
 use gup_base::{ActorNo, NoMemory, Words};
@@ -13,8 +13,9 @@ use itoa::Buffer;
 use std::alloc::{AllocError, Global};
 
 /// The outcome that a note tells, if it ends an operation.
+#[tactic(auto, unfolding(crate::specs::Text::told_of))]
 fn told_by(note: &Note) -> Option<Outcome>
-    ensures { result ≡ outcome_of note.now.actor note.now.op note.now.what }
+    ensures { result ≡ told_of note.now }
 {
     match note.what() {
         What::Done(answer) => Some(Outcome {
@@ -28,6 +29,7 @@ fn told_by(note: &Note) -> Option<Outcome>
 }
 
 /// The answers of the script's journal, in order.
+#[tactic(auto, unfolding(crate::specs::Text::told_of))]
 pub fn outcomes(alloc: Global, _script: &Script, journal: &Journal) -> Result<Outcomes, NoMemory>
     ensures { IfOk result (λ outcomes. outcomes ≡ outcomes_of journal.now.notes) }
 {
@@ -35,7 +37,7 @@ pub fn outcomes(alloc: Global, _script: &Script, journal: &Journal) -> Result<Ou
 }
 
 fn told_in(alloc: Global, notes: &[Note]) -> Result<Vec<Outcome>, AllocError>
-    ensures { IfOk result (λ found. found.items ≡ outcomes_of notes.now) }
+    ensures { IfOk result (λ found. found.items ≡ filter_map told_of notes.now) }
 {
     notes.iter().filter_map(told_by).collect(alloc)
 }

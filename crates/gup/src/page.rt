@@ -1,6 +1,6 @@
 //! The one page that a script of the first path names, with the one frame that it needs.
 ghost use Rattle.std.specs.Prelude.{◌≡◌, ◌<◌, true, false, if◌then◌else◌, None, Some, is_some, IfOk, vec_len};
-ghost use Rattle.gup_follows.specs.Denial.{load_denial};
+ghost use Rattle.gup_plain.specs.Denial.{load_denial};
 ghost use Rattle.gup.specs.Page.{references, allows_store, written, zeros, filled, load_answer, loaded, store_answer, stored, map_answer, mapped, unmapped};
 
 use gup_base::{Entry, FrameNo, NoMemory, Rights, WordNo};

@@ -1,12 +1,12 @@
 -- The core events: when each can happen, what it changes, and the plain event that stands at it.
-use Rattle.std.specs.Prelude.{◌≡◌, ℕ, ◌+◌, ◌-◌, ◌^◌, ◌<◌, ◌≤◌, ◌==◌, Bool, true, false, if◌then◌else◌, Option, Some, None, IsSome, zero}
+use Rattle.std.specs.Prelude.{◌≡◌, ℕ, ◌+◌, ◌-◌, ◌<◌, ◌≤◌, ◌==◌, Bool, true, false, if◌then◌else◌, Option, Some, None, IsSome, zero}
 use Rattle.std.specs.Option.{option_map}
 use Rattle.gup_base.specs.declared.entry.Entry.{Entry}
 use Rattle.gup_base.specs.declared.entry.Rights.{Rights}
 use Rattle.gup_base.specs.declared.entry.Rights.TheVariants.{RW}
 use Rattle.gup_plain.specs.declared.event.PlainEvent.{PlainEvent}
 use Rattle.gup_plain.specs.declared.event.PlainEvent.TheVariants as events
-use Rattle.gup_plain.specs.Event.{happened, most_pages}
+use Rattle.gup_plain.specs.Event.{happened, most_pages, page_numbers}
 use Rattle.gup_plain.specs.Put.{put, put2, spread}
 use Rattle.gup_plain.specs.State.{PlainState, Noted, born}
 use Rattle.gup_events.specs.State.{CoreState, Job, idle, moving, forking, one, copying}
@@ -58,7 +58,7 @@ Can s (upgrade a p page f) =
     × (s.mark f ≡ true)
 Can s (put_entry a f) = s.owed a ≡ Some f
 Can s (map_pages a p page n rights) =
-    (s.birth p ≡ born) × AreUnlocked s p × (page + n ≤ 2 ^ 35) × ((k : ℕ) → k < n → s.right p (page + k) ≡ None)
+    (s.birth p ≡ born) × AreUnlocked s p × (page + n ≤ page_numbers) × ((k : ℕ) → k < n → s.right p (page + k) ≡ None)
     × (s.pages p + n ≤ most_pages)
 Can s (drop_entry a p page was) =
     (s.birth p ≡ born) × AreUnlocked s p × IsSome (s.right p page) × (s.entry p page ≡ was) × (s.owed a ≡ None)

@@ -12,7 +12,8 @@ use Rattle.gup_script.specs.declared.op.Op.{Op}
 use Rattle.gup_script.specs.declared.op.Op.TheVariants.{Map, Unmap, Load, Store}
 use Rattle.gup_script.specs.Script.{ScriptValue}
 use Rattle.gup_follows.specs.Place.{Place, first_place, place_after, process_of, present_op, starts_born}
-use Rattle.gup_follows.specs.Denial.{denial, is_denial}
+use Rattle.gup_plain.specs.Denial.{is_denial}
+use Rattle.gup_follows.specs.Denial.{denial}
 
 -- No operation ends while its process is yet to be born.
 abbrev pub IsSettled : Birth → Type 0

@@ -20,6 +20,7 @@ pub fn simulates()
 
 /// The law is not empty: with one frame, a page is mapped, filled, read, written, read again and unmapped, and the
 /// frame is free again.
+#[tactic(auto, unfolding(gup_plain::specs::Event::page_numbers))]
 pub fn runs_are_possible()
     ensures { AllCan (start 1 0 (λ _. true)) one_page }
 {}

@@ -1,11 +1,12 @@
 -- The turns of single operations can be done, and have their shapes.
-use Rattle.std.proofs.Common.{◌≡◌, ℕ, ◌+◌, ◌<◌, ◌==◌, Bool, true, false, IsTrue, IsSome, is_some, [], ◌∷◌, Option, Some, None, refl, ap, sym, subst, ◌∙◌, arith}
+use Rattle.std.proofs.Common.{◌≡◌, ℕ, ◌+◌, ◌<◌, ◌≤◌, ◌^◌, ◌==◌, Bool, true, false, IsTrue, IsSome, is_some, [], ◌∷◌, Option, Some, None, refl, ap, sym, subst, ◌∙◌, arith}
 use Rattle.std.proofs.lemmas.Bool.Decides.{nat_tests}
 use Rattle.gup_base.specs.declared.entry.Entry.{Entry}
 use Rattle.gup_base.specs.declared.entry.Rights.{Rights}
 use Rattle.gup_base.specs.declared.entry.Rights.TheVariants.{R, RW}
 use Rattle.gup_plain.specs.Put.{put}
 use Rattle.gup_plain.specs.State.{born}
+use Rattle.gup_plain.specs.Event.{page_numbers}
 use Rattle.gup_laws.specs.Run.{AllCan}
 use Rattle.gup_turns.proofs.Through.{all_told, events_of}
 use Rattle.gup_plain.specs.declared.answer.Answer.{Answer}
@@ -18,7 +19,8 @@ use Rattle.gup_script.specs.declared.op.Op.TheVariants.{Map, Unmap, Load, Store}
 use Rattle.gup_events.specs.State.{CoreState, plain_of}
 use Rattle.gup_events.specs.Event.{MayPrepare, AreUnlocked, Can, happens, entry_of, take_frame, fill, drop_entry}
 use Rattle.gup_events.specs.Sound.{IsSound}
-use Rattle.gup_follows.specs.Denial.{any_mapped, map_denial, op_denial, load_denial}
+use Rattle.gup_plain.specs.Denial.{any_mapped, map_denial, load_denial}
+use Rattle.gup_follows.specs.Denial.{op_denial}
 use Rattle.gup_follows.specs.Place.{Place}
 use Rattle.gup_follows.specs.Follows.{refuses}
 use Rattle.gup_follows.specs.Plain.{IsAnswerOf, Passes}
@@ -27,6 +29,11 @@ use Rattle.gup_turns.specs.Turn.{Taken, answers_with, free_frame, loads, loads_b
 use Rattle.gup_turns.proofs.Puts.{put_same, put2_same, none_of}
 use Rattle.gup_turns.proofs.Searches.{free_frame_free, none_below, undenied_map, denied_map}
 use Rattle.gup_turns.proofs.Shapes.{AtFirst, FitsOp, TurnOf, refused, mapped, loaded, stored, took, took_last, passed, passed_last, AtRest, IsDone}
+
+-- where the range of an operation ends
+all_below : (page n : ℕ) → page + n ≤ 2 ^ 35 → page + n ≤ page_numbers
+unfolding page_numbers
+all_below page n ends = ends
 
 -- the turn can be done and has its shape
 pub record IsTurned (s : CoreState) (a p : ℕ) (place : Place) (op : Op) (turn : Taken) : Type 0 where
@@ -158,7 +165,7 @@ module _ (s : CoreState) (a p : ℕ) (place : Place) (h : IsOpen s p) where
       let unmapped = none_below n (λ k. is_some (s.right p (page + k))) free.0 in
       record {
         done = record {
-          can = ((h.birth, unlocked, fits.2, (λ k below. none_of (s.right p (page + k)) (unmapped k below)), free.1), tt);
+          can = ((h.birth, unlocked, all_below page n fits.2, (λ k below. none_of (s.right p (page + k)) (unmapped k below)), free.1), tt);
           rest = record { prepared = h.rest.prepared; owed = h.rest.owed };
           told = refl;
         };

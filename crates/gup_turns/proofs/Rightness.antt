@@ -13,7 +13,8 @@ use Rattle.gup_plain.specs.declared.note.What.TheVariants.{Silent, Idle, Wait, E
 use Rattle.gup_plain.specs.declared.note.Waiting.{Waiting}
 use Rattle.gup_script.specs.Script.{ScriptValue}
 use Rattle.gup_script.specs.declared.op.Op.{Op}
-use Rattle.gup_follows.specs.Denial.{denial, op_denial, denial_at, is_denial}
+use Rattle.gup_plain.specs.Denial.{denial_at, is_denial}
+use Rattle.gup_follows.specs.Denial.{denial, op_denial}
 use Rattle.gup_follows.specs.Follows.{notes_of_turn, note_of}
 use Rattle.gup_follows.specs.Order.{plain_behind}
 use Rattle.gup_follows.specs.Place.{Place, place_after, place_behind, process_of, ops_of}

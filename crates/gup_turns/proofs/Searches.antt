@@ -7,7 +7,7 @@ use Rattle.gup_plain.specs.declared.answer.Answer.{Answer}
 use Rattle.gup_plain.specs.declared.answer.Answer.TheVariants as answers
 use Rattle.gup_script.specs.declared.op.Op.TheVariants.{Map}
 use Rattle.gup_events.specs.State.{CoreState}
-use Rattle.gup_follows.specs.Denial.{any_below, map_denial}
+use Rattle.gup_plain.specs.Denial.{any_below, map_denial}
 use Rattle.gup_follows.specs.Follows.{refuses}
 use Rattle.gup_turns.specs.Turn.{lowest, free_frame}
 use Rattle.gup_turns.proofs.Puts.{some_same}

@@ -15,7 +15,7 @@ use Rattle.gup_script.specs.declared.op.Op.{Op}
 use Rattle.gup_script.specs.declared.op.Op.TheVariants.{Map, Unmap, Load, Store}
 use Rattle.gup_events.specs.State.{CoreState}
 use Rattle.gup_events.specs.Event.{CoreEvent, take_frame, fill, upgrade, put_entry, map_pages, drop_entry, load, store}
-use Rattle.gup_follows.specs.Denial.{any_mapped, map_denial}
+use Rattle.gup_plain.specs.Denial.{any_mapped, map_denial}
 
 -- a turn: its core events in order, and its notes
 pub record Taken : Type 0 where
