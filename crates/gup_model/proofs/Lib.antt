@@ -5,3 +5,5 @@ pub mod Pins
 pub mod Events
 pub mod Values
 pub mod Owners
+pub mod Lists
+pub mod Counting
