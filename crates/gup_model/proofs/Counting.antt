@@ -1,66 +1,62 @@
 -- The number of a process's pages is kept by every event: that of its named pages.
-use Rattle.std.proofs.Common.{◌≡◌, ℕ, zero, suc, ◌+◌, ◌-◌, ◌<◌, ◌==◌, Bool, true, false, List, [], ◌∷◌, length, sym, refl, subst, arith}
+use Rattle.std.proofs.Common.{◌≡◌, ℕ, zero, suc, ◌+◌, ◌-◌, ◌<◌, ◌==◌, true, false, List, [], ◌∷◌, length, sym, refl, subst, arith}
 use Rattle.std.specs.Prelude.{Option, Some, None, IsSome, Contains, if◌then◌else◌}
-use Rattle.std.proofs.lemmas.Bool.Decides.{nat_tests, Decides-eqb}
+use Rattle.std.proofs.lemmas.Bool.Decides.{nat_tests}
 use Rattle.std.proofs.lemmas.Map.Made.{Contains-tail}
 use Rattle.gup_base.specs.declared.entry.Rights.{Rights}
 use Rattle.gup_plain.specs.Put.{put, put2, within, spread}
 use Rattle.gup_plain.specs.declared.event.PlainEvent.{PlainEvent}
 use Rattle.gup_plain.specs.declared.event.PlainEvent.TheVariants.{Map, Unmap, Discard, Protect, Load, Store, PinTry, PinDrop, PinOk, Unpin, Give, Take, MoveOut, MoveIn, MirrorFill, Look, ForkBegin, ForkPage, ForkWord, ForkEnd, ForkFail}
-use Rattle.gup_plain.specs.State.{PlainState, start}
+use Rattle.gup_plain.specs.State.{PlainState}
 use Rattle.gup_plain.specs.Event.{CanHappen, happened}
 use Rattle.gup_model.specs.LastWrite.{ArePossible, after, HasNoRepetition, Lists, CountsPages}
-use Rattle.gup_model.proofs.Mappings.{within_has}
+use Rattle.gup_model.proofs.Puts.{within_has}
 use Rattle.gup_model.proofs.Lists.{no_element, first_element, later_element, by_test, IsWithout, taken_out}
 
 -- so many pages have rights
-abbrev pub Counted : (ℕ → Option Rights) → ℕ → Type 0
+abbrev Counted : (ℕ → Option Rights) → ℕ → Type 0
 Counted right n = (pages : List ℕ) × HasNoRepetition pages × Lists pages right × (length pages ≡ n)
 
 pub none_counted : Counted (λ _. None) 0
 none_counted = ([], tt, λ k. (λ has. absurd (no_element k has), λ is. absurd (cc)), refl)
 
 -- the same pages are named
-pub counted_same : (f g : ℕ → Option Rights) (n : ℕ) → ((k : ℕ) → IsSome (f k) → IsSome (g k)) → ((k : ℕ) → IsSome (g k) → IsSome (f k)) → Counted f n → Counted g n
+counted_same : (f g : ℕ → Option Rights) (n : ℕ) → ((k : ℕ) → IsSome (f k) → IsSome (g k)) → ((k : ℕ) → IsSome (g k) → IsSome (f k)) → Counted f n → Counted g n
 counted_same f g n to from c = (c.0, c.1, λ k. (λ has. to k ((c.2 k).0 has), λ is. (c.2 k).1 (from k is)), c.3)
 
 -- one page more
-pub counted_more : (f : ℕ → Option Rights) (n page : ℕ) (rights : Rights) → f page ≡ None → Counted f n → Counted (put page (Some rights) f) (n + 1)
+counted_more : (f : ℕ → Option Rights) (n page : ℕ) (rights : Rights) → f page ≡ None → Counted f n → Counted (put page (Some rights) f) (n + 1)
 counted_more f n page rights none c =
     let pages : List ℕ = c.0 in
     let fresh : Contains pages page → ⊥ = λ has. let named : IsSome (f page) = (c.2 page).0 has in grind arith in
     let g : ℕ → Option Rights = put page (Some rights) f in
     let here : IsSome (g page) = grind (arith, nat_tests) in
-    let named : (k : ℕ) → Contains (page ∷ pages) k → IsSome (g k) = λ k has.
-        by_test page k
-            (λ same. subst (λ x. IsSome (g x)) same here)
-            (λ apart. let old : IsSome (f k) = (c.2 k).0 (Contains-tail page pages k apart has) in grind (arith, nat_tests)) in
-    let listed : (k : ℕ) → IsSome (g k) → Contains (page ∷ pages) k = λ k is.
-        by_test page k
-            (λ same. subst (Contains (page ∷ pages)) same (first_element page pages))
-            (λ apart. let old : IsSome (f k) = grind (arith, nat_tests) in later_element page pages k ((c.2 k).1 old)) in
+    let kept : (k : ℕ) → (page ≡ k → ⊥) → IsSome (f k) → IsSome (g k) = λ k apart is. grind (arith, nat_tests) in
+    let was : (k : ℕ) → (page ≡ k → ⊥) → IsSome (g k) → IsSome (f k) = λ k apart is. grind (arith, nat_tests) in
+    let other = λ (k : ℕ) (apart : page ≡ k → ⊥) (has : Contains (page ∷ pages) k). kept k apart ((c.2 k).0 (Contains-tail page pages k apart has)) in
+    let later = λ (k : ℕ) (apart : page ≡ k → ⊥) (is : IsSome (g k)). later_element page pages k ((c.2 k).1 (was k apart is)) in
+    let named : (k : ℕ) → Contains (page ∷ pages) k → IsSome (g k) = λ k has. by_test page k (λ same. subst (λ x. IsSome (g x)) same here) (λ apart. other k apart has) in
+    let listed : (k : ℕ) → IsSome (g k) → Contains (page ∷ pages) k = λ k is. by_test page k (λ same. subst (Contains (page ∷ pages)) same (first_element page pages)) (λ apart. later k apart is) in
     (page ∷ pages, (fresh, c.1), λ k. (named k, listed k), omega (arith, c.3))
 
 -- one page less
-pub counted_less : (f : ℕ → Option Rights) (n page : ℕ) → IsSome (f page) → Counted f n → Counted (put page None f) (n - 1)
+counted_less : (f : ℕ → Option Rights) (n page : ℕ) → IsSome (f page) → Counted f n → Counted (put page None f) (n - 1)
 counted_less f n page is c =
     let pages : List ℕ = c.0 in
     let out = taken_out page pages c.1 ((c.2 page).1 is) in
     let rest : List ℕ = out.0 in
     let without : IsWithout page pages rest = out.1 in
     let g : ℕ → Option Rights = put page None f in
-    let named : (k : ℕ) → Contains rest k → IsSome (g k) = λ k has.
-        by_test page k
-            (λ same. absurd (without.gone (subst (Contains rest) (sym same) has)))
-            (λ apart. let old : IsSome (f k) = (c.2 k).0 (without.less k has) in grind (arith, nat_tests)) in
-    let listed : (k : ℕ) → IsSome (g k) → Contains rest k = λ k is.
-        by_test page k
-            (λ same. absurd (grind (arith, nat_tests)))
-            (λ apart. let old : IsSome (f k) = grind (arith, nat_tests) in without.rest k apart ((c.2 k).1 old)) in
+    let apart : (k : ℕ) → Contains rest k → page ≡ k → ⊥ = λ k has same. without.gone (subst (Contains rest) (sym same) has) in
+    let kept : (k : ℕ) → (page ≡ k → ⊥) → IsSome (f k) → IsSome (g k) = λ k apart is. grind (arith, nat_tests) in
+    let was : (k : ℕ) → IsSome (g k) → IsSome (f k) = λ k is. grind (arith, nat_tests) in
+    let differs : (k : ℕ) → IsSome (g k) → page ≡ k → ⊥ = λ k is same. grind (arith, nat_tests) in
+    let named : (k : ℕ) → Contains rest k → IsSome (g k) = λ k has. kept k (apart k has) ((c.2 k).0 (without.less k has)) in
+    let listed : (k : ℕ) → IsSome (g k) → Contains rest k = λ k is. without.rest k (differs k is) ((c.2 k).1 (was k is)) in
     (rest, without.alone, λ k. (named k, listed k), omega (arith, c.3, without.shorter))
 
 -- so many pages more, from the first on
-pub counted_range : (f : ℕ → Option Rights) (m first n : ℕ) (rights : Rights) → ((k : ℕ) → k < n → f (first + k) ≡ None) → Counted f m → Counted (spread first n (λ _. Some rights) f) (m + n)
+counted_range : (f : ℕ → Option Rights) (m first n : ℕ) (rights : Rights) → ((k : ℕ) → k < n → f (first + k) ≡ None) → Counted f m → Counted (spread first n (λ _. Some rights) f) (m + n)
 counted_range f m first zero rights none c =
     let none_more : ℕ → Option Rights = spread first 0 (λ _. Some rights) f in
     let count : m ≡ m + 0 = omega arith in
@@ -72,31 +68,19 @@ counted_range f m first (suc n) rights none c =
     let more : Counted (put (first + n) (Some rights) g) (m + n + 1) = counted_more g (m + n) (first + n) rights new before in
     let count : m + n + 1 ≡ m + suc n = omega arith in
     let one_more : ℕ → Option Rights = spread first (suc n) (λ _. Some rights) f in
-    subst (Counted one_more) count
-        (counted_same (put (first + n) (Some rights) g) one_more (m + n + 1) (λ k is. grind (arith, nat_tests)) (λ k is. grind (arith, nat_tests)) more)
+    subst (Counted one_more) count (counted_same (put (first + n) (Some rights) g) one_more (m + n + 1) (λ k is. grind (arith, nat_tests)) (λ k is. grind (arith, nat_tests)) more)
 
 -- a process's pages are those of this function, and the other processes' stay
-pub counts_put : (s : PlainState) (p : ℕ) (f : ℕ → Option Rights) (n : ℕ) → Counted f n → CountsPages s → (q : ℕ) → Counted (put p f s.right q) (put p n s.pages q)
+counts_put : (s : PlainState) (p : ℕ) (f : ℕ → Option Rights) (n : ℕ) → Counted f n → CountsPages s → (q : ℕ) → Counted (put p f s.right q) (put p n s.pages q)
 counts_put s p f n here there q =
     elim (q == p) as (λ b. Counted (if b then f else s.right q) (if b then n else s.pages q)) [ true ↦ here | false ↦ there q ]
 
--- `put2` of a page is `put` of the process's pages with that page changed
-pub counts_put2 : (s : PlainState) (p page n : ℕ) (x : Option Rights) → Counted (put page x (s.right p)) n → CountsPages s → (q : ℕ) → Counted (put2 p page x s.right q) (put p n s.pages q)
-counts_put2 s p page n x here there q =
-    by_test q p
-        (λ same.
-            let yes : (q == p) ≡ true = (Decides-eqb q p).1 same in
-            let here_q : Counted (put page x (s.right q)) n = subst (λ r. Counted (put page x (s.right r)) n) (sym same) here in
-            subst (λ b. Counted (if b then put page x (s.right q) else s.right q) (if b then n else s.pages q)) (sym yes) here_q)
-        (λ apart.
-            let no : (q == p) ≡ false = grind (arith, nat_tests) in
-            subst (λ b. Counted (if b then put page x (s.right q) else s.right q) (if b then n else s.pages q)) (sym no) (there q))
-
-pub counts_after_event : (s : PlainState) (e : PlainEvent) → CanHappen s e → CountsPages s → CountsPages (happened s e)
+counts_after_event : (s : PlainState) (e : PlainEvent) → CanHappen s e → CountsPages s → CountsPages (happened s e)
 counts_after_event s (Map a p page n rights) c counts =
     counts_put s p (spread page n (λ _. Some rights) (s.right p)) (s.pages p + n) (counted_range (s.right p) (s.pages p) page n rights c.2 (counts p)) counts
 counts_after_event s (Unmap a p page) c counts =
-    counts_put2 s p page (s.pages p - 1) None (counted_less (s.right p) (s.pages p) page c.1 (counts p)) counts
+    let less : Counted (put page None (s.right p)) (s.pages p - 1) = counted_less (s.right p) (s.pages p) page c.1 (counts p) in
+    λ q. counted_same (put p (put page None (s.right p)) s.right q) (put2 p page None s.right q) (put p (s.pages p - 1) s.pages q) (λ k is. grind (arith, nat_tests)) (λ k is. grind (arith, nat_tests)) (counts_put s p (put page None (s.right p)) (s.pages p - 1) less counts q)
 counts_after_event s (Protect a p page n rights) c counts = λ q.
     let inside : (g : ℕ) → within page n g ≡ true → IsSome (s.right p g) = within_has (s.right p) page n c.1 in
     let after_it : ℕ → Option Rights = put p (spread page n (λ _. Some rights) (s.right p)) s.right q in

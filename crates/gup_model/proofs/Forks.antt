@@ -1,10 +1,9 @@
 -- The events of a fork leave a tidy state.
-use Rattle.std.proofs.Common.{◌≡◌, ℕ, ◌+◌, ◌<◌, arith, ap, ◌∙◌}
-use Rattle.std.specs.Prelude.{Option, Some, IsSome}
+use Rattle.std.proofs.Common.{ℕ, arith}
+use Rattle.std.specs.Prelude.{IsSome}
 use Rattle.std.proofs.lemmas.Bool.Decides.{nat_tests}
-use Rattle.gup_base.specs.declared.entry.Rights.{Rights}
 use Rattle.gup_plain.specs.declared.event.PlainEvent.TheVariants.{ForkBegin, ForkPage, ForkWord, ForkEnd, ForkFail}
-use Rattle.gup_plain.specs.State.{PlainState, named_or_zero}
+use Rattle.gup_plain.specs.State.{PlainState}
 use Rattle.gup_plain.specs.Event.{CanHappen, happened, page_numbers}
 use Rattle.gup_model.proofs.Tidy.{IsTidy, NamedMade, NamedNumbered, NamedAlone, HandleMade, PendingMade, UnmadeZero}
 use Rattle.gup_model.proofs.Mappings.{handles_stay, pendings_stay}

@@ -1,12 +1,13 @@
 -- The events that give pages their rights and objects and take them away leave a tidy state.
-use Rattle.std.proofs.Common.{◌≡◌, ℕ, ◌+◌, ◌-◌, ◌<◌, ◌≤◌, true, refl, arith}
-use Rattle.std.specs.Prelude.{Option, None, Some, IsSome}
+use Rattle.std.proofs.Common.{◌≡◌, ℕ, ◌+◌, ◌≤◌, true, arith}
+use Rattle.std.specs.Prelude.{Some, IsSome}
 use Rattle.gup_plain.specs.Put.{within}
 use Rattle.std.proofs.lemmas.Bool.Decides.{nat_tests}
 use Rattle.gup_base.specs.declared.entry.Rights.{Rights}
 use Rattle.gup_plain.specs.declared.event.PlainEvent.TheVariants.{Map, Unmap, Discard, Protect}
-use Rattle.gup_plain.specs.State.{PlainState, Pending, objects_of}
+use Rattle.gup_plain.specs.State.{PlainState}
 use Rattle.gup_plain.specs.Event.{CanHappen, happened, page_numbers}
+use Rattle.gup_model.proofs.Puts.{within_has, some_value}
 use Rattle.gup_model.proofs.Tidy.{IsTidy, NamedMade, NamedNumbered, NamedAlone, HandleMade, PendingMade, UnmadeZero}
 
 -- what was made is made once more objects are
@@ -15,13 +16,6 @@ handles_stay s n made h k d is = omega (arith, made h k d is)
 
 pub pendings_stay : (s : PlainState) (n : ℕ) → PendingMade s → PendingMade (record s { made = s.made + n })
 pendings_stay s n made a k d is = omega (arith, made a k d is)
-
--- what holds at each step from the first page on, holds of each page of the range
-pub within_has : {X : Type 0} (f : ℕ → Option X) (first n : ℕ) → ((k : ℕ) → k < n → IsSome (f (first + k))) → (g : ℕ) → within first n g ≡ true → IsSome (f g)
-within_has f first n has g is =
-    let inside : g - first < n = grind (arith, nat_tests) in
-    let same : first + (g - first) ≡ g = grind (arith, nat_tests) in
-    rw same at (has (g - first) inside)
 
 pub tidy-Map : (s : PlainState) (a p page n : ℕ) (rights : Rights) → IsTidy s → CanHappen s (Map a p page n rights) → IsTidy (happened s (Map a p page n rights))
 tidy-Map s a p page n rights h c =
@@ -52,11 +46,6 @@ tidy-Discard s a p page h c =
     let pending_made : PendingMade S = pendings_stay s 1 h.pending_made in
     let unmade_zero : UnmadeZero S = λ o w. grind (arith, nat_tests, h.unmade_zero o w) in
     assumption
-
--- what is there, if something is
-pub some_value : {X : Type 0} (x : Option X) → IsSome x → (y : X) × (x ≡ Some y)
-some_value None is = absurd (cc)
-some_value (Some y) is = (y, refl)
 
 pub tidy-Protect : (s : PlainState) (a p page n : ℕ) (rights : Rights) → IsTidy s → CanHappen s (Protect a p page n rights) → IsTidy (happened s (Protect a p page n rights))
 tidy-Protect s a p page n rights h c =

@@ -1,20 +1,18 @@
 -- What a page names was written by its owner: an object is named by one page at most, and a page that names an object
 -- named it ever since the object was made.
-use Rattle.std.proofs.Common.{◌≡◌, ℕ, ◌+◌, ◌/◌, ◌%◌, ◌<◌, ◌≤◌, ◌==◌, length, true, List, [], ◌∷◌, ap, sym, ◌∙◌, refl, arith}
-use Rattle.std.specs.Prelude.{Option, Some, None, IsSome, Contains}
+use Rattle.std.proofs.Common.{◌≡◌, ℕ, ◌/◌, ◌%◌, ◌<◌, ◌≤◌, true, List, [], ◌∷◌, sym, ◌∙◌, arith}
+use Rattle.std.specs.Prelude.{Some, IsSome}
 use Rattle.std.proofs.lemmas.Bool.Decides.{nat_tests}
 use Rattle.std.proofs.lemmas.List.Elements.{Contains-get_or}
-use Rattle.gup_base.specs.declared.entry.Rights.{Rights}
 use Rattle.gup_base.specs.declared.entry.Rights.TheVariants.{RW}
 use Rattle.gup_plain.specs.Put.{within}
 use Rattle.gup_plain.specs.declared.event.PlainEvent.{PlainEvent}
 use Rattle.gup_plain.specs.declared.event.PlainEvent.TheVariants.{Map, Unmap, Discard, Protect, Load, Store, PinTry, PinDrop, PinOk, Unpin, Give, Take, MoveOut, MoveIn, MirrorFill, Look, ForkBegin, ForkPage, ForkWord, ForkEnd, ForkFail}
-use Rattle.gup_plain.specs.State.{PlainState, Noted, objects_of}
+use Rattle.gup_plain.specs.State.{PlainState, objects_of}
 use Rattle.gup_plain.specs.Event.{CanHappen, happened, object_at, words}
 use Rattle.gup_model.specs.LastWrite.{ArePossible, after, at_word, written_by, Names, IsByOwner}
 use Rattle.gup_model.proofs.Tidy.{IsTidy}
-use Rattle.gup_model.proofs.Events.{tidy_after_event}
-use Rattle.gup_model.proofs.Mappings.{within_has, some_value}
+use Rattle.gup_model.proofs.Puts.{within_has, some_value}
 use Rattle.gup_model.proofs.Pins.{has_page}
 
 -- what was made stays made

@@ -1,18 +1,15 @@
 -- The events of pins, of handles, of words and of mirror slots leave a tidy state.
-use Rattle.std.proofs.Common.{◌≡◌, ℕ, ◌+◌, ◌*◌, ◌/◌, ◌%◌, ◌<◌, ◌==◌, not, Bool, true, false, length, [], ◌∷◌, ◌++◌, refl, arith}
-use Rattle.std.specs.Prelude.{Some, IsSome, All, if◌then◌else◌}
+use Rattle.std.proofs.Common.{ℕ, ◌*◌, ◌/◌, ◌<◌, ◌==◌, not, Bool, true, false, length, [], ◌∷◌, ◌++◌, arith}
+use Rattle.std.specs.Prelude.{IsSome, All}
 use Rattle.std.proofs.lemmas.Bool.Decides.{nat_tests}
-use Rattle.std.proofs.lemmas.List.Elements.{All-nil, All-push, All-filter, All-map, All-get_or}
+use Rattle.std.proofs.lemmas.List.Elements.{All-nil, All-push, All-filter, All-map}
 use Rattle.gup_base.specs.declared.entry.Rights.TheVariants.{RW}
-use Rattle.gup_plain.specs.declared.event.PlainEvent.TheVariants.{Store, PinTry, PinDrop, PinOk, Unpin, Give, Take, MoveIn}
+use Rattle.gup_plain.specs.declared.event.PlainEvent.TheVariants.{Store, PinTry, PinDrop, PinOk, MoveIn}
 use Rattle.gup_plain.specs.Put.{put}
-use Rattle.gup_plain.specs.State.{PlainState, Pending, Handle, unmade, held, given, gone, objects_of}
-use Rattle.gup_plain.specs.Event.{CanHappen, happened, object_at, words, AllowsPin, given_to, held_by}
-use Rattle.gup_model.proofs.Tidy.{IsTidy, NamedMade, HandleMade, PendingMade, UnmadeZero}
-
--- what holds of x and of each value of f, holds of each value of f with x at k
-pub put_each : {X : Type 0} (P : X → Type 0) (k : ℕ) (x : X) (f : ℕ → X) → P x → ((j : ℕ) → P (f j)) → (j : ℕ) → P (put k x f j)
-put_each P k x f here there j = elim (j == k) as (λ b. P (if b then x else f j)) [ true ↦ here | false ↦ there j ]
+use Rattle.gup_plain.specs.State.{PlainState, Pending, Handle, objects_of}
+use Rattle.gup_plain.specs.Event.{CanHappen, happened, object_at, words, AllowsPin}
+use Rattle.gup_model.proofs.Puts.{put_each}
+use Rattle.gup_model.proofs.Tidy.{IsTidy, HandleMade, PendingMade, UnmadeZero}
 
 pub tidy-Store : (s : PlainState) (a p page word value : ℕ) → IsTidy s → CanHappen s (Store a p page word value) → IsTidy (happened s (Store a p page word value))
 tidy-Store s a p page word value h c =
@@ -21,7 +18,7 @@ tidy-Store s a p page word value h c =
     assumption
 
 -- a page that may be pinned is named
-pub allowed_is_named : (s : PlainState) (p page : ℕ) (write : Bool) → AllowsPin s p page write → IsSome (s.right p page)
+allowed_is_named : (s : PlainState) (p page : ℕ) (write : Bool) → AllowsPin s p page write → IsSome (s.right p page)
 allowed_is_named s p page true is = grind arith
 allowed_is_named s p page false is = is
 

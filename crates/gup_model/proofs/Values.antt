@@ -1,18 +1,18 @@
 -- What is read was last written: at any time the words of all objects are what was last written to them, since the
 -- words of a fresh object were 0 before, too.
-use Rattle.std.proofs.Common.{◌≡◌, ℕ, ◌+◌, ◌%◌, ◌<◌, List, [], ◌∷◌, ap, sym, ◌∙◌, refl, arith}
+use Rattle.std.proofs.Common.{◌≡◌, ℕ, ◌<◌, List, [], ◌∷◌, ap, sym, ◌∙◌, refl, arith}
 use Rattle.std.specs.Prelude.{Some}
 use Rattle.std.proofs.lemmas.Bool.Decides.{nat_tests}
 use Rattle.gup_plain.specs.declared.event.PlainEvent.{PlainEvent}
 use Rattle.gup_plain.specs.declared.event.PlainEvent.TheVariants.{Map, Unmap, Discard, Protect, Load, Store, PinTry, PinDrop, PinOk, Unpin, Give, Take, MoveOut, MoveIn, MirrorFill, Look, ForkBegin, ForkPage, ForkWord, ForkEnd, ForkFail}
-use Rattle.gup_plain.specs.State.{PlainState, Noted}
-use Rattle.gup_plain.specs.Event.{CanHappen, happened, object_at, words}
+use Rattle.gup_plain.specs.State.{PlainState}
+use Rattle.gup_plain.specs.Event.{CanHappen, happened, words}
 use Rattle.gup_model.specs.LastWrite.{ArePossible, after, written_by, or_else, last_written, Reads}
 use Rattle.gup_model.proofs.Tidy.{IsTidy}
 use Rattle.gup_model.proofs.Events.{tidy_after_event}
 
 -- the word after an event is what the event writes to it, or else the word before
-pub word_after : (s : PlainState) (e : PlainEvent) → IsTidy s → (o w : ℕ) → or_else (written_by s e o w) (s.content o w) ≡ (happened s e).content o w
+word_after : (s : PlainState) (e : PlainEvent) → IsTidy s → (o w : ℕ) → or_else (written_by s e o w) (s.content o w) ≡ (happened s e).content o w
 word_after s (Map a p page n rights) h o w = grind (arith, nat_tests, h.unmade_zero o w)
 word_after s (Unmap a p page) h o w = refl
 word_after s (Discard a p page) h o w = grind (arith, nat_tests, h.unmade_zero o w)

@@ -1,8 +1,5 @@
 -- The number of pages, from the start on.
-use Rattle.std.proofs.Common.{ℕ, Bool, List}
-use Rattle.gup_plain.specs.declared.event.PlainEvent.{PlainEvent}
 use Rattle.gup_plain.specs.State.{start}
-use Rattle.gup_model.specs.LastWrite.{ArePossible, after, CountsPages}
 use Rattle.gup_model.proofs.Counting.{none_counted, counts_after}
 use Rattle.gup_model.proofs.law.pages_are_counted.Goals as goal
 
