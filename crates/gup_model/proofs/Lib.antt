@@ -1,0 +1,10 @@
+pub mod Puts
+pub mod Tidy
+pub mod Mappings
+pub mod Forks
+pub mod Pins
+pub mod Events
+pub mod Values
+pub mod Owners
+pub mod Lists
+pub mod Counting
