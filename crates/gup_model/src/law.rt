@@ -1,7 +1,8 @@
 //! What the plain model promises, over every list of its events.
-ghost use Rattle.std.specs.Prelude.{ℕ, Bool, List};
+ghost use Rattle.std.specs.Prelude.{ℕ, ◌==◌, Bool, List};
 ghost use Rattle.gup_plain.specs.declared.event.PlainEvent.{PlainEvent};
 ghost use Rattle.gup_plain.specs.State.{start};
+ghost use Rattle.gup_model.specs.Possible.{one_run};
 ghost use Rattle.gup_model.specs.LastWrite.{ArePossible, after, LastWrite, CountsPages};
 
 /// The law of the last write: whatever reads a word of an object, be it a load, a device, a look or a fork, finds what
@@ -14,4 +15,10 @@ pub fn last_write()
 /// A process has as many pages as are named.
 pub fn pages_are_counted()
     ensures { (is_born : ℕ → Bool) (events : List PlainEvent) → ArePossible (start is_born) events → CountsPages (after (start is_born) events) }
+{}
+
+/// The laws are not empty: a page is mapped, written, pinned, read and written through the pin, and copied by a fork,
+/// whose child finds what the pin has written.
+pub fn runs_are_possible()
+    ensures { ArePossible (start (λ p. p == 0)) one_run }
 {}

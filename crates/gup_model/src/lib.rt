@@ -3,4 +3,4 @@
 
 mod law;
 
-pub use law::{last_write, pages_are_counted};
+pub use law::{last_write, pages_are_counted, runs_are_possible};
