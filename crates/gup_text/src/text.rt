@@ -91,12 +91,7 @@ pub fn count(least: u64, most: u64, word: &str) -> Option<u64>
 pub fn index(word: &str) -> Option<u32>
     ensures { result ≡ index_in word.now }
 {
-    let n = number(word)?;
-    if n <= u64::from(u32::MAX) {
-        Some(n as u32)
-    } else {
-        None
-    }
+    u32::try_from(number(word)?).ok()
 }
 
 /// The page that the word spells; `None` from 2^35 on, too.
@@ -179,10 +174,10 @@ pub fn segment(text: &str) -> Option<(u32, u8)>
 pub fn turn_name(word: &str) -> &str
     ensures { result.now ≡ turn_name word.now }
 {
-    match word.split_once('*') {
-        None => word,
-        Some((name, _)) => name,
-    }
+    let Some((name, _)) = word.split_once('*') else {
+        return word;
+    };
+    name
 }
 
 /// How often a written turn's word says that its actor has a turn: the number behind the first `*`, from 1 to
