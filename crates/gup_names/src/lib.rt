@@ -4,3 +4,6 @@
 mod names;
 
 pub use names::{Named, Names};
+
+#[cfg(test)]
+mod tests;

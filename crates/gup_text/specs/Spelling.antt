@@ -37,10 +37,11 @@ segment index n = decimal index ++ codes ":" ++ decimal n
 abbrev pub IsSegment : (word : List ℕ) → (index n : ℕ) → Type 0
 IsSegment word index n = (word ≡ segment index n) × (index < 2 ^ 32) × (1 ≤ n) × (n ≤ 64)
 
--- A written turn's word: a name, and how often, from 1 to 1,000,000. Without a star it is once.
-abbrev pub Lacks : ℕ → List ℕ → Type 0
+-- the byte c does not stand in the word
+abbrev pub Lacks : (c : ℕ) (word : List ℕ) → Type 0
 Lacks c word = All (λ b. b ≢ c) word
 
+-- A written turn's word: a name with no star, and how often, from 1 to 1,000,000. Without a star it is once.
 abbrev pub turn_word : (name : List ℕ) (times : ℕ) → List ℕ
 turn_word name times = name ++ codes "*" ++ decimal times
 

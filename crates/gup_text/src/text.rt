@@ -21,7 +21,7 @@ const MAX_TIMES: u64 = 1_000_000;
 pub fn is_printable(line: &[u8]) -> bool
     ensures { result ≡ is_printable line.now }
 {
-    line.iter().all(|&b| b' ' <= b && b <= b'~')
+    line.iter().all(|b| matches!(b, b' '..=b'~'))
 }
 
 /// The line's bytes as text; `None` where a line may not have one of them.
@@ -79,7 +79,7 @@ pub fn count(least: u64, most: u64, word: &str) -> Option<u64>
     ensures within { IfSome result (λ n. (least ≤ n) × (n ≤ most)) }
 {
     let n = number(word)?;
-    if least <= n && n <= most {
+    if (least..=most).contains(&n) {
         Some(n)
     } else {
         None
@@ -137,7 +137,7 @@ pub fn range(most: u64, first: &str, count: &str) -> Option<(PageNo, u16)>
 {
     let page = page(first)?;
     let n = number(count)?;
-    if 1 <= n && n <= most && page.get() + n <= PAGES {
+    if (1..=most).contains(&n) && page.get() + n <= PAGES {
         Some((page, n as u16))
     } else {
         None
