@@ -1,0 +1,9 @@
+//! The space of names that processes, actors, handles and mirror slots of a script share.
+#![tactic(auto)]
+
+mod names;
+
+pub use names::{Named, Names};
+
+#[cfg(test)]
+mod tests;
