@@ -1,8 +1,9 @@
 pub mod Script
+pub mod Said
+pub mod Outline
 pub mod Grammar
-pub mod FirstPath
-pub mod Views
-pub mod Valid
-pub mod Text
-pub mod Operations
+pub mod Fault
 pub mod Reading
+pub mod Valid
+pub mod OnePage
+pub mod Views

@@ -5,7 +5,6 @@ use Rattle.gup_script.specs.declared.script.Actor.{Actor as ActorFields}
 use Rattle.gup_script.specs.declared.script.Script.TheInside.{Inside}
 use Rattle.gup_script.specs.Script.{ScriptValue, Process, Actor}
 use Rattle.gup_script.specs.Valid.{IsScript}
-use Rattle.gup_script.specs.FirstPath.{IsFirstPath}
 
 abbrev pub process_value : ProcessFields → Process
 process_value p = record { name = string_bytes p.name; born = p.born }
@@ -25,6 +24,5 @@ script_value s =
       seed = s.seed;
     }
 
--- every `Script` is one of the accepted form
 abbrev pub IsValid : Inside → Type 0
-IsValid s = IsScript (script_value s) × IsFirstPath (script_value s)
+IsValid s = IsScript (script_value s)
