@@ -1,2 +1,5 @@
 pub mod Text
 pub mod Spelling
+pub mod Steps
+pub mod SpelledNumbers
+pub mod SpelledNames

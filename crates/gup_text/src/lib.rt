@@ -1,0 +1,9 @@
+//! The pieces of a script's text: lines, words, numbers, pages, addresses, segments and names.
+#![tactic(auto)]
+
+mod text;
+
+pub use text::{
+    address, are_spaced, count, index, is_name, is_passed, is_printable, line_text, number, page,
+    range, segment, turn_name, turn_times, word_no, words,
+};
