@@ -7,3 +7,6 @@ pub mod Reading
 pub mod Valid
 pub mod OnePage
 pub mod Views
+pub mod Steps
+pub mod Limits
+pub mod ReaderViews

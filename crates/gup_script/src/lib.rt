@@ -3,6 +3,7 @@
 
 mod op;
 mod operations;
+mod reader;
 mod refusal;
 mod script;
 
