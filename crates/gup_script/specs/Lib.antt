@@ -10,3 +10,4 @@ pub mod Views
 pub mod Steps
 pub mod Limits
 pub mod ReaderViews
+pub mod StageViews

@@ -1,12 +1,13 @@
 //! What the lines of a script so far have made, and how each adds to it.
-ghost use Rattle.std.specs.Prelude.{◌≡◌, ◌<◌, ◌≤◌, ◌+◌, true, false, nat_lt, length, option_map, OnOk};
+ghost use Rattle.std.specs.Prelude.{◌≡◌, ◌<◌, ◌≤◌, ◌+◌, true, false, nat_lt, length, replicate, option_map, OnOk};
 ghost use Rattle.gup_names.specs.Names.{find, is_unused};
 ghost use Rattle.gup_script.specs.Script.{actor_at, process_at};
-ghost use Rattle.gup_script.specs.Outline.{empty_outline, with_process, with_actor, with_operation, with_turns, with_seed, is_thread, is_device, is_mover, how_many, has_mover, is_child, is_receiver};
+ghost use Rattle.gup_script.specs.Outline.{empty_outline, with_process, with_actor, with_operation, with_turns, with_seed, draws, is_thread, is_device, is_mover, how_many, has_mover, is_child, is_receiver};
 ghost use Rattle.gup_script.specs.Limits.{HasRoomFor};
 ghost use Rattle.gup_script.specs.Reading.{frame_counts, process_of, actor_of, is_pin_name, is_got_name, is_mirror_of, may_mirror};
 
 use crate::op::{Kind, Op};
+use crate::drawing::{push_drawn, push_times};
 use crate::script::{Actor, Contents, Process};
 use gup_base::{ActorNo, ProcNo};
 use gup_names::{Named, Names};
@@ -279,6 +280,22 @@ impl Reader {
         actor.ops.push(op)?;
         self.operations += 1;
         Ok(())
+    }
+
+    /// So many more written turns of the actor.
+    pub fn add_turns(&mut self, actor: ActorNo, times: u32) -> Result<(), AllocError>
+        ensures { OnOk result (self.new ≡ with_turns (replicate times actor) self.old) }
+    {
+        push_times(&mut self.contents.turns, actor, times)
+    }
+
+    /// So many more written turns of actors that are drawn, from this start of the generator.
+    pub fn add_drawn_turns(&mut self, start: u64, count: u64) -> Result<(), AllocError>
+        requires { 0 < count → 0 < length self.old.script.actors }
+        ensures { OnOk result (self.new ≡ with_turns (draws count (length self.old.script.actors) start) self.old) }
+    {
+        let actors = self.actors() as u64;
+        push_drawn(&mut self.contents.turns, actors, start, count)
     }
 
     pub fn set_seed(&mut self, seed: u64)

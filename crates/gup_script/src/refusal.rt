@@ -1,7 +1,7 @@
 ghost use Rattle.gup_script.specs.declared.refusal.Trouble.TheVariants.{Fault, NoMemory};
 ghost use Rattle.std.specs.Prelude.{◌≡◌};
 
-use std::alloc::AllocFailed;
+use std::alloc::AllocError;
 
 /// Why a script is refused. In a line that has several of these faults, the first in this order is told.
 #[derive(Clone, Copy, Debug, PartialEq, Eq)]
@@ -67,10 +67,10 @@ impl From<Reason> for Trouble {
     }
 }
 
-impl<T: Drop> From<AllocFailed<T>> for Trouble {
+impl From<AllocError> for Trouble {
     ghost from_gives = { λ _ e. e ≡ NoMemory };
 
-    fn from(_e: AllocFailed<T>) -> Trouble {
+    fn from(_e: AllocError) -> Trouble {
         Trouble::NoMemory
     }
 }

@@ -1,10 +1,10 @@
-use Rattle.std.proofs.Common.{◌≡◌, ◌<◌, length, map, subst, sym, ap, ◌∙◌, arith}
-use Rattle.std.proofs.lemmas.List.{length-map}
+use Rattle.std.proofs.Common.{◌≡◌, ◌<◌, ◌∷◌, [], length, map, subst, sym, ap, ◌∙◌, refl, arith, rules}
+use Rattle.std.proofs.lemmas.List.{length-map, map-append}
 use Rattle.gup_script.specs.Outline.{Outline, with_actor}
 use Rattle.gup_script.specs.Limits.{IsWithin, HasRoomFor}
 use Rattle.gup_script.specs.Views.{actor_value}
 use Rattle.gup_script.specs.ReaderViews.{outline_value}
-use Rattle.gup_script.proofs.Actors.{number_left, actor_added}
+use Rattle.gup_script.proofs.Actors.{number_left, actor_added, same_actors}
 use Rattle.gup_script.proofs.reader.Reader.add_actor.Goals as goal
 
 pub unwrap-number-requires : goal.unwrap-number-requires
@@ -15,4 +15,8 @@ unwrap-number-requires c =
     c.new.ensures.some.1 (omega (arith, left, length-map c.self.inside.contents.actors.items actor_value, c.len.ensures))
 
 pub invariant_of-self-2 : goal.invariant_of-self-2
-invariant_of-self-2 c = ?
+invariant_of-self-2 c =
+    let st = outline_value c.self.inside in
+    let name = c.args.name.now in
+    let room : HasRoomFor c.args.kind st = subst (HasRoomFor c.args.kind) (sym c.self.view_is) c.requires.room in
+    same_actors (with_actor name c.args.kind st) _ (search (rules, map-append)) (actor_added name c.args.kind st c.self.invariant room)
