@@ -1,3 +1,4 @@
 pub mod Actors
 pub mod Copies
 pub mod Parts
+pub mod Turners

@@ -6,8 +6,8 @@ ghost use Rattle.gup_script.specs.Outline.{empty_outline, with_process, with_act
 ghost use Rattle.gup_script.specs.Limits.{HasRoomFor};
 ghost use Rattle.gup_script.specs.Reading.{frame_counts, process_of, actor_of, is_pin_name, is_got_name, is_mirror_of, may_mirror};
 
-use crate::op::{Kind, Op};
 use crate::drawing::{push_drawn, push_times};
+use crate::op::{Kind, Op};
 use crate::script::{Actor, Contents, Process};
 use gup_base::{ActorNo, ProcNo};
 use gup_names::{Named, Names};
@@ -42,6 +42,8 @@ impl Model for Reader {
 }
 
 impl Reader {
+    ghost use Rattle.gup_script.specs.Views.{script_value};
+
     /// Nothing behind a `frames` line with these counts.
     pub fn new(alloc: Global, frames: (u32, u32, u32)) -> Reader
         ensures { result ≡ empty_outline (frame_counts frames) }
@@ -61,6 +63,19 @@ impl Reader {
             operations: 0,
             seeded: false,
         }
+    }
+
+    /// What the lines say.
+    pub fn into_contents(self) -> Contents
+        ensures { script_value result ≡ self.script }
+    {
+        let Reader {
+            contents,
+            names: _,
+            operations: _,
+            seeded: _,
+        } = self;
+        contents
     }
 
     /// What the name names; `None` where it is not declared.

@@ -2,7 +2,7 @@
 ghost use Rattle.std.specs.Prelude.{◌≡◌, Ok, Err, map, MatchResult};
 ghost use Rattle.gup_script.specs.Reading.{frame_counts, counts_in, frames_in, is_head, words_in, line_in};
 
-use crate::lines::next_line;
+use crate::declarations::next_line;
 use crate::reader::Reader;
 use crate::refusal::{Reason, Trouble};
 use gup_text::{are_spaced, is_passed, line_text, number, words};
