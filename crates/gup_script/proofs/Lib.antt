@@ -2,3 +2,4 @@ pub mod Actors
 pub mod Copies
 pub mod Parts
 pub mod Turners
+pub mod Cuts

@@ -1,7 +1,6 @@
 -- What the functions of the reader answer, beside the functions on lists that they compute. Want of memory says
 -- nothing of the text.
-use Rattle.std.specs.Prelude.{◌≡◌, ℕ, ◌≤◌, length, Result, Ok, Err}
-use Rattle.gup_names.specs.Names.{Entry}
+use Rattle.std.specs.Prelude.{◌≡◌, ℕ, Result, Ok, Err}
 use Rattle.gup_script.specs.declared.refusal.Reason.{Reason}
 use Rattle.gup_script.specs.declared.refusal.Trouble.{Trouble}
 use Rattle.gup_script.specs.declared.refusal.Trouble.TheVariants as trouble
@@ -10,7 +9,6 @@ use Rattle.gup_script.specs.declared.refusal.ReadRefusal.{ReadRefusal}
 use Rattle.gup_script.specs.declared.refusal.ReadRefusal.TheVariants as refusals
 use Rattle.gup_script.specs.Script.{ScriptValue}
 use Rattle.gup_script.specs.Outline.{Outline}
-use Rattle.gup_script.specs.Grammar.{Stage}
 
 -- the trouble is the fault that was found, or want of memory
 abbrev pub IsTrouble : {A : Type 0} → Result A Reason → Trouble → Type 0
@@ -21,6 +19,11 @@ IsTrouble found trouble.NoMemory = Unit {0}
 abbrev pub Makes : Result Outline Reason → Outline → Result Unit Trouble → Type 0
 Makes found next (Ok done) = found ≡ Ok next
 Makes found next (Err e) = IsTrouble found e
+
+-- the refusal for a line's trouble
+abbrev pub refusal_at : (line : ℕ) → Trouble → ReadRefusal
+refusal_at line (trouble.Fault reason) = refusals.Fault (record { line = line; reason = reason })
+refusal_at line trouble.NoMemory = refusals.NoMemory
 
 -- what is found in a text, from some line on
 abbrev pub IsRefusal : Result Outline ScriptFault → ReadRefusal → Type 0

@@ -8,7 +8,7 @@ ghost use Rattle.gup_script.specs.StageViews.{stage_value, IsCut};
 ghost use Rattle.gup_script.specs.Reading.{end_in, lines_in, reading};
 
 use crate::reader::Reader;
-use crate::refusal::{ReadRefusal, Reason, ScriptFault, Trouble};
+use crate::refusal::{ReadRefusal, Reason, ScriptFault};
 use crate::script::Script;
 use crate::stage::Stage;
 use gup_text::is_printable;
@@ -59,11 +59,10 @@ fn lines(alloc: Global, text: &[u8]) -> Result<Reader, ReadRefusal>
     let mut stage = Stage::BeforeHead;
     let mut rest = text;
     while let Some((line, behind)) = cut_line(rest) {
-        stage = match stage.after(alloc, line) {
-            Ok(stage) => stage,
-            Err(Trouble::Fault(reason)) => return Err(fault_at(number, reason)),
-            Err(Trouble::NoMemory) => return Err(ReadRefusal::NoMemory),
-        };
+        match stage.after(alloc, line) {
+            Ok(next) => stage = next,
+            Err(trouble) => return Err(trouble.at(number)),
+        }
         number += 1;
         rest = behind;
     }

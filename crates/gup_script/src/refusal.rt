@@ -59,6 +59,20 @@ pub(crate) enum Trouble {
     NoMemory,
 }
 
+impl Trouble {
+    ghost use Rattle.gup_script.specs.Steps.{refusal_at};
+
+    /// The refusal for it in the line with this number.
+    pub fn at(self, line: u32) -> ReadRefusal
+        ensures { result ≡ refusal_at line self }
+    {
+        match self {
+            Trouble::Fault(reason) => ReadRefusal::Fault(ScriptFault { line, reason }),
+            Trouble::NoMemory => ReadRefusal::NoMemory,
+        }
+    }
+}
+
 impl From<Reason> for Trouble {
     ghost from_gives = { λ reason e. e ≡ Fault reason };
 
