@@ -1,5 +1,5 @@
 -- How numbers, pages, addresses, ranges and names are spelled.
-use Rattle.std.specs.Prelude.{◌≡◌, ℕ, ◌+◌, ◌^◌, ◌<◌, ◌≤◌, ◌⊎◌, List, [], ◌∷◌, ◌++◌, length, codes, decimal, All}
+use Rattle.std.specs.Prelude.{◌≡◌, ◌≢◌, ℕ, ◌+◌, ◌^◌, ◌<◌, ◌≤◌, ◌⊎◌, List, [], ◌∷◌, ◌++◌, length, codes, decimal, All}
 
 -- a number below 2^64, or one of a few
 abbrev pub IsNumber : (word : List ℕ) → ℕ → Type 0
@@ -36,6 +36,18 @@ segment index n = decimal index ++ codes ":" ++ decimal n
 
 abbrev pub IsSegment : (word : List ℕ) → (index n : ℕ) → Type 0
 IsSegment word index n = (word ≡ segment index n) × (index < 2 ^ 32) × (1 ≤ n) × (n ≤ 64)
+
+-- A written turn's word: a name, and how often, from 1 to 1,000,000. Without a star it is once.
+abbrev pub Lacks : ℕ → List ℕ → Type 0
+Lacks c word = All (λ b. b ≢ c) word
+
+abbrev pub turn_word : (name : List ℕ) (times : ℕ) → List ℕ
+turn_word name times = name ++ codes "*" ++ decimal times
+
+abbrev pub IsTurnWord : (word name : List ℕ) (times : ℕ) → Type 0
+IsTurnWord word name times =
+    Lacks 42 name
+    × (((word ≡ name) × (times ≡ 1)) ⊎ ((word ≡ turn_word name times) × (1 ≤ times) × (times ≤ 1000000)))
 
 -- names: 1 to 16 letters and digits, the first a letter
 
