@@ -6,4 +6,3 @@ pub mod Fault
 pub mod Reading
 pub mod Valid
 pub mod OnePage
-pub mod Views

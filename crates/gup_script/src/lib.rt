@@ -1,11 +1,10 @@
 //! Scripts: their operations, what a script says, and the reader of its text.
 #![tactic(auto)]
 
+mod law;
 mod op;
-mod operations;
 mod refusal;
-mod script;
 
+pub use law::{one_fault, one_script, script_or_fault, scripts_have_no_fault};
 pub use op::{Kind, Op};
 pub use refusal::{ReadRefusal, Reason, ScriptFault};
-pub use script::Script;
