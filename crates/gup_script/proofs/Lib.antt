@@ -1,1 +1,4 @@
 pub mod Judged
+pub mod Places
+pub mod Known
+pub mod Declaring
