@@ -13,7 +13,7 @@ use Rattle.gup_script.specs.Said.{Word, Said, a_process, a_child, a_thread, a_de
 use Rattle.gup_script.specs.Grammar.{IsUnused, NamesProcess, Becomes}
 use Rattle.gup_script.specs.Fault.{Unless, Fails}
 use Rattle.gup_script.specs.Reading.{◌>>=◌, check, need, process_of, process_in, thread_in, device_in, mover_in, seed_in}
-use Rattle.gup_script.proofs.Judged.{Judges, Finds, same_given, checked, skipped, needed, ended, done, merged}
+use Rattle.gup_script.proofs.Verdicts.{Judges, Finds, same_given, checked, skipped, needed, ended, done, merged}
 use Rattle.gup_script.proofs.Known.{unused_decides, unset_decides, name_decides, number_finds, count_finds, process_finds}
 use Rattle.gup_script.proofs.Places.{JudgesSaid, JudgesTests, placed, misplaced}
 

@@ -11,7 +11,7 @@ use Rattle.gup_names.specs.declared.names.Named.TheVariants as named
 use Rattle.gup_script.specs.Outline.{Outline}
 use Rattle.gup_script.specs.Grammar.{IsUnused, NamesProcess, NamesActor}
 use Rattle.gup_script.specs.Reading.{process_of, actor_of}
-use Rattle.gup_script.proofs.Judged.{Finds}
+use Rattle.gup_script.proofs.Verdicts.{Finds}
 
 pub none_decides : {A : Type 0} (o : Option A) → Decides (is_none o) (o ≡ None)
 none_decides None = (λ _. refl, λ _. refl)

@@ -1,4 +1,5 @@
-pub mod Judged
+pub mod Verdicts
 pub mod Places
 pub mod Known
 pub mod Declaring
+pub mod Turning

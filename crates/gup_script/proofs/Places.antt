@@ -7,7 +7,7 @@ use Rattle.gup_script.specs.Outline.{Outline}
 use Rattle.gup_script.specs.Said.{Word, Said, a_process, a_child, a_thread, a_device, a_mover, a_seed, some_turns, random_turns, said_words}
 use Rattle.gup_script.specs.Grammar.{Declares, SaidNumbers, SaidNames, SaidOnce, SaidLimits, Becomes}
 use Rattle.gup_script.specs.Fault.{SaidFault, DeclaringFault}
-use Rattle.gup_script.proofs.Judged.{Judges, given, same_given, adjusted, refused}
+use Rattle.gup_script.proofs.Verdicts.{Judges, given, same_given, adjusted, refused}
 
 abbrev with_one : (Word → Said) → List Word → Option Said
 with_one kind (field ∷ []) = Some (kind field)
