@@ -3,3 +3,4 @@ pub mod Places
 pub mod Known
 pub mod Declaring
 pub mod Turning
+pub mod Following

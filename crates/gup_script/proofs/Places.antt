@@ -50,7 +50,7 @@ said_back (random_turns start count) = refl
 same_said : (a b : Said) → said_words a ≡ said_words b → a ≡ b
 same_said a b e = same_given a b (sym (said_back a) ∙ ap said_of e ∙ said_back b)
 
-none_said : (words : List Word) → said_of words ≡ None → (said : Said) → words ≡ said_words said → ⊥
+pub none_said : (words : List Word) → said_of words ≡ None → (said : Said) → words ≡ said_words said → ⊥
 none_said words none said e = let both : given said ≡ None = sym (said_back said) ∙ ap said_of (sym e) ∙ none in cc
 
 -- the words behind a first one are judged rightly
