@@ -4,3 +4,4 @@ pub mod Known
 pub mod Declaring
 pub mod Turning
 pub mod Following
+pub mod Frames
