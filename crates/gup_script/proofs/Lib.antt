@@ -5,3 +5,4 @@ pub mod Declaring
 pub mod Turning
 pub mod Following
 pub mod Frames
+pub mod Spaced
