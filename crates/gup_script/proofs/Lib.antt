@@ -6,3 +6,4 @@ pub mod Turning
 pub mod Following
 pub mod Frames
 pub mod Spaced
+pub mod Lines
