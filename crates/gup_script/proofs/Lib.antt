@@ -7,3 +7,4 @@ pub mod Following
 pub mod Frames
 pub mod Spaced
 pub mod Lines
+pub mod Laws
