@@ -18,19 +18,19 @@ use Rattle.gup_script.proofs.Following.{OnLaws}
 use Rattle.gup_script.proofs.Spaced.{AreNamedAt, stays_named}
 use Rattle.gup_script.proofs.Lines.{judged_line, some_part}
 
-abbrev read : Outline → Result Outline ScriptFault
+abbrev pub read : Outline → Result Outline ScriptFault
 read st = Ok st
 
-abbrev faulty : ScriptFault → Result Outline ScriptFault
+abbrev pub faulty : ScriptFault → Result Outline ScriptFault
 faulty fault = Err fault
 
-same_read : (a b : Outline) → read a ≡ read b → a ≡ b
+pub same_read : (a b : Outline) → read a ≡ read b → a ≡ b
 same_read a b e = cc
 
-same_fault : (a b : ScriptFault) → faulty a ≡ faulty b → a ≡ b
+pub same_fault : (a b : ScriptFault) → faulty a ≡ faulty b → a ≡ b
 same_fault a b e = cc
 
-not_faulty : (a : Outline) (b : ScriptFault) → read a ≡ faulty b → ⊥
+pub not_faulty : (a : Outline) (b : ScriptFault) → read a ≡ faulty b → ⊥
 not_faulty a b e = cc
 
 fault_is : (fault : ScriptFault) (number : ℕ) (reason : Reason) → fault.line ≡ number → fault.reason ≡ reason → fault_at number reason ≡ fault

@@ -8,3 +8,4 @@ pub mod Frames
 pub mod Spaced
 pub mod Lines
 pub mod Laws
+pub mod Public
