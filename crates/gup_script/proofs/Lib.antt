@@ -1,3 +1,4 @@
 pub mod Chains
 pub mod ActionWords
 pub mod Judged
+pub mod BuiltActions
