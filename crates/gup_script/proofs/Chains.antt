@@ -91,6 +91,13 @@ both this one two behind result (stops because failed) = stops because (λ t. fa
 both this one two behind result (goes first (stops because failed)) = stops because (λ t. failed t.1)
 both this one two behind result (goes first (goes second on)) = goes (first, second) on
 
+-- three
+pub all_three : {B : Type 0} (this : Reason) (one two three : Type 0) (behind : Result B Reason → Type 0) (result : Result B Reason) → Tried this one (Tried this two (Tried this three behind)) result → Tried this (one × two × three) behind result
+all_three this one two three behind result (stops because failed) = stops because (λ t. failed t.0)
+all_three this one two three behind result (goes first (stops because failed)) = stops because (λ t. failed t.1)
+all_three this one two three behind result (goes first (goes second (stops because failed))) = stops because (λ t. failed t.2)
+all_three this one two three behind result (goes first (goes second (goes third on))) = goes (first, second, third) on
+
 -- a chain before further steps
 pub carried : {A B : Type 0} (this : Reason) (test : Type 0) (behind : Result A Reason → Type 0) (after : Result B Reason → Type 0) (f : A → Result B Reason) (result : Result A Reason) → (behind result → after (result >>= f)) → Tried this test behind result → Tried this test after (result >>= f)
 carried this test behind after f result next (stops because failed) = stops (ap (λ r. r >>= f) because) failed

@@ -17,10 +17,10 @@ use Rattle.gup_script.specs.declared.op.Op.{Op}
 use Rattle.gup_script.specs.declared.refusal.Reason.{Reason}
 use Rattle.gup_script.specs.declared.refusal.Reason.TheVariants as reasons
 use Rattle.gup_script.specs.Said.{Word, Action, action_words, IsShaped}
-use Rattle.gup_script.specs.Outline.{Outline}
+use Rattle.gup_script.specs.Outline.{Outline, is_child, is_receiver}
 use Rattle.gup_script.specs.Grammar.{ActionNumbers, ActionNames, ActionOnce, Means, IsBuilt, NamesProcess, NamesActor, IsPin, IsGot, IsMirrorOf, IsUnused}
 use Rattle.gup_script.specs.Reading.{◌>>=◌, check, need, process_of, actor_of, is_pin_name, is_got_name, is_mirror_of, may_mirror}
-use Rattle.gup_script.proofs.Chains.{Tried, checked, needed, unused_Decides}
+use Rattle.gup_script.proofs.Chains.{Tried, stops, goes, checked, needed, unused_Decides}
 use Rattle.gup_script.proofs.ActionWords.{action_in}
 
 -- ---- what an action comes to
@@ -109,6 +109,22 @@ actor_found (Some (named.Process q)) p e = absurd cc
 actor_found (Some (named.Pin q)) p e = absurd cc
 actor_found (Some (named.Got q)) p e = absurd cc
 actor_found (Some (named.Mirror q b)) p e = absurd cc
+
+-- something named, that has to pass a test
+named_and_tested : {B : Type 0} (o : Option ℕ) (Named : ℕ → Type 0) (test : ℕ → Bool) (f : Unit → Result B Reason) (behind : Result B Reason → Type 0) → ((n : ℕ) → o ≡ Some n → Named n) → ((n : ℕ) → Named n → o ≡ Some n) → behind (f tt) → Tried reasons.Name ((n : ℕ) × Named n × (test n ≡ true)) behind (need reasons.Name o >>= λ n. check reasons.Name (test n) >>= f)
+named_and_tested None Named test f behind found read next = stops refl (λ h. absurd (cc (read h.0 h.1)))
+named_and_tested (Some n) Named test f behind found read next = tested (test n) refl where
+  tested : (b : Bool) → test n ≡ b → Tried reasons.Name ((m : ℕ) × Named m × (test m ≡ true)) behind (check reasons.Name b >>= f)
+  tested true e = goes (n, found n refl, e) next
+  tested false e = stops refl (λ h. let one : n ≡ h.0 = cc (read h.0 h.1) in absurd (cc (one, e, h.2)))
+
+pub child_step : {B : Type 0} (st : Outline) (word : Word) (f : Unit → Result B Reason) (behind : Result B Reason → Type 0) → behind (f tt) → Tried reasons.Name ((p : ℕ) × NamesProcess st word p × (is_child st p ≡ true)) behind (need reasons.Name (process_of (find st.names word)) >>= λ p. check reasons.Name (is_child st p) >>= f)
+child_step st word f behind next =
+    named_and_tested (process_of (find st.names word)) (NamesProcess st word) (is_child st) f behind (process_found (find st.names word)) (λ p h. ap process_of h) next
+
+pub receiver_step : {B : Type 0} (st : Outline) (word : Word) (f : Unit → Result B Reason) (behind : Result B Reason → Type 0) → behind (f tt) → Tried reasons.Name ((a : ℕ) × NamesActor st word a × (is_receiver st a ≡ true)) behind (need reasons.Name (actor_of (find st.names word)) >>= λ a. check reasons.Name (is_receiver st a) >>= f)
+receiver_step st word f behind next =
+    named_and_tested (actor_of (find st.names word)) (NamesActor st word) (is_receiver st) f behind (actor_found (find st.names word)) (λ a h. ap actor_of h) next
 
 pub pin_Decides : (o : Option Named) → Decides (is_pin_name o) ((h : ℕ) × (o ≡ Some (named.Pin h)))
 pin_Decides None = (λ e. absurd cc, λ h. absurd (cc h.1))

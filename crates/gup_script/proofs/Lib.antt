@@ -2,3 +2,8 @@ pub mod Chains
 pub mod ActionWords
 pub mod Judged
 pub mod BuiltActions
+pub mod LaterThreads
+pub mod LaterDevices
+pub mod Choices
+pub mod OpChoices
+pub mod On
