@@ -1,22 +1,18 @@
 -- What the words of the operations that are built come to.
-use Rattle.std.proofs.Common.{◌≡◌, ℕ, Bool, true, false, cond, List, [], ◌∷◌, Option, Some, None, Result, Ok, Err, refl, sym, ap, subst, ◌∙◌, inl, inr}
+use Rattle.std.proofs.Common.{◌≡◌, ℕ, Bool, true, false, cond, List, [], ◌∷◌, Option, Some, None, Ok, refl, ap, ◌∙◌, inl, inr}
 use Rattle.std.specs.Prelude.{codes}
 use Rattle.std.specs.Str.{bytes_eq}
 use Rattle.gup_base.specs.declared.entry.Rights.{Rights}
 use Rattle.gup_base.specs.declared.entry.Rights.TheVariants.{R, RW}
-use Rattle.gup_text.specs.Text.{number_in, address_in, range_in}
-use Rattle.gup_text.specs.Spelling.{IsRange}
-use Rattle.gup_script.specs.declared.op.Op.{Op}
+use Rattle.gup_text.specs.Text.{range_in}
 use Rattle.gup_script.specs.declared.op.Op.TheVariants as ops
-use Rattle.gup_script.specs.declared.refusal.Reason.{Reason}
 use Rattle.gup_script.specs.declared.refusal.Reason.TheVariants as reasons
-use Rattle.gup_script.specs.Said.{Word, Action, maps, unmaps, protects, discards, loads, stores, exits, action_words, rights_word}
+use Rattle.gup_script.specs.Said.{Word, maps, unmaps, protects, discards, loads, stores, exits, rights_word}
 use Rattle.gup_script.specs.Outline.{Outline}
-use Rattle.gup_script.specs.Grammar.{ActionNumbers, ActionNames, ActionOnce}
 use Rattle.gup_script.specs.Reading.{◌>>=◌, need, rights_in, map_in, unmap_in, protect_in, discard_in, load_in, store_in, exit_in}
-use Rattle.gup_script.proofs.Chains.{Tried, stops, goes, nothing, both, same_word}
-use Rattle.gup_script.proofs.ActionWords.{said_with, action_in}
-use Rattle.gup_script.proofs.Judged.{Ends, built, later, Judged, Told, number_step, address_step, range_step}
+use Rattle.gup_script.proofs.Chains.{goes, both, same_word}
+use Rattle.gup_script.proofs.ActionWords.{said_with}
+use Rattle.gup_script.proofs.Judged.{built, Told, number_step, address_step, range_step}
 
 -- ---- rights
 
@@ -36,8 +32,11 @@ map_told st a (first ∷ count ∷ allowed ∷ []) = way (rights_in allowed) ref
   way : (o : Option Rights) → rights_in allowed ≡ o → Told st a (codes "map" ∷ first ∷ count ∷ allowed ∷ []) (need reasons.Shape o >>= λ rights. need reasons.Number (range_in 1024 first count) >>= λ range. Ok (Some (ops.Map range.0 range.1 rights)))
   way None e = inr (refl, ap (said_with (maps first count)) e)
   way (Some rights) e =
-      inl (maps first count rights, ap (λ (w : Word). codes "map" ∷ first ∷ count ∷ w ∷ []) (rights_found allowed rights e),
-        goes tt (range_step 1024 first count _ _ (λ page n h. goes tt (goes tt (built (ops.Map page n rights) refl (page, n, h, refl))))))
+      inl (
+        maps first count rights,
+        ap (λ (w : Word). codes "map" ∷ first ∷ count ∷ w ∷ []) (rights_found allowed rights e),
+        goes tt (range_step 1024 first count _ _ (λ page n h. goes tt (goes tt (built (ops.Map page n rights) refl (page, n, h, refl))))),
+      )
 map_told st a _ = inr (refl, refl)
 
 pub protect_told : (st : Outline) (a : ℕ) (fields : List Word) → Told st a (codes "protect" ∷ fields) (protect_in fields)
@@ -46,8 +45,11 @@ protect_told st a (first ∷ count ∷ allowed ∷ []) = way (rights_in allowed)
   way : (o : Option Rights) → rights_in allowed ≡ o → Told st a (codes "protect" ∷ first ∷ count ∷ allowed ∷ []) (need reasons.Shape o >>= λ rights. need reasons.Number (range_in 1024 first count) >>= λ range. Ok (Some (ops.Protect range.0 range.1 rights)))
   way None e = inr (refl, ap (said_with (protects first count)) e)
   way (Some rights) e =
-      inl (protects first count rights, ap (λ (w : Word). codes "protect" ∷ first ∷ count ∷ w ∷ []) (rights_found allowed rights e),
-        goes tt (range_step 1024 first count _ _ (λ page n h. goes tt (goes tt (built (ops.Protect page n rights) refl (page, n, h, refl))))))
+      inl (
+        protects first count rights,
+        ap (λ (w : Word). codes "protect" ∷ first ∷ count ∷ w ∷ []) (rights_found allowed rights e),
+        goes tt (range_step 1024 first count _ _ (λ page n h. goes tt (goes tt (built (ops.Protect page n rights) refl (page, n, h, refl))))),
+      )
 protect_told st a _ = inr (refl, refl)
 
 pub unmap_told : (st : Outline) (a : ℕ) (fields : List Word) → Told st a (codes "unmap" ∷ fields) (unmap_in fields)
@@ -73,8 +75,11 @@ load_told st a _ = inr (refl, refl)
 pub store_told : (st : Outline) (a : ℕ) (fields : List Word) → Told st a (codes "store" ∷ fields) (store_in fields)
 unfolding store_in
 store_told st a (address ∷ value ∷ []) =
-    inl (stores address value, refl,
-      goes tt (both _ _ _ _ _ (address_step address _ _ (λ page w h. number_step value _ _ (λ v g. goes tt (goes tt (built (ops.Store page w v) refl (page, w, v, h, g, refl))))))))
+    inl (
+      stores address value,
+      refl,
+      goes tt (both _ _ _ _ _ (address_step address _ _ (λ page w h. number_step value _ _ (λ v g. goes tt (goes tt (built (ops.Store page w v) refl (page, w, v, h, g, refl))))))),
+    )
 store_told st a _ = inr (refl, refl)
 
 pub exit_told : (st : Outline) (a : ℕ) (fields : List Word) → Told st a (codes "exit" ∷ fields) (exit_in fields)

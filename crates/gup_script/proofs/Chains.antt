@@ -1,7 +1,6 @@
 -- What is known of a chain of tests that gave something, or stopped. `Tried` says that
 -- a chain's next test is this one, whatever comes of it: the laws in both directions follow from it.
 use Rattle.std.proofs.Common.{◌≡◌, ℕ, ◌⊎◌, Bool, true, false, List, Option, Some, None, is_none, Result, Ok, Err, refl, ap, inl, inr}
-use Rattle.std.specs.Prelude.{codes}
 use Rattle.std.specs.Bool.{Decides}
 use Rattle.std.specs.Str.{bytes_eq}
 use Rattle.std.proofs.lemmas.Slice.Eq.{bytes_eq-Decides}
@@ -80,10 +79,6 @@ checked this false test f behind d next = stops refl (λ t. absurd (cc (d.1 t)))
 pub needed : {A B : Type 0} (this : Reason) (o : Option A) (test : Type 0) (f : A → Result B Reason) (behind : Result B Reason → Type 0) → ((x : A) → o ≡ Some x → test × behind (f x)) → (test → o ≡ None → ⊥) → Tried this test behind (need this o >>= f)
 needed this (Some x) test f behind found read = let h = found x refl in goes h.0 h.1
 needed this None test f behind found read = stops refl (λ t. read t refl)
-
--- a line that has nothing to test there
-pub nothing : {B : Type 0} (this : Reason) (behind : Result B Reason → Type 0) (result : Result B Reason) → behind result → Tried this (Unit {0}) behind result
-nothing this behind result h = goes tt h
 
 -- two tests of one reason
 pub both : {B : Type 0} (this : Reason) (one two : Type 0) (behind : Result B Reason → Type 0) (result : Result B Reason) → Tried this one (Tried this two behind) result → Tried this (one × two) behind result

@@ -1,16 +1,14 @@
 -- What an `on` line's action comes to: its tests in their order, and then an operation, or none where its kind comes
 -- later. For each form that a test has in the reader, the condition in the grammar that it tests.
-use Rattle.std.proofs.Common.{◌≡◌, ℕ, ◌+◌, ◌^◌, ◌<◌, ◌≤◌, ◌&&◌, ◌||◌, Bool, true, false, eqb, List, [], ◌∷◌, Option, Some, None, Result, Ok, Err, refl, sym, ap, ◌⊎◌, inl, inr, lit<}
-use Rattle.std.specs.Prelude.{codes}
+use Rattle.std.proofs.Common.{◌≡◌, ℕ, ◌^◌, ◌<◌, Bool, true, false, List, Option, Some, None, Result, Ok, Err, refl, ap, ◌⊎◌, inl, inr}
 use Rattle.std.specs.Bool.{Decides}
-use Rattle.std.specs.Str.{bytes_eq}
 use Rattle.std.proofs.lemmas.Bool.Decides.{Decides-eqb}
 use Rattle.gup_text.specs.Text.{number_in, count_in, index_in, page_in, word_no_in, address_in, range_in, is_name}
 use Rattle.gup_text.specs.Spelling.{IsNumber, IsCount, IsIndex, IsPage, IsWordNo, IsAddress, IsRange, IsName}
 use Rattle.gup_text.specs.SpelledNumbers.{number_found, number_read, count_found, count_read, index_found, index_read, page_found, page_read, word_no_found, word_no_read}
 use Rattle.gup_text.specs.SpelledPlaces.{address_found, address_read, range_found, range_read}
 use Rattle.gup_text.specs.SpelledNames.{name_found, name_read}
-use Rattle.gup_names.specs.Names.{find, is_unused}
+use Rattle.gup_names.specs.Names.{find}
 use Rattle.gup_names.specs.declared.names.Named.{Named}
 use Rattle.gup_names.specs.declared.names.Named.TheVariants as named
 use Rattle.gup_script.specs.declared.op.Op.{Op}
@@ -18,9 +16,9 @@ use Rattle.gup_script.specs.declared.refusal.Reason.{Reason}
 use Rattle.gup_script.specs.declared.refusal.Reason.TheVariants as reasons
 use Rattle.gup_script.specs.Said.{Word, Action, action_words, IsShaped}
 use Rattle.gup_script.specs.Outline.{Outline, is_child, is_receiver}
-use Rattle.gup_script.specs.Grammar.{ActionNumbers, ActionNames, ActionOnce, Means, IsBuilt, NamesProcess, NamesActor, IsPin, IsGot, IsMirrorOf, IsUnused}
+use Rattle.gup_script.specs.Grammar.{ActionNumbers, ActionNames, ActionOnce, Means, IsBuilt, NamesProcess, NamesActor}
 use Rattle.gup_script.specs.Reading.{◌>>=◌, check, need, process_of, actor_of, is_pin_name, is_got_name, is_mirror_of, may_mirror}
-use Rattle.gup_script.proofs.Chains.{Tried, stops, goes, checked, needed, unused_Decides}
+use Rattle.gup_script.proofs.Chains.{Tried, stops, goes, needed}
 use Rattle.gup_script.proofs.ActionWords.{action_in}
 
 -- ---- what an action comes to
@@ -32,9 +30,9 @@ pub data Ends (action : Action) (result : Result (Option Op) Reason) : Type 0 wh
 abbrev pub Judged : Outline → (actor : ℕ) → Action → Result (Option Op) Reason → Type 0
 Judged st a action =
     Tried reasons.Shape (IsShaped action)
-        (Tried reasons.Number (ActionNumbers action)
-            (Tried reasons.Name (ActionNames st a action)
-                (Tried reasons.Twice (ActionOnce st action) (Ends action))))
+    (Tried reasons.Number (ActionNumbers action)
+    (Tried reasons.Name (ActionNames st a action)
+    (Tried reasons.Twice (ActionOnce st action) (Ends action))))
 
 -- what words come to: they say an action, or none
 abbrev pub Told : Outline → (actor : ℕ) → List Word → Result (Option Op) Reason → Type 0
@@ -68,18 +66,18 @@ word_no_step word f behind next = numbered word_no_in IsWordNo word f behind (wo
 pub address_step : {B : Type 0} (word : Word) (f : ℕ × ℕ → Result B Reason) (behind : Result B Reason → Type 0) → ((page w : ℕ) → IsAddress word page w → behind (f (page, w))) → Tried reasons.Number ((page w : ℕ) × IsAddress word page w) behind (need reasons.Number (address_in word) >>= f)
 address_step word f behind next =
     needed reasons.Number (address_in word) _ f behind
-        (λ at e.
-            let h = address_found word at.0 at.1 e in
-            ((at.0, at.1, h), next at.0 at.1 h))
-        (λ t none. absurd (cc (address_read word t.0 t.1 t.2)))
+    (λ at e.
+    let h = address_found word at.0 at.1 e in
+    ((at.0, at.1, h), next at.0 at.1 h))
+    (λ t none. absurd (cc (address_read word t.0 t.1 t.2)))
 
 pub range_step : {B : Type 0} (most : ℕ) (first count : Word) (f : ℕ × ℕ → Result B Reason) (behind : Result B Reason → Type 0) → ((page n : ℕ) → IsRange most first count page n → behind (f (page, n))) → Tried reasons.Number ((page n : ℕ) × IsRange most first count page n) behind (need reasons.Number (range_in most first count) >>= f)
 range_step most first count f behind next =
     needed reasons.Number (range_in most first count) _ f behind
-        (λ range e.
-            let h = range_found most first count range.0 range.1 e in
-            ((range.0, range.1, h), next range.0 range.1 h))
-        (λ t none. absurd (cc (range_read most first count t.0 t.1 t.2)))
+    (λ range e.
+    let h = range_found most first count range.0 range.1 e in
+    ((range.0, range.1, h), next range.0 range.1 h))
+    (λ t none. absurd (cc (range_read most first count t.0 t.1 t.2)))
 
 -- ---- names
 
@@ -97,10 +95,10 @@ process_found (Some (named.Mirror q b)) p e = absurd cc
 pub process_step : {B : Type 0} (st : Outline) (word : Word) (f : ℕ → Result B Reason) (behind : Result B Reason → Type 0) → ((p : ℕ) → NamesProcess st word p → behind (f p)) → Tried reasons.Name ((p : ℕ) × NamesProcess st word p) behind (need reasons.Name (process_of (find st.names word)) >>= f)
 process_step st word f behind next =
     needed reasons.Name (process_of (find st.names word)) _ f behind
-        (λ p e.
-            let h = process_found (find st.names word) p e in
-            ((p, h), next p h))
-        (λ t none. absurd (cc (ap process_of t.1)))
+    (λ p e.
+    let h = process_found (find st.names word) p e in
+    ((p, h), next p h))
+    (λ t none. absurd (cc (ap process_of t.1)))
 
 pub actor_found : (o : Option Named) (a : ℕ) → actor_of o ≡ Some a → o ≡ Some (named.Actor a)
 actor_found None p e = absurd cc

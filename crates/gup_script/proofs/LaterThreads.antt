@@ -1,19 +1,15 @@
 -- What the words of a thread's operations that come later come to: pins, references, forks.
-use Rattle.std.proofs.Common.{◌≡◌, ℕ, Bool, true, false, cond, List, [], ◌∷◌, Option, Some, None, Result, Ok, Err, refl, arith, sym, ap, subst, ◌∙◌, inl, inr}
+use Rattle.std.proofs.Common.{◌≡◌, ℕ, Bool, true, false, cond, List, [], ◌∷◌, Option, Some, None, Err, refl, arith, sym, ap, subst, ◌∙◌, inl, inr}
 use Rattle.std.specs.Prelude.{codes}
-use Rattle.std.specs.Bool.{Decides}
 use Rattle.std.specs.Str.{bytes_eq}
-use Rattle.gup_names.specs.Names.{find, is_unused}
-use Rattle.gup_script.specs.declared.op.Op.{Op}
-use Rattle.gup_script.specs.declared.refusal.Reason.{Reason}
+use Rattle.gup_names.specs.Names.{find}
 use Rattle.gup_script.specs.declared.refusal.Reason.TheVariants as reasons
-use Rattle.gup_script.specs.Said.{Word, Action, pins, gets, puts, forks, unpins, takes, gives, action_words, pin_word, write_word, long_words}
-use Rattle.gup_script.specs.Outline.{Outline, is_child, is_receiver}
-use Rattle.gup_script.specs.Grammar.{IsBuilt, NamesProcess, NamesActor, IsUnused}
-use Rattle.gup_script.specs.Reading.{◌>>=◌, check, need, process_of, actor_of, is_way, pin_of, pin_in, get_in, put_in, fork_in, handle_in, give_in}
-use Rattle.gup_script.proofs.Chains.{Tried, stops, goes, checked, needed, nothing, both, same_word, unused_Decides}
+use Rattle.gup_script.specs.Said.{Word, pins, gets, puts, forks, unpins, takes, gives, pin_word, write_word}
+use Rattle.gup_script.specs.Outline.{Outline}
+use Rattle.gup_script.specs.Reading.{◌>>=◌, check, is_way, pin_of, pin_in, get_in, put_in, fork_in, handle_in, give_in}
+use Rattle.gup_script.proofs.Chains.{goes, checked, both, same_word, unused_Decides}
 use Rattle.gup_script.proofs.ActionWords.{said_with, way_in, action_in}
-use Rattle.gup_script.proofs.Judged.{Ends, built, later, Judged, Told, range_step, page_step, name_Decides, child_step, receiver_step, pin_Decides, got_Decides}
+use Rattle.gup_script.proofs.Judged.{later, Judged, Told, range_step, page_step, name_Decides, child_step, receiver_step, pin_Decides, got_Decides}
 
 -- ---- pins
 
@@ -50,20 +46,27 @@ pin_told st a fast (handle ∷ first ∷ count ∷ way ∷ []) = short (way_in w
     said false = ap (said_with (λ write. pins false handle first count write false)) e
   short (Some write) e =
       let is = way_found way write e in
-      inl (pins fast handle first count write false, ap (λ (w : Word). pin_word fast ∷ handle ∷ first ∷ count ∷ w ∷ []) is,
-        subst (λ (w : Word). Judged st a (pins fast handle first count write false) (pin_of st handle first count w)) (sym is) (pin_judged st a fast false write handle first count))
+      inl (
+        pins fast handle first count write false,
+        ap (λ (w : Word). pin_word fast ∷ handle ∷ first ∷ count ∷ w ∷ []) is,
+        subst (λ (w : Word). Judged st a (pins fast handle first count write false) (pin_of st handle first count w)) (sym is) (pin_judged st a fast false write handle first count),
+      )
 pin_told st a fast (handle ∷ first ∷ count ∷ way ∷ word ∷ []) = tested (bytes_eq word (codes "long")) refl (way_in way) refl where
   said : (b c : Bool) (o : Option Bool) → bytes_eq word (codes "long") ≡ c → way_in way ≡ o → action_in (pin_word b ∷ handle ∷ first ∷ count ∷ way ∷ word ∷ []) ≡ cond c (said_with (λ write. pins b handle first count write true) o) None
   said true c o l e = rw (l, e) refl
   said false c o l e = rw (l, e) refl
+
   tested : (b : Bool) → bytes_eq word (codes "long") ≡ b → (o : Option Bool) → way_in way ≡ o → Told st a (pin_word fast ∷ handle ∷ first ∷ count ∷ way ∷ word ∷ []) (check reasons.Shape b >>= λ _. pin_of st handle first count way)
   tested false l o e = inr (refl, said fast false o l e)
   tested true l None e = inr (way_stops st handle first count way e, said fast true None l e)
   tested true l (Some write) e =
       let is = way_found way write e in
       let long = same_word word (codes "long") l in
-      inl (pins fast handle first count write true, cc (is, long),
-        subst (λ (w : Word). Judged st a (pins fast handle first count write true) (pin_of st handle first count w)) (sym is) (pin_judged st a fast true write handle first count))
+      inl (
+        pins fast handle first count write true,
+        cc (is, long),
+        subst (λ (w : Word). Judged st a (pins fast handle first count write true) (pin_of st handle first count w)) (sym is) (pin_judged st a fast true write handle first count),
+      )
 pin_told st a true _ = inr (refl, refl)
 pin_told st a false _ = inr (refl, refl)
 
@@ -72,8 +75,12 @@ pin_told st a false _ = inr (refl, refl)
 pub get_told : (st : Outline) (a : ℕ) (fields : List Word) → Told st a (codes "get" ∷ fields) (get_in st fields)
 unfolding get_in
 get_told st a (handle ∷ page ∷ []) =
-    inl (gets handle page, refl, goes tt (page_step page _ _ (λ p h.
-      checked reasons.Name _ _ _ _ (name_Decides handle) (λ g. checked reasons.Twice _ _ _ _ (unused_Decides st.names handle) (λ u. later refl (λ b. b))))))
+    inl (
+      gets handle page,
+      refl,
+      goes tt (page_step page _ _ (λ p h.
+          checked reasons.Name _ _ _ _ (name_Decides handle) (λ g. checked reasons.Twice _ _ _ _ (unused_Decides st.names handle) (λ u. later refl (λ b. b))))),
+    )
 get_told st a _ = inr (refl, refl)
 
 pub put_told : (st : Outline) (a : ℕ) (fields : List Word) → Told st a (codes "put" ∷ fields) (put_in st fields)

@@ -6,4 +6,5 @@ pub mod LaterThreads
 pub mod LaterDevices
 pub mod Choices
 pub mod OpChoices
+pub mod Acting
 pub mod On

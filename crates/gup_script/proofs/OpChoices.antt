@@ -1,5 +1,5 @@
 -- The operation that a word chooses, by the kind of its actor: one of the kind's, or none.
-use Rattle.std.proofs.Common.{◌≡◌, ℕ, true, false, List, [], ◌∷◌, Option, Some, None, Result, Ok, Err}
+use Rattle.std.proofs.Common.{ℕ, true, false, List, ◌∷◌, Option, Some, None, Result}
 use Rattle.std.specs.Prelude.{codes, Contains}
 use Rattle.gup_script.specs.declared.op.Kind.{Kind}
 use Rattle.gup_script.specs.declared.op.Kind.TheVariants.{Thread, Device, Mover}
