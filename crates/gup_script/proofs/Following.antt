@@ -8,22 +8,16 @@ use Rattle.std.proofs.lemmas.Slice.Eq.{bytes_eq-Decides}
 use Rattle.gup_script.specs.declared.refusal.Reason.{Reason}
 use Rattle.gup_script.specs.declared.refusal.Reason.TheVariants.{Word}
 use Rattle.gup_script.specs.Outline.{Outline}
-use Rattle.gup_script.specs.Said.{Said, said_words, declaring_words, Action, action_words}
+use Rattle.gup_script.specs.Said.{Said, said_words, declaring_words}
 use Rattle.gup_script.specs.Said.{Word as Letters}
-use Rattle.gup_script.specs.Grammar.{NamesActor, IsOpOf, Does, Declares, first_word, IsNext}
+use Rattle.gup_script.specs.Grammar.{Declares, first_word, IsNext}
 use Rattle.gup_script.specs.Fault.{Unless, Fails, DeclaringFault, OnFault, NextFault}
 use Rattle.gup_script.specs.Reading.{on_in, process_in, thread_in, device_in, mover_in, seed_in, turns_in, random_in, next_in}
 use Rattle.gup_script.proofs.Verdicts.{Judges, adjusted, parted, refused}
 use Rattle.gup_script.proofs.Places.{JudgesSaid, said_of, none_said}
 use Rattle.gup_script.proofs.Declaring.{judged_process, judged_child, judged_thread, judged_device, judged_mover, judged_seed}
+use Rattle.gup_script.proofs.On.{on_found, on_read, on_fault_found, on_fault_read}
 use Rattle.gup_script.proofs.Turning.{judged_turns, judged_random}
-
--- what is known of `on` lines
-pub record OnLaws : Type 0 where
-  pub on_found : (st next : Outline) (fields : List (List ℕ)) → on_in st fields ≡ Ok next → IsNext st (codes "on" ∷ fields) next
-  pub on_read : (st next : Outline) (name : Letters) (a : ℕ) (action : Action) → NamesActor st name a → IsOpOf st a (first_word (action_words action)) → Does st a action next → on_in st (name ∷ action_words action) ≡ Ok next
-  pub on_fault_found : (st : Outline) (fields : List (List ℕ)) (reason : Reason) → on_in st fields ≡ Err reason → OnFault st fields reason
-  pub on_fault_read : (st : Outline) (fields : List (List ℕ)) (reason : Reason) → OnFault st fields reason → on_in st fields ≡ Err reason
 
 abbrev pub JudgesNext : Outline → List Letters → Result Outline Reason → Type 0
 JudgesNext st words m = Judges Outline m (IsNext st words) (NextFault st words)
@@ -32,15 +26,15 @@ abbrev tail : List Letters → List Letters
 tail [] = []
 tail (word ∷ words) = words
 
-judged_on : OnLaws → (st : Outline) (fields : List Letters) → JudgesNext st (codes "on" ∷ fields) (on_in st fields)
-judged_on laws st fields = record {
-  found = λ next e. laws.on_found st next fields e;
+judged_on : (st : Outline) (fields : List Letters) → JudgesNext st (codes "on" ∷ fields) (on_in st fields)
+judged_on st fields = record {
+  found = λ next e. on_found st next fields e;
   read = λ next h. elim h [
     | inl s ↦ absurd (none_said (codes "on" ∷ fields) refl s.0 s.1)
-    | inr o ↦ ap (on_in st) (ap tail o.3) ∙ laws.on_read st next o.0 o.1 o.2 o.4 o.5 o.6
+    | inr o ↦ ap (on_in st) (ap tail o.3) ∙ on_read st o.0 o.1 o.2 next o.4 o.5 o.6
   ];
-  fault_found = λ r e. inl (refl, laws.on_fault_found st fields r e);
-  fault_read = λ r h. elim h [ inl o ↦ laws.on_fault_read st fields r o.1 | inr d ↦ absurd (d.0 refl) ];
+  fault_found = λ r e. inl (refl, on_fault_found st fields r e);
+  fault_read = λ r h. elim h [ inl o ↦ on_fault_read st fields r o.1 | inr d ↦ absurd (d.0 refl) ];
 }
 
 -- ---- the words that declare
@@ -87,11 +81,11 @@ judged_other st word fields not_on =
 
 -- ---- both
 
-pub judged_next : OnLaws → (st : Outline) (word : Letters) (fields : List Letters) → JudgesNext st (word ∷ fields) (next_in st (word ∷ fields))
+pub judged_next : (st : Outline) (word : Letters) (fields : List Letters) → JudgesNext st (word ∷ fields) (next_in st (word ∷ fields))
 unfolding next_in
-judged_next laws st word fields = way (bytes_eq word (codes "on")) refl where
+judged_next st word fields = way (bytes_eq word (codes "on")) refl where
   way : (b : Bool) → bytes_eq word (codes "on") ≡ b → JudgesNext st (word ∷ fields) (next_in st (word ∷ fields))
-  way true e = rw e (subst (λ (w : Letters). JudgesNext st (w ∷ fields) (on_in st fields)) (sym ((bytes_eq-Decides word (codes "on")).0 e)) (judged_on laws st fields))
+  way true e = rw e (subst (λ (w : Letters). JudgesNext st (w ∷ fields) (on_in st fields)) (sym ((bytes_eq-Decides word (codes "on")).0 e)) (judged_on st fields))
   way false e =
       let not_on : word ≡ codes "on" → ⊥ = not_from_Decides (bytes_eq word (codes "on")) (bytes_eq-Decides word (codes "on")) e in
       adjusted _

@@ -9,3 +9,13 @@ pub mod Spaced
 pub mod Lines
 pub mod Laws
 pub mod Public
+pub mod Chains
+pub mod ActionWords
+pub mod Judged
+pub mod BuiltActions
+pub mod LaterThreads
+pub mod LaterDevices
+pub mod Choices
+pub mod OpChoices
+pub mod Acting
+pub mod On

@@ -14,7 +14,7 @@ use Rattle.gup_script.specs.Grammar.{Stage, before_head, before_frames, open_at,
 use Rattle.gup_script.specs.Fault.{Unless, Fails, AreSpaced, WordsFault, LineFault}
 use Rattle.gup_script.specs.Reading.{◌>>=◌, check, is_head, words_in, said_in, line_in}
 use Rattle.gup_script.proofs.Verdicts.{Judges, same_good, same_bad, not_bad, checked, ended, adjusted, refused}
-use Rattle.gup_script.proofs.Following.{OnLaws, judged_next}
+use Rattle.gup_script.proofs.Following.{judged_next}
 use Rattle.gup_script.proofs.Frames.{head_decides, judged_frames}
 use Rattle.gup_script.proofs.Spaced.{AreNamedAt, spaced}
 
@@ -36,11 +36,11 @@ mapped {A} {B} (Err s) f k = record {
 abbrev pub JudgesWords : Stage → List Word → Result Stage Reason → Type 0
 JudgesWords stage words m = Judges Stage m (IsSaid stage words) (WordsFault stage words)
 
-judged_words : OnLaws → (stage : Stage) (word : Word) (words : List Word) → JudgesWords stage (word ∷ words) (words_in stage (word ∷ words))
+judged_words : (stage : Stage) (word : Word) (words : List Word) → JudgesWords stage (word ∷ words) (words_in stage (word ∷ words))
 unfolding words_in
-judged_words laws before_head word words = ended reasons.Head (is_head (word ∷ words)) before_frames (head_decides (word ∷ words)) (λ _. refl) (λ x _ e. e)
-judged_words laws before_frames word words = mapped _ (λ counts. open_at (empty_outline counts)) (judged_frames (word ∷ words))
-judged_words laws (open_at st) word words = mapped _ (λ next. open_at next) (judged_next laws st word words)
+judged_words before_head word words = ended reasons.Head (is_head (word ∷ words)) before_frames (head_decides (word ∷ words)) (λ _. refl) (λ x _ e. e)
+judged_words before_frames word words = mapped _ (λ counts. open_at (empty_outline counts)) (judged_frames (word ∷ words))
+judged_words (open_at st) word words = mapped _ (λ next. open_at next) (judged_next st word words)
 
 -- ---- spaces
 
@@ -52,19 +52,19 @@ spaced_decides : (words : List Word) → Decides (are_spaced words) (AreSpaced w
 spaced_decides [] = (λ _. tt, λ _. refl)
 spaced_decides (word ∷ words) = Decides-and (is_some_word word) (are_spaced words) (some_decides word) (spaced_decides words)
 
-judged_spaced : OnLaws → (stage : Stage) → AreNamedAt stage → (word : Word) (words : List Word) → Judges Stage (said_in stage (word ∷ words)) (IsSaid stage (word ∷ words)) (λ r. Unless reasons.Space (AreSpaced (word ∷ words)) r (WordsFault stage (word ∷ words) r))
+judged_spaced : (stage : Stage) → AreNamedAt stage → (word : Word) (words : List Word) → Judges Stage (said_in stage (word ∷ words)) (IsSaid stage (word ∷ words)) (λ r. Unless reasons.Space (AreSpaced (word ∷ words)) r (WordsFault stage (word ∷ words) r))
 unfolding said_in
-judged_spaced laws stage named word words =
+judged_spaced stage named word words =
     adjusted _ (λ x h. h.1) (λ x h. (spaced stage x (word ∷ words) named h, h)) (λ r h. h) (λ r h. h)
-        (checked reasons.Space (are_spaced (word ∷ words)) (words_in stage (word ∷ words)) (spaced_decides (word ∷ words)) λ _. judged_words laws stage word words)
+        (checked reasons.Space (are_spaced (word ∷ words)) (words_in stage (word ∷ words)) (spaced_decides (word ∷ words)) λ _. judged_words stage word words)
 
 abbrev JudgesSaid : Stage → List Word → Type 0
 JudgesSaid stage words =
     Judges Stage (said_in stage words) (IsSaid stage words) (λ r. Unless reasons.Space (AreSpaced words) r (WordsFault stage words r))
 
-judged_said : OnLaws → (stage : Stage) → AreNamedAt stage → (words : List Word) → 0 < length words → JudgesSaid stage words
-judged_said laws stage named [] some = absurd (omega arith)
-judged_said laws stage named (word ∷ words) some = judged_spaced laws stage named word words
+judged_said : (stage : Stage) → AreNamedAt stage → (words : List Word) → 0 < length words → JudgesSaid stage words
+judged_said stage named [] some = absurd (omega arith)
+judged_said stage named (word ∷ words) some = judged_spaced stage named word words
 
 -- a text has a part at least
 pub some_part : (c : ℕ) (text : List ℕ) → 0 < length (parts c text)
@@ -99,12 +99,12 @@ said stage line printable not_passed k = record {
   fault_read = λ r h. elim h [ inl f ↦ absurd (f.1 printable) | inr g ↦ k.fault_read r g.1.1 ];
 }
 
-pub judged_line : OnLaws → (stage : Stage) → AreNamedAt stage → (line : List ℕ) → JudgesLine stage line (line_in stage line)
+pub judged_line : (stage : Stage) → AreNamedAt stage → (line : List ℕ) → JudgesLine stage line (line_in stage line)
 unfolding line_in
-judged_line laws stage named line = printed (is_printable line) refl where
+judged_line stage named line = printed (is_printable line) refl where
   way : IsPrintable line → (b : Bool) → is_passed line ≡ b → JudgesLine stage line (cond b (Ok stage) (said_in stage (parts 32 line)))
   way printable true e = passed stage line printable ((passed_decides line).0 e)
-  way printable false e = said stage line printable (not_from_Decides (is_passed line) (passed_decides line) e) (judged_said laws stage named (parts 32 line) (some_part 32 line))
+  way printable false e = said stage line printable (not_from_Decides (is_passed line) (passed_decides line) e) (judged_said stage named (parts 32 line) (some_part 32 line))
 
   printed : (b : Bool) → is_printable line ≡ b → JudgesLine stage line (cond (not b) (Err reasons.Byte) (cond (is_passed line) (Ok stage) (said_in stage (parts 32 line))))
   printed true e = way (printable_found line e) (is_passed line) refl
