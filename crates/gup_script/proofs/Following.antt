@@ -1,7 +1,7 @@
 -- The words of a line behind the `frames` line: they are judged as the grammar and its faults have it.
 use Rattle.std.proofs.Common.{◌≡◌, ◌⊎◌, ℕ, suc, ◌<◌, Bool, true, false, List, [], ◌∷◌, length, refl, sym, ap, subst, ◌∙◌, inl, inr, Option, Some, None, Result, Ok, Err, Contains, arith}
 use Rattle.std.specs.Prelude.{codes, bytes_eq}
-use Rattle.std.specs.List.{AllByRecursion}
+use Rattle.std.specs.List.{list_any}
 use Rattle.std.proofs.lemmas.Bool.Decides.{not_from_Decides}
 use Rattle.std.proofs.lemmas.Map.Made.{Contains-tail}
 use Rattle.std.proofs.lemmas.Slice.Eq.{bytes_eq-Decides}
@@ -13,6 +13,7 @@ use Rattle.gup_script.specs.Said.{Word as Letters}
 use Rattle.gup_script.specs.Grammar.{Declares, first_word, IsNext}
 use Rattle.gup_script.specs.Fault.{Unless, Fails, DeclaringFault, OnFault, NextFault}
 use Rattle.gup_script.specs.Reading.{on_in, process_in, thread_in, device_in, mover_in, seed_in, turns_in, random_in, next_in}
+use Rattle.gup_script.proofs.Lists.{neither}
 use Rattle.gup_script.proofs.Verdicts.{Judges, adjusted, parted, refused}
 use Rattle.gup_script.proofs.Places.{JudgesSaid, said_of, none_said}
 use Rattle.gup_script.proofs.Declaring.{judged_process, judged_child, judged_thread, judged_device, judged_mover, judged_seed}
@@ -52,11 +53,12 @@ of_word st word this fields m e has k = subst (λ (w : Letters). JudgesOther st 
   fault_read = λ r h. elim h [ inl f ↦ absurd (f.1 has) | inr g ↦ k.fault_read r g.1 ];
 })
 
-none_among : (words : List Letters) (word : Letters) → AllByRecursion (λ this. bytes_eq word this ≡ false) words → Contains words word → ⊥
+pub none_among : (words : List Letters) (word : Letters) → list_any (λ this. bytes_eq word this) words ≡ false → Contains words word → ⊥
 none_among [] word differ h = let lt = h.1 in absurd (omega arith)
 none_among (this ∷ words) word differ h =
-    let other : this ≡ word → ⊥ = λ same. not_from_Decides (bytes_eq word this) (bytes_eq-Decides word this) differ.0 (sym same) in
-    none_among words word differ.1 (Contains-tail this words word other h)
+    let parts = neither (bytes_eq word this) (list_any (λ other. bytes_eq word other) words) differ in
+    let other : this ≡ word → ⊥ = λ same. not_from_Decides (bytes_eq word this) (bytes_eq-Decides word this) parts.0 (sym same) in
+    none_among words word parts.1 (Contains-tail this words word other h)
 
 -- the word is none of them
 of_none : (st : Outline) (word : Letters) (fields : List Letters) → said_of (word ∷ fields) ≡ None → (Contains declaring_words word → ⊥) → JudgesOther st word fields (Err Word)
@@ -76,7 +78,7 @@ judged_other st word fields not_on =
         parted (bytes_eq word (codes "turns")) _ _ (λ e. of_word st word (codes "turns") fields _ e (6, omega arith, refl) (judged_turns st fields)) λ n6.
         parted (bytes_eq word (codes "random")) _ _ (λ e. of_word st word (codes "random") fields _ e (7, omega arith, refl) (judged_random st fields)) λ n7.
         of_none st word fields (rw (n0, n1, n2, n3, n4, n5, n6, n7) refl) λ h.
-            none_among declaring_words word (n0, (n1, (n2, (n3, (n4, (n5, (n6, (n7, tt)))))))) h
+            none_among declaring_words word (rw (n0, n1, n2, n3, n4, n5, n6, n7) refl) h
     )
 
 -- ---- both

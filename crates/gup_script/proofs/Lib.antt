@@ -19,3 +19,5 @@ pub mod Choices
 pub mod OpChoices
 pub mod Acting
 pub mod On
+pub mod Lists
+pub mod Standing
