@@ -21,3 +21,4 @@ pub mod Acting
 pub mod On
 pub mod Lists
 pub mod Standing
+pub mod Operating
