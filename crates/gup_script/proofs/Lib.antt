@@ -22,3 +22,4 @@ pub mod On
 pub mod Lists
 pub mod Standing
 pub mod Operating
+pub mod Validity

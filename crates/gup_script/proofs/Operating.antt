@@ -3,7 +3,7 @@ use Rattle.std.proofs.Common.{◌≡◌, ℕ, zero, suc, ◌+◌, ◌<◌, ◌�
 use Rattle.std.specs.Prelude.{codes}
 use Rattle.std.specs.List.{AllByRecursion}
 use Rattle.std.proofs.lemmas.List.{length_push}
-use Rattle.std.proofs.lemmas.List.Elements.{All-nil, All-cons, All-append}
+use Rattle.std.proofs.lemmas.List.Elements.{All-push}
 use Rattle.std.proofs.lemmas.List.Sums.{sum_by-cons}
 use Rattle.gup_script.specs.declared.op.Kind.{Kind}
 use Rattle.gup_script.specs.declared.op.Kind.TheVariants.{Thread, Device, Mover}
@@ -70,7 +70,7 @@ with_op_kinds P (suc k) op (a ∷ actors) h = (h.0, with_op_kinds P k op actors 
 
 with_op_ops : (k : ℕ) (op : Op) (actors : List Actor) → IsOp op → AllByRecursion (λ (a : Actor). All IsOp a.ops) actors → AllByRecursion (λ (a : Actor). All IsOp a.ops) (with_op k op actors)
 with_op_ops k op [] is h = tt
-with_op_ops zero op (a ∷ actors) is h = (All-append IsOp a.ops (op ∷ []) h.0 (All-cons IsOp op [] is (All-nil IsOp)), h.1)
+with_op_ops zero op (a ∷ actors) is h = (All-push IsOp a.ops op h.0 is, h.1)
 with_op_ops (suc k) op (a ∷ actors) is h = (h.0, with_op_ops k op actors is h.1)
 
 thread_fits : (kind : Kind) (count : ℕ) → is_thread kind ≡ true → OpsFit kind count
