@@ -35,7 +35,7 @@ map_told st a (first ∷ count ∷ allowed ∷ []) = way (rights_in allowed) ref
       inl (
         maps first count rights,
         ap (λ (w : Word). codes "map" ∷ first ∷ count ∷ w ∷ []) (rights_found allowed rights e),
-        goes tt (range_step 1024 first count _ _ (λ page n h. goes tt (goes tt (built (ops.Map page n rights) refl (page, n, h, refl))))),
+        goes tt (range_step 1024 first count _ (λ page n h. goes tt (goes tt (built (ops.Map page n rights) refl (page, n, h, refl))))),
       )
 map_told st a _ = inr (refl, refl)
 
@@ -48,20 +48,20 @@ protect_told st a (first ∷ count ∷ allowed ∷ []) = way (rights_in allowed)
       inl (
         protects first count rights,
         ap (λ (w : Word). codes "protect" ∷ first ∷ count ∷ w ∷ []) (rights_found allowed rights e),
-        goes tt (range_step 1024 first count _ _ (λ page n h. goes tt (goes tt (built (ops.Protect page n rights) refl (page, n, h, refl))))),
+        goes tt (range_step 1024 first count _ (λ page n h. goes tt (goes tt (built (ops.Protect page n rights) refl (page, n, h, refl))))),
       )
 protect_told st a _ = inr (refl, refl)
 
 pub unmap_told : (st : Outline) (a : ℕ) (fields : List Word) → Told st a (codes "unmap" ∷ fields) (unmap_in fields)
 unfolding unmap_in
 unmap_told st a (first ∷ count ∷ []) =
-    inl (unmaps first count, refl, goes tt (range_step 1024 first count _ _ (λ page n h. goes tt (goes tt (built (ops.Unmap page n) refl (page, n, h, refl))))))
+    inl (unmaps first count, refl, goes tt (range_step 1024 first count _ (λ page n h. goes tt (goes tt (built (ops.Unmap page n) refl (page, n, h, refl))))))
 unmap_told st a _ = inr (refl, refl)
 
 pub discard_told : (st : Outline) (a : ℕ) (fields : List Word) → Told st a (codes "discard" ∷ fields) (discard_in fields)
 unfolding discard_in
 discard_told st a (first ∷ count ∷ []) =
-    inl (discards first count, refl, goes tt (range_step 1024 first count _ _ (λ page n h. goes tt (goes tt (built (ops.Discard page n) refl (page, n, h, refl))))))
+    inl (discards first count, refl, goes tt (range_step 1024 first count _ (λ page n h. goes tt (goes tt (built (ops.Discard page n) refl (page, n, h, refl))))))
 discard_told st a _ = inr (refl, refl)
 
 -- ---- load, store, exit
@@ -69,7 +69,7 @@ discard_told st a _ = inr (refl, refl)
 pub load_told : (st : Outline) (a : ℕ) (fields : List Word) → Told st a (codes "load" ∷ fields) (load_in fields)
 unfolding load_in
 load_told st a (address ∷ []) =
-    inl (loads address, refl, goes tt (address_step address _ _ (λ page w h. goes tt (goes tt (built (ops.Load page w) refl (page, w, h, refl))))))
+    inl (loads address, refl, goes tt (address_step address _ (λ page w h. goes tt (goes tt (built (ops.Load page w) refl (page, w, h, refl))))))
 load_told st a _ = inr (refl, refl)
 
 pub store_told : (st : Outline) (a : ℕ) (fields : List Word) → Told st a (codes "store" ∷ fields) (store_in fields)
@@ -78,7 +78,7 @@ store_told st a (address ∷ value ∷ []) =
     inl (
       stores address value,
       refl,
-      goes tt (both _ _ _ _ _ (address_step address _ _ (λ page w h. number_step value _ _ (λ v g. goes tt (goes tt (built (ops.Store page w v) refl (page, w, v, h, g, refl))))))),
+      goes tt (both (address_step address _ (λ page w h. number_step value _ (λ v g. goes tt (goes tt (built (ops.Store page w v) refl (page, w, v, h, g, refl))))))),
     )
 store_told st a _ = inr (refl, refl)
 

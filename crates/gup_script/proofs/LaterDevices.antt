@@ -9,7 +9,6 @@ use Rattle.gup_base.specs.declared.entry.Zone.TheVariants.{Movable, Normal}
 use Rattle.gup_text.specs.Text.{segment_in}
 use Rattle.gup_text.specs.SpelledPlaces.{segment_found, segment_read}
 use Rattle.gup_names.specs.Names.{find}
-use Rattle.gup_script.specs.declared.refusal.Reason.TheVariants as reasons
 use Rattle.gup_script.specs.Said.{Word, transfers, transfers_parts, mirrors, looks, moves, transfer_word, parts_word, zone_word}
 use Rattle.gup_script.specs.Outline.{Outline}
 use Rattle.gup_script.specs.Grammar.{AreSegments}
@@ -26,8 +25,8 @@ transfer_told st a outward (handle ∷ index ∷ slot ∷ count ∷ []) =
     inl (
       transfers outward handle index slot count,
       refl,
-      goes tt (all_three _ _ _ _ _ _ (index_step index _ _ (λ i h. index_step slot _ _ (λ s g. count_step 1 64 count _ _ (lit< tt) (λ n k.
-          checked reasons.Name _ _ _ _ (pin_Decides (find st.names handle)) (λ p. goes tt (later refl (λ b. b)))))))),
+      goes tt (all_three (index_step index _ (λ i h. index_step slot _ (λ s g. count_step 1 64 count _ (lit< tt) (λ n k.
+          checked _ (pin_Decides (find st.names handle)) (λ p. goes tt (later refl (λ b. b)))))))),
     )
 transfer_told st a true _ = inr (refl, refl)
 transfer_told st a false _ = inr (refl, refl)
@@ -67,9 +66,9 @@ parts_told st a outward (handle ∷ slot ∷ first ∷ more) =
     inl (
       transfers_parts outward handle slot first more,
       refl,
-      checked reasons.Shape _ _ _ _ (leb-true (length more) 7, le-leb (length more) 7) (λ l.
-          both _ _ _ _ _ (index_step slot _ _ (λ s h. checked reasons.Number _ _ _ _ (total_Decides (first ∷ more)) (λ t.
-          checked reasons.Name _ _ _ _ (pin_Decides (find st.names handle)) (λ p. goes tt (later refl (λ b. b))))))),
+      checked _ (leb-true (length more) 7, le-leb (length more) 7) (λ l.
+          both (index_step slot _ (λ s h. checked _ (total_Decides (first ∷ more)) (λ t.
+          checked _ (pin_Decides (find st.names handle)) (λ p. goes tt (later refl (λ b. b))))))),
     )
 parts_told st a true _ = inr (refl, refl)
 parts_told st a false _ = inr (refl, refl)
@@ -82,8 +81,8 @@ mirror_told st a (mirror ∷ process ∷ page ∷ []) =
     inl (
       mirrors mirror process page,
       refl,
-      goes tt (page_step page _ _ (λ p h.
-          both _ _ _ _ _ (checked reasons.Name _ _ _ _ (slot_Decides a mirror (find st.names mirror)) (λ m. process_step st process _ _ (λ q g. goes tt (later refl (λ b. b))))))),
+      goes tt (page_step page _ (λ p h.
+          both (checked _ (slot_Decides a mirror (find st.names mirror)) (λ m. process_step st process _ (λ q g. goes tt (later refl (λ b. b))))))),
     )
 mirror_told st a _ = inr (refl, refl)
 
@@ -93,8 +92,8 @@ look_told st a (mirror ∷ word ∷ []) =
     inl (
       looks mirror word,
       refl,
-      goes tt (word_no_step word _ _ (λ w h.
-          checked reasons.Name _ _ _ _ (mirror_Decides a (find st.names mirror)) (λ m. goes tt (later refl (λ b. b))))),
+      goes tt (word_no_step word _ (λ w h.
+          checked _ (mirror_Decides a (find st.names mirror)) (λ m. goes tt (later refl (λ b. b))))),
     )
 look_told st a _ = inr (refl, refl)
 
@@ -125,6 +124,6 @@ move_told st a (process ∷ page ∷ word ∷ []) = way (zone_in word) refl wher
         moves process page zone,
         ap (λ (w : Word). codes "move" ∷ process ∷ page ∷ w ∷ []) is,
         subst (λ (w : Word). Judged st a (moves process page zone) (move_in st (process ∷ page ∷ w ∷ []))) (sym is)
-            (rw (is_zone_word zone) (goes tt (page_step page _ _ (λ p h. process_step st process _ _ (λ q g. goes tt (later refl (λ b. b))))))),
+            (rw (is_zone_word zone) (goes tt (page_step page _ (λ p h. process_step st process _ (λ q g. goes tt (later refl (λ b. b))))))),
       )
 move_told st a _ = inr (refl, refl)

@@ -29,8 +29,8 @@ is_way_write false = refl
 
 pin_judged : (st : Outline) (a : ℕ) (fast long write : Bool) (handle first count : Word) → Judged st a (pins fast handle first count write long) (pin_of st handle first count (write_word write))
 unfolding pin_of
-pin_judged st a fast long write handle first count = rw (is_way_write write) (goes tt (range_step 16 first count _ _ (λ page n h.
-    checked reasons.Name _ _ _ _ (name_Decides handle) (λ g. checked reasons.Twice _ _ _ _ (unused_Decides st.names handle) (λ u. later refl (λ b. b))))))
+pin_judged st a fast long write handle first count = rw (is_way_write write) (goes tt (range_step 16 first count _ (λ page n h.
+    checked _ (name_Decides handle) (λ g. checked _ (unused_Decides st.names handle) (λ u. later refl (λ b. b))))))
 
 way_stops : (st : Outline) (handle first count way : Word) → way_in way ≡ None → pin_of st handle first count way ≡ Err reasons.Shape
 unfolding pin_of
@@ -78,22 +78,22 @@ get_told st a (handle ∷ page ∷ []) =
     inl (
       gets handle page,
       refl,
-      goes tt (page_step page _ _ (λ p h.
-          checked reasons.Name _ _ _ _ (name_Decides handle) (λ g. checked reasons.Twice _ _ _ _ (unused_Decides st.names handle) (λ u. later refl (λ b. b))))),
+      goes tt (page_step page _ (λ p h.
+          checked _ (name_Decides handle) (λ g. checked _ (unused_Decides st.names handle) (λ u. later refl (λ b. b))))),
     )
 get_told st a _ = inr (refl, refl)
 
 pub put_told : (st : Outline) (a : ℕ) (fields : List Word) → Told st a (codes "put" ∷ fields) (put_in st fields)
 unfolding put_in
 put_told st a (handle ∷ []) =
-    inl (puts handle, refl, goes tt (goes tt (checked reasons.Name _ _ _ _ (got_Decides (find st.names handle)) (λ g. goes tt (later refl (λ b. b))))))
+    inl (puts handle, refl, goes tt (goes tt (checked _ (got_Decides (find st.names handle)) (λ g. goes tt (later refl (λ b. b))))))
 put_told st a _ = inr (refl, refl)
 
 -- ---- forks: a child process, by its name
 
 pub fork_told : (st : Outline) (a : ℕ) (fields : List Word) → Told st a (codes "fork" ∷ fields) (fork_in st fields)
 unfolding fork_in
-fork_told st a (child ∷ []) = inl (forks child, refl, goes tt (goes tt (child_step st child _ _ (goes tt (later refl (λ b. b))))))
+fork_told st a (child ∷ []) = inl (forks child, refl, goes tt (goes tt (child_step st child _ (goes tt (later refl (λ b. b))))))
 fork_told st a _ = inr (refl, refl)
 
 -- ---- unpin, take, give
@@ -101,17 +101,17 @@ fork_told st a _ = inr (refl, refl)
 pub unpin_told : (st : Outline) (a : ℕ) (fields : List Word) → Told st a (codes "unpin" ∷ fields) (handle_in st fields)
 unfolding handle_in
 unpin_told st a (handle ∷ []) =
-    inl (unpins handle, refl, goes tt (goes tt (checked reasons.Name _ _ _ _ (pin_Decides (find st.names handle)) (λ g. goes tt (later refl (λ b. b))))))
+    inl (unpins handle, refl, goes tt (goes tt (checked _ (pin_Decides (find st.names handle)) (λ g. goes tt (later refl (λ b. b))))))
 unpin_told st a _ = inr (refl, refl)
 
 pub take_told : (st : Outline) (a : ℕ) (fields : List Word) → Told st a (codes "take" ∷ fields) (handle_in st fields)
 unfolding handle_in
 take_told st a (handle ∷ []) =
-    inl (takes handle, refl, goes tt (goes tt (checked reasons.Name _ _ _ _ (pin_Decides (find st.names handle)) (λ g. goes tt (later refl (λ b. b))))))
+    inl (takes handle, refl, goes tt (goes tt (checked _ (pin_Decides (find st.names handle)) (λ g. goes tt (later refl (λ b. b))))))
 take_told st a _ = inr (refl, refl)
 
 pub give_told : (st : Outline) (a : ℕ) (fields : List Word) → Told st a (codes "give" ∷ fields) (give_in st fields)
 unfolding give_in
 give_told st a (handle ∷ to ∷ []) =
-    inl (gives handle to, refl, goes tt (goes tt (both _ _ _ _ _ (checked reasons.Name _ _ _ _ (pin_Decides (find st.names handle)) (λ g. receiver_step st to _ _ (goes tt (later refl (λ b. b))))))))
+    inl (gives handle to, refl, goes tt (goes tt (both (checked _ (pin_Decides (find st.names handle)) (λ g. receiver_step st to _ (goes tt (later refl (λ b. b))))))))
 give_told st a _ = inr (refl, refl)

@@ -45,7 +45,7 @@ on_words st name word fields = way (actor_of (find st.names name)) refl where
       inr (
         a,
         actor_found (find st.names name) a e,
-        carried _ _ _ _ (placed st a) (op_of_actor st a (actor_at st.script a) word fields) (says st a (word ∷ fields) _) (op_chosen st a (actor_at st.script a) word fields),
+        carried (placed st a) (says st a (word ∷ fields) _) (op_chosen st a (actor_at st.script a) word fields),
       )
 
 -- ---- what is read is right
@@ -73,7 +73,7 @@ on_found st next (name ∷ word ∷ fields) e = way (on_words st name word field
   way : OnWords st name word fields (on_in st (name ∷ word ∷ fields)) → IsNext st (codes "on" ∷ name ∷ word ∷ fields) next
   way (inl h) = absurd (cc (h.0, e))
   way (inr h) =
-      let t = tried_ok _ _ _ _ next h.2 e in
+      let t = tried_ok h.2 e in
       op_ok st h.0 name word fields (on_in st (name ∷ word ∷ fields)) next h.1 t.0 t.1 e
 
 -- ---- what is right is read
@@ -93,7 +93,7 @@ words_read st a name word fields action next same named of_kind does = way (on_w
   way (inl h) = absurd (h.1 a named)
   way (inr h) =
       let one = same_actor st name a h.0 named h.1 in
-      let t = tried_pass _ _ _ _ h.2 (subst (λ (x : ℕ). IsOpOf st x word) one of_kind) in
+      let t = tried_pass h.2 (subst (λ (x : ℕ). IsOpOf st x word) one of_kind) in
       op_read st h.0 (word ∷ fields) action _ next same (subst (λ (x : ℕ). Does st x action next) one does) t
 
 pub on_read : (st : Outline) (name : Word) (a : ℕ) (action : Action) (next : Outline) → NamesActor st name a → IsOpOf st a (first_word (action_words action)) → Does st a action next → on_in st (name ∷ action_words action) ≡ Ok next
@@ -123,7 +123,7 @@ on_fault_found st (name ∷ []) q e = cc
 on_fault_found st (name ∷ word ∷ fields) q e = way (on_words st name word fields) where
   way : OnWords st name word fields (on_in st (name ∷ word ∷ fields)) → OnFault st (name ∷ word ∷ fields) q
   way (inl h) = inl (cc (h.0, e), h.1)
-  way (inr h) = inr (h.0, h.1, tried_err _ _ _ _ q _ h.2 e (λ t. op_err st h.0 (word ∷ fields) _ q t e))
+  way (inr h) = inr (h.0, h.1, tried_err h.2 e (λ t. op_err st h.0 (word ∷ fields) _ q t e))
 
 pub on_fault_read : (st : Outline) (fields : List Word) (reason : Reason) → OnFault st fields reason → on_in st fields ≡ Err reason
 unfolding on_in
@@ -137,4 +137,4 @@ on_fault_read st (name ∷ word ∷ fields) q f = way (on_words st name word fie
   way (inr h) (inr g) =
       let one = same_actor st name h.0 g.0 h.1 g.1 in
       let u = subst (λ (x : ℕ). Unless reasons.Word (IsOpOf st x word) q (OpFault st x (word ∷ fields) q)) (sym one) g.2 in
-      tried_stop _ _ _ _ q _ h.2 u (λ t o. op_stop st h.0 (word ∷ fields) _ q t o)
+      tried_stop h.2 u (λ t o. op_stop st h.0 (word ∷ fields) _ q t o)
