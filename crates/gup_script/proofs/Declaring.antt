@@ -1,18 +1,17 @@
 -- Lines that declare: each function answers as the grammar and its faults have it.
-use Rattle.std.proofs.Common.{◌≡◌, ℕ, ◌<◌, ◌&&◌, Bool, true, false, not, ltb, List, [], ◌∷◌, length, refl, sym, ap, ◌∙◌, Option, Some, Ok, Err, lit<, Decides}
+use Rattle.std.proofs.Common.{◌≡◌, ◌<◌, ◌&&◌, Bool, true, false, not, ltb, List, [], ◌∷◌, length, refl, sym, ap, ◌∙◌, Option, Some, lit<}
 use Rattle.std.specs.Prelude.{codes}
 use Rattle.std.proofs.lemmas.Bool.Decides.{Decides-ltb, Decides-and}
 use Rattle.gup_text.specs.Text.{number_in, count_in, is_name}
-use Rattle.gup_text.specs.Spelling.{IsNumber, IsCount, IsName}
-use Rattle.gup_text.specs.SpelledNumbers.{number_read, count_read}
+use Rattle.gup_text.specs.Spelling.{IsCount, IsName}
 use Rattle.gup_names.specs.Names.{find, is_unused}
 use Rattle.gup_script.specs.declared.op.Kind.TheVariants.{Thread, Device, Mover}
-use Rattle.gup_script.specs.declared.refusal.Reason.TheVariants.{Shape, Number, Name, Twice, Limit}
+use Rattle.gup_script.specs.declared.refusal.Reason.TheVariants.{Number, Name, Twice, Limit}
 use Rattle.gup_script.specs.Outline.{Outline, with_process, with_actor, with_seed, is_thread, is_device, how_many, has_mover, most_processes, most_threads, most_devices, most_slots}
-use Rattle.gup_script.specs.Said.{Word, Said, a_process, a_child, a_thread, a_device, a_mover, a_seed}
-use Rattle.gup_script.specs.Grammar.{IsUnused, NamesProcess, Becomes}
+use Rattle.gup_script.specs.Said.{Word, a_process, a_child, a_thread, a_device, a_mover, a_seed}
+use Rattle.gup_script.specs.Grammar.{IsUnused}
 use Rattle.gup_script.specs.Fault.{Unless, Fails}
-use Rattle.gup_script.specs.Reading.{◌>>=◌, check, need, process_of, process_in, thread_in, device_in, mover_in, seed_in}
+use Rattle.gup_script.specs.Reading.{process_of, process_in, thread_in, device_in, mover_in, seed_in}
 use Rattle.gup_script.proofs.Verdicts.{Judges, Finds, same_given, checked, skipped, needed, ended, done, merged}
 use Rattle.gup_script.proofs.Known.{unused_decides, unset_decides, name_decides, number_finds, count_finds, process_finds}
 use Rattle.gup_script.proofs.Places.{JudgesSaid, JudgesTests, placed, misplaced}
@@ -28,8 +27,8 @@ process_tests : (born : Bool) (st : Outline) (name : Word) → Judges Outline (p
 unfolding process_in
 process_tests born st name =
     skipped Number _ (checked Name (is_name name) _ (name_decides name) λ _.
-        checked Twice (is_unused st.names name) _ (unused_decides st name) λ _.
-            ended Limit (ltb (length st.script.processes) most_processes) (with_process name born st) (Decides-ltb _ _) (λ _. refl) (λ x _ e. e))
+    checked Twice (is_unused st.names name) _ (unused_decides st name) λ _.
+    ended Limit (ltb (length st.script.processes) most_processes) (with_process name born st) (Decides-ltb _ _) (λ _. refl) (λ x _ e. e))
 
 pub judged_process : (st : Outline) (fields : List Word) → JudgesSaid st (codes "process") fields (process_in true st fields)
 unfolding process_in
@@ -49,12 +48,12 @@ thread_tests : (st : Outline) (name process : Word) → JudgesTests st (a_thread
 unfolding thread_in
 thread_tests st name process =
     skipped Number _ (merged Name _ (λ p q. (p, q)) (λ h. h.0) (λ h. h.1)
-        (checked Name (is_name name) _ (name_decides name) λ _.
-            needed Name (process_of (find st.names process)) _ (process_finds st process) λ p is.
-                checked Twice (is_unused st.names name) _ (unused_decides st name) λ _.
-                    ended Limit (ltb (how_many is_thread st) most_threads) (with_actor name (Thread p) st) (Decides-ltb _ _)
-                        (λ _. (p, (process_finds st process).0 p is, refl))
-                        (λ x _ h. h.2 ∙ ap (λ q. with_actor name (Thread q) st) (one_found _ h.0 p ((process_finds st process).1 h.0 h.1) is))))
+    (checked Name (is_name name) _ (name_decides name) λ _.
+    needed Name (process_of (find st.names process)) _ (process_finds st process) λ p is.
+    checked Twice (is_unused st.names name) _ (unused_decides st name) λ _.
+    ended Limit (ltb (how_many is_thread st) most_threads) (with_actor name (Thread p) st) (Decides-ltb _ _)
+    (λ _. (p, (process_finds st process).0 p is, refl))
+    (λ x _ h. h.2 ∙ ap (λ q. with_actor name (Thread q) st) (one_found _ h.0 p ((process_finds st process).1 h.0 h.1) is))))
 
 pub judged_thread : (st : Outline) (fields : List Word) → JudgesSaid st (codes "thread") fields (thread_in st fields)
 unfolding thread_in
@@ -68,11 +67,11 @@ unfolding device_in
 device_tests st name slots =
     let finds : Finds (count_in 1 most_slots slots) (IsCount 1 most_slots slots) = count_finds 1 most_slots slots (lit< tt) in
     needed Number (count_in 1 most_slots slots) _ finds λ n is.
-        checked Name (is_name name) _ (name_decides name) λ _.
-            checked Twice (is_unused st.names name) _ (unused_decides st name) λ _.
-                ended Limit (ltb (how_many is_device st) most_devices) (with_actor name (Device n) st) (Decides-ltb _ _)
-                    (λ _. (n, finds.0 n is, refl))
-                    (λ x _ h. h.2 ∙ ap (λ m. with_actor name (Device m) st) (one_found _ h.0 n (finds.1 h.0 h.1) is))
+    checked Name (is_name name) _ (name_decides name) λ _.
+    checked Twice (is_unused st.names name) _ (unused_decides st name) λ _.
+    ended Limit (ltb (how_many is_device st) most_devices) (with_actor name (Device n) st) (Decides-ltb _ _)
+    (λ _. (n, finds.0 n is, refl))
+    (λ x _ h. h.2 ∙ ap (λ m. with_actor name (Device m) st) (one_found _ h.0 n (finds.1 h.0 h.1) is))
 
 pub judged_device : (st : Outline) (fields : List Word) → JudgesSaid st (codes "device") fields (device_in st fields)
 unfolding device_in
@@ -85,8 +84,8 @@ mover_tests : (st : Outline) (name : Word) → JudgesTests st (a_mover name) (mo
 unfolding mover_in
 mover_tests st name =
     skipped Number _ (checked Name (is_name name) _ (name_decides name) λ _.
-        checked Twice (is_unused st.names name && not (has_mover st)) _ (Decides-and _ _ (unused_decides st name) (unset_decides (has_mover st))) λ _.
-            done Limit (with_actor name Mover st) refl (λ x e. e))
+    checked Twice (is_unused st.names name && not (has_mover st)) _ (Decides-and _ _ (unused_decides st name) (unset_decides (has_mover st))) λ _.
+    done Limit (with_actor name Mover st) refl (λ x e. e))
 
 pub judged_mover : (st : Outline) (fields : List Word) → JudgesSaid st (codes "mover") fields (mover_in st fields)
 unfolding mover_in
@@ -100,9 +99,9 @@ seed_tests : (st : Outline) (number : Word) → JudgesTests st (a_seed number) (
 unfolding seed_in
 seed_tests st number =
     needed Number (number_in number) _ (number_finds number) λ n is.
-        skipped Name _ (checked Twice (not st.seeded) _ (unset_decides st.seeded) λ _.
-            done Limit (with_seed n st) (n, (number_finds number).0 n is, refl)
-                (λ x h. h.2 ∙ ap (λ m. with_seed m st) (one_found _ h.0 n ((number_finds number).1 h.0 h.1) is)))
+    skipped Name _ (checked Twice (not st.seeded) _ (unset_decides st.seeded) λ _.
+    done Limit (with_seed n st) (n, (number_finds number).0 n is, refl)
+    (λ x h. h.2 ∙ ap (λ m. with_seed m st) (one_found _ h.0 n ((number_finds number).1 h.0 h.1) is)))
 
 pub judged_seed : (st : Outline) (fields : List Word) → JudgesSaid st (codes "seed") fields (seed_in st fields)
 unfolding seed_in

@@ -1,5 +1,5 @@
 -- The words of a line behind the `frames` line: they are judged as the grammar and its faults have it.
-use Rattle.std.proofs.Common.{◌≡◌, ◌⊎◌, ℕ, suc, ◌<◌, Bool, true, false, List, [], ◌∷◌, length, refl, sym, ap, subst, ◌∙◌, inl, inr, Option, Some, None, Result, Ok, Err, Contains, arith}
+use Rattle.std.proofs.Common.{◌≡◌, Bool, true, false, List, [], ◌∷◌, refl, sym, ap, subst, ◌∙◌, inl, inr, None, Result, Err, Contains, arith}
 use Rattle.std.specs.Prelude.{codes, bytes_eq}
 use Rattle.std.specs.List.{list_any}
 use Rattle.std.proofs.lemmas.Bool.Decides.{not_from_Decides}
@@ -11,8 +11,8 @@ use Rattle.gup_script.specs.Outline.{Outline}
 use Rattle.gup_script.specs.Said.{Said, said_words, declaring_words}
 use Rattle.gup_script.specs.Said.{Word as Letters}
 use Rattle.gup_script.specs.Grammar.{Declares, first_word, IsNext}
-use Rattle.gup_script.specs.Fault.{Unless, Fails, DeclaringFault, OnFault, NextFault}
-use Rattle.gup_script.specs.Reading.{on_in, process_in, thread_in, device_in, mover_in, seed_in, turns_in, random_in, next_in}
+use Rattle.gup_script.specs.Fault.{Unless, DeclaringFault, NextFault}
+use Rattle.gup_script.specs.Reading.{on_in, next_in}
 use Rattle.gup_script.proofs.Lists.{neither}
 use Rattle.gup_script.proofs.Verdicts.{Judges, adjusted, parted, refused}
 use Rattle.gup_script.proofs.Places.{JudgesSaid, said_of, none_said}
@@ -69,16 +69,16 @@ judged_other : (st : Outline) (word : Letters) (fields : List Letters) → bytes
 unfolding next_in
 judged_other st word fields not_on =
     rw not_on (
-        parted (bytes_eq word (codes "process")) _ _ (λ e. of_word st word (codes "process") fields _ e (0, omega arith, refl) (judged_process st fields)) λ n0.
-        parted (bytes_eq word (codes "child")) _ _ (λ e. of_word st word (codes "child") fields _ e (1, omega arith, refl) (judged_child st fields)) λ n1.
-        parted (bytes_eq word (codes "thread")) _ _ (λ e. of_word st word (codes "thread") fields _ e (2, omega arith, refl) (judged_thread st fields)) λ n2.
-        parted (bytes_eq word (codes "device")) _ _ (λ e. of_word st word (codes "device") fields _ e (3, omega arith, refl) (judged_device st fields)) λ n3.
-        parted (bytes_eq word (codes "mover")) _ _ (λ e. of_word st word (codes "mover") fields _ e (4, omega arith, refl) (judged_mover st fields)) λ n4.
-        parted (bytes_eq word (codes "seed")) _ _ (λ e. of_word st word (codes "seed") fields _ e (5, omega arith, refl) (judged_seed st fields)) λ n5.
-        parted (bytes_eq word (codes "turns")) _ _ (λ e. of_word st word (codes "turns") fields _ e (6, omega arith, refl) (judged_turns st fields)) λ n6.
-        parted (bytes_eq word (codes "random")) _ _ (λ e. of_word st word (codes "random") fields _ e (7, omega arith, refl) (judged_random st fields)) λ n7.
-        of_none st word fields (rw (n0, n1, n2, n3, n4, n5, n6, n7) refl) λ h.
-            none_among declaring_words word (rw (n0, n1, n2, n3, n4, n5, n6, n7) refl) h
+    parted (bytes_eq word (codes "process")) _ _ (λ e. of_word st word (codes "process") fields _ e (0, omega arith, refl) (judged_process st fields)) λ n0.
+    parted (bytes_eq word (codes "child")) _ _ (λ e. of_word st word (codes "child") fields _ e (1, omega arith, refl) (judged_child st fields)) λ n1.
+    parted (bytes_eq word (codes "thread")) _ _ (λ e. of_word st word (codes "thread") fields _ e (2, omega arith, refl) (judged_thread st fields)) λ n2.
+    parted (bytes_eq word (codes "device")) _ _ (λ e. of_word st word (codes "device") fields _ e (3, omega arith, refl) (judged_device st fields)) λ n3.
+    parted (bytes_eq word (codes "mover")) _ _ (λ e. of_word st word (codes "mover") fields _ e (4, omega arith, refl) (judged_mover st fields)) λ n4.
+    parted (bytes_eq word (codes "seed")) _ _ (λ e. of_word st word (codes "seed") fields _ e (5, omega arith, refl) (judged_seed st fields)) λ n5.
+    parted (bytes_eq word (codes "turns")) _ _ (λ e. of_word st word (codes "turns") fields _ e (6, omega arith, refl) (judged_turns st fields)) λ n6.
+    parted (bytes_eq word (codes "random")) _ _ (λ e. of_word st word (codes "random") fields _ e (7, omega arith, refl) (judged_random st fields)) λ n7.
+    of_none st word fields (rw (n0, n1, n2, n3, n4, n5, n6, n7) refl) λ h.
+    none_among declaring_words word (rw (n0, n1, n2, n3, n4, n5, n6, n7) refl) h
     )
 
 -- ---- both
@@ -91,8 +91,8 @@ judged_next st word fields = way (bytes_eq word (codes "on")) refl where
   way false e =
       let not_on : word ≡ codes "on" → ⊥ = not_from_Decides (bytes_eq word (codes "on")) (bytes_eq-Decides word (codes "on")) e in
       adjusted _
-          (λ next h. inl h)
-          (λ next h. elim h [ inl s ↦ s | inr o ↦ absurd (not_on (ap first_word o.3)) ])
-          (λ r h. inr (not_on, h))
-          (λ r h. elim h [ inl o ↦ absurd (not_on o.0) | inr d ↦ d.1 ])
-          (judged_other st word fields e)
+      (λ next h. inl h)
+      (λ next h. elim h [ inl s ↦ s | inr o ↦ absurd (not_on (ap first_word o.3)) ])
+      (λ r h. inr (not_on, h))
+      (λ r h. elim h [ inl o ↦ absurd (not_on o.0) | inr d ↦ d.1 ])
+      (judged_other st word fields e)

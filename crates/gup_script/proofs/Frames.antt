@@ -1,5 +1,5 @@
 -- The head and the `frames` line.
-use Rattle.std.proofs.Common.{◌≡◌, ℕ, zero, suc, ◌+◌, ◌<◌, ◌≤◌, ◌&&◌, Bool, true, false, leb, List, [], ◌∷◌, refl, sym, ap, ap₂, subst, ◌∙◌, Option, Some, Result, Ok, Err, Decides, inl, inr, arith}
+use Rattle.std.proofs.Common.{◌≡◌, ℕ, zero, suc, ◌+◌, ◌&&◌, false, leb, List, [], ◌∷◌, refl, sym, ap, ap₂, subst, ◌∙◌, Some, Result, Ok, Err, Decides, inl, inr, arith}
 use Rattle.std.specs.Prelude.{codes, bytes_eq, decimal}
 use Rattle.std.proofs.lemmas.Bool.{leb-true, le-leb}
 use Rattle.std.proofs.lemmas.Bool.Decides.{Decides-and, Decides-like, not_from_Decides}
@@ -14,8 +14,8 @@ use Rattle.gup_script.specs.Outline.{most_frames, most_tables}
 use Rattle.gup_script.specs.Said.{Word}
 use Rattle.gup_script.specs.Grammar.{AreFrames, AreFrameCounts, frames_words, head_words}
 use Rattle.gup_script.specs.Fault.{Unless, Fails}
-use Rattle.gup_script.specs.Reading.{◌>>=◌, check, need, frame_counts, counts_in, frames_in, is_head}
-use Rattle.gup_script.proofs.Verdicts.{Judges, Finds, needed, ended, adjusted, parted, refused, ok_not_err, same_good, same_bad}
+use Rattle.gup_script.specs.Reading.{frame_counts, counts_in, frames_in, is_head}
+use Rattle.gup_script.proofs.Verdicts.{Judges, needed, ended, parted, refused, ok_not_err}
 use Rattle.gup_script.proofs.Known.{number_finds}
 use Rattle.gup_script.proofs.Declaring.{one_found}
 
@@ -30,9 +30,9 @@ head_decides [] = none_decides λ e. cc
 head_decides (word ∷ []) = none_decides λ e. cc
 head_decides (word ∷ version ∷ []) =
     Decides-like (bytes_eq word (codes "gup") && bytes_eq version (codes "1"))
-        (λ h. ap₂ (λ (w v : Word). w ∷ v ∷ []) h.0 h.1)
-        (λ e. (ap first e, ap second e))
-        (Decides-and _ _ (bytes_eq-Decides word (codes "gup")) (bytes_eq-Decides version (codes "1")))
+    (λ h. ap₂ (λ (w v : Word). w ∷ v ∷ []) h.0 h.1)
+    (λ e. (ap first e, ap second e))
+    (Decides-and _ _ (bytes_eq-Decides word (codes "gup")) (bytes_eq-Decides version (codes "1")))
   where
     first : List Word → Word
     first [] = []
@@ -61,18 +61,18 @@ AreAll m n t k =
 abbrev NotAll : (m n t : Word) → Reason → Type 0
 NotAll m n t r =
     Unless reasons.Frames ((a : ℕ) × IsNumber m a) r
-        (Unless reasons.Frames ((b : ℕ) × IsNumber n b) r
-            (Unless reasons.Frames ((c : ℕ) × IsNumber t c) r (Fails reasons.Frames ((k : FrameCounts) × AreCounts m n t k) r)))
+    (Unless reasons.Frames ((b : ℕ) × IsNumber n b) r
+    (Unless reasons.Frames ((c : ℕ) × IsNumber t c) r (Fails reasons.Frames ((k : FrameCounts) × AreCounts m n t k) r)))
 
 counts_tests : (m n t : Word) → Judges FrameCounts (counts_in m n t) (AreAll m n t) (NotAll m n t)
 unfolding counts_in
 counts_tests m n t =
     needed reasons.Frames (number_in m) _ (number_finds m) λ a is_a.
-        needed reasons.Frames (number_in n) _ (number_finds n) λ b is_b.
-            needed reasons.Frames (number_in t) _ (number_finds t) λ c is_c.
-                ended reasons.Frames (leb (a + b) most_frames && leb c most_tables) (frame_counts (a, b, c)) (fits a b c is_a is_b is_c)
-                    (λ p. subst (AreCounts m n t) (same a b c is_a is_b is_c p.0 p.1) p.1)
-                    (λ x _ h. same a b c is_a is_b is_c x h)
+    needed reasons.Frames (number_in n) _ (number_finds n) λ b is_b.
+    needed reasons.Frames (number_in t) _ (number_finds t) λ c is_c.
+    ended reasons.Frames (leb (a + b) most_frames && leb c most_tables) (frame_counts (a, b, c)) (fits a b c is_a is_b is_c)
+    (λ p. subst (AreCounts m n t) (same a b c is_a is_b is_c p.0 p.1) p.1)
+    (λ x _ h. same a b c is_a is_b is_c x h)
   where
     same : (a b c : ℕ) → number_in m ≡ Some a → number_in n ≡ Some b → number_in t ≡ Some c → (k : FrameCounts) → AreCounts m n t k → k ≡ frame_counts (a, b, c)
     same a b c is_a is_b is_c k h =
@@ -115,13 +115,13 @@ judged_counts : (m n t : Word) → Judges FrameCounts (counts_in m n t) (AreFram
 unfolding field
 judged_counts m n t =
     lumped reasons.Frames (counts_in m n t)
-        (λ k h. let c : AreCounts m n t k = h.1.1.1.1 in (spelled k c, c.3))
-        (λ k h.
-            let fit = h.1 in
-            let c : AreCounts m n t k = (ap (field 1) h.0, ap (field 2) h.0, ap (field 3) h.0, h.1) in
-            ((k.movable, (c.0, omega (arith, fit.0))), ((k.normal, (c.1, omega (arith, fit.0))), ((k.tables, (c.2, omega (arith, fit.1))), ((k, c), c)))))
-        (all_frames m n t)
-        (counts_tests m n t)
+    (λ k h. let c : AreCounts m n t k = h.1.1.1.1 in (spelled k c, c.3))
+    (λ k h.
+    let fit = h.1 in
+    let c : AreCounts m n t k = (ap (field 1) h.0, ap (field 2) h.0, ap (field 3) h.0, h.1) in
+    ((k.movable, (c.0, omega (arith, fit.0))), ((k.normal, (c.1, omega (arith, fit.0))), ((k.tables, (c.2, omega (arith, fit.1))), ((k, c), c)))))
+    (all_frames m n t)
+    (counts_tests m n t)
   where
     spelled : (k : FrameCounts) → AreCounts m n t k → (codes "frames" ∷ m ∷ n ∷ t ∷ []) ≡ frames_words k.movable k.normal k.tables
     spelled k c = λ i. codes "frames" ∷ c.0 i ∷ c.1 i ∷ c.2 i ∷ []
@@ -140,6 +140,6 @@ judged_frames (a ∷ b ∷ []) = no_frames (a ∷ b ∷ []) λ k e. cc
 judged_frames (a ∷ b ∷ c ∷ []) = no_frames (a ∷ b ∷ c ∷ []) λ k e. cc
 judged_frames (a ∷ b ∷ c ∷ d ∷ []) =
     parted (bytes_eq a (codes "frames")) _ _
-        (λ e. subst (λ (w : Word). JudgesFrames (w ∷ b ∷ c ∷ d ∷ []) (counts_in b c d)) (sym ((bytes_eq-Decides a (codes "frames")).0 e)) (judged_counts b c d))
-        (λ e. no_frames (a ∷ b ∷ c ∷ d ∷ []) λ k same. not_from_Decides (bytes_eq a (codes "frames")) (bytes_eq-Decides a (codes "frames")) e (ap (field 0) same))
+    (λ e. subst (λ (w : Word). JudgesFrames (w ∷ b ∷ c ∷ d ∷ []) (counts_in b c d)) (sym ((bytes_eq-Decides a (codes "frames")).0 e)) (judged_counts b c d))
+    (λ e. no_frames (a ∷ b ∷ c ∷ d ∷ []) λ k same. not_from_Decides (bytes_eq a (codes "frames")) (bytes_eq-Decides a (codes "frames")) e (ap (field 0) same))
 judged_frames (a ∷ b ∷ c ∷ d ∷ x ∷ more) = no_frames (a ∷ b ∷ c ∷ d ∷ x ∷ more) λ k e. cc

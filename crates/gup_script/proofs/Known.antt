@@ -1,6 +1,5 @@
 -- The tests on names and words, and what each of them decides.
-use Rattle.std.proofs.Common.{◌≡◌, ◌⊎◌, ℕ, ◌<◌, Bool, true, false, not, List, [], ◌∷◌, Option, Some, None, is_none, refl, ap, ◌^◌, Decides}
-use Rattle.std.proofs.lemmas.Slice.Eq.{bytes_eq-Decides}
+use Rattle.std.proofs.Common.{◌≡◌, ℕ, ◌<◌, Bool, true, false, not, List, Option, Some, None, is_none, refl, ap, ◌^◌, Decides}
 use Rattle.gup_text.specs.Text.{number_in, count_in, is_name}
 use Rattle.gup_text.specs.Spelling.{IsNumber, IsCount, IsName}
 use Rattle.gup_text.specs.SpelledNumbers.{number_found, number_read, count_found, count_read}

@@ -1,5 +1,5 @@
 -- What is read of a text is what the grammar has in it, and the fault that is found is its first.
-use Rattle.std.proofs.Common.{◌≡◌, ◌⊎◌, ℕ, ◌+◌, ◌<◌, ◌≤◌, Bool, true, false, cond, ltb, List, [], ◌∷◌, ◌++◌, length, refl, sym, ap, subst, ◌∙◌, Result, Ok, Err, inl, inr, arith}
+use Rattle.std.proofs.Common.{◌≡◌, ◌⊎◌, ℕ, ◌+◌, ◌<◌, Bool, true, false, cond, ltb, List, [], ◌∷◌, ◌++◌, length, refl, sym, ap, subst, ◌∙◌, Result, Ok, Err, inl, inr, arith}
 use Rattle.std.proofs.lemmas.Bool.{ltb-true, ltb-false, lt-ltb, le-ltb}
 use Rattle.std.proofs.lemmas.Bool.Decides.{not_from_Decides}
 use Rattle.gup_text.specs.Text.{parts, is_printable}
@@ -13,7 +13,6 @@ use Rattle.gup_script.specs.Outline.{Outline, most_bytes}
 use Rattle.gup_script.specs.Grammar.{Stage, before_head, before_frames, open_at, IsRight, AreRight, Accepts}
 use Rattle.gup_script.specs.Fault.{Unless, LastFault, FaultAt, HasFault}
 use Rattle.gup_script.specs.Reading.{line_in, fault_at, end_in, behind, lines_in, reading}
-use Rattle.gup_script.proofs.Verdicts.{good}
 use Rattle.gup_script.proofs.Spaced.{AreNamedAt, stays_named}
 use Rattle.gup_script.proofs.Lines.{judged_line, some_part}
 

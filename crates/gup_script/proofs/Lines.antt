@@ -1,6 +1,5 @@
 -- A line behind those before it: it is judged as the grammar and its faults have it.
-use Rattle.std.proofs.Common.{◌≡◌, ℕ, ◌<◌, ◌+◌, Bool, true, false, not, cond, eqb, List, [], ◌∷◌, length, refl, sym, ap, subst, ◌∙◌, Result, Ok, Err, inl, inr, Decides, arith}
-use Rattle.std.specs.List.{AllByRecursion, slice_split}
+use Rattle.std.proofs.Common.{◌≡◌, ℕ, ◌<◌, Bool, true, false, not, cond, eqb, List, [], ◌∷◌, length, refl, sym, ap, ◌∙◌, Result, Ok, Err, inl, inr, Decides, arith}
 use Rattle.std.proofs.lemmas.Bool.Decides.{Decides-and, Decides-eqb, not_from_Decides}
 use Rattle.std.proofs.lemmas.List.Splits.{length-slice_split}
 use Rattle.gup_text.specs.Text.{parts, is_printable, is_passed, are_spaced, is_some_word}
@@ -8,11 +7,11 @@ use Rattle.gup_text.specs.Spelling.{IsPrintable}
 use Rattle.gup_text.specs.SpelledNames.{printable_found, printable_read}
 use Rattle.gup_script.specs.declared.refusal.Reason.{Reason}
 use Rattle.gup_script.specs.declared.refusal.Reason.TheVariants as reasons
-use Rattle.gup_script.specs.Outline.{Outline, empty_outline}
+use Rattle.gup_script.specs.Outline.{empty_outline}
 use Rattle.gup_script.specs.Said.{Word}
 use Rattle.gup_script.specs.Grammar.{Stage, before_head, before_frames, open_at, IsSaid, IsPassed, IsRight}
-use Rattle.gup_script.specs.Fault.{Unless, Fails, AreSpaced, WordsFault, LineFault}
-use Rattle.gup_script.specs.Reading.{◌>>=◌, check, is_head, words_in, said_in, line_in}
+use Rattle.gup_script.specs.Fault.{Unless, AreSpaced, WordsFault, LineFault}
+use Rattle.gup_script.specs.Reading.{◌>>=◌, is_head, words_in, said_in, line_in}
 use Rattle.gup_script.proofs.Verdicts.{Judges, same_good, same_bad, not_bad, checked, ended, adjusted, refused}
 use Rattle.gup_script.proofs.Following.{judged_next}
 use Rattle.gup_script.proofs.Frames.{head_decides, judged_frames}
@@ -56,7 +55,7 @@ judged_spaced : (stage : Stage) → AreNamedAt stage → (word : Word) (words : 
 unfolding said_in
 judged_spaced stage named word words =
     adjusted _ (λ x h. h.1) (λ x h. (spaced stage x (word ∷ words) named h, h)) (λ r h. h) (λ r h. h)
-        (checked reasons.Space (are_spaced (word ∷ words)) (words_in stage (word ∷ words)) (spaced_decides (word ∷ words)) λ _. judged_words stage word words)
+    (checked reasons.Space (are_spaced (word ∷ words)) (words_in stage (word ∷ words)) (spaced_decides (word ∷ words)) λ _. judged_words stage word words)
 
 abbrev JudgesSaid : Stage → List Word → Type 0
 JudgesSaid stage words =

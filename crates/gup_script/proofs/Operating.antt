@@ -1,5 +1,5 @@
 -- One more operation of an actor: what is true of every outline stays so.
-use Rattle.std.proofs.Common.{◌≡◌, ℕ, zero, suc, ◌+◌, ◌<◌, ◌≤◌, Bool, true, false, cond, List, [], ◌∷◌, ◌++◌, length, slice_get, All, Contains, sum_by, count_by, refl, sym, ap, subst, ◌∙◌, Option, Some, None, arith}
+use Rattle.std.proofs.Common.{◌≡◌, ℕ, zero, suc, ◌+◌, ◌<◌, Bool, true, cond, List, [], ◌∷◌, ◌++◌, length, slice_get, All, Contains, sum_by, count_by, refl, sym, ap, subst, ◌∙◌, Option, Some, None, arith}
 use Rattle.std.specs.Prelude.{codes}
 use Rattle.std.specs.List.{AllByRecursion}
 use Rattle.std.proofs.lemmas.List.{length_push}
@@ -13,7 +13,7 @@ use Rattle.gup_script.specs.Outline.{Outline, with_op, with_operation, is_thread
 use Rattle.gup_script.specs.Said.{Word, Action, maps, unmaps, protects, discards, loads, stores, exits, action_words, op_words, op_words_of}
 use Rattle.gup_script.specs.Grammar.{Means, IsOpOf, Does, first_word}
 use Rattle.gup_script.specs.Valid.{IsOp, KindFits, OpsFit}
-use Rattle.gup_script.proofs.Verdicts.{given, same_given}
+use Rattle.gup_script.proofs.Verdicts.{same_given}
 use Rattle.gup_script.proofs.Following.{none_among}
 use Rattle.gup_script.proofs.Lists.{each_like}
 use Rattle.gup_script.proofs.Standing.{Stands}

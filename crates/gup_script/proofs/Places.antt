@@ -1,5 +1,5 @@
 -- Which line of declarations or turns has these words: at most one, and none where they don't stand in their places.
-use Rattle.std.proofs.Common.{◌≡◌, ◌⊎◌, true, cond, List, [], ◌∷◌, Option, Some, None, Result, Ok, Err, refl, sym, ap, subst, ◌∙◌, inl, inr}
+use Rattle.std.proofs.Common.{◌≡◌, cond, List, [], ◌∷◌, Option, Some, None, Result, Err, refl, sym, ap, subst, ◌∙◌, inl, inr}
 use Rattle.std.specs.Prelude.{codes, bytes_eq}
 use Rattle.gup_script.specs.declared.refusal.Reason.{Reason}
 use Rattle.gup_script.specs.declared.refusal.Reason.TheVariants.{Shape}
@@ -7,7 +7,7 @@ use Rattle.gup_script.specs.Outline.{Outline}
 use Rattle.gup_script.specs.Said.{Word, Said, a_process, a_child, a_thread, a_device, a_mover, a_seed, some_turns, random_turns, said_words}
 use Rattle.gup_script.specs.Grammar.{Declares, SaidNumbers, SaidNames, SaidOnce, SaidLimits, Becomes}
 use Rattle.gup_script.specs.Fault.{SaidFault, DeclaringFault}
-use Rattle.gup_script.proofs.Verdicts.{Judges, given, same_given, adjusted, refused}
+use Rattle.gup_script.proofs.Verdicts.{Judges, given, same_given, refused}
 
 abbrev with_one : (Word → Said) → List Word → Option Said
 with_one kind (field ∷ []) = Some (kind field)
@@ -25,13 +25,13 @@ with_some (first ∷ more) = Some (some_turns first more)
 abbrev pub said_behind : Word → List Word → Option Said
 said_behind word fields =
     cond (bytes_eq word (codes "process")) (with_one a_process fields)
-        (cond (bytes_eq word (codes "child")) (with_one a_child fields)
-            (cond (bytes_eq word (codes "thread")) (with_two a_thread fields)
-                (cond (bytes_eq word (codes "device")) (with_two a_device fields)
-                    (cond (bytes_eq word (codes "mover")) (with_one a_mover fields)
-                        (cond (bytes_eq word (codes "seed")) (with_one a_seed fields)
-                            (cond (bytes_eq word (codes "turns")) (with_some fields)
-                                (cond (bytes_eq word (codes "random")) (with_two random_turns fields) None)))))))
+    (cond (bytes_eq word (codes "child")) (with_one a_child fields)
+    (cond (bytes_eq word (codes "thread")) (with_two a_thread fields)
+    (cond (bytes_eq word (codes "device")) (with_two a_device fields)
+    (cond (bytes_eq word (codes "mover")) (with_one a_mover fields)
+    (cond (bytes_eq word (codes "seed")) (with_one a_seed fields)
+    (cond (bytes_eq word (codes "turns")) (with_some fields)
+    (cond (bytes_eq word (codes "random")) (with_two random_turns fields) None)))))))
 
 abbrev pub said_of : List Word → Option Said
 said_of [] = None
@@ -80,6 +80,6 @@ placed st word fields said m spelled k = record {
 pub misplaced : (st : Outline) (word : Word) (fields : List Word) → said_of (word ∷ fields) ≡ None → JudgesSaid st word fields (Err Shape)
 misplaced st word fields none =
     refused Shape
-        (λ next h. none_said (word ∷ fields) none h.0 h.1)
-        (inl (refl, none_said (word ∷ fields) none))
-        (λ r h. elim h [ inl f ↦ f.0 | inr g ↦ absurd (none_said (word ∷ fields) none g.0 g.1) ])
+    (λ next h. none_said (word ∷ fields) none h.0 h.1)
+    (inl (refl, none_said (word ∷ fields) none))
+    (λ r h. elim h [ inl f ↦ f.0 | inr g ↦ absurd (none_said (word ∷ fields) none g.0 g.1) ])

@@ -1,17 +1,17 @@
 -- No word of a line that is right is empty, since no name is.
-use Rattle.std.proofs.Common.{◌≡◌, ℕ, ◌^◌, ◌+◌, ◌<◌, ◌≤◌, Bool, true, false, cond, List, [], ◌∷◌, ◌++◌, length, refl, sym, ap, subst, ◌∙◌, Option, Some, None, inl, inr, arith}
+use Rattle.std.proofs.Common.{◌≡◌, ℕ, ◌^◌, ◌<◌, Bool, true, false, cond, List, [], ◌∷◌, ◌++◌, length, refl, sym, ap, subst, ◌∙◌, Option, Some, None, inl, inr, arith}
 use Rattle.std.specs.Prelude.{codes, bytes_eq, decimal}
 use Rattle.std.specs.List.{AllByRecursion}
 use Rattle.std.proofs.lemmas.Fmt.{decimal_nonempty}
 use Rattle.gup_base.specs.declared.entry.Rights.{Rights}
 use Rattle.gup_base.specs.declared.entry.Rights.TheVariants.{R, RW}
 use Rattle.gup_text.specs.Text.{parts}
-use Rattle.gup_text.specs.Spelling.{IsName, IsTurnWord, turn_word, address}
+use Rattle.gup_text.specs.Spelling.{IsName, turn_word, address}
 use Rattle.gup_names.specs.Names.{Entry, find, declared}
 use Rattle.gup_names.specs.declared.names.Named.{Named}
 use Rattle.gup_script.specs.Outline.{Outline}
 use Rattle.gup_script.specs.Said.{Word, Said, a_process, a_child, a_thread, a_device, a_mover, a_seed, some_turns, random_turns, said_words, Action, maps, unmaps, protects, discards, loads, stores, exits, action_words, rights_word}
-use Rattle.gup_script.specs.Grammar.{TurnsAnActor, NamesActor, Declares, Does, IsNext, IsSaid, IsRight, Stage, before_head, before_frames, open_at, head_words, frames_words}
+use Rattle.gup_script.specs.Grammar.{TurnsAnActor, Declares, Does, IsNext, IsSaid, IsRight, Stage, before_head, before_frames, open_at}
 use Rattle.gup_script.specs.Fault.{AreSpaced}
 use Rattle.gup_script.proofs.Verdicts.{given}
 

@@ -1,20 +1,20 @@
 -- Lines of turns, written and drawn: each function answers as the grammar and its faults have it.
-use Rattle.std.proofs.Common.{◌≡◌, ◌⊎◌, ℕ, ◌+◌, ◌<◌, ◌≤◌, ◌||◌, Bool, true, false, eqb, ltb, leb, List, [], ◌∷◌, ◌++◌, length, replicate, refl, sym, ap, ap₂, subst, ◌∙◌, inl, inr, Option, Some, None, is_some, Ok, Err, Decides}
+use Rattle.std.proofs.Common.{◌≡◌, ℕ, ◌+◌, ◌≤◌, ◌||◌, true, eqb, ltb, leb, List, [], ◌∷◌, ◌++◌, length, replicate, refl, sym, ap, ap₂, subst, ◌∙◌, Option, Some, None, is_some, Decides}
 use Rattle.std.specs.Prelude.{codes}
-use Rattle.std.specs.List.{AllByRecursion, list_all}
+use Rattle.std.specs.List.{AllByRecursion}
 use Rattle.std.proofs.lemmas.Bool.{ltb-true, lt-ltb, leb-true, le-leb}
-use Rattle.std.proofs.lemmas.Bool.Decides.{Decides-eqb, Decides-or, Decides-and, Decides-at, Decides-like}
+use Rattle.std.proofs.lemmas.Bool.Decides.{Decides-eqb, Decides-or, Decides-and}
 use Rattle.gup_text.specs.Text.{number_in, turn_name, turn_times}
 use Rattle.gup_text.specs.Spelling.{IsNumber, IsTurnWord}
 use Rattle.gup_text.specs.SpelledNumbers.{number_found, number_read}
 use Rattle.gup_text.specs.SpelledTurns.{turn_found, turn_read}
 use Rattle.gup_names.specs.Names.{find}
-use Rattle.gup_script.specs.declared.refusal.Reason.TheVariants.{Shape, Number, Name, Twice, Limit}
+use Rattle.gup_script.specs.declared.refusal.Reason.TheVariants.{Number, Name, Twice, Limit}
 use Rattle.gup_script.specs.Outline.{Outline, with_turns, draws, most_turns}
-use Rattle.gup_script.specs.Said.{Word, Said, some_turns, random_turns}
-use Rattle.gup_script.specs.Grammar.{HasTimes, TurnsAnActor, AreTurns, NamesActor, SaidNumbers, SaidNames, SaidLimits}
-use Rattle.gup_script.specs.Reading.{◌>>=◌, check, need, actor_of, turner, are_times, are_turners, or_zero, turns_of, turns_in, random_in}
-use Rattle.gup_script.proofs.Verdicts.{Judges, Finds, same_given, checked, skipped, needed, ended, done, merged}
+use Rattle.gup_script.specs.Said.{Word, some_turns, random_turns}
+use Rattle.gup_script.specs.Grammar.{HasTimes, TurnsAnActor, AreTurns, NamesActor, SaidNames, SaidLimits}
+use Rattle.gup_script.specs.Reading.{actor_of, turner, are_times, are_turners, or_zero, turns_of, turns_in, random_in}
+use Rattle.gup_script.proofs.Verdicts.{checked, skipped, needed, ended, merged}
 use Rattle.gup_script.proofs.Known.{number_finds, actor_finds}
 use Rattle.gup_script.proofs.Declaring.{one_found}
 use Rattle.gup_script.proofs.Places.{JudgesSaid, JudgesTests, placed, misplaced}
@@ -76,10 +76,10 @@ unfolding turns_in
 turns_tests st first more =
     let words : List Word = first ∷ more in
     checked Number (are_times words) _ (times_decide words) λ timed.
-        checked Name (are_turners st words) _ (turners_decide st words timed) λ turning.
-            skipped Twice _ (ended Limit (leb (length st.script.turns + length (turns_of st words)) most_turns) (with_turns (turns_of st words) st) (few turning)
-                (λ _. (turns_of st words, are_turns st words turning, refl))
-                (λ x _ h. h.2 ∙ ap (λ actors. with_turns actors st) (turns_are st words h.0 h.1)))
+    checked Name (are_turners st words) _ (turners_decide st words timed) λ turning.
+    skipped Twice _ (ended Limit (leb (length st.script.turns + length (turns_of st words)) most_turns) (with_turns (turns_of st words) st) (few turning)
+    (λ _. (turns_of st words, are_turns st words turning, refl))
+    (λ x _ h. h.2 ∙ ap (λ actors. with_turns actors st) (turns_are st words h.0 h.1)))
   where
     few : AllByRecursion (TurnsAnActor st) (first ∷ more) → Decides (leb (length st.script.turns + length (turns_of st (first ∷ more))) most_turns) (SaidLimits st (some_turns first more))
     few turning = (
@@ -98,12 +98,12 @@ random_tests : (st : Outline) (start count : Word) → JudgesTests st (random_tu
 unfolding random_in
 random_tests st start count =
     merged Number _ (λ x n. (x.0, n.0, x.1, n.1)) (λ h. (h.0, h.2)) (λ h. (h.1, h.3))
-        (needed Number (number_in start) _ (number_finds start) λ x is_x.
-            needed Number (number_in count) _ (number_finds count) λ n is_n.
-                checked Name (eqb n 0 || ltb 0 (length st.script.actors)) _ (someone n is_n) λ _.
-                    skipped Twice _ (ended Limit (leb (length st.script.turns + n) most_turns) (with_turns (draws n (length st.script.actors) x) st) (few n is_n)
-                        (λ _. (x, n, number_found start x is_x, number_found count n is_n, refl))
-                        (λ next _ h. h.4 ∙ ap₂ (λ c b. with_turns (draws c (length st.script.actors) b) st) (same count h.1 n h.3 is_n) (same start h.0 x h.2 is_x))))
+    (needed Number (number_in start) _ (number_finds start) λ x is_x.
+    needed Number (number_in count) _ (number_finds count) λ n is_n.
+    checked Name (eqb n 0 || ltb 0 (length st.script.actors)) _ (someone n is_n) λ _.
+    skipped Twice _ (ended Limit (leb (length st.script.turns + n) most_turns) (with_turns (draws n (length st.script.actors) x) st) (few n is_n)
+    (λ _. (x, n, number_found start x is_x, number_found count n is_n, refl))
+    (λ next _ h. h.4 ∙ ap₂ (λ c b. with_turns (draws c (length st.script.actors) b) st) (same count h.1 n h.3 is_n) (same start h.0 x h.2 is_x))))
   where
     same : (word : Word) (m n : ℕ) → IsNumber word m → number_in word ≡ Some n → m ≡ n
     same word m n h is = one_found (number_in word) m n (number_read word m h) is

@@ -1,5 +1,5 @@
 -- Every script that is read is valid.
-use Rattle.std.proofs.Common.{◌≡◌, ◌⊎◌, ℕ, zero, suc, ◌+◌, ◌<◌, ◌≤◌, ◌%◌, true, false, cond, All, List, [], ◌∷◌, ◌++◌, length, replicate, refl, sym, ap, subst, ◌∙◌, Ok, inl, inr, arith}
+use Rattle.std.proofs.Common.{◌≡◌, ◌⊎◌, ℕ, zero, suc, ◌+◌, ◌<◌, ◌≤◌, true, false, cond, All, List, [], ◌∷◌, length, replicate, refl, sym, ap, subst, ◌∙◌, Ok, inl, inr, arith}
 use Rattle.std.specs.List.{AllByRecursion}
 use Rattle.std.proofs.Math.Nat.{mod-lt}
 use Rattle.std.proofs.lemmas.List.Elements.{All-from_recursion}
@@ -9,7 +9,7 @@ use Rattle.gup_text.specs.Text.{parts, number_in}
 use Rattle.gup_script.specs.declared.op.Kind.{Kind}
 use Rattle.gup_script.specs.declared.op.Kind.TheVariants.{Thread, Device, Mover}
 use Rattle.gup_script.specs.Script.{ScriptValue, Actor}
-use Rattle.gup_script.specs.Outline.{Outline, is_thread, is_device, is_mover, drawn, draws, next_state}
+use Rattle.gup_script.specs.Outline.{Outline, is_thread, is_device, is_mover, draws, next_state}
 use Rattle.gup_script.specs.Said.{Word, Said, a_process, a_child, a_thread, a_device, a_mover, a_seed, some_turns, random_turns}
 use Rattle.gup_script.specs.Grammar.{AreTurns, Declares, IsNext, IsSaid, Stage, before_head, before_frames, open_at, IsRight, AreRight, Accepts}
 use Rattle.gup_script.specs.Reading.{reading}
