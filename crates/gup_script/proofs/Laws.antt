@@ -11,7 +11,7 @@ use Rattle.gup_script.specs.declared.refusal.ScriptFault.{ScriptFault}
 use Rattle.gup_script.specs.Script.{ScriptValue}
 use Rattle.gup_script.specs.Outline.{Outline, most_bytes}
 use Rattle.gup_script.specs.Grammar.{Stage, before_head, before_frames, open_at, IsRight, AreRight, Accepts}
-use Rattle.gup_script.specs.Fault.{Unless, LastFault, FaultAt, HasFault}
+use Rattle.gup_script.specs.Fault.{Unless, LastFault, IsShort, FaultAt, HasFault}
 use Rattle.gup_script.specs.Reading.{line_in, fault_at, end_in, behind, lines_in, reading}
 use Rattle.gup_script.proofs.Spaced.{AreNamedAt, stays_named}
 use Rattle.gup_script.proofs.Lines.{judged_line, some_part}
@@ -59,14 +59,21 @@ reason_of c cs r true e (inr g) = sym g.1
 reason_of c cs r false e (inl f) = sym f.0
 reason_of c cs r false e (inr g) = let is = printable_read (c ∷ cs) g.0 in absurd cc
 
+left_over : (number : ℕ) (stage : Stage) (c : ℕ) (cs : List ℕ) (fault : ScriptFault) → fault_at number (cond (is_printable (c ∷ cs)) reasons.End reasons.Byte) ≡ fault → LastFault stage (c ∷ cs) fault.reason × (fault.line ≡ number)
+left_over number stage c cs fault same =
+    (subst (λ (f : ScriptFault). LastFault stage (c ∷ cs) f.reason) same (last_of c cs (is_printable (c ∷ cs)) refl), ap (λ f. f.line) (sym same))
+
+too_short : (number : ℕ) (stage : Stage) (fault : ScriptFault) → IsShort stage → fault_at number reasons.Short ≡ fault → LastFault stage [] fault.reason × (fault.line ≡ number)
+too_short number stage fault short same = ((ap (λ f. f.reason) (sym same), short), ap (λ f. f.line) (sym same))
+
 end_fault : (number : ℕ) (stage : Stage) (line : List ℕ) (fault : ScriptFault) → end_in number stage line ≡ Err fault → LastFault stage line fault.reason × (fault.line ≡ number)
 unfolding end_in
 end_fault number (open_at st) [] fault e = absurd (not_faulty st fault e)
-end_fault number before_head [] fault e = let same = same_fault (fault_at number reasons.Short) fault e in ((ap (λ f. f.reason) (sym same), tt), ap (λ f. f.line) (sym same))
-end_fault number before_frames [] fault e = let same = same_fault (fault_at number reasons.Short) fault e in ((ap (λ f. f.reason) (sym same), tt), ap (λ f. f.line) (sym same))
-end_fault number before_head (c ∷ cs) fault e = let same = same_fault (fault_at number (cond (is_printable (c ∷ cs)) reasons.End reasons.Byte)) fault e in (subst (λ (f : ScriptFault). LastFault before_head (c ∷ cs) f.reason) same (last_of c cs (is_printable (c ∷ cs)) refl), ap (λ f. f.line) (sym same))
-end_fault number before_frames (c ∷ cs) fault e = let same = same_fault (fault_at number (cond (is_printable (c ∷ cs)) reasons.End reasons.Byte)) fault e in (subst (λ (f : ScriptFault). LastFault before_frames (c ∷ cs) f.reason) same (last_of c cs (is_printable (c ∷ cs)) refl), ap (λ f. f.line) (sym same))
-end_fault number (open_at st) (c ∷ cs) fault e = let same = same_fault (fault_at number (cond (is_printable (c ∷ cs)) reasons.End reasons.Byte)) fault e in (subst (λ (f : ScriptFault). LastFault (open_at st) (c ∷ cs) f.reason) same (last_of c cs (is_printable (c ∷ cs)) refl), ap (λ f. f.line) (sym same))
+end_fault number before_head [] fault e = too_short number before_head fault tt (same_fault _ fault e)
+end_fault number before_frames [] fault e = too_short number before_frames fault tt (same_fault _ fault e)
+end_fault number before_head (c ∷ cs) fault e = left_over number before_head c cs fault (same_fault _ fault e)
+end_fault number before_frames (c ∷ cs) fault e = left_over number before_frames c cs fault (same_fault _ fault e)
+end_fault number (open_at st) (c ∷ cs) fault e = left_over number (open_at st) c cs fault (same_fault _ fault e)
 
 end_fault_read : (number : ℕ) (stage : Stage) (line : List ℕ) (fault : ScriptFault) → LastFault stage line fault.reason → fault.line ≡ number → end_in number stage line ≡ Err fault
 unfolding end_in
