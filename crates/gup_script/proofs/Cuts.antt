@@ -1,7 +1,7 @@
 -- A text's lines, one after another.
 use Rattle.std.proofs.Common.{◌≡◌, ◌⊎◌, inl, inr, ◌==◌, ℕ, ◌+◌, ◌-◌, ◌<◌, ◌≤◌, not, Bool, true, false, cond, ltb, List, [], ◌∷◌, length, get_or, take, drop, Result, Ok, Err, Option, Some, None, refl, sym, ap, ◌∙◌, arith}
 use Rattle.std.specs.List.{position_or_len}
-use Rattle.std.proofs.lemmas.Bool.{not-true, ltb-true, lt-ltb}
+use Rattle.std.proofs.lemmas.Bool.{not-true, ltb-true, lt-ltb, le-ltb}
 use Rattle.std.proofs.lemmas.List.{length-drop, length-take, take_rest}
 use Rattle.std.proofs.lemmas.List.Sums.{prefix_len_passes}
 use Rattle.std.proofs.lemmas.List.Splits.{slice_split_none, slice_split_first, length-slice_split}
@@ -15,7 +15,7 @@ use Rattle.gup_script.specs.declared.stage.Stage.{Stage as CodeStage}
 use Rattle.gup_script.specs.declared.stage.Stage.TheVariants.{BeforeHead, BeforeFrames}
 use Rattle.gup_script.specs.Outline.{Outline}
 use Rattle.gup_script.specs.Grammar.{Stage, before_head, before_frames, open_at}
-use Rattle.gup_script.specs.Reading.{line_in, fault_at, end_in, behind, lines_in}
+use Rattle.gup_script.specs.Reading.{line_in, fault_at, end_in, behind, lines_in, reading}
 use Rattle.gup_script.specs.Steps.{IsTrouble, IsRefusal, refusal_at}
 use Rattle.gup_script.specs.StageViews.{stage_value}
 
@@ -105,3 +105,8 @@ one_line text number stage after line rest behind h cut len e =
       same = sym (line_right number stage after line behind e) ∙ ap (lines_in number stage) (sym cut) ∙ h.same;
       within = omega (arith, h.within);
     }
+
+-- a text that isn't too long is read by its lines
+pub read_lines : (text : List ℕ) → length text ≤ 1048576 → reading text ≡ lines_in 1 before_head (parts 10 text)
+unfolding reading
+read_lines text short = rw (le-ltb 1048576 (length text) short) refl

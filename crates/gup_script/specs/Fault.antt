@@ -26,9 +26,9 @@ Fails this test reason = (reason ≡ this) × (test → ⊥)
 abbrev pub SaidFault : Outline → Said → Reason → Type 0
 SaidFault st said reason =
     Unless Number (SaidNumbers said) reason
-        (Unless Name (SaidNames st said) reason
-            (Unless Twice (SaidOnce st said) reason
-                (Fails Limit (SaidLimits st said) reason)))
+    (Unless Name (SaidNames st said) reason
+    (Unless Twice (SaidOnce st said) reason
+    (Fails Limit (SaidLimits st said) reason)))
 
 abbrev pub DeclaringFault : Outline → List Letters → Reason → Type 0
 DeclaringFault st words reason =
@@ -39,11 +39,11 @@ DeclaringFault st words reason =
 abbrev pub ActionFault : Outline → (actor : ℕ) → Action → Reason → Type 0
 ActionFault st a action reason =
     Unless Shape (IsShaped action) reason
-        (Unless Number (ActionNumbers action) reason
-            (Unless Name (ActionNames st a action) reason
-                (Unless Twice (ActionOnce st action) reason
-                    (Unless Limit (ActionLimits st) reason
-                        (Fails Later (IsBuilt action) reason)))))
+    (Unless Number (ActionNumbers action) reason
+    (Unless Name (ActionNames st a action) reason
+    (Unless Twice (ActionOnce st action) reason
+    (Unless Limit (ActionLimits st) reason
+    (Fails Later (IsBuilt action) reason)))))
 
 abbrev pub OpFault : Outline → (actor : ℕ) → List Letters → Reason → Type 0
 OpFault st a words reason =
@@ -78,7 +78,7 @@ AreSpaced words = AllByRecursion (λ word. word ≡ [] → ⊥) words
 abbrev pub LineFault : Stage → (line : List ℕ) → Reason → Type 0
 LineFault stage line reason =
     Unless Byte (IsPrintable line) reason
-        ((IsPassed line → ⊥) × Unless Space (AreSpaced (parts 32 line)) reason (WordsFault stage (parts 32 line) reason))
+    ((IsPassed line → ⊥) × Unless Space (AreSpaced (parts 32 line)) reason (WordsFault stage (parts 32 line) reason))
 
 -- the text ends before its `frames` line
 abbrev pub IsShort : Stage → Type 0

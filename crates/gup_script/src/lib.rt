@@ -1,8 +1,9 @@
-//! Scripts: their operations, what a script says, and the reader of its text.
+//! Scripts: their operations, what a script says, the reader of its text, and what the grammar promises.
 #![tactic(auto)]
 
 mod declarations;
 mod drawing;
+mod law;
 mod op;
 mod operations;
 mod read;
@@ -12,6 +13,7 @@ mod script;
 mod stage;
 mod turns;
 
+pub use law::{one_fault, one_script, script_or_fault, scripts_have_no_fault};
 pub use op::{Kind, Op};
 pub use read::read_script;
 pub use refusal::{ReadRefusal, Reason, ScriptFault};
