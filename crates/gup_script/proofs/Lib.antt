@@ -29,3 +29,4 @@ pub mod Parts
 pub mod Turners
 pub mod Cuts
 pub mod Answers
+pub mod SinglePage

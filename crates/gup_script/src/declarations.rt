@@ -7,7 +7,7 @@ ghost use Rattle.gup_script.specs.Reading.{on_in, process_in, thread_in, device_
 use crate::op::Kind;
 use crate::operations::actor_op;
 use crate::reader::Reader;
-use crate::refusal::{Reason, Trouble};
+use crate::refusal::{Reason, Trouble, check};
 use crate::turns::{random_line, turns_line};
 use gup_text::{count, is_name, number};
 
@@ -29,9 +29,7 @@ fn on_line(reader: &mut Reader, fields: &[&str]) -> Result<(), Trouble>
     };
     let actor = reader.actor(name).ok_or(Reason::Name)?;
     let op = actor_op(reader, actor, word, fields)?;
-    if !reader.has_room() {
-        return Err(Trouble::Fault(Reason::Limit));
-    }
+    check(reader.has_room(), Reason::Limit)?;
     let op = op.ok_or(Reason::Later)?;
     reader.add_operation(actor, op)?;
     Ok(())
@@ -45,15 +43,9 @@ fn process_line(reader: &mut Reader, born: bool, fields: &[&str]) -> Result<(), 
     let [name] = fields else {
         return Err(Trouble::Fault(Reason::Shape));
     };
-    if !is_name(name) {
-        return Err(Trouble::Fault(Reason::Name));
-    }
-    if !reader.is_unused(name) {
-        return Err(Trouble::Fault(Reason::Twice));
-    }
-    if reader.processes() >= MAX_PROCESSES {
-        return Err(Trouble::Fault(Reason::Limit));
-    }
+    check(is_name(name), Reason::Name)?;
+    check(reader.is_unused(name), Reason::Twice)?;
+    check(reader.processes() < MAX_PROCESSES, Reason::Limit)?;
     reader.add_process(name, born)?;
     Ok(())
 }
@@ -65,16 +57,10 @@ fn thread_line(reader: &mut Reader, fields: &[&str]) -> Result<(), Trouble>
     let [name, process] = fields else {
         return Err(Trouble::Fault(Reason::Shape));
     };
-    if !is_name(name) {
-        return Err(Trouble::Fault(Reason::Name));
-    }
+    check(is_name(name), Reason::Name)?;
     let process = reader.process(process).ok_or(Reason::Name)?;
-    if !reader.is_unused(name) {
-        return Err(Trouble::Fault(Reason::Twice));
-    }
-    if reader.threads() >= MAX_THREADS {
-        return Err(Trouble::Fault(Reason::Limit));
-    }
+    check(reader.is_unused(name), Reason::Twice)?;
+    check(reader.threads() < MAX_THREADS, Reason::Limit)?;
     reader.add_actor(name, Kind::Thread(process))?;
     Ok(())
 }
@@ -87,15 +73,9 @@ fn device_line(reader: &mut Reader, fields: &[&str]) -> Result<(), Trouble>
         return Err(Trouble::Fault(Reason::Shape));
     };
     let slots = count(1, MAX_SLOTS, slots).ok_or(Reason::Number)?;
-    if !is_name(name) {
-        return Err(Trouble::Fault(Reason::Name));
-    }
-    if !reader.is_unused(name) {
-        return Err(Trouble::Fault(Reason::Twice));
-    }
-    if reader.devices() >= MAX_DEVICES {
-        return Err(Trouble::Fault(Reason::Limit));
-    }
+    check(is_name(name), Reason::Name)?;
+    check(reader.is_unused(name), Reason::Twice)?;
+    check(reader.devices() < MAX_DEVICES, Reason::Limit)?;
     reader.add_actor(name, Kind::Device(slots as u16))?;
     Ok(())
 }
@@ -107,12 +87,8 @@ fn mover_line(reader: &mut Reader, fields: &[&str]) -> Result<(), Trouble>
     let [name] = fields else {
         return Err(Trouble::Fault(Reason::Shape));
     };
-    if !is_name(name) {
-        return Err(Trouble::Fault(Reason::Name));
-    }
-    if !reader.is_unused(name) || reader.has_mover() {
-        return Err(Trouble::Fault(Reason::Twice));
-    }
+    check(is_name(name), Reason::Name)?;
+    check(reader.is_unused(name) && !reader.has_mover(), Reason::Twice)?;
     reader.add_actor(name, Kind::Mover)?;
     Ok(())
 }
@@ -125,9 +101,7 @@ fn seed_line(reader: &mut Reader, fields: &[&str]) -> Result<(), Trouble>
         return Err(Trouble::Fault(Reason::Shape));
     };
     let seed = number(seed).ok_or(Reason::Number)?;
-    if reader.is_seeded() {
-        return Err(Trouble::Fault(Reason::Twice));
-    }
+    check(!reader.is_seeded(), Reason::Twice)?;
     reader.set_seed(seed);
     Ok(())
 }

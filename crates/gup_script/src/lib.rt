@@ -4,6 +4,7 @@
 mod declarations;
 mod drawing;
 mod law;
+mod one_page;
 mod op;
 mod operations;
 mod read;

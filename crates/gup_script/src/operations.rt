@@ -3,11 +3,11 @@
 ghost use Rattle.std.specs.Prelude.{◌≡◌, map, Some};
 ghost use Rattle.std.specs.List.{list_all};
 ghost use Rattle.gup_script.specs.Script.{Actor, actor_at};
-ghost use Rattle.gup_script.specs.Reading.{rights_in, is_way, is_zone, map_in, unmap_in, protect_in, discard_in, load_in, store_in, exit_in, pin_of, pin_in, get_in, put_in, fork_in, handle_in, give_in, transfer_in, segments_in, at_most_64, parts_in, mirror_in, look_in, move_in, thread_op_in, device_op_in, mover_op_in, op_of_kind, op_of_actor};
+ghost use Rattle.gup_script.specs.Reading.{rights_in, map_in, unmap_in, protect_in, discard_in, load_in, store_in, exit_in, pin_of, pin_in, get_in, put_in, fork_in, handle_in, give_in, transfer_in, segments_in, at_most_64, parts_in, mirror_in, look_in, move_in, thread_op_in, device_op_in, mover_op_in, op_of_kind, op_of_actor};
 
 use crate::op::{Kind, Op};
 use crate::reader::Reader;
-use crate::refusal::Reason;
+use crate::refusal::{Reason, check};
 use gup_base::{ActorNo, Rights};
 use gup_text::{address, count, index, is_name, number, page, range, segment, word_no};
 
@@ -32,18 +32,6 @@ fn rights(word: &str) -> Option<Rights>
         "rw" => Some(Rights::RW),
         _ => None,
     }
-}
-
-fn is_way(word: &str) -> bool
-    ensures { result ≡ is_way word.now }
-{
-    word == "read" || word == "write"
-}
-
-fn is_zone(word: &str) -> bool
-    ensures { result ≡ is_zone word.now }
-{
-    word == "normal" || word == "movable"
 }
 
 #[tactic(auto, unfolding(crate::specs::Reading::map_in))]
@@ -136,16 +124,10 @@ fn pinned_pages(
 ) -> Result<Option<Op>, Reason>
     ensures { result ≡ pin_of reader.now handle.now first.now count.now way.now }
 {
-    if !is_way(way) {
-        return Err(Reason::Shape);
-    }
+    check(way == "read" || way == "write", Reason::Shape)?;
     range(MAX_PIN, first, count).ok_or(Reason::Number)?;
-    if !is_name(handle) {
-        return Err(Reason::Name);
-    }
-    if !reader.is_unused(handle) {
-        return Err(Reason::Twice);
-    }
+    check(is_name(handle), Reason::Name)?;
+    check(reader.is_unused(handle), Reason::Twice)?;
     Ok(None)
 }
 
@@ -157,9 +139,7 @@ fn pin_op(reader: &Reader, fields: &[&str]) -> Result<Option<Op>, Reason>
     match fields {
         [handle, first, count, way] => pinned_pages(reader, handle, first, count, way),
         [handle, first, count, way, long] => {
-            if *long != "long" {
-                return Err(Reason::Shape);
-            }
+            check(*long == "long", Reason::Shape)?;
             pinned_pages(reader, handle, first, count, way)
         }
         _ => Err(Reason::Shape),
@@ -174,12 +154,8 @@ fn get_op(reader: &Reader, fields: &[&str]) -> Result<Option<Op>, Reason>
         return Err(Reason::Shape);
     };
     page(page_word).ok_or(Reason::Number)?;
-    if !is_name(handle) {
-        return Err(Reason::Name);
-    }
-    if !reader.is_unused(handle) {
-        return Err(Reason::Twice);
-    }
+    check(is_name(handle), Reason::Name)?;
+    check(reader.is_unused(handle), Reason::Twice)?;
     Ok(None)
 }
 
@@ -190,9 +166,7 @@ fn put_op(reader: &Reader, fields: &[&str]) -> Result<Option<Op>, Reason>
     let [handle] = fields else {
         return Err(Reason::Shape);
     };
-    if !reader.is_got(handle) {
-        return Err(Reason::Name);
-    }
+    check(reader.is_got(handle), Reason::Name)?;
     Ok(None)
 }
 
@@ -204,9 +178,7 @@ fn fork_op(reader: &Reader, fields: &[&str]) -> Result<Option<Op>, Reason>
         return Err(Reason::Shape);
     };
     let child = reader.process(child).ok_or(Reason::Name)?;
-    if !reader.is_child(child) {
-        return Err(Reason::Name);
-    }
+    check(reader.is_child(child), Reason::Name)?;
     Ok(None)
 }
 
@@ -218,9 +190,7 @@ fn handle_op(reader: &Reader, fields: &[&str]) -> Result<Option<Op>, Reason>
     let [handle] = fields else {
         return Err(Reason::Shape);
     };
-    if !reader.is_pin(handle) {
-        return Err(Reason::Name);
-    }
+    check(reader.is_pin(handle), Reason::Name)?;
     Ok(None)
 }
 
@@ -231,13 +201,9 @@ fn give_op(reader: &Reader, fields: &[&str]) -> Result<Option<Op>, Reason>
     let [handle, to] = fields else {
         return Err(Reason::Shape);
     };
-    if !reader.is_pin(handle) {
-        return Err(Reason::Name);
-    }
+    check(reader.is_pin(handle), Reason::Name)?;
     let to = reader.actor(to).ok_or(Reason::Name)?;
-    if !reader.is_receiver(to) {
-        return Err(Reason::Name);
-    }
+    check(reader.is_receiver(to), Reason::Name)?;
     Ok(None)
 }
 
@@ -252,9 +218,7 @@ fn transfer_op(reader: &Reader, fields: &[&str]) -> Result<Option<Op>, Reason>
     index(index_word).ok_or(Reason::Number)?;
     index(slot).ok_or(Reason::Number)?;
     count(1, MAX_TRANSFER, words).ok_or(Reason::Number)?;
-    if !reader.is_pin(handle) {
-        return Err(Reason::Name);
-    }
+    check(reader.is_pin(handle), Reason::Name)?;
     Ok(None)
 }
 
@@ -286,16 +250,10 @@ fn parts_op(reader: &Reader, fields: &[&str]) -> Result<Option<Op>, Reason>
     let [_, more @ ..] = parts else {
         return Err(Reason::Shape);
     };
-    if more.len() > MAX_MORE_PARTS {
-        return Err(Reason::Shape);
-    }
+    check(more.len() <= MAX_MORE_PARTS, Reason::Shape)?;
     index(slot).ok_or(Reason::Number)?;
-    if !are_parts(parts) {
-        return Err(Reason::Number);
-    }
-    if !reader.is_pin(handle) {
-        return Err(Reason::Name);
-    }
+    check(are_parts(parts), Reason::Number)?;
+    check(reader.is_pin(handle), Reason::Name)?;
     Ok(None)
 }
 
@@ -307,9 +265,7 @@ fn mirror_op(reader: &Reader, device: ActorNo, fields: &[&str]) -> Result<Option
         return Err(Reason::Shape);
     };
     page(page_word).ok_or(Reason::Number)?;
-    if !reader.may_be_mirror(device, mirror) {
-        return Err(Reason::Name);
-    }
+    check(reader.may_be_mirror(device, mirror), Reason::Name)?;
     reader.process(process).ok_or(Reason::Name)?;
     Ok(None)
 }
@@ -322,9 +278,7 @@ fn look_op(reader: &Reader, device: ActorNo, fields: &[&str]) -> Result<Option<O
         return Err(Reason::Shape);
     };
     word_no(word).ok_or(Reason::Number)?;
-    if !reader.is_mirror(device, mirror) {
-        return Err(Reason::Name);
-    }
+    check(reader.is_mirror(device, mirror), Reason::Name)?;
     Ok(None)
 }
 
@@ -335,9 +289,7 @@ fn move_op(reader: &Reader, fields: &[&str]) -> Result<Option<Op>, Reason>
     let [process, page_word, zone] = fields else {
         return Err(Reason::Shape);
     };
-    if !is_zone(zone) {
-        return Err(Reason::Shape);
-    }
+    check(*zone == "normal" || *zone == "movable", Reason::Shape)?;
     page(page_word).ok_or(Reason::Number)?;
     reader.process(process).ok_or(Reason::Name)?;
     Ok(None)

@@ -8,7 +8,7 @@ ghost use Rattle.gup_script.specs.StageViews.{stage_value, IsCut};
 ghost use Rattle.gup_script.specs.Reading.{end_in, lines_in, reading};
 
 use crate::reader::Reader;
-use crate::refusal::{ReadRefusal, Reason, ScriptFault};
+use crate::refusal::{ReadRefusal, Reason, Trouble};
 use crate::script::Script;
 use crate::stage::Stage;
 use gup_text::is_printable;
@@ -16,13 +16,6 @@ use std::alloc::Global;
 
 /// How many bytes a script's text may have.
 const MAX_BYTES: usize = 1_048_576;
-
-/// The refusal for this reason in the line with this number.
-fn fault_at(line: u32, reason: Reason) -> ReadRefusal
-    ensures { result ≡ ReadRefusal.Fault (record { line = line; reason = reason }) }
-{
-    ReadRefusal::Fault(ScriptFault { line, reason })
-}
 
 /// The line that the bytes begin with, and what stands behind its line feed; `None` where there is no line feed.
 fn cut_line(text: &[u8]) -> Option<(&[u8], &[u8])>
@@ -42,11 +35,11 @@ fn ended(number: u32, stage: Stage, rest: &[u8]) -> Result<Reader, ReadRefusal>
         } else {
             Reason::Byte
         };
-        return Err(fault_at(number, reason));
+        return Err(Trouble::Fault(reason).at(number));
     }
     match stage {
         Stage::Open(reader) => Ok(reader),
-        Stage::BeforeHead | Stage::BeforeFrames => Err(fault_at(number, Reason::Short)),
+        Stage::BeforeHead | Stage::BeforeFrames => Err(Trouble::Fault(Reason::Short).at(number)),
     }
 }
 
@@ -74,7 +67,7 @@ fn script(alloc: Global, text: &[u8]) -> Result<Script, ReadRefusal>
     ensures { IsRead (reading text.now) result }
 {
     if text.len() > MAX_BYTES {
-        return Err(fault_at(0, Reason::Long));
+        return Err(Trouble::Fault(Reason::Long).at(0));
     }
     let reader = lines(alloc, text)?;
     Ok(Script::new(reader.into_contents()))

@@ -78,24 +78,17 @@ impl Reader {
         contents
     }
 
-    /// What the name names; `None` where it is not declared.
-    fn find(&self, name: &str) -> Option<Named>
-        ensures { result ≡ find self.now.names name.now }
-    {
-        self.names.find(name)
-    }
-
     pub fn is_unused(&self, name: &str) -> bool
         ensures { result ≡ is_unused self.now.names name.now }
     {
-        self.find(name).is_none()
+        self.names.find(name).is_none()
     }
 
     /// The process that the word names.
     pub fn process(&self, word: &str) -> Option<ProcNo>
         ensures { result ≡ process_of (find self.now.names word.now) }
     {
-        let named = self.find(word)?;
+        let named = self.names.find(word)?;
         match named {
             Named::Process(p) => Some(p),
             _ => None,
@@ -106,7 +99,7 @@ impl Reader {
     pub fn actor(&self, word: &str) -> Option<ActorNo>
         ensures { result ≡ actor_of (find self.now.names word.now) }
     {
-        let named = self.find(word)?;
+        let named = self.names.find(word)?;
         match named {
             Named::Actor(a) => Some(a),
             _ => None,
@@ -117,7 +110,7 @@ impl Reader {
     pub fn is_pin(&self, word: &str) -> bool
         ensures { result ≡ is_pin_name (find self.now.names word.now) }
     {
-        let Some(named) = self.find(word) else {
+        let Some(named) = self.names.find(word) else {
             return false;
         };
         match named {
@@ -130,7 +123,7 @@ impl Reader {
     pub fn is_got(&self, word: &str) -> bool
         ensures { result ≡ is_got_name (find self.now.names word.now) }
     {
-        let Some(named) = self.find(word) else {
+        let Some(named) = self.names.find(word) else {
             return false;
         };
         match named {
@@ -143,7 +136,7 @@ impl Reader {
     pub fn is_mirror(&self, device: ActorNo, word: &str) -> bool
         ensures { result ≡ is_mirror_of device (find self.now.names word.now) }
     {
-        let Some(named) = self.find(word) else {
+        let Some(named) = self.names.find(word) else {
             return false;
         };
         match named {
@@ -210,7 +203,7 @@ impl Reader {
         self.contents
             .actors
             .iter()
-            .filter(|actor| is_thread(actor.kind))
+            .filter(|actor| matches!(actor.kind, Kind::Thread(_)))
             .count()
     }
 
@@ -220,7 +213,7 @@ impl Reader {
         self.contents
             .actors
             .iter()
-            .filter(|actor| is_device(actor.kind))
+            .filter(|actor| matches!(actor.kind, Kind::Device(_)))
             .count()
     }
 
@@ -230,7 +223,7 @@ impl Reader {
         self.contents
             .actors
             .iter()
-            .any(|actor| is_mover(actor.kind))
+            .any(|actor| matches!(actor.kind, Kind::Mover))
     }
 
     pub fn turns(&self) -> usize
@@ -318,32 +311,5 @@ impl Reader {
     {
         self.contents.seed = seed;
         self.seeded = true;
-    }
-}
-
-fn is_thread(kind: Kind) -> bool
-    ensures { result ≡ is_thread kind }
-{
-    match kind {
-        Kind::Thread(_) => true,
-        Kind::Device(_) | Kind::Mover => false,
-    }
-}
-
-fn is_device(kind: Kind) -> bool
-    ensures { result ≡ is_device kind }
-{
-    match kind {
-        Kind::Device(_) => true,
-        Kind::Thread(_) | Kind::Mover => false,
-    }
-}
-
-fn is_mover(kind: Kind) -> bool
-    ensures { result ≡ is_mover kind }
-{
-    match kind {
-        Kind::Mover => true,
-        Kind::Thread(_) | Kind::Device(_) => false,
     }
 }

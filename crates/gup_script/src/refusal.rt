@@ -1,5 +1,5 @@
 ghost use Rattle.gup_script.specs.declared.refusal.Trouble.TheVariants.{Fault, NoMemory};
-ghost use Rattle.std.specs.Prelude.{◌≡◌};
+ghost use Rattle.std.specs.Prelude.{◌≡◌, true, false, MatchResult};
 
 use std::alloc::AllocError;
 
@@ -57,6 +57,13 @@ pub enum ReadRefusal {
 pub(crate) enum Trouble {
     Fault(Reason),
     NoMemory,
+}
+
+/// One test of a line: this reason where it isn't passed.
+pub(crate) fn check(passed: bool, reason: Reason) -> Result<(), Reason>
+    ensures { MatchResult result (λ _. passed ≡ true) (λ fault. (fault ≡ reason) × (passed ≡ false)) }
+{
+    if passed { Ok(()) } else { Err(reason) }
 }
 
 impl Trouble {

@@ -64,6 +64,12 @@ impl Script {
         Script { contents }
     }
 
+    pub(crate) fn contents(&self) -> &Contents
+        ensures { script_value result.now ≡ self.now }
+    {
+        &self.contents
+    }
+
     /// How many frames the movable and the normal zone have, at most 1,024 together, and how many tables there are,
     /// at most 8,192.
     pub fn frames(&self) -> (u32, u32, u32)

@@ -4,7 +4,7 @@ ghost use Rattle.gup_script.specs.Reading.{frame_counts, counts_in, frames_in, i
 
 use crate::declarations::next_line;
 use crate::reader::Reader;
-use crate::refusal::{Reason, Trouble};
+use crate::refusal::{Reason, Trouble, check};
 use gup_text::{are_spaced, is_passed, line_text, number, words};
 use std::alloc::Global;
 
@@ -73,9 +73,7 @@ impl Stage {
     {
         match self {
             Stage::BeforeHead => {
-                if !is_head(words) {
-                    return Err(Trouble::Fault(Reason::Head));
-                }
+                check(is_head(words), Reason::Head)?;
                 Ok(Stage::BeforeFrames)
             }
             Stage::BeforeFrames => {
@@ -99,9 +97,7 @@ impl Stage {
             return Ok(self);
         }
         let words = words(alloc, text)?;
-        if !are_spaced(words.as_slice()) {
-            return Err(Trouble::Fault(Reason::Space));
-        }
+        check(are_spaced(words.as_slice()), Reason::Space)?;
         self.after_words(alloc, words.as_slice())
     }
 }

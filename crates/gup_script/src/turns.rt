@@ -5,7 +5,7 @@ ghost use Rattle.gup_script.specs.Steps.{Makes};
 ghost use Rattle.gup_script.specs.Reading.{are_times, turner, are_turners, turns_of, turns_in, random_in};
 
 use crate::reader::Reader;
-use crate::refusal::{Reason, Trouble};
+use crate::refusal::{Reason, Trouble, check};
 use gup_base::ActorNo;
 use gup_text::{number, turn_name, turn_times};
 use std::alloc::AllocError;
@@ -67,15 +67,9 @@ pub fn turns_line(reader: &mut Reader, words: &[&str]) -> Result<(), Trouble>
     let [_, ..] = words else {
         return Err(Trouble::Fault(Reason::Shape));
     };
-    if !are_times(words) {
-        return Err(Trouble::Fault(Reason::Number));
-    }
-    if !are_turners(reader, words) {
-        return Err(Trouble::Fault(Reason::Name));
-    }
-    if !have_room(reader, words) {
-        return Err(Trouble::Fault(Reason::Limit));
-    }
+    check(are_times(words), Reason::Number)?;
+    check(are_turners(reader, words), Reason::Name)?;
+    check(have_room(reader, words), Reason::Limit)?;
     add_all(reader, words)?;
     Ok(())
 }
@@ -90,13 +84,10 @@ pub fn random_line(reader: &mut Reader, fields: &[&str]) -> Result<(), Trouble>
     };
     let start = number(start).ok_or(Reason::Number)?;
     let count = number(count).ok_or(Reason::Number)?;
-    if count > 0 && reader.actors() == 0 {
-        return Err(Trouble::Fault(Reason::Name));
-    }
+    check(count == 0 || reader.actors() > 0, Reason::Name)?;
     let turns = reader.turns();
-    if turns > MAX_TURNS || count > (MAX_TURNS - turns) as u64 {
-        return Err(Trouble::Fault(Reason::Limit));
-    }
+    let fits = turns <= MAX_TURNS && count <= (MAX_TURNS - turns) as u64;
+    check(fits, Reason::Limit)?;
     reader.add_drawn_turns(start, count)?;
     Ok(())
 }

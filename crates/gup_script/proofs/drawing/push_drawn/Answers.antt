@@ -12,6 +12,6 @@ loop-preserved c =
     let value = rw c.unwrap-actor.ensures at c.new.ensures.value in
     let actor : c.unwrap-actor.result ≡ drawn c.args.below next = value ∙ c.drawn.ensures.number ∙ ap (drawn c.args.below) state in
     rw (c.in_ok-push.ensures.items, state, actor)
-        (append_assoc c.loop.turns.items (drawn c.args.below next ∷ []) (draws left c.args.below next)
-            ∙ ap (λ (turns : List ℕ). c.loop.turns.items ++ turns) (sym more)
-            ∙ c.loop.invariant)
+    (append_assoc c.loop.turns.items (drawn c.args.below next ∷ []) (draws left c.args.below next)
+    ∙ ap (λ (turns : List ℕ). c.loop.turns.items ++ turns) (sym more)
+    ∙ c.loop.invariant)

@@ -13,8 +13,8 @@ returns-then-not-is_empty c =
     let rest = c.args.rest.now in
     let some : length rest ≡ 0 → ⊥ = eqb-false _ _ (sym c.is_empty.ensures ∙ c.if-not-is_empty.true) in
     let reason : cond (is_printable rest) reasons.End reasons.Byte ≡ c.if-is_printable.reason =
-        elim c.if-is_printable.branch [ then-is_printable w ↦ rw (sym c.is_printable.ensures ∙ w.if-is_printable.true) (sym w.reason-is) | else-is_printable w ↦ rw (sym c.is_printable.ensures ∙ w.if-is_printable.false) (sym w.reason-is) ] in
-    rw c.fault_at.ensures (no_end c.args.number (stage_value c.args.stage) rest some ∙ ap (λ r. refused (fault_at c.args.number r)) reason)
+    elim c.if-is_printable.branch [ then-is_printable w ↦ rw (sym c.is_printable.ensures ∙ w.if-is_printable.true) (sym w.reason-is) | else-is_printable w ↦ rw (sym c.is_printable.ensures ∙ w.if-is_printable.false) (sym w.reason-is) ] in
+    rw c.at.ensures (no_end c.args.number (stage_value c.args.stage) rest some ∙ ap (λ r. refused (fault_at c.args.number r)) reason)
 
 pub returns-in-Open : goal.returns-in-Open
 returns-in-Open c =
@@ -24,4 +24,4 @@ returns-in-Open c =
 pub returns-in-BeforeHead : goal.returns-in-BeforeHead
 returns-in-BeforeHead c =
     let empty : length c.args.rest.now ≡ 0 = eqb-true _ _ (sym c.is_empty.ensures ∙ c.if-not-is_empty.false) in
-    rw c.fault_at-in-BeforeHead.ensures (frames_missing c.args.number c.args.stage c.args.rest.now empty c.in-BeforeHead.is)
+    rw c.at-in-BeforeHead.ensures (frames_missing c.args.number c.args.stage c.args.rest.now empty c.in-BeforeHead.is)
