@@ -19,3 +19,6 @@ pub use op::{Kind, Op};
 pub use read::read_script;
 pub use refusal::{ReadRefusal, Reason, ScriptFault};
 pub use script::Script;
+
+#[cfg(test)]
+mod tests;
