@@ -30,3 +30,4 @@ pub mod Turners
 pub mod Cuts
 pub mod Answers
 pub mod SinglePage
+pub mod Further

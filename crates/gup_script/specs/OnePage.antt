@@ -10,7 +10,7 @@ use Rattle.gup_script.specs.declared.op.Kind.TheVariants.{Thread, Device, Mover}
 use Rattle.gup_script.specs.declared.op.Op.{Op}
 use Rattle.gup_script.specs.declared.op.Op.TheVariants.{Map, Unmap, Protect, Discard, Load, Store, Exit}
 use Rattle.gup_script.specs.Script.{ScriptValue, Process, Actor}
-use Rattle.gup_script.specs.Grammar.{Stage, before_head, before_frames, open_at, IsRight, AreRight}
+use Rattle.gup_script.specs.Grammar.{Stage, before_head, before_frames, open_at, IsRight, AreRight, Accepts}
 
 -- the operation names this page and no other, and maps it to read and write
 abbrev pub IsOfPage : ℕ → Op → Type 0
@@ -84,6 +84,10 @@ unfoldable pub is_one_page : ScriptValue → Bool
 is_one_page s =
     nat_le 1 (s.frames.movable + s.frames.normal)
     && (one_born s.processes && (one_thread_of s.actors && length s.turns == 0))
+
+-- the text is a script, and no script of one page
+abbrev pub IsBeyond : List ℕ → Type 0
+IsBeyond text = (script : ScriptValue) × Accepts text script × (IsOnePage script → ⊥)
 
 -- what the lines so far have made is such a script, as far as they have made one
 abbrev pub IsOnePageAt : Stage → Type 0

@@ -1,6 +1,7 @@
 //! Scripts: their operations, what a script says, the reader of its text, and what the grammar promises.
 #![tactic(auto)]
 
+mod beyond;
 mod declarations;
 mod drawing;
 mod law;
@@ -14,6 +15,7 @@ mod script;
 mod stage;
 mod turns;
 
+pub use beyond::first_line_beyond;
 pub use law::{one_fault, one_script, script_or_fault, scripts_have_no_fault};
 pub use op::{Kind, Op};
 pub use read::read_script;

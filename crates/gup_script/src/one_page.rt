@@ -73,8 +73,9 @@ fn are_one_born(processes: &[Process]) -> bool
     }
 }
 
+/// Whether the contents are those of such a script.
 #[tactic(auto, unfolding(crate::specs::OnePage::is_one_page))]
-fn is_one_page(contents: &Contents) -> bool
+pub fn is_one_page(contents: &Contents) -> bool
     ensures { result ≡ is_one_page (script_value contents.now) }
 {
     (contents.movable > 0 || contents.normal > 0)

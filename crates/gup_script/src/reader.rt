@@ -3,10 +3,12 @@ ghost use Rattle.std.specs.Prelude.{◌≡◌, ◌<◌, ◌≤◌, ◌+◌, true
 ghost use Rattle.gup_names.specs.Names.{find, is_unused};
 ghost use Rattle.gup_script.specs.Script.{actor_at, process_at};
 ghost use Rattle.gup_script.specs.Outline.{empty_outline, with_process, with_actor, with_operation, with_turns, with_seed, draws, is_thread, is_device, is_mover, how_many, has_mover, is_child, is_receiver};
+ghost use Rattle.gup_script.specs.OnePage.{is_one_page};
 ghost use Rattle.gup_script.specs.Limits.{HasRoomFor};
 ghost use Rattle.gup_script.specs.Reading.{frame_counts, process_of, actor_of, is_pin_name, is_got_name, is_mirror_of, may_mirror};
 
 use crate::drawing::{push_drawn, push_times};
+use crate::one_page::is_one_page;
 use crate::op::{Kind, Op};
 use crate::script::{Actor, Contents, Process};
 use gup_base::{ActorNo, ProcNo};
@@ -243,6 +245,13 @@ impl Reader {
         ensures { result ≡ self.now.seeded }
     {
         self.seeded
+    }
+
+    /// Whether the lines have made a script of one page.
+    pub fn is_one_page(&self) -> bool
+        ensures { result ≡ is_one_page self.now.script }
+    {
+        is_one_page(&self.contents)
     }
 
     /// One more process.

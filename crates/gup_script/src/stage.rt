@@ -1,5 +1,6 @@
 //! How far a text is read: nothing, the head, or the `frames` line and all that stands behind it.
-ghost use Rattle.std.specs.Prelude.{◌≡◌, Ok, Err, map, MatchResult};
+ghost use Rattle.std.specs.Prelude.{◌≡◌, ◌↔◌, Ok, Err, map, IsTrue, MatchResult};
+ghost use Rattle.gup_script.specs.OnePage.{IsOnePageAt};
 ghost use Rattle.gup_script.specs.Reading.{frame_counts, counts_in, frames_in, is_head, words_in, line_in};
 
 use crate::declarations::next_line;
@@ -84,6 +85,16 @@ impl Stage {
                 next_line(&mut reader, words)?;
                 Ok(Stage::Open(reader))
             }
+        }
+    }
+
+    /// Whether what is read so far is of a script of one page, as far as it is of one.
+    pub fn is_one_page(&self) -> bool
+        ensures { IsTrue result ↔ IsOnePageAt (stage_value self.now) }
+    {
+        match self {
+            Stage::Open(reader) => reader.is_one_page(),
+            Stage::BeforeHead | Stage::BeforeFrames => true,
         }
     }
 
