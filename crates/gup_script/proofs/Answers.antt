@@ -1,5 +1,5 @@
 -- What is read of a text is right by the grammar, and so is a refusal.
-use Rattle.std.proofs.Common.{◌≡◌, ℕ, List, Result, Ok, Err, sym, subst}
+use Rattle.std.proofs.Common.{ℕ, List, Result, Ok, Err, sym, subst}
 use Rattle.std.specs.Prelude.{IfOk, IfErr}
 use Rattle.gup_script.specs.declared.refusal.ReadRefusal.{ReadRefusal}
 use Rattle.gup_script.specs.declared.refusal.ReadRefusal.TheVariants as refusals

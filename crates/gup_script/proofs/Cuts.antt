@@ -1,12 +1,10 @@
 -- A text's lines, one after another.
-use Rattle.std.proofs.Common.{◌≡◌, ◌⊎◌, inl, inr, ◌==◌, ℕ, ◌+◌, ◌-◌, ◌<◌, ◌≤◌, not, Bool, true, false, cond, ltb, List, [], ◌∷◌, length, get_or, take, drop, Result, Ok, Err, Option, Some, None, refl, sym, ap, ◌∙◌, arith}
+use Rattle.std.proofs.Common.{◌≡◌, ◌⊎◌, inl, inr, ◌==◌, ℕ, ◌+◌, ◌<◌, ◌≤◌, not, Bool, true, false, cond, ltb, List, [], ◌∷◌, length, take, drop, Result, Ok, Err, Some, None, refl, sym, ap, ◌∙◌, arith}
 use Rattle.std.specs.List.{position_or_len}
 use Rattle.std.proofs.lemmas.Bool.{not-true, ltb-true, lt-ltb, le-ltb}
-use Rattle.std.proofs.lemmas.List.{length-drop, length-take, take_rest}
 use Rattle.std.proofs.lemmas.List.Sums.{prefix_len_passes}
 use Rattle.std.proofs.lemmas.List.Splits.{slice_split_none, slice_split_first, length-slice_split}
 use Rattle.gup_text.specs.Text.{parts, is_printable}
-use Rattle.gup_script.specs.declared.refusal.Reason.{Reason}
 use Rattle.gup_script.specs.declared.refusal.Reason.TheVariants as reasons
 use Rattle.gup_script.specs.declared.refusal.ScriptFault.{ScriptFault}
 use Rattle.gup_script.specs.declared.refusal.Trouble.{Trouble}

@@ -1,20 +1,17 @@
 -- The lines of a script that is not of one page, up to the first that makes it such.
-use Rattle.std.proofs.Common.{◌≡◌, ℕ, ◌+◌, ◌≤◌, Bool, true, false, List, [], ◌∷◌, ◌++◌, length, Result, Ok, Err, refl, sym, ap, subst, ◌∙◌, append_assoc, arith}
-use Rattle.std.specs.Prelude.{◌↔◌, IsTrue}
+use Rattle.std.proofs.Common.{◌≡◌, ℕ, ◌+◌, ◌≤◌, Bool, true, false, List, [], ◌∷◌, ◌++◌, length, Ok, Err, refl, sym, ap, subst, ◌∙◌, append_assoc, arith}
 use Rattle.std.proofs.lemmas.List.{length-append}
 use Rattle.gup_text.specs.Text.{parts}
 use Rattle.gup_script.specs.declared.refusal.Reason.{Reason}
-use Rattle.gup_script.specs.declared.refusal.ScriptFault.{ScriptFault}
-use Rattle.gup_script.specs.Script.{ScriptValue}
 use Rattle.gup_script.specs.Outline.{Outline}
-use Rattle.gup_script.specs.Grammar.{Stage, before_head, before_frames, open_at, IsRight, AreRight, Accepts}
+use Rattle.gup_script.specs.Grammar.{Stage, before_head, before_frames, open_at, IsRight, AreRight}
 use Rattle.gup_script.specs.OnePage.{IsOnePage, IsBeyond, IsOnePageAt, StaysOnePage, IsFirstBeyond}
-use Rattle.gup_script.specs.Reading.{line_in, lines_in, end_in, fault_at, reading}
+use Rattle.gup_script.specs.Reading.{line_in, lines_in, end_in, fault_at}
 use Rattle.gup_script.proofs.Verdicts.{same_good}
 use Rattle.gup_script.proofs.Spaced.{AreNamedAt, stays_named}
 use Rattle.gup_script.proofs.Lines.{judged_line}
 use Rattle.gup_script.proofs.Laws.{again, not_faulty, same_read}
-use Rattle.gup_script.proofs.Cuts.{line_right, line_wrong, line_step, read_lines}
+use Rattle.gup_script.proofs.Cuts.{line_right, line_step, read_lines}
 
 -- a line that is right leads to one stage, and so do lines
 

@@ -1,5 +1,5 @@
 -- The test of a script of one page tells exactly those that are.
-use Rattle.std.proofs.Common.{◌≡◌, ℕ, zero, suc, ◌+◌, ◌<◌, ◌≤◌, ◌&&◌, ◌==◌, leb, Bool, true, false, List, [], ◌∷◌, length, refl, sym, ap, subst, ◌∙◌, arith}
+use Rattle.std.proofs.Common.{◌≡◌, ℕ, ◌+◌, ◌≤◌, ◌&&◌, ◌==◌, leb, Bool, true, false, List, [], ◌∷◌, length, refl, sym, subst, ◌∙◌, arith}
 use Rattle.std.specs.Prelude.{All, ◌↔◌, IsTrue}
 use Rattle.std.specs.List.{AllByRecursion, list_all}
 use Rattle.std.proofs.lemmas.Bool.Decides.{nat_tests}

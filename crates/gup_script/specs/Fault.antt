@@ -1,5 +1,5 @@
 -- The first fault of a text: its line, and there the first of the tests that the line fails, in their order.
-use Rattle.std.specs.Prelude.{◌≡◌, ℕ, ◌+◌, ◌≤◌, ◌<◌, ◌⊎◌, List, [], ◌∷◌, ◌++◌, length, codes, Contains, Option, Some, None}
+use Rattle.std.specs.Prelude.{◌≡◌, ℕ, ◌+◌, ◌≤◌, ◌<◌, ◌⊎◌, List, [], ◌∷◌, ◌++◌, length, codes, Contains}
 use Rattle.std.specs.List.{AllByRecursion}
 use Rattle.gup_text.specs.Spelling.{IsPrintable}
 use Rattle.gup_text.specs.Text.{parts}

@@ -1,11 +1,11 @@
 -- The grammar of scripts: which bytes spell which script. A text's lines are its parts before the line feeds, and a
 -- line's words are its parts between the spaces. Each line that is not passed over says something that is right
 -- behind the lines before it.
-use Rattle.std.specs.Prelude.{◌≡◌, ℕ, ◌+◌, ◌≤◌, ◌<◌, ◌⊎◌, Bool, true, false, List, [], ◌∷◌, ◌++◌, length, replicate, codes, decimal, Contains, Option, Some, None}
+use Rattle.std.specs.Prelude.{◌≡◌, ℕ, ◌+◌, ◌≤◌, ◌<◌, ◌⊎◌, true, false, List, [], ◌∷◌, ◌++◌, length, replicate, codes, decimal, Contains, Some, None}
 use Rattle.std.specs.List.{AllByRecursion}
 use Rattle.gup_text.specs.Spelling.{IsNumber, IsCount, IsIndex, IsPage, IsWordNo, IsAddress, IsRange, IsSegment, IsTurnWord, IsName, IsPrintable}
 use Rattle.gup_text.specs.Text.{parts}
-use Rattle.gup_names.specs.Names.{Entry, find}
+use Rattle.gup_names.specs.Names.{find}
 use Rattle.gup_names.specs.declared.names.Named.TheVariants as named
 use Rattle.gup_script.specs.declared.op.Kind.TheVariants.{Thread, Device, Mover}
 use Rattle.gup_script.specs.declared.op.Op.{Op}

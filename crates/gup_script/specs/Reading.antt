@@ -1,6 +1,6 @@
 -- The reader as functions on lists: the script in a text, or its first fault. Each is a chain of tests in the order of
 -- the reasons.
-use Rattle.std.specs.Prelude.{ℕ, ◌+◌, ◌==◌, ◌&&◌, ◌||◌, not, nat_lt, nat_le, Bool, true, false, if◌then◌else◌, List, [], ◌∷◌, ◌++◌, length, replicate, slice_get, codes, Option, Some, None, is_some, Result, Ok, Err}
+use Rattle.std.specs.Prelude.{ℕ, ◌+◌, ◌==◌, ◌&&◌, ◌||◌, not, nat_lt, nat_le, Bool, true, false, if◌then◌else◌, List, [], ◌∷◌, ◌++◌, length, replicate, codes, Option, Some, None, is_some, Result, Ok, Err}
 use Rattle.std.specs.List.{list_all}
 use Rattle.std.specs.Str.{bytes_eq}
 use Rattle.gup_base.specs.declared.entry.Rights.{Rights}
@@ -16,7 +16,7 @@ use Rattle.gup_script.specs.declared.op.Op.TheVariants as ops
 use Rattle.gup_script.specs.declared.refusal.Reason.{Reason}
 use Rattle.gup_script.specs.declared.refusal.Reason.TheVariants as reasons
 use Rattle.gup_script.specs.declared.refusal.ScriptFault.{ScriptFault}
-use Rattle.gup_script.specs.Script.{ScriptValue, Actor, FrameCounts, actor_at}
+use Rattle.gup_script.specs.Script.{Actor, FrameCounts, actor_at}
 use Rattle.gup_script.specs.Grammar.{Stage, before_head, before_frames, open_at}
 use Rattle.gup_script.specs.Outline.{Outline, empty_outline, with_process, with_actor, with_operation, with_turns, with_seed, is_thread, is_device, how_many, has_mover, is_child, is_receiver, draws, most_processes, most_threads, most_devices, most_operations, most_turns, most_slots, most_frames, most_tables, most_bytes}
 

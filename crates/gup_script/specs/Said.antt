@@ -1,6 +1,6 @@
 -- What a line says, before it is judged: its words, each in its place. Words that are fixed, as `rw` or `long`, are
 -- read already; numbers and names are words still.
-use Rattle.std.specs.Prelude.{◌≡◌, ℕ, ◌≤◌, Bool, true, false, List, [], ◌∷◌, ◌++◌, length, codes, Contains, Option, Some, None}
+use Rattle.std.specs.Prelude.{ℕ, ◌≤◌, Bool, true, false, List, [], ◌∷◌, length, codes, Option, Some, None}
 use Rattle.gup_base.specs.declared.entry.Rights.{Rights}
 use Rattle.gup_base.specs.declared.entry.Rights.TheVariants.{R, RW}
 use Rattle.gup_base.specs.declared.entry.Zone.{Zone}

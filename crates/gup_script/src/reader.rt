@@ -21,7 +21,7 @@ use std::marker::Model;
 const MAX_OPERATIONS: u32 = 16_384;
 
 /// The script up to some line, its names, and what counts and comes once.
-#[derive(Debug, Drop)]
+#[derive(Drop)]
 pub struct Reader {
     contents: Contents,
     names: Names,

@@ -53,7 +53,7 @@ pub enum ReadRefusal {
 }
 
 /// Why a line isn't read.
-#[derive(Clone, Copy, Debug, PartialEq, Eq)]
+#[derive(Clone, Copy, Debug)]
 pub(crate) enum Trouble {
     Fault(Reason),
     NoMemory,

@@ -14,7 +14,7 @@ const MAX_FRAMES: u64 = 1_024;
 
 const MAX_TABLES: u64 = 8_192;
 
-#[derive(Debug, Drop)]
+#[derive(Drop)]
 pub enum Stage {
     BeforeHead,
     BeforeFrames,

@@ -2,11 +2,10 @@
 ghost use Rattle.std.specs.Prelude.{◌≡◌, ◌+◌, ◌≤◌, true, map, length, nat_le, OnOk};
 ghost use Rattle.gup_script.specs.Outline.{with_turns};
 ghost use Rattle.gup_script.specs.Steps.{Makes};
-ghost use Rattle.gup_script.specs.Reading.{are_times, turner, are_turners, turns_of, turns_in, random_in};
+ghost use Rattle.gup_script.specs.Reading.{are_times, are_turners, turns_of, turns_in, random_in};
 
 use crate::reader::Reader;
 use crate::refusal::{Reason, Trouble, check};
-use gup_base::ActorNo;
 use gup_text::{number, turn_name, turn_times};
 use std::alloc::AllocError;
 
@@ -19,17 +18,12 @@ fn are_times(words: &[&str]) -> bool
     words.iter().all(|word| turn_times(word).is_some())
 }
 
-/// The actor that a written turn's word names.
-fn turner(reader: &Reader, word: &str) -> Option<ActorNo>
-    ensures { result ≡ turner reader.now word.now }
-{
-    reader.actor(turn_name(word))
-}
-
 fn are_turners(reader: &Reader, words: &[&str]) -> bool
     ensures { result ≡ are_turners reader.now (map (λ word. word.now) words.now) }
 {
-    words.iter().all(|word| turner(reader, word).is_some())
+    words
+        .iter()
+        .all(|word| reader.actor(turn_name(word)).is_some())
 }
 
 /// Whether there may be so many more turns as the words say.
@@ -52,7 +46,7 @@ fn add_all(reader: &mut Reader, words: &[&str]) -> Result<(), AllocError>
     ensures { OnOk result (reader.new ≡ with_turns (turns_of reader.old (map (λ word. word.now) words.now)) reader.old) }
 {
     for word in words {
-        let actor = turner(reader, word).unwrap();
+        let actor = reader.actor(turn_name(word)).unwrap();
         let times = turn_times(word).unwrap();
         reader.add_turns(actor, times)?;
     }

@@ -1,7 +1,3 @@
-use Rattle.std.proofs.Common.{◌≡◌, Bool, true, false}
-use Rattle.gup_script.specs.OnePage.{IsOnePageAt}
-use Rattle.gup_script.specs.Reading.{line_in}
-use Rattle.gup_script.specs.Steps.{IsTrouble}
 use Rattle.gup_script.specs.StageViews.{stage_value}
 use Rattle.gup_script.proofs.Further.{not_one, at_front, one_further, first_beyond, no_fault, no_end}
 use Rattle.gup_script.proofs.beyond.first_line_beyond.Goals as goal

@@ -1,5 +1,4 @@
-use Rattle.std.proofs.Common.{◌≡◌, ℕ, ◌+◌, ◌<◌, Bool, true, false, cond, ltb, length, take, drop, Some, None, refl, sym, ap, ◌∙◌, arith, rules}
-use Rattle.std.specs.List.{position_or_len}
+use Rattle.std.proofs.Common.{◌+◌, sym, ◌∙◌, arith, rules}
 use Rattle.std.proofs.lemmas.List.{length-drop, length-take, take_rest}
 use Rattle.std.proofs.lemmas.Iterator.{YieldsList-from_slice}
 use Rattle.std.proofs.lemmas.Iterator.Search.{position_from_yields_List}

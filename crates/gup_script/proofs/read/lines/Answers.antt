@@ -1,4 +1,4 @@
-use Rattle.std.proofs.Common.{◌≡◌, Result, sym, subst, ap, ◌∙◌}
+use Rattle.std.proofs.Common.{Result, sym, subst, ap, ◌∙◌}
 use Rattle.gup_script.specs.declared.refusal.ScriptFault.{ScriptFault}
 use Rattle.gup_script.specs.Outline.{Outline}
 use Rattle.gup_script.specs.Reading.{lines_in}

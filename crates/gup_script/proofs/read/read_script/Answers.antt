@@ -1,4 +1,3 @@
-use Rattle.std.proofs.Common.{◌≡◌, sym, subst, ap, ◌∙◌}
 use Rattle.gup_script.proofs.Answers.{accepted, refused}
 use Rattle.gup_script.proofs.read.read_script.Goals as goal
 

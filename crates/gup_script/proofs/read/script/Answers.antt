@@ -1,6 +1,5 @@
-use Rattle.std.proofs.Common.{◌≡◌, sym, subst, ap, ◌∙◌}
+use Rattle.std.proofs.Common.{sym, subst, ◌∙◌}
 use Rattle.gup_script.specs.Valid.{IsScript}
-use Rattle.gup_script.specs.Reading.{reading}
 use Rattle.gup_script.proofs.Validity.{valid}
 use Rattle.gup_script.proofs.Cuts.{read_lines}
 use Rattle.gup_script.proofs.read.script.Goals as goal

@@ -1,5 +1,4 @@
-use Rattle.std.proofs.Common.{◌≡◌, true, map, drop}
-use Rattle.gup_script.specs.Reading.{turns_of, are_times, are_turners}
+use Rattle.std.proofs.Common.{map, drop}
 use Rattle.gup_script.proofs.Turners.{AreLeft}
 use Rattle.gup_script.proofs.turns.add_all.Given as goal
 

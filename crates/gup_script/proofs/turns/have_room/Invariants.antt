@@ -1,4 +1,4 @@
-use Rattle.std.proofs.Common.{◌≡◌, ◌+◌, ◌≤◌, map, drop, length}
+use Rattle.std.proofs.Common.{◌≡◌, ◌+◌, map, drop, length}
 use Rattle.gup_script.specs.Reading.{turns_of}
 use Rattle.gup_script.proofs.turns.have_room.Given as goal
 

@@ -1,7 +1,7 @@
-use Rattle.std.proofs.Common.{◌≡◌, ◌<◌, ◌∷◌, [], length, map, subst, sym, ap, ◌∙◌, refl, arith, rules}
+use Rattle.std.proofs.Common.{subst, sym, arith, rules}
 use Rattle.std.proofs.lemmas.List.{length-map, map-append}
-use Rattle.gup_script.specs.Outline.{Outline, with_actor}
-use Rattle.gup_script.specs.Limits.{IsWithin, HasRoomFor}
+use Rattle.gup_script.specs.Outline.{with_actor}
+use Rattle.gup_script.specs.Limits.{HasRoomFor}
 use Rattle.gup_script.specs.Views.{actor_value}
 use Rattle.gup_script.specs.ReaderViews.{outline_value}
 use Rattle.gup_script.proofs.Actors.{number_left, actor_added, same_actors}

@@ -1,4 +1,3 @@
-use Rattle.std.proofs.Common.{◌≡◌}
 use Rattle.gup_script.proofs.SinglePage.{one_page_exact}
 use Rattle.gup_script.proofs.stage.Stage.is_one_page.Goals as goal
 
