@@ -1,211 +1,203 @@
--- What is read is spelled by the text, and what a text spells is read from it.
-use Rattle.std.proofs.Common.{◌≡◌, ℕ, ◌+◌, ◌<◌, ◌≤◌, ◌&&◌, true, cond, leb, List, [], ◌∷◌, ◌++◌, length, map, Option, Some, None, refl, sym, ap, subst, ◌∙◌, arith, rules}
-use Rattle.std.specs.Prelude.{codes}
-use Rattle.std.specs.List.{AllByRecursion, flat_map, join_with_byte}
-use Rattle.std.specs.Str.{IsUtf8, bytes_eq}
-use Rattle.std.proofs.lemmas.Bool.{le-leb}
-use Rattle.std.proofs.lemmas.Bool.Decides.{nat_tests}
-use Rattle.std.proofs.lemmas.List.{length-map}
-use Rattle.std.proofs.lemmas.List.Elements.{All-from_recursion}
-use Rattle.std.proofs.lemmas.List.Splits.{join_with_byte-slice_split}
-use Rattle.std.proofs.lemmas.Str.{IsUtf8-from_ascii}
-use Rattle.std.proofs.lemmas.Str.Ascii.{IsAscii-from_all}
-use Rattle.gup_script.specs.declared.op.Op.{Op}
-use Rattle.gup_script.specs.Script.{ScriptValue, FrameCounts}
-use Rattle.gup_script.specs.Grammar.{Item, head, process, thread, on, item_words, line_of, IsName, IsOp}
-use Rattle.gup_script.specs.FirstPath.{Accepts, most_bytes}
-use Rattle.gup_script.specs.Text.{◌>>=◌, parts}
-use Rattle.gup_script.specs.Operations.{shares_page}
-use Rattle.gup_script.specs.Reading.{frames_in, process_in, thread_in, ops_in, one_thread, declared_in, script_in, body_of, reading}
-use Rattle.gup_script.proofs.Steps.{step_taken, test_passed, way_taken, same_given}
-use Rattle.gup_script.proofs.SpelledOperations.{shared_taken, shared_again}
-use Rattle.gup_script.proofs.Bare.{AreBare, IsBare, Lacks, bare_decimal, bare_name, line_lacks_feed}
-use Rattle.gup_script.proofs.Cuts.{parts_again, lines_joined, body_taken, body_again}
-use Rattle.gup_script.proofs.ItemLines.{same_word, frames_of, AreCounts, frames_taken, frames_again, process_taken, process_again, thread_taken, thread_again, line_text, words_again, line_is, ops_taken, bare_on, ops_again}
-use Rattle.gup_script.proofs.Shape.{Fits, form_items, described, of_form, has_form}
+-- What is read of a text is what the grammar has in it, and the fault that is found is its first.
+use Rattle.std.proofs.Common.{◌≡◌, ◌⊎◌, ℕ, ◌+◌, ◌<◌, Bool, true, false, cond, ltb, List, [], ◌∷◌, ◌++◌, length, refl, sym, ap, subst, ◌∙◌, Result, Ok, Err, inl, inr, arith}
+use Rattle.std.proofs.lemmas.Bool.{ltb-true, ltb-false, lt-ltb, le-ltb}
+use Rattle.std.proofs.lemmas.Bool.Decides.{not_from_Decides}
+use Rattle.gup_text.specs.Text.{parts, is_printable}
+use Rattle.gup_text.specs.Spelling.{IsPrintable}
+use Rattle.gup_text.specs.SpelledNames.{printable_found, printable_read}
+use Rattle.gup_script.specs.declared.refusal.Reason.{Reason}
+use Rattle.gup_script.specs.declared.refusal.Reason.TheVariants as reasons
+use Rattle.gup_script.specs.declared.refusal.ScriptFault.{ScriptFault}
+use Rattle.gup_script.specs.Script.{ScriptValue}
+use Rattle.gup_script.specs.Outline.{Outline, most_bytes}
+use Rattle.gup_script.specs.Grammar.{Stage, before_head, before_frames, open_at, IsRight, AreRight, Accepts}
+use Rattle.gup_script.specs.Fault.{Unless, LastFault, IsShort, FaultAt, HasFault}
+use Rattle.gup_script.specs.Reading.{line_in, fault_at, end_in, behind, lines_in, reading}
+use Rattle.gup_script.proofs.Spaced.{AreNamedAt, stays_named}
+use Rattle.gup_script.proofs.Lines.{judged_line, some_part}
 
--- the texts of the lines of operations
-abbrev pub on_lines : List ℕ → List Op → List (List ℕ)
-on_lines a ops = map (λ op. line_text (on a op)) ops
+abbrev pub read : Outline → Result Outline ScriptFault
+read st = Ok st
 
-abbrev pub form_lines : FrameCounts → List ℕ → List ℕ → List Op → List (List ℕ)
-form_lines counts p a ops = codes "gup 1" ∷ line_text (frames_of counts) ∷ line_text (process p) ∷ line_text (thread a p) ∷ on_lines a ops
+abbrev pub faulty : ScriptFault → Result Outline ScriptFault
+faulty fault = Err fault
 
--- what was read of the lines fits together
-pub parts_fit : (fs qs ts ons : List (List ℕ)) (counts : FrameCounts) (p a : List ℕ) (ops : List Op) → frames_in fs ≡ Some counts → process_in qs ≡ Some p → thread_in p ts ≡ Some a → ops_in a ons ≡ Some ops → length ons ≤ 1024 → 1 ≤ counts.movable + counts.normal → shares_page ops ≡ true → Fits counts p a ops
-parts_fit fs qs ts ons counts p a ops f q t o few some shared =
-    let k = frames_taken fs counts f in
-    let n = process_taken qs p q in
-    let m = thread_taken p ts a t in
-    let l = ops_taken a ons ops o in
-    let len : length ons ≡ length ops = ap (λ (xs : List (List ℕ)). length xs) l.0 ∙ length-map ops (λ op. line_text (on a op)) in
-    record {
-      counted = k.1;
-      some_frame = some;
-      process_name = n.1;
-      thread_name = m.1;
-      other = m.2;
-      each = l.1;
-      few = omega arith;
-      one_page = shared_taken ops shared;
-    }
+pub same_read : (a b : Outline) → read a ≡ read b → a ≡ b
+same_read a b e = cc
 
--- a script with its parts, and the lines that spell it
-pub record IsRead (lines : List (List ℕ)) (s : ScriptValue) : Type 0 where
-  pub counts : FrameCounts
-  pub process_name : List ℕ
-  pub thread_name : List ℕ
-  pub ops : List Op
-  pub fits : Fits counts process_name thread_name ops
-  pub lines_are : lines ≡ form_lines counts process_name thread_name ops
-  pub script_is : s ≡ one_thread counts process_name thread_name ops
+pub same_fault : (a b : ScriptFault) → faulty a ≡ faulty b → a ≡ b
+same_fault a b e = cc
 
-declared_taken : (f q t : List ℕ) (ons : List (List ℕ)) (s : ScriptValue) → length ons ≤ 1024 → declared_in f q t ons ≡ Some s → IsRead (codes "gup 1" ∷ f ∷ q ∷ t ∷ ons) s
-unfolding declared_in
-declared_taken f q t ons s few e =
-    let end : FrameCounts → List ℕ → List ℕ → List Op → Option ScriptValue = λ k p a ops. cond (leb 1 (k.movable + k.normal) && shares_page ops) (Some (one_thread k p a ops)) None in
-    let x = step_taken (frames_in (parts 32 f)) (λ k. process_in (parts 32 q) >>= λ p. thread_in p (parts 32 t) >>= λ a. ops_in a ons >>= λ ops. end k p a ops) s e in
-    let y = step_taken (process_in (parts 32 q)) (λ p. thread_in p (parts 32 t) >>= λ a. ops_in a ons >>= λ ops. end x.0 p a ops) s x.2 in
-    let z = step_taken (thread_in y.0 (parts 32 t)) (λ a. ops_in a ons >>= λ ops. end x.0 y.0 a ops) s y.2 in
-    let u = step_taken (ops_in z.0 ons) (λ ops. end x.0 y.0 z.0 ops) s z.2 in
-    let g = test_passed (leb 1 (x.0.movable + x.0.normal) && shares_page u.0) (one_thread x.0 y.0 z.0 u.0) s u.2 in
-    let passed = g.0 in
-    let some : 1 ≤ x.0.movable + x.0.normal = grind (arith, nat_tests) in
-    let shared : shares_page u.0 ≡ true = grind (arith, nat_tests) in
-    let f_is = line_is f (frames_of x.0) (frames_taken (parts 32 f) x.0 x.1).0 in
-    let q_is = line_is q (process y.0) (process_taken (parts 32 q) y.0 y.1).0 in
-    let t_is = line_is t (thread z.0 y.0) (thread_taken y.0 (parts 32 t) z.0 z.1).0 in
-    let ons_are = (ops_taken z.0 ons u.0 u.1).0 in
-    record {
-      counts = x.0;
-      process_name = y.0;
-      thread_name = z.0;
-      ops = u.0;
-      fits = parts_fit (parts 32 f) (parts 32 q) (parts 32 t) ons x.0 y.0 z.0 u.0 x.1 y.1 z.1 u.1 few some shared;
-      lines_are = cc (f_is, q_is, t_is, ons_are);
-      script_is = sym g.1;
-    }
+pub not_faulty : (a : Outline) (b : ScriptFault) → read a ≡ faulty b → ⊥
+not_faulty a b e = cc
 
-script_taken : (lines : List (List ℕ)) (s : ScriptValue) → script_in lines ≡ Some s → IsRead lines s
-unfolding script_in
-script_taken [] s e = absurd cc
-script_taken (h ∷ []) s e = absurd cc
-script_taken (h ∷ f ∷ []) s e = absurd cc
-script_taken (h ∷ f ∷ q ∷ []) s e = absurd cc
-script_taken (h ∷ f ∷ q ∷ t ∷ ons) s e =
-    let w = way_taken (bytes_eq h (codes "gup 1") && leb (length ons) 1024) (declared_in f q t ons) s e in
-    let passed = w.0 in
-    let is_head : bytes_eq h (codes "gup 1") ≡ true = grind (arith, nat_tests) in
-    let few : length ons ≤ 1024 = grind (arith, nat_tests) in
-    subst (λ (line : List ℕ). IsRead (line ∷ f ∷ q ∷ t ∷ ons) s) (sym (same_word h (codes "gup 1") is_head)) (declared_taken f q t ons s few w.1)
+fault_is : (fault : ScriptFault) (number : ℕ) (reason : Reason) → fault.line ≡ number → fault.reason ≡ reason → fault_at number reason ≡ fault
+fault_is fault number reason n r = λ i. record { line = sym n i; reason = sym r i }
 
--- the lines of the items
-lines_of : (counts : FrameCounts) (p a : List ℕ) (ops : List Op) → map line_text (form_items counts p a ops) ≡ form_lines counts p a ops
-lines_of counts p a ops = ap (λ (ls : List (List ℕ)). codes "gup 1" ∷ line_text (frames_of counts) ∷ line_text (process p) ∷ line_text (thread a p) ∷ ls) (again ops) where
-  again : (os : List Op) → map line_text (map (λ op. on a op) os) ≡ on_lines a os
-  again [] = refl
-  again (o ∷ os) = ap (λ (ls : List (List ℕ)). line_text (on a o) ∷ ls) (again os)
+-- ---- what stands behind the last line feed
 
-text_of : (counts : FrameCounts) (p a : List ℕ) (ops : List Op) → flat_map line_of (form_items counts p a ops) ≡ join_with_byte 10 (form_lines counts p a ops) ++ 10 ∷ []
-text_of counts p a ops = lines_joined line_text head (frames_of counts ∷ process p ∷ thread a p ∷ map (λ op. on a op) ops) ∙ ap (λ (ls : List (List ℕ)). join_with_byte 10 ls ++ 10 ∷ []) (lines_of counts p a ops)
+end_found : (number : ℕ) (stage : Stage) (line : List ℕ) (st : Outline) → end_in number stage line ≡ Ok st → (line ≡ []) × (open_at st ≡ stage)
+unfolding end_in
+end_found number before_head [] st e = absurd (not_faulty st _ (sym e))
+end_found number before_head (c ∷ cs) st e = absurd (not_faulty st _ (sym e))
+end_found number before_frames [] st e = absurd (not_faulty st _ (sym e))
+end_found number before_frames (c ∷ cs) st e = absurd (not_faulty st _ (sym e))
+end_found number (open_at now) [] st e = (refl, ap (λ s. open_at s) (sym (same_read now st e)))
+end_found number (open_at now) (c ∷ cs) st e = absurd (not_faulty st _ (sym e))
 
--- ---- what is read is spelled
+end_read : (number : ℕ) (stage : Stage) (st : Outline) → open_at st ≡ stage → end_in number stage [] ≡ Ok st
+unfolding end_in
+end_read number stage st e = subst (λ (s : Stage). end_in number s [] ≡ Ok st) e refl
 
-pub found : (text : List ℕ) (s : ScriptValue) → length text ≤ most_bytes → reading text ≡ Some s → Accepts text s
+last_of : (c : ℕ) (cs : List ℕ) (b : Bool) → is_printable (c ∷ cs) ≡ b → Unless reasons.Byte (IsPrintable (c ∷ cs)) (cond b reasons.End reasons.Byte) (cond b reasons.End reasons.Byte ≡ reasons.End)
+last_of c cs true e = inr (printable_found (c ∷ cs) e, refl)
+last_of c cs false e = inl (refl, not_from_Decides (is_printable (c ∷ cs)) (printable_found (c ∷ cs), printable_read (c ∷ cs)) e)
+
+reason_of : (c : ℕ) (cs : List ℕ) (r : Reason) (b : Bool) → is_printable (c ∷ cs) ≡ b → Unless reasons.Byte (IsPrintable (c ∷ cs)) r (r ≡ reasons.End) → cond b reasons.End reasons.Byte ≡ r
+reason_of c cs r true e (inl f) = absurd (f.1 (printable_found (c ∷ cs) e))
+reason_of c cs r true e (inr g) = sym g.1
+reason_of c cs r false e (inl f) = sym f.0
+reason_of c cs r false e (inr g) = let is = printable_read (c ∷ cs) g.0 in absurd cc
+
+left_over : (number : ℕ) (stage : Stage) (c : ℕ) (cs : List ℕ) (fault : ScriptFault) → fault_at number (cond (is_printable (c ∷ cs)) reasons.End reasons.Byte) ≡ fault → LastFault stage (c ∷ cs) fault.reason × (fault.line ≡ number)
+left_over number stage c cs fault same =
+    (subst (λ (f : ScriptFault). LastFault stage (c ∷ cs) f.reason) same (last_of c cs (is_printable (c ∷ cs)) refl), ap (λ f. f.line) (sym same))
+
+too_short : (number : ℕ) (stage : Stage) (fault : ScriptFault) → IsShort stage → fault_at number reasons.Short ≡ fault → LastFault stage [] fault.reason × (fault.line ≡ number)
+too_short number stage fault short same = ((ap (λ f. f.reason) (sym same), short), ap (λ f. f.line) (sym same))
+
+end_fault : (number : ℕ) (stage : Stage) (line : List ℕ) (fault : ScriptFault) → end_in number stage line ≡ Err fault → LastFault stage line fault.reason × (fault.line ≡ number)
+unfolding end_in
+end_fault number (open_at st) [] fault e = absurd (not_faulty st fault e)
+end_fault number before_head [] fault e = too_short number before_head fault tt (same_fault _ fault e)
+end_fault number before_frames [] fault e = too_short number before_frames fault tt (same_fault _ fault e)
+end_fault number before_head (c ∷ cs) fault e = left_over number before_head c cs fault (same_fault _ fault e)
+end_fault number before_frames (c ∷ cs) fault e = left_over number before_frames c cs fault (same_fault _ fault e)
+end_fault number (open_at st) (c ∷ cs) fault e = left_over number (open_at st) c cs fault (same_fault _ fault e)
+
+end_fault_read : (number : ℕ) (stage : Stage) (line : List ℕ) (fault : ScriptFault) → LastFault stage line fault.reason → fault.line ≡ number → end_in number stage line ≡ Err fault
+unfolding end_in
+end_fault_read number (open_at st) [] fault h n = absurd h.1
+end_fault_read number before_head [] fault h n = ap (λ f. Err f) (fault_is fault number reasons.Short n h.0)
+end_fault_read number before_frames [] fault h n = ap (λ f. Err f) (fault_is fault number reasons.Short n h.0)
+end_fault_read number before_head (c ∷ cs) fault h n = ap (λ f. Err f) (fault_is fault number _ n (sym (reason_of c cs fault.reason (is_printable (c ∷ cs)) refl h)))
+end_fault_read number before_frames (c ∷ cs) fault h n = ap (λ f. Err f) (fault_is fault number _ n (sym (reason_of c cs fault.reason (is_printable (c ∷ cs)) refl h)))
+end_fault_read number (open_at st) (c ∷ cs) fault h n = ap (λ f. Err f) (fault_is fault number _ n (sym (reason_of c cs fault.reason (is_printable (c ∷ cs)) refl h)))
+
+-- ---- lines
+
+behind_found : (number : ℕ) (m : Result Stage Reason) (rest : Stage → Result Outline ScriptFault) (st : Outline) → behind number m rest ≡ Ok st → (after : Stage) × (m ≡ Ok after) × (rest after ≡ Ok st)
+behind_found number (Ok after) rest st e = (after, refl, e)
+behind_found number (Err reason) rest st e = absurd (not_faulty st _ (sym e))
+
+behind_fault : (number : ℕ) (m : Result Stage Reason) (rest : Stage → Result Outline ScriptFault) (fault : ScriptFault) → behind number m rest ≡ Err fault → ((m ≡ Err fault.reason) × (fault.line ≡ number)) ⊎ ((after : Stage) × (m ≡ Ok after) × (rest after ≡ Err fault))
+behind_fault number (Ok after) rest fault e = inr (after, refl, e)
+behind_fault number (Err reason) rest fault e = let same = same_fault (fault_at number reason) fault e in inl (ap (λ f. Err f.reason) same, ap (λ f. f.line) (sym same))
+
+-- a line with more behind it
+more_lines : (number : ℕ) (stage : Stage) (line : List ℕ) (rest : List (List ℕ)) → 0 < length rest → lines_in number stage (line ∷ rest) ≡ behind number (line_in stage line) (λ after. lines_in (number + 1) after rest)
+more_lines number stage line [] some = absurd (omega arith)
+more_lines number stage line (next ∷ more) some = refl
+
+some_behind : (front : List (List ℕ)) (line : List ℕ) (more : List (List ℕ)) → 0 < length (front ++ line ∷ more)
+some_behind [] line more = omega arith
+some_behind (x ∷ front) line more = omega arith
+
+lines_found : (number : ℕ) (stage : Stage) (line : List ℕ) (more : List (List ℕ)) (st : Outline) → AreNamedAt stage → lines_in number stage (line ∷ more) ≡ Ok st → (front : List (List ℕ)) × ((line ∷ more) ≡ front ++ [] ∷ []) × AreRight stage front (open_at st)
+lines_found number stage line [] st named e = let h = end_found number stage line st e in ([], ap (λ l. l ∷ []) h.0, h.1)
+lines_found number stage line (next ∷ more) st named e =
+    let b = behind_found number (line_in stage line) _ st e in
+    let right = (judged_line stage named line).found b.0 b.1 in
+    let r = lines_found (number + 1) b.0 next more st (stays_named stage b.0 line named right) b.2 in
+    (line ∷ r.0, ap (λ ls. line ∷ ls) r.1, (b.0, right, r.2))
+
+lines_read : (number : ℕ) (stage : Stage) (front : List (List ℕ)) (st : Outline) → AreNamedAt stage → AreRight stage front (open_at st) → lines_in number stage (front ++ [] ∷ []) ≡ Ok st
+lines_read number stage [] st named h = end_read number stage st h
+lines_read number stage (line ∷ front) st named h =
+    let is = (judged_line stage named line).read h.0 h.1 in
+    more_lines number stage line (front ++ [] ∷ []) (some_behind front [] [])
+    ∙ ap (λ m. behind number m (λ after. lines_in (number + 1) after (front ++ [] ∷ []))) is
+    ∙ lines_read (number + 1) h.0 front st (stays_named stage h.0 line named h.1) h.2
+
+abbrev FaultIn : ℕ → Stage → List (List ℕ) → ScriptFault → Type 0
+FaultIn number stage lines fault =
+    (front : List (List ℕ)) × (line : List ℕ) × (more : List (List ℕ)) × (after : Stage)
+    × (lines ≡ front ++ line ∷ more) × (fault.line ≡ length front + number)
+    × AreRight stage front after × FaultAt after line more fault.reason
+
+lines_fault : (number : ℕ) (stage : Stage) (line : List ℕ) (more : List (List ℕ)) (fault : ScriptFault) → AreNamedAt stage → lines_in number stage (line ∷ more) ≡ Err fault → FaultIn number stage (line ∷ more) fault
+lines_fault number stage line [] fault named e =
+    let h = end_fault number stage line fault e in
+    let n = h.1 in
+    ([], line, [], stage, refl, omega arith, refl, h.0)
+lines_fault number stage line (next ∷ more) fault named e =
+    let k = judged_line stage named line in
+    let rest = λ (after : Stage) (right : IsRight stage line after). lines_fault (number + 1) after next more fault (stays_named stage after line named right) in
+    elim (behind_fault number (line_in stage line) (λ after. lines_in (number + 1) after (next ∷ more)) fault e) [
+      | inl f ↦ let n = f.1 in ([], line, next ∷ more, stage, refl, omega arith, refl, k.fault_found fault.reason f.0)
+      | inr b ↦
+          let right = k.found b.0 b.1 in
+          let r = rest b.0 right b.2 in
+          let n = r.5 in
+          (line ∷ r.0, r.1, r.2, r.3, ap (λ ls. line ∷ ls) r.4, omega arith, (b.0, right, r.6), r.7)
+    ]
+
+first_fault : (number : ℕ) (stage : Stage) (line : List ℕ) (more : List (List ℕ)) (fault : ScriptFault) → AreNamedAt stage → FaultAt stage line more fault.reason → fault.line ≡ number → lines_in number stage (line ∷ more) ≡ Err fault
+first_fault number stage line [] fault named h n = end_fault_read number stage line fault h n
+first_fault number stage line (next ∷ more) fault named h n =
+    let is = (judged_line stage named line).fault_read fault.reason h in
+    ap (λ m. behind number m (λ after. lines_in (number + 1) after (next ∷ more))) is ∙ ap (λ f. Err f) (fault_is fault number fault.reason n refl)
+
+lines_fault_read : (number : ℕ) (stage : Stage) (front : List (List ℕ)) (line : List ℕ) (more : List (List ℕ)) (after : Stage) (fault : ScriptFault) → AreNamedAt stage → AreRight stage front after → FaultAt after line more fault.reason → fault.line ≡ length front + number → lines_in number stage (front ++ line ∷ more) ≡ Err fault
+lines_fault_read number stage [] line more after fault named right h n =
+    first_fault number stage line more fault named (subst (λ (s : Stage). FaultAt s line more fault.reason) right h) (omega arith)
+lines_fault_read number stage (x ∷ front) line more after fault named right h n =
+    let is = (judged_line stage named x).read right.0 right.1 in
+    more_lines number stage x (front ++ line ∷ more) (some_behind front line more)
+    ∙ ap (λ m. behind number m (λ between. lines_in (number + 1) between (front ++ line ∷ more))) is
+    ∙ lines_fault_read (number + 1) right.0 front line more after fault (stays_named stage right.0 x named right.1) right.2 h (omega arith)
+
+-- ---- texts
+
+text_found : (lines : List (List ℕ)) → 0 < length lines → (st : Outline) → lines_in 1 before_head lines ≡ Ok st → (front : List (List ℕ)) × (lines ≡ front ++ [] ∷ []) × AreRight before_head front (open_at st)
+text_found [] some st e = absurd (omega arith)
+text_found (line ∷ more) some st e = lines_found 1 before_head line more st tt e
+
+text_fault : (lines : List (List ℕ)) → 0 < length lines → (fault : ScriptFault) → lines_in 1 before_head lines ≡ Err fault → FaultIn 1 before_head lines fault
+text_fault [] some fault e = absurd (omega arith)
+text_fault (line ∷ more) some fault e = lines_fault 1 before_head line more fault tt e
+
+pub found : (text : List ℕ) (st : Outline) → reading text ≡ Ok st → Accepts text st.script
 unfolding reading
-found text s short e =
-    let x = step_taken (body_of text) (λ body. script_in (parts 10 body)) s e in
-    let r = script_taken (parts 10 x.0) s x.2 in
-    let k = r.counts in
-    let p = r.process_name in
-    let a = r.thread_name in
-    let joined : x.0 ≡ join_with_byte 10 (form_lines k p a r.ops) = sym (join_with_byte-slice_split 10 x.0) ∙ ap (join_with_byte 10) r.lines_are in
-    let spelled : text ≡ flat_map line_of (form_items k p a r.ops) = body_taken text x.0 x.1 ∙ ap (λ (t : List ℕ). t ++ 10 ∷ []) joined ∙ sym (text_of k p a r.ops) in
-    subst (λ (u : ScriptValue). Accepts text u) (sym r.script_is) ((form_items k p a r.ops, spelled, described k p a r.ops r.fits), of_form k p a r.ops r.fits, short)
+found text st e = way (ltb most_bytes (length text)) refl e where
+  way : (b : Bool) → ltb most_bytes (length text) ≡ b → cond b (Err (fault_at 0 reasons.Long)) (lines_in 1 before_head (parts 10 text)) ≡ Ok st → Accepts text st.script
+  way true long f = absurd (not_faulty st _ (sym f))
+  way false short f = let r = text_found (parts 10 text) (some_part 10 text) st f in ((r.0, st, r.1, r.2, refl), ltb-false most_bytes (length text) short)
 
--- ---- what is spelled is read
-
-bare_frames : (counts : FrameCounts) → AreCounts counts → AreBare (item_words (frames_of counts))
-bare_frames k h = (search rules, (bare_decimal k.movable (omega (arith, h.0)), (bare_decimal k.normal (omega (arith, h.0)), (bare_decimal k.tables (omega (arith, h.1)), tt))))
-
-bare_process : (p : List ℕ) → IsName p → AreBare (item_words (process p))
-bare_process p h = (search rules, (bare_name p h, tt))
-
-bare_thread : (p a : List ℕ) → IsName p → IsName a → AreBare (item_words (thread a p))
-bare_thread p a h n = (search rules, (bare_name a n, (bare_name p h, tt)))
-
-on_lines_lack_feed : (a : List ℕ) (ops : List Op) → IsName a → AllByRecursion IsOp ops → AllByRecursion (Lacks 10) (on_lines a ops)
-on_lines_lack_feed a [] n h = tt
-on_lines_lack_feed a (op ∷ ops) n h = (line_lacks_feed (item_words (on a op)) (bare_on a op n h.0), on_lines_lack_feed a ops n h.1)
-
-script_again : (k : FrameCounts) (p a : List ℕ) (ops : List Op) → Fits k p a ops → script_in (form_lines k p a ops) ≡ Some (one_thread k p a ops)
-unfolding script_in declared_in
-script_again k p a ops f =
-    let len : length (on_lines a ops) ≡ length ops = length-map ops (λ op. line_text (on a op)) in
-    let few : leb (length (on_lines a ops)) 1024 ≡ true = le-leb _ _ (omega (arith, f.few)) in
-    let frames_cut : parts 32 (line_text (frames_of k)) ≡ item_words (frames_of k) = words_again _ _ (bare_frames k f.counted) in
-    let process_cut : parts 32 (line_text (process p)) ≡ item_words (process p) = words_again _ _ (bare_process p f.process_name) in
-    let thread_cut : parts 32 (line_text (thread a p)) ≡ item_words (thread a p) = words_again _ _ (bare_thread p a f.process_name f.thread_name) in
-    let some : leb 1 (k.movable + k.normal) ≡ true = le-leb _ _ f.some_frame in
-    let shared : shares_page ops ≡ true = shared_again f.one_page.0 ops f.one_page.1 in
-    rw (few, frames_cut, frames_again k f.counted, process_cut, process_again p f.process_name, thread_cut, thread_again p a f.thread_name f.other, ops_again a ops f.thread_name f.each, some, shared) refl
-
-reading_form : (k : FrameCounts) (p a : List ℕ) (ops : List Op) → Fits k p a ops → reading (flat_map line_of (form_items k p a ops)) ≡ Some (one_thread k p a ops)
+pub again : (text : List ℕ) (script : ScriptValue) → Accepts text script → (st : Outline) × (reading text ≡ Ok st) × (script ≡ st.script)
 unfolding reading
-reading_form k p a ops f =
-    let body : List ℕ = join_with_byte 10 (form_lines k p a ops) in
-    let frames_lack = line_lacks_feed (item_words (frames_of k)) (bare_frames k f.counted) in
-    let process_lack = line_lacks_feed (item_words (process p)) (bare_process p f.process_name) in
-    let thread_lack = line_lacks_feed (item_words (thread a p)) (bare_thread p a f.process_name f.thread_name) in
-    let cut : parts 10 body ≡ form_lines k p a ops = parts_again 10 (codes "gup 1") (line_text (frames_of k) ∷ line_text (process p) ∷ line_text (thread a p) ∷ on_lines a ops) (search rules) (frames_lack, (process_lack, (thread_lack, on_lines_lack_feed a ops f.thread_name f.each))) in
-    ap reading (text_of k p a ops) ∙ rw (body_again body, cut) (script_again k p a ops f)
+again text script h =
+    let s = h.0 in
+    let short : ltb most_bytes (length text) ≡ false = le-ltb most_bytes (length text) h.1 in
+    (s.1, rw short (ap (lines_in 1 before_head) s.2 ∙ lines_read 1 before_head s.0 s.1 tt s.3), s.4)
 
-pub again : (text : List ℕ) (s : ScriptValue) → Accepts text s → reading text ≡ Some s
-again text s h =
-    let items : List Item = h.0.0 in
-    let f = has_form items s h.0.2 h.1 in
-    let spelled : text ≡ flat_map line_of (form_items f.counts f.process_name f.thread_name f.ops) = h.0.1 ∙ ap (flat_map line_of) f.items_are in
-    ap reading spelled ∙ reading_form f.counts f.process_name f.thread_name f.ops f.fits ∙ ap (λ (u : ScriptValue). Some u) (sym f.script_is)
+pub fault_found : (text : List ℕ) (fault : ScriptFault) → reading text ≡ Err fault → HasFault text fault
+unfolding reading
+fault_found text fault e = way (ltb most_bytes (length text)) refl e where
+  way : (b : Bool) → ltb most_bytes (length text) ≡ b → cond b (Err (fault_at 0 reasons.Long)) (lines_in 1 before_head (parts 10 text)) ≡ Err fault → HasFault text fault
+  way true long f =
+      let same = same_fault (fault_at 0 reasons.Long) fault f in
+      inl (ap (λ x. x.line) (sym same), ap (λ x. x.reason) (sym same), ltb-true most_bytes (length text) long)
+  way false short f = inr (ltb-false most_bytes (length text) short, text_fault (parts 10 text) (some_part 10 text) fault f)
 
--- ---- the bytes of a script are text
-
-abbrev Ascii : List ℕ → Type 0
-Ascii bytes = AllByRecursion (λ b. b < 128) bytes
-
-ascii_bare : (bytes : List ℕ) → IsBare bytes → Ascii bytes
-ascii_bare [] h = tt
-ascii_bare (b ∷ bytes) h = (omega (arith, h.0.1), ascii_bare bytes h.1)
-
-ascii_append : (a b : List ℕ) → Ascii a → Ascii b → Ascii (a ++ b)
-ascii_append [] b h g = g
-ascii_append (c ∷ a) b h g = (h.0, ascii_append a b h.1 g)
-
-ascii_joined : (c : ℕ) (texts : List (List ℕ)) → c < 128 → AllByRecursion Ascii texts → Ascii (join_with_byte c texts)
-ascii_joined c [] lt h = tt
-ascii_joined c (t ∷ []) lt h = h.0
-ascii_joined c (t ∷ u ∷ texts) lt h = ascii_append t (c ∷ join_with_byte c (u ∷ texts)) h.0 (lt, ascii_joined c (u ∷ texts) lt h.1)
-
-ascii_words : (words : List (List ℕ)) → AreBare words → AllByRecursion Ascii words
-ascii_words [] h = tt
-ascii_words (w ∷ words) h = (ascii_bare w h.0, ascii_words words h.1)
-
-ascii_line : (words : List (List ℕ)) → AreBare words → Ascii (join_with_byte 32 words)
-ascii_line words h = ascii_joined 32 words (omega arith) (ascii_words words h)
-
-ascii_ons : (a : List ℕ) (ops : List Op) → IsName a → AllByRecursion IsOp ops → AllByRecursion Ascii (on_lines a ops)
-ascii_ons a [] n h = tt
-ascii_ons a (op ∷ ops) n h = (ascii_line (item_words (on a op)) (bare_on a op n h.0), ascii_ons a ops n h.1)
-
-pub accepted_text : (text : List ℕ) (s : ScriptValue) → Accepts text s → IsUtf8 text
-accepted_text text s h =
-    let f = has_form h.0.0 s h.0.2 h.1 in
-    let k = f.counts in
-    let p = f.process_name in
-    let a = f.thread_name in
-    let spelled : text ≡ join_with_byte 10 (form_lines k p a f.ops) ++ 10 ∷ [] = h.0.1 ∙ ap (flat_map line_of) f.items_are ∙ text_of k p a f.ops in
-    let lines : AllByRecursion Ascii (form_lines k p a f.ops) = (search rules, (ascii_line (item_words (frames_of k)) (bare_frames k f.fits.counted), (ascii_line (item_words (process p)) (bare_process p f.fits.process_name), (ascii_line (item_words (thread a p)) (bare_thread p a f.fits.process_name f.fits.thread_name), ascii_ons a f.ops f.fits.thread_name f.fits.each)))) in
-    let ascii : Ascii text = subst Ascii (sym spelled) (ascii_append (join_with_byte 10 (form_lines k p a f.ops)) (10 ∷ []) (ascii_joined 10 (form_lines k p a f.ops) (omega arith) lines) (search rules)) in
-    IsUtf8-from_ascii text (IsAscii-from_all text (All-from_recursion (λ b. b < 128) text ascii))
-
-pub at_most_one : (text : List ℕ) (a b : ScriptValue) → Accepts text a → Accepts text b → a ≡ b
-at_most_one text a b h g = same_given a b (sym (again text a h) ∙ again text b g)
+pub fault_again : (text : List ℕ) (fault : ScriptFault) → HasFault text fault → reading text ≡ Err fault
+unfolding reading
+fault_again text fault h = elim h [
+  | inl l ↦
+      let long : ltb most_bytes (length text) ≡ true = lt-ltb most_bytes (length text) l.2 in
+      rw long (ap (λ f. Err f) (fault_is fault 0 reasons.Long l.0 l.1))
+  | inr m ↦
+      let short : ltb most_bytes (length text) ≡ false = le-ltb most_bytes (length text) m.0 in
+      let f = m.1 in
+      rw short (ap (lines_in 1 before_head) f.4 ∙ lines_fault_read 1 before_head f.0 f.1 f.2 f.3 fault tt f.6 f.7 f.5)
+]

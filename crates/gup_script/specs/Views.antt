@@ -2,10 +2,10 @@
 use Rattle.std.specs.Prelude.{[], map, string_bytes}
 use Rattle.gup_script.specs.declared.script.Process.{Process as ProcessFields}
 use Rattle.gup_script.specs.declared.script.Actor.{Actor as ActorFields}
+use Rattle.gup_script.specs.declared.script.Contents.{Contents}
 use Rattle.gup_script.specs.declared.script.Script.TheInside.{Inside}
 use Rattle.gup_script.specs.Script.{ScriptValue, Process, Actor}
 use Rattle.gup_script.specs.Valid.{IsScript}
-use Rattle.gup_script.specs.FirstPath.{IsFirstPath}
 
 abbrev pub process_value : ProcessFields → Process
 process_value p = record { name = string_bytes p.name; born = p.born }
@@ -13,7 +13,7 @@ process_value p = record { name = string_bytes p.name; born = p.born }
 abbrev pub actor_value : ActorFields → Actor
 actor_value a = record { name = string_bytes a.name; kind = a.kind; ops = a.ops.items }
 
-abbrev pub script_value : Inside → ScriptValue
+abbrev pub script_value : Contents → ScriptValue
 script_value s =
     record {
       frames = record { movable = s.movable; normal = s.normal; tables = s.tables };
@@ -25,6 +25,8 @@ script_value s =
       seed = s.seed;
     }
 
--- every `Script` is one of the accepted form
+abbrev pub value_of : Inside → ScriptValue
+value_of s = script_value s.contents
+
 abbrev pub IsValid : Inside → Type 0
-IsValid s = IsScript (script_value s) × IsFirstPath (script_value s)
+IsValid s = IsScript (value_of s)

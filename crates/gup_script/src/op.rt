@@ -14,6 +14,18 @@ pub enum Op {
         page: PageNo,
         n: u16,
     },
+    /// `protect p n r` or `protect p n rw`: n pages from p on, which are all mapped, get these rights (`mprotect`).
+    Protect {
+        page: PageNo,
+        n: u16,
+        rights: Rights,
+    },
+    /// `discard p n`: the pages from p to p + n - 1 lose their contents and keep their mapping (`madvise` with
+    /// `MADV_DONTNEED`).
+    Discard {
+        page: PageNo,
+        n: u16,
+    },
     /// `load p.w`: reads a word.
     Load {
         page: PageNo,
@@ -25,6 +37,8 @@ pub enum Op {
         word: WordNo,
         value: u64,
     },
+    /// `exit`: takes down all that the process has mapped.
+    Exit,
 }
 
 /// What an actor is.
@@ -32,4 +46,8 @@ pub enum Op {
 pub enum Kind {
     /// A CPU thread of a process.
     Thread(ProcNo),
+    /// A device with a store of so many words, 1 to 4,096.
+    Device(u16),
+    /// The one that moves pages.
+    Mover,
 }

@@ -1,204 +1,324 @@
-//! The reader of a script's text.
-ghost use Rattle.std.specs.Prelude.{◌≡◌, ◌+◌, ◌≤◌, nat_le, ℕ, List, length, map, option_map, IfOk, IfErr};
-ghost use Rattle.gup_script.specs.Script.{ScriptValue};
-ghost use Rattle.gup_script.specs.FirstPath.{Accepts, IsRefusalOf};
-ghost use Rattle.gup_script.specs.Reading.{frame_counts, counts_in, frames_in, process_in, thread_in, on_in, ops_in, declared_in, body_of, reading};
+//! What the lines of a script so far have made, and how each adds to it.
+ghost use Rattle.std.specs.Prelude.{◌≡◌, ◌<◌, ◌≤◌, ◌+◌, true, false, nat_lt, length, replicate, option_map, OnOk};
+ghost use Rattle.gup_names.specs.Names.{find, is_unused};
+ghost use Rattle.gup_script.specs.Script.{actor_at, process_at};
+ghost use Rattle.gup_script.specs.Outline.{empty_outline, with_process, with_actor, with_operation, with_turns, with_seed, draws, is_thread, is_device, is_mover, how_many, has_mover, is_child, is_receiver};
+ghost use Rattle.gup_script.specs.OnePage.{is_one_page};
+ghost use Rattle.gup_script.specs.Limits.{HasRoomFor};
+ghost use Rattle.gup_script.specs.Reading.{frame_counts, process_of, actor_of, is_pin_name, is_got_name, is_mirror_of, may_mirror};
 
-use crate::op::Op;
-use crate::operations::{op, shares_page};
-use crate::refusal::{ReadRefusal, Reason, ScriptFault};
-use crate::script::Script;
-use crate::text::{is_name, lines, number, words};
+use crate::drawing::{push_drawn, push_times};
+use crate::one_page::is_one_page;
+use crate::op::{Kind, Op};
+use crate::script::{Actor, Contents, Process};
+use gup_base::{ActorNo, ProcNo};
+use gup_names::{Named, Names};
+use gup_text::is_name;
 use std::alloc::{AllocError, Global};
+use std::marker::Model;
 
-const MAX_FRAMES: u64 = 1_024;
+/// How many operations a script may have.
+const MAX_OPERATIONS: u32 = 16_384;
 
-const MAX_TABLES: u64 = 8_192;
-
-const MAX_OPS: usize = 1_024;
-
-const MAX_BYTES: usize = 1_048_576;
-
-/// The one fault that is told so far.
-const LATER: ScriptFault = ScriptFault {
-    line: 0,
-    reason: Reason::Later,
-};
-
-/// The numbers of a `frames` line.
-#[tactic(auto, unfolding(crate::specs::Reading::counts_in))]
-fn counts(movable: &str, normal: &str, tables: &str) -> Option<(u32, u32, u32)>
-    ensures { option_map frame_counts result ≡ counts_in movable.now normal.now tables.now }
-{
-    let movable = number(movable)?;
-    let normal = number(normal)?;
-    let tables = number(tables)?;
-    if movable <= MAX_FRAMES && normal <= MAX_FRAMES - movable && tables <= MAX_TABLES {
-        Some((movable as u32, normal as u32, tables as u32))
-    } else {
-        None
-    }
+/// The script up to some line, its names, and what counts and comes once.
+#[derive(Drop)]
+pub struct Reader {
+    contents: Contents,
+    names: Names,
+    operations: u32,
+    seeded: bool,
 }
 
-#[tactic(auto, unfolding(crate::specs::Reading::frames_in))]
-fn frames_line(words: &[&str]) -> Option<(u32, u32, u32)>
-    ensures { option_map frame_counts result ≡ frames_in (map (λ word. word.now) words.now) }
-{
-    let [kind, movable, normal, tables] = words else {
-        return None;
-    };
-    if *kind == "frames" {
-        counts(movable, normal, tables)
-    } else {
-        None
-    }
+impl Model for Reader {
+    ghost use Rattle.gup_script.specs.Outline.{Outline};
+
+    ghost Value = { Outline };
+
+    ghost use Rattle.gup_script.specs.ReaderViews.{outline_value};
+
+    ghost view = { outline_value };
+
+    ghost use Rattle.gup_script.specs.ReaderViews.{IsWithinLimits};
+
+    ghost invariant = { IsWithinLimits };
 }
 
-/// The name that a `process` line declares.
-#[tactic(auto, unfolding(crate::specs::Reading::process_in))]
-fn process_line<'a>(words: &[&'a str]) -> Option<&'a str>
-    ensures { option_map (λ name. name.now) result ≡ process_in (map (λ word. word.now) words.now) }
-{
-    let [kind, name] = words else {
-        return None;
-    };
-    if *kind == "process" && is_name(name) {
-        Some(*name)
-    } else {
-        None
-    }
-}
+impl Reader {
+    ghost use Rattle.gup_script.specs.Views.{script_value};
 
-/// The name that a `thread` line declares, of a thread of this process.
-#[tactic(auto, unfolding(crate::specs::Reading::thread_in))]
-fn thread_line<'a>(process: &str, words: &[&'a str]) -> Option<&'a str>
-    ensures { option_map (λ name. name.now) result ≡ thread_in process.now (map (λ word. word.now) words.now) }
-{
-    let [kind, name, of] = words else {
-        return None;
-    };
-    if *kind == "thread" && is_name(name) && *of == process && *name != process {
-        Some(*name)
-    } else {
-        None
+    /// Nothing behind a `frames` line with these counts.
+    pub fn new(alloc: Global, frames: (u32, u32, u32)) -> Reader
+        ensures { result ≡ empty_outline (frame_counts frames) }
+    {
+        let (movable, normal, tables) = frames;
+        Reader {
+            contents: Contents {
+                movable,
+                normal,
+                tables,
+                processes: Vec::new(alloc),
+                actors: Vec::new(alloc),
+                turns: Vec::new(alloc),
+                seed: 0,
+            },
+            names: Names::new(alloc),
+            operations: 0,
+            seeded: false,
+        }
     }
-}
 
-/// The operation of an `on` line of this actor.
-#[tactic(auto, unfolding(crate::specs::Reading::on_in))]
-fn on_line(actor: &str, words: &[&str]) -> Option<Op>
-    ensures { result ≡ on_in actor.now (map (λ word. word.now) words.now) }
-{
-    let [kind, name, fields @ ..] = words else {
-        return None;
-    };
-    if *kind == "on" && *name == actor {
-        op(fields)
-    } else {
-        None
+    /// What the lines say.
+    pub fn into_contents(self) -> Contents
+        ensures { script_value result ≡ self.script }
+    {
+        let Reader {
+            contents,
+            names: _,
+            operations: _,
+            seeded: _,
+        } = self;
+        contents
     }
-}
 
-/// The operations of this actor, one a line.
-fn ops(alloc: Global, actor: &str, lines: &[&str]) -> Result<Option<Vec<Op>>, AllocError>
-    ensures { IfOk result (λ ops. option_map (λ ops. ops.items) ops ≡ ops_in actor.now (map (λ line. line.now) lines.now)) }
-{
-    let mut ops = Vec::new(alloc);
-    for line in lines {
-        let words = words(alloc, line)?;
-        let Some(op) = on_line(actor, words.as_slice()) else {
-            return Ok(None);
+    pub fn is_unused(&self, name: &str) -> bool
+        ensures { result ≡ is_unused self.now.names name.now }
+    {
+        self.names.find(name).is_none()
+    }
+
+    /// The process that the word names.
+    pub fn process(&self, word: &str) -> Option<ProcNo>
+        ensures { result ≡ process_of (find self.now.names word.now) }
+    {
+        let named = self.names.find(word)?;
+        match named {
+            Named::Process(p) => Some(p),
+            _ => None,
+        }
+    }
+
+    /// The actor that the word names.
+    pub fn actor(&self, word: &str) -> Option<ActorNo>
+        ensures { result ≡ actor_of (find self.now.names word.now) }
+    {
+        let named = self.names.find(word)?;
+        match named {
+            Named::Actor(a) => Some(a),
+            _ => None,
+        }
+    }
+
+    /// Whether the word names a handle of a pin.
+    pub fn is_pin(&self, word: &str) -> bool
+        ensures { result ≡ is_pin_name (find self.now.names word.now) }
+    {
+        let Some(named) = self.names.find(word) else {
+            return false;
         };
-        ops.push(op)?;
+        match named {
+            Named::Pin(_) => true,
+            _ => false,
+        }
     }
-    Ok(Some(ops))
-}
 
-fn has_frame(frames: (u32, u32, u32)) -> bool
-    ensures { result ≡ nat_le 1 (frames.0 + frames.1) }
-{
-    frames.0 > 0 || frames.1 > 0
-}
-
-/// The script that the lines behind the head declare.
-#[tactic(auto, unfolding(crate::specs::Reading::declared_in))]
-fn declared(
-    alloc: Global,
-    frames: &str,
-    process: &str,
-    thread: &str,
-    ons: &[&str],
-) -> Result<Option<Script>, AllocError>
-    requires { length ons.now ≤ 1024 }
-    ensures { IfOk result (λ script. script ≡ declared_in frames.now process.now thread.now (map (λ line. line.now) ons.now)) }
-{
-    let frames = words(alloc, frames)?;
-    let Some(counts) = frames_line(frames.as_slice()) else {
-        return Ok(None);
-    };
-    let process = words(alloc, process)?;
-    let Some(process) = process_line(process.as_slice()) else {
-        return Ok(None);
-    };
-    let thread = words(alloc, thread)?;
-    let Some(thread) = thread_line(process, thread.as_slice()) else {
-        return Ok(None);
-    };
-    let Some(ops) = ops(alloc, thread, ons)? else {
-        return Ok(None);
-    };
-    if !has_frame(counts) || !shares_page(ops.as_slice()) {
-        return Ok(None);
+    /// Whether the word names a got reference.
+    pub fn is_got(&self, word: &str) -> bool
+        ensures { result ≡ is_got_name (find self.now.names word.now) }
+    {
+        let Some(named) = self.names.find(word) else {
+            return false;
+        };
+        match named {
+            Named::Got(_) => true,
+            _ => false,
+        }
     }
-    let script = Script::one_thread(alloc, counts, process, thread, ops)?;
-    Ok(Some(script))
-}
 
-/// The text without the line feed that ends it.
-fn body(text: &str) -> Option<&str>
-    ensures { option_map (λ body. body.now) result ≡ body_of text.now }
-{
-    text.strip_suffix('\n')
-}
+    /// Whether the word names a mirror slot of this device.
+    pub fn is_mirror(&self, device: ActorNo, word: &str) -> bool
+        ensures { result ≡ is_mirror_of device (find self.now.names word.now) }
+    {
+        let Some(named) = self.names.find(word) else {
+            return false;
+        };
+        match named {
+            Named::Mirror(_, owner) => owner == device,
+            _ => false,
+        }
+    }
 
-#[tactic(auto, unfolding(crate::specs::Reading::reading, crate::specs::Reading::script_in))]
-fn script(alloc: Global, text: &str) -> Result<Option<Script>, AllocError>
-    ensures { IfOk result (λ script. script ≡ reading text.now) }
-{
-    let Some(body) = body(text) else {
-        return Ok(None);
-    };
-    let lines = lines(alloc, body)?;
-    let [head, frames, process, thread, ons @ ..] = lines.as_slice() else {
-        return Ok(None);
-    };
-    if *head == "gup 1" && ons.len() <= MAX_OPS {
-        declared(alloc, frames, process, thread, ons)
-    } else {
-        Ok(None)
+    /// Whether a mirror line of this device may have the word as its slot: it is one of the device's, or can be.
+    pub fn may_be_mirror(&self, device: ActorNo, word: &str) -> bool
+        ensures { result ≡ may_mirror device word.now (find self.now.names word.now) }
+    {
+        if self.is_unused(word) {
+            is_name(word)
+        } else {
+            self.is_mirror(device, word)
+        }
+    }
+
+    /// What the actor is; `None` where there is none with this number.
+    pub fn kind(&self, actor: ActorNo) -> Option<Kind>
+        ensures { result ≡ option_map (λ a. a.kind) (actor_at self.now.script actor) }
+    {
+        let actor = self.contents.actors.get(actor.get() as usize)?;
+        Some(actor.kind)
+    }
+
+    /// Whether the process is one that a fork is to bring.
+    pub fn is_child(&self, p: ProcNo) -> bool
+        ensures { result ≡ is_child self.now p }
+    {
+        match self.contents.processes.get(p.get() as usize) {
+            Some(process) => !process.born,
+            None => false,
+        }
+    }
+
+    /// Whether a handle can be given to the actor: a thread or a device.
+    pub fn is_receiver(&self, actor: ActorNo) -> bool
+        ensures { result ≡ is_receiver self.now actor }
+    {
+        match self.kind(actor) {
+            Some(Kind::Thread(_)) | Some(Kind::Device(_)) => true,
+            Some(Kind::Mover) | None => false,
+        }
+    }
+
+    pub fn processes(&self) -> usize
+        ensures { result ≡ length self.now.script.processes }
+    {
+        self.contents.processes.len()
+    }
+
+    pub fn actors(&self) -> usize
+        ensures count { result ≡ length self.now.script.actors }
+        ensures few { result ≤ 81 }
+    {
+        self.contents.actors.len()
+    }
+
+    pub fn threads(&self) -> usize
+        ensures { result ≡ how_many is_thread self.now }
+    {
+        self.contents
+            .actors
+            .iter()
+            .filter(|actor| matches!(actor.kind, Kind::Thread(_)))
+            .count()
+    }
+
+    pub fn devices(&self) -> usize
+        ensures { result ≡ how_many is_device self.now }
+    {
+        self.contents
+            .actors
+            .iter()
+            .filter(|actor| matches!(actor.kind, Kind::Device(_)))
+            .count()
+    }
+
+    pub fn has_mover(&self) -> bool
+        ensures { result ≡ has_mover self.now }
+    {
+        self.contents
+            .actors
+            .iter()
+            .any(|actor| matches!(actor.kind, Kind::Mover))
+    }
+
+    pub fn turns(&self) -> usize
+        ensures { result ≡ length self.now.script.turns }
+    {
+        self.contents.turns.len()
+    }
+
+    /// Whether there may be one more operation.
+    pub fn has_room(&self) -> bool
+        ensures { result ≡ nat_lt self.now.operations 16384 }
+    {
+        self.operations < MAX_OPERATIONS
+    }
+
+    pub fn is_seeded(&self) -> bool
+        ensures { result ≡ self.now.seeded }
+    {
+        self.seeded
+    }
+
+    /// Whether the lines have made a script of one page.
+    pub fn is_one_page(&self) -> bool
+        ensures { result ≡ is_one_page self.now.script }
+    {
+        is_one_page(&self.contents)
+    }
+
+    /// One more process.
+    pub fn add_process(&mut self, name: &str, born: bool) -> Result<(), AllocError>
+        requires unused { is_unused self.old.names name.now ≡ true }
+        requires room { length self.old.script.processes < 16 }
+        ensures { OnOk result (self.new ≡ with_process name.now born self.old) }
+    {
+        let alloc = *self.contents.processes.allocator();
+        let number = ProcNo::new(self.contents.processes.len() as u64).unwrap();
+        let process = Process {
+            name: String::from_str(alloc, name)?,
+            born,
+        };
+        self.contents.processes.push(process)?;
+        self.names.declare(name, Named::Process(number))
+    }
+
+    /// One more actor, with no operation so far.
+    pub fn add_actor(&mut self, name: &str, kind: Kind) -> Result<(), AllocError>
+        requires unused { is_unused self.old.names name.now ≡ true }
+        requires room { HasRoomFor kind self.old }
+        ensures { OnOk result (self.new ≡ with_actor name.now kind self.old) }
+    {
+        let alloc = *self.contents.actors.allocator();
+        let number = ActorNo::new(self.contents.actors.len() as u64).unwrap();
+        let actor = Actor {
+            name: String::from_str(alloc, name)?,
+            kind,
+            ops: Vec::new(alloc),
+        };
+        self.contents.actors.push(actor)?;
+        self.names.declare(name, Named::Actor(number))
+    }
+
+    /// One more operation of the actor.
+    pub fn add_operation(&mut self, actor: ActorNo, op: Op) -> Result<(), AllocError>
+        requires there { actor < length self.old.script.actors }
+        requires room { self.old.operations < 16384 }
+        ensures { OnOk result (self.new ≡ with_operation actor op self.old) }
+    {
+        let actor = &mut self.contents.actors[actor.get() as usize];
+        actor.ops.push(op)?;
+        self.operations += 1;
+        Ok(())
+    }
+
+    /// So many more written turns of the actor.
+    pub fn add_turns(&mut self, actor: ActorNo, times: u32) -> Result<(), AllocError>
+        ensures { OnOk result (self.new ≡ with_turns (replicate times actor) self.old) }
+    {
+        push_times(&mut self.contents.turns, actor, times)
+    }
+
+    /// So many more written turns of actors that are drawn, from this start of the generator.
+    pub fn add_drawn_turns(&mut self, start: u64, count: u64) -> Result<(), AllocError>
+        requires { 0 < count → 0 < length self.old.script.actors }
+        ensures { OnOk result (self.new ≡ with_turns (draws count (length self.old.script.actors) start) self.old) }
+    {
+        let actors = self.actors() as u64;
+        push_drawn(&mut self.contents.turns, actors, start, count)
+    }
+
+    pub fn set_seed(&mut self, seed: u64)
+        ensures { self.new ≡ with_seed seed self.old }
+    {
+        self.contents.seed = seed;
+        self.seeded = true;
     }
 }
-
-/// The script that the bytes spell. A refusal is for want of memory, or says which fault the text has; so a
-/// script is answered exactly where the bytes are one of the accepted form, unless memory runs out.
-pub fn read_script(alloc: Global, text: &[u8]) -> Result<Script, ReadRefusal>
-    ensures script { IfOk result (λ script. Accepts text.now script) }
-    ensures refused { IfErr result (λ refusal. IsRefusalOf text.now refusal) }
-{
-    if text.len() > MAX_BYTES {
-        return Err(ReadRefusal::Fault(LATER));
-    }
-    let Ok(text) = str::from_utf8(text) else {
-        return Err(ReadRefusal::Fault(LATER));
-    };
-    match script(alloc, text) {
-        Ok(Some(script)) => Ok(script),
-        Ok(None) => Err(ReadRefusal::Fault(LATER)),
-        Err(_) => Err(ReadRefusal::NoMemory),
-    }
-}
-
-/// The bytes are at most one script.
-pub fn one_script()
-    ensures { (text : List ℕ) (a b : ScriptValue) → Accepts text a → Accepts text b → a ≡ b }
-{}

@@ -1,0 +1,43 @@
+-- What holds of each element of a list, and sums over lists, as lists grow.
+use Rattle.std.proofs.Common.{◌≡◌, ℕ, zero, suc, ◌+◌, Bool, true, false, cond, ◌||◌, List, [], ◌∷◌, ◌++◌, length, replicate, slice_get, count_by, refl, ap, subst, ◌∙◌, Some, arith}
+use Rattle.std.specs.List.{AllByRecursion, list_any}
+use Rattle.std.proofs.lemmas.List.Sums.{sum_by-cons}
+
+module _ {X : Type 0} (P : X → Type 0) where
+  pub each_append : (xs ys : List X) → AllByRecursion P xs → AllByRecursion P ys → AllByRecursion P (xs ++ ys)
+  each_append [] ys h g = g
+  each_append (x ∷ xs) ys h g = (h.0, each_append xs ys h.1 g)
+
+  pub each_replicate : (n : ℕ) (x : X) → P x → AllByRecursion P (replicate n x)
+  each_replicate zero x p = tt
+  each_replicate (suc n) x p = (p, each_replicate n x p)
+
+  pub each_like : (Q : X → Type 0) (xs : List X) → ((x : X) → P x → Q x) → AllByRecursion P xs → AllByRecursion Q xs
+  each_like Q [] more h = tt
+  each_like Q (x ∷ xs) more h = (more x h.0, each_like Q xs more h.1)
+
+  -- one element is another
+  pub each_at : (xs : List X) (k : ℕ) (x : X) → slice_get xs k ≡ Some x → AllByRecursion P xs → P x
+  each_at [] k x e h = absurd cc
+  each_at (y ∷ xs) zero x e h = let same : y ≡ x = cc in subst P same h.0
+  each_at (y ∷ xs) (suc k) x e h = each_at xs k x e h.1
+
+-- of three tests of which each element passes one at most, and passes one
+module _ {X : Type 0} (p q r : X → Bool) (one : (x : X) → cond (p x) 1 0 + cond (q x) 1 0 + cond (r x) 1 0 ≡ 1) where
+  pub counts_add : (xs : List X) → length xs ≡ count_by p xs + count_by q xs + count_by r xs
+  counts_add [] = refl
+  counts_add (x ∷ xs) =
+      let rest = counts_add xs in
+      let here = one x in
+      omega (arith, sum_by-cons (λ y. cond (p y) 1 0) x xs, sum_by-cons (λ y. cond (q y) 1 0) x xs, sum_by-cons (λ y. cond (r y) 1 0) x xs)
+
+pub neither : (a b : Bool) → (a || b) ≡ false → (a ≡ false) × (b ≡ false)
+neither true b f = absurd cc
+neither false b f = (refl, f)
+
+pub none_count : {X : Type 0} (p : X → Bool) (xs : List X) → list_any p xs ≡ false → count_by p xs ≡ 0
+none_count p [] e = refl
+none_count p (x ∷ xs) e =
+    let h = neither (p x) (list_any p xs) e in
+    let rest = none_count p xs h.1 in
+    sum_by-cons (λ y. cond (p y) 1 0) x xs ∙ ap (λ b. cond b 1 0 + count_by p xs) h.0 ∙ omega arith
