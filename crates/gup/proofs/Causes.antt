@@ -11,7 +11,7 @@ use Rattle.gup_plain.specs.declared.note.What.{What}
 use Rattle.gup_plain.specs.declared.note.What.TheVariants.{Silent, Idle, Wait, Event, Done}
 use Rattle.gup_script.specs.declared.op.Op.{Op}
 use Rattle.gup_script.specs.Script.{ScriptValue, Actor}
-use Rattle.gup_script.specs.FirstPath.{IsFirstPath}
+use Rattle.gup.specs.FirstPath.{IsFirstPath}
 use Rattle.gup_follows.specs.Place.{Place, ops_in, ops_of, process_of, present_op}
 use Rattle.gup_plain.specs.Denial.{is_denial}
 use Rattle.gup_follows.specs.Denial.{denial}

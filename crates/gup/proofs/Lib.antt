@@ -7,3 +7,4 @@ pub mod Underway
 pub mod Told
 pub mod Free
 pub mod Causes
+pub mod FirstPaths

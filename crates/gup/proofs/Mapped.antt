@@ -7,9 +7,9 @@ use Rattle.gup_plain.specs.State.{Birth}
 use Rattle.gup_plain.specs.declared.answer.Answer.{Answer}
 use Rattle.gup_plain.specs.declared.answer.Answer.TheVariants as answers
 use Rattle.gup_script.specs.declared.op.Op.{Op}
-use Rattle.gup_script.specs.declared.op.Op.TheVariants.{Map, Unmap, Load, Store}
-use Rattle.gup_script.specs.Grammar.{IsOp}
-use Rattle.gup_script.specs.FirstPath.{IsOfPage}
+use Rattle.gup_script.specs.declared.op.Op.TheVariants.{Map, Unmap, Protect, Discard, Load, Store, Exit}
+use Rattle.gup_script.specs.Valid.{IsOp}
+use Rattle.gup_script.specs.OnePage.{IsOfPage}
 use Rattle.gup_events.specs.State.{CoreState}
 use Rattle.gup_plain.specs.Denial.{any_mapped, map_denial}
 use Rattle.gup_turns.specs.Turn.{map_turn_by, unmap_turn_by, load_turn, store_turn, free_frame, lowest, turn_at, turn_of, op_turn}
@@ -143,6 +143,9 @@ op-born-shown s p page (Store at word value) r e ws of is some h =
     let P : ℕ → Type 0 = λ g. Shown (stored (allows_store e) r e word value (page_of r e ws)) (store_whats p g word value (store_answer (allows_store e) r)) p page s (store_turn s 0 p g word value (s.entry p g)) in
     let Q : Option Entry → Type 0 = λ o. Shown (stored (allows_store e) r e word value (page_of r e ws)) (store_whats p page word value (store_answer (allows_store e) r)) p page s (store_turn s 0 p page word value o) in
     subst P (sym of) (subst Q (sym h.entry) (store-allowed-shown (allows_store e) s p page word value r e ws refl is.1 (free-first s p page r e ws some h) h))
+op-born-shown s p page (Protect first n rights) r e ws of is some h = absurd of
+op-born-shown s p page (Discard first n) r e ws of is some h = absurd of
+op-born-shown s p page Exit r e ws of is some h = absurd of
 
 -- the turn of an operation that names the page is what the machine's page does
 pub op-shown : (s : CoreState) (p page : ℕ) (op : Op) (v : PageValue) → IsOfPage page op → IsOp op → 1 ≤ s.movable + s.normal → ShowsPage v p page s

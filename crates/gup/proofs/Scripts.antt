@@ -6,8 +6,9 @@ use Rattle.std.proofs.Common.{inl, inr}
 use Rattle.gup_script.specs.declared.op.Op.{Op}
 use Rattle.gup_script.specs.declared.op.Kind.{Kind}
 use Rattle.gup_script.specs.Script.{ScriptValue, Actor, actor_at}
-use Rattle.gup_script.specs.FirstPath.{IsFirstPath, IsOfPage}
-use Rattle.gup_script.specs.Grammar.{IsOp}
+use Rattle.gup.specs.FirstPath.{IsFirstPath}
+use Rattle.gup_script.specs.OnePage.{IsOfPage}
+use Rattle.gup_script.specs.Valid.{IsOp}
 use Rattle.gup_script.specs.Valid.{IsScript}
 use Rattle.gup_turns.proofs.Scripts.{all_at}
 use Rattle.gup_follows.specs.Place.{ops_in, ops_of, process_in, process_of, process_of_kind}
@@ -27,14 +28,14 @@ process_found script a kind h each =
       | inr past ↦ absurd (omega (arith, past.0))
     ]
 
--- the one actor of the first path has number 0, and at most 1,024 operations, which name one page
+-- the one actor of the first path has number 0, and at most 16,384 operations, which name one page
 pub actor_is_first : (script : ScriptValue) (a : ℕ) → IsFirstPath script → a < length script.actors → a ≡ 0
 actor_is_first script a form h = let one = form.one_actor in omega arith
 
-pub few_ops : (script : ScriptValue) → IsFirstPath script → length (ops_of script 0) ≤ 1024
-few_ops script form = of_actor (actor_at script 0) (λ x is. all_at (λ (x : Actor). length x.ops ≤ 1024) script.actors 0 x form.few_ops is)
+pub few_ops : (script : ScriptValue) → IsFirstPath script → length (ops_of script 0) ≤ 16384
+few_ops script form = of_actor (actor_at script 0) (λ x is. all_at (λ (x : Actor). length x.ops ≤ 16384) script.actors 0 x form.few_ops is)
   where
-    of_actor : (o : Option Actor) → ((x : Actor) → o ≡ Some x → length x.ops ≤ 1024) → length (ops_in o) ≤ 1024
+    of_actor : (o : Option Actor) → ((x : Actor) → o ≡ Some x → length x.ops ≤ 16384) → length (ops_in o) ≤ 16384
     of_actor None h = omega arith
     of_actor (Some x) h = h x refl
 

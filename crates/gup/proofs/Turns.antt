@@ -11,10 +11,10 @@ use Rattle.gup_plain.specs.declared.event.PlainEvent.{PlainEvent}
 use Rattle.gup_plain.specs.declared.event.PlainEvent.TheVariants as events
 use Rattle.gup_plain.specs.declared.note.What.{What}
 use Rattle.gup_script.specs.declared.op.Op.{Op}
-use Rattle.gup_script.specs.declared.op.Op.TheVariants.{Map, Unmap, Load, Store}
+use Rattle.gup_script.specs.declared.op.Op.TheVariants.{Map, Unmap, Protect, Discard, Load, Store, Exit}
 use Rattle.gup_script.specs.Script.{ScriptValue}
 use Rattle.gup_script.specs.Valid.{IsScript}
-use Rattle.gup_script.specs.FirstPath.{IsFirstPath}
+use Rattle.gup.specs.FirstPath.{IsFirstPath}
 use Rattle.gup_events.specs.State.{CoreState}
 use Rattle.gup_events.specs.Event.{CoreEvent, happens, take_frame, fill, upgrade, put_entry, map_pages, drop_entry, load, store}
 use Rattle.gup_follows.specs.Place.{Place, place_behind, process_of, ops_of}
@@ -152,6 +152,9 @@ op_answered p v (Map page n rights) = map_answered p page n rights (map_answer v
 op_answered p v (Unmap page n) = unmap_answered p page v.rights
 op_answered p v (Load page word) = load_answered p page word (load_answer v.entry v.rights v.words word) (load_known v.entry v.rights v.words word)
 op_answered p v (Store page word value) = store_answered p page word value (store_answer (allows_store v.entry) v.rights) (store_known (allows_store v.entry) v.rights)
+op_answered p v (Protect page n rights) = (None, answers.Plain, tt, refl)
+op_answered p v (Discard page n) = (None, answers.Plain, tt, refl)
+op_answered p v Exit = (None, answers.Plain, tt, refl)
 
 -- what a turn by this operation, or by none, says and leaves
 record TurnShown (m : MachineValue) (page : ℕ) (r : RunState) (o : Option Op) (t : Taken) : Type 0 where

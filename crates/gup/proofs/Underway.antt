@@ -8,11 +8,11 @@ use Rattle.gup_plain.specs.Note.{NoteValue}
 use Rattle.gup_plain.specs.State.{born, unborn}
 use Rattle.gup_script.specs.declared.op.Op.{Op}
 use Rattle.gup_script.specs.declared.op.Kind.{Kind}
-use Rattle.gup_script.specs.declared.op.Kind.TheVariants.{Thread}
+use Rattle.gup_script.specs.declared.op.Kind.TheVariants.{Thread, Device, Mover}
 use Rattle.std.proofs.Common.{inl, inr}
 use Rattle.gup_script.specs.Script.{ScriptValue, Actor, Process}
 use Rattle.gup_script.specs.Valid.{IsScript, KindFits}
-use Rattle.gup_script.specs.FirstPath.{IsFirstPath}
+use Rattle.gup.specs.FirstPath.{IsFirstPath}
 use Rattle.gup_follows.specs.Place.{Place, ops_of, process_of, process_in, process_of_kind, starts_born, is_born, has_finished}
 use Rattle.gup_follows.specs.Follows.{notes_of_turn}
 use Rattle.gup_follows.specs.Order.{Turn, journal_of}
@@ -58,6 +58,8 @@ process_born script valid form =
 
     fits : (kind : Kind) → KindFits script kind → process_of_kind kind < length script.processes
     fits (Thread p) h = h
+    fits (Device slots) h = let one = form.one_process in omega arith
+    fits Mover h = let one = form.one_process in omega arith
 
 pub underway-first : (script : ScriptValue) (page : ℕ) → IsScript script → IsFirstPath script → Underway script (first_machine script) [] page (run_start script)
 underway-first script page valid form =
@@ -130,7 +132,7 @@ underway-turn script m n notes told page r turn actor op form going after noted 
       | inl there ↦
           let next : next_op m ≡ Some there.0 = ap (λ (s : ScriptValue). slice_get (ops_of s 0) m.answered) u.same ∙ there.2 in
           let is : n ≡ machine_by m (Some there.0) = after ∙ ap (machine_by m) next in
-          let few : length (ops_of script 0) ≤ 1024 = few_ops script form in
+          let few : length (ops_of script 0) ≤ 16384 = few_ops script form in
           let same : n.script ≡ script = ap (λ (k : MachineValue). k.script) is ∙ u.same in
           let went : n.turns ≡ counted m.turns = ap (λ (k : MachineValue). k.turns) is in
           let answered : n.answered ≡ m.answered + 1 = ap (λ (k : MachineValue). k.answered) is in

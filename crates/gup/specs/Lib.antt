@@ -1,3 +1,4 @@
+pub mod FirstPath
 pub mod Text
 pub mod Page
 pub mod Machine

@@ -13,8 +13,9 @@ use Rattle.gup_plain.specs.declared.answer.Answer.TheVariants as answers
 use Rattle.gup_plain.specs.declared.note.What.{What}
 use Rattle.gup_plain.specs.declared.note.What.TheVariants.{Idle, Event, Done}
 use Rattle.gup_script.specs.declared.op.Op.{Op}
-use Rattle.gup_script.specs.declared.op.Op.TheVariants.{Map, Unmap, Load, Store}
-use Rattle.gup_script.specs.FirstPath.{IsOfPage, IsFirstPath}
+use Rattle.gup_script.specs.declared.op.Op.TheVariants.{Map, Unmap, Protect, Discard, Load, Store, Exit}
+use Rattle.gup.specs.FirstPath.{IsFirstPath}
+use Rattle.gup_script.specs.OnePage.{IsOfPage}
 use Rattle.gup_script.specs.Valid.{IsScript}
 use Rattle.gup_script.specs.Script.{ScriptValue, Actor}
 use Rattle.gup_events.specs.State.{CoreState}
@@ -93,12 +94,19 @@ op_whats p value (Map page n rights) = map_whats p page n rights (map_answer val
 op_whats p value (Unmap page n) = unmap_whats p page value.rights
 op_whats p value (Load page word) = load_whats p page word (load_answer value.entry value.rights value.words word)
 op_whats p value (Store page word new) = store_whats p page word new (store_answer (allows_store value.entry) value.rights)
+-- no script that the machine runs has one of these
+op_whats p value (Protect page n rights) = Done answers.Plain ∷ []
+op_whats p value (Discard page n) = Done answers.Plain ∷ []
+op_whats p value Exit = Done answers.Plain ∷ []
 
 abbrev pub page_after : PageValue → Op → PageValue
 page_after value (Map page n rights) = mapped value.rights rights value
 page_after value (Unmap page n) = unmapped value
 page_after value (Load page word) = loaded value.entry value.rights value
 page_after value (Store page word new) = stored (allows_store value.entry) value.rights value.entry word new value
+page_after value (Protect page n rights) = value
+page_after value (Discard page n) = value
+page_after value Exit = value
 
 abbrev pub whats_by : MachineValue → Option Op → List What
 whats_by m None = Idle ∷ []

@@ -15,7 +15,7 @@ use Rattle.gup_script.specs.declared.refusal.Reason.{Reason}
 use Rattle.gup_script.specs.declared.refusal.Reason.TheVariants as reasons
 use Rattle.gup_script.specs.declared.refusal.ScriptFault.{ScriptFault}
 use Rattle.gup_script.specs.Script.{ScriptValue}
-use Rattle.gup_script.specs.FirstPath.{Accepts}
+use Rattle.gup.specs.FirstPath.{Runs, IsRefused}
 
 -- The one command so far: the word `run` alone.
 abbrev pub IsRun : List (List ℕ) → Type 0
@@ -52,12 +52,12 @@ refusal_text fault = codes "line " ++ decimal fault.line ++ codes ": " ++ reason
 -- Where the source tells its bytes, this holds of the script that they are, if they are one.
 abbrev pub OfScript : Option (List ℕ) → (ScriptValue → Type 0) → Type 0
 OfScript None P = Unit {0}
-OfScript (Some bytes) P = (script : ScriptValue) → Accepts bytes script → P script
+OfScript (Some bytes) P = (script : ScriptValue) → Runs bytes script → P script
 
 -- Where the source tells its bytes, they are a script.
 abbrev pub AreScript : Option (List ℕ) → Type 0
 AreScript None = Unit {0}
-AreScript (Some bytes) = (script : ScriptValue) × Accepts bytes script
+AreScript (Some bytes) = (script : ScriptValue) × Runs bytes script
 
 -- the journal is the script's core run, in which every actor has finished
 abbrev pub IsFinishedRun : ScriptValue → List NoteValue → Type 0
@@ -66,11 +66,12 @@ IsFinishedRun script notes = (end : RunState) × IsCoreRun script notes end × H
 -- where the source tells its bytes, they are this script
 abbrev pub IsScriptOf : Option (List ℕ) → ScriptValue → Type 0
 IsScriptOf None script = Unit {0}
-IsScriptOf (Some bytes) script = Accepts bytes script
+IsScriptOf (Some bytes) script = Runs bytes script
 
--- The fault that a script is refused for so far, and why: where the source tells its bytes, they are no script.
+-- Why a script is refused: where the source tells its bytes, they are, for this fault.
 abbrev pub IsRefusedFor : Option (List ℕ) → ScriptFault → Type 0
-IsRefusedFor told fault = (fault.line ≡ 0) × (fault.reason ≡ reasons.Later) × OfScript told (λ script. ⊥)
+IsRefusedFor None fault = Unit {0}
+IsRefusedFor (Some bytes) fault = IsRefused bytes fault
 
 -- why there is no script: a read failed, the bytes are none, or memory ran out
 abbrev pub IsUnreadFor : Option (List ℕ) → (faults faults_after : ℕ) → Unread → Type 0

@@ -3,7 +3,8 @@ ghost use Rattle.std.specs.Prelude.{◌≡◌, ℕ, ◌+◌, ◌-◌, ◌^◌, �
 ghost use Rattle.gup_follows.specs.Place.{ops_of, process_of, process_of_kind, has_finished};
 ghost use Rattle.gup_follows.specs.Follows.{notes_of_turn};
 ghost use Rattle.gup_script.specs.Valid.{IsScript};
-ghost use Rattle.gup_script.specs.FirstPath.{IsFirstPath};
+ghost use Rattle.gup_script.specs.OnePage.{IsOnePage};
+ghost use Rattle.gup.specs.FirstPath.{IsFirstPath};
 ghost use Rattle.gup_turns.specs.Run.{RunState, waiting_in};
 ghost use Rattle.gup.specs.Machine.{MachineValue, NamesOnly, Shows, TakesTurn, free_in, free_beside, counted, op_whats, whats_of, page_after, next_op, machine_whats, machine_after, first_machine};
 
@@ -37,6 +38,8 @@ impl Model for Machine {
 impl Machine {
     /// A machine at the start of the script: all frames are free, and nothing is mapped.
     pub fn new(alloc: Global, script: &Script) -> Result<Machine, NoMemory>
+        requires one_page { IsOnePage script.now }
+        requires one_actor { length script.now.actors ≡ 1 }
         ensures { IfOk result (λ machine. machine ≡ first_machine script.now) }
     {
         Ok(Machine {
@@ -110,7 +113,7 @@ impl Machine {
         ensures first { actor ≡ 0 }
         ensures valid { IsScript self.now.script }
         ensures form { IsFirstPath self.now.script }
-        ensures few { self.now.answered ≤ 1024 }
+        ensures few { self.now.answered ≤ 16384 }
         ensures more { IfSome result (λ _. self.now.answered < length (ops_of self.now.script 0)) }
     {
         op_at(ops(&self.script, actor), self.answered as usize)
@@ -171,6 +174,7 @@ fn process_named(kind: Kind) -> ProcNo
 {
     match kind {
         Kind::Thread(proc) => proc,
+        Kind::Device(_) | Kind::Mover => ProcNo::new(0).unwrap(),
     }
 }
 
@@ -181,6 +185,8 @@ fn take(page: &mut Page, actor: ActorNo, proc: ProcNo, op: Op) -> (Option<PlainE
     ensures whats { whats_of result.0 result.1 ≡ op_whats proc page.old op }
 {
     match op {
+        // No script that the machine runs has one of these.
+        Op::Protect { .. } | Op::Discard { .. } | Op::Exit => (None, Answer::Plain),
         Op::Map {
             page: first,
             n,

@@ -3,6 +3,7 @@ ghost use Rattle.std.specs.Prelude.{◌≡◌, ℕ, ◌++◌, false, length, IfO
 ghost use Rattle.gup_plain.specs.Note.{NoteValue};
 ghost use Rattle.gup_turns.specs.Run.{RunState, IsCoreRun};
 ghost use Rattle.gup.specs.Machine.{first_machine};
+ghost use Rattle.gup.specs.FirstPath.{IsFirstPath};
 ghost use Rattle.gup.specs.Cause.{AreKnown, operations};
 ghost use Rattle.gup.specs.Ran.{HaveFinished};
 ghost use Rattle.gup.specs.Text.{outcomes_of};
@@ -24,7 +25,8 @@ pub struct Run {
 
 /// Runs the machine to the end of the script. A script of the first path is never stuck.
 pub fn run_all(alloc: Global, machine: Machine, script: &Script) -> Result<Run, NoMemory>
-    requires { machine ≡ first_machine script.now }
+    requires new { machine ≡ first_machine script.now }
+    requires form { IsFirstPath script.now }
     ensures core { IfOk result (λ run. (end : RunState) × IsCoreRun script.now run.journal.notes end × HaveFinished script.now end) }
     // Each operation is answered once, and each refusal has its cause in the plain state.
     ensures known { IfOk result (λ run. AreKnown run.journal.notes) }

@@ -19,51 +19,45 @@ const FIRST: &str =
 
 const FIRST_TEXT: &str = "t 1 ok\nt 2 ok 0\nt 3 ok\nt 4 ok 7\nt 5 ok\nt 6 missing\n";
 
-const REFUSED: &str = "line 0: later\n";
-
-/// Scripts, with the status and the text of their runs.
-const SCRIPTS: [(&str, u8, &str); 9] = [
-    ("gup 1\nframes 8 8 64\nprocess p\nthread t p\n", 0, ""),
+/// Scripts of the one page that the machine runs, with the texts of their runs.
+const RUNS: [(&str, &str); 6] = [
+    ("gup 1\nframes 8 8 64\nprocess p\nthread t p\n", ""),
+    ("gup 1\nframes 8 8 64\n", ""),
     (
-        "gup 1\nframes 8 8 64\nprocess p\nthread t p\n\n",
-        3,
-        REFUSED,
-    ),
-    (
-        "gup 1\nframes 8 8 64\n# one\nprocess p\nthread t p\n",
-        3,
-        REFUSED,
-    ),
-    (
-        "gup 1\nframes 8 8 64\nprocess p\nthread t p\non t map 5 1 rw\non t load 6.0\n",
-        3,
-        REFUSED,
-    ),
-    (
-        "gup 1\nframes 8 8 64\nprocess p\nthread t p\non t load 5.0",
-        3,
-        REFUSED,
+        "\n# one page\ngup 1\n\nframes 8 8 64\nseed 7\nprocess p\n# and one thread\nthread t p\non t load 5.0\n\n",
+        "t 1 missing\n",
     ),
     (
         "gup 1\nframes 8 8 64\nprocess p\nthread t p\non t map 34359738367 1 rw\non t store 34359738367.511 18446744073709551615\non t load 34359738367.511\n",
-        0,
         "t 1 ok\nt 2 ok\nt 3 ok 18446744073709551615\n",
     ),
     (
-        "gup 1\nframes 8 8 64\nprocess p\nthread t p\non t store 5.0 18446744073709551616\n",
-        3,
-        REFUSED,
-    ),
-    (
         "gup 1\nframes 1 0 64\nprocess p\nthread t p\non t map 5 1 rw\non t store 5.3 7\non t load 5.3\non t unmap 5 1\non t load 5.3\non t map 5 1 rw\non t load 5.3\non t map 5 1 rw\n",
-        0,
         "t 1 ok\nt 2 ok\nt 3 ok 7\nt 4 ok\nt 5 missing\nt 6 ok\nt 7 ok 0\nt 8 overlap\n",
     ),
     (
         "gup 1\nframes 0 1 64\nprocess p\nthread t p\non t unmap 5 1\non t store 5.0 1\n",
-        0,
         "t 1 ok\nt 2 missing\n",
     ),
+];
+
+/// Texts that are refused, with the line and the reason: no script, or one that the machine can't run yet.
+const REFUSALS: [(&str, u32, Reason, &str); 15] = [
+    ("", 1, Reason::Short, "line 1: short\n"),
+    ("gup 1\n", 2, Reason::Short, "line 2: short\n"),
+    ("gup 1\nframes 8 8 64\nprocess p", 3, Reason::End, "line 3: end\n"),
+    ("gup 1\nframes 8 8 64\nprocess p\nthread t p\non t load 34359738368.0\n", 5, Reason::Number, "line 5: number\n"),
+    ("gup 1\nframes 8 8 64\nprocess p\nthread t p\non t store 5.0 18446744073709551616\n", 5, Reason::Number, "line 5: number\n"),
+    ("gup 1\nframes 8 8 64\nprocess p\nprocess q\nthread t r\n", 5, Reason::Name, "line 5: name\n"),
+    ("gup 1\nframes 8 8 64\nprocess p\nprocess q\nthread t q\n", 4, Reason::Later, "line 4: later\n"),
+    ("gup 1\nframes 8 8 64\nchild c\n", 3, Reason::Later, "line 3: later\n"),
+    ("gup 1\nframes 8 8 64\nprocess p\nthread t p\nthread v p\n", 5, Reason::Later, "line 5: later\n"),
+    ("gup 1\nframes 8 8 64\ndevice d 8\n", 3, Reason::Later, "line 3: later\n"),
+    ("gup 1\nframes 0 0 64\n", 2, Reason::Later, "line 2: later\n"),
+    ("gup 1\nframes 8 8 64\nprocess p\nthread t p\non t map 5 1 rw\non t load 6.0\non t load 5.0\n", 6, Reason::Later, "line 6: later\n"),
+    ("gup 1\nframes 8 8 64\nprocess p\nthread t p\non t map 5 1 r\n", 5, Reason::Later, "line 5: later\n"),
+    ("gup 1\nframes 8 8 64\nprocess p\nthread t p\non t exit\n", 5, Reason::Later, "line 5: later\n"),
+    ("gup 1\nframes 8 8 64\nprocess p\nthread t p\nturns t*3\n", 5, Reason::Later, "line 5: later\n"),
 ];
 
 /// Gives one byte a read, and fails at the read that has number `fails`, from 1.
@@ -174,29 +168,32 @@ fn words_that_are_no_command(rt: HostRuntime) -> Result<(), Fail> {
 
 #[test]
 fn scripts(rt: HostRuntime) -> Result<(), Fail> {
-    for (script, status, text) in SCRIPTS {
-        let report = expect(&rt, rt.alloc(), &["run"], script, status, text)?;
-        let later = ScriptFault {
-            line: 0,
-            reason: Reason::Later,
-        };
-        let refusal = (status == 3).then_some(later);
-        assert_eq!(rt; report.refusal, refusal, "{script}");
+    for (script, text) in RUNS {
+        let report = expect(&rt, rt.alloc(), &["run"], script, 0, text)?;
+        assert_eq!(rt; report.refusal, None, "{script}");
     }
     Ok(())
 }
 
 #[test]
-fn most_operations(rt: HostRuntime) -> Result<(), Fail> {
+fn refusals(rt: HostRuntime) -> Result<(), Fail> {
+    for (script, line, reason, text) in REFUSALS {
+        let report = expect(&rt, rt.alloc(), &["run"], script, 3, text)?;
+        assert_eq!(rt; report.refusal, Some(ScriptFault { line, reason }), "{script}");
+        assert!(rt; report.journal.notes().is_empty());
+    }
+    Ok(())
+}
+
+#[test]
+fn many_operations(rt: HostRuntime) -> Result<(), Fail> {
     let mut script = String::from_str(rt.alloc(), HEAD)?;
     let mut text = String::new(rt.alloc());
-    for k in 1..=1_024 {
+    for k in 1..=1_100 {
         script.push_str("on t load 5.0\n")?;
         text.push_str(format!(in rt.alloc(); "t {k} missing\n")?.as_str())?;
     }
     expect(&rt, rt.alloc(), &["run"], script.as_str(), 0, text.as_str())?;
-    script.push_str("on t load 5.0\n")?;
-    expect(&rt, rt.alloc(), &["run"], script.as_str(), 3, REFUSED)?;
     Ok(())
 }
 
@@ -273,7 +270,9 @@ fn first_turn(rt: HostRuntime) -> Result<(), Fail> {
     let script = read_script(rt.alloc(), FIRST.as_bytes())
         .ok()
         .ok_or("the text is a script")?;
-    let _actors = script.actors();
+    if !script.is_one_page() || script.actors() != 1 {
+        return Err("the script is of one page and one actor".into());
+    }
     let actor = ActorNo::new(0).ok_or("an actor")?;
     let mut machine = Machine::new(rt.alloc(), &script)?;
     assert_eq!(rt; machine.waits(actor), None);

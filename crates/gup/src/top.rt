@@ -4,12 +4,13 @@ ghost use Rattle.std.specs.Io.KnownBytes.{Appends};
 ghost use Rattle.gup_io.specs.Transfers.{Loses, AppendsPart};
 ghost use Rattle.gup_io.specs.Faults.{HasCause};
 ghost use Rattle.gup_script.specs.Script.{ScriptValue};
-ghost use Rattle.gup_script.specs.FirstPath.{Accepts, HasFault};
+ghost use Rattle.gup_script.specs.OnePage.{IsOnePage};
 ghost use Rattle.gup_follows.specs.Plain.{IsPlain};
 ghost use Rattle.gup_follows.specs.Follows.{Follows};
 ghost use Rattle.gup_follows.specs.Order.{InOrder};
 ghost use Rattle.gup.specs.Cause.{HasCauses, operations};
 ghost use Rattle.gup.specs.Text.{text_of, outcomes_of};
+ghost use Rattle.gup.specs.FirstPath.{Runs, IsRefusalFor};
 ghost use Rattle.gup.specs.Report.{IsRun, IsStatus, OfScript, AreScript, IsFinishedRun, IsRunOf, IsScriptOf, IsUnreadFor, IsRefusedFor, IsReadThrough, IfFault, usage, refusal_text};
 
 use crate::lines::{journal_text, refusal_line};
@@ -18,7 +19,10 @@ use crate::run::run_all;
 use gup_base::NoMemory;
 use gup_io::{ReadToEnd, Sink, Source, read_up_to, write_all};
 use gup_plain::Journal;
-use gup_script::{ReadRefusal, Script, ScriptFault, one_script, read_script};
+use gup_script::{
+    ReadRefusal, Reason, Script, ScriptFault, first_line_beyond, one_script, read_script,
+    scripts_have_no_fault,
+};
 use gup_turns::{core_run_follows, core_run_is_in_order, core_run_is_plain};
 use std::alloc::Global;
 
@@ -77,6 +81,7 @@ enum Unread {
 // Reads the source to its end, or past the length of a script, and the script that its bytes are.
 fn read<S: Source>(alloc: Global, source: &mut S) -> Result<Script, Unread>
     ensures script { IfOk result (λ script. IsScriptOf (S.remaining source.old) script) }
+    ensures one_page { IfOk result (λ script. IsOnePage script) }
     ensures unread { IfErr result
         (λ why. IsUnreadFor (S.remaining source.old) (S.faults source.old) (S.faults source.new) why) }
     ensures reading { Loses 0 1048577 (S.remaining source.old) (S.remaining source.new) }
@@ -90,22 +95,50 @@ fn read<S: Source>(alloc: Global, source: &mut S) -> Result<Script, Unread>
         Err(ReadToEnd::Failed) => return Err(Unread::Failed),
         Err(ReadToEnd::NoMemory) => return Err(Unread::NoMemory),
     };
-    match read_script(alloc, text.as_slice()) {
+    match runnable(alloc, text.as_slice()) {
         Ok(script) => Ok(script),
         Err(ReadRefusal::Fault(fault)) => Err(Unread::Fault(fault)),
         Err(ReadRefusal::NoMemory) => Err(Unread::NoMemory),
     }
 }
 
-// Runs the script: its journal, and the journal's text.
+// The script that the bytes spell, where the machine can run it. Else it is refused as one that comes later, at the
+// first line that the machine lacks.
+fn runnable(alloc: Global, text: &[u8]) -> Result<Script, ReadRefusal>
+    ensures script { IfOk result (λ script. Runs text.now script) }
+    ensures refused { IfErr result (λ refusal. IsRefusalFor text.now refusal) }
+{
+    let script = read_script(alloc, text)?;
+    if script.is_one_page() {
+        return Ok(script);
+    }
+    match first_line_beyond(alloc, text) {
+        Ok(line) => Err(ReadRefusal::Fault(later(line))),
+        Err(_) => Err(ReadRefusal::NoMemory),
+    }
+}
+
+fn later(line: u32) -> ScriptFault
+    ensures { result ≡ record { line = line; reason = Reason.Later } }
+{
+    ScriptFault {
+        line,
+        reason: Reason::Later,
+    }
+}
+
+// Runs the script: its journal, and the journal's text. Where there is no actor, there is nothing to run.
 fn run_script(alloc: Global, script: &Script) -> Result<(Journal, Vec<u8>), NoMemory>
+    requires { IsOnePage script.now }
     ensures run { IfOk result (λ run. IsRunOf script.now run.0.notes) }
     ensures text { IfOk result (λ run. run.1.items ≡ text_of script.now run.0.notes) }
 {
     core_run_follows();
     core_run_is_in_order();
     core_run_is_plain();
-    let _actors = script.actors();
+    if script.actors() == 0 {
+        return Ok((Journal::new(alloc), Vec::new(alloc)));
+    }
     let machine = Machine::new(alloc, script)?;
     let run = run_all(alloc, machine, script)?;
     let text = journal_text(alloc, script, &run.journal)?;
@@ -136,6 +169,7 @@ fn refuse<K: Sink>(alloc: Global, sink: &mut K, fault: ScriptFault) -> Report
 
 // Runs the script, and writes its answers.
 fn run_and_write<K: Sink>(alloc: Global, sink: &mut K, script: &Script) -> Report
+    requires { IsOnePage script.now }
     ensures statuses { (result.status ≡ 0) ⊎ (result.status ≡ 6) ⊎ (result.status ≡ 7) }
     ensures refusal { result.refusal ≡ None }
     ensures run { (result.status ≡ 7 → ⊥) → IsRunOf script.now result.journal.notes }
@@ -261,6 +295,7 @@ pub fn gup<S: Source, K: Sink>(
         → result.journal.notes ≡ [] }
 {
     one_script();
+    scripts_have_no_fault();
     if !is_run(words) {
         return show_usage(alloc, sink);
     }

@@ -4,11 +4,12 @@ use Rattle.std.specs.Prelude.{◌≡◌, ℕ, ◌+◌, ◌==◌, ◌&&◌, ◌�
 use Rattle.gup_plain.specs.Note.{NoteValue}
 use Rattle.gup_plain.specs.declared.answer.Answer.{Answer}
 use Rattle.gup_plain.specs.declared.answer.Answer.TheVariants as answers
+use Rattle.gup_plain.specs.declared.event.PlainEvent.{PlainEvent}
 use Rattle.gup_plain.specs.declared.event.PlainEvent.TheVariants as events
 use Rattle.gup_plain.specs.declared.note.What.{What}
 use Rattle.gup_plain.specs.declared.note.What.TheVariants.{Silent, Idle, Wait, Event, Done}
 use Rattle.gup_script.specs.declared.op.Op.{Op}
-use Rattle.gup_script.specs.declared.op.Op.TheVariants.{Map, Unmap, Load, Store}
+use Rattle.gup_script.specs.declared.op.Op.TheVariants.{Map, Unmap, Protect, Discard, Load, Store, Exit}
 use Rattle.gup_script.specs.Script.{ScriptValue}
 use Rattle.gup_follows.specs.Place.{process_of, ops_of}
 
@@ -37,6 +38,7 @@ refuses (Store page word value) answers.Forbidden = true
 refuses (Store page word value) answers.NoFrame = true
 refuses (Map page n rights) answers.Overlap = true
 refuses (Map page n rights) answers.Full = true
+refuses (Protect page n rights) answers.Missing = true
 refuses op answers.Unborn = true
 refuses op answer = false
 
@@ -45,22 +47,28 @@ abbrev pub IsRefused : Who → Op → List NoteValue → Type 0
 IsRefused who op notes = (answer : Answer) × IsTrue (refuses op answer) × IsTurn who notes (Done answer ∷ [])
 
 -- one page in a turn: with its event, or passed in silence
-abbrev pub TakesDown : Who → ℕ → List NoteValue → Type 0
-TakesDown who page notes =
-    IsTurn who notes (Event (events.Unmap who.actor who.proc page) ∷ []) ⊎ IsTurn who notes (Silent ∷ [])
+abbrev pub TakesDown : Who → PlainEvent → List NoteValue → Type 0
+TakesDown who event notes = IsTurn who notes (Event event ∷ []) ⊎ IsTurn who notes (Silent ∷ [])
 
 -- the last page, with the answer
-abbrev pub TakesDownLast : Who → ℕ → List NoteValue → Type 0
-TakesDownLast who page notes =
-    IsTurn who notes (Event (events.Unmap who.actor who.proc page) ∷ Done answers.Plain ∷ [])
-    ⊎ IsTurn who notes (Done answers.Plain ∷ [])
+abbrev pub TakesDownLast : Who → PlainEvent → List NoteValue → Type 0
+TakesDownLast who event notes =
+    IsTurn who notes (Event event ∷ Done answers.Plain ∷ []) ⊎ IsTurn who notes (Done answers.Plain ∷ [])
 
--- n pages from this one on, one a turn, in rising order
-abbrev pub TakesDownAll : Who → (page n : ℕ) → List NoteValue → Type 0
-TakesDownAll who page zero notes = ⊥
-TakesDownAll who page (suc zero) notes = TakesDownLast who page notes
-TakesDownAll who page (suc (suc n)) notes =
-    (front rest : List NoteValue) × (notes ≡ front ++ rest) × TakesDown who page front × TakesDownAll who (page + 1) (suc n) rest
+-- n pages from this one on, one a turn, in rising order, each with this event
+abbrev pub TakesDownAll : Who → (ℕ → PlainEvent) → (page n : ℕ) → List NoteValue → Type 0
+TakesDownAll who event page zero notes = ⊥
+TakesDownAll who event page (suc zero) notes = TakesDownLast who (event page) notes
+TakesDownAll who event page (suc (suc n)) notes =
+    (front rest : List NoteValue) × (notes ≡ front ++ rest) × TakesDown who (event page) front
+    × TakesDownAll who event (page + 1) (suc n) rest
+
+-- so many pages, one a turn, and then the answer
+abbrev pub TakesDownWhole : Who → (pages : ℕ) → List NoteValue → Type 0
+TakesDownWhole who zero notes = IsTurn who notes (Done answers.Plain ∷ [])
+TakesDownWhole who (suc pages) notes =
+    (page : ℕ) × (front rest : List NoteValue) × (notes ≡ front ++ rest)
+    × IsTurn who front (Event (events.Unmap who.actor who.proc page) ∷ []) × TakesDownWhole who pages rest
 
 -- the shapes of an operation's notes
 abbrev pub Shape : Who → Op → List NoteValue → Type 0
@@ -73,7 +81,14 @@ Shape who (Store page word value) notes =
 Shape who (Map page n rights) notes =
     IsTurn who notes (Event (events.Map who.actor who.proc page n rights) ∷ Done answers.Plain ∷ [])
     ⊎ IsRefused who (Map page n rights) notes
-Shape who (Unmap page n) notes = TakesDownAll who page n notes ⊎ IsRefused who (Unmap page n) notes
+Shape who (Protect page n rights) notes =
+    IsTurn who notes (Event (events.Protect who.actor who.proc page n rights) ∷ Done answers.Plain ∷ [])
+    ⊎ IsRefused who (Protect page n rights) notes
+Shape who (Unmap page n) notes =
+    TakesDownAll who (events.Unmap who.actor who.proc) page n notes ⊎ IsRefused who (Unmap page n) notes
+Shape who (Discard page n) notes =
+    TakesDownAll who (events.Discard who.actor who.proc) page n notes ⊎ IsRefused who (Discard page n) notes
+Shape who Exit notes = ((pages : ℕ) × TakesDownWhole who pages notes) ⊎ IsRefused who Exit notes
 
 -- the notes are those of some of the operations, from the first on, each in one of its shapes
 abbrev pub Shapes : (actor proc number : ℕ) → List Op → List NoteValue → Type 0

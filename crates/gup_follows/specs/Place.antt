@@ -3,7 +3,7 @@ use Rattle.std.specs.Prelude.{ℕ, ◌+◌, Bool, true, false, List, [], ◌∷�
 use Rattle.gup_plain.specs.declared.note.What.{What}
 use Rattle.gup_plain.specs.declared.note.What.TheVariants.{Silent, Idle, Wait, Event, Done}
 use Rattle.gup_script.specs.declared.op.Kind.{Kind}
-use Rattle.gup_script.specs.declared.op.Kind.TheVariants.{Thread}
+use Rattle.gup_script.specs.declared.op.Kind.TheVariants.{Thread, Device, Mover}
 use Rattle.gup_script.specs.declared.op.Op.{Op}
 use Rattle.gup_script.specs.Script.{ScriptValue, Process, Actor, actor_at}
 
@@ -27,9 +27,11 @@ abbrev pub place_behind : Place → List What → Place
 place_behind place [] = place
 place_behind place (what ∷ whats) = place_behind (place_after place what) whats
 
--- the process of an actor
+-- The process of a thread. Devices and the mover are of none, and have no operations yet: nothing asks for theirs.
 abbrev pub process_of_kind : Kind → ℕ
 process_of_kind (Thread p) = p
+process_of_kind (Device slots) = 0
+process_of_kind Mover = 0
 
 abbrev pub process_in : Option Actor → ℕ
 process_in None = 0

@@ -9,7 +9,7 @@ use Rattle.gup_plain.specs.declared.answer.Answer.{Answer}
 use Rattle.gup_plain.specs.declared.note.What.{What}
 use Rattle.gup_plain.specs.declared.note.What.TheVariants.{Silent, Idle, Wait, Event, Done}
 use Rattle.gup_script.specs.declared.op.Op.{Op}
-use Rattle.gup_script.specs.declared.op.Op.TheVariants.{Map, Unmap, Load, Store}
+use Rattle.gup_script.specs.declared.op.Op.TheVariants.{Map, Unmap, Protect, Discard, Load, Store, Exit}
 use Rattle.gup_script.specs.Script.{ScriptValue}
 use Rattle.gup_follows.specs.Place.{Place, first_place, place_after, process_of, present_op, starts_born}
 use Rattle.gup_plain.specs.Denial.{is_denial}
@@ -25,9 +25,12 @@ IsSettled (growing parent) = ⊥
 -- Where an operation goes page by page, a turn without an event passes a page that is not named.
 abbrev pub Passes : PlainState → ℕ → Op → (far : ℕ) → Type 0
 Passes s p (Unmap page n) far = far < n → s.right p (page + far) ≡ None
+Passes s p (Discard page n) far = far < n → s.right p (page + far) ≡ None
 Passes s p (Map page n rights) far = Unit {0}
+Passes s p (Protect page n rights) far = Unit {0}
 Passes s p (Load page word) far = Unit {0}
 Passes s p (Store page word value) far = Unit {0}
+Passes s p Exit far = Unit {0}
 
 -- An answer without an event is the denial, if the plain state gives one, and else no denial.
 abbrev pub IsAnswerOf : Option Answer → Answer → Type 0

@@ -3,11 +3,13 @@ use Rattle.std.proofs.Common.{◌≡◌, ℕ, ◌+◌, ◌-◌, ◌<◌, ◌≤�
 use Rattle.std.proofs.Math.Seq.{drop-nil}
 use Rattle.gup_plain.specs.Note.{NoteValue}
 use Rattle.gup_plain.specs.State.{PlainState}
+use Rattle.gup_plain.specs.declared.event.PlainEvent.{PlainEvent}
+use Rattle.gup_plain.specs.declared.event.PlainEvent.TheVariants as events
 use Rattle.gup_plain.specs.declared.note.What.{What}
 use Rattle.gup_plain.specs.declared.note.What.TheVariants.{Idle, Wait}
 use Rattle.gup_plain.specs.declared.note.Waiting.{Waiting}
 use Rattle.gup_script.specs.declared.op.Op.{Op}
-use Rattle.gup_script.specs.declared.op.Op.TheVariants.{Map, Unmap, Load, Store}
+use Rattle.gup_script.specs.declared.op.Op.TheVariants.{Map, Unmap, Protect, Discard, Load, Store, Exit}
 use Rattle.gup_follows.specs.Follows.{Who, IsRefused, TakesDown, TakesDownLast, TakesDownAll, Shape, Shapes, own_notes, notes_of_turn, is_of_operation}
 use Rattle.gup_follows.specs.Place.{Place, place_behind}
 use Rattle.gup_turns.proofs.Puts.{some_same}
@@ -15,12 +17,19 @@ use Rattle.gup_turns.proofs.Shapes.{TurnOf, refused, mapped, loaded, stored, too
 use Rattle.gup_turns.proofs.Ordering.{op_moves}
 use Rattle.gup_turns.proofs.Owning.{own_other, own_same, own_idle}
 
+-- the event of one page of an `unmap`
+abbrev pub unmap_of : Who → ℕ → PlainEvent
+unmap_of who page = events.Unmap who.actor who.proc page
+
 -- what is left of an operation of which so many turns are over
 abbrev pub RestOf : Who → Op → (far : ℕ) → List NoteValue → Type 0
-RestOf who (Unmap page n) far notes = TakesDownAll who (page + far) (n - far) notes ⊎ ((far ≡ 0) × IsRefused who (Unmap page n) notes)
+RestOf who (Unmap page n) far notes = TakesDownAll who (unmap_of who) (page + far) (n - far) notes ⊎ ((far ≡ 0) × IsRefused who (Unmap page n) notes)
 RestOf who (Map page n rights) far notes = Shape who (Map page n rights) notes
 RestOf who (Load page word) far notes = Shape who (Load page word) notes
 RestOf who (Store page word value) far notes = Shape who (Store page word value) notes
+RestOf who (Protect page n rights) far notes = Shape who (Protect page n rights) notes
+RestOf who (Discard page n) far notes = Shape who (Discard page n) notes
+RestOf who Exit far notes = Shape who Exit notes
 
 -- what is left of the operation, and then those behind it
 abbrev pub Goes : (a p number : ℕ) → Op → List Op → (far : ℕ) → List NoteValue → Type 0
@@ -52,11 +61,14 @@ shape_of : (who : Who) (op : Op) (notes : List NoteValue) → RestOf who op 0 no
 shape_of who (Unmap page n) notes (inl all) =
     let first : page + 0 ≡ page = omega arith in
     let many : n - 0 ≡ n = omega arith in
-    inl (subst (λ (k : ℕ). TakesDownAll who page k notes) many (subst (λ (g : ℕ). TakesDownAll who g (n - 0) notes) first all))
+    inl (subst (λ (k : ℕ). TakesDownAll who (unmap_of who) page k notes) many (subst (λ (g : ℕ). TakesDownAll who (unmap_of who) g (n - 0) notes) first all))
 shape_of who (Unmap page n) notes (inr refusal) = inr refusal.1
 shape_of who (Map page n rights) notes rest = rest
 shape_of who (Load page word) notes rest = rest
 shape_of who (Store page word value) notes rest = rest
+shape_of who (Protect page n rights) notes rest = rest
+shape_of who (Discard page n) notes rest = rest
+shape_of who Exit notes rest = rest
 
 pub left_shapes : (a p number : ℕ) (ops : List Op) (notes : List NoteValue) → Left a p number ops 0 notes → Shapes a p number ops notes
 left_shapes a p number [] notes left = left
@@ -65,9 +77,9 @@ left_shapes a p number (op ∷ ops) notes (inr more) =
     inr (more.0, more.1, more.2, shape_of (record { actor = a; proc = p; number = number }) op more.0 more.3, more.4)
 
 -- one page more in front
-takes_down : (who : Who) (page m : ℕ) (now later : List NoteValue) → 1 ≤ m → TakesDown who page now → TakesDownAll who (page + 1) m later → TakesDownAll who page (suc m) (now ++ later)
-takes_down who page zero now later some down all = absurd (omega arith)
-takes_down who page (suc m) now later some down all = (now, later, refl, down, all)
+takes_down : (who : Who) (event : ℕ → PlainEvent) (page m : ℕ) (now later : List NoteValue) → 1 ≤ m → TakesDown who (event page) now → TakesDownAll who event (page + 1) m later → TakesDownAll who event page (suc m) (now ++ later)
+takes_down who event page zero now later some down all = absurd (omega arith)
+takes_down who event page (suc m) now later some down all = (now, later, refl, down, all)
 
 -- what is left of an actor at a place
 abbrev pub LeftAt : (a p : ℕ) → List Op → Place → List NoteValue → Type 0
@@ -78,11 +90,14 @@ refused_rest who (Map page n rights) far now first refusal = inr refusal
 refused_rest who (Unmap page n) far now first refusal = inr (first, refusal)
 refused_rest who (Load page word) far now first refusal = inr refusal
 refused_rest who (Store page word value) far now first refusal = inr refusal
+refused_rest who (Protect page n rights) far now first refusal = inr refusal
+refused_rest who (Discard page n) far now first refusal = inr refusal
+refused_rest who Exit far now first refusal = inr refusal
 
-last_rest : (who : Who) (page n far : ℕ) (now : List NoteValue) → far + 1 ≡ n → TakesDownLast who (page + far) now → RestOf who (Unmap page n) far now
+last_rest : (who : Who) (page n far : ℕ) (now : List NoteValue) → far + 1 ≡ n → TakesDownLast who (unmap_of who (page + far)) now → RestOf who (Unmap page n) far now
 last_rest who page n far now last down =
     let one : 1 ≡ n - far = omega arith in
-    inl (subst (λ (k : ℕ). TakesDownAll who (page + far) k now) one down)
+    inl (subst (λ (k : ℕ). TakesDownAll who (unmap_of who) (page + far) k now) one down)
 
 -- from behind turn t of the actor to before it
 module _ (a p t : ℕ) (place : Place) (ops : List Op) (later : List NoteValue) where
@@ -104,7 +119,7 @@ module _ (a p t : ℕ) (place : Place) (ops : List Op) (later : List NoteValue) 
   ends op whats rest left = inr (now whats, later, refl, rest, left_shapes a p (place.answered + 1 + 1) ops_behind later left)
 
   -- it takes one page down, and goes on
-  takes_and_goes : (page n : ℕ) (whats : List What) → place.far + 1 < n → TakesDown present (page + place.far) (now whats) → Left a p (place.answered + 1) (Unmap page n ∷ ops_behind) (place.far + 1) later → LeftBefore (Unmap page n) (now whats ++ later)
+  takes_and_goes : (page n : ℕ) (whats : List What) → place.far + 1 < n → TakesDown present (unmap_of present (page + place.far)) (now whats) → Left a p (place.answered + 1) (Unmap page n ∷ ops_behind) (place.far + 1) later → LeftBefore (Unmap page n) (now whats ++ later)
   takes_and_goes page n whats more down (inl none) = absurd (let e = none.0 in omega arith)
   takes_and_goes page n whats more down (inr (front, rest, is, inr refusal, shapes)) = absurd (let e = refusal.0 in omega arith)
   takes_and_goes page n whats more down (inr (front, rest, is, inl all, shapes)) =
@@ -112,8 +127,8 @@ module _ (a p t : ℕ) (place : Place) (ops : List Op) (later : List NoteValue) 
       let left = n - (place.far + 1) in
       let next : page + (place.far + 1) ≡ first + 1 = omega arith in
       let many : suc left ≡ n - place.far = omega arith in
-      let there : TakesDownAll present (first + 1) left front = subst (λ (g : ℕ). TakesDownAll present g left front) next all in
-      let whole : TakesDownAll present first (n - place.far) (now whats ++ front) = subst (λ (k : ℕ). TakesDownAll present first k (now whats ++ front)) many (takes_down present first left (now whats) front (omega arith) down there) in
+      let there : TakesDownAll present (unmap_of present) (first + 1) left front = subst (λ (g : ℕ). TakesDownAll present (unmap_of present) g left front) next all in
+      let whole : TakesDownAll present (unmap_of present) first (n - place.far) (now whats ++ front) = subst (λ (k : ℕ). TakesDownAll present (unmap_of present) first k (now whats ++ front)) many (takes_down present (unmap_of present) first left (now whats) front (omega arith) down there) in
       inr (now whats ++ front, rest, ap (λ (ns : List NoteValue). now whats ++ ns) is ∙ sym (append_assoc (now whats) front rest), inl whole, shapes)
 
   op_left : {s : PlainState} (op : Op) (whats : List What) → TurnOf s a p place op whats → drop place.answered ops ≡ op ∷ ops_behind → LeftAt a p ops (place_behind place whats) later → LeftBefore op (now whats ++ later)

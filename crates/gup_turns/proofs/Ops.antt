@@ -13,9 +13,9 @@ use Rattle.gup_plain.specs.declared.answer.Answer.{Answer}
 use Rattle.gup_plain.specs.declared.answer.Answer.TheVariants as answers
 use Rattle.gup_plain.specs.declared.event.PlainEvent.{PlainEvent}
 use Rattle.gup_plain.specs.declared.event.PlainEvent.TheVariants as events
-use Rattle.gup_script.specs.Grammar.{IsOp}
+use Rattle.gup_script.specs.Valid.{IsOp}
 use Rattle.gup_script.specs.declared.op.Op.{Op}
-use Rattle.gup_script.specs.declared.op.Op.TheVariants.{Map, Unmap, Load, Store}
+use Rattle.gup_script.specs.declared.op.Op.TheVariants.{Map, Unmap, Protect, Discard, Load, Store, Exit}
 use Rattle.gup_events.specs.State.{CoreState, plain_of}
 use Rattle.gup_events.specs.Event.{MayPrepare, AreUnlocked, Can, happens, entry_of, take_frame, fill, drop_entry}
 use Rattle.gup_events.specs.Sound.{IsSound}
@@ -213,3 +213,6 @@ module _ (s : CoreState) (a p : ℕ) (place : Place) (h : IsOpen s p) where
   op_turned (Unmap page n) range fits = unmap_by page n (s.right p (page + place.far)) (s.entry p (page + place.far)) (place.far + 1 == n) fits refl refl refl
   op_turned (Load page word) range fits = load_turned page word (s.entry p page) fits refl
   op_turned (Store page word value) range fits = store_turned page word value fits
+  op_turned (Protect page n rights) range fits = absurd fits
+  op_turned (Discard page n) range fits = absurd fits
+  op_turned Exit range fits = absurd fits

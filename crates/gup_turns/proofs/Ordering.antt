@@ -5,12 +5,11 @@ use Rattle.gup_plain.specs.State.{PlainState}
 use Rattle.gup_plain.specs.declared.note.What.{What}
 use Rattle.gup_plain.specs.declared.note.Waiting.{Waiting}
 use Rattle.gup_script.specs.Script.{ScriptValue}
-use Rattle.gup_script.specs.Valid.{IsScript}
 use Rattle.gup_script.specs.declared.op.Op.{Op}
 use Rattle.gup_events.specs.State.{plain_of}
 use Rattle.gup_follows.specs.Order.{Turn, Ordered, Moves, IsWrittenTurn, IsPassedOver, IsPassed, IsPointedTurn, IsNextTurn, AreInOrder, behind_by, written_turn, waiting_of, finished_in}
 use Rattle.gup_follows.specs.Place.{Place, process_of, ops_of}
-use Rattle.gup_turns.specs.Run.{RunState, Runs, next_actor, next_by, written_in, turn_in, run_after, op_in, waiting_with, waiting_in, taken_in, is_ready, can_go}
+use Rattle.gup_turns.specs.Run.{RunState, Runs, next_actor, next_by, written_in, turn_in, run_after, op_in, waiting_with, waiting_in, taken_in, is_ready, can_go, HasTurns}
 use Rattle.gup_turns.proofs.Pointer.{PointerFits, IsFirstToGo, pointed_some, none_can_go, pointer_fits}
 use Rattle.gup_turns.proofs.Puts.{some_same}
 use Rattle.gup_turns.proofs.Shapes.{TurnOf, refused, mapped, loaded, stored, took, took_last, passed, passed_last, TurnAt, idles, waits, goes}
@@ -61,7 +60,7 @@ goes_on (Some op) None h is = (h.finishes, h.waits_so op refl)
 abbrev pub ordered_of : RunState → Ordered
 ordered_of r = record { plain = plain_of r.core; places = r.places; pointer = r.pointer; turns = r.turns }
 
-module _ (script : ScriptValue) (valid : IsScript script) (r : RunState) (h : Stands script r) where
+module _ (script : ScriptValue) (valid : HasTurns script) (r : RunState) (h : Stands script r) where
   pub sees : (a : ℕ) → Sees (finished_in script (ordered_of r) a) (waiting_of script (ordered_of r) a) (op_in script r a) (waiting_in script r a)
   sees a =
       record {
@@ -98,7 +97,7 @@ module _ (script : ScriptValue) (valid : IsScript script) (r : RunState) (h : St
   next_right a is = next_by_right (written_in script r) a is
 
 -- the turns of a run are in order
-pub order_run : Law → (script : ScriptValue) → IsScript script → (turns : List Turn) (r end : RunState) → Stands script r → PointerFits script r → Runs script r turns end → AreInOrder script (ordered_of r) turns
+pub order_run : Law → (script : ScriptValue) → HasTurns script → (turns : List Turn) (r end : RunState) → Stands script r → PointerFits script r → Runs script r turns end → AreInOrder script (ordered_of r) turns
 order_run law script valid [] r end h fits run =
     let over = none_can_go script r fits run.0 in
     (over.0, λ a below. is_passed script valid r h a (over.1 a below))

@@ -9,7 +9,7 @@ use Rattle.gup_plain.specs.declared.note.What.{What}
 use Rattle.gup_plain.specs.declared.note.What.TheVariants.{Silent, Idle, Wait, Event, Done}
 use Rattle.gup_plain.specs.declared.note.Waiting.{Waiting}
 use Rattle.gup_script.specs.declared.op.Op.{Op}
-use Rattle.gup_script.specs.declared.op.Op.TheVariants.{Map, Unmap, Load, Store}
+use Rattle.gup_script.specs.declared.op.Op.TheVariants.{Map, Unmap, Protect, Discard, Load, Store, Exit}
 use Rattle.gup_events.specs.State.{CoreState}
 use Rattle.gup_laws.specs.Run.{AllCan}
 use Rattle.gup_follows.specs.Denial.{op_denial}
@@ -30,6 +30,9 @@ FitsOp (Map page n rights) place = AtFirst place
 FitsOp (Unmap page n) place = place.far < n
 FitsOp (Load page word) place = AtFirst place
 FitsOp (Store page word value) place = AtFirst place
+FitsOp (Protect page n rights) place = ⊥
+FitsOp (Discard page n) place = ⊥
+FitsOp Exit place = ⊥
 
 abbrev pub FitsAt : Option Op → Place → Type 0
 FitsAt None place = AtFirst place

@@ -2,15 +2,14 @@
 use Rattle.std.proofs.Common.{◌≡◌, ℕ, ◌<◌, Bool, true, false, Option, Some, None, refl, sym, ap, ◌∙◌, subst}
 use Rattle.gup_plain.specs.State.{Birth, unborn, growing, born, failed}
 use Rattle.gup_plain.specs.declared.note.Waiting.{Waiting}
-use Rattle.gup_script.specs.Grammar.{IsOp}
+use Rattle.gup_script.specs.Valid.{IsOp}
 use Rattle.gup_script.specs.Script.{ScriptValue}
-use Rattle.gup_script.specs.Valid.{IsScript}
 use Rattle.gup_script.specs.declared.op.Op.{Op}
 use Rattle.gup_events.specs.State.{CoreState, plain_of}
 use Rattle.gup_events.specs.Sound.{IsSound}
 use Rattle.gup_follows.specs.Order.{waiting_at}
 use Rattle.gup_follows.specs.Place.{Place, process_of}
-use Rattle.gup_turns.specs.Run.{RunState, op_in, waiting_with, waiting_in, taken_by, taken_in}
+use Rattle.gup_turns.specs.Run.{RunState, op_in, waiting_with, waiting_in, taken_by, taken_in, HasTurns}
 use Rattle.gup_turns.specs.Turn.{Taken, turn_at, op_turn, waits_at, waits_for_locks, needs_locks, waiting_for}
 use Rattle.gup_turns.proofs.Ops.{IsTurned, op_turned}
 use Rattle.gup_turns.proofs.Scripts.{op_is_op}
@@ -47,9 +46,9 @@ take s a p place (Some op) None sound rest unfailed range fits is =
     let at : IsTurned s a p place op (turn_at (s.birth p) (op_turn s a p place.far op)) = subst (λ (b : Birth). IsTurned s a p place op (turn_at b (op_turn s a p place.far op))) (sym birth) turned in
     record { done = at.done; shape = goes op (turn_at (s.birth p) (op_turn s a p place.far op)).whats birth at.shape }
 
-pub taken : (script : ScriptValue) → IsScript script → (r : RunState) → Stands script r → (a : ℕ) → IsTaken r.core a (process_of script a) (r.places a) (op_in script r a) (waiting_in script r a) (taken_in script r a)
+pub taken : (script : ScriptValue) → HasTurns script → (r : RunState) → Stands script r → (a : ℕ) → IsTaken r.core a (process_of script a) (r.places a) (op_in script r a) (waiting_in script r a) (taken_in script r a)
 taken script valid r h a =
-    take r.core a (process_of script a) (r.places a) (op_in script r a) (waiting_in script r a) h.sound h.rest (h.unfailed (process_of script a)) (op_is_op script valid a (r.places a).answered) (h.fits a) refl
+    take r.core a (process_of script a) (r.places a) (op_in script r a) (waiting_in script r a) h.sound h.rest (h.unfailed (process_of script a)) (λ o is. (op_is_op script valid a (r.places a).answered o is).0) (h.fits a) refl
 
 -- in a sound state no lock is held, so an actor waits only for its process
 pub waiting_agrees : (s : CoreState) (a p : ℕ) (op : Op) → IsSound s → waiting_for s a p op ≡ waiting_at p (s.birth p)

@@ -12,7 +12,7 @@ use Rattle.gup_plain.specs.declared.note.What.TheVariants.{Silent, Event, Done}
 use Rattle.gup_plain.specs.declared.note.Waiting.{Waiting}
 use Rattle.gup_plain.specs.declared.note.Waiting.TheVariants as waitings
 use Rattle.gup_script.specs.declared.op.Op.{Op}
-use Rattle.gup_script.specs.declared.op.Op.TheVariants.{Map, Unmap, Load, Store}
+use Rattle.gup_script.specs.declared.op.Op.TheVariants.{Map, Unmap, Protect, Discard, Load, Store, Exit}
 use Rattle.gup_events.specs.State.{CoreState}
 use Rattle.gup_events.specs.Event.{CoreEvent, take_frame, fill, upgrade, put_entry, map_pages, drop_entry, load, store}
 use Rattle.gup_plain.specs.Denial.{any_mapped, map_denial}
@@ -150,12 +150,28 @@ unmap_turn_by (Some rights) a p page entry last =
 abbrev pub unmap_turn : CoreState → (a p page : ℕ) → (last : Bool) → Taken
 unmap_turn s a p page last = unmap_turn_by (s.right p page) a p page (s.entry p page) last
 
+-- `protect`, `discard` and `exit` have no turn yet.
+abbrev pub HasTurn : Op → Type 0
+HasTurn (Map page n rights) = Unit {0}
+HasTurn (Unmap page n) = Unit {0}
+HasTurn (Load page word) = Unit {0}
+HasTurn (Store page word value) = Unit {0}
+HasTurn (Protect page n rights) = ⊥
+HasTurn (Discard page n) = ⊥
+HasTurn Exit = ⊥
+
+abbrev pub no_turn : Taken
+no_turn = record { events = []; whats = [] }
+
 -- the turn of an operation of a born process, of which so many turns are over
 abbrev pub op_turn : CoreState → (a p far : ℕ) → Op → Taken
 op_turn s a p far (Map page n rights) = map_turn s a p page n rights
 op_turn s a p far (Unmap page n) = unmap_turn s a p (page + far) (far + 1 == n)
 op_turn s a p far (Load page word) = load_turn s a p page word (s.entry p page)
 op_turn s a p far (Store page word value) = store_turn s a p page word value (s.entry p page)
+op_turn s a p far (Protect page n rights) = no_turn
+op_turn s a p far (Discard page n) = no_turn
+op_turn s a p far Exit = no_turn
 
 -- an operation of a failed process is refused
 abbrev pub turn_at : Birth → Taken → Taken
@@ -173,6 +189,9 @@ turn_of s a p far op = turn_at (s.birth p) (op_turn s a p far op)
 abbrev pub needs_locks : CoreState → ℕ → Op → Bool
 needs_locks s p (Map page n rights) = true
 needs_locks s p (Unmap page n) = true
+needs_locks s p (Protect page n rights) = true
+needs_locks s p (Discard page n) = true
+needs_locks s p Exit = true
 needs_locks s p (Load page word) = elim (s.entry p page) [ None ↦ true | Some e ↦ false ]
 needs_locks s p (Store page word value) = elim (allows_store (s.entry p page)) [ true ↦ false | false ↦ true ]
 

@@ -15,11 +15,11 @@ use Rattle.gup.proofs.run.run_all.Goals as goal
 pub turns-init : goal.turns-init
 turns-init c =
     let script = c.args.script.now in
-    let form = c.actors-actors.ensures.form in
+    let form = c.requires.form in
     let page : ℕ = form.one_page.0 in
     let P : MachineValue → Type 0 = λ m. Underway script m [] page (run_start script) in
     let Q : List NoteValue → Type 0 = λ ns. Underway script c.args.machine ns page (run_start script) in
-    (page, form.one_page.1, (run_start script, subst Q (sym c.new-journal.ensures) (subst P (sym c.requires) (underway-first script page c.actors-actors.ensures.valid form))))
+    (page, form.one_page.1, (run_start script, subst Q (sym c.new-journal.ensures) (subst P (sym c.requires.new) (underway-first script page c.actors-actors.ensures.valid form))))
 
 first : (o : Option ℕ) (a : ℕ) → IfSome o (λ n. n ≡ 0) → o ≡ Some a → a ≡ 0
 first None a h is = cc
@@ -39,7 +39,7 @@ pub turns-preserved : goal.turns-preserved
 turns-preserved c =
     let inv = c.turns.invariant in
     let script = c.args.script.now in
-    let form = c.actors-actors.ensures.form in
+    let form = c.requires.form in
     let page : ℕ = inv.0 in
     let r : RunState = inv.2.0 in
     let u : Underway script c.turns.machine c.turns.journal.notes page r = inv.2.1 in
@@ -79,7 +79,7 @@ done c page r u =
 pub returns-clause-core : goal.returns-clause-core
 returns-clause-core c =
     let inv = c.turns.invariant in
-    underway-end c.args.script.now c.turns.machine c.turns.journal.notes inv.0 inv.2.0 c.actors-actors.ensures.form (done c inv.0 inv.2.0 inv.2.1) inv.2.1
+    underway-end c.args.script.now c.turns.machine c.turns.journal.notes inv.0 inv.2.0 c.requires.form (done c inv.0 inv.2.0 inv.2.1) inv.2.1
 
 pub returns-clause-known : goal.returns-clause-known
 returns-clause-known c = c.turns.invariant.2.1.known
@@ -87,4 +87,4 @@ returns-clause-known c = c.turns.invariant.2.1.known
 pub returns-clause-lines : goal.returns-clause-lines
 returns-clause-lines c =
     let inv = c.turns.invariant in
-    underway-lines c.args.script.now c.turns.machine c.turns.journal.notes inv.0 inv.2.0 c.actors-actors.ensures.form (done c inv.0 inv.2.0 inv.2.1) inv.2.1
+    underway-lines c.args.script.now c.turns.machine c.turns.journal.notes inv.0 inv.2.0 c.requires.form (done c inv.0 inv.2.0 inv.2.1) inv.2.1

@@ -10,8 +10,11 @@ use Rattle.gup.specs.Cause.{HasCauses, operations}
 use Rattle.gup.specs.Report.{IsRunOf, IsFinishedRun, IsUnreadFor}
 use Rattle.gup.specs.declared.top.Unread.{Unread}
 use Rattle.gup.specs.Text.{text_of, outcomes_of}
-use Rattle.gup.proofs.Told.{of_script, of_any}
+use Rattle.gup.proofs.Told.{of_script, of_any, of_none, refused_none}
 use Rattle.gup.proofs.top.gup.Goals as goal
+
+pub run_and_write-requires : goal.run_and_write-requires
+run_and_write-requires g c = c.in-Ok.ensures.one_page
 
 -- two statuses are not one
 apart : (status m n : ℕ) → status ≡ m → status ≡ n → m ≡ n
@@ -86,3 +89,23 @@ pub returns-in-Err-Failed-clause-complete : goal.returns-in-Err-Failed-clause-co
 returns-in-Err-Failed-clause-complete g c command read_well wrote_well =
     let P : Unread → Type 0 = λ why. IsUnreadFor (g.S.Source.remaining c.args.source.now) (g.S.Source.faults c.args.source.now) (g.S.Source.faults c.read.new.source) why in
     absurd (read_well (subst P c.in-Err-Failed.field-0-is c.in-Err-Failed.ensures.unread))
+
+pub returns-in-Err-Fault-clause-refused : goal.returns-in-Err-Fault-clause-refused
+returns-in-Err-Fault-clause-refused g c three =
+    let P : Unread → Type 0 = λ why. IsUnreadFor (g.S.Source.remaining c.args.source.now) (g.S.Source.faults c.args.source.now) (g.S.Source.faults c.read.new.source) why in
+    refused_none (g.S.Source.remaining c.args.source.now) c.in-Err-Fault.fault c.one_script.ensures c.scripts_have_no_fault.ensures (subst P c.in-Err-Fault.field-0-is c.in-Err-Fault.ensures.unread)
+
+pub returns-in-Err-Fault-clause-complete : goal.returns-in-Err-Fault-clause-complete
+returns-in-Err-Fault-clause-complete g c command read_well wrote_well =
+    let P : Unread → Type 0 = λ why. IsUnreadFor (g.S.Source.remaining c.args.source.now) (g.S.Source.faults c.args.source.now) (g.S.Source.faults c.read.new.source) why in
+    let status : ℕ = c.refuse.result.status in
+    of_none (g.S.Source.remaining c.args.source.now) (λ script. (status ≡ 0) ⊎ (status ≡ 7))
+        (refused_none (g.S.Source.remaining c.args.source.now) c.in-Err-Fault.fault c.one_script.ensures c.scripts_have_no_fault.ensures (subst P c.in-Err-Fault.field-0-is c.in-Err-Fault.ensures.unread))
+
+pub returns-in-Err-Fault-clause-text_part : goal.returns-in-Err-Fault-clause-text_part
+returns-in-Err-Fault-clause-text_part g c six command =
+    let P : Unread → Type 0 = λ why. IsUnreadFor (g.S.Source.remaining c.args.source.now) (g.S.Source.faults c.args.source.now) (g.S.Source.faults c.read.new.source) why in
+    let notes = c.refuse.result.journal.notes in
+    let Q : ScriptValue → Type 0 = λ script. IsRunOf script notes × AppendsPart (g.K.Sink.taken c.args.sink.now) (g.K.Sink.taken c.refuse.new.sink) (text_of script notes) in
+    of_none (g.S.Source.remaining c.args.source.now) Q
+        (refused_none (g.S.Source.remaining c.args.source.now) c.in-Err-Fault.fault c.one_script.ensures c.scripts_have_no_fault.ensures (subst P c.in-Err-Fault.field-0-is c.in-Err-Fault.ensures.unread))

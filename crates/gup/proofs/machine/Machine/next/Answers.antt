@@ -3,7 +3,7 @@ use Rattle.std.specs.Prelude.{slice_get, IfSome}
 use Rattle.std.proofs.lemmas.Option.{slice_get_within}
 use Rattle.gup_script.specs.declared.op.Op.{Op}
 use Rattle.gup_script.specs.Valid.{IsScript}
-use Rattle.gup_script.specs.FirstPath.{IsFirstPath}
+use Rattle.gup.specs.FirstPath.{IsFirstPath}
 use Rattle.gup_follows.specs.Place.{ops_of}
 use Rattle.gup.specs.Machine.{MachineValue, next_op}
 use Rattle.gup.proofs.Scripts.{actor_is_first, few_ops}
@@ -22,7 +22,7 @@ returns-clause-next c = found c ∙ ap next_op c.self.view_is
 
 pub returns-clause-few : goal.returns-clause-few
 returns-clause-few c =
-    let P : MachineValue → Type 0 = λ m. m.answered ≤ 1024 in
+    let P : MachineValue → Type 0 = λ m. m.answered ≤ 16384 in
     let few = few_ops c.self.inside.script c.self.invariant.form in
     let within = c.self.invariant.within in
     subst P c.self.view_is (omega arith)
