@@ -1,0 +1,6 @@
+pub mod Clauses
+pub mod Holders
+pub mod Rows
+pub mod Tally
+pub mod Lonely
+pub mod Faults

@@ -2,9 +2,9 @@
 //! its events, and what is published of its states holds of each.
 #![tactic(auto)]
 
-ghost use Rattle.std.specs.Prelude.{ℕ, Bool, List};
+ghost use Rattle.std.specs.Prelude.{◌≡◌, ℕ, Bool, List};
 ghost use Rattle.gup_plain.specs.State.{start as plain_start};
-ghost use Rattle.gup_events.specs.State.{CoreState, start};
+ghost use Rattle.gup_events.specs.State.{CoreState, start, plain_of};
 ghost use Rattle.gup_events.specs.Event.{CoreEvent, Can};
 ghost use Rattle.gup_events.specs.Invariant.{AllCan, run, Holds};
 ghost use Rattle.gup_events.specs.Sound.{IsSound, Simulates};
