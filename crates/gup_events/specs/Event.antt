@@ -266,15 +266,17 @@ Can s (discard_entry a p page was) =
     × (s.owed a ≡ None) × IsUnmirrored s p page
 -- data and mirrors
 Can s (load a p page word f value) =
-    (s.birth p ≡ born) × ((writable : Bool) × (s.entry p page ≡ Some (entry_of f writable))) × (value ≡ s.word f word)
-Can s (store a p page word f value) = (s.birth p ≡ born) × (s.entry p page ≡ Some (entry_of f true))
+    (s.birth p ≡ born) × ((writable : Bool) × (s.entry p page ≡ Some (entry_of f writable))) × (word < words)
+    × (value ≡ s.word f word)
+Can s (store a p page word f value) =
+    (s.birth p ≡ born) × (s.entry p page ≡ Some (entry_of f true)) × (word < words)
 Can s (move_out a h index slot f value) = CanMove s a h index slot f × (value ≡ s.word f (index % words))
 Can s (move_in a h index slot f value) =
     CanMove s a h index slot f × (may_write (s.handle h) ≡ true) × (value ≡ s.store a slot)
 Can s (empty_mirror a m) = IsSome (s.mirrored m)
 Can s (fill_mirror a m p page f writable) =
     (s.birth p ≡ born) × AreUnlocked s p × (s.entry p page ≡ Some (entry_of f writable))
-Can s (look a m word f value) = (s.mirrored m ≡ Some f) × (value ≡ s.word f word)
+Can s (look a m word f value) = (s.mirrored m ≡ Some f) × (word < words) × (value ≡ s.word f word)
 
 -- a frame loses n references; at 0 it is free, and nothing marks or owns it
 abbrev pub without_references : ℕ → ℕ → CoreState → CoreState

@@ -3,4 +3,5 @@ pub mod Holders
 pub mod Rows
 pub mod Tally
 pub mod Lonely
+pub mod Steps
 pub mod Faults

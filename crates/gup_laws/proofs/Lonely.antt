@@ -5,9 +5,10 @@ use Rattle.std.specs.Prelude.{Option, Some, None, IsSome, slice_get}
 use Rattle.std.proofs.lemmas.Bool.Decides.{nat_tests}
 use Rattle.gup_base.specs.declared.entry.Entry.{Entry}
 use Rattle.gup_base.specs.declared.entry.Rights.{Rights}
-use Rattle.gup_events.specs.State.{CoreState, Taken, Job, idle, marking, moving, forking, walking}
+use Rattle.gup_plain.specs.State.{born}
+use Rattle.gup_events.specs.State.{CoreState, Taken, one, Job, idle, marking, moving, forking, walking}
 use Rattle.gup_events.specs.Event.{bias}
-use Rattle.gup_events.specs.Invariant.{Holder, entry_of_page, cleared_by, prepared_by, owed_by, got_as, page_of_pin, page_taken, weight, frame_of, taken_frame}
+use Rattle.gup_events.specs.Invariant.{Holder, entry_of_page, cleared_by, prepared_by, owed_by, got_as, page_of_pin, page_taken, weight, frame_of, got_frame, taken_frame}
 use Rattle.gup_events.specs.Sound.{View, Moving, moved_frame, moving_of, keeps_table, held, Tally, IsSoundBy}
 use Rattle.gup_laws.proofs.Holders.{kind, first, second, by_holder}
 use Rattle.gup_laws.proofs.Tally.{held_weighs, held_weigh}
@@ -152,3 +153,74 @@ module _ (v : View) (s : CoreState) (h : IsSoundBy v s) where
       go : (o : Option Rights) → s.right p g ≡ o → IsSome o → v.names p g ≡ Some (s.object p g)
       go None is mapped = absurd (cc)
       go (Some r) is mapped = h.right_names p g r is
+
+  -- of a holder that isn't an entry: whoever prepares its frame, or has cleared and counted it once, is no other
+
+  kinds_apart : (x y : Holder) → (kind x ≡ kind y → ⊥) → x ≡ y → ⊥
+  kinds_apart x y apart same = apart (ap kind same)
+
+  no_prepared : (x : Holder) (f b : ℕ) → holding x ≡ Some f → (kind x ≡ 2 → ⊥) → (weight x ≡ 0 → ⊥) → s.prepared b ≡ Some f → ⊥
+  unfolding held
+  no_prepared x f b is other positive that =
+      no_other (prepared_by b) x f that (h.prepared_once b f that) (λ same. other (sym (ap kind same))) is positive
+
+  no_moving : (x : Holder) (b : ℕ) (m : Moving) → holding x ≡ Some m.entry.frame → (kind x ≡ 1 → ⊥) → (weight x ≡ 0 → ⊥) → v.moves b ≡ Some m → m.count ≡ one → ⊥
+  unfolding held
+  no_moving x b m is other positive that once =
+      no_other (cleared_by b) x m.entry.frame (ap moved_frame that) (h.moving_once b m that once) (λ same. other (sym (ap kind same))) is positive
+
+  pub owed_whole : (a f p g : ℕ) (e : Entry) → s.owed a ≡ Some f → s.count f ≡ 1 → v.whole p g ≡ Some e → e.frame ≡ f → ⊥
+  unfolding held
+  owed_whole a f p g e is once there same = no_whole (owed_by a) f p g e is once (omega arith) there same
+
+  pub owed_prepared : (a f b : ℕ) → s.owed a ≡ Some f → s.prepared b ≡ Some f → ⊥
+  unfolding held
+  owed_prepared a f b is that = no_prepared (owed_by a) f b is (λ k. omega (arith, k)) (λ k. omega (arith, k)) that
+
+  pub owed_moving : (a b : ℕ) (m : Moving) → s.owed a ≡ Some m.entry.frame → v.moves b ≡ Some m → m.count ≡ one → ⊥
+  unfolding held
+  owed_moving a b m is that once = no_moving (owed_by a) b m is (λ k. omega (arith, k)) (λ k. omega (arith, k)) that once
+
+  pub got_whole : (k f p g : ℕ) (e : Entry) → got_frame (s.got k) ≡ Some f → s.count f ≡ 1 → v.whole p g ≡ Some e → e.frame ≡ f → ⊥
+  unfolding held
+  got_whole k f p g e is once there same = no_whole (got_as k) f p g e is once (omega arith) there same
+
+  pub got_prepared : (k f b : ℕ) → got_frame (s.got k) ≡ Some f → s.prepared b ≡ Some f → ⊥
+  unfolding held
+  got_prepared k f b is that = no_prepared (got_as k) f b is (λ n. omega (arith, n)) (λ n. omega (arith, n)) that
+
+  pub got_moving : (k b : ℕ) (m : Moving) → got_frame (s.got k) ≡ Some m.entry.frame → v.moves b ≡ Some m → m.count ≡ one → ⊥
+  unfolding held
+  got_moving k b m is that once = no_moving (got_as k) b m is (λ n. omega (arith, n)) (λ n. omega (arith, n)) that once
+
+  -- a pinned page that is the whole count of its frame
+
+  pub pin_whole : (j k f p g : ℕ) (e : Entry) → slice_get (s.pinned j) k ≡ Some f → s.count f ≡ bias → v.whole p g ≡ Some e → e.frame ≡ f → ⊥
+  unfolding held
+  pin_whole j k f p g e is all there same = no_whole (page_of_pin j k) f p g e is all (omega arith) there same
+
+  pub pin_handle : (j k i n f : ℕ) → slice_get (s.pinned j) k ≡ Some f → s.count f ≡ bias → slice_get (s.pinned i) n ≡ Some f → (j ≡ i) × (k ≡ n)
+  unfolding held
+  pin_handle j k i n f is all that =
+      by_holder (page_of_pin j k) (page_of_pin i n) (λ same. (ap first same, ap second same)) (λ apart. absurd (no_other (page_of_pin j k) (page_of_pin i n) f is all apart that (λ zero. omega arith)))
+
+  pub pin_taken : (j k b n f : ℕ) (t : Taken) → slice_get (s.pinned j) k ≡ Some f → s.count f ≡ bias → slice_get (s.taken b) n ≡ Some t → t.frame ≡ f → ⊥
+  unfolding held
+  pin_taken j k b n f t is all that same =
+      no_other (page_of_pin j k) (page_taken b n) f is all (λ e. let k : 5 ≡ 6 = ap kind e in omega (arith, k)) (ap taken_frame that ∙ ap (λ x. Some x) same) (λ zero. omega (arith, zero))
+
+  -- a page that is mapped, of a born process, where there is an entry
+  pub born_mapped : (p g : ℕ) (e : Entry) → s.birth p ≡ born → v.whole p g ≡ Some e → IsSome (s.right p g)
+  born_mapped p g e is there = go (s.right p g) refl
+    where
+      go : (o : Option Rights) → s.right p g ≡ o → IsSome o
+      go None none = absurd (let lost = h.entry_mapped p g e there none in cc)
+      go (Some r) some = refl
+
+  -- an unmarked frame in an entry of a page table that nobody keeps is not exclusive
+  pub unmarked_unowned : (p g : ℕ) (e : Entry) → v.whole p g ≡ Some e → s.table p ≡ None → s.mark e.frame ≡ false → s.own e.frame ≡ None
+  unmarked_unowned p g e there free unmarked = go (s.own e.frame) refl
+    where
+      go : (o : Option ℕ) → s.own e.frame ≡ o → o ≡ None
+      go None is = refl
+      go (Some o) is = absurd (let marked = h.own_marked p g o e there is free in cc)
