@@ -5,3 +5,4 @@ pub mod Tally
 pub mod Lonely
 pub mod Steps
 pub mod Faults
+pub mod Moves
