@@ -2,7 +2,10 @@ pub mod Clauses
 pub mod Holders
 pub mod Rows
 pub mod Tally
+pub mod Renamed
 pub mod Lonely
 pub mod Steps
 pub mod Faults
 pub mod Moves
+pub mod PinLists
+pub mod Pins
