@@ -9,3 +9,4 @@ pub mod Faults
 pub mod Moves
 pub mod PinLists
 pub mod Pins
+pub mod Start
