@@ -10,3 +10,4 @@ pub mod Moves
 pub mod PinLists
 pub mod Pins
 pub mod Start
+pub mod Published
