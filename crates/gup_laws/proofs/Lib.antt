@@ -5,3 +5,6 @@ pub mod Tally
 pub mod Lonely
 pub mod Steps
 pub mod Faults
+pub mod Named
+pub mod Data
+pub mod Mirrors
