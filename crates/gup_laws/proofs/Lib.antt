@@ -8,3 +8,4 @@ pub mod Faults
 pub mod Named
 pub mod Data
 pub mod Mirrors
+pub mod Mappings
