@@ -2,6 +2,7 @@ pub mod Clauses
 pub mod Holders
 pub mod Rows
 pub mod Tally
+pub mod Renamed
 pub mod Lonely
 pub mod Steps
 pub mod Faults
@@ -9,3 +10,7 @@ pub mod Named
 pub mod Data
 pub mod Mirrors
 pub mod Mappings
+pub mod Moves
+pub mod PinLists
+pub mod Pins
+pub mod Start
