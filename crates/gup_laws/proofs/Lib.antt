@@ -6,6 +6,10 @@ pub mod Renamed
 pub mod Lonely
 pub mod Steps
 pub mod Faults
+pub mod Named
+pub mod Data
+pub mod Mirrors
+pub mod Mappings
 pub mod Moves
 pub mod PinLists
 pub mod Pins
