@@ -15,3 +15,5 @@ pub mod PinLists
 pub mod Pins
 pub mod Start
 pub mod Published
+pub mod Children
+pub mod ForkEnds
