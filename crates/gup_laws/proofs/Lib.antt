@@ -17,3 +17,5 @@ pub mod Start
 pub mod Published
 pub mod Children
 pub mod ForkEnds
+pub mod Done
+pub mod Copies
