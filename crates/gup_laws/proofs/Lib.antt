@@ -10,6 +10,7 @@ pub mod Named
 pub mod Data
 pub mod Mirrors
 pub mod Mappings
+pub mod Children
 pub mod Moves
 pub mod PinLists
 pub mod Pins
