@@ -7,10 +7,11 @@ pub mod Lonely
 pub mod Steps
 pub mod Faults
 pub mod Named
+pub mod Children
 pub mod Data
 pub mod Mirrors
 pub mod Mappings
-pub mod Children
+pub mod ForkBegins
 pub mod Moves
 pub mod PinLists
 pub mod Pins
