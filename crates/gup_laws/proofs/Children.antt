@@ -40,6 +40,7 @@ growing_parent v s c p h grows = by_lock (s.structure p) refl
         let also : keeps_structure (s.job a) ≡ Some k.proc = forking_keeps (s.job a) k (sym (h.forks_are a) ∙ some) in
         let lives : s.birth k.proc ≡ born = h.fork_parent a k some in
         cc
+
     by_lock : (x : Option ℕ) → s.structure p ≡ x → s.birth p ≡ born
     by_lock None free = absurd (h.growing_locked c p grows free)
     by_lock (Some a) locked = by_fork a locked (v.forks a) refl

@@ -16,3 +16,6 @@ pub mod Moves
 pub mod PinLists
 pub mod Pins
 pub mod Start
+pub mod Shares
+pub mod Shared
+pub mod ShareChild
