@@ -1,11 +1,12 @@
 -- What a running fork says of its child: no other fork brings it, and it grows from a born process.
-use Rattle.std.proofs.Common.{◌≡◌, ℕ, Bool, true, false, List, refl, ap, sym, ◌∙◌, subst, arith}
+use Rattle.std.proofs.Common.{◌≡◌, ℕ, ◌<◌, Bool, true, false, List, refl, ap, sym, ◌∙◌, subst, arith}
 use Rattle.std.specs.Prelude.{Option, Some, None}
 use Rattle.std.proofs.lemmas.Bool.Decides.{nat_tests}
+use Rattle.gup_base.specs.declared.entry.Rights.{Rights}
 use Rattle.gup_plain.specs.Put.{put}
 use Rattle.gup_plain.specs.State.{growing, born}
 use Rattle.gup_events.specs.State.{CoreState, Job, idle, marking, moving, forking, walking, one, ForkStep, copying}
-use Rattle.gup_events.specs.Sound.{View, Forking, forking_of, IsSoundBy, IsUncopiedBy, fork_child, is_failing, keeps_structure, birth_of_child}
+use Rattle.gup_events.specs.Sound.{View, Forking, forking_of, IsSoundBy, IsUncopiedBy, fork_child, step_page, is_failing, keeps_structure, birth_of_child}
 
 forking_keeps : (job : Job) (k : Forking) → forking_of job ≡ Some k → keeps_structure job ≡ Some k.proc
 forking_keeps (forking p c done step) k is = cc
@@ -39,6 +40,7 @@ growing_parent v s c p h grows = by_lock (s.structure p) refl
         let also : keeps_structure (s.job a) ≡ Some k.proc = forking_keeps (s.job a) k (sym (h.forks_are a) ∙ some) in
         let lives : s.birth k.proc ≡ born = h.fork_parent a k some in
         cc
+
     by_lock : (x : Option ℕ) → s.structure p ≡ x → s.birth p ≡ born
     by_lock None free = absurd (h.growing_locked c p grows free)
     by_lock (Some a) locked = by_fork a locked (v.forks a) refl
@@ -63,3 +65,14 @@ born_uncopied v s p g h lives a word k forks child at =
 -- a fork's step changes: what no fork copies now, none copied before, if this one didn't
 pub uncopied_before : (forks : ℕ → Option Forking) (a : ℕ) (x : Option Forking) (c g : ℕ) → IsUncopiedBy (put a x forks) c g → ((word : ℕ) (k : Forking) → forks a ≡ Some k → k.child ≡ c → k.step ≡ copying g word → ⊥) → IsUncopiedBy forks c g
 uncopied_before forks a x c g now before b word k is child at = grind (arith, nat_tests, now b word k, before word k)
+
+-- a born process is no child of a fork
+pub no_child : (v : View) (s : CoreState) (p b : ℕ) (k : Forking) → IsSoundBy v s → s.birth p ≡ born → v.forks b ≡ Some k → k.child ≡ p → ⊥
+no_child v s p b k h is_born forks same = grind (arith, h.fork_birth b k, h.growing_locked)
+
+-- the object of the page that a fork is copying was made
+pub copied_made : (v : View) (s : CoreState) (b i n : ℕ) (k : Forking) → IsSoundBy v s → v.forks b ≡ Some k → k.step ≡ copying i n → s.object k.child i < s.made
+copied_made v s b i n k h forks at =
+    let copies : step_page k.step ≡ Some i = ap step_page at in
+    let mapped : s.right k.child i ≡ None → ⊥ = h.fork_mapped b i k forks copies in
+    grind (arith, λ (r : Rights). h.right_names k.child i r, h.names_made k.child i (s.object k.child i))

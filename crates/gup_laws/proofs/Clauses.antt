@@ -256,4 +256,3 @@ module _ (v : View) (s : CoreState) where
 
   abbrev pub MirrorNames : Type 0
   MirrorNames = (m f : ℕ) (noted : Noted) → s.mirrored m ≡ Some f → s.slot m ≡ Some noted → v.names noted.proc noted.page ≡ Some noted.object
-

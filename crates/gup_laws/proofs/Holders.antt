@@ -76,10 +76,10 @@ by_holder {P} x y same apart = go (same_holder x y) refl
         same (same_holders x y k i j)
     go false is =
         apart (λ e.
-            let k : kind x ≡ kind y = ap kind e in
-            let i : first x ≡ first y = ap first e in
-            let j : second x ≡ second y = ap second e in
-            let no : ⊥ = grind (arith, nat_tests) in no)
+        let k : kind x ≡ kind y = ap kind e in
+        let i : first x ≡ first y = ap first e in
+        let j : second x ≡ second y = ap second e in
+        let no : ⊥ = grind (arith, nat_tests) in no)
 
 pub no_element : {X : Type 0} (x : X) → Contains [] x → ⊥
 no_element x has = omega (arith, has.1)

@@ -44,9 +44,11 @@ module _ (v : View) (s : CoreState) (h : IsSoundBy v s) where
           inr (a, m, moves, proc, page, entry)
       by_page a m locked moves false other =
           inl (h.whole_other p g a e m is locked moves (λ same. let no : ⊥ = grind (arith, nat_tests) in no))
+
       by_moves : (a : ℕ) → s.table p ≡ Some a → (m : Option Moving) → v.moves a ≡ m → (s.entry p g ≡ Some e) ⊎ ((a : ℕ) × (m : Moving) × (v.moves a ≡ Some m) × (m.proc ≡ p) × (m.page ≡ g) × (m.entry ≡ e))
       by_moves a locked None none = inl (h.whole_kept p g a e is locked none)
       by_moves a locked (Some m) some = by_page a m locked some (m.page == g) refl
+
       by_table : (t : Option ℕ) → s.table p ≡ t → (s.entry p g ≡ Some e) ⊎ ((a : ℕ) × (m : Moving) × (v.moves a ≡ Some m) × (m.proc ≡ p) × (m.page ≡ g) × (m.entry ≡ e))
       by_table None free = inl (h.whole_free p g e is free)
       by_table (Some a) locked = by_moves a locked (v.moves a) refl
@@ -81,8 +83,8 @@ module _ (v : View) (s : CoreState) (h : IsSoundBy v s) where
   unfolding held place number proc_of page_of
   whole_holder p g e is =
       elim (whole_is p g e is) [
-        inl there ↦ (entry_of_page p g, record { holds = ap frame_of there; place = refl; number = refl; kind = omega arith; weight = refl })
-      | inr cleared ↦ (cleared_by cleared.0, record { holds = ap moved_frame cleared.2 ∙ ap (λ (d : Entry). Some d.frame) cleared.5; place = ap proc_of cleared.2 ∙ cleared.3; number = ap page_of cleared.2 ∙ cleared.4; kind = omega arith; weight = refl })
+        | inl there ↦ (entry_of_page p g, record { holds = ap frame_of there; place = refl; number = refl; kind = omega arith; weight = refl })
+        | inr cleared ↦ (cleared_by cleared.0, record { holds = ap moved_frame cleared.2 ∙ ap (λ (d : Entry). Some d.frame) cleared.5; place = ap proc_of cleared.2 ∙ cleared.3; number = ap page_of cleared.2 ∙ cleared.4; kind = omega arith; weight = refl })
       ]
 
   -- who else holds a frame of which one holder is the whole count? Nobody.

@@ -8,17 +8,14 @@ use Rattle.gup_base.specs.declared.entry.Rights.{Rights}
 use Rattle.gup_base.specs.declared.entry.Rights.TheVariants.{RW}
 use Rattle.gup_plain.specs.Put.{put, put2, spread, within}
 use Rattle.gup_plain.specs.State.{born, failed, gone}
-use Rattle.gup_events.specs.State.{CoreState, copying, plain_of}
+use Rattle.gup_events.specs.State.{CoreState, plain_of}
 use Rattle.gup_events.specs.Event.{Can, happens, entry_of, map_pages, lower_entry, protect_pages, drop_entry, discard_entry}
 use Rattle.gup_events.specs.Invariant.{frame_of}
-use Rattle.gup_events.specs.Sound.{View, Forking, IsSoundBy, IsSound, Simulates, step_page}
+use Rattle.gup_events.specs.Sound.{View, IsSoundBy, IsSound, Simulates}
 use Rattle.gup_laws.proofs.Clauses.{References, WholeEntry, WholeMoved, WholeFree, WholeKept, WholeOther, MovedGone, RightNames, WholeNames, NamesObject, GrowingRights, UnbornUnmapped, FailedUnmapped, OwnMade, OwnNames, OwnEntry, OwnWords, OwnMarked, OwnMarking, MarkedOwn, EntryMapped, EntryMarked, EntryAllowed, EntryWords, Untouched, NamesAlone, NamesMade, RightNumbered, HandleFlag, TakenNames, MarkingEntry, MarkingOwn, ForkFresh, ForkMapped, CopyWords, ShareHandle, ShareTaken, ShareLowered, ShareUnowned, MirrorEntry, MirrorNames}
 use Rattle.gup_laws.proofs.Tally.{tally_is, tally_entry, tally_owed}
 use Rattle.gup_laws.proofs.Named.{by_pages}
-
--- the process of a page table that is free is no child of a fork
-no_child : (v : View) (s : CoreState) (p b : ℕ) (k : Forking) → IsSoundBy v s → s.birth p ≡ born → v.forks b ≡ Some k → k.child ≡ p → ⊥
-no_child v s p b k h is_born forks same = grind (arith, h.fork_birth b k, h.growing_locked)
+use Rattle.gup_laws.proofs.Children.{no_child, copied_made}
 
 -- pages without rights, of a born process, have no entries
 unmapped_empty : (v : View) (s : CoreState) (p page n : ℕ) → IsSoundBy v s → s.birth p ≡ born → ((k : ℕ) → k < n → s.right p (page + k) ≡ None) → (g : ℕ) (e : Entry) → v.whole p g ≡ Some e → within page n g ≡ true → ⊥
@@ -28,13 +25,6 @@ unmapped_empty v s p page n h is_born none g e there inside =
     let gone : s.right p g ≡ None = subst (λ i. s.right p i ≡ None) same (none (g - page) k) in
     let lost : s.birth p ≡ failed = h.entry_mapped p g e there gone in
     cc
-
--- the object of the page that a fork is copying was made
-copied_made : (v : View) (s : CoreState) (b i n : ℕ) (k : Forking) → IsSoundBy v s → v.forks b ≡ Some k → k.step ≡ copying i n → s.object k.child i < s.made
-copied_made v s b i n k h forks at =
-    let copies : step_page k.step ≡ Some i = ap step_page at in
-    let mapped : s.right k.child i ≡ None → ⊥ = h.fork_mapped b i k forks copies in
-    grind (arith, λ (r : Rights). h.right_names k.child i r, h.names_made k.child i (s.object k.child i))
 
 -- the pages had no entries, and their objects are new
 pub simulates-map_pages : (s : CoreState) (a p page n : ℕ) (rights : Rights) → IsSound s → Can s (map_pages a p page n rights) → Simulates s (map_pages a p page n rights)

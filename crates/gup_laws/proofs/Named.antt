@@ -22,3 +22,7 @@ pub is_to_write : (r : Option Rights) → IsSome r → (r ≡ Some R → ⊥) �
 is_to_write None mapped other = absurd (cc)
 is_to_write (Some R) mapped other = absurd (other refl)
 is_to_write (Some RW) mapped other = refl
+
+pub named_twice : (r : Option Rights) (o : ℕ) → named_or_zero r (named_or_zero r o) ≡ named_or_zero r o
+named_twice None o = refl
+named_twice (Some r) o = refl

@@ -90,8 +90,8 @@ pub are_taken : (ts : List Taken) → (ts ≡ [] → ⊥) → ((k : ℕ) (t : Ta
 are_taken [] some alike = absurd (some refl)
 are_taken (x ∷ ts) some alike =
     all_from (λ (u : Pending). u.write ≡ x.write) (map pending_of (x ∷ ts)) (λ k u is.
-        let from = at_mapped pending_of (x ∷ ts) k u is in
-        sym (ap (λ (y : Pending). y.write) from.2) ∙ alike k from.0 from.1)
+    let from = at_mapped pending_of (x ∷ ts) k u is in
+    sym (ap (λ (y : Pending). y.write) from.2) ∙ alike k from.0 from.1)
 
 objects_told : (ts : List Taken) → objects_taken ts ≡ pending_objects (map pending_of ts)
 objects_told [] = refl

@@ -118,9 +118,11 @@ module _ (count : ℕ → ℕ) (entry : ℕ → ℕ → Option Entry) (moves : �
       by_pin : (i k : ℕ) (b : Bool) → slice_get (if b then frames_of (taken a) else pinned i) k ≡ held entry moves prepared owed got pinned taken (swapped_pin a h i k b)
       by_pin i k true = frames_at a k
       by_pin i k false = refl
+
       by_taken : (c k : ℕ) (b : Bool) → taken_frame (slice_get (if b then [] else taken c) k) ≡ held entry moves prepared owed got pinned taken (swapped_taken a h c k b)
       by_taken c k true = ap (λ (xs : List ℕ). slice_get xs k) (sym none)
       by_taken c k false = refl
+
       same : (x : Holder) → held entry moves prepared owed got (put h (frames_of (taken a)) pinned) (put a [] taken) x ≡ held entry moves prepared owed got pinned taken (swapped a h x)
       same (entry_of_page p page) = refl
       same (cleared_by b) = refl

@@ -74,6 +74,7 @@ tally_change count holds now y others tally f = go (is_of (holds y) f) (is_of (n
   where
     w : ℕ
     w = weight y
+
     had_it : is_of (holds y) f ≡ true → is_of (now y) f ≡ true → Listed f (changed (holds y) (now y) (weight y) count f) now
     had_it was is =
         let old = of_true (holds y) f (weight y) was in
@@ -82,18 +83,21 @@ tally_change count holds now y others tally f = go (is_of (holds y) f) (is_of (n
         let from = λ (x : Holder) (h : now x ≡ Some f). by_holder y x (λ same. subst (λ z. holds z ≡ Some f) same old.0) (λ apart. let e = others x apart in let r : holds x ≡ Some f = cc in r) in
         let n : count f ≡ changed (holds y) (now y) (weight y) count f = omega (arith, old.1, new.1) in
         subst (λ k. Listed f k now) n (listed_same f (count f) holds now to from (tally f))
+
     gets : is_of (holds y) f ≡ false → is_of (now y) f ≡ true → Listed f (changed (holds y) (now y) (weight y) count f) now
     gets was is =
         let old = of_false (holds y) f (weight y) was in
         let new = of_true (now y) f (weight y) is in
         let n : count f + weight y ≡ changed (holds y) (now y) (weight y) count f = omega (arith, old.1, new.1) in
         subst (λ k. Listed f k now) n (listed_more f (count f) holds now y others old.0 new.0 (tally f))
+
     drops : is_of (holds y) f ≡ true → is_of (now y) f ≡ false → Listed f (changed (holds y) (now y) (weight y) count f) now
     drops was is =
         let old = of_true (holds y) f (weight y) was in
         let new = of_false (now y) f (weight y) is in
         let n : count f - weight y ≡ changed (holds y) (now y) (weight y) count f = omega (arith, old.1, new.1) in
         subst (λ k. Listed f k now) n (listed_less f (count f) holds now y others old.0 new.0 (tally f))
+
     lacks : is_of (holds y) f ≡ false → is_of (now y) f ≡ false → Listed f (changed (holds y) (now y) (weight y) count f) now
     lacks was is =
         let old = of_false (holds y) f (weight y) was in
@@ -102,6 +106,7 @@ tally_change count holds now y others tally f = go (is_of (holds y) f) (is_of (n
         let from = λ (x : Holder) (h : now x ≡ Some f). by_holder y x (λ same. absurd (new.0 (subst (λ z. now z ≡ Some f) (sym same) h))) (λ apart. let e = others x apart in let r : holds x ≡ Some f = cc in r) in
         let n : count f ≡ changed (holds y) (now y) (weight y) count f = omega (arith, old.1, new.1) in
         subst (λ k. Listed f k now) n (listed_same f (count f) holds now to from (tally f))
+
     go : (had has : Bool) → is_of (holds y) f ≡ had → is_of (now y) f ≡ has → Listed f (changed (holds y) (now y) (weight y) count f) now
     go true true was is = had_it was is
     go true false was is = drops was is
@@ -267,4 +272,3 @@ module _ (count : ℕ → ℕ) (entry : ℕ → ℕ → Option Entry) (moves : �
       others (got_as b) apart = refl
       others (page_of_pin j i) apart = refl
       others (page_taken b i) apart = taken_apart a b (taken a ++ t ∷ []) (taken a) taken i refl (λ e. at_others (taken a) t i (λ l. apart (same_holders (page_taken a (length (taken a))) (page_taken b i) refl e (sym l))))
-
