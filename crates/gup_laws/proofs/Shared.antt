@@ -4,7 +4,7 @@ use Rattle.std.specs.Prelude.{Option, Some, None, IsSome, Contains, nat_lt}
 use Rattle.std.proofs.lemmas.Bool.Decides.{nat_tests}
 use Rattle.gup_base.specs.declared.entry.Rights.{Rights}
 use Rattle.gup_plain.specs.State.{growing, named_or_zero}
-use Rattle.gup_events.specs.State.{CoreState, one, plain_of}
+use Rattle.gup_events.specs.State.{CoreState, plain_of}
 use Rattle.gup_events.specs.Sound.{View, IsSoundBy}
 use Rattle.gup_laws.proofs.Named.{named_here}
 use Rattle.gup_plain.specs.Event.{AreForking}
