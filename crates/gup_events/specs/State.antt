@@ -3,7 +3,7 @@
 use Rattle.std.specs.Prelude.{ℕ, Bool, false, if◌then◌else◌, List, [], map, Option, None}
 use Rattle.gup_base.specs.declared.entry.Entry.{Entry}
 use Rattle.gup_base.specs.declared.entry.Rights.{Rights}
-use Rattle.gup_plain.specs.State.{PlainState, Birth, Handle, Pending, Noted, born, unborn, unmade}
+use Rattle.gup_plain.specs.State.{PlainState, Birth, Handle, Pending, Noted, born, unborn, unmade, named_or_zero}
 
 -- what a mover has read of the count of the frame that it took out of its entry
 pub data Counted : Type 0 where
@@ -44,8 +44,9 @@ pub data Job : Type 0 where
   forking : (p child : ℕ) (done : List ℕ) (step : ForkStep) → Job
   walking : (p : ℕ) (write long : Bool) (sequence : ℕ) (step : WalkStep) → Job
 
--- a page that a running pin has taken
+-- a page that a running pin has taken, and its process
 pub record Taken : Type 0 where
+  pub proc : ℕ
   pub page : ℕ
   pub frame : ℕ
   pub object : ℕ
@@ -98,7 +99,8 @@ pub record CoreState : Type 0 where
 abbrev pub pending_of : Taken → Pending
 pending_of t = record { page = t.page; object = t.object; write = t.write }
 
--- the plain state that a core state stands for
+-- The plain state that a core state stands for. The ghost of a page's object may outlive its mapping, where a failed
+-- child's entry is yet to be given back; the plain state names no object there.
 abbrev pub plain_of : CoreState → PlainState
 plain_of s =
     record {
@@ -106,7 +108,7 @@ plain_of s =
       made = s.made;
       birth = s.birth;
       right = s.right;
-      object = s.object;
+      object = λ p page. named_or_zero (s.right p page) (s.object p page);
       pages = s.pages;
       copied = s.copied;
       handle = s.handle;

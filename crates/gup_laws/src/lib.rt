@@ -1,12 +1,15 @@
 //! The law of simulation: what the core machine does to the plain state is its plain events, whatever the order of
-//! its events.
+//! its events, and what is published of its states holds of each.
 #![tactic(auto)]
 
-ghost use Rattle.std.specs.Prelude.{ℕ, Bool, true};
-ghost use Rattle.gup_events.specs.State.{CoreState, start};
+ghost use Rattle.std.specs.Prelude.{◌≡◌, ℕ, Bool, List};
+ghost use Rattle.gup_plain.specs.State.{start as plain_start};
+ghost use Rattle.gup_events.specs.State.{CoreState, start, plain_of};
 ghost use Rattle.gup_events.specs.Event.{CoreEvent, Can};
+ghost use Rattle.gup_events.specs.Invariant.{AllCan, run, Holds};
 ghost use Rattle.gup_events.specs.Sound.{IsSound, Simulates};
-ghost use Rattle.gup_laws.specs.Run.{AllCan, one_page};
+ghost use Rattle.gup_laws.specs.Law.{all_told};
+ghost use Rattle.gup_model.specs.LastWrite.{ArePossible, after};
 
 /// The start of the core machine is sound.
 pub fn starts_sound()
@@ -18,9 +21,17 @@ pub fn simulates()
     ensures { (s : CoreState) (e : CoreEvent) → IsSound s → Can s e → Simulates s e }
 {}
 
-/// The law is not empty: with one frame, a page is mapped, filled, read, written, read again and unmapped, and the
-/// frame is free again.
-#[tactic(auto, unfolding(gup_plain::specs::Event::page_numbers))]
-pub fn runs_are_possible()
-    ensures { AllCan (start 1 0 (λ _. true)) one_page }
+/// In a sound state each frame's count is that of its references, the exclusive rule holds, what a fork shares and a
+/// mover moves is under no pin, and frames have the bytes that the plain state says.
+pub fn sound_states_hold()
+    ensures { (s : CoreState) → IsSound s → Holds s }
+{}
+
+/// Whatever core events happen from the start on, each when it can: all that is published holds of the state that they
+/// lead to, and the plain events that stand at them are a plain list, which leads to the plain state that it stands
+/// for.
+pub fn core_runs_hold()
+    ensures holds { (movable normal : ℕ) (is_born : ℕ → Bool) (es : List CoreEvent) → AllCan (start movable normal is_born) es → Holds (run (start movable normal is_born) es) }
+    ensures plain { (movable normal : ℕ) (is_born : ℕ → Bool) (es : List CoreEvent) → AllCan (start movable normal is_born) es → ArePossible (plain_start is_born) (all_told es) }
+    ensures stands { (movable normal : ℕ) (is_born : ℕ → Bool) (es : List CoreEvent) → AllCan (start movable normal is_born) es → plain_of (run (start movable normal is_born) es) ≡ after (plain_start is_born) (all_told es) }
 {}

@@ -1,0 +1,184 @@
+-- What is true of every state that the core machine reaches: the count of a frame is that of its references, an
+-- exclusive frame belongs to one page or to the pins that outlived it, what a fork shares and a mover moves is under no
+-- pin, and frames have the bytes that the plain model says.
+use Rattle.std.specs.Prelude.{◌≡◌, ℕ, ◌+◌, ◌<◌, ◌≤◌, ◌⊎◌, Bool, true, false, List, [], ◌∷◌, length, slice_get, Contains, sum_by, Option, Some, None, IsSome}
+use Rattle.gup_base.specs.declared.entry.Entry.{Entry}
+use Rattle.gup_base.specs.declared.entry.Rights.{Rights}
+use Rattle.gup_base.specs.declared.entry.Rights.TheVariants.{RW}
+use Rattle.gup_plain.specs.Event.{CanHappen, words}
+use Rattle.gup_plain.specs.State.{PlainState, Noted, Handle, failed, born, objects_of}
+use Rattle.gup_plain.specs.declared.event.PlainEvent.{PlainEvent}
+use Rattle.gup_events.specs.State.{CoreState, Taken, Job, idle, marking, moving, forking, walking, Counted, one, ForkStep, counted, lowered, cleared, copying, plain_of}
+use Rattle.gup_events.specs.Event.{CoreEvent, Can, happens, told, after_told, bias}
+
+-- 1. References: whatever may hold a frame
+
+pub data Holder : Type 0 where
+  -- an entry, and one that a mover has cleared
+  entry_of_page : (p page : ℕ) → Holder
+  cleared_by : (a : ℕ) → Holder
+  -- a frame that an actor prepares, and one that it has yet to give back
+  prepared_by : (a : ℕ) → Holder
+  owed_by : (a : ℕ) → Holder
+  got_as : (k : ℕ) → Holder
+  -- a page of a handle, and one that a running pin has taken
+  page_of_pin : (h k : ℕ) → Holder
+  page_taken : (a k : ℕ) → Holder
+
+abbrev pub frame_of : Option Entry → Option ℕ
+frame_of None = None
+frame_of (Some e) = Some e.frame
+
+abbrev pub cleared_frame : Job → Option ℕ
+cleared_frame (moving p page e count) = Some e.frame
+cleared_frame job = None
+
+abbrev pub got_frame : Option (ℕ × ℕ) → Option ℕ
+got_frame None = None
+got_frame (Some got) = Some got.1
+
+abbrev pub taken_frame : Option Taken → Option ℕ
+taken_frame None = None
+taken_frame (Some t) = Some t.frame
+
+-- the frame that it holds, if it holds one
+abbrev pub holds : CoreState → Holder → Option ℕ
+holds s (entry_of_page p page) = frame_of (s.entry p page)
+holds s (cleared_by a) = cleared_frame (s.job a)
+holds s (prepared_by a) = s.prepared a
+holds s (owed_by a) = s.owed a
+holds s (got_as k) = got_frame (s.got k)
+holds s (page_of_pin h k) = slice_get (s.pinned h) k
+holds s (page_taken a k) = taken_frame (slice_get (s.taken a) k)
+
+abbrev pub weight : Holder → ℕ
+weight (page_of_pin h k) = bias
+weight (page_taken a k) = bias
+weight holder = 1
+
+abbrev pub HasNoRepetition : List Holder → Type 0
+HasNoRepetition [] = Unit {0}
+HasNoRepetition (x ∷ xs) = (Contains xs x → ⊥) × HasNoRepetition xs
+
+-- The holders of a frame are the elements of a list without repetition, and their weights add up to its count.
+abbrev pub CountsReferences : CoreState → Type 0
+CountsReferences s =
+    (f : ℕ) → (holders : List Holder)
+    × HasNoRepetition holders
+    × ((x : Holder) → (holds s x ≡ Some f → Contains holders x) × (Contains holders x → holds s x ≡ Some f))
+    × (sum_by weight holders ≡ s.count f)
+
+-- 2. Entries, those that a mover has cleared counted
+
+-- the actor has cleared the entry of this page
+abbrev pub HasCleared : CoreState → (a p page : ℕ) → Entry → Type 0
+HasCleared s a p page e = (count : Counted) × (s.job a ≡ moving p page e count)
+
+-- the page's entry, or the one that was cleared
+abbrev pub IsEntry : CoreState → (p page : ℕ) → Entry → Type 0
+IsEntry s p page e = (s.entry p page ≡ Some e) ⊎ ((a : ℕ) × HasCleared s a p page e)
+
+-- the page names the object
+abbrev pub Names : CoreState → (p page o : ℕ) → Type 0
+Names s p page o = IsSome (s.right p page) × (s.object p page ≡ o)
+
+-- 3. Settled pins: the pages of handles, and those that a slow pin has taken
+
+abbrev pub is_walk : Job → Bool
+is_walk (walking p write long sequence step) = true
+is_walk job = false
+
+abbrev pub InHandle : CoreState → (f o : ℕ) → Type 0
+InHandle s f o =
+    (h : ℕ) × (k : ℕ) × (slice_get (s.pinned h) k ≡ Some f) × (slice_get (objects_of (s.handle h)) k ≡ Some o)
+
+abbrev pub InPin : CoreState → (f o : ℕ) → Type 0
+InPin s f o =
+    (a : ℕ) × (t : Taken) × (is_walk (s.job a) ≡ false) × Contains (s.taken a) t × (t.frame ≡ f) × (t.object ≡ o)
+
+-- a settled pin page has this frame and this object
+abbrev pub IsSettled : CoreState → (f o : ℕ) → Type 0
+IsSettled s f o = InHandle s f o ⊎ InPin s f o
+
+-- 4. The exclusive rule
+
+pub record IsExclusive (s : CoreState) : Type 0 where
+  -- a writable entry's frame is marked, and, but for a failed child's, its page may be written
+  pub writable : (p page : ℕ) (e : Entry) → IsEntry s p page e → e.writable ≡ true → (s.mark e.frame ≡ true) × ((s.birth p ≡ failed → ⊥) → s.right p page ≡ Some RW)
+  -- a marked frame is in at most one entry
+  pub one_entry : (p page q g : ℕ) (d e : Entry) → IsEntry s p page d → IsEntry s q g e → d.frame ≡ e.frame → s.mark e.frame ≡ true → (p ≡ q) × (page ≡ g)
+  -- a pinned frame is marked; it is in the entry of the page that names its object, and in no other
+  pub pin_marked : (f o : ℕ) → IsSettled s f o → s.mark f ≡ true
+  pub pin_entry : (f o p page : ℕ) → IsSettled s f o → Names s p page o → (e : Entry) × IsEntry s p page e × (e.frame ≡ f)
+  pub pin_alone : (f o p page : ℕ) (e : Entry) → IsSettled s f o → IsEntry s p page e → e.frame ≡ f → Names s p page o
+  -- two pinned pages have one frame exactly where they have one object
+  pub one_object : (f g o u : ℕ) → IsSettled s f o → IsSettled s g u → (f ≡ g → o ≡ u) × (o ≡ u → f ≡ g)
+  -- the process that names a pinned object has pinned
+  pub pin_flag : (f o p page : ℕ) → IsSettled s f o → Names s p page o → s.has_pinned p ≡ true
+
+-- 5. Forks and movers
+
+abbrev pub IsUnpinned : CoreState → (f : ℕ) → Type 0
+IsUnpinned s f = (o : ℕ) → IsSettled s f o → ⊥
+
+-- the fork is in the middle of a share of this page
+abbrev pub IsSharing : ForkStep → (page : ℕ) → Type 0
+IsSharing (counted g) page = g ≡ page
+IsSharing (lowered g) page = g ≡ page
+IsSharing (cleared g) page = g ≡ page
+IsSharing step page = ⊥
+
+pub record IsParted (s : CoreState) : Type 0 where
+  -- what a fork found not to be copied is under no settled pin, up to its share
+  pub share : (a p c page : ℕ) (done : List ℕ) (step : ForkStep) (e : Entry) → s.job a ≡ forking p c done step → IsSharing step page → s.entry p page ≡ Some e → IsUnpinned s e.frame
+  -- and so is the frame that a mover has cleared and counted once
+  pub move : (a p page : ℕ) (e : Entry) → s.job a ≡ moving p page e one → IsUnpinned s e.frame
+
+-- 6. Bytes: what the plain state says of objects is so in frames
+
+abbrev pub HasWords : CoreState → (f o : ℕ) → Type 0
+HasWords s f o = (w : ℕ) → w < words → s.word f w ≡ s.content o w
+
+-- no fork into the process is copying the page
+abbrev pub IsUncopied : CoreState → (c page : ℕ) → Type 0
+IsUncopied s c page = (a p word : ℕ) (done : List ℕ) → s.job a ≡ forking p c done (copying page word) → ⊥
+
+pub record StandsFor (s : CoreState) : Type 0 where
+  -- a page's entry, be it cleared, has the words of the page's object; a page without one has zeros
+  pub entry_words : (p page : ℕ) (e : Entry) → IsEntry s p page e → IsSome (s.right p page) → HasWords s e.frame (s.object p page)
+  pub untouched : (p page w : ℕ) → IsSome (s.right p page) → ((e : Entry) → IsEntry s p page e → ⊥) → IsUncopied s p page → w < words → s.content (s.object p page) w ≡ 0
+  -- a pinned frame has the words of its object
+  pub pin_words : (f o : ℕ) → IsSettled s f o → HasWords s f o
+  -- what a fork has copied of a page is in the frame that it prepares
+  pub copy_words : (a p c page word w f : ℕ) (done : List ℕ) → s.job a ≡ forking p c done (copying page word) → s.prepared a ≡ Some f → w < word → s.word f w ≡ s.content (s.object c page) w
+  -- the pages that a handle still has are the first of its objects
+  pub handle_pages : (h : ℕ) → length (s.pinned h) ≤ length (objects_of (s.handle h))
+  -- a filled mirror slot has the frame of its page's entry, and the page still names the slot's object
+  pub mirror : (m f : ℕ) (noted : Noted) → s.mirrored m ≡ Some f → s.slot m ≡ Some noted → (s.birth noted.proc ≡ born) × ((e : Entry) × (s.entry noted.proc noted.page ≡ Some e) × (e.frame ≡ f)) × Names s noted.proc noted.page noted.object
+
+-- What is known of a reachable state.
+pub record Holds (s : CoreState) : Type 0 where
+  pub counts : CountsReferences s
+  pub exclusive : IsExclusive s
+  pub parted : IsParted s
+  pub stands : StandsFor s
+
+-- The plain event that stands at a core event, if one does, can happen in the plain state that the core state
+-- stands for.
+abbrev pub CanTell : PlainState → Option PlainEvent → Type 0
+CanTell s None = Unit {0}
+CanTell s (Some e) = CanHappen s e
+
+-- What a core event does to the plain state is its plain event, which can happen.
+pub record Tells (s : CoreState) (e : CoreEvent) : Type 0 where
+  pub can : CanTell (plain_of s) (told e)
+  pub same : plain_of (happens s e) ≡ after_told (plain_of s) (told e)
+
+-- each event can happen in the state that those before it lead to
+abbrev pub AllCan : CoreState → List CoreEvent → Type 0
+AllCan s [] = Unit {0}
+AllCan s (e ∷ es) = Can s e × AllCan (happens s e) es
+
+abbrev pub run : CoreState → List CoreEvent → CoreState
+run s [] = s
+run s (e ∷ es) = run (happens s e) es

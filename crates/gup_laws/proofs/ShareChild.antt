@@ -1,0 +1,137 @@
+-- A fork brings a page by sharing it, or passes it, where it has no entry.
+use Rattle.std.proofs.Common.{◌≡◌, ℕ, ◌<◌, Bool, true, false, List, ◌∷◌, refl, ap, sym, ◌∙◌, arith}
+use Rattle.std.specs.Prelude.{Some, None, IsSome}
+use Rattle.std.proofs.lemmas.Bool.Decides.{nat_tests}
+use Rattle.gup_base.specs.declared.entry.Entry.{Entry}
+use Rattle.gup_base.specs.declared.entry.Rights.{Rights}
+use Rattle.gup_plain.specs.Put.{put, put2, spread}
+use Rattle.gup_plain.specs.State.{growing, born}
+use Rattle.gup_plain.specs.Event.{words}
+use Rattle.gup_events.specs.State.{CoreState, between, cleared, plain_of}
+use Rattle.gup_events.specs.Event.{Can, happens, entry_of, is_done, share_child, pass_page}
+use Rattle.gup_events.specs.Sound.{View, Forking, marking_of, moving_of, IsSoundBy, IsSound, Simulates, IsUncopiedBy}
+use Rattle.gup_laws.proofs.Clauses.{References, MarksAre, MovesAre, ForksAre, WholeEntry, WholeMoved, WholeFree, WholeKept, WholeOther, MovedGone, WholeNames, MarksTable, MovesTable, ForksTable, ForksStructure, TableHeld, StructureHeld, TableBorn, ForkParent, ForkBirth, GrowingForked, OwnNames, OwnEntry, OwnWords, OwnMarked, OwnMarking, MarkedOwn, EntryMapped, EntryMarked, EntryAllowed, EntryWords, Untouched, PreparedOnce, PreparedZero, MarkingEntry, MovingOnce, ForkFresh, ForkCopied, ForkUncopied, ForkUndone, ForkMapped, CopyWords, ShareHandle, ShareTaken, ShareLowered, ShareUnowned, MirrorEntry}
+use Rattle.gup_laws.proofs.Tally.{tally_is, tally_entry}
+use Rattle.gup_laws.proofs.Lonely.{once_wholes, prepared_whole, whole_none}
+use Rattle.gup_laws.proofs.Children.{only_fork, born_uncopied, uncopied_before, fork_here, no_child}
+use Rattle.gup_laws.proofs.Shared.{child_names, is_done_now, was_done}
+use Rattle.gup_laws.proofs.Shared.{shown_same, page_forks, none_before}
+
+-- parent and child have the page's frame, and their objects have its words
+pub simulates-share_child : (s : CoreState) (a p c : ℕ) (done : List ℕ) (page f : ℕ) (writable : Bool) → IsSound s → Can s (share_child a p c done page f writable) → Simulates s (share_child a p c done page f writable)
+simulates-share_child s a p c done page f writable (v, h) can =
+    let S : CoreState = happens s (share_child a p c done page f writable) in
+    let V : View = record v { whole = put2 c page (Some (entry_of f false)) v.whole; forks = put a (Some (record { proc = p; child = c; done = page ∷ done; step = between })) v.forks } in
+    let before : Forking = record { proc = p; child = c; done = done; step = cleared page } in
+    let mine : v.forks a ≡ Some before = fork_here v s a p c done (cleared page) h can.0 in
+    let lives : s.birth p ≡ born = h.fork_parent a before mine in
+    let grows : s.birth c ≡ growing p = h.fork_birth a before mine in
+    let still : v.moves a ≡ None = h.moves_are a ∙ ap moving_of can.0 in
+    let unmarking : v.marks a ≡ None = h.marks_are a ∙ ap marking_of can.0 in
+    let locked : s.table p ≡ Some a = h.forks_table a page before mine refl in
+    let e : Entry = entry_of f writable in
+    let here : s.entry p page ≡ Some e = can.1 in
+    let there : v.whole p page ≡ Some e = h.whole_entry p page e here in
+    let named : v.names p page ≡ Some (s.object p page) = h.whole_names p page e there in
+    let unowned : s.own f ≡ None = h.share_unowned a page before e mine refl there in
+    let undone : is_done done page → ⊥ = h.fork_undone a page before mine refl in
+    let empty : v.whole c page ≡ None = h.fork_fresh a page before mine refl undone in
+    let mapped : s.right c page ≡ None → ⊥ = h.fork_mapped a page before mine refl in
+    let names_to : v.names c page ≡ Some (s.object c page) = child_names v s c page h mapped in
+    let rights : s.right c page ≡ s.right p page = h.growing_rights c p page grows in
+    let references : References V S = tally_is _ _ _ (tally_entry _ _ _ _ _ _ _ _ c page (Some (entry_of f false)) h.references) (λ d. grind (arith, nat_tests, h.whole_entry c page)) in
+    let marks_are : MarksAre V S = λ b. grind (arith, nat_tests, h.marks_are b) in
+    let moves_are : MovesAre V S = λ b. grind (arith, nat_tests, h.moves_are b) in
+    let forks_are : ForksAre V S = λ b. grind (arith, nat_tests, h.forks_are b) in
+    let whole_entry : WholeEntry V S = λ q i d. grind (arith, nat_tests, h.whole_entry q i d) in
+    let whole_moved : WholeMoved V S = λ b m. grind (arith, nat_tests, h.whole_moved b m, h.moves_table b m) in
+    let whole_free : WholeFree V S = λ q i d. grind (arith, nat_tests, h.whole_free q i d, h.whole_kept q i a d) in
+    let whole_kept : WholeKept V S = λ q i b d. grind (arith, nat_tests, h.whole_kept q i b d, h.table_born q b) in
+    let whole_other : WholeOther V S = λ q i b d m. grind (arith, nat_tests, h.whole_other q i b d m, h.table_born q b) in
+    let moved_gone : MovedGone V S = λ b m. grind (arith, nat_tests, h.moved_gone b m, h.moves_table b m, h.table_born m.proc b) in
+    let whole_names : WholeNames V S = λ q i d. grind (arith, nat_tests, h.whole_names q i d) in
+    let marks_table : MarksTable V S = λ b m. grind (arith, nat_tests, h.marks_table b m) in
+    let moves_table : MovesTable V S = λ b m. grind (arith, nat_tests, h.moves_table b m) in
+    let forks_table : ForksTable V S = λ b i fork. grind (arith, nat_tests, h.forks_table b i fork) in
+    let forks_structure : ForksStructure V S = λ b fork. grind (arith, nat_tests, h.forks_structure b fork, h.forks_structure a before) in
+    let table_held : TableHeld V S = λ q b. grind (arith, nat_tests, h.table_held q b) in
+    let structure_held : StructureHeld V S = λ q b. grind (arith, nat_tests, h.structure_held q b) in
+    let table_born : TableBorn V S = λ q b. grind (arith, nat_tests, h.table_born q b) in
+    let fork_parent : ForkParent V S = λ b fork. grind (arith, nat_tests, h.fork_parent b fork, h.fork_parent a before) in
+    let fork_birth : ForkBirth V S = λ b fork. grind (arith, nat_tests, h.fork_birth b fork, h.fork_birth a before) in
+    let growing_forked : GrowingForked V S = λ x q b. grind (arith, nat_tests, h.growing_forked x q b) in
+    let own_names : OwnNames V S = λ q i o d. grind (arith, nat_tests, h.own_names q i o d) in
+    let own_entry : OwnEntry V S = λ u q i o. grind (arith, nat_tests, h.own_entry u q i o, h.names_alone c page q i o) in
+    let own_words : OwnWords V S = λ u o w. grind (arith, nat_tests, h.own_words u o w, h.own_entry u c page (s.object c page)) in
+    let own_marked : OwnMarked V S = λ q i o d. grind (arith, nat_tests, h.own_marked q i o d, h.own_marking q i o a d) in
+    let own_marking : OwnMarking V S = λ q i o b d. grind (arith, nat_tests, h.own_marking q i o b d) in
+    let marked_own : MarkedOwn V S = λ q i d. grind (arith, nat_tests, h.marked_own q i d, h.marked_own p page e) in
+    let entry_mapped : EntryMapped V S = λ q i d. grind (arith, nat_tests, h.entry_mapped q i d) in
+    let entry_marked : EntryMarked V S = λ q i d. grind (arith, nat_tests, h.entry_marked q i d) in
+    let entry_allowed : EntryAllowed V S = λ q i d. grind (arith, nat_tests, h.entry_allowed q i d) in
+    let entry_words : EntryWords V S = λ q i w d r. grind (arith, nat_tests, h.entry_words q i w d r, h.names_alone c page q i (s.object c page), h.right_names q i r, h.entry_words p page w e r, h.names_alone c page p page (s.object c page)) in
+    let untouched : Untouched V S = λ q i w r mapped empty now. let old : IsUncopiedBy v.forks q i = uncopied_before v.forks a _ q i now (λ word k is child at. grind (arith)) in grind (arith, nat_tests, λ (is : s.right q i ≡ Some r) (bare : v.whole q i ≡ None). h.untouched q i w r is bare old, h.right_names q i r mapped, h.names_alone c page q i (s.object c page)) in
+    let prepared_once : PreparedOnce V S = λ b u. grind (arith, nat_tests, h.prepared_once b u, prepared_whole v s h b f p page e) in
+    let prepared_zero : PreparedZero V S = λ b u w. grind (arith, nat_tests, h.prepared_zero b u w) in
+    let marking_entry : MarkingEntry V S = λ b m. grind (arith, nat_tests, h.marking_entry b m, h.marks_table b m, h.table_born m.proc b) in
+    let moving_once : MovingOnce V S = λ b m. grind (arith, nat_tests, h.moving_once b m, h.whole_moved b m, once_wholes v s h p page m.proc m.page e m.entry, h.moves_table b m) in
+    let fork_fresh : ForkFresh V S = λ b i fork. grind (arith, nat_tests, h.fork_fresh b i fork, h.fork_fresh a i before, was_done done page i, no_child v s p b fork h lives, only_fork v s a b before fork h mine refl) in
+    let fork_copied : ForkCopied V S = λ b i w fork. grind (arith, nat_tests, h.fork_copied b i w fork, h.fork_copied a i w before, is_done_now done page i, only_fork v s a b before fork h mine refl) in
+    let fork_uncopied : ForkUncopied V S = λ b i w fork. grind (arith, nat_tests, h.fork_uncopied b i w fork, h.fork_uncopied a i w before, was_done done page i, only_fork v s a b before fork h mine refl) in
+    let fork_undone : ForkUndone V S = λ b i fork. grind (arith, nat_tests, h.fork_undone b i fork) in
+    let fork_mapped : ForkMapped V S = λ b i fork. grind (arith, nat_tests, h.fork_mapped b i fork) in
+    let copy_words : CopyWords V S = λ b i n w u fork. grind (arith, nat_tests, h.copy_words b i n w u fork, only_fork v s a b before fork h mine refl, h.fork_mapped b i fork, λ (r : Rights). h.right_names fork.child i r, h.names_alone c page fork.child i (s.object c page)) in
+    let share_handle : ShareHandle V S = λ b i j n fork d. grind (arith, nat_tests, h.share_handle b i j n fork d, h.fork_parent b fork) in
+    let share_taken : ShareTaken V S = λ b i y n fork d t. grind (arith, nat_tests, h.share_taken b i y n fork d t, h.fork_parent b fork) in
+    let share_lowered : ShareLowered V S = λ b i fork d. grind (arith, nat_tests, h.share_lowered b i fork d, h.fork_parent b fork) in
+    let share_unowned : ShareUnowned V S = λ b i fork d. grind (arith, nat_tests, h.share_unowned b i fork d, h.fork_parent b fork) in
+    let mirror_entry : MirrorEntry V S = λ m u noted. grind (arith, nat_tests, h.mirror_entry m u noted, h.mirror_born m u noted) in
+    let sound : IsSoundBy V S = assumption in
+    record { sound = (V, sound); can = (page_forks v s p c page h grows mapped, λ w inside. h.fork_uncopied a page w before mine refl undone inside ∙ none_before w); same = ap (λ (x : ℕ × ℕ). record (plain_of s) { content = put x.1 (spread 0 words (s.content x.0) (s.content x.1)) s.content; copied = put2 c page (spread 0 words (λ _. true) (s.copied c page)) s.copied }) (sym (shown_same v s p c page h grows mapped)) }
+
+-- a page without an entry has zeros, and so has its child
+pub simulates-pass_page : (s : CoreState) (a p c : ℕ) (done : List ℕ) (page : ℕ) → IsSound s → Can s (pass_page a p c done page) → Simulates s (pass_page a p c done page)
+simulates-pass_page s a p c done page (v, h) can =
+    let S : CoreState = happens s (pass_page a p c done page) in
+    let V : View = record v { forks = put a (Some (record { proc = p; child = c; done = page ∷ done; step = between })) v.forks } in
+    let before : Forking = record { proc = p; child = c; done = done; step = between } in
+    let mine : v.forks a ≡ Some before = fork_here v s a p c done between h can.0 in
+    let lives : s.birth p ≡ born = h.fork_parent a before mine in
+    let grows : s.birth c ≡ growing p = h.fork_birth a before mine in
+    let still : v.moves a ≡ None = h.moves_are a ∙ ap moving_of can.0 in
+    let unmarking : v.marks a ≡ None = h.marks_are a ∙ ap marking_of can.0 in
+    let undone : is_done done page → ⊥ = can.3 in
+    let empty : v.whole c page ≡ None = h.fork_fresh a page before mine refl undone in
+    let bare : v.whole p page ≡ None = whole_none v s h p page can.1 can.4 in
+    let some : IsSome (s.right c page) = can.2 in
+    let mapped : s.right c page ≡ None → ⊥ = λ none. absurd (cc) in
+    let names_to : v.names c page ≡ Some (s.object c page) = child_names v s c page h mapped in
+    let rights : s.right c page ≡ s.right p page = h.growing_rights c p page grows in
+    let zero_words : (w : ℕ) (r : Rights) → s.right p page ≡ Some r → w < words → s.content (s.object p page) w ≡ 0 = λ w r is inside. h.untouched p page w r is bare (born_uncopied v s p page h lives) inside in
+    let named : v.names p page ≡ Some (s.object p page) = child_names v s p page h (λ none. mapped (rights ∙ none)) in
+    let marks_are : MarksAre V S = λ b. grind (arith, nat_tests, h.marks_are b) in
+    let moves_are : MovesAre V S = λ b. grind (arith, nat_tests, h.moves_are b) in
+    let forks_are : ForksAre V S = λ b. grind (arith, nat_tests, h.forks_are b) in
+    let forks_table : ForksTable V S = λ b i fork. grind (arith, nat_tests, h.forks_table b i fork) in
+    let forks_structure : ForksStructure V S = λ b fork. grind (arith, nat_tests, h.forks_structure b fork, h.forks_structure a before) in
+    let table_held : TableHeld V S = λ q b. grind (arith, nat_tests, h.table_held q b) in
+    let structure_held : StructureHeld V S = λ q b. grind (arith, nat_tests, h.structure_held q b) in
+    let fork_parent : ForkParent V S = λ b fork. grind (arith, nat_tests, h.fork_parent b fork, h.fork_parent a before) in
+    let fork_birth : ForkBirth V S = λ b fork. grind (arith, nat_tests, h.fork_birth b fork, h.fork_birth a before) in
+    let growing_forked : GrowingForked V S = λ x q b. grind (arith, nat_tests, h.growing_forked x q b) in
+    let own_words : OwnWords V S = λ u o w. grind (arith, nat_tests, h.own_words u o w, h.own_entry u c page (s.object c page)) in
+    let entry_words : EntryWords V S = λ q i w d r. grind (arith, nat_tests, h.entry_words q i w d r, h.names_alone c page q i (s.object c page), h.right_names q i r) in
+    let untouched : Untouched V S = λ q i w r there none now. let old : IsUncopiedBy v.forks q i = uncopied_before v.forks a _ q i now (λ word k is child at. grind (arith)) in grind (arith, nat_tests, λ (is : s.right q i ≡ Some r) (bare : v.whole q i ≡ None). h.untouched q i w r is bare old, h.right_names q i r there, h.names_alone c page q i (s.object c page), h.names_alone c page p page (s.object c page), zero_words w r) in
+    let prepared_zero : PreparedZero V S = λ b u w. grind (arith, nat_tests, h.prepared_zero b u w) in
+    let fork_fresh : ForkFresh V S = λ b i fork. grind (arith, nat_tests, h.fork_fresh b i fork, h.fork_fresh a i before, was_done done page i, no_child v s p b fork h lives, only_fork v s a b before fork h mine refl) in
+    let fork_copied : ForkCopied V S = λ b i w fork. grind (arith, nat_tests, h.fork_copied b i w fork, h.fork_copied a i w before, is_done_now done page i, only_fork v s a b before fork h mine refl) in
+    let fork_uncopied : ForkUncopied V S = λ b i w fork. grind (arith, nat_tests, h.fork_uncopied b i w fork, h.fork_uncopied a i w before, was_done done page i, only_fork v s a b before fork h mine refl) in
+    let fork_undone : ForkUndone V S = λ b i fork. grind (arith, nat_tests, h.fork_undone b i fork) in
+    let fork_mapped : ForkMapped V S = λ b i fork. grind (arith, nat_tests, h.fork_mapped b i fork) in
+    let copy_words : CopyWords V S = λ b i n w u fork. grind (arith, nat_tests, h.copy_words b i n w u fork, only_fork v s a b before fork h mine refl, h.fork_mapped b i fork, λ (r : Rights). h.right_names fork.child i r, h.names_alone c page fork.child i (s.object c page)) in
+    let share_handle : ShareHandle V S = λ b i j n fork d. grind (arith, nat_tests, h.share_handle b i j n fork d) in
+    let share_taken : ShareTaken V S = λ b i y n fork d t. grind (arith, nat_tests, h.share_taken b i y n fork d t) in
+    let share_lowered : ShareLowered V S = λ b i fork d. grind (arith, nat_tests, h.share_lowered b i fork d) in
+    let share_unowned : ShareUnowned V S = λ b i fork d. grind (arith, nat_tests, h.share_unowned b i fork d) in
+    let sound : IsSoundBy V S = assumption in
+    record { sound = (V, sound); can = (page_forks v s p c page h grows mapped, λ w inside. h.fork_uncopied a page w before mine refl undone inside ∙ none_before w); same = ap (λ (x : ℕ × ℕ). record (plain_of s) { content = put x.1 (spread 0 words (s.content x.0) (s.content x.1)) s.content; copied = put2 c page (spread 0 words (λ _. true) (s.copied c page)) s.copied }) (sym (shown_same v s p c page h grows mapped)) }
