@@ -16,7 +16,7 @@ use Rattle.gup_script.specs.Script.{ScriptValue}
 use Rattle.gup_script.specs.Valid.{IsScript}
 use Rattle.gup.specs.FirstPath.{IsFirstPath}
 use Rattle.gup_events.specs.State.{CoreState}
-use Rattle.gup_events.specs.Event.{CoreEvent, happens, take_frame, fill, upgrade, put_entry, map_pages, drop_entry, load, store}
+use Rattle.gup_events.specs.Event.{CoreEvent, happens}
 use Rattle.gup_follows.specs.Place.{Place, place_behind, process_of, ops_of}
 use Rattle.gup_plain.specs.Note.{NoteValue}
 use Rattle.gup_follows.specs.Follows.{notes_of_turn}
@@ -31,14 +31,7 @@ use Rattle.gup.proofs.Scripts.{op_fits}
 
 -- no event moves the border of the zones
 happens-movable : (s : CoreState) (e : CoreEvent) → ((happens s e).movable ≡ s.movable) × ((happens s e).normal ≡ s.normal)
-happens-movable s (take_frame a f) = (refl, refl)
-happens-movable s (fill a p page f) = (refl, refl)
-happens-movable s (upgrade a p page f) = (refl, refl)
-happens-movable s (put_entry a f) = (refl, refl)
-happens-movable s (map_pages a p page n rights) = (refl, refl)
-happens-movable s (drop_entry a p page was) = (refl, refl)
-happens-movable s (load a p page word f value) = (refl, refl)
-happens-movable s (store a p page word f value) = (refl, refl)
+happens-movable s e = (grind (arith), grind (arith))
 
 state_after-movable : (s : CoreState) (es : List CoreEvent) → ((state_after s es).movable ≡ s.movable) × ((state_after s es).normal ≡ s.normal)
 state_after-movable s [] = (refl, refl)

@@ -25,7 +25,7 @@ LeftOf script a place notes = LeftAt a (process_of script a) (ops_of script a) p
 ready : (script : ScriptValue) (r : RunState) → Stands script r → (a : ℕ) (op : Op) → op_in script r a ≡ Some op → r.core.birth (process_of script a) ≡ born → can_go script r a ≡ true
 ready script r h a op is birth =
     let p = process_of script a in
-    let free : waiting_in script r a ≡ None = ap (waiting_with r.core a p) is ∙ waiting_agrees r.core a p op h.sound ∙ ap (waiting_at p) birth in
+    let free : waiting_in script r a ≡ None = ap (waiting_with r.core a p) is ∙ waiting_agrees r.core a p op h.unshared ∙ ap (waiting_at p) birth in
     ap₂ is_ready is free
 
 -- so at the end no actor is in the middle of an operation

@@ -1,4 +1,6 @@
 pub mod Puts
+pub mod Unshared
+pub mod Keeping
 pub mod Through
 pub mod Shapes
 pub mod Searches

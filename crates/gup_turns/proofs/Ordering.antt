@@ -65,7 +65,7 @@ module _ (script : ScriptValue) (valid : HasTurns script) (r : RunState) (h : St
   sees a =
       record {
         finishes = finished_is (ops_of script a) (r.places a).answered;
-        waits_so = λ o is. sym (ap (waiting_with r.core a (process_of script a)) is ∙ waiting_agrees r.core a (process_of script a) o h.sound);
+        waits_so = λ o is. sym (ap (waiting_with r.core a (process_of script a)) is ∙ waiting_agrees r.core a (process_of script a) o h.unshared);
       }
 
   turn_written : (a : ℕ) → IsWrittenTurn (finished_in script (ordered_of r) a) (waiting_of script (ordered_of r) a) (taken_in script r a).whats

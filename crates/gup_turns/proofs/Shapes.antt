@@ -11,14 +11,16 @@ use Rattle.gup_plain.specs.declared.note.Waiting.{Waiting}
 use Rattle.gup_script.specs.declared.op.Op.{Op}
 use Rattle.gup_script.specs.declared.op.Op.TheVariants.{Map, Unmap, Protect, Discard, Load, Store, Exit}
 use Rattle.gup_events.specs.State.{CoreState}
-use Rattle.gup_laws.specs.Run.{AllCan}
+use Rattle.gup_events.specs.Invariant.{AllCan}
+use Rattle.gup_laws.specs.Law.{all_told}
 use Rattle.gup_follows.specs.Denial.{op_denial}
 use Rattle.gup_follows.specs.Place.{Place}
 use Rattle.gup_follows.specs.Plain.{IsAnswerOf, Passes}
 use Rattle.gup_follows.specs.Follows.{refuses}
 use Rattle.gup_turns.specs.Run.{state_after}
 use Rattle.gup_turns.specs.Turn.{Taken}
-use Rattle.gup_turns.proofs.Through.{all_told, events_of}
+use Rattle.gup_turns.proofs.Through.{events_of}
+use Rattle.gup_turns.proofs.Unshared.{AreTurnEvents}
 
 -- an operation stands at its first turn
 abbrev pub AtFirst : Place → Type 0
@@ -62,9 +64,10 @@ pub record AtRest (s : CoreState) : Type 0 where
   pub prepared : (a : ℕ) → s.prepared a ≡ None
   pub owed : (a : ℕ) → s.owed a ≡ None
 
--- A turn's core events can happen, they leave the actors without frames, and the plain events that stand at them
--- are those of the notes.
+-- A turn's core events are of those that share, pin and move no frame, they can happen, they leave the actors without
+-- frames, and the plain events that stand at them are those of the notes.
 pub record IsDone (s : CoreState) (turn : Taken) : Type 0 where
+  pub kinds : AreTurnEvents turn.events
   pub can : AllCan s turn.events
   pub rest : AtRest (state_after s turn.events)
   pub told : all_told turn.events ≡ events_of turn.whats

@@ -14,7 +14,8 @@ use Rattle.gup_turns.specs.Run.{RunState, run_start, run_after, taken_in, HasTur
 use Rattle.gup_turns.proofs.Scripts.{fresh_fits}
 use Rattle.gup_turns.proofs.Shapes.{FitsAt, TurnOf, refused, mapped, loaded, stored, took, took_last, passed, passed_last, TurnAt, idles, waits, goes}
 use Rattle.gup_turns.proofs.Steps.{Stands, taken}
-use Rattle.gup_turns.proofs.Through.{Law, leads, births_stay, plain_through, plain_behind-through, AllCanHappen, events_of}
+use Rattle.gup_turns.proofs.Unshared.{starts_unshared}
+use Rattle.gup_turns.proofs.Through.{Law, leads, stay_unshared, births_stay, plain_through, plain_behind-through, AllCanHappen, events_of}
 
 -- an actor stands where its operation can
 abbrev pub FitsPlace : ScriptValue → ℕ → Place → Type 0
@@ -55,11 +56,12 @@ stands_on law script valid r h a =
     let turn = taken script valid r h a in
     let behind = place_behind (r.places a) (taken_in script r a).whats in
     let led = leads law r.core (taken_in script r a).events h.sound turn.done.can in
-    let births = births_stay r.core (taken_in script r a).events in
+    let births = births_stay r.core (taken_in script r a).events turn.done.kinds in
     let here = keeps script valid turn.shape refl (h.fits a) in
     let begun = at_each (λ (b : ℕ) (q : Place). 0 < q.far → r.core.birth (process_of script b) ≡ born) a behind r.places (keeps_begun turn.shape (h.begun a)) h.begun in
     record {
       sound = led.sound;
+      unshared = stay_unshared r.core (taken_in script r a).events turn.done.kinds h.unshared turn.done.can;
       rest = turn.done.rest;
       unfailed = λ q e. h.unfailed q (ap (λ (f : ℕ → Birth). f q) (sym births) ∙ e);
       fits = at_each (FitsPlace script) a behind r.places here h.fits;
@@ -95,6 +97,7 @@ pub stands_first : Starts → (script : ScriptValue) → HasTurns script → Sta
 stands_first starts script valid =
     record {
       sound = starts script.frames.movable script.frames.normal (starts_born script);
+      unshared = starts_unshared script.frames.movable script.frames.normal (starts_born script);
       rest = record { prepared = λ a. refl; owed = λ a. refl };
       unfailed = λ p. starts_unfailed (starts_born script p);
       fits = λ a. fresh_fits script valid a 0;

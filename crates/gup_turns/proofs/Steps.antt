@@ -14,10 +14,12 @@ use Rattle.gup_turns.specs.Turn.{Taken, turn_at, op_turn, waits_at, waits_for_lo
 use Rattle.gup_turns.proofs.Ops.{IsTurned, op_turned}
 use Rattle.gup_turns.proofs.Scripts.{op_is_op}
 use Rattle.gup_turns.proofs.Shapes.{FitsAt, TurnAt, idles, waits, goes, AtRest, IsDone}
+use Rattle.gup_turns.proofs.Unshared.{IsUnshared}
 
 -- what holds of a run between two turns
 pub record Stands (script : ScriptValue) (r : RunState) : Type 0 where
   pub sound : IsSound r.core
+  pub unshared : IsUnshared r.core
   pub rest : AtRest r.core
   -- no process is failed, since no operation forks yet
   pub unfailed : (p : ℕ) → r.core.birth p ≡ failed → ⊥
@@ -37,21 +39,21 @@ born_of (growing parent) p locks free unfailed = absurd (cc free)
 born_of born p locks free unfailed = refl
 born_of failed p locks free unfailed = absurd (unfailed refl)
 
-take : (s : CoreState) (a p : ℕ) (place : Place) (op : Option Op) (waiting : Option Waiting) → IsSound s → AtRest s → (s.birth p ≡ failed → ⊥) → ((o : Op) → op ≡ Some o → IsOp o) → FitsAt op place → waiting_with s a p op ≡ waiting → IsTaken s a p place op waiting (taken_by s a p place.far op waiting)
-take s a p place None waiting sound rest unfailed range fits is = record { done = record { can = tt; rest = rest; told = refl }; shape = idles waiting }
-take s a p place (Some op) (Some waiting) sound rest unfailed range fits is = record { done = record { can = tt; rest = rest; told = refl }; shape = waits op waiting }
-take s a p place (Some op) None sound rest unfailed range fits is =
+take : (s : CoreState) (a p : ℕ) (place : Place) (op : Option Op) (waiting : Option Waiting) → IsUnshared s → AtRest s → (s.birth p ≡ failed → ⊥) → ((o : Op) → op ≡ Some o → IsOp o) → FitsAt op place → waiting_with s a p op ≡ waiting → IsTaken s a p place op waiting (taken_by s a p place.far op waiting)
+take s a p place None waiting unshared rest unfailed range fits is = record { done = record { kinds = tt; can = tt; rest = rest; told = refl }; shape = idles waiting }
+take s a p place (Some op) (Some waiting) unshared rest unfailed range fits is = record { done = record { kinds = tt; can = tt; rest = rest; told = refl }; shape = waits op waiting }
+take s a p place (Some op) None unshared rest unfailed range fits is =
     let birth = born_of (s.birth p) p (waits_for_locks (needs_locks s p op) a (s.structure p) (s.table p)) is unfailed in
-    let turned = op_turned s a p place (record { sound = sound; rest = rest; birth = birth }) op (range op refl) fits in
+    let turned = op_turned s a p place (record { unshared = unshared; rest = rest; birth = birth }) op (range op refl) fits in
     let at : IsTurned s a p place op (turn_at (s.birth p) (op_turn s a p place.far op)) = subst (λ (b : Birth). IsTurned s a p place op (turn_at b (op_turn s a p place.far op))) (sym birth) turned in
     record { done = at.done; shape = goes op (turn_at (s.birth p) (op_turn s a p place.far op)).whats birth at.shape }
 
 pub taken : (script : ScriptValue) → HasTurns script → (r : RunState) → Stands script r → (a : ℕ) → IsTaken r.core a (process_of script a) (r.places a) (op_in script r a) (waiting_in script r a) (taken_in script r a)
 taken script valid r h a =
-    take r.core a (process_of script a) (r.places a) (op_in script r a) (waiting_in script r a) h.sound h.rest (h.unfailed (process_of script a)) (λ o is. (op_is_op script valid a (r.places a).answered o is).0) (h.fits a) refl
+    take r.core a (process_of script a) (r.places a) (op_in script r a) (waiting_in script r a) h.unshared h.rest (h.unfailed (process_of script a)) (λ o is. (op_is_op script valid a (r.places a).answered o is).0) (h.fits a) refl
 
--- in a sound state no lock is held, so an actor waits only for its process
-pub waiting_agrees : (s : CoreState) (a p : ℕ) (op : Op) → IsSound s → waiting_for s a p op ≡ waiting_at p (s.birth p)
+-- where no frame is shared, pinned or moved, no lock is held, so an actor waits only for its process
+pub waiting_agrees : (s : CoreState) (a p : ℕ) (op : Op) → IsUnshared s → waiting_for s a p op ≡ waiting_at p (s.birth p)
 waiting_agrees s a p op h =
     let free : (needed : Bool) → waits_for_locks needed a (s.structure p) (s.table p) ≡ None = λ needed. unlocked needed (s.structure p) (s.table p) (h.structure_free p) (h.table_free p) in
     ap (waits_at (s.birth p) p) (free (needs_locks s p op)) ∙ alone (s.birth p)

@@ -6,25 +6,20 @@ use Rattle.gup_plain.specs.declared.event.PlainEvent.{PlainEvent}
 use Rattle.gup_plain.specs.declared.note.What.{What}
 use Rattle.gup_plain.specs.declared.note.What.TheVariants.{Silent, Idle, Wait, Event, Done}
 use Rattle.gup_events.specs.State.{CoreState, plain_of}
-use Rattle.gup_events.specs.Event.{CoreEvent, Can, happens, told, after_told, take_frame, fill, upgrade, put_entry, map_pages, drop_entry, load, store}
-use Rattle.gup_events.specs.Sound.{IsSound, Simulates, CanTell}
-use Rattle.gup_laws.specs.Run.{AllCan}
+use Rattle.gup_events.specs.Event.{CoreEvent, Can, happens, told, after_told}
+use Rattle.gup_events.specs.Invariant.{CanTell, AllCan}
+use Rattle.gup_events.specs.Sound.{IsSound, Simulates}
+use Rattle.gup_laws.specs.Law.{with_told, all_told}
 use Rattle.gup_follows.specs.Order.{plain_behind}
 use Rattle.gup_turns.specs.Run.{state_after}
+use Rattle.gup_turns.proofs.Keeping.{keeps_unshared, keeps_births}
+use Rattle.gup_turns.proofs.Unshared.{IsUnshared, AreTurnEvents}
 
 -- the law of simulation
 abbrev pub Law : Type 0
 Law = (s : CoreState) (e : CoreEvent) → IsSound s → Can s e → Simulates s e
 
--- the plain events that stand at core events, and those that notes say
-abbrev pub with_told : Option PlainEvent → List PlainEvent → List PlainEvent
-with_told None es = es
-with_told (Some e) es = e ∷ es
-
-abbrev pub all_told : List CoreEvent → List PlainEvent
-all_told [] = []
-all_told (e ∷ es) = with_told (told e) (all_told es)
-
+-- the plain events that notes say
 abbrev pub events_of : List What → List PlainEvent
 events_of [] = []
 events_of (Event e ∷ whats) = e ∷ events_of whats
@@ -80,17 +75,12 @@ plain_behind-through s (Idle ∷ whats) = plain_behind-through s whats
 plain_behind-through s (Wait waiting ∷ whats) = plain_behind-through s whats
 plain_behind-through s (Done answer ∷ whats) = plain_behind-through s whats
 
--- no event changes what is born so far
-happens_birth : (s : CoreState) (e : CoreEvent) → (happens s e).birth ≡ s.birth
-happens_birth s (take_frame a f) = refl
-happens_birth s (fill a p page f) = refl
-happens_birth s (upgrade a p page f) = refl
-happens_birth s (put_entry a f) = refl
-happens_birth s (map_pages a p page n rights) = refl
-happens_birth s (drop_entry a p page was) = refl
-happens_birth s (load a p page word f value) = refl
-happens_birth s (store a p page word f value) = refl
+-- what the events of turns leave as it is, one after another
 
-pub births_stay : (s : CoreState) (es : List CoreEvent) → (state_after s es).birth ≡ s.birth
-births_stay s [] = refl
-births_stay s (e ∷ es) = births_stay (happens s e) es ∙ happens_birth s e
+pub stay_unshared : (s : CoreState) (es : List CoreEvent) → AreTurnEvents es → IsUnshared s → AllCan s es → IsUnshared (state_after s es)
+stay_unshared s [] kinds unshared can = unshared
+stay_unshared s (e ∷ es) kinds unshared can = stay_unshared (happens s e) es kinds.1 (keeps_unshared s kinds.0 unshared can.0) can.1
+
+pub births_stay : (s : CoreState) (es : List CoreEvent) → AreTurnEvents es → (state_after s es).birth ≡ s.birth
+births_stay s [] kinds = refl
+births_stay s (e ∷ es) kinds = births_stay (happens s e) es kinds.1 ∙ keeps_births s kinds.0
