@@ -1,6 +1,6 @@
 -- A fork brings a page by sharing it, or passes it, where it has no entry.
-use Rattle.std.proofs.Common.{◌≡◌, ℕ, ◌<◌, Bool, true, false, List, ◌∷◌, refl, ap, sym, ◌∙◌, arith}
-use Rattle.std.specs.Prelude.{Some, None, IsSome}
+use Rattle.std.proofs.Common.{◌≡◌, ℕ, ◌<◌, inl, inr, subst, Bool, true, false, List, ◌∷◌, refl, ap, sym, ◌∙◌, arith}
+use Rattle.std.specs.Prelude.{Some, None, IsSome, Contains, nat_lt}
 use Rattle.std.proofs.lemmas.Bool.Decides.{nat_tests}
 use Rattle.gup_base.specs.declared.entry.Entry.{Entry}
 use Rattle.gup_base.specs.declared.entry.Rights.{Rights}
@@ -9,12 +9,13 @@ use Rattle.gup_plain.specs.State.{growing, born}
 use Rattle.gup_plain.specs.Event.{words}
 use Rattle.gup_events.specs.State.{CoreState, between, cleared, plain_of}
 use Rattle.gup_events.specs.Event.{Can, happens, entry_of, is_done, share_child, pass_page}
-use Rattle.gup_events.specs.Sound.{View, Forking, marking_of, moving_of, IsSoundBy, IsSound, Simulates, IsUncopiedBy}
+use Rattle.gup_events.specs.Sound.{View, Forking, marking_of, moving_of, IsSoundBy, IsSound, Simulates, IsUncopiedBy, is_failing, copied_words}
 use Rattle.gup_laws.proofs.Clauses.{References, MarksAre, MovesAre, ForksAre, WholeEntry, WholeMoved, WholeFree, WholeKept, WholeOther, MovedGone, WholeNames, MarksTable, MovesTable, ForksTable, ForksStructure, TableHeld, StructureHeld, TableBorn, ForkParent, ForkBirth, GrowingForked, OwnNames, OwnEntry, OwnWords, OwnMarked, OwnMarking, MarkedOwn, EntryMapped, EntryMarked, EntryAllowed, EntryWords, Untouched, PreparedOnce, PreparedZero, MarkingEntry, MovingOnce, ForkFresh, ForkCopied, ForkUncopied, ForkUndone, ForkMapped, CopyWords, ShareHandle, ShareTaken, ShareLowered, ShareUnowned, MirrorEntry}
 use Rattle.gup_laws.proofs.Tally.{tally_is, tally_entry}
 use Rattle.gup_laws.proofs.Lonely.{once_wholes, prepared_whole, whole_none}
 use Rattle.gup_laws.proofs.Children.{only_fork, born_uncopied, uncopied_before, fork_here, no_child}
-use Rattle.gup_laws.proofs.Shared.{child_names, is_done_now, was_done}
+use Rattle.gup_laws.proofs.Done.{changed_fork, done_either, undone_either}
+use Rattle.gup_laws.proofs.Shared.{child_names}
 use Rattle.gup_laws.proofs.Shared.{shown_same, page_forks, none_before}
 
 -- parent and child have the page's frame, and their objects have its words
@@ -75,9 +76,15 @@ simulates-share_child s a p c done page f writable (v, h) can =
     let prepared_zero : PreparedZero V S = λ b u w. grind (arith, nat_tests, h.prepared_zero b u w) in
     let marking_entry : MarkingEntry V S = λ b m. grind (arith, nat_tests, h.marking_entry b m, h.marks_table b m, h.table_born m.proc b) in
     let moving_once : MovingOnce V S = λ b m. grind (arith, nat_tests, h.moving_once b m, h.whole_moved b m, once_wholes v s h p page m.proc m.page e m.entry, h.moves_table b m) in
-    let fork_fresh : ForkFresh V S = λ b i fork. grind (arith, nat_tests, h.fork_fresh b i fork, h.fork_fresh a i before, was_done done page i, no_child v s p b fork h lives, only_fork v s a b before fork h mine refl) in
-    let fork_copied : ForkCopied V S = λ b i w fork. grind (arith, nat_tests, h.fork_copied b i w fork, h.fork_copied a i w before, is_done_now done page i, only_fork v s a b before fork h mine refl) in
-    let fork_uncopied : ForkUncopied V S = λ b i w fork. grind (arith, nat_tests, h.fork_uncopied b i w fork, h.fork_uncopied a i w before, was_done done page i, only_fork v s a b before fork h mine refl) in
+    let next : Forking = record { proc = p; child = c; done = page ∷ done; step = between } in
+    let next_fresh : (i : ℕ) → (Contains (page ∷ done) i → ⊥) → V.whole c i ≡ None = λ i un. let either = undone_either page done i un in let old = h.fork_fresh a i before mine refl either.1 in grind (arith, nat_tests, either.0) in
+    let other_fresh : (b i : ℕ) (k : Forking) → (b ≡ a → ⊥) → v.forks b ≡ Some k → is_failing k.step ≡ false → (Contains k.done i → ⊥) → V.whole k.child i ≡ None = λ b i k apart is going un. let old = h.fork_fresh b i k is going un in grind (arith, nat_tests, only_fork v s a b before k h mine refl is) in
+    let next_copied : (i w : ℕ) → Contains (page ∷ done) i → w < words → S.copied c i w ≡ true = λ i w has below. elim (done_either page done i has) [ inl same ↦ grind (arith, nat_tests) | inr old ↦ (let was = h.fork_copied a i w before mine refl old below in grind (arith, nat_tests)) ] in
+    let next_uncopied : (i w : ℕ) → (Contains (page ∷ done) i → ⊥) → w < words → S.copied c i w ≡ nat_lt w 0 = λ i w un below. let either = undone_either page done i un in let old = h.fork_uncopied a i w before mine refl either.1 below in grind (arith, nat_tests, either.0) in
+    let other_copied : (b i w : ℕ) (k : Forking) → (b ≡ a → ⊥) → v.forks b ≡ Some k → S.copied k.child i w ≡ s.copied k.child i w = λ b i w k apart is. let other = only_fork v s a b before k h mine refl is in grind (arith, nat_tests, other) in
+    let fork_fresh : ForkFresh V S = λ b i k is. elim (changed_fork v.forks a next b k is) [ inl e ↦ subst (λ (l : Forking). is_failing l.step ≡ false → (Contains l.done i → ⊥) → V.whole l.child i ≡ None) e.1 (λ going un. next_fresh i un) | inr e ↦ λ going un. other_fresh b i k e.0 e.1 going un ] in
+    let fork_copied : ForkCopied V S = λ b i w k is. elim (changed_fork v.forks a next b k is) [ inl e ↦ subst (λ (l : Forking). is_failing l.step ≡ false → Contains l.done i → w < words → S.copied l.child i w ≡ true) e.1 (λ going has below. next_copied i w has below) | inr e ↦ λ going has below. other_copied b i w k e.0 e.1 ∙ h.fork_copied b i w k e.1 going has below ] in
+    let fork_uncopied : ForkUncopied V S = λ b i w k is. elim (changed_fork v.forks a next b k is) [ inl e ↦ subst (λ (l : Forking). is_failing l.step ≡ false → (Contains l.done i → ⊥) → w < words → S.copied l.child i w ≡ nat_lt w (copied_words l.step i)) e.1 (λ going un below. next_uncopied i w un below) | inr e ↦ λ going un below. other_copied b i w k e.0 e.1 ∙ h.fork_uncopied b i w k e.1 going un below ] in
     let fork_undone : ForkUndone V S = λ b i fork. grind (arith, nat_tests, h.fork_undone b i fork) in
     let fork_mapped : ForkMapped V S = λ b i fork. grind (arith, nat_tests, h.fork_mapped b i fork) in
     let copy_words : CopyWords V S = λ b i n w u fork. grind (arith, nat_tests, h.copy_words b i n w u fork, only_fork v s a b before fork h mine refl, h.fork_mapped b i fork, λ (r : Rights). h.right_names fork.child i r, h.names_alone c page fork.child i (s.object c page)) in
@@ -123,9 +130,15 @@ simulates-pass_page s a p c done page (v, h) can =
     let entry_words : EntryWords V S = λ q i w d r. grind (arith, nat_tests, h.entry_words q i w d r, h.names_alone c page q i (s.object c page), h.right_names q i r) in
     let untouched : Untouched V S = λ q i w r there none now. let old : IsUncopiedBy v.forks q i = uncopied_before v.forks a _ q i now (λ word k is child at. grind (arith)) in grind (arith, nat_tests, λ (is : s.right q i ≡ Some r) (bare : v.whole q i ≡ None). h.untouched q i w r is bare old, h.right_names q i r there, h.names_alone c page q i (s.object c page), h.names_alone c page p page (s.object c page), zero_words w r) in
     let prepared_zero : PreparedZero V S = λ b u w. grind (arith, nat_tests, h.prepared_zero b u w) in
-    let fork_fresh : ForkFresh V S = λ b i fork. grind (arith, nat_tests, h.fork_fresh b i fork, h.fork_fresh a i before, was_done done page i, no_child v s p b fork h lives, only_fork v s a b before fork h mine refl) in
-    let fork_copied : ForkCopied V S = λ b i w fork. grind (arith, nat_tests, h.fork_copied b i w fork, h.fork_copied a i w before, is_done_now done page i, only_fork v s a b before fork h mine refl) in
-    let fork_uncopied : ForkUncopied V S = λ b i w fork. grind (arith, nat_tests, h.fork_uncopied b i w fork, h.fork_uncopied a i w before, was_done done page i, only_fork v s a b before fork h mine refl) in
+    let next : Forking = record { proc = p; child = c; done = page ∷ done; step = between } in
+    let next_fresh : (i : ℕ) → (Contains (page ∷ done) i → ⊥) → V.whole c i ≡ None = λ i un. let either = undone_either page done i un in let old = h.fork_fresh a i before mine refl either.1 in old in
+    let other_fresh : (b i : ℕ) (k : Forking) → (b ≡ a → ⊥) → v.forks b ≡ Some k → is_failing k.step ≡ false → (Contains k.done i → ⊥) → V.whole k.child i ≡ None = λ b i k apart is going un. h.fork_fresh b i k is going un in
+    let next_copied : (i w : ℕ) → Contains (page ∷ done) i → w < words → S.copied c i w ≡ true = λ i w has below. elim (done_either page done i has) [ inl same ↦ grind (arith, nat_tests) | inr old ↦ (let was = h.fork_copied a i w before mine refl old below in grind (arith, nat_tests)) ] in
+    let next_uncopied : (i w : ℕ) → (Contains (page ∷ done) i → ⊥) → w < words → S.copied c i w ≡ nat_lt w 0 = λ i w un below. let either = undone_either page done i un in let old = h.fork_uncopied a i w before mine refl either.1 below in grind (arith, nat_tests, either.0) in
+    let other_copied : (b i w : ℕ) (k : Forking) → (b ≡ a → ⊥) → v.forks b ≡ Some k → S.copied k.child i w ≡ s.copied k.child i w = λ b i w k apart is. let other = only_fork v s a b before k h mine refl is in grind (arith, nat_tests, other) in
+    let fork_fresh : ForkFresh V S = λ b i k is. elim (changed_fork v.forks a next b k is) [ inl e ↦ subst (λ (l : Forking). is_failing l.step ≡ false → (Contains l.done i → ⊥) → V.whole l.child i ≡ None) e.1 (λ going un. next_fresh i un) | inr e ↦ λ going un. other_fresh b i k e.0 e.1 going un ] in
+    let fork_copied : ForkCopied V S = λ b i w k is. elim (changed_fork v.forks a next b k is) [ inl e ↦ subst (λ (l : Forking). is_failing l.step ≡ false → Contains l.done i → w < words → S.copied l.child i w ≡ true) e.1 (λ going has below. next_copied i w has below) | inr e ↦ λ going has below. other_copied b i w k e.0 e.1 ∙ h.fork_copied b i w k e.1 going has below ] in
+    let fork_uncopied : ForkUncopied V S = λ b i w k is. elim (changed_fork v.forks a next b k is) [ inl e ↦ subst (λ (l : Forking). is_failing l.step ≡ false → (Contains l.done i → ⊥) → w < words → S.copied l.child i w ≡ nat_lt w (copied_words l.step i)) e.1 (λ going un below. next_uncopied i w un below) | inr e ↦ λ going un below. other_copied b i w k e.0 e.1 ∙ h.fork_uncopied b i w k e.1 going un below ] in
     let fork_undone : ForkUndone V S = λ b i fork. grind (arith, nat_tests, h.fork_undone b i fork) in
     let fork_mapped : ForkMapped V S = λ b i fork. grind (arith, nat_tests, h.fork_mapped b i fork) in
     let copy_words : CopyWords V S = λ b i n w u fork. grind (arith, nat_tests, h.copy_words b i n w u fork, only_fork v s a b before fork h mine refl, h.fork_mapped b i fork, λ (r : Rights). h.right_names fork.child i r, h.names_alone c page fork.child i (s.object c page)) in
