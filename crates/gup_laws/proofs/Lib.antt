@@ -19,3 +19,5 @@ pub mod Start
 pub mod Shares
 pub mod Shared
 pub mod ShareChild
+pub mod Published
+pub mod ForkEnds
