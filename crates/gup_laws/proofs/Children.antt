@@ -5,7 +5,7 @@ use Rattle.std.proofs.lemmas.Bool.Decides.{nat_tests}
 use Rattle.gup_base.specs.declared.entry.Rights.{Rights}
 use Rattle.gup_plain.specs.Put.{put}
 use Rattle.gup_plain.specs.State.{growing, born}
-use Rattle.gup_events.specs.State.{CoreState, Job, idle, marking, moving, forking, walking, one, ForkStep, copying}
+use Rattle.gup_events.specs.State.{CoreState, Job, idle, marking, moving, forking, walking, ForkStep, copying}
 use Rattle.gup_events.specs.Sound.{View, Forking, forking_of, IsSoundBy, IsUncopiedBy, fork_child, step_page, is_failing, keeps_structure, birth_of_child}
 
 forking_keeps : (job : Job) (k : Forking) → forking_of job ≡ Some k → keeps_structure job ≡ Some k.proc

@@ -1,11 +1,11 @@
 -- The clauses of a sound state, each under a name of its own, so that a lemma on an event says which it proves anew.
 -- Each is the clause of `IsSoundBy` with the same name; a difference between the two is refused where the record is made.
-use Rattle.std.specs.Prelude.{◌≡◌, ℕ, ◌<◌, ◌≤◌, nat_lt, Bool, true, false, length, slice_get, Contains, List, Option, Some, None}
+use Rattle.std.specs.Prelude.{◌≡◌, ℕ, ◌<◌, ◌≤◌, nat_lt, true, false, length, slice_get, Contains, Some, None}
 use Rattle.gup_base.specs.declared.entry.Entry.{Entry}
 use Rattle.gup_base.specs.declared.entry.Rights.{Rights}
 use Rattle.gup_base.specs.declared.entry.Rights.TheVariants.{R}
 use Rattle.gup_plain.specs.Event.{page_numbers, words}
-use Rattle.gup_plain.specs.State.{Birth, growing, born, unborn, failed, Noted, objects_of}
+use Rattle.gup_plain.specs.State.{growing, born, unborn, failed, Noted, objects_of}
 use Rattle.gup_events.specs.State.{CoreState, Taken, one, copying, cleared}
 use Rattle.gup_events.specs.Event.{writes_taken, long_taken}
 use Rattle.gup_events.specs.Invariant.{frame_of}

@@ -1,5 +1,5 @@
 -- A fork's copy of a page that a pin may hold: word by word into a prepared frame, which then is the child's.
-use Rattle.std.proofs.Common.{◌≡◌, ℕ, ◌+◌, ◌<◌, ◌≤◌, ◌==◌, ◌⊎◌, inl, inr, Bool, true, false, List, [], ◌∷◌, refl, ap, sym, ◌∙◌, subst, arith}
+use Rattle.std.proofs.Common.{◌≡◌, ℕ, ◌+◌, ◌<◌, inl, inr, true, false, List, ◌∷◌, refl, ap, sym, subst, arith}
 use Rattle.std.specs.Prelude.{Option, Some, None, IsSome, Contains, nat_lt}
 use Rattle.std.proofs.lemmas.Bool.Decides.{nat_tests}
 use Rattle.gup_base.specs.declared.entry.Entry.{Entry}
@@ -7,9 +7,9 @@ use Rattle.gup_base.specs.declared.entry.Rights.{Rights}
 use Rattle.gup_plain.specs.Put.{put, put2}
 use Rattle.gup_plain.specs.State.{born, growing, named_or_zero}
 use Rattle.gup_plain.specs.Event.{words}
-use Rattle.gup_events.specs.State.{CoreState, Taken, between, copying, plain_of}
-use Rattle.gup_events.specs.Event.{Can, happens, told, after_told, entry_of, is_writable, copy_word, place_child}
-use Rattle.gup_events.specs.Sound.{View, Marking, Moving, Forking, IsUncopiedBy, is_failing, copied_words, IsSoundBy, IsSound, Simulates}
+use Rattle.gup_events.specs.State.{CoreState, between, copying, plain_of}
+use Rattle.gup_events.specs.Event.{Can, happens, entry_of, is_writable, copy_word, place_child}
+use Rattle.gup_events.specs.Sound.{View, Forking, IsUncopiedBy, is_failing, copied_words, IsSoundBy, IsSound, Simulates}
 use Rattle.gup_laws.proofs.Clauses.{References, MarksAre, MovesAre, ForksAre, WholeEntry, WholeMoved, WholeFree, WholeKept, WholeOther, MovedGone, WholeNames, MarksTable, MovesTable, ForksTable, ForksStructure, TableHeld, StructureHeld, TableBorn, ForkParent, ForkBirth, GrowingForked, OwnAlone, OwnMade, OwnNames, OwnEntry, OwnWords, OwnMarked, OwnMarking, MarkedOwn, EntryMapped, EntryMarked, EntryAllowed, EntryWords, Untouched, HandleMarked, HandleOwn, HandleFlag, TakenMarked, TakenOwn, PreparedOnce, PreparedUnmarked, PreparedUnowned, PreparedZero, MarkingEntry, MarkingOwn, ForkFresh, ForkCopied, ForkUncopied, ForkUndone, ForkMapped, CopyWords, ShareHandle, ShareTaken, ShareLowered, ShareUnowned, MirrorEntry}
 use Rattle.gup_laws.proofs.Named.{named_here}
 use Rattle.gup_laws.proofs.Tally.{tally_is, tally_entry, tally_prepared, number_here}

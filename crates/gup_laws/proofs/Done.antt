@@ -1,5 +1,5 @@
 -- A fork's next step: the fork that an actor is in, after a change, and the pages that are done, with one more.
-use Rattle.std.proofs.Common.{◌≡◌, ℕ, ◌==◌, ◌⊎◌, inl, inr, Bool, true, false, List, [], ◌∷◌, refl, subst, arith}
+use Rattle.std.proofs.Common.{◌≡◌, ℕ, ◌==◌, ◌⊎◌, inl, inr, Bool, true, false, List, ◌∷◌, refl, subst, arith}
 use Rattle.std.specs.Prelude.{Option, Some, None, IsSome, Contains}
 use Rattle.std.proofs.lemmas.Bool.Decides.{nat_tests}
 use Rattle.std.proofs.lemmas.Map.Made.{Contains-tail}
@@ -13,8 +13,10 @@ changed_fork forks a x b k is = go (b == a) refl
   where
     here : (b == a) ≡ true → (b ≡ a) × (x ≡ k)
     here same = (grind (arith, nat_tests), grind (arith, nat_tests))
+
     there : (b == a) ≡ false → (b ≡ a → ⊥) × (forks b ≡ Some k)
     there other = ((λ e. let no : ⊥ = grind (arith, nat_tests) in no), grind (arith, nat_tests))
+
     go : (t : Bool) → (b == a) ≡ t → ((b ≡ a) × (x ≡ k)) ⊎ ((b ≡ a → ⊥) × (forks b ≡ Some k))
     go true same = inl (here same)
     go false other = inr (there other)
@@ -25,8 +27,10 @@ done_either x xs y has = go (x == y) refl
   where
     apart : (x == y) ≡ false → x ≡ y → ⊥
     apart other same = grind (arith, nat_tests)
+
     same : (x == y) ≡ true → x ≡ y
     same is = grind (arith, nat_tests)
+
     go : (t : Bool) → (x == y) ≡ t → (x ≡ y) ⊎ Contains xs y
     go true is = inl (same is)
     go false other = inr (Contains-tail x xs y (apart other) has)

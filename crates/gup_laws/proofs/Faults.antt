@@ -1,14 +1,14 @@
 -- The events of a page fault: a frame is taken, filled into an entry, marked, made writable, copied and given back.
-use Rattle.std.proofs.Common.{◌≡◌, ℕ, ◌+◌, ◌≤◌, Bool, true, false, refl, sym, arith}
-use Rattle.std.specs.Prelude.{Option, Some, None, IsSome}
+use Rattle.std.proofs.Common.{◌≡◌, ℕ, Bool, true, false, refl, sym, arith}
+use Rattle.std.specs.Prelude.{Some, None, IsSome}
 use Rattle.std.proofs.lemmas.Bool.Decides.{nat_tests}
 use Rattle.gup_base.specs.declared.entry.Entry.{Entry}
 use Rattle.gup_base.specs.declared.entry.Rights.{Rights}
 use Rattle.gup_plain.specs.Put.{put, put2}
-use Rattle.gup_events.specs.State.{CoreState, Taken, idle}
+use Rattle.gup_events.specs.State.{CoreState, idle}
 use Rattle.gup_events.specs.Event.{Can, happens, MayPrepare, entry_of, take_frame, fill, count_one, set_mark, upgrade, break_entry, put_entry}
 use Rattle.gup_events.specs.Invariant.{frame_of}
-use Rattle.gup_events.specs.Sound.{View, Marking, Moving, Forking, IsSoundBy, IsSound, Simulates}
+use Rattle.gup_events.specs.Sound.{View, Marking, IsSoundBy, IsSound, Simulates}
 use Rattle.gup_laws.proofs.Clauses.{References, MarksAre, MovesAre, ForksAre, WholeEntry, WholeMoved, WholeFree, WholeKept, WholeOther, MovedGone, WholeNames, MarksTable, MovesTable, ForksTable, TableHeld, StructureHeld, TableBorn, OwnAlone, OwnMade, OwnNames, OwnEntry, OwnWords, OwnMarked, OwnMarking, MarkedOwn, EntryMapped, EntryMarked, EntryAllowed, EntryWords, Untouched, HandleMarked, HandleOwn, HandleFlag, TakenMarked, TakenOwn, PreparedOnce, PreparedUnmarked, PreparedUnowned, PreparedZero, MarkingEntry, MarkingOwn, MovingOnce, ForkFresh, CopyWords, ShareHandle, ShareTaken, ShareLowered, ShareUnowned, MirrorEntry}
 use Rattle.gup_laws.proofs.Tally.{tally_is, tally_entry, tally_prepared, tally_owed}
 use Rattle.gup_laws.proofs.Steps.{shared_is_step, lowered_is_shared, prepares_before}

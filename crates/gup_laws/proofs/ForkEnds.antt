@@ -1,15 +1,14 @@
 -- The ends of a fork: the child is born, or fails and gives back what it has.
-use Rattle.std.proofs.Common.{◌≡◌, ℕ, ◌+◌, ◌≤◌, ◌⊎◌, inl, inr, Bool, true, false, List, refl, ap, sym, ◌∙◌, subst, arith}
-use Rattle.std.specs.Prelude.{Option, Some, None, IsSome}
+use Rattle.std.proofs.Common.{◌≡◌, ℕ, ◌⊎◌, inl, inr, false, List, refl, ap, sym, ◌∙◌, subst, arith}
+use Rattle.std.specs.Prelude.{Option, Some, None}
 use Rattle.std.proofs.lemmas.Bool.Decides.{nat_tests}
 use Rattle.gup_base.specs.declared.entry.Entry.{Entry}
-use Rattle.gup_base.specs.declared.entry.Rights.{Rights}
 use Rattle.gup_plain.specs.Put.{put, put2}
 use Rattle.gup_plain.specs.State.{born, unborn, failed, growing}
 use Rattle.gup_plain.specs.Event.{IsUnbornOrGrowing}
-use Rattle.gup_events.specs.State.{CoreState, Taken, Job, idle, marking, moving, forking, walking, ForkStep, between, counted, lowered, cleared, copying, failing, plain_of}
+use Rattle.gup_events.specs.State.{CoreState, forking, ForkStep, between, counted, lowered, cleared, copying, failing, plain_of}
 use Rattle.gup_events.specs.Event.{Can, happens, MayFail, end_fork, fail_fork, put_child, release_fork, fail_unborn}
-use Rattle.gup_events.specs.Sound.{View, Marking, Moving, Forking, forking_of, keeps_table, step_page, is_failing, IsSoundBy, IsSound, Simulates}
+use Rattle.gup_events.specs.Sound.{View, Forking, keeps_table, step_page, is_failing, IsSoundBy, IsSound, Simulates}
 use Rattle.gup_laws.proofs.Clauses.{References, MarksAre, MovesAre, ForksAre, WholeEntry, WholeMoved, WholeFree, WholeKept, WholeOther, MovedGone, RightNames, WholeNames, NamesObject, MarksTable, MovesTable, ForksTable, ForksStructure, TableHeld, StructureHeld, TableBorn, ForkParent, ForkBirth, GrowingLocked, GrowingForked, GrowingRights, UnbornUnmapped, FailedUnmapped, FlagBorn, OwnAlone, OwnMade, OwnNames, OwnEntry, OwnWords, OwnMarked, OwnMarking, MarkedOwn, EntryMapped, EntryMarked, EntryAllowed, EntryWords, Untouched, NamesAlone, NamesMade, RightNumbered, HandleMarked, HandleOwn, HandleFlag, TakenMarked, TakenOwn, TakenNames, PreparedOnce, PreparedUnmarked, PreparedUnowned, PreparedZero, MarkingEntry, MarkingOwn, MovingOnce, ForkFresh, ForkCopied, ForkUncopied, ForkUndone, ForkMapped, CopyWords, ShareHandle, ShareTaken, ShareLowered, ShareUnowned, MirrorBorn, MirrorEntry, MirrorNames}
 use Rattle.gup_laws.proofs.Named.{by_pages}
 use Rattle.gup_laws.proofs.Tally.{tally_is, tally_entry}

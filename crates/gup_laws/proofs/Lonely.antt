@@ -1,6 +1,6 @@
 -- What a count says of who holds a frame: a frame without references is nobody's, one of count 1 has a single holder,
 -- and a pinned one has a count of 1,024 at least.
-use Rattle.std.proofs.Common.{◌≡◌, ℕ, ◌+◌, ◌<◌, ◌≤◌, ◌==◌, ◌⊎◌, inl, inr, Bool, true, false, refl, ap, sym, ◌∙◌, subst, arith}
+use Rattle.std.proofs.Common.{◌≡◌, ℕ, ◌<◌, ◌≤◌, ◌==◌, ◌⊎◌, inl, inr, Bool, true, false, refl, ap, sym, ◌∙◌, arith}
 use Rattle.std.specs.Prelude.{Option, Some, None, IsSome, slice_get}
 use Rattle.std.proofs.lemmas.Bool.Decides.{nat_tests}
 use Rattle.gup_base.specs.declared.entry.Entry.{Entry}
@@ -9,7 +9,7 @@ use Rattle.gup_plain.specs.State.{born}
 use Rattle.gup_events.specs.State.{CoreState, Taken, one, Job, idle, marking, moving, forking, walking}
 use Rattle.gup_events.specs.Event.{bias}
 use Rattle.gup_events.specs.Invariant.{Holder, entry_of_page, cleared_by, prepared_by, owed_by, got_as, page_of_pin, page_taken, weight, frame_of, got_frame, taken_frame}
-use Rattle.gup_events.specs.Sound.{View, Moving, moved_frame, moving_of, keeps_table, held, Tally, IsSoundBy}
+use Rattle.gup_events.specs.Sound.{View, Moving, moved_frame, moving_of, keeps_table, held, IsSoundBy}
 use Rattle.gup_laws.proofs.Holders.{kind, first, second, by_holder}
 use Rattle.gup_laws.proofs.Tally.{held_weighs, held_weigh}
 

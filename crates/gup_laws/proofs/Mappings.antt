@@ -7,7 +7,7 @@ use Rattle.gup_base.specs.declared.entry.Entry.{Entry}
 use Rattle.gup_base.specs.declared.entry.Rights.{Rights}
 use Rattle.gup_base.specs.declared.entry.Rights.TheVariants.{RW}
 use Rattle.gup_plain.specs.Put.{put, put2, spread, within}
-use Rattle.gup_plain.specs.State.{born, failed, gone}
+use Rattle.gup_plain.specs.State.{born, failed}
 use Rattle.gup_events.specs.State.{CoreState, plain_of}
 use Rattle.gup_events.specs.Event.{Can, happens, entry_of, map_pages, lower_entry, protect_pages, drop_entry, discard_entry}
 use Rattle.gup_events.specs.Invariant.{frame_of}

@@ -1,17 +1,15 @@
 -- The events of a move: an entry is cleared, its frame counted and replaced, or the entry put back.
-use Rattle.std.proofs.Common.{◌≡◌, ℕ, ◌+◌, ◌≤◌, Bool, true, false, refl, sym, arith}
-use Rattle.std.specs.Prelude.{Option, Some, None, IsSome}
+use Rattle.std.proofs.Common.{◌≡◌, ℕ, refl, sym, arith}
+use Rattle.std.specs.Prelude.{Some, None}
 use Rattle.std.proofs.lemmas.Bool.Decides.{nat_tests}
 use Rattle.gup_base.specs.declared.entry.Entry.{Entry}
-use Rattle.gup_base.specs.declared.entry.Rights.{Rights}
 use Rattle.gup_plain.specs.Put.{put, put2}
-use Rattle.gup_events.specs.State.{CoreState, Taken, idle, Counted, unread, one}
+use Rattle.gup_events.specs.State.{CoreState, idle, Counted, unread, one}
 use Rattle.gup_events.specs.Event.{Can, happens, entry_of, counted_as, clear_entry, count_moved, place_frame, restore_entry}
-use Rattle.gup_events.specs.Invariant.{frame_of}
-use Rattle.gup_events.specs.Sound.{View, Marking, Moving, Forking, IsSoundBy, IsSound, Simulates}
+use Rattle.gup_events.specs.Sound.{View, Moving, IsSoundBy, IsSound, Simulates}
 use Rattle.gup_laws.proofs.Clauses.{References, MarksAre, MovesAre, ForksAre, WholeEntry, WholeMoved, WholeFree, WholeKept, WholeOther, MovedGone, WholeNames, MarksTable, MovesTable, ForksTable, TableHeld, StructureHeld, TableBorn, OwnAlone, OwnMade, OwnNames, OwnEntry, OwnWords, OwnMarked, OwnMarking, MarkedOwn, EntryMapped, EntryMarked, EntryAllowed, EntryWords, Untouched, HandleMarked, HandleOwn, HandleFlag, TakenMarked, TakenOwn, PreparedOnce, PreparedUnmarked, PreparedUnowned, PreparedZero, MarkingEntry, MarkingOwn, MovingOnce, ForkFresh, CopyWords, ShareHandle, ShareTaken, ShareLowered, ShareUnowned, MirrorEntry}
 use Rattle.gup_laws.proofs.Tally.{tally_is, tally_entry, tally_moves, tally_prepared, tally_owed}
-use Rattle.gup_laws.proofs.Steps.{shared_is_step, lowered_is_shared}
+use Rattle.gup_laws.proofs.Steps.{shared_is_step}
 use Rattle.gup_laws.proofs.Lonely.{once_wholes, handle_counts, taken_counts, prepared_whole, prepared_alone}
 
 -- the page's entry is the one that the mover keeps

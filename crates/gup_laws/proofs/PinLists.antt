@@ -1,20 +1,20 @@
 -- What the events of pins do to lists: the pages that a pin has taken, those of a handle, and what the plain state
 -- says of both.
-use Rattle.std.proofs.Common.{◌≡◌, ℕ, ◌+◌, ◌<◌, ◌≤◌, ◌==◌, Bool, true, false, List, [], ◌∷◌, ◌++◌, map, length, zero, suc, refl, ap, sym, ◌∙◌, subst, arith}
-use Rattle.std.specs.Prelude.{Option, Some, None, IsSome, slice_get, Contains, All, if◌then◌else◌}
+use Rattle.std.proofs.Common.{◌≡◌, ℕ, ◌+◌, ◌≤◌, ◌==◌, Bool, true, false, List, [], ◌∷◌, ◌++◌, map, length, refl, ap, sym, ◌∙◌, arith}
+use Rattle.std.specs.Prelude.{Option, Some, None, IsSome, slice_get, Contains, if◌then◌else◌}
 use Rattle.std.proofs.lemmas.Bool.Decides.{nat_tests}
 use Rattle.std.proofs.lemmas.List.{map-append}
 use Rattle.gup_base.specs.declared.entry.Entry.{Entry}
 use Rattle.gup_base.specs.declared.entry.Rights.{Rights}
 use Rattle.gup_base.specs.declared.entry.Rights.TheVariants.{R, RW}
 use Rattle.gup_plain.specs.Put.{put}
-use Rattle.gup_plain.specs.State.{born, Pending, Handle, unmade, held, given, gone, objects_of, named_or_zero}
+use Rattle.gup_plain.specs.State.{born, Pending, Handle, unmade, held, gone, objects_of, named_or_zero}
 use Rattle.gup_plain.specs.Event.{AllowsPin, AreTaken, IsHeldBy, pending_pages, pending_objects, write_flag}
 use Rattle.gup_events.specs.State.{CoreState, Taken, plain_of, pending_of}
 use Rattle.gup_events.specs.Event.{happens, told, after_told, IsUntaken, AreAlike, frames_of, objects_taken, writes_taken, long_taken, make_handle, unpin_page}
 use Rattle.gup_events.specs.Invariant.{CanTell}
 use Rattle.gup_events.specs.Sound.{View, IsSoundBy}
-use Rattle.gup_laws.proofs.Rows.{all_at, all_from, contains_at, at_mapped, mapped_at, at_within}
+use Rattle.gup_laws.proofs.Rows.{all_at, all_from, contains_at, at_mapped, mapped_at}
 use Rattle.gup_laws.proofs.Lonely.{born_mapped}
 
 -- 1. A page more

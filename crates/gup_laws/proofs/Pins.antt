@@ -1,14 +1,13 @@
 -- The events of pins, of handles and of references.
-use Rattle.std.proofs.Common.{◌≡◌, ℕ, ◌+◌, ◌≤◌, Bool, true, false, List, [], ◌∷◌, ◌++◌, length, refl, ap, sym, ◌∙◌, subst, arith}
-use Rattle.std.specs.Prelude.{Option, Some, None, IsSome, slice_get}
+use Rattle.std.proofs.Common.{◌≡◌, ℕ, ◌≤◌, Bool, true, List, [], ◌∷◌, ◌++◌, length, refl, ap, sym, ◌∙◌, subst, arith}
+use Rattle.std.specs.Prelude.{Some, None, slice_get}
 use Rattle.std.proofs.lemmas.Bool.Decides.{nat_tests}
 use Rattle.gup_base.specs.declared.entry.Entry.{Entry}
-use Rattle.gup_plain.specs.Put.{put}
-use Rattle.gup_plain.specs.State.{born, Pending, objects_of}
+use Rattle.gup_plain.specs.State.{Pending, objects_of}
 use Rattle.gup_events.specs.State.{CoreState, Taken, plain_of}
 use Rattle.gup_events.specs.Event.{Can, happens, entry_of, IsNormal, IsUntaken, AreAlike, raise_flag, pin_page, make_handle, unpin_page, give_handle, take_handle, get_reference, put_reference}
 use Rattle.gup_events.specs.Invariant.{got_frame}
-use Rattle.gup_events.specs.Sound.{View, Marking, Moving, Forking, IsSoundBy, IsSound, Simulates}
+use Rattle.gup_events.specs.Sound.{IsSoundBy, IsSound, Simulates}
 use Rattle.gup_laws.proofs.Clauses.{References, FlagBorn, OwnAlone, OwnMade, OwnNames, OwnEntry, OwnWords, OwnMarked, OwnMarking, MarkedOwn, EntryMarked, HandlePages, HandleMarked, HandleOwn, HandleFlag, HandleNormal, TakenMarked, TakenOwn, TakenFlag, TakenNames, TakenNormal, TakenWrite, TakenLong, TakenApart, PreparedOnce, PreparedUnmarked, PreparedUnowned, MarkingOwn, MovingOnce, ShareHandle, ShareTaken, ShareUnowned}
 use Rattle.gup_laws.proofs.Rows.{at_either, at_end, at_longer, at_within, no_rows}
 use Rattle.gup_laws.proofs.Tally.{tally_is, tally_taken, tally_pinned, tally_got}

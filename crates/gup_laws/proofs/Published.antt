@@ -1,16 +1,14 @@
 -- What is published of a sound state follows from its clauses.
-use Rattle.std.proofs.Common.{◌≡◌, ℕ, ◌+◌, ◌<◌, ◌≤◌, ◌⊎◌, inl, inr, Bool, true, false, List, [], ◌∷◌, refl, ap, sym, ◌∙◌, subst, arith}
-use Rattle.std.specs.Prelude.{Option, Some, None, IsSome, Contains, slice_get}
-use Rattle.std.proofs.lemmas.Bool.Decides.{nat_tests}
+use Rattle.std.proofs.Common.{◌≡◌, ℕ, ◌≤◌, inl, inr, true, List, refl, ap, sym, ◌∙◌, subst, arith}
+use Rattle.std.specs.Prelude.{Option, Some, None, IsSome}
 use Rattle.gup_base.specs.declared.entry.Entry.{Entry}
 use Rattle.gup_base.specs.declared.entry.Rights.{Rights}
 use Rattle.gup_base.specs.declared.entry.Rights.TheVariants.{R, RW}
-use Rattle.gup_plain.specs.Event.{words}
-use Rattle.gup_plain.specs.State.{born, failed, Noted, objects_of}
-use Rattle.gup_events.specs.State.{CoreState, Taken, Counted, one, Job, idle, marking, moving, forking, walking, ForkStep, between, counted, lowered, cleared, copying, failing}
+use Rattle.gup_plain.specs.State.{born, failed}
+use Rattle.gup_events.specs.State.{CoreState, Counted, one, Job, idle, marking, moving, forking, walking, ForkStep, between, counted, lowered, cleared, copying, failing}
 use Rattle.gup_events.specs.Event.{bias}
-use Rattle.gup_events.specs.Invariant.{Holder, entry_of_page, cleared_by, prepared_by, owed_by, got_as, page_of_pin, page_taken, CountsReferences, holds, HasCleared, IsEntry, Names, InHandle, InPin, IsSettled, IsExclusive, IsUnpinned, IsSharing, IsParted, HasWords, IsUncopied, StandsFor, Holds, frame_of, cleared_frame, is_walk}
-use Rattle.gup_events.specs.Sound.{View, Moving, Forking, moving_of, forking_of, moved_frame, shared_page, IsUncopiedBy, held, Tally, IsSoundBy, IsSound}
+use Rattle.gup_events.specs.Invariant.{Holder, entry_of_page, cleared_by, prepared_by, owed_by, got_as, page_of_pin, page_taken, CountsReferences, holds, IsEntry, Names, IsSettled, IsExclusive, IsSharing, IsParted, IsUncopied, StandsFor, Holds, frame_of, cleared_frame}
+use Rattle.gup_events.specs.Sound.{View, Moving, Forking, moving_of, forking_of, moved_frame, shared_page, IsUncopiedBy, held, IsSoundBy}
 use Rattle.gup_laws.proofs.Rows.{contains_at}
 use Rattle.gup_laws.proofs.Lonely.{whole_is, handle_counts, taken_counts, mapped_names, born_mapped}
 
@@ -92,8 +90,8 @@ module _ (v : View) (s : CoreState) (h : IsSoundBy v s) where
   whole_entry : (p page : ℕ) (e : Entry) → v.whole p page ≡ Some e → IsEntry s p page e
   whole_entry p page e is =
       elim (whole_is v s h p page e is) [
-        inl there ↦ inl there
-      | inr moved ↦ inr (moved.0, (moved.1.count, job_cleared moved.0 p page e moved.1 moved.2 moved.3 moved.4 moved.5))
+        | inl there ↦ inl there
+        | inr moved ↦ inr (moved.0, (moved.1.count, job_cleared moved.0 p page e moved.1 moved.2 moved.3 moved.4 moved.5))
       ]
 
   -- 4. Settled pins
@@ -161,9 +159,10 @@ module _ (v : View) (s : CoreState) (h : IsSoundBy v s) where
             let named : v.names p page ≡ Some o = h.own_names p page o e there own in
             let lives : s.birth p ≡ born = h.flag_born p (settled_flag f o p page settled named) in
             (born_mapped v s h p page e lives there, h.names_object p page o named);
-        one_object = λ f g o u is that.
-            (λ same. let own : Some o ≡ Some u = sym (settled_own f o is) ∙ (ap s.own same ∙ settled_own g u that) in let r : o ≡ u = cc in r,
-             λ same. h.own_alone f g o (settled_own f o is) (settled_own g u that ∙ ap (λ n. Some n) (sym same)));
+        one_object = λ f g o u is that. (
+          λ same. let own : Some o ≡ Some u = sym (settled_own f o is) ∙ (ap s.own same ∙ settled_own g u that) in let r : o ≡ u = cc in r,
+          λ same. h.own_alone f g o (settled_own f o is) (settled_own g u that ∙ ap (λ n. Some n) (sym same)),
+        );
         pin_flag = λ f o p page settled named. settled_flag f o p page settled (names_is p page o named);
       }
 

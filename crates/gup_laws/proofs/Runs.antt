@@ -1,12 +1,11 @@
 -- The law of simulation over a list of events: each state is sound, and the plain events that stand at the core events
 -- are possible and lead to the plain state that the last one stands for.
-use Rattle.std.proofs.Common.{◌≡◌, List, [], ◌∷◌, refl, ap, sym, ◌∙◌, subst}
+use Rattle.std.proofs.Common.{◌≡◌, List, [], ◌∷◌, refl, ap, ◌∙◌, subst}
 use Rattle.std.specs.Prelude.{Option, Some, None}
 use Rattle.gup_plain.specs.declared.event.PlainEvent.{PlainEvent}
 use Rattle.gup_plain.specs.State.{PlainState}
-use Rattle.gup_plain.specs.Event.{CanHappen, happened}
 use Rattle.gup_events.specs.State.{CoreState, plain_of}
-use Rattle.gup_events.specs.Event.{CoreEvent, Can, happens, told, after_told}
+use Rattle.gup_events.specs.Event.{CoreEvent, happens, told, after_told}
 use Rattle.gup_events.specs.Invariant.{CanTell, AllCan, run}
 use Rattle.gup_events.specs.Sound.{IsSound, Simulates}
 use Rattle.gup_laws.specs.Law.{with_told, all_told}

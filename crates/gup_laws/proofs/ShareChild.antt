@@ -13,9 +13,10 @@ use Rattle.gup_events.specs.Sound.{View, Forking, marking_of, moving_of, IsSound
 use Rattle.gup_laws.proofs.Clauses.{References, MarksAre, MovesAre, ForksAre, WholeEntry, WholeMoved, WholeFree, WholeKept, WholeOther, MovedGone, WholeNames, MarksTable, MovesTable, ForksTable, ForksStructure, TableHeld, StructureHeld, TableBorn, ForkParent, ForkBirth, GrowingForked, OwnNames, OwnEntry, OwnWords, OwnMarked, OwnMarking, MarkedOwn, EntryMapped, EntryMarked, EntryAllowed, EntryWords, Untouched, PreparedOnce, PreparedZero, MarkingEntry, MovingOnce, ForkFresh, ForkCopied, ForkUncopied, ForkUndone, ForkMapped, CopyWords, ShareHandle, ShareTaken, ShareLowered, ShareUnowned, MirrorEntry}
 use Rattle.gup_laws.proofs.Tally.{tally_is, tally_entry}
 use Rattle.gup_laws.proofs.Lonely.{once_wholes, prepared_whole, whole_none}
+use Rattle.std.proofs.lemmas.Map.Made.{Contains-tail}
+use Rattle.gup_laws.proofs.Done.{undone_either}
 use Rattle.gup_laws.proofs.Children.{only_fork, born_uncopied, uncopied_before, fork_here, no_child}
-use Rattle.gup_laws.proofs.Shared.{child_names, is_done_now, was_done}
-use Rattle.gup_laws.proofs.Shared.{shown_same, page_forks, none_before}
+use Rattle.gup_laws.proofs.Shared.{child_names, shown_same, page_forks, none_before}
 
 -- parent and child have the page's frame, and their objects have its words
 pub simulates-share_child : (s : CoreState) (a p c : ℕ) (done : List ℕ) (page f : ℕ) (writable : Bool) → IsSound s → Can s (share_child a p c done page f writable) → Simulates s (share_child a p c done page f writable)
@@ -75,9 +76,9 @@ simulates-share_child s a p c done page f writable (v, h) can =
     let prepared_zero : PreparedZero V S = λ b u w. grind (arith, nat_tests, h.prepared_zero b u w) in
     let marking_entry : MarkingEntry V S = λ b m. grind (arith, nat_tests, h.marking_entry b m, h.marks_table b m, h.table_born m.proc b) in
     let moving_once : MovingOnce V S = λ b m. grind (arith, nat_tests, h.moving_once b m, h.whole_moved b m, once_wholes v s h p page m.proc m.page e m.entry, h.moves_table b m) in
-    let fork_fresh : ForkFresh V S = λ b i fork. grind (arith, nat_tests, h.fork_fresh b i fork, h.fork_fresh a i before, was_done done page i, no_child v s p b fork h lives, only_fork v s a b before fork h mine refl) in
-    let fork_copied : ForkCopied V S = λ b i w fork. grind (arith, nat_tests, h.fork_copied b i w fork, h.fork_copied a i w before, is_done_now done page i, only_fork v s a b before fork h mine refl) in
-    let fork_uncopied : ForkUncopied V S = λ b i w fork. grind (arith, nat_tests, h.fork_uncopied b i w fork, h.fork_uncopied a i w before, was_done done page i, only_fork v s a b before fork h mine refl) in
+    let fork_fresh : ForkFresh V S = λ b i fork. grind (arith, nat_tests, h.fork_fresh b i fork, h.fork_fresh a i before, undone_either page done i, no_child v s p b fork h lives, only_fork v s a b before fork h mine refl) in
+    let fork_copied : ForkCopied V S = λ b i w fork. grind (arith, nat_tests, h.fork_copied b i w fork, h.fork_copied a i w before, Contains-tail page done i, only_fork v s a b before fork h mine refl) in
+    let fork_uncopied : ForkUncopied V S = λ b i w fork. grind (arith, nat_tests, h.fork_uncopied b i w fork, h.fork_uncopied a i w before, undone_either page done i, only_fork v s a b before fork h mine refl) in
     let fork_undone : ForkUndone V S = λ b i fork. grind (arith, nat_tests, h.fork_undone b i fork) in
     let fork_mapped : ForkMapped V S = λ b i fork. grind (arith, nat_tests, h.fork_mapped b i fork) in
     let copy_words : CopyWords V S = λ b i n w u fork. grind (arith, nat_tests, h.copy_words b i n w u fork, only_fork v s a b before fork h mine refl, h.fork_mapped b i fork, λ (r : Rights). h.right_names fork.child i r, h.names_alone c page fork.child i (s.object c page)) in
@@ -98,8 +99,6 @@ simulates-pass_page s a p c done page (v, h) can =
     let mine : v.forks a ≡ Some before = fork_here v s a p c done between h can.0 in
     let lives : s.birth p ≡ born = h.fork_parent a before mine in
     let grows : s.birth c ≡ growing p = h.fork_birth a before mine in
-    let still : v.moves a ≡ None = h.moves_are a ∙ ap moving_of can.0 in
-    let unmarking : v.marks a ≡ None = h.marks_are a ∙ ap marking_of can.0 in
     let undone : is_done done page → ⊥ = can.3 in
     let empty : v.whole c page ≡ None = h.fork_fresh a page before mine refl undone in
     let bare : v.whole p page ≡ None = whole_none v s h p page can.1 can.4 in
@@ -123,9 +122,9 @@ simulates-pass_page s a p c done page (v, h) can =
     let entry_words : EntryWords V S = λ q i w d r. grind (arith, nat_tests, h.entry_words q i w d r, h.names_alone c page q i (s.object c page), h.right_names q i r) in
     let untouched : Untouched V S = λ q i w r there none now. let old : IsUncopiedBy v.forks q i = uncopied_before v.forks a _ q i now (λ word k is child at. grind (arith)) in grind (arith, nat_tests, λ (is : s.right q i ≡ Some r) (bare : v.whole q i ≡ None). h.untouched q i w r is bare old, h.right_names q i r there, h.names_alone c page q i (s.object c page), h.names_alone c page p page (s.object c page), zero_words w r) in
     let prepared_zero : PreparedZero V S = λ b u w. grind (arith, nat_tests, h.prepared_zero b u w) in
-    let fork_fresh : ForkFresh V S = λ b i fork. grind (arith, nat_tests, h.fork_fresh b i fork, h.fork_fresh a i before, was_done done page i, no_child v s p b fork h lives, only_fork v s a b before fork h mine refl) in
-    let fork_copied : ForkCopied V S = λ b i w fork. grind (arith, nat_tests, h.fork_copied b i w fork, h.fork_copied a i w before, is_done_now done page i, only_fork v s a b before fork h mine refl) in
-    let fork_uncopied : ForkUncopied V S = λ b i w fork. grind (arith, nat_tests, h.fork_uncopied b i w fork, h.fork_uncopied a i w before, was_done done page i, only_fork v s a b before fork h mine refl) in
+    let fork_fresh : ForkFresh V S = λ b i fork. grind (arith, nat_tests, h.fork_fresh b i fork, h.fork_fresh a i before, undone_either page done i, no_child v s p b fork h lives, only_fork v s a b before fork h mine refl) in
+    let fork_copied : ForkCopied V S = λ b i w fork. grind (arith, nat_tests, h.fork_copied b i w fork, h.fork_copied a i w before, Contains-tail page done i, only_fork v s a b before fork h mine refl) in
+    let fork_uncopied : ForkUncopied V S = λ b i w fork. grind (arith, nat_tests, h.fork_uncopied b i w fork, h.fork_uncopied a i w before, undone_either page done i, only_fork v s a b before fork h mine refl) in
     let fork_undone : ForkUndone V S = λ b i fork. grind (arith, nat_tests, h.fork_undone b i fork) in
     let fork_mapped : ForkMapped V S = λ b i fork. grind (arith, nat_tests, h.fork_mapped b i fork) in
     let copy_words : CopyWords V S = λ b i n w u fork. grind (arith, nat_tests, h.copy_words b i n w u fork, only_fork v s a b before fork h mine refl, h.fork_mapped b i fork, λ (r : Rights). h.right_names fork.child i r, h.names_alone c page fork.child i (s.object c page)) in

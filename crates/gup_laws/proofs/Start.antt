@@ -1,11 +1,10 @@
 -- The start is sound: nothing is mapped, and no frame has a reference.
-use Rattle.std.proofs.Common.{◌≡◌, ℕ, ◌+◌, Bool, true, false, List, [], refl, arith}
-use Rattle.std.specs.Prelude.{Option, Some, None, Contains, if◌then◌else◌}
-use Rattle.std.proofs.lemmas.Bool.Decides.{nat_tests}
-use Rattle.gup_plain.specs.State.{Birth, born, unborn, growing, failed}
-use Rattle.gup_events.specs.State.{CoreState, start}
+use Rattle.std.proofs.Common.{◌≡◌, ℕ, Bool, true, false, [], refl, arith}
+use Rattle.std.specs.Prelude.{Some, None, if◌then◌else◌}
+use Rattle.gup_plain.specs.State.{born, unborn, growing}
+use Rattle.gup_events.specs.State.{start}
 use Rattle.gup_events.specs.Invariant.{Holder, entry_of_page, cleared_by, prepared_by, owed_by, got_as, page_of_pin, page_taken}
-use Rattle.gup_events.specs.Sound.{View, held, Tally, IsSoundBy, IsSound}
+use Rattle.gup_events.specs.Sound.{View, held, Tally, IsSound}
 use Rattle.gup_laws.proofs.Holders.{no_element}
 
 abbrev nothing : View

@@ -1,7 +1,7 @@
 -- What the readings of a fork's step and of an actor's job have to do with one another.
-use Rattle.std.proofs.Common.{◌≡◌, ℕ, true, false, List, zero, suc, refl, arith}
-use Rattle.std.specs.Prelude.{Option, Some, None}
-use Rattle.gup_events.specs.State.{Job, idle, marking, moving, forking, walking, Counted, unread, one, more, ForkStep, between, counted, lowered, cleared, copying, failing}
+use Rattle.std.proofs.Common.{◌≡◌, ℕ, List, zero, suc}
+use Rattle.std.specs.Prelude.{Some}
+use Rattle.gup_events.specs.State.{Job, idle, marking, moving, forking, walking, ForkStep, between, counted, lowered, cleared, copying, failing}
 use Rattle.gup_events.specs.Event.{MayPrepare}
 use Rattle.gup_events.specs.Sound.{Forking, forking_of, step_page, shared_page, lowered_page}
 
