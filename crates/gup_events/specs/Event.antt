@@ -32,7 +32,6 @@ pub data CoreEvent : Type 0 where
   break_entry : (a p page old new : ℕ) (was writable : Bool) → CoreEvent
   -- the reference of an entry that is gone is given back
   put_entry : (a f : ℕ) → CoreEvent
-
   -- pins, references and handles
 
   -- the process has pinned, from now on
@@ -47,7 +46,6 @@ pub data CoreEvent : Type 0 where
   take_handle : (a h : ℕ) → CoreEvent
   get_reference : (a p page f k : ℕ) (writable : Bool) → CoreEvent
   put_reference : (a f k : ℕ) → CoreEvent
-
   -- moves
 
   -- the entry is cleared, and the table lock kept
@@ -58,7 +56,6 @@ pub data CoreEvent : Type 0 where
   place_frame : (a p page f : ℕ) (entry : Entry) → CoreEvent
   -- the entry is put back
   restore_entry : (a p page : ℕ) (entry : Entry) (count : Counted) → CoreEvent
-
   -- fork of process p into c, of which these pages are done
 
   begin_fork : (a p c : ℕ) → CoreEvent
@@ -80,7 +77,6 @@ pub data CoreEvent : Type 0 where
   release_fork : (a p c : ℕ) (done : List ℕ) → CoreEvent
   -- a fork by an actor of a failed process
   fail_unborn : (a p c : ℕ) → CoreEvent
-
   -- mappings
 
   -- n pages get their rights, untouched
@@ -92,7 +88,6 @@ pub data CoreEvent : Type 0 where
   -- the page loses its entry, if it has one, and its mapping, or its contents
   drop_entry : (a p page : ℕ) (was : Option Entry) → CoreEvent
   discard_entry : (a p page : ℕ) (was : Option Entry) → CoreEvent
-
   -- data and mirrors
 
   -- one word of the entry's frame is read, or written through a writable entry

@@ -168,7 +168,6 @@ Tally count holds =
 
 pub record IsSoundBy (v : View) (s : CoreState) : Type 0 where
   pub references : Tally s.count (held s.entry v.moves s.prepared s.owed s.got s.pinned s.taken)
-
   -- the views
 
   pub marks_are : (a : ℕ) → v.marks a ≡ marking_of (s.job a)
@@ -183,7 +182,6 @@ pub record IsSoundBy (v : View) (s : CoreState) : Type 0 where
   pub right_names : (p g : ℕ) (r : Rights) → s.right p g ≡ Some r → v.names p g ≡ Some (s.object p g)
   pub whole_names : (p g : ℕ) (e : Entry) → v.whole p g ≡ Some e → v.names p g ≡ Some (s.object p g)
   pub names_object : (p g o : ℕ) → v.names p g ≡ Some o → s.object p g ≡ o
-
   -- locks
 
   pub marks_table : (a : ℕ) (m : Marking) → v.marks a ≡ Some m → s.table m.proc ≡ Some a
@@ -193,7 +191,6 @@ pub record IsSoundBy (v : View) (s : CoreState) : Type 0 where
   pub table_held : (p a : ℕ) → s.table p ≡ Some a → keeps_table (s.job a) ≡ Some p
   pub structure_held : (p a : ℕ) → s.structure p ≡ Some a → keeps_structure (s.job a) ≡ Some p
   pub table_born : (p a : ℕ) → s.table p ≡ Some a → s.birth p ≡ born
-
   -- processes
 
   pub fork_parent : (a : ℕ) (k : Forking) → v.forks a ≡ Some k → s.birth k.proc ≡ born
@@ -204,7 +201,6 @@ pub record IsSoundBy (v : View) (s : CoreState) : Type 0 where
   pub unborn_unmapped : (p g : ℕ) → s.birth p ≡ unborn → s.right p g ≡ None
   pub failed_unmapped : (p g : ℕ) → s.birth p ≡ failed → s.right p g ≡ None
   pub flag_born : (p : ℕ) → s.has_pinned p ≡ true → s.birth p ≡ born
-
   -- exclusive frames
 
   pub own_alone : (f g o : ℕ) → s.own f ≡ Some o → s.own g ≡ Some o → f ≡ g
@@ -216,7 +212,6 @@ pub record IsSoundBy (v : View) (s : CoreState) : Type 0 where
   pub own_marked : (p g o : ℕ) (e : Entry) → v.whole p g ≡ Some e → s.own e.frame ≡ Some o → s.table p ≡ None → s.mark e.frame ≡ true
   pub own_marking : (p g o a : ℕ) (e : Entry) → v.whole p g ≡ Some e → s.own e.frame ≡ Some o → s.table p ≡ Some a → s.mark e.frame ≡ false → marked_frame (v.marks a) ≡ Some e.frame
   pub marked_own : (p g : ℕ) (e : Entry) → v.whole p g ≡ Some e → s.mark e.frame ≡ true → s.own e.frame ≡ v.names p g
-
   -- pages
 
   pub entry_mapped : (p g : ℕ) (e : Entry) → v.whole p g ≡ Some e → s.right p g ≡ None → s.birth p ≡ failed
@@ -227,7 +222,6 @@ pub record IsSoundBy (v : View) (s : CoreState) : Type 0 where
   pub names_alone : (p g q h o : ℕ) → v.names p g ≡ Some o → v.names q h ≡ Some o → (p ≡ q) × (g ≡ h)
   pub names_made : (p g o : ℕ) → v.names p g ≡ Some o → o < s.made
   pub right_numbered : (p g : ℕ) (r : Rights) → s.right p g ≡ Some r → g < page_numbers
-
   -- pins: the pages of handles, and those that a pin has taken
 
   pub handle_pages : (h : ℕ) → length (s.pinned h) ≤ length (objects_of (s.handle h))
@@ -243,7 +237,6 @@ pub record IsSoundBy (v : View) (s : CoreState) : Type 0 where
   pub taken_write : (a k : ℕ) (t : Taken) → slice_get (s.taken a) k ≡ Some t → t.write ≡ writes_taken (s.taken a)
   pub taken_long : (a k : ℕ) (t : Taken) → slice_get (s.taken a) k ≡ Some t → t.long ≡ long_taken (s.taken a)
   pub taken_apart : (a j k : ℕ) (t u : Taken) → slice_get (s.taken a) j ≡ Some t → slice_get (s.taken a) k ≡ Some u → t.page ≡ u.page → j ≡ k
-
   -- what actors are in the middle of
 
   pub prepared_once : (a f : ℕ) → s.prepared a ≡ Some f → s.count f ≡ 1
@@ -253,7 +246,6 @@ pub record IsSoundBy (v : View) (s : CoreState) : Type 0 where
   pub marking_entry : (a : ℕ) (m : Marking) → v.marks a ≡ Some m → frame_of (v.whole m.proc m.page) ≡ Some m.frame
   pub marking_own : (a : ℕ) (m : Marking) → v.marks a ≡ Some m → s.own m.frame ≡ v.names m.proc m.page
   pub moving_once : (a : ℕ) (m : Moving) → v.moves a ≡ Some m → m.count ≡ one → s.count m.entry.frame ≡ 1
-
   -- forks
 
   pub fork_fresh : (a g : ℕ) (k : Forking) → v.forks a ≡ Some k → is_failing k.step ≡ false → (Contains k.done g → ⊥) → v.whole k.child g ≡ None
@@ -267,7 +259,6 @@ pub record IsSoundBy (v : View) (s : CoreState) : Type 0 where
   pub share_taken : (a g b j : ℕ) (k : Forking) (e : Entry) (t : Taken) → v.forks a ≡ Some k → shared_page k.step ≡ Some g → v.whole k.proc g ≡ Some e → slice_get (s.taken b) j ≡ Some t → t.frame ≡ e.frame → ⊥
   pub share_lowered : (a g : ℕ) (k : Forking) (e : Entry) → v.forks a ≡ Some k → lowered_page k.step ≡ Some g → v.whole k.proc g ≡ Some e → e.writable ≡ false
   pub share_unowned : (a g : ℕ) (k : Forking) (e : Entry) → v.forks a ≡ Some k → k.step ≡ cleared g → v.whole k.proc g ≡ Some e → s.own e.frame ≡ None
-
   -- mirrors
 
   pub mirror_noted : (m f : ℕ) → s.mirrored m ≡ Some f → s.slot m ≡ None → ⊥
