@@ -25,3 +25,4 @@ pub mod Mirrors
 pub mod Law
 pub mod Runs
 pub mod Published
+pub mod Possible

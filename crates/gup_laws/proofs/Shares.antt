@@ -4,7 +4,7 @@ use Rattle.std.specs.Prelude.{Some, None}
 use Rattle.std.proofs.lemmas.Bool.Decides.{nat_tests}
 use Rattle.gup_base.specs.declared.entry.Entry.{Entry}
 use Rattle.gup_plain.specs.Put.{put, put2}
-use Rattle.gup_plain.specs.State.{growing, born}
+use Rattle.gup_plain.specs.State.{born}
 use Rattle.gup_events.specs.State.{CoreState, counted, lowered, cleared}
 use Rattle.gup_events.specs.Event.{Can, happens, entry_of, share_entry, share_mark}
 use Rattle.gup_events.specs.Sound.{View, Forking, marking_of, moving_of, IsSoundBy, IsSound, Simulates, IsUncopiedBy}
@@ -21,9 +21,7 @@ simulates-share_entry s a p c done page f writable (v, h) can =
     let before : Forking = record { proc = p; child = c; done = done; step = counted page } in
     let mine : v.forks a ≡ Some before = fork_here v s a p c done (counted page) h can.0 in
     let lives : s.birth p ≡ born = h.fork_parent a before mine in
-    let grows : s.birth c ≡ growing p = h.fork_birth a before mine in
     let still : v.moves a ≡ None = h.moves_are a ∙ ap moving_of can.0 in
-    let unmarking : v.marks a ≡ None = h.marks_are a ∙ ap marking_of can.0 in
     let locked : s.table p ≡ Some a = h.forks_table a page before mine refl in
     let e : Entry = entry_of f writable in
     let here : s.entry p page ≡ Some e = can.1 in
@@ -79,9 +77,6 @@ simulates-share_mark s a p c done page f writable (v, h) can =
     let V : View = record v { forks = put a (Some (record { proc = p; child = c; done = done; step = cleared page })) v.forks } in
     let before : Forking = record { proc = p; child = c; done = done; step = lowered page } in
     let mine : v.forks a ≡ Some before = fork_here v s a p c done (lowered page) h can.0 in
-    let lives : s.birth p ≡ born = h.fork_parent a before mine in
-    let grows : s.birth c ≡ growing p = h.fork_birth a before mine in
-    let still : v.moves a ≡ None = h.moves_are a ∙ ap moving_of can.0 in
     let unmarking : v.marks a ≡ None = h.marks_are a ∙ ap marking_of can.0 in
     let locked : s.table p ≡ Some a = h.forks_table a page before mine refl in
     let e : Entry = entry_of f writable in
