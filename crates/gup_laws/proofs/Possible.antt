@@ -14,81 +14,7 @@ use Rattle.gup_laws.proofs.Holders.{no_element, first_element}
 use Rattle.gup_events.specs.State.{start}
 use Rattle.gup_events.specs.Event.{CoreEvent, take_frame, fill, upgrade, raise_flag, pin_page, make_handle, give_handle, take_handle, unpin_page, break_entry, put_entry, count_one, set_mark, clear_entry, count_moved, place_frame, restore_entry, get_reference, put_reference}
 use Rattle.gup_events.specs.Invariant.{AllCan}
-
-abbrev first_born : ℕ → Bool
-first_born p = p == 0
-
-abbrev events : List CoreEvent
-events =
-    map_pages 0 0 7 1 RW
-    ∷ take_frame 0 3
-    ∷ fill 0 0 7 3
-    ∷ upgrade 0 0 7 3
-    ∷ store 0 0 7 5 3 9
-    ∷ load 0 0 7 5 3 9
-    ∷ fill_mirror 2 0 0 7 3 true
-    ∷ look 2 0 5 3 9
-    ∷ empty_mirror 2 0
-    ∷ raise_flag 0 0
-    ∷ pin_page 0 0 7 (entry_of 3 true) true true
-    ∷ make_handle 0 0
-    ∷ move_in 0 0 5 4 3 0
-    ∷ move_out 0 0 5 4 3 0
-    ∷ give_handle 0 0 2
-    ∷ take_handle 2 0
-    ∷ unpin_page 2 0 3 []
-    ∷ begin_fork 0 0 1
-    ∷ count_page 0 0 1 [] 7 (entry_of 3 true) false
-    ∷ share_entry 0 0 1 [] 7 3 true
-    ∷ share_mark 0 0 1 [] 7 3 false
-    ∷ share_child 0 0 1 [] 7 3 false
-    ∷ end_fork 0 0 1 (7 ∷ [])
-    ∷ take_frame 0 4
-    ∷ break_entry 0 0 7 3 4 false true
-    ∷ put_entry 0 3
-    ∷ count_one 1 1 7 3 false
-    ∷ set_mark 1 1 7 3
-    ∷ clear_entry 3 1 7 (entry_of 3 false)
-    ∷ count_moved 3 1 7 (entry_of 3 false) 1
-    ∷ take_frame 3 5
-    ∷ place_frame 3 1 7 5 (entry_of 3 false)
-    ∷ put_entry 3 3
-    ∷ get_reference 1 1 7 5 0 false
-    ∷ clear_entry 3 1 7 (entry_of 5 false)
-    ∷ count_moved 3 1 7 (entry_of 5 false) 2
-    ∷ restore_entry 3 1 7 (entry_of 5 false) more
-    ∷ put_reference 1 5 0
-    ∷ lower_entry 0 0 7 4
-    ∷ protect_pages 0 0 7 1 RW
-    ∷ drop_entry 0 0 7 (Some (entry_of 4 false))
-    ∷ put_entry 0 4
-    ∷ discard_entry 1 1 7 (Some (entry_of 5 false))
-    ∷ put_entry 1 5
-    ∷ begin_fork 1 1 2
-    ∷ pass_page 1 1 2 [] 7
-    ∷ fail_fork 1 1 2 (7 ∷ []) between
-    ∷ release_fork 1 1 2 (7 ∷ [])
-    ∷ fail_unborn 3 2 3
-    ∷ take_frame 1 6
-    ∷ fill 1 1 7 6
-    ∷ begin_fork 1 1 4
-    ∷ count_page 1 1 4 [] 7 (entry_of 6 false) false
-    ∷ share_entry 1 1 4 [] 7 6 false
-    ∷ share_mark 1 1 4 [] 7 6 false
-    ∷ share_child 1 1 4 [] 7 6 false
-    ∷ fail_fork 1 1 4 (7 ∷ []) between
-    ∷ put_child 1 1 4 (7 ∷ []) 7 (entry_of 6 false)
-    ∷ release_fork 1 1 4 (7 ∷ [])
-    ∷ count_one 1 1 7 6 false
-    ∷ set_mark 1 1 7 6
-    ∷ raise_flag 1 1
-    ∷ pin_page 1 1 7 (entry_of 6 false) false false
-    ∷ make_handle 1 1
-    ∷ begin_fork 1 1 5
-    ∷ count_page 1 1 5 [] 7 (entry_of 6 false) true
-    ∷ take_frame 1 7
-    ∷ copy_word 1 1 5 [] 7 0 7 (entry_of 6 false)
-    ∷ []
+use Rattle.gup_laws.specs.Possible.{first_born, one_run}
 
 few_pages : 7 + 1 ≤ page_numbers
 unfolding page_numbers
@@ -111,7 +37,7 @@ all_done page is =
 given_back : (page : ℕ) → ◌≡◌ {A = Option Entry} (put 7 None (put 7 (Some (entry_of 6 false)) (λ _. None)) page) None
 given_back page = grind (arith, nat_tests)
 
-pub they_can_happen : AllCan (start 2 8 first_born) events
+pub they_can_happen : AllCan (start 2 8 first_born) one_run
 they_can_happen = (
   (refl, (refl, refl), few_pages, (λ k inside. refl), omega arith),
   (

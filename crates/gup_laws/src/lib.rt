@@ -9,6 +9,7 @@ ghost use Rattle.gup_events.specs.Event.{CoreEvent, Can};
 ghost use Rattle.gup_events.specs.Invariant.{AllCan, run, Holds};
 ghost use Rattle.gup_events.specs.Sound.{IsSound, Simulates};
 ghost use Rattle.gup_laws.specs.Law.{all_told};
+ghost use Rattle.gup_laws.specs.Possible.{first_born, one_run};
 ghost use Rattle.gup_model.specs.LastWrite.{ArePossible, after};
 
 /// The start of the core machine is sound.
@@ -34,4 +35,9 @@ pub fn core_runs_hold()
     ensures holds { (movable normal : ℕ) (is_born : ℕ → Bool) (es : List CoreEvent) → AllCan (start movable normal is_born) es → Holds (run (start movable normal is_born) es) }
     ensures plain { (movable normal : ℕ) (is_born : ℕ → Bool) (es : List CoreEvent) → AllCan (start movable normal is_born) es → ArePossible (plain_start is_born) (all_told es) }
     ensures stands { (movable normal : ℕ) (is_born : ℕ → Bool) (es : List CoreEvent) → AllCan (start movable normal is_born) es → plain_of (run (start movable normal is_born) es) ≡ after (plain_start is_born) (all_told es) }
+{}
+
+/// The laws are not empty: a run with nearly every kind of event can happen, each event when it does.
+pub fn runs_are_possible()
+    ensures { AllCan (start 2 8 first_born) one_run }
 {}

@@ -1,0 +1,82 @@
+-- A run that shows that the laws speak of something: pages are mapped, written, mirrored, pinned, shared, copied, moved
+-- and given back, and forks end and fail.
+use Rattle.std.specs.Prelude.{ℕ, ◌==◌, Bool, true, false, List, [], ◌∷◌, Some}
+use Rattle.gup_base.specs.declared.entry.Rights.TheVariants.{RW}
+use Rattle.gup_events.specs.State.{more, between}
+use Rattle.gup_events.specs.Event.{CoreEvent, entry_of, map_pages, take_frame, fill, upgrade, store, load, fill_mirror, look, empty_mirror, raise_flag, pin_page, make_handle, move_in, move_out, give_handle, take_handle, unpin_page, begin_fork, count_page, share_entry, share_mark, share_child, end_fork, break_entry, put_entry, count_one, set_mark, clear_entry, count_moved, place_frame, get_reference, restore_entry, put_reference, lower_entry, protect_pages, drop_entry, discard_entry, pass_page, fail_fork, release_fork, fail_unborn, put_child, copy_word}
+
+abbrev pub first_born : ℕ → Bool
+first_born p = p == 0
+
+-- of process 0 with the children 1 to 5, over 2 movable and 8 normal frames
+abbrev pub one_run : List CoreEvent
+one_run =
+    map_pages 0 0 7 1 RW
+    ∷ take_frame 0 3
+    ∷ fill 0 0 7 3
+    ∷ upgrade 0 0 7 3
+    ∷ store 0 0 7 5 3 9
+    ∷ load 0 0 7 5 3 9
+    ∷ fill_mirror 2 0 0 7 3 true
+    ∷ look 2 0 5 3 9
+    ∷ empty_mirror 2 0
+    ∷ raise_flag 0 0
+    ∷ pin_page 0 0 7 (entry_of 3 true) true true
+    ∷ make_handle 0 0
+    ∷ move_in 0 0 5 4 3 0
+    ∷ move_out 0 0 5 4 3 0
+    ∷ give_handle 0 0 2
+    ∷ take_handle 2 0
+    ∷ unpin_page 2 0 3 []
+    ∷ begin_fork 0 0 1
+    ∷ count_page 0 0 1 [] 7 (entry_of 3 true) false
+    ∷ share_entry 0 0 1 [] 7 3 true
+    ∷ share_mark 0 0 1 [] 7 3 false
+    ∷ share_child 0 0 1 [] 7 3 false
+    ∷ end_fork 0 0 1 (7 ∷ [])
+    ∷ take_frame 0 4
+    ∷ break_entry 0 0 7 3 4 false true
+    ∷ put_entry 0 3
+    ∷ count_one 1 1 7 3 false
+    ∷ set_mark 1 1 7 3
+    ∷ clear_entry 3 1 7 (entry_of 3 false)
+    ∷ count_moved 3 1 7 (entry_of 3 false) 1
+    ∷ take_frame 3 5
+    ∷ place_frame 3 1 7 5 (entry_of 3 false)
+    ∷ put_entry 3 3
+    ∷ get_reference 1 1 7 5 0 false
+    ∷ clear_entry 3 1 7 (entry_of 5 false)
+    ∷ count_moved 3 1 7 (entry_of 5 false) 2
+    ∷ restore_entry 3 1 7 (entry_of 5 false) more
+    ∷ put_reference 1 5 0
+    ∷ lower_entry 0 0 7 4
+    ∷ protect_pages 0 0 7 1 RW
+    ∷ drop_entry 0 0 7 (Some (entry_of 4 false))
+    ∷ put_entry 0 4
+    ∷ discard_entry 1 1 7 (Some (entry_of 5 false))
+    ∷ put_entry 1 5
+    ∷ begin_fork 1 1 2
+    ∷ pass_page 1 1 2 [] 7
+    ∷ fail_fork 1 1 2 (7 ∷ []) between
+    ∷ release_fork 1 1 2 (7 ∷ [])
+    ∷ fail_unborn 3 2 3
+    ∷ take_frame 1 6
+    ∷ fill 1 1 7 6
+    ∷ begin_fork 1 1 4
+    ∷ count_page 1 1 4 [] 7 (entry_of 6 false) false
+    ∷ share_entry 1 1 4 [] 7 6 false
+    ∷ share_mark 1 1 4 [] 7 6 false
+    ∷ share_child 1 1 4 [] 7 6 false
+    ∷ fail_fork 1 1 4 (7 ∷ []) between
+    ∷ put_child 1 1 4 (7 ∷ []) 7 (entry_of 6 false)
+    ∷ release_fork 1 1 4 (7 ∷ [])
+    ∷ count_one 1 1 7 6 false
+    ∷ set_mark 1 1 7 6
+    ∷ raise_flag 1 1
+    ∷ pin_page 1 1 7 (entry_of 6 false) false false
+    ∷ make_handle 1 1
+    ∷ begin_fork 1 1 5
+    ∷ count_page 1 1 5 [] 7 (entry_of 6 false) true
+    ∷ take_frame 1 7
+    ∷ copy_word 1 1 5 [] 7 0 7 (entry_of 6 false)
+    ∷ []
