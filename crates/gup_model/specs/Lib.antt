@@ -1,1 +1,4 @@
 pub mod LastWrite
+pub mod Words
+pub mod Tables
+pub mod Contents

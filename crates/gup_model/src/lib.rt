@@ -1,6 +1,8 @@
 //! The plain model as a program, and what is promised over every list of its events.
 #![tactic(auto)]
 
+mod contents;
 mod law;
+mod words;
 
 pub use law::{last_write, pages_are_counted};
