@@ -2,3 +2,4 @@ pub mod LastWrite
 pub mod Words
 pub mod Tables
 pub mod Contents
+pub mod Flags

@@ -2,6 +2,7 @@
 #![tactic(auto)]
 
 mod contents;
+mod flags;
 mod law;
 mod words;
 
