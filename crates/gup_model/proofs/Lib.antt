@@ -1,3 +1,5 @@
 pub mod WordsLemmas
 pub mod ContentsLemmas
 pub mod FlagsLemmas
+pub mod TableLemmas
+pub mod ResultLemmas

@@ -3,3 +3,4 @@ pub mod Words
 pub mod Tables
 pub mod Contents
 pub mod Flags
+pub mod Pages

@@ -4,6 +4,7 @@
 mod contents;
 mod flags;
 mod law;
+mod pages;
 mod words;
 
 pub use law::{last_write, pages_are_counted};

@@ -1,0 +1,33 @@
+-- Functions of numbers that are changed at one place or over a range.
+use Rattle.std.proofs.Common.{◌≡◌, ℕ, ◌+◌, ◌-◌, ◌<◌, ◌≤◌, ◌==◌, Bool, true, false, cond, Option, Some, None, refl, sym, ◌∙◌, ap, subst, arith}
+use Rattle.std.proofs.Math.Path.{fun_ext}
+use Rattle.std.proofs.lemmas.Bool.Decides.{nat_tests}
+use Rattle.std.specs.Ordering.{nat_cmp, is_eq}
+use Rattle.gup_plain.specs.Put.{put, put2, spread}
+use Rattle.gup_model.specs.declared.pages.Page.{Page}
+use Rattle.gup_model.specs.Pages.{AreFree}
+
+-- a look-up after a change at one key
+pub updated : {X : Type 0} (f g : ℕ → X) (k : ℕ) (w : X) → ((q : ℕ) → g q ≡ cond (is_eq (nat_cmp k q)) w (f q)) → g ≡ put k w f
+updated f g k w h = fun_ext (λ q. let here = h q in grind (arith, nat_tests))
+
+spread_past : {X : Type 0} (first k : ℕ) (g f : ℕ → X) → spread first k g f (first + k) ≡ f (first + k)
+spread_past first k g f = grind (arith, nat_tests)
+
+-- behind a range everything is as it was
+pub still : {X : Type 0} (f g h : ℕ → X) (first k page : ℕ) → h ≡ spread first k g f → page ≡ first + k → h page ≡ f (first + k)
+still f g h first k page changed at = rw (at, changed) (spread_past first k g f)
+
+spread_more : {X : Type 0} (first k : ℕ) (g f : ℕ → X) → put (first + k) (g (first + k)) (spread first k g f) ≡ spread first (k + 1) g f
+spread_more first k g f = fun_ext (λ q. grind (arith, nat_tests))
+
+-- a range that grows at its end
+pub grown : {X : Type 0} (f g h h' : ℕ → X) (first k page : ℕ) (w : X) → h ≡ spread first k g f → page ≡ first + k → h' ≡ put page w h → w ≡ g (first + k) → h' ≡ spread first (k + 1) g f
+grown f g h h' first k page w changed at more is = more ∙ rw (at, is, changed) (spread_more first k g f)
+
+undone_at : (f g h : ℕ → Option Page) (first n k q : ℕ) → AreFree f first n → k ≤ n → spread first k (λ _. None) (spread first k g f) q ≡ f q
+undone_at f g h first n k q free within = let here = free (q - first) in grind (arith, nat_tests)
+
+-- a range that was free, mapped and unmapped again
+pub undone : (f g h h' : ℕ → Option Page) (first n k : ℕ) → AreFree f first n → k ≤ n → h ≡ spread first k g f → h' ≡ spread first k (λ _. None) h → h' ≡ f
+undone f g h h' first n k free within mapped unmapped = unmapped ∙ rw mapped (fun_ext (λ q. undone_at f g h first n k q free within))
