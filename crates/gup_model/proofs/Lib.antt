@@ -3,3 +3,4 @@ pub mod ContentsLemmas
 pub mod FlagsLemmas
 pub mod TableLemmas
 pub mod ResultLemmas
+pub mod OwnObjects

@@ -24,6 +24,10 @@ with_object object found = option_map (λ (p : Page). page_with p.rights object)
 abbrev pub with_rights : Rights → Option Page → Option Page
 with_rights rights found = option_map (λ (p : Page). page_with rights p.object) found
 
+-- the same pages, each with an object of its own
+abbrev pub own_objects : (objects : ℕ) → (ℕ → Option Page) → ℕ → Option Page
+own_objects objects pages page = with_object (objects + page) (pages page)
+
 -- no page of the range is mapped
 abbrev pub AreFree : (ℕ → Option Page) → (first n : ℕ) → Type 0
 AreFree pages first n = (k : ℕ) → k < n → pages (first + k) ≡ None

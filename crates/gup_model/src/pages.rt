@@ -3,7 +3,7 @@ ghost use Rattle.std.specs.Prelude.{◌≡◌, ℕ, ◌+◌, ◌-◌, ◌^◌, �
 ghost use Rattle.std.specs.BTreeMap.{get, btree_map_len};
 ghost use Rattle.std.specs.Ordering.{nat_cmp};
 ghost use Rattle.gup_plain.specs.Put.{put, spread};
-ghost use Rattle.gup_model.specs.Pages.{page_with, pages_from, with_object, with_rights, AreFree, AreMapped};
+ghost use Rattle.gup_model.specs.Pages.{page_with, pages_from, with_object, with_rights, own_objects, AreFree, AreMapped};
 
 use gup_base::{NoMemory, PageNo, Rights};
 use std::alloc::Global;
@@ -139,5 +139,30 @@ pub fn protect(pages: &mut Pages, first: PageNo, n: u16, rights: Rights)
 {
     for k in 0..n {
         set_rights(pages, nth(first, k), rights);
+    }
+}
+
+/// The same pages with the same rights, each with an object of its own: that of page p is `objects` + p.
+pub fn with_own_objects(alloc: Global, pages: &Pages, objects: u64) -> Result<Pages, NoMemory>
+    requires { objects + 2 ^ 35 < 2 ^ 64 }
+    ensures pages { IfOk result (λ own. get nat_cmp own ≡ own_objects objects (get nat_cmp pages.now)) }
+    ensures len { IfOk result (λ own. btree_map_len own ≡ btree_map_len pages.now) }
+{
+    let own = pages
+        .iter()
+        .map(|(page, entry)| (*page, entry.with_object(objects + page.get())))
+        .collect(alloc)?;
+    Ok(own)
+}
+
+impl Page {
+    // The page with another object.
+    fn with_object(self, object: u64) -> Page
+        ensures { result ≡ page_with self.rights object }
+    {
+        Page {
+            rights: self.rights,
+            object,
+        }
     }
 }
