@@ -1,11 +1,14 @@
 -- Functions of numbers that are changed at one place or over a range.
-use Rattle.std.proofs.Common.{◌≡◌, ℕ, ◌+◌, ◌-◌, ◌<◌, ◌≤◌, ◌==◌, Bool, true, false, cond, Option, Some, None, refl, sym, ◌∙◌, ap, subst, arith}
+use Rattle.std.proofs.Common.{◌≡◌, ℕ, ◌+◌, ◌-◌, ◌<◌, ◌≤◌, ◌==◌, Bool, true, false, cond, Option, Some, None, is_some, refl, sym, ◌∙◌, ap, subst, arith}
 use Rattle.std.proofs.Math.Path.{fun_ext}
 use Rattle.std.proofs.lemmas.Bool.Decides.{nat_tests}
+use Rattle.std.specs.BTreeMap.{BTreeMap, get}
 use Rattle.std.specs.Ordering.{nat_cmp, is_eq}
+use Rattle.std.specs.Option.{option_map_or}
 use Rattle.gup_plain.specs.Put.{put, put2, spread}
 use Rattle.gup_model.specs.declared.pages.Page.{Page}
 use Rattle.gup_model.specs.Pages.{AreFree}
+use Rattle.gup_model.specs.Tables.{at_key, at_place}
 
 -- a look-up after a change at one key
 pub updated : {X : Type 0} (f g : ℕ → X) (k : ℕ) (w : X) → ((q : ℕ) → g q ≡ cond (is_eq (nat_cmp k q)) w (f q)) → g ≡ put k w f
@@ -31,3 +34,25 @@ undone_at f g h first n k q free within = let here = free (q - first) in grind (
 -- a range that was free, mapped and unmapped again
 pub undone : (f g h h' : ℕ → Option Page) (first n k : ℕ) → AreFree f first n → k ≤ n → h ≡ spread first k g f → h' ≡ spread first k (λ _. None) h → h' ≡ f
 undone f g h h' first n k free within mapped unmapped = unmapped ∙ rw mapped (fun_ext (λ q. undone_at f g h first n k q free within))
+
+-- ---- maps, read by a function
+
+pub at_found : {X Y : Type 0} (f : X → Y) (d : Y) (m : BTreeMap ℕ X) (k : ℕ) (x : X) → Some x ≡ get nat_cmp m k → at_key f d m k ≡ f x
+at_found f d m k x found = rw (sym found) refl
+
+pub at_absent : {X Y : Type 0} (f : X → Y) (d : Y) (m : BTreeMap ℕ X) (k : ℕ) → false ≡ is_some (get nat_cmp m k) → at_key f d m k ≡ d
+at_absent f d m k none = read-absent f d (get nat_cmp m k) none
+  where
+    read-absent : {X Y : Type 0} (f : X → Y) (d : Y) (o : Option X) → false ≡ is_some o → option_map_or f o d ≡ d
+    read-absent f d None none = refl
+    read-absent f d (Some x) none = absurd (cc)
+
+-- a map that has x at the key now
+pub key_updated : {X Y : Type 0} (f : X → Y) (d : Y) (m n : BTreeMap ℕ X) (k : ℕ) (x : X) → ((q : ℕ) → get nat_cmp n q ≡ cond (is_eq (nat_cmp k q)) (Some x) (get nat_cmp m q)) → at_key f d n ≡ put k (f x) (at_key f d m)
+key_updated f d m n k x h = fun_ext (λ q. let here = h q in grind (arith, nat_tests))
+
+pub put_same : {X : Type 0} (k : ℕ) (f : ℕ → X) (x : X) → x ≡ f k → put k x f ≡ f
+put_same k f x same = fun_ext (λ q. put-same-at k q f x same)
+  where
+    put-same-at : {X : Type 0} (k q : ℕ) (f : ℕ → X) (x : X) → x ≡ f k → put k x f q ≡ f q
+    put-same-at k q f x same = grind (arith, nat_tests)

@@ -6,6 +6,10 @@ use Rattle.gup_plain.specs.Event.{words}
 abbrev pub flag_of : List Bool → ℕ → Bool
 flag_of items w = if nat_lt w words then slice_index_or items w false else false
 
--- the same flag at each word
-unfoldable pub alike : Bool → List Bool
-alike flag = replicate words flag
+-- no word is copied
+unfoldable pub unset : List Bool
+unset = replicate words false
+
+-- all words are copied
+unfoldable pub all_set : List Bool
+all_set = replicate words true

@@ -4,3 +4,4 @@ pub mod Tables
 pub mod Contents
 pub mod Flags
 pub mod Pages
+pub mod Space

@@ -1,7 +1,7 @@
 //! One flag for each word of a page.
 ghost use Rattle.std.specs.Prelude.{◌≡◌, ℕ, ◌<◌, ◌↔◌, true, false, IsTrue, IfOk, vec_len};
 ghost use Rattle.gup_plain.specs.Put.{put, spread};
-ghost use Rattle.gup_model.specs.Flags.{flag_of, alike};
+ghost use Rattle.gup_model.specs.Flags.{flag_of, unset, all_set};
 
 use gup_base::{NoMemory, WordNo};
 use std::alloc::{AllocError, Global};
@@ -31,16 +31,7 @@ impl Flags {
         ensures { IfOk result (λ flags. flag_of flags ≡ (λ _. false)) }
     {
         Ok(Flags {
-            items: alike(alloc, false)?,
-        })
-    }
-
-    /// The flags of a page of which all words are copied.
-    pub fn set_all(alloc: Global) -> Result<Flags, NoMemory>
-        ensures { IfOk result (λ flags. flag_of flags ≡ spread 0 512 (λ _. true) (λ _. false)) }
-    {
-        Ok(Flags {
-            items: alike(alloc, true)?,
+            items: unset(alloc)?,
         })
     }
 
@@ -58,6 +49,13 @@ impl Flags {
         self.items[word.get() as usize] = true;
     }
 
+    /// Says that all words are copied.
+    pub fn set_all(&mut self)
+        ensures { flag_of self.new ≡ spread 0 512 (λ _. true) (flag_of self.old) }
+    {
+        set_each(&mut self.items);
+    }
+
     /// Whether all words are copied.
     pub fn is_full(&self) -> bool
         ensures { IsTrue result ↔ ((word : ℕ) → word < 512 → flag_of self.now word ≡ true) }
@@ -73,9 +71,18 @@ impl Flags {
     }
 }
 
-#[tactic(auto, unfolding(crate::specs::Flags::alike))]
-fn alike(alloc: Global, flag: bool) -> Result<Vec<bool>, AllocError>
-    ensures { IfOk result (λ items. (items.items ≡ alike flag) × (vec_len items ≡ 512)) }
+#[tactic(auto, unfolding(crate::specs::Flags::unset))]
+fn unset(alloc: Global) -> Result<Vec<bool>, AllocError>
+    ensures { IfOk result (λ items. (items.items ≡ unset) × (vec_len items ≡ 512)) }
 {
-    vec![in alloc; flag; WORDS]
+    vec![in alloc; false; WORDS]
+}
+
+#[tactic(auto, unfolding(crate::specs::Flags::all_set))]
+fn set_each(items: &mut Vec<bool>)
+    requires { vec_len items.old ≡ 512 }
+    ensures items { items.new.items ≡ all_set }
+    ensures len { vec_len items.new ≡ 512 }
+{
+    items.fill(true);
 }

@@ -5,6 +5,7 @@ mod contents;
 mod flags;
 mod law;
 mod pages;
+mod space;
 mod words;
 
 pub use law::{last_write, pages_are_counted};
