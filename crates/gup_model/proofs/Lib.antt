@@ -4,3 +4,4 @@ pub mod FlagsLemmas
 pub mod TableLemmas
 pub mod ResultLemmas
 pub mod OwnObjects
+pub mod TakenLemmas

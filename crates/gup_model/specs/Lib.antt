@@ -5,3 +5,5 @@ pub mod Contents
 pub mod Flags
 pub mod Pages
 pub mod Space
+pub mod Pin
+pub mod Parts

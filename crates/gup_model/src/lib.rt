@@ -4,8 +4,14 @@
 mod contents;
 mod flags;
 mod law;
+mod mirror;
 mod pages;
+mod parts;
+mod pin;
+mod refusal;
 mod space;
+mod taken;
 mod words;
 
 pub use law::{last_write, pages_are_counted};
+pub use refusal::PlainRefusal;
