@@ -5,3 +5,4 @@ pub mod TableLemmas
 pub mod ResultLemmas
 pub mod OwnObjects
 pub mod TakenLemmas
+pub mod Changes

@@ -1,6 +1,7 @@
 -- Functions of numbers that are changed at one place or over a range.
-use Rattle.std.proofs.Common.{◌≡◌, ℕ, ◌+◌, ◌-◌, ◌<◌, ◌≤◌, ◌==◌, Bool, true, false, cond, Option, Some, None, is_some, refl, sym, ◌∙◌, ap, subst, arith}
+use Rattle.std.proofs.Common.{◌≡◌, ℕ, zero, suc, ◌+◌, ◌-◌, ◌<◌, ◌≤◌, ◌==◌, Bool, true, false, cond, List, [], ◌∷◌, Option, Some, None, IsSome, is_some, length, get_or, slice_set, slice_get, refl, sym, ◌∙◌, ap, subst, arith}
 use Rattle.std.proofs.Math.Path.{fun_ext}
+use Rattle.std.proofs.lemmas.Option.{slice_get-get_or}
 use Rattle.std.proofs.lemmas.Bool.Decides.{nat_tests}
 use Rattle.std.specs.BTreeMap.{BTreeMap, get}
 use Rattle.std.specs.Ordering.{nat_cmp, is_eq}
@@ -56,3 +57,30 @@ put_same k f x same = fun_ext (λ q. put-same-at k q f x same)
   where
     put-same-at : {X : Type 0} (k q : ℕ) (f : ℕ → X) (x : X) → x ≡ f k → put k x f q ≡ f q
     put-same-at k q f x same = grind (arith, nat_tests)
+
+-- ---- lists, read by a function
+
+after-first : (q : ℕ) → (suc q == 0) ≡ false
+after-first q = grind (arith, nat_tests)
+
+before-last : (i : ℕ) → (0 == suc i) ≡ false
+before-last i = grind (arith, nat_tests)
+
+one-less : (q i : ℕ) → (suc q == suc i) ≡ (q == i)
+one-less q i = grind (arith, nat_tests)
+
+place-put-at : {X Y : Type 0} (f : X → Y) (d : Y) (xs : List X) (i q : ℕ) (x : X) → i < length xs → at_place f d (slice_set xs i x) q ≡ put i (f x) (at_place f d xs) q
+place-put-at f d [] i q x within = absurd (omega arith)
+place-put-at f d (y ∷ xs) zero zero x within = refl
+place-put-at f d (y ∷ xs) zero (suc q) x within = rw (after-first q) refl
+place-put-at f d (y ∷ xs) (suc i) zero x within = rw (before-last i) refl
+place-put-at f d (y ∷ xs) (suc i) (suc q) x within = rw (one-less q i) (place-put-at f d xs i q x (omega arith))
+
+pub place_put : {X Y : Type 0} (f : X → Y) (d : Y) (xs : List X) (i j : ℕ) (x : X) → j ≡ i → i < length xs → at_place f d (slice_set xs j x) ≡ put i (f x) (at_place f d xs)
+place_put f d xs i j x same within = rw same (fun_ext (λ q. place-put-at f d xs i q x within))
+
+pub place_is : {X Y : Type 0} (f : X → Y) (d : Y) (xs : List X) (i j : ℕ) (x : X) → j ≡ i → i < length xs → x ≡ get_or xs j x → at_place f d xs i ≡ f x
+place_is f d xs i j x same within is =
+    let there : slice_get xs i ≡ Some (get_or xs i x) = slice_get-get_or xs i x within in
+    let here : get_or xs i x ≡ x = sym (rw same at is) in
+    rw (there, here) refl

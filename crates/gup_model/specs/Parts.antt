@@ -1,7 +1,7 @@
 -- The plain model's state as the program keeps it, in parts.
 use Rattle.std.specs.Prelude.{◌≡◌, ℕ, ◌<◌, ◌≤◌, Bool, false, List, [], Option, None, IsSome, All, vec_len, Result, MatchResult}
 use Rattle.gup_plain.specs.State.{PlainState, Handle, unmade, Pending, Noted, start, objects_of}
-use Rattle.gup_plain.specs.Event.{CanHappen, happened}
+use Rattle.gup_plain.specs.Event.{CanHappen, happened, page_numbers}
 use Rattle.gup_plain.specs.declared.event.PlainEvent.{PlainEvent}
 use Rattle.gup_plain.specs.declared.event.PlainEvent.TheVariants as events
 use Rattle.gup_model.specs.declared.refusal.PlainRefusal.{PlainRefusal}
@@ -59,9 +59,11 @@ other_state v =
 abbrev pub state_of : Parts → PlainState
 state_of v = with_spaces (other_state v) (spaces_of v)
 
--- Each object that something names is made, and those that aren't have zeros.
+-- Each object that something names is made, and those that aren't have zeros; and each page that is named has a
+-- number that a page may have.
 pub record IsMade (s : PlainState) : Type 0 where
   pub pages : (p page : ℕ) → IsSome (s.right p page) → s.object p page < s.made
+  pub numbers : (p page : ℕ) → IsSome (s.right p page) → page < page_numbers
   pub handles : (h : ℕ) → All (λ o. o < s.made) (objects_of (s.handle h))
   pub pending : (a : ℕ) → All (λ (t : Pending). t.object < s.made) (s.pending a)
   pub content : (o w : ℕ) → s.made ≤ o → s.content o w ≡ 0

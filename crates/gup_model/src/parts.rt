@@ -1,21 +1,27 @@
 //! The plain model's state, in parts, and its events one by one.
-ghost use Rattle.std.specs.Prelude.{◌≡◌, ℕ, ◌+◌, ◌<◌, ◌≤◌, ◌^◌, vec_len, MatchOption, Some};
+ghost use Rattle.std.specs.Prelude.{◌≡◌, ℕ, ◌+◌, ◌<◌, ◌≤◌, ◌^◌, vec_len, ◌↔◌, IsTrue, MatchOption, IfOk, Some};
 ghost use Rattle.std.specs.BTreeMap.{get};
 ghost use Rattle.std.specs.Ordering.{nat_cmp};
 ghost use Rattle.gup_plain.specs.State.{IsNamed, born};
+ghost use Rattle.gup_base.specs.declared.entry.Rights.{Rights};
+ghost use Rattle.gup_plain.specs.Event.{CanHappen, page_numbers};
 ghost use Rattle.gup_plain.specs.declared.event.PlainEvent.TheVariants as events;
 ghost use Rattle.gup_model.specs.Parts.{state_of, HasAll, IsMade, IsAsMany, Applies};
 
 use crate::contents::Contents;
 use crate::mirror::Mirror;
-use crate::pages::Page;
+use crate::pages::{self, Page};
 use crate::pin::Pin;
 use crate::refusal::PlainRefusal;
 use crate::space::Space;
 use crate::taken::Taken;
-use gup_base::{PageNo, ProcNo, WordNo};
+use gup_base::{NoMemory, PageNo, ProcNo, Rights, WordNo};
 use std::alloc::Global;
 use std::collections::BTreeMap;
+
+// How many page numbers there are, and how many pages a process may have mapped.
+const PAGE_NUMBERS: u64 = 1 << 35;
+const MOST_PAGES: usize = 1024;
 
 /// An actor: the pages that its running pin has taken, and a device's words.
 #[derive(Drop)]
@@ -63,4 +69,115 @@ impl Parts {
             _ => Err(PlainRefusal::Broken),
         }
     }
+
+    /// The word of the page's object becomes `value`.
+    pub fn store(&mut self, p: ProcNo, page: PageNo, word: WordNo, value: u64) -> Result<(), PlainRefusal>
+        requires all { HasAll self.old }
+        ensures event { Applies (state_of self.old) (state_of self.new) (events.Store 0 p page word value) result }
+        ensures many { IsAsMany self.old self.new }
+    {
+        let Some(found) = self.named(p, page) else {
+            return Err(PlainRefusal::Broken);
+        };
+        if found.rights != Rights::RW {
+            return Err(PlainRefusal::Broken);
+        }
+        self.contents.write(found.object, word, value)?;
+        Ok(())
+    }
+
+    /// The page names no object any more.
+    pub fn unmap(&mut self, p: ProcNo, page: PageNo) -> Result<(), PlainRefusal>
+        requires all { HasAll self.old }
+        ensures event { Applies (state_of self.old) (state_of self.new) (events.Unmap 0 p page) result }
+        ensures many { IsAsMany self.old self.new }
+    {
+        if self.named(p, page).is_none() {
+            return Err(PlainRefusal::Broken);
+        }
+        let space = &mut self.spaces[p.get() as usize];
+        pages::remove(&mut space.pages, page);
+        Ok(())
+    }
+
+    /// The page names a fresh object.
+    pub fn discard(&mut self, p: ProcNo, page: PageNo) -> Result<(), PlainRefusal>
+        requires all { HasAll self.old }
+        requires made { IsMade (state_of self.old) }
+        ensures event { Applies (state_of self.old) (state_of self.new) (events.Discard 0 p page) result }
+        ensures many { IsAsMany self.old self.new }
+    {
+        if self.named(p, page).is_none() {
+            return Err(PlainRefusal::Broken);
+        }
+        let object = self.contents.made;
+        self.contents.made = made_after(object, 1)?;
+        let space = &mut self.spaces[p.get() as usize];
+        pages::set_object(&mut space.pages, page, object);
+        Ok(())
+    }
+
+    // Whether the pages are there, and free, and there may be so many.
+    fn can_map(&self, p: ProcNo, page: PageNo, n: u16) -> bool
+        requires { HasAll self.now }
+        ensures { (rights : Rights) → IsTrue result ↔ CanHappen (state_of self.now) (events.Map 0 p page n rights) }
+    {
+        let space = &self.spaces[p.get() as usize];
+        space.is_born()
+            && page.get() + u64::from(n) <= PAGE_NUMBERS
+            && space.pages.len() + usize::from(n) <= MOST_PAGES
+            && pages::are_free(&space.pages, page, n)
+    }
+
+    /// The pages get fresh objects and these rights.
+    pub fn map(&mut self, p: ProcNo, page: PageNo, n: u16, rights: Rights) -> Result<(), PlainRefusal>
+        requires all { HasAll self.old }
+        requires made { IsMade (state_of self.old) }
+        ensures event { Applies (state_of self.old) (state_of self.new) (events.Map 0 p page n rights) result }
+        ensures many { IsAsMany self.old self.new }
+    {
+        if !self.can_map(p, page, n) {
+            return Err(PlainRefusal::Broken);
+        }
+        let object = self.contents.made;
+        let made = made_after(object, u64::from(n))?;
+        let space = &mut self.spaces[p.get() as usize];
+        pages::map(&mut space.pages, page, n, rights, object)?;
+        self.contents.made = made;
+        Ok(())
+    }
+
+    // Whether all the pages are named.
+    fn can_protect(&self, p: ProcNo, page: PageNo, n: u16) -> bool
+        requires all { HasAll self.now }
+        requires made { IsMade (state_of self.now) }
+        ensures { (rights : Rights) → IsTrue result ↔ CanHappen (state_of self.now) (events.Protect 0 p page n rights) }
+    {
+        let space = &self.spaces[p.get() as usize];
+        space.is_born()
+            && page.get() + u64::from(n) <= PAGE_NUMBERS
+            && pages::are_mapped(&space.pages, page, n)
+    }
+
+    /// The pages have these rights.
+    pub fn protect(&mut self, p: ProcNo, page: PageNo, n: u16, rights: Rights) -> Result<(), PlainRefusal>
+        requires all { HasAll self.old }
+        requires made { IsMade (state_of self.old) }
+        ensures event { Applies (state_of self.old) (state_of self.new) (events.Protect 0 p page n rights) result }
+        ensures many { IsAsMany self.old self.new }
+    {
+        if !self.can_protect(p, page, n) {
+            return Err(PlainRefusal::Broken);
+        }
+        let space = &mut self.spaces[p.get() as usize];
+        pages::protect(&mut space.pages, page, n, rights);
+        Ok(())
+    }
+}
+
+// How many objects there are when `n` more are made.
+fn made_after(made: u64, n: u64) -> Result<u64, NoMemory>
+    ensures { IfOk result (λ after. after ≡ made + n) }
+{
+    made.checked_add(n).ok_or(NoMemory)
 }

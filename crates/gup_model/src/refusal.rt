@@ -24,7 +24,10 @@ impl fmt::Display for PlainRefusal {
 impl Error for PlainRefusal {}
 
 impl From<NoMemory> for PlainRefusal {
-    ghost from_gives = { λ _ e. e ≡ NoMemory };
+    ghost use Rattle.std.specs.Prelude.{◌≡◌};
+    ghost use Rattle.gup_model.specs.declared.refusal.PlainRefusal.TheVariants as refusals;
+
+    ghost from_gives = { λ _ e. e ≡ refusals.NoMemory };
 
     fn from(_e: NoMemory) -> PlainRefusal {
         PlainRefusal::NoMemory
