@@ -6,3 +6,4 @@ pub mod ResultLemmas
 pub mod OwnObjects
 pub mod TakenLemmas
 pub mod Changes
+pub mod SpaceLemmas

@@ -1,13 +1,15 @@
 -- One process: its birth, its pages, and, while it grows, which words of which pages are copied.
-use Rattle.std.specs.Prelude.{ℕ, Bool, false, Option, None}
+use Rattle.std.specs.Prelude.{◌≡◌, ℕ, ◌+◌, ◌<◌, ◌≤◌, Bool, false, Option, None, IsSome}
 use Rattle.std.specs.BTreeMap.{BTreeMap, get, btree_map_len}
 use Rattle.std.specs.Ordering.{nat_cmp}
+use Rattle.gup_plain.specs.Event.{page_numbers, most_pages}
 use Rattle.gup_plain.specs.State.{Birth, unborn, growing, born, failed}
 use Rattle.gup_model.specs.declared.pages.Page.{Page}
 use Rattle.gup_model.specs.declared.space.Birth.{Birth as Stage}
 use Rattle.gup_model.specs.declared.space.Birth.TheVariants as stages
 use Rattle.gup_model.specs.declared.space.Space.{Space}
 use Rattle.gup_model.specs.Flags.{flag_of}
+use Rattle.gup_model.specs.Pages.{right_in}
 use Rattle.gup_model.specs.Tables.{at_key}
 
 abbrev pub birth_of : Stage → Birth
@@ -33,3 +35,17 @@ seen s =
 
 abbrev pub blank : SpaceState
 blank = record { birth = unborn; page = λ _. None; pages = 0; copied = λ _ _. false }
+
+-- The process is born, none of the pages is mapped, and there are not too many with them.
+abbrev pub CanMap : SpaceState → (page n : ℕ) → Type 0
+CanMap x page n =
+    (x.birth ≡ born) × (page + n ≤ page_numbers) × ((k : ℕ) → k < n → right_in (x.page (page + k)) ≡ None)
+    × (x.pages + n ≤ most_pages)
+
+-- the process is born, and each of the pages is mapped
+abbrev pub CanProtect : SpaceState → (page n : ℕ) → Type 0
+CanProtect x page n = (x.birth ≡ born) × ((k : ℕ) → k < n → IsSome (right_in (x.page (page + k))))
+
+-- what is mapped has a number that a page may have
+abbrev pub HasNumbers : SpaceState → Type 0
+HasNumbers x = (page : ℕ) → IsSome (right_in (x.page page)) → page < page_numbers

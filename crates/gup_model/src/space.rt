@@ -1,17 +1,24 @@
 //! One process: its birth, its pages, and, while it grows, which words of which pages are copied.
 ghost use Rattle.std.specs.Prelude.{◌≡◌, ℕ, ◌<◌, ◌↔◌, true, false, Some, IsSome, IsTrue, All, OnOk, OnErr};
-ghost use Rattle.std.specs.BTreeMap.{get, keys};
+ghost use Rattle.std.specs.BTreeMap.{get, keys, btree_map_len};
 ghost use Rattle.std.specs.Ordering.{nat_cmp};
 ghost use Rattle.gup_plain.specs.Put.{put, spread};
-ghost use Rattle.gup_plain.specs.State.{born, unborn, growing};
-ghost use Rattle.gup_model.specs.Space.{birth_of, copied_of, seen, blank};
+ghost use Rattle.gup_plain.specs.Event.{IsUnbornOrGrowing};
+ghost use Rattle.gup_plain.specs.State.{born, unborn, growing, failed};
+ghost use Rattle.gup_model.specs.Space.{birth_of, copied_of, seen, blank, CanMap, CanProtect, HasNumbers};
 ghost use Rattle.gup_model.specs.Flags.{flag_of};
 
 use crate::flags::Flags;
-use crate::pages::Pages;
+use crate::pages::{self, Pages};
 use gup_base::{NoMemory, PageNo, ProcNo, WordNo};
 use std::alloc::Global;
 use std::collections::BTreeMap;
+
+/// How many page numbers there are.
+pub const PAGE_NUMBERS: u64 = 1 << 35;
+
+// How many pages a process may have mapped.
+const MOST_PAGES: usize = 1024;
 
 /// Whether a process has come into being.
 #[derive(Clone, Copy, Debug, PartialEq, Eq)]
@@ -149,5 +156,71 @@ impl Space {
         if let Some(flags) = self.copied.get_mut(&page) {
             flags.set_all();
         }
+    }
+
+    /// Begins to grow from a parent, with these pages.
+    pub fn grow(&mut self, parent: ProcNo, pages: Pages)
+        ensures { seen self.new ≡ record { birth = growing parent; page = get nat_cmp pages; pages = btree_map_len pages; copied = λ _ _. false } }
+    {
+        self.birth = Birth::Growing(parent);
+        self.pages = pages;
+        self.copied.clear();
+    }
+
+    /// Is born.
+    pub fn be_born(&mut self)
+        ensures { seen self.new ≡ record (seen self.old) { birth = born; copied = λ _ _. false } }
+    {
+        self.birth = Birth::Born;
+        self.copied.clear();
+    }
+
+    /// Has failed, and has no pages.
+    pub fn fail(&mut self)
+        ensures { seen self.new ≡ record blank { birth = failed } }
+    {
+        self.birth = Birth::Failed;
+        self.pages.clear();
+        self.copied.clear();
+    }
+
+    /// Whether the process is unborn or grows.
+    pub fn may_fail(&self) -> bool
+        ensures { IsTrue result ↔ IsUnbornOrGrowing (birth_of self.now.birth) }
+    {
+        match self.birth {
+            Birth::Unborn | Birth::Growing(_) => true,
+            Birth::Born | Birth::Failed => false,
+        }
+    }
+
+    /// Whether the process is born, none of the pages is mapped, and there are not too many with them.
+    pub fn can_map(&self, page: PageNo, n: u16) -> bool
+        ensures { IsTrue result ↔ CanMap (seen self.now) page n }
+    {
+        if !self.is_born() {
+            return false;
+        }
+        if page.get() + u64::from(n) > PAGE_NUMBERS {
+            return false;
+        }
+        if self.pages.len() + usize::from(n) > MOST_PAGES {
+            return false;
+        }
+        pages::are_free(&self.pages, page, n)
+    }
+
+    /// Whether the process is born, and each of the pages is mapped.
+    pub fn can_protect(&self, page: PageNo, n: u16) -> bool
+        requires { HasNumbers (seen self.now) }
+        ensures { IsTrue result ↔ CanProtect (seen self.now) page n }
+    {
+        if !self.is_born() {
+            return false;
+        }
+        if page.get() + u64::from(n) > PAGE_NUMBERS {
+            return false;
+        }
+        pages::are_mapped(&self.pages, page, n)
     }
 }
