@@ -2,12 +2,15 @@
 #![tactic(auto)]
 
 mod contents;
+mod devices;
 mod flags;
+mod forks;
 mod law;
 mod mirror;
 mod pages;
 mod parts;
 mod pin;
+mod pinning;
 mod refusal;
 mod space;
 mod taken;

@@ -1,12 +1,9 @@
-//! The plain model's state, in parts, and its events one by one.
-ghost use Rattle.std.specs.Prelude.{◌≡◌, ℕ, ◌+◌, ◌<◌, ◌≤◌, ◌^◌, vec_len, ◌↔◌, IsTrue, MatchOption, IfOk, Some};
-ghost use Rattle.std.specs.BTreeMap.{get};
-ghost use Rattle.std.specs.Ordering.{nat_cmp};
+//! The plain model's state, in parts, and the events of pages.
+ghost use Rattle.std.specs.Prelude.{◌≡◌, ℕ, ◌+◌, ◌<◌, ◌↔◌, vec_len, Some, IsTrue, MatchOption, IfOk};
 ghost use Rattle.gup_plain.specs.State.{IsNamed, born};
-ghost use Rattle.gup_base.specs.declared.entry.Rights.{Rights};
-ghost use Rattle.gup_plain.specs.Event.{CanHappen, page_numbers};
 ghost use Rattle.gup_plain.specs.declared.event.PlainEvent.TheVariants as events;
-ghost use Rattle.gup_model.specs.Parts.{state_of, HasAll, IsMade, IsAsMany, Applies};
+ghost use Rattle.gup_model.specs.Parts.{state_of, spaces_of, HasAll, IsMade, IsAsMany, Applies};
+ghost use Rattle.gup_model.specs.Space.{seen};
 
 use crate::contents::Contents;
 use crate::mirror::Mirror;
@@ -18,10 +15,6 @@ use crate::taken::Taken;
 use gup_base::{NoMemory, PageNo, ProcNo, Rights, WordNo};
 use std::alloc::Global;
 use std::collections::BTreeMap;
-
-// How many page numbers there are, and how many pages a process may have mapped.
-const PAGE_NUMBERS: u64 = 1 << 35;
-const MOST_PAGES: usize = 1024;
 
 /// An actor: the pages that its running pin has taken, and a device's words.
 #[derive(Drop)]
@@ -43,8 +36,16 @@ pub struct Parts {
 }
 
 impl Parts {
+    /// The process.
+    pub fn space(&self, p: ProcNo) -> &Space
+        requires { HasAll self.now }
+        ensures { seen result.now ≡ spaces_of self.now p }
+    {
+        &self.spaces[p.get() as usize]
+    }
+
     /// The page, where it is named: mapped by a process that is born.
-    fn named(&self, p: ProcNo, page: PageNo) -> Option<Page>
+    pub fn named(&self, p: ProcNo, page: PageNo) -> Option<Page>
         requires { HasAll self.now }
         ensures { MatchOption result (IsNamed (state_of self.now) p page → ⊥)
             (λ found. ((state_of self.now).birth p ≡ born) × ((state_of self.now).right p page ≡ Some found.rights)
@@ -56,6 +57,14 @@ impl Parts {
         } else {
             None
         }
+    }
+
+    /// Whether the page is named.
+    pub fn is_named(&self, p: ProcNo, page: PageNo) -> bool
+        requires { HasAll self.now }
+        ensures { IsTrue result ↔ IsNamed (state_of self.now) p page }
+    {
+        self.named(p, page).is_some()
     }
 
     /// The page is named, and the word of its object is `value`.
@@ -92,7 +101,7 @@ impl Parts {
         ensures event { Applies (state_of self.old) (state_of self.new) (events.Unmap 0 p page) result }
         ensures many { IsAsMany self.old self.new }
     {
-        if self.named(p, page).is_none() {
+        if !self.is_named(p, page) {
             return Err(PlainRefusal::Broken);
         }
         let space = &mut self.spaces[p.get() as usize];
@@ -107,7 +116,7 @@ impl Parts {
         ensures event { Applies (state_of self.old) (state_of self.new) (events.Discard 0 p page) result }
         ensures many { IsAsMany self.old self.new }
     {
-        if self.named(p, page).is_none() {
+        if !self.is_named(p, page) {
             return Err(PlainRefusal::Broken);
         }
         let object = self.contents.made;
@@ -117,18 +126,6 @@ impl Parts {
         Ok(())
     }
 
-    // Whether the pages are there, and free, and there may be so many.
-    fn can_map(&self, p: ProcNo, page: PageNo, n: u16) -> bool
-        requires { HasAll self.now }
-        ensures { (rights : Rights) → IsTrue result ↔ CanHappen (state_of self.now) (events.Map 0 p page n rights) }
-    {
-        let space = &self.spaces[p.get() as usize];
-        space.is_born()
-            && page.get() + u64::from(n) <= PAGE_NUMBERS
-            && space.pages.len() + usize::from(n) <= MOST_PAGES
-            && pages::are_free(&space.pages, page, n)
-    }
-
     /// The pages get fresh objects and these rights.
     pub fn map(&mut self, p: ProcNo, page: PageNo, n: u16, rights: Rights) -> Result<(), PlainRefusal>
         requires all { HasAll self.old }
@@ -136,7 +133,7 @@ impl Parts {
         ensures event { Applies (state_of self.old) (state_of self.new) (events.Map 0 p page n rights) result }
         ensures many { IsAsMany self.old self.new }
     {
-        if !self.can_map(p, page, n) {
+        if !self.space(p).can_map(page, n) {
             return Err(PlainRefusal::Broken);
         }
         let object = self.contents.made;
@@ -147,18 +144,6 @@ impl Parts {
         Ok(())
     }
 
-    // Whether all the pages are named.
-    fn can_protect(&self, p: ProcNo, page: PageNo, n: u16) -> bool
-        requires all { HasAll self.now }
-        requires made { IsMade (state_of self.now) }
-        ensures { (rights : Rights) → IsTrue result ↔ CanHappen (state_of self.now) (events.Protect 0 p page n rights) }
-    {
-        let space = &self.spaces[p.get() as usize];
-        space.is_born()
-            && page.get() + u64::from(n) <= PAGE_NUMBERS
-            && pages::are_mapped(&space.pages, page, n)
-    }
-
     /// The pages have these rights.
     pub fn protect(&mut self, p: ProcNo, page: PageNo, n: u16, rights: Rights) -> Result<(), PlainRefusal>
         requires all { HasAll self.old }
@@ -166,7 +151,7 @@ impl Parts {
         ensures event { Applies (state_of self.old) (state_of self.new) (events.Protect 0 p page n rights) result }
         ensures many { IsAsMany self.old self.new }
     {
-        if !self.can_protect(p, page, n) {
+        if !self.space(p).can_protect(page, n) {
             return Err(PlainRefusal::Broken);
         }
         let space = &mut self.spaces[p.get() as usize];
@@ -175,8 +160,8 @@ impl Parts {
     }
 }
 
-// How many objects there are when `n` more are made.
-fn made_after(made: u64, n: u64) -> Result<u64, NoMemory>
+/// How many objects there are when `n` more are made.
+pub fn made_after(made: u64, n: u64) -> Result<u64, NoMemory>
     ensures { IfOk result (λ after. after ≡ made + n) }
 {
     made.checked_add(n).ok_or(NoMemory)
