@@ -11,7 +11,7 @@ use Rattle.gup_model.specs.declared.pages.Page.{Page}
 use Rattle.gup_model.specs.Contents.{IsFresh}
 use Rattle.gup_model.specs.Pages.{right_in, object_in, with_object, with_rights, own_objects, pages_from}
 use Rattle.gup_model.specs.Parts.{with_spaces}
-use Rattle.gup_model.specs.Space.{SpaceState}
+use Rattle.gup_model.specs.Space.{SpaceState, blank}
 use Rattle.gup_model.proofs.TableLemmas.{put_same}
 
 -- ---- a function behind a change
@@ -91,6 +91,12 @@ page-out : (page : ℕ) (x y : SpaceState) → x.page ≡ put page None y.page �
 page-out page x y is =
     (ap (λ (t : ℕ → Option Page). λ q. right_in (t q)) is ∙ through_put (λ o. right_in o) page None y.page None refl,
       ap (λ (t : ℕ → Option Page). λ q. object_in (t q)) is ∙ through_put (λ o. object_in o) page None y.page 0 refl)
+
+same-rights : (x y : SpaceState) → x.page ≡ y.page → rights x ≡ rights y
+same-rights x y is = ap (λ (m : ℕ → Option Page). λ q. right_in (m q)) is
+
+same-objects : (x y : SpaceState) → x.page ≡ y.page → objects x ≡ objects y
+same-objects x y is = ap (λ (m : ℕ → Option Page). λ q. object_in (m q)) is
 
 pub after_unmap : (s : PlainState) (f : ℕ → SpaceState) (p page : ℕ) (x : SpaceState)
     → x.birth ≡ (f p).birth → x.page ≡ put page None (f p).page → x.pages ≡ (f p).pages - 1 → x.copied ≡ (f p).copied
@@ -187,3 +193,97 @@ after_protect s f p page n r x there birth pages len copied =
     one_space s f p x t.birth (put p right t.right) t.object t.pages t.copied
     (through_kept birth_in p x f birth) (through_put rights p x f right is_right) (through_kept objects p x f is_object)
     (through_kept pages_in p x f len) (through_kept copied_in p x f copied)
+
+pub after_birth : (s : PlainState) (f : ℕ → SpaceState) (p : ℕ) (x : SpaceState) → x.birth ≡ born → x.page ≡ (f p).page → x.pages ≡ (f p).pages → x.copied ≡ (f p).copied
+    → with_spaces s (put p x f) ≡ record (with_spaces s f) { birth = put p born (with_spaces s f).birth }
+after_birth s f p x birth pages len copied =
+    let t = with_spaces s f in
+    one_space s f p x (put p born t.birth) t.right t.object t.pages t.copied
+    (through_put birth_in p x f born birth) (through_kept rights p x f (same-rights x (f p) pages)) (through_kept objects p x f (same-objects x (f p) pages))
+    (through_kept pages_in p x f len) (through_kept copied_in p x f copied)
+
+own-rights : (x y : SpaceState) (made : ℕ) → x.page ≡ own_objects made y.page → rights x ≡ rights y
+own-rights x y made is = ap (λ (m : ℕ → Option Page). λ q. right_in (m q)) is ∙ fun_ext (λ q. kept-rights (y.page q) (made + q))
+
+own-object : (o : Option Page) (object : ℕ) → object_in (with_object object o) ≡ named_or_zero (right_in o) object
+own-object None object = refl
+own-object (Some found) object = refl
+
+own-objects : (x y : SpaceState) (made : ℕ) → x.page ≡ own_objects made y.page → objects x ≡ (λ q. named_or_zero (rights y q) (made + q))
+own-objects x y made is = ap (λ (m : ℕ → Option Page). λ q. object_in (m q)) is ∙ fun_ext (λ q. own-object (y.page q) (made + q))
+
+pub after_grow : (s : PlainState) (f : ℕ → SpaceState) (parent child : ℕ) (x : SpaceState) → IsFresh s.made s.content
+    → x.birth ≡ growing parent → x.page ≡ own_objects s.made (f parent).page → x.pages ≡ (f parent).pages → x.copied ≡ (λ _ _. false)
+    → with_spaces (record s { made = s.made + page_numbers }) (put child x f) ≡ happened (with_spaces s f) (events.ForkBegin parent child)
+after_grow s f parent child x fresh birth pages len copied =
+    let t = with_spaces s f in
+    let none : ℕ → ℕ → Bool = λ _ _. false in
+    let object : ℕ → ℕ = λ page. named_or_zero (t.right parent page) (s.made + page) in
+    one_space (record s { made = s.made + page_numbers }) f child x (put child (growing parent) t.birth) (put child (t.right parent) t.right) (put child object t.object) (put child (t.pages parent) t.pages) (put child none t.copied)
+    (through_put birth_in child x f (growing parent) birth) (through_put rights child x f (t.right parent) (own-rights x (f parent) s.made pages))
+    (through_put objects child x f object (own-objects x (f parent) s.made pages)) (through_put pages_in child x f (t.pages parent) len) (through_put copied_in child x f none copied)
+    ∙ ap
+      (λ (c : ℕ → ℕ → ℕ).
+        record t {
+          content = c;
+          made = s.made + page_numbers;
+          birth = put child (growing parent) t.birth;
+          right = put child (t.right parent) t.right;
+          object = put child object t.object;
+          pages = put child (t.pages parent) t.pages;
+          copied = put child none t.copied;
+        })
+      (fresh_range s.made page_numbers s.content fresh)
+
+-- the contents are changed, and of a process only what is copied
+copied-only : (s : PlainState) (f : ℕ → SpaceState) (p : ℕ) (x : SpaceState) (page : ℕ) (flags : ℕ → Bool) (c : ℕ → ℕ → ℕ)
+    → x.birth ≡ (f p).birth → x.page ≡ (f p).page → x.pages ≡ (f p).pages → x.copied ≡ put page flags (f p).copied
+    → with_spaces (record s { content = c }) (put p x f) ≡ record (with_spaces s f) { content = c; copied = put2 p page flags (with_spaces s f).copied }
+copied-only s f p x page flags c birth pages len copied =
+    let t = with_spaces s f in
+    one_space (record s { content = c }) f p x t.birth t.right t.object t.pages (put2 p page flags t.copied)
+    (through_kept birth_in p x f birth) (through_kept rights p x f (same-rights x (f p) pages)) (through_kept objects p x f (same-objects x (f p) pages))
+    (through_kept pages_in p x f len) (through_put2 copied_in p x f page flags copied)
+
+pub after_page : (s : PlainState) (f : ℕ → SpaceState) (parent child page from to : ℕ) (x : SpaceState) (c : ℕ → ℕ → ℕ)
+    → (with_spaces s f).object parent page ≡ from → (with_spaces s f).object child page ≡ to
+    → c ≡ put to (spread 0 512 (s.content from) (s.content to)) s.content
+    → x.birth ≡ (f child).birth → x.page ≡ (f child).page → x.pages ≡ (f child).pages → x.copied ≡ put page (spread 0 512 (λ _. true) ((f child).copied page)) (f child).copied
+    → with_spaces (record s { content = c }) (put child x f) ≡ happened (with_spaces s f) (events.ForkPage parent child page)
+after_page s f parent child page from to x c is_from is_to content birth pages len copied =
+    let t = with_spaces s f in
+    let flags : ℕ → Bool = spread 0 512 (λ _. true) (t.copied child page) in
+    let there : c ≡ put (t.object child page) (spread 0 512 (s.content (t.object parent page)) (s.content (t.object child page))) s.content = rw (is_from, is_to) content in
+    copied-only s f child x page flags c birth pages len copied
+    ∙ ap (λ (k : ℕ → ℕ → ℕ). record t { content = k; copied = put2 child page flags t.copied }) there
+
+pub after_word : (s : PlainState) (f : ℕ → SpaceState) (parent child page word from to value : ℕ) (x : SpaceState) (c : ℕ → ℕ → ℕ)
+    → (with_spaces s f).object parent page ≡ from → (with_spaces s f).object child page ≡ to → value ≡ s.content from word
+    → c ≡ put2 to word value s.content
+    → x.birth ≡ (f child).birth → x.page ≡ (f child).page → x.pages ≡ (f child).pages → x.copied ≡ put page (put word true ((f child).copied page)) (f child).copied
+    → with_spaces (record s { content = c }) (put child x f) ≡ happened (with_spaces s f) (events.ForkWord parent child page word)
+after_word s f parent child page word from to value x c is_from is_to is content birth pages len copied =
+    let t = with_spaces s f in
+    let flags : ℕ → Bool = put word true (t.copied child page) in
+    let read : value ≡ s.content (t.object parent page) word = rw is_from is in
+    let there : c ≡ put2 (t.object child page) word (s.content (t.object parent page) word) s.content =
+      content ∙ ap (λ (n : ℕ). put2 to word n s.content) read ∙ ap (λ (n : ℕ). put2 n word (s.content (t.object parent page) word) s.content) (sym is_to) in
+    copied-only s f child x page flags c birth pages len copied
+    ∙ ap (λ (k : ℕ → ℕ → ℕ). record t { content = k; copied = put2 child page flags t.copied }) there
+
+pub after_end : (s : PlainState) (f : ℕ → SpaceState) (parent child : ℕ) (x : SpaceState)
+    → x.birth ≡ born → x.page ≡ (f child).page → x.pages ≡ (f child).pages → x.copied ≡ (λ _ _. false)
+    → with_spaces s (put child x f) ≡ happened (with_spaces s f) (events.ForkEnd parent child)
+after_end s f parent child x birth pages len copied =
+    let t = with_spaces s f in
+    one_space s f child x (put child born t.birth) t.right t.object t.pages (put child (λ _ _. false) t.copied)
+    (through_put birth_in child x f born birth) (through_kept rights child x f (same-rights x (f child) pages)) (through_kept objects child x f (same-objects x (f child) pages))
+    (through_kept pages_in child x f len) (through_put copied_in child x f (λ _ _. false) copied)
+
+pub after_fail : (s : PlainState) (f : ℕ → SpaceState) (child : ℕ) → with_spaces s (put child (record blank { birth = failed }) f) ≡ happened (with_spaces s f) (events.ForkFail child)
+after_fail s f child =
+    let t = with_spaces s f in
+    let x : SpaceState = record blank { birth = failed } in
+    one_space s f child x (put child failed t.birth) (put child (λ _. None) t.right) (put child (λ _. 0) t.object) (put child 0 t.pages) (put child (λ _ _. false) t.copied)
+    (through_put birth_in child x f failed refl) (through_put rights child x f (λ _. None) refl) (through_put objects child x f (λ _. 0) refl)
+    (through_put pages_in child x f 0 refl) (through_put copied_in child x f (λ _ _. false) refl)

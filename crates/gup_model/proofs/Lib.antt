@@ -7,3 +7,5 @@ pub mod OwnObjects
 pub mod TakenLemmas
 pub mod Changes
 pub mod SpaceLemmas
+pub mod Events
+pub mod Refusals
