@@ -117,7 +117,10 @@ impl Parts {
         ensures many { IsAsMany self.old self.new }
     {
         let space = self.space(child);
-        if !space.grows_from(parent) || !space.has_copied_all() {
+        if !space.grows_from(parent) {
+            return Err(PlainRefusal::Broken);
+        }
+        if !space.has_copied_all() {
             return Err(PlainRefusal::Broken);
         }
         let space = &mut self.spaces[child.get() as usize];

@@ -1,5 +1,5 @@
 //! One process: its birth, its pages, and, while it grows, which words of which pages are copied.
-ghost use Rattle.std.specs.Prelude.{◌≡◌, ℕ, ◌<◌, ◌↔◌, true, false, Some, IsSome, IsTrue, All, OnOk, OnErr};
+ghost use Rattle.std.specs.Prelude.{◌≡◌, ℕ, ◌+◌, ◌^◌, ◌<◌, ◌≤◌, ◌↔◌, true, false, Some, IsSome, IsTrue, All, OnOk, OnErr};
 ghost use Rattle.std.specs.BTreeMap.{get, keys, btree_map_len};
 ghost use Rattle.std.specs.Ordering.{nat_cmp};
 ghost use Rattle.gup_plain.specs.Put.{put, spread};
@@ -213,7 +213,8 @@ impl Space {
     /// Whether the process is born, and each of the pages is mapped.
     pub fn can_protect(&self, page: PageNo, n: u16) -> bool
         requires { HasNumbers (seen self.now) }
-        ensures { IsTrue result ↔ CanProtect (seen self.now) page n }
+        ensures can { IsTrue result ↔ CanProtect (seen self.now) page n }
+        ensures below { IsTrue result → page + n ≤ 2 ^ 35 }
     {
         if !self.is_born() {
             return false;
