@@ -9,3 +9,4 @@ pub mod Changes
 pub mod SpaceLemmas
 pub mod Events
 pub mod Refusals
+pub mod Actors

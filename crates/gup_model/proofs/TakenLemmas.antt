@@ -15,7 +15,7 @@ agreed-is (t ∷ ts) first w found same all = (all, same-write t first w found s
     same-write : (t first : Pending) (w : Bool) → Some t ≡ Some first → w ≡ first.write → w ≡ t.write
     same-write t first w found same = cc
 
-abbrev has : ℕ → Pending → Bool
+abbrev pub has : ℕ → Pending → Bool
 has page t = t.page == page
 
 any-map : (page : ℕ) (taken : List Pending) → list_any (λ n. n == page) (pending_pages taken) ≡ list_any (has page) taken
@@ -36,3 +36,6 @@ pub has-taken : (taken : List Pending) (page : ℕ) → Contains (pending_pages 
 has-taken taken page at =
     sym (any-map page taken)
     ∙ list_any_at (λ (n : ℕ). n == page) (pending_pages taken) at.0 page at.1 (self-equal page (get_or (pending_pages taken) at.0 page) at.2)
+
+pub lacks : (taken : List Pending) (page : ℕ) → false ≡ list_any (has page) taken → Contains (pending_pages taken) page → ⊥
+lacks taken page none at = let clash : false ≡ true = none ∙ has-taken taken page at in cc

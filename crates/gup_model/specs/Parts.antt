@@ -1,5 +1,6 @@
 -- The plain model's state as the program keeps it, in parts.
 use Rattle.std.specs.Prelude.{◌≡◌, ℕ, ◌<◌, ◌≤◌, Bool, false, List, [], Option, None, IsSome, All, vec_len, Result, MatchResult}
+use Rattle.std.specs.BTreeMap.{BTreeMap}
 use Rattle.gup_plain.specs.State.{PlainState, Handle, unmade, Pending, Noted, start, objects_of}
 use Rattle.gup_plain.specs.Event.{CanHappen, happened, page_numbers}
 use Rattle.gup_plain.specs.declared.event.PlainEvent.{PlainEvent}
@@ -14,8 +15,11 @@ use Rattle.gup_model.specs.Space.{SpaceState, seen, blank}
 use Rattle.gup_model.specs.Tables.{at_key, at_place}
 
 -- a slot that was never written has 0
+abbrev pub slots_in : BTreeMap ℕ ℕ → ℕ → ℕ
+slots_in store = at_key (λ (w : ℕ). w) 0 store
+
 abbrev pub store_of : Actor → ℕ → ℕ
-store_of a = at_key (λ (w : ℕ). w) 0 a.store
+store_of a = slots_in a.store
 
 -- the processes
 abbrev pub spaces_of : Parts → ℕ → SpaceState

@@ -1,5 +1,5 @@
 //! The pages that a running pin has taken.
-ghost use Rattle.std.specs.Prelude.{◌≡◌, ◌==◌, not, ◌↔◌, map, filter, IsTrue, All, Contains, MatchOption, IfOk};
+ghost use Rattle.std.specs.Prelude.{◌≡◌, ◌==◌, not, ◌↔◌, map, filter, IsTrue, All, Contains, MatchOption, IfOk, OnOk, OnErr, [], ◌∷◌, ◌++◌};
 ghost use Rattle.std.specs.List.{list_any};
 ghost use Rattle.gup_plain.specs.State.{Pending};
 ghost use Rattle.gup_plain.specs.Event.{pending_pages, pending_objects, AreTaken, write_flag};
@@ -62,6 +62,15 @@ pub fn has_page(taken: &[Taken], page: PageNo) -> bool
     ensures { result ≡ list_any (λ (t : Pending). t.page == page) taken.now }
 {
     taken.iter().any(|t| t.page() == page)
+}
+
+/// Takes one more page, the last.
+pub fn push(taken: &mut Vec<Taken>, page: PageNo, object: u64, write: bool) -> Result<(), NoMemory>
+    ensures ok { OnOk result (taken.new.items ≡ taken.old.items ++ record { page = page; object = object; write = write } ∷ []) }
+    ensures err { OnErr result (taken.new.items ≡ taken.old.items) }
+{
+    taken.push(Taken::new(page, object, write))?;
+    Ok(())
 }
 
 /// Lets the page go.
