@@ -2,7 +2,9 @@
 use Rattle.std.proofs.Common.{◌≡◌, ℕ, ◌<◌, Bool, List, [], vec_len, length, get_or, slice_set, refl, sym, ◌∙◌, ap, arith}
 use Rattle.std.specs.Vec.{with_item}
 use Rattle.gup_plain.specs.Put.{put}
-use Rattle.gup_plain.specs.State.{PlainState, Handle, unmade, Pending}
+use Rattle.gup_plain.specs.State.{PlainState, Handle, unmade, held, Pending}
+use Rattle.gup_plain.specs.Event.{happened, pending_objects, write_flag}
+use Rattle.gup_plain.specs.declared.event.PlainEvent.TheVariants as events
 use Rattle.gup_model.specs.declared.parts.Actor.{Actor}
 use Rattle.gup_model.specs.declared.parts.Parts.{Parts}
 use Rattle.gup_model.specs.Parts.{state_of, spaces_of, other_state, with_spaces, pending_of, stores_of, handles_of, store_of}
@@ -51,3 +53,17 @@ pub pin-at : (v : Parts) (h j : ℕ) (was : Handle) → j ≡ h → h < vec_len 
 pin-at v h j was index below is =
     let inside : h < length v.pins.items = omega (arith, v.pins.ok.0) in
     place_is (λ (x : Handle). x) unmade v.pins.items h j was index inside is
+
+pub pin_made : (v : Parts) (a h i j : ℕ) (was now : Actor) (pin : Handle) (objects : List ℕ) (write : Bool) → AtActor v a i was → j ≡ h → h < vec_len v.pins
+    → now.store ≡ was.store → now.taken.items ≡ [] → pin ≡ held a objects write → objects ≡ pending_objects (pending_of v a) → write ≡ write_flag (pending_of v a)
+    → state_of (record v { pins = with_item v.pins j pin; actors = with_item v.actors i now }) ≡ happened (state_of v) (events.PinOk a h)
+pin_made v a h i j was now pin objects write at index below store emptied pin_is objects_are write_is =
+    let v' : Parts = record v { pins = with_item v.pins j pin } in
+    let at' : AtActor v' a i was = record { index = at.index; below = at.below; is = at.is } in
+    let full : Handle = held a (pending_objects (pending_of v a)) (write_flag (pending_of v a)) in
+    let pin_full : pin ≡ full =
+      pin_is ∙ ap (λ (os : List ℕ). held a os write) objects_are ∙ ap (λ (w : Bool). held a (pending_objects (pending_of v a)) w) write_is in
+    taken_changed v' a i was now at' store
+    ∙ ap (λ (t : List Pending). record (state_of v') { pending = put a t (pending_of v) }) emptied
+    ∙ ap (λ (s : PlainState). record s { pending = put a [] (pending_of v) }) (pin_changed v h j pin index below)
+    ∙ ap (λ (k : Handle). record (state_of v) { handle = put h k (handles_of v); pending = put a [] (pending_of v) }) pin_full

@@ -7,6 +7,7 @@ pub mod OwnObjects
 pub mod TakenLemmas
 pub mod Changes
 pub mod SpaceLemmas
-pub mod Events
+pub mod Processes
 pub mod Refusals
 pub mod Actors
+pub mod Made

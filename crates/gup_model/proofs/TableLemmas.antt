@@ -1,5 +1,5 @@
 -- Functions of numbers that are changed at one place or over a range.
-use Rattle.std.proofs.Common.{◌≡◌, ℕ, zero, suc, ◌+◌, ◌-◌, ◌<◌, ◌≤◌, ◌==◌, Bool, true, false, cond, List, [], ◌∷◌, Option, Some, None, IsSome, is_some, length, get_or, slice_set, slice_get, refl, sym, ◌∙◌, ap, subst, arith}
+use Rattle.std.proofs.Common.{◌≡◌, ℕ, zero, suc, ◌+◌, ◌-◌, ◌<◌, ◌≤◌, ◌==◌, Bool, true, false, cond, List, [], ◌∷◌, ◌++◌, Option, Some, None, IsSome, is_some, length, get_or, slice_set, slice_get, refl, sym, ◌∙◌, ap, subst, arith}
 use Rattle.std.proofs.Math.Path.{fun_ext}
 use Rattle.std.proofs.lemmas.Option.{slice_get-get_or}
 use Rattle.std.proofs.lemmas.Bool.Decides.{nat_tests}
@@ -84,3 +84,13 @@ place_is f d xs i j x same within is =
     let there : slice_get xs i ≡ Some (get_or xs i x) = slice_get-get_or xs i x within in
     let here : get_or xs i x ≡ x = sym (rw same at is) in
     rw (there, here) refl
+
+place-push-at : {X Y : Type 0} (f : X → Y) (d : Y) (xs : List X) (x : X) (q : ℕ) → f x ≡ d → at_place f d xs q ≡ d → at_place f d (xs ++ x ∷ []) q ≡ d
+place-push-at f d [] x zero is blank = is
+place-push-at f d [] x (suc q) is blank = refl
+place-push-at f d (y ∷ ys) x zero is blank = blank
+place-push-at f d (y ∷ ys) x (suc q) is blank = place-push-at f d ys x q is blank
+
+-- a list that reads as the default everywhere, and one more element that does
+pub place_push : {X Y : Type 0} (f : X → Y) (d : Y) (xs : List X) (x : X) → f x ≡ d → at_place f d xs ≡ (λ _. d) → at_place f d (xs ++ x ∷ []) ≡ (λ _. d)
+place_push f d xs x is blank = fun_ext (λ q. place-push-at f d xs x q is (ap (λ g. g q) blank))

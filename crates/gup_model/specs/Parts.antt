@@ -78,6 +78,42 @@ pub record HasAll (v : Parts) : Type 0 where
   pub pins : vec_len v.pins ≡ 1024
   pub mirrors : vec_len v.mirrors ≡ 64
 
+-- what stands between two events
+pub record IsSound (v : Parts) : Type 0 where
+  pub all : HasAll v
+  pub made : IsMade (state_of v)
+
+-- how many processes and actors there are
+abbrev pub processes_of : Parts → ℕ
+processes_of v = v.processes
+
+abbrev pub actors_of : Parts → ℕ
+actors_of v = vec_len v.actors
+
+-- the event's actor, where it has one, is one of n
+abbrev pub HasActor : (n : ℕ) → PlainEvent → Type 0
+HasActor n (events.Map actor p page k rights) = actor < n
+HasActor n (events.Unmap actor p page) = actor < n
+HasActor n (events.Discard actor p page) = actor < n
+HasActor n (events.Protect actor p page k rights) = actor < n
+HasActor n (events.Load actor p page word value) = actor < n
+HasActor n (events.Store actor p page word value) = actor < n
+HasActor n (events.PinTry actor p page write) = actor < n
+HasActor n (events.PinDrop actor page) = actor < n
+HasActor n (events.PinOk actor h) = actor < n
+HasActor n (events.Unpin actor h) = actor < n
+HasActor n (events.Give actor h to) = actor < n
+HasActor n (events.Take actor h) = actor < n
+HasActor n (events.MoveOut actor h index slot value) = actor < n
+HasActor n (events.MoveIn actor h index slot value) = actor < n
+HasActor n (events.MirrorFill actor m p page) = actor < n
+HasActor n (events.Look actor m word value) = actor < n
+HasActor n (events.ForkBegin parent child) = Unit {0}
+HasActor n (events.ForkPage parent child page) = Unit {0}
+HasActor n (events.ForkWord parent child page word) = Unit {0}
+HasActor n (events.ForkEnd parent child) = Unit {0}
+HasActor n (events.ForkFail child) = Unit {0}
+
 -- the same numbers of processes, of actors and of the rest
 pub record IsAsMany (old new : Parts) : Type 0 where
   pub processes : new.processes ≡ old.processes

@@ -3,6 +3,7 @@
 
 mod contents;
 mod devices;
+mod events;
 mod flags;
 mod forks;
 mod law;
@@ -11,10 +12,12 @@ mod pages;
 mod parts;
 mod pin;
 mod pinning;
+mod plain;
 mod refusal;
 mod space;
 mod taken;
 mod words;
 
 pub use law::{last_write, pages_are_counted};
+pub use plain::Plain;
 pub use refusal::PlainRefusal;

@@ -1,5 +1,5 @@
 use Rattle.std.proofs.Common.{refl}
-use Rattle.gup_model.proofs.Events.{At, birthed}
+use Rattle.gup_model.proofs.Processes.{At, birthed}
 use Rattle.gup_model.specs.declared.space.Birth.TheVariants as births
 use Rattle.gup_model.specs.declared.space.Space.{Space}
 use Rattle.gup_model.proofs.parts.Parts.birth.Goals as goal

@@ -1,5 +1,5 @@
 use Rattle.std.proofs.Common.{◌≡◌, IsSome, refl, rules, subst, sym}
-use Rattle.gup_model.proofs.Events.{At, discarded, found}
+use Rattle.gup_model.proofs.Processes.{At, discarded, found}
 use Rattle.gup_model.proofs.SpaceLemmas.{right_some}
 use Rattle.gup_model.specs.Space.{SpaceState}
 use Rattle.gup_model.specs.declared.space.Space.{Space}

@@ -1,6 +1,6 @@
 use Rattle.std.proofs.Common.{◌≡◌, ℕ, ◌<◌, true, IsSome, refl, subst, sym}
 use Rattle.gup_plain.specs.State.{growing}
-use Rattle.gup_model.proofs.Events.{At, ended}
+use Rattle.gup_model.proofs.Processes.{At, ended}
 use Rattle.gup_model.proofs.SpaceLemmas.{absurd_truth, all_keys, right_some, some_right}
 use Rattle.gup_model.specs.Pages.{right_in}
 use Rattle.gup_model.specs.Space.{SpaceState, copied_of}

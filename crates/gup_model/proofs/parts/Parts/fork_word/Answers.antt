@@ -1,7 +1,7 @@
 use Rattle.std.proofs.Common.{◌≡◌, ℕ, ◌<◌, Bool, true, false, refl, subst, sym, ◌∙◌, ap}
 use Rattle.gup_plain.specs.Put.{put, spread}
 use Rattle.gup_plain.specs.declared.event.PlainEvent.TheVariants as events
-use Rattle.gup_model.proofs.Events.{At, word_copied, untouched}
+use Rattle.gup_model.proofs.Processes.{At, word_copied, untouched}
 use Rattle.gup_model.proofs.Refusals.{refused}
 use Rattle.gup_model.proofs.SpaceLemmas.{absurd_truth}
 use Rattle.gup_model.specs.Parts.{state_of}

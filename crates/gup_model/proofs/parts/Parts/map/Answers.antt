@@ -1,7 +1,7 @@
 use Rattle.std.proofs.Common.{◌≡◌, ℕ, ◌+◌, ◌<◌, ◌≤◌, refl, subst, sym, ◌∙◌, ap, arith}
 use Rattle.gup_plain.specs.Event.{page_numbers}
 use Rattle.gup_plain.specs.declared.event.PlainEvent.TheVariants as events
-use Rattle.gup_model.proofs.Events.{At, mapped, same_pages, found}
+use Rattle.gup_model.proofs.Processes.{At, mapped, same_pages, found}
 use Rattle.gup_model.proofs.Refusals.{refused}
 use Rattle.gup_model.proofs.SpaceLemmas.{absurd_truth, right_none, page_numbers-is}
 use Rattle.gup_model.specs.Parts.{state_of}

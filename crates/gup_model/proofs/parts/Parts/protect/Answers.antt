@@ -1,7 +1,7 @@
 use Rattle.std.proofs.Common.{◌≡◌, ℕ, ◌+◌, ◌-◌, ◌<◌, ◌≤◌, IsSome, refl, subst, sym, ◌∙◌, ap, arith}
 use Rattle.std.specs.BTreeMap.{get}
 use Rattle.std.specs.Ordering.{nat_cmp}
-use Rattle.gup_model.proofs.Events.{At, protected, found}
+use Rattle.gup_model.proofs.Processes.{At, protected, found}
 use Rattle.gup_model.proofs.SpaceLemmas.{absurd_truth, right_some, page_numbers-is}
 use Rattle.gup_model.specs.Space.{SpaceState, seen, CanProtect, HasNumbers}
 use Rattle.gup_model.specs.declared.space.Space.{Space}

@@ -1,5 +1,5 @@
 use Rattle.std.proofs.Common.{refl}
-use Rattle.gup_model.proofs.Events.{unmapped}
+use Rattle.gup_model.proofs.Processes.{unmapped}
 use Rattle.gup_model.proofs.parts.Parts.unmap.Goals as goal
 
 pub returns-clause-event : goal.returns-clause-event
