@@ -27,6 +27,10 @@ impl Model for Plain {
 
     ghost Value = { Parts };
 
+    ghost use Rattle.gup_model.specs.contracts.parts.Parts as row_of_parts;
+
+    ghost coded = { row_of_parts.the_row.coded };
+
     ghost use Rattle.gup_model.specs.Parts.{IsSound};
 
     ghost view = { λ p. p.parts };
