@@ -1,5 +1,5 @@
 -- What each event keeps: what is named is made, and what isn't made has zeros.
-use Rattle.std.proofs.Common.{◌≡◌, ℕ, ◌+◌, ◌-◌, ◌*◌, ◌/◌, ◌%◌, ◌<◌, ◌≤◌, ◌==◌, not, Bool, true, false, if◌then◌else◌, List, [], ◌∷◌, ◌++◌, map, filter, All, Option, Some, None, IsSome, length, get_or, Result, Ok, Err, refl, sym, ◌∙◌, ap, subst, inl, inr, arith}
+use Rattle.std.proofs.Common.{◌≡◌, ℕ, ◌+◌, ◌-◌, ◌*◌, ◌/◌, ◌%◌, ◌<◌, ◌≤◌, ◌==◌, not, Bool, true, false, if◌then◌else◌, List, [], ◌∷◌, ◌++◌, map, filter, All, Option, Some, None, IsSome, length, get_or, Result, Ok, Err, OnOk, refl, sym, ◌∙◌, ap, subst, inl, inr, arith}
 use Rattle.std.proofs.Math.Nat.{div-lt_iff_lt-mul}
 use Rattle.std.proofs.lemmas.Bool.Decides.{nat_tests}
 use Rattle.std.proofs.lemmas.List.Elements.{All-append, All-filter, All-map, All-cons, All-weaker, All-get_or}
@@ -7,10 +7,11 @@ use Rattle.gup_base.specs.declared.entry.Rights.{Rights}
 use Rattle.gup_base.specs.declared.entry.Rights.TheVariants.{RW}
 use Rattle.gup_plain.specs.Event.{CanHappen, happened, page_numbers, words, object_at, pending_objects, write_flag, AllowsPin, given_to, held_by, IsHeldBy, IsGivenTo}
 use Rattle.gup_plain.specs.Put.{put, put2, within, spread}
-use Rattle.gup_plain.specs.State.{PlainState, objects_of, Handle, unmade, held, given, gone, Pending, named_or_zero}
+use Rattle.gup_plain.specs.State.{PlainState, Birth, start, objects_of, Handle, unmade, held, given, gone, Pending, named_or_zero}
 use Rattle.gup_plain.specs.declared.event.PlainEvent.{PlainEvent}
 use Rattle.gup_plain.specs.declared.event.PlainEvent.TheVariants as events
-use Rattle.gup_model.specs.Parts.{IsMade, Applies}
+use Rattle.gup_model.specs.Parts.{IsMade, Applies, HasAll, IsAsMany}
+use Rattle.gup_model.specs.declared.parts.Parts.{Parts}
 use Rattle.gup_model.specs.declared.refusal.PlainRefusal.{PlainRefusal}
 
 abbrev AreBelow : ℕ → List ℕ → Type 0
@@ -243,3 +244,23 @@ made_stays s (events.ForkFail child) h can =
 pub applied_stays : (old new : PlainState) (e : PlainEvent) (r : Result (Unit {0}) PlainRefusal) → IsMade old → Applies old new e r → IsMade new
 applied_stays old new e (Ok x) h done = let P : PlainState → Type 0 = λ s. IsMade s in subst P (sym done.1) (made_stays old e h done.0)
 applied_stays old new e (Err x) h done = let P : PlainState → Type 0 = λ s. IsMade s in subst P (sym done.1) h
+
+pub applied_can : (old new : PlainState) (e : PlainEvent) (r : Result (Unit {0}) PlainRefusal) → Applies old new e r → OnOk r (CanHappen old e)
+applied_can old new e (Ok x) done = done.0
+applied_can old new e (Err x) done = tt
+
+pub born_stays : (s : PlainState) (birth : ℕ → Birth) → IsMade s → IsMade (record s { birth = birth })
+born_stays s birth h = record { pages = h.pages; numbers = h.numbers; handles = h.handles; pending = h.pending; content = h.content }
+
+pub start_is_made : (is_born : ℕ → Bool) → IsMade (start is_born)
+start_is_made is_born =
+    record {
+      pages = λ p page there. absurd (cc);
+      numbers = λ p page there. absurd (cc);
+      handles = λ h i d small. absurd (omega arith);
+      pending = λ a i d small. absurd (omega arith);
+      content = λ o w past. refl;
+    }
+
+pub as_many : (old new : Parts) → HasAll old → IsAsMany old new → HasAll new
+as_many old new h many = record { spaces = many.spaces ∙ h.spaces; pins = many.pins ∙ h.pins; mirrors = many.mirrors ∙ h.mirrors }

@@ -21,3 +21,6 @@ mod words;
 pub use law::{last_write, pages_are_counted};
 pub use plain::Plain;
 pub use refusal::PlainRefusal;
+
+#[cfg(test)]
+mod tests;

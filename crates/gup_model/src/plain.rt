@@ -1,5 +1,5 @@
 //! The plain model as a program.
-ghost use Rattle.std.specs.Prelude.{◌≡◌, ◌<◌, ◌≤◌, false, OnOk, OnErr, IfOk, IsErrOf};
+ghost use Rattle.std.specs.Prelude.{◌≡◌, ℕ, ◌<◌, ◌≤◌, ◌↔◌, IsTrue, MatchOption, false, OnOk, OnErr, IfOk, IsErrOf};
 ghost use Rattle.gup_plain.specs.Event.{CanHappen, happened};
 ghost use Rattle.gup_plain.specs.Put.{put};
 ghost use Rattle.gup_plain.specs.State.{start, unborn, born};
@@ -7,7 +7,7 @@ ghost use Rattle.gup_model.specs.Parts.{state_of, processes_of, actors_of, HasAc
 
 use crate::parts::Parts;
 use crate::refusal::PlainRefusal;
-use gup_base::{NoMemory, ProcNo};
+use gup_base::{ActorNo, NoMemory, ProcNo};
 use gup_plain::PlainEvent;
 use std::alloc::Global;
 use std::marker::Model;
@@ -65,6 +65,16 @@ impl Plain {
         self.parts.birth(p);
     }
 
+    /// Whether the event's actor, where it has one, is one of the actors.
+    pub fn has_actor(&self, e: &PlainEvent) -> bool
+        ensures { IsTrue result ↔ HasActor (actors_of self.now) e.now }
+    {
+        match actor_of(e) {
+            None => true,
+            Some(actor) => (actor.get() as usize) < self.parts.actors.len(),
+        }
+    }
+
     /// Lets the event happen. Its actor, where it has one, is one of the actors.
     ///
     /// `Broken` comes only where the event can't happen, and where it can't, no event is let happen: memory may be
@@ -80,5 +90,34 @@ impl Plain {
         ensures actors { actors_of self.new ≡ actors_of self.old }
     {
         self.parts.apply(e)
+    }
+}
+
+// The event's actor.
+fn actor_of(e: &PlainEvent) -> Option<ActorNo>
+    ensures { (n : ℕ) → MatchOption result (HasActor n e.now) (λ actor. HasActor n e.now ↔ (actor < n)) }
+{
+    match *e {
+        PlainEvent::Map { actor, .. }
+        | PlainEvent::Unmap { actor, .. }
+        | PlainEvent::Discard { actor, .. }
+        | PlainEvent::Protect { actor, .. }
+        | PlainEvent::Load { actor, .. }
+        | PlainEvent::Store { actor, .. }
+        | PlainEvent::PinTry { actor, .. }
+        | PlainEvent::PinDrop { actor, .. }
+        | PlainEvent::PinOk { actor, .. }
+        | PlainEvent::Unpin { actor, .. }
+        | PlainEvent::Give { actor, .. }
+        | PlainEvent::Take { actor, .. }
+        | PlainEvent::MoveOut { actor, .. }
+        | PlainEvent::MoveIn { actor, .. }
+        | PlainEvent::MirrorFill { actor, .. }
+        | PlainEvent::Look { actor, .. } => Some(actor),
+        PlainEvent::ForkBegin { .. }
+        | PlainEvent::ForkPage { .. }
+        | PlainEvent::ForkWord { .. }
+        | PlainEvent::ForkEnd { .. }
+        | PlainEvent::ForkFail { .. } => None,
     }
 }
