@@ -1,5 +1,5 @@
 -- What a changed actor, and a changed handle, in the parts is to the plain state.
-use Rattle.std.proofs.Common.{◌≡◌, ℕ, ◌<◌, Bool, List, [], vec_len, length, get_or, slice_set, refl, sym, ◌∙◌, ap, arith}
+use Rattle.std.proofs.Common.{◌≡◌, ℕ, ◌<◌, Bool, List, [], vec_len, length, get_or, slice_set, sym, ◌∙◌, ap, arith}
 use Rattle.std.specs.Vec.{with_item}
 use Rattle.gup_plain.specs.Put.{put}
 use Rattle.gup_plain.specs.State.{PlainState, Handle, unmade, held, Pending}
@@ -33,7 +33,7 @@ taken_changed v a i was now at same =
     let pending = place_put taken_of [] v.actors.items a i now at.index inside in
     let was_store = place_is store_of (λ _. 0) v.actors.items a i was at.index inside at.is in
     let store = place_put store_of (λ _. 0) v.actors.items a i now at.index inside
-      ∙ put_same a (stores_of v) (store_of now) (ap (λ m. store_of (record was { store = m })) same ∙ sym was_store) in
+    ∙ put_same a (stores_of v) (store_of now) (ap (λ m. store_of (record was { store = m })) same ∙ sym was_store) in
     ap (λ (p : ℕ → List Pending). with_spaces (record (other_state v) { pending = p; store = at_place store_of (λ _. 0) (slice_set v.actors.items i now) }) (spaces_of v)) pending
     ∙ ap (λ (s : ℕ → ℕ → ℕ). with_spaces (record (other_state v) { pending = put a now.taken.items (pending_of v); store = s }) (spaces_of v)) store
 
@@ -62,7 +62,7 @@ pin_made v a h i j was now pin objects write at index below store emptied pin_is
     let at' : AtActor v' a i was = record { index = at.index; below = at.below; is = at.is } in
     let full : Handle = held a (pending_objects (pending_of v a)) (write_flag (pending_of v a)) in
     let pin_full : pin ≡ full =
-      pin_is ∙ ap (λ (os : List ℕ). held a os write) objects_are ∙ ap (λ (w : Bool). held a (pending_objects (pending_of v a)) w) write_is in
+    pin_is ∙ ap (λ (os : List ℕ). held a os write) objects_are ∙ ap (λ (w : Bool). held a (pending_objects (pending_of v a)) w) write_is in
     taken_changed v' a i was now at' store
     ∙ ap (λ (t : List Pending). record (state_of v') { pending = put a t (pending_of v) }) emptied
     ∙ ap (λ (s : PlainState). record s { pending = put a [] (pending_of v) }) (pin_changed v h j pin index below)

@@ -1,5 +1,5 @@
 -- What a change of one process, and of the contents, is to the plain state.
-use Rattle.std.proofs.Common.{◌≡◌, ℕ, ◌+◌, ◌-◌, ◌<◌, ◌≤◌, ◌==◌, Bool, true, false, if◌then◌else◌, Option, Some, None, IsSome, refl, sym, ◌∙◌, ap, arith}
+use Rattle.std.proofs.Common.{◌≡◌, ℕ, ◌+◌, ◌-◌, ◌<◌, ◌==◌, Bool, true, false, if◌then◌else◌, Option, Some, None, IsSome, refl, sym, ◌∙◌, ap, arith}
 use Rattle.std.proofs.Math.Path.{fun_ext}
 use Rattle.std.proofs.lemmas.Bool.Decides.{nat_tests}
 use Rattle.gup_base.specs.declared.entry.Rights.{Rights}
@@ -50,7 +50,6 @@ fresh_range made n content fresh = fun_ext (λ o. fun_ext (λ w. fresh-at made n
 
 -- ---- the state with one process changed
 
-
 abbrev processes : PlainState → (ℕ → Birth) → (ℕ → ℕ → Option Rights) → (ℕ → ℕ → ℕ) → (ℕ → ℕ) → (ℕ → ℕ → ℕ → Bool) → PlainState
 processes s b r o n c = record s { birth = b; right = r; object = o; pages = n; copied = c }
 
@@ -88,9 +87,10 @@ one_space s f p x b r o n c eb er eo en ec =
     same_processes s (λ q. birth_in (put p x f q)) b (λ q. rights (put p x f q)) r (λ q. objects (put p x f q)) o (λ q. pages_in (put p x f q)) n (λ q. copied_in (put p x f q)) c eb er eo en ec
 
 page-out : (page : ℕ) (x y : SpaceState) → x.page ≡ put page None y.page → (rights x ≡ put page None (rights y)) × (objects x ≡ put page 0 (objects y))
-page-out page x y is =
-    (ap (λ (t : ℕ → Option Page). λ q. right_in (t q)) is ∙ through_put (λ o. right_in o) page None y.page None refl,
-      ap (λ (t : ℕ → Option Page). λ q. object_in (t q)) is ∙ through_put (λ o. object_in o) page None y.page 0 refl)
+page-out page x y is = (
+  ap (λ (t : ℕ → Option Page). λ q. right_in (t q)) is ∙ through_put (λ o. right_in o) page None y.page None refl,
+  ap (λ (t : ℕ → Option Page). λ q. object_in (t q)) is ∙ through_put (λ o. object_in o) page None y.page 0 refl,
+)
 
 same-rights : (x y : SpaceState) → x.page ≡ y.page → rights x ≡ rights y
 same-rights x y is = ap (λ (m : ℕ → Option Page). λ q. right_in (m q)) is
@@ -118,9 +118,10 @@ set-object (Some found) object there = refl
 
 page-renamed : (page object : ℕ) (x y : SpaceState) → IsSome (y.page page) → x.page ≡ put page (with_object object (y.page page)) y.page → (rights x ≡ rights y) × (objects x ≡ put page object (objects y))
 page-renamed page object x y there is =
-    let w = with_object object (y.page page) in
-    (ap (λ (t : ℕ → Option Page). λ q. right_in (t q)) is ∙ through_kept (λ o. right_in o) page w y.page (kept-rights (y.page page) object),
-      ap (λ (t : ℕ → Option Page). λ q. object_in (t q)) is ∙ through_put (λ o. object_in o) page w y.page object (set-object (y.page page) object there))
+    let w = with_object object (y.page page) in (
+      ap (λ (t : ℕ → Option Page). λ q. right_in (t q)) is ∙ through_kept (λ o. right_in o) page w y.page (kept-rights (y.page page) object),
+      ap (λ (t : ℕ → Option Page). λ q. object_in (t q)) is ∙ through_put (λ o. object_in o) page w y.page object (set-object (y.page page) object there),
+    )
 
 pub after_discard : (s : PlainState) (f : ℕ → SpaceState) (p page : ℕ) (x : SpaceState) → IsFresh s.made s.content → IsSome ((f p).page page)
     → x.birth ≡ (f p).birth → x.page ≡ put page (with_object s.made ((f p).page page)) (f p).page → x.pages ≡ (f p).pages → x.copied ≡ (f p).copied
@@ -146,7 +147,7 @@ after_map s f p page n r x fresh birth pages len copied =
     (through_kept birth_in p x f birth) (through_put rights p x f right is_right) (through_put objects p x f object is_object)
     (through_put pages_in p x f (t.pages p + n) len) (through_kept copied_in p x f copied)
     ∙ ap (λ (c : ℕ → ℕ → ℕ). record t { content = c; made = s.made + n; right = put p right t.right; object = put p object t.object; pages = put p (t.pages p + n) t.pages })
-      (fresh_range s.made n s.content fresh)
+    (fresh_range s.made n s.content fresh)
 
 right-set-at : (o : Option Page) (r : Rights) → IsSome o → right_in (with_rights r o) ≡ Some r
 right-set-at None r there = absurd (cc)
@@ -163,10 +164,10 @@ spread-alike : {Y : Type 0} (first n : ℕ) (g h f : ℕ → Y) → ((k : ℕ) �
 spread-alike first n g h f same =
     fun_ext
     (λ q. chosen-alike (within first n q) (g q) (h q) (f q)
-      (λ here.
-        let at = in-range first n q here in
-        let there = same (q - first) at.0 in
-        rw at.1 at there))
+    (λ here.
+    let at = in-range first n q here in
+    let there = same (q - first) at.0 in
+    rw at.1 at there))
 
 right-kept-object : (o : Option Page) (r : Rights) → object_in (with_rights r o) ≡ object_in o
 right-kept-object None r = refl
@@ -186,9 +187,9 @@ after_protect s f p page n r x there birth pages len copied =
     let t = with_spaces s f in
     let g : ℕ → Option Page = λ q. with_rights r ((f p).page q) in
     let is_right = ap (λ (m : ℕ → Option Page). λ q. right_in (m q)) pages ∙ through_spread (λ o. right_in o) page n g (f p).page
-      ∙ spread-alike page n (λ q. right_in (g q)) (λ _. Some r) (t.right p) (λ k small. right-set-at ((f p).page (page + k)) r (there k small)) in
+    ∙ spread-alike page n (λ q. right_in (g q)) (λ _. Some r) (t.right p) (λ k small. right-set-at ((f p).page (page + k)) r (there k small)) in
     let is_object = ap (λ (m : ℕ → Option Page). λ q. object_in (m q)) pages ∙ through_spread (λ o. object_in o) page n g (f p).page
-      ∙ spread-alike page n (λ q. object_in (g q)) (t.object p) (t.object p) (λ k small. right-kept-object ((f p).page (page + k)) r) ∙ spread-same page n (t.object p) in
+    ∙ spread-alike page n (λ q. object_in (g q)) (t.object p) (t.object p) (λ k small. right-kept-object ((f p).page (page + k)) r) ∙ spread-same page n (t.object p) in
     let right : ℕ → Option Rights = spread page n (λ _. Some r) (t.right p) in
     one_space s f p x t.birth (put p right t.right) t.object t.pages t.copied
     (through_kept birth_in p x f birth) (through_put rights p x f right is_right) (through_kept objects p x f is_object)
@@ -223,17 +224,17 @@ after_grow s f parent child x fresh birth pages len copied =
     (through_put birth_in child x f (growing parent) birth) (through_put rights child x f (t.right parent) (own-rights x (f parent) s.made pages))
     (through_put objects child x f object (own-objects x (f parent) s.made pages)) (through_put pages_in child x f (t.pages parent) len) (through_put copied_in child x f none copied)
     ∙ ap
-      (λ (c : ℕ → ℕ → ℕ).
-        record t {
-          content = c;
-          made = s.made + page_numbers;
-          birth = put child (growing parent) t.birth;
-          right = put child (t.right parent) t.right;
-          object = put child object t.object;
-          pages = put child (t.pages parent) t.pages;
-          copied = put child none t.copied;
-        })
-      (fresh_range s.made page_numbers s.content fresh)
+    (λ (c : ℕ → ℕ → ℕ).
+    record t {
+      content = c;
+      made = s.made + page_numbers;
+      birth = put child (growing parent) t.birth;
+      right = put child (t.right parent) t.right;
+      object = put child object t.object;
+      pages = put child (t.pages parent) t.pages;
+      copied = put child none t.copied;
+    })
+    (fresh_range s.made page_numbers s.content fresh)
 
 -- the contents are changed, and of a process only what is copied
 copied-only : (s : PlainState) (f : ℕ → SpaceState) (p : ℕ) (x : SpaceState) (page : ℕ) (flags : ℕ → Bool) (c : ℕ → ℕ → ℕ)
@@ -267,7 +268,7 @@ after_word s f parent child page word from to value x c is_from is_to is content
     let flags : ℕ → Bool = put word true (t.copied child page) in
     let read : value ≡ s.content (t.object parent page) word = rw is_from is in
     let there : c ≡ put2 (t.object child page) word (s.content (t.object parent page) word) s.content =
-      content ∙ ap (λ (n : ℕ). put2 to word n s.content) read ∙ ap (λ (n : ℕ). put2 n word (s.content (t.object parent page) word) s.content) (sym is_to) in
+    content ∙ ap (λ (n : ℕ). put2 to word n s.content) read ∙ ap (λ (n : ℕ). put2 n word (s.content (t.object parent page) word) s.content) (sym is_to) in
     copied-only s f child x page flags c birth pages len copied
     ∙ ap (λ (k : ℕ → ℕ → ℕ). record t { content = k; copied = put2 child page flags t.copied }) there
 

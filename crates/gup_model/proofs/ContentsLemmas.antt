@@ -1,5 +1,5 @@
 -- The words of an object end where a page does.
-use Rattle.std.proofs.Common.{◌≡◌, ℕ, ◌≤◌, ◌<◌, List, Option, None, Some, refl, arith}
+use Rattle.std.proofs.Common.{◌≡◌, ℕ, ◌≤◌, List, Option, None, Some, refl, arith}
 use Rattle.std.proofs.Math.Path.{fun_ext}
 use Rattle.std.proofs.lemmas.Bool.Decides.{nat_tests}
 use Rattle.std.specs.Option.{option_map_or}
@@ -19,6 +19,6 @@ pub copied-whole : (c : Contents) (from to : ℕ) → spread 0 512 (content_of c
 copied-whole c from to =
     fun_ext
     (λ word.
-      let here = past-end (get nat_cmp c.words from) word in
-      let there = past-end (get nat_cmp c.words to) word in
-      grind (arith, nat_tests, here, there))
+    let here = past-end (get nat_cmp c.words from) word in
+    let there = past-end (get nat_cmp c.words to) word in
+    grind (arith, nat_tests, here, there))

@@ -1,13 +1,12 @@
 -- What each event keeps: what is named is made, and what isn't made has zeros.
-use Rattle.std.proofs.Common.{◌≡◌, ℕ, ◌+◌, ◌-◌, ◌*◌, ◌/◌, ◌%◌, ◌<◌, ◌≤◌, ◌==◌, not, Bool, true, false, if◌then◌else◌, List, [], ◌∷◌, ◌++◌, map, filter, All, Option, Some, None, IsSome, length, get_or, Result, Ok, Err, OnOk, refl, sym, ◌∙◌, ap, subst, inl, inr, arith}
+use Rattle.std.proofs.Common.{◌≡◌, ℕ, ◌+◌, ◌-◌, ◌*◌, ◌/◌, ◌%◌, ◌<◌, ◌≤◌, ◌==◌, not, Bool, true, false, if◌then◌else◌, List, [], ◌∷◌, ◌++◌, filter, All, Option, Some, None, IsSome, length, get_or, Result, Ok, Err, OnOk, refl, sym, ◌∙◌, subst, arith}
 use Rattle.std.proofs.Math.Nat.{div-lt_iff_lt-mul}
 use Rattle.std.proofs.lemmas.Bool.Decides.{nat_tests}
 use Rattle.std.proofs.lemmas.List.Elements.{All-append, All-filter, All-map, All-cons, All-weaker, All-get_or}
 use Rattle.gup_base.specs.declared.entry.Rights.{Rights}
-use Rattle.gup_base.specs.declared.entry.Rights.TheVariants.{RW}
-use Rattle.gup_plain.specs.Event.{CanHappen, happened, page_numbers, words, object_at, pending_objects, write_flag, AllowsPin, given_to, held_by, IsHeldBy, IsGivenTo}
+use Rattle.gup_plain.specs.Event.{CanHappen, happened, page_numbers, words, object_at, pending_objects, write_flag, AllowsPin, given_to, held_by}
 use Rattle.gup_plain.specs.Put.{put, put2, within, spread}
-use Rattle.gup_plain.specs.State.{PlainState, Birth, start, objects_of, Handle, unmade, held, given, gone, Pending, named_or_zero}
+use Rattle.gup_plain.specs.State.{PlainState, Birth, start, objects_of, Handle, held, gone, Pending, named_or_zero}
 use Rattle.gup_plain.specs.declared.event.PlainEvent.{PlainEvent}
 use Rattle.gup_plain.specs.declared.event.PlainEvent.TheVariants as events
 use Rattle.gup_model.specs.Parts.{IsMade, Applies, HasAll, IsAsMany}

@@ -1,5 +1,5 @@
 -- What a changed process in the parts is to the plain state.
-use Rattle.std.proofs.Common.{◌≡◌, ℕ, ◌+◌, ◌-◌, ◌<◌, Bool, true, false, List, Option, Some, None, IsSome, vec_len, length, get_or, slice_set, refl, sym, ◌∙◌, ap, subst, arith}
+use Rattle.std.proofs.Common.{◌≡◌, ℕ, ◌+◌, ◌-◌, ◌<◌, Bool, true, false, Option, None, IsSome, vec_len, length, get_or, slice_set, refl, sym, ◌∙◌, ap, arith}
 use Rattle.std.specs.BTreeMap.{BTreeMap, get, btree_map_len}
 use Rattle.std.specs.Ordering.{nat_cmp}
 use Rattle.std.specs.Vec.{with_item}
@@ -20,7 +20,7 @@ use Rattle.gup_model.specs.Space.{SpaceState, seen, blank, birth_of, copied_of}
 use Rattle.gup_model.specs.Tables.{at_place}
 use Rattle.gup_model.proofs.TableLemmas.{place_put, place_is, put_same}
 use Rattle.gup_model.proofs.Changes.{after_birth, after_unmap, after_discard, after_map, after_protect, after_grow, after_page, after_word, after_end, after_fail}
-use Rattle.gup_model.proofs.SpaceLemmas.{page_numbers-is, right_some}
+use Rattle.gup_model.proofs.SpaceLemmas.{page_numbers-is}
 
 -- the process with this number is at this index, and is so
 pub record At (v : Parts) (p i : ℕ) (was : Space) : Type 0 where
@@ -114,7 +114,7 @@ pub same_pages : (v : Parts) (p i : ℕ) (was : Space) (pages : BTreeMap ℕ Pag
 same_pages v p i was pages at kept len =
     unchanged v p i was (record was { pages = pages }) at
     (ap (λ (m : ℕ → Option Page). record (seen was) { page = m; pages = btree_map_len pages }) kept
-      ∙ ap (λ (n : ℕ). record (seen was) { pages = n }) len)
+    ∙ ap (λ (n : ℕ). record (seen was) { pages = n }) len)
 
 pub birthed : (v : Parts) (p i : ℕ) (was space : Space) → At v p i was → seen space ≡ record (seen was) { birth = born }
     → state_of (record v { spaces = with_item v.spaces i space }) ≡ record (state_of v) { birth = put p born (state_of v).birth }
@@ -178,7 +178,7 @@ page_copied v parent p i page from to was space contents at is_from is_to made c
     ap (same_contents v contents (at_place seen blank (slice_set v.spaces.items i space))) made
     ∙ ap (λ (f : ℕ → SpaceState). same_contents v contents f v.contents.made) (replaced v p i was space at)
     ∙ after_page (other_state v) (spaces_of v) parent p page from to (seen space) (content_of contents) is_from is_to content
-      (birth-seen space was birth ∙ birth-at _ _ same) (pages-seen space was pages ∙ page-at _ _ same) (len-seen space was pages ∙ len-at _ _ same) flags
+    (birth-seen space was birth ∙ birth-at _ _ same) (pages-seen space was pages ∙ page-at _ _ same) (len-seen space was pages ∙ len-at _ _ same) flags
 
 pub word_copied : (v : Parts) (parent p i page word from to value : ℕ) (was space : Space) (contents : Contents) → At v p i was
     → (state_of v).object parent page ≡ from → (state_of v).object p page ≡ to → value ≡ content_of v.contents from word
@@ -191,7 +191,7 @@ word_copied v parent p i page word from to value was space contents at is_from i
     ap (same_contents v contents (at_place seen blank (slice_set v.spaces.items i space))) made
     ∙ ap (λ (f : ℕ → SpaceState). same_contents v contents f v.contents.made) (replaced v p i was space at)
     ∙ after_word (other_state v) (spaces_of v) parent p page word from to value (seen space) (content_of contents) is_from is_to is content
-      (birth-seen space was birth ∙ birth-at _ _ same) (pages-seen space was pages ∙ page-at _ _ same) (len-seen space was pages ∙ len-at _ _ same) flags
+    (birth-seen space was birth ∙ birth-at _ _ same) (pages-seen space was pages ∙ page-at _ _ same) (len-seen space was pages ∙ len-at _ _ same) flags
 
 -- only what is copied may be another map, as long as it is the same to a look-up, and so for the contents
 pub untouched : (v : Parts) (p i : ℕ) (was space : Space) (contents : Contents) → At v p i was
@@ -200,9 +200,9 @@ pub untouched : (v : Parts) (p i : ℕ) (was space : Space) (contents : Contents
     → state_of (record v { contents = contents; spaces = with_item v.spaces i space }) ≡ state_of v
 untouched v p i was space contents at made content birth pages copied =
     let alike : seen space ≡ seen was =
-      ap (λ (b : Birth). record (seen space) { birth = b }) (birth-seen space was birth)
-      ∙ ap (λ (m : BTreeMap ℕ Page). record { birth = birth_of was.birth; page = get nat_cmp m; pages = btree_map_len m; copied = copied_of space }) pages
-      ∙ ap (λ (c : ℕ → ℕ → Bool). record (seen was) { copied = c }) copied in
+    ap (λ (b : Birth). record (seen space) { birth = b }) (birth-seen space was birth)
+    ∙ ap (λ (m : BTreeMap ℕ Page). record { birth = birth_of was.birth; page = get nat_cmp m; pages = btree_map_len m; copied = copied_of space }) pages
+    ∙ ap (λ (c : ℕ → ℕ → Bool). record (seen was) { copied = c }) copied in
     ap (same_contents v contents (at_place seen blank (slice_set v.spaces.items i space))) made
     ∙ ap (λ (c : ℕ → ℕ → ℕ). with_spaces (record (other_state v) { content = c }) (at_place seen blank (slice_set v.spaces.items i space))) content
     ∙ unchanged v p i was space at alike

@@ -1,7 +1,6 @@
 -- Bounds and tests of one process.
-use Rattle.std.proofs.Common.{◌≡◌, ℕ, ◌+◌, ◌-◌, ◌<◌, ◌≤◌, Bool, true, false, IsTrue, IsSome, Option, Some, None, List, All, Contains, is_some, ◌↔◌, refl, sym, ◌∙◌, ap, arith}
+use Rattle.std.proofs.Common.{◌≡◌, ℕ, ◌+◌, ◌-◌, ◌<◌, ◌≤◌, true, false, IsTrue, IsSome, Option, Some, None, All, ◌↔◌, refl, arith}
 use Rattle.std.proofs.lemmas.Cmp.{nat_cmp_total}
-use Rattle.std.proofs.lemmas.Bool.Decides.{nat_tests}
 use Rattle.std.proofs.lemmas.List.Elements.{All-contains}
 use Rattle.std.proofs.lemmas.Map.Lookups.{exact_unsigned}
 use Rattle.std.proofs.lemmas.Map.Views.{btree_map_contains_key_iff, All-keys_from_lookup}
@@ -41,6 +40,7 @@ some_right o is = grind arith
 
 -- what holds of each key holds where the map has something
 pub all_keys : {X : Type 0} (P : ℕ → Type 0) (m : BTreeMap ℕ X) → All P (keys m) ↔ ((k : ℕ) → IsSome (get nat_cmp m k) → P k)
-all_keys P m =
-    (λ h k found. All-contains P (keys m) k h ((btree_map_contains_key_iff nat_cmp_total exact_unsigned m k).0 found),
-      λ h. All-keys_from_lookup (eq_by_cmp_equiv nat_cmp_total) P m.entries h)
+all_keys P m = (
+  λ h k found. All-contains P (keys m) k h ((btree_map_contains_key_iff nat_cmp_total exact_unsigned m k).0 found),
+  λ h. All-keys_from_lookup (eq_by_cmp_equiv nat_cmp_total) P m.entries h,
+)

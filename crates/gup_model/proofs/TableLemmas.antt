@@ -1,12 +1,12 @@
 -- Functions of numbers that are changed at one place or over a range.
-use Rattle.std.proofs.Common.{◌≡◌, ℕ, zero, suc, ◌+◌, ◌-◌, ◌<◌, ◌≤◌, ◌==◌, Bool, true, false, cond, List, [], ◌∷◌, ◌++◌, Option, Some, None, IsSome, is_some, length, get_or, slice_set, slice_get, refl, sym, ◌∙◌, ap, subst, arith}
+use Rattle.std.proofs.Common.{◌≡◌, ℕ, zero, suc, ◌+◌, ◌-◌, ◌<◌, ◌≤◌, ◌==◌, false, cond, List, [], ◌∷◌, ◌++◌, Option, Some, None, is_some, length, get_or, slice_set, slice_get, refl, sym, ◌∙◌, ap, arith}
 use Rattle.std.proofs.Math.Path.{fun_ext}
 use Rattle.std.proofs.lemmas.Option.{slice_get-get_or}
 use Rattle.std.proofs.lemmas.Bool.Decides.{nat_tests}
 use Rattle.std.specs.BTreeMap.{BTreeMap, get}
 use Rattle.std.specs.Ordering.{nat_cmp, is_eq}
 use Rattle.std.specs.Option.{option_map_or}
-use Rattle.gup_plain.specs.Put.{put, put2, spread}
+use Rattle.gup_plain.specs.Put.{put, spread}
 use Rattle.gup_model.specs.declared.pages.Page.{Page}
 use Rattle.gup_model.specs.Pages.{AreFree}
 use Rattle.gup_model.specs.Tables.{at_key, at_place}

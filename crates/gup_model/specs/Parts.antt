@@ -1,5 +1,5 @@
 -- The plain model's state as the program keeps it, in parts.
-use Rattle.std.specs.Prelude.{◌≡◌, ℕ, ◌<◌, ◌≤◌, Bool, false, List, [], Option, None, IsSome, All, vec_len, Result, MatchResult}
+use Rattle.std.specs.Prelude.{◌≡◌, ℕ, ◌<◌, ◌≤◌, false, List, [], Option, None, IsSome, All, vec_len, Result, MatchResult}
 use Rattle.std.specs.BTreeMap.{BTreeMap}
 use Rattle.gup_plain.specs.State.{PlainState, Handle, unmade, Pending, Noted, start, objects_of}
 use Rattle.gup_plain.specs.Event.{CanHappen, happened, page_numbers}

@@ -1,7 +1,7 @@
 -- How a handle, a page that a pin has taken, and a mirror slot are kept.
-use Rattle.std.specs.Prelude.{◌≡◌, ℕ, ◌+◌, ◌*◌, ◌/◌, ◌<◌, Bool, List, Option, Some, None, length, refl}
-use Rattle.gup_plain.specs.State.{Handle, unmade, held, given, gone, Pending, Noted, objects_of}
-use Rattle.gup_plain.specs.Event.{IsHeldBy, words, object_at}
+use Rattle.std.specs.Prelude.{ℕ, ◌*◌, ◌<◌, Bool, List, length}
+use Rattle.gup_plain.specs.State.{Handle, unmade, held, given, gone, objects_of}
+use Rattle.gup_plain.specs.Event.{IsHeldBy, words}
 use Rattle.gup_model.specs.declared.pin.Stage.{Stage}
 use Rattle.gup_model.specs.declared.pin.Stage.TheVariants as stages
 

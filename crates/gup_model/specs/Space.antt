@@ -1,6 +1,6 @@
 -- One process: its birth, its pages, and, while it grows, which words of which pages are copied.
 use Rattle.std.specs.Prelude.{◌≡◌, ℕ, ◌+◌, ◌<◌, ◌≤◌, Bool, false, Option, None, IsSome}
-use Rattle.std.specs.BTreeMap.{BTreeMap, get, btree_map_len}
+use Rattle.std.specs.BTreeMap.{get, btree_map_len}
 use Rattle.std.specs.Ordering.{nat_cmp}
 use Rattle.gup_plain.specs.Event.{page_numbers, most_pages}
 use Rattle.gup_plain.specs.State.{Birth, unborn, growing, born, failed}

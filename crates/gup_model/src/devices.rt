@@ -90,7 +90,12 @@ impl Parts {
     }
 
     /// The mirror slot notes the page and its object.
-    pub fn mirror_fill(&mut self, mirror: MirrorNo, p: ProcNo, page: PageNo) -> Result<(), PlainRefusal>
+    pub fn mirror_fill(
+        &mut self,
+        mirror: MirrorNo,
+        p: ProcNo,
+        page: PageNo,
+    ) -> Result<(), PlainRefusal>
         requires all { HasAll self.old }
         ensures event { Applies (state_of self.old) (state_of self.new) (events.MirrorFill 0 mirror p page) result }
         ensures many { IsAsMany self.old self.new }

@@ -64,7 +64,12 @@ impl Parts {
     }
 
     /// All words of the page are copied at once.
-    pub fn fork_page(&mut self, parent: ProcNo, child: ProcNo, page: PageNo) -> Result<(), PlainRefusal>
+    pub fn fork_page(
+        &mut self,
+        parent: ProcNo,
+        child: ProcNo,
+        page: PageNo,
+    ) -> Result<(), PlainRefusal>
         requires all { HasAll self.old }
         ensures event { Applies (state_of self.old) (state_of self.new) (events.ForkPage parent child page) result }
         ensures many { IsAsMany self.old self.new }

@@ -65,7 +65,13 @@ fn insert(pages: &mut Pages, page: PageNo, entry: Page) -> Result<(), NoMemory>
 }
 
 /// Maps the `n` pages from `first` on with these rights and the objects from `object` on.
-pub fn map(pages: &mut Pages, first: PageNo, n: u16, rights: Rights, object: u64) -> Result<(), NoMemory>
+pub fn map(
+    pages: &mut Pages,
+    first: PageNo,
+    n: u16,
+    rights: Rights,
+    object: u64,
+) -> Result<(), NoMemory>
     requires free { AreFree (get nat_cmp pages.old) first n }
     requires below { first + n ≤ 2 ^ 35 }
     requires objects { object + n < 2 ^ 64 }

@@ -20,7 +20,9 @@ use std::collections::BTreeMap;
 
 // How many processes, handles and mirror slots a number can name.
 const PROCESSES: u8 = 16;
+
 const HANDLES: u16 = 1024;
+
 const MIRRORS: u8 = 64;
 
 /// An actor: the pages that its running pin has taken, and a device's words.
@@ -93,7 +95,13 @@ impl Parts {
     }
 
     /// The page is named, and the word of its object is `value`.
-    pub fn load(&mut self, p: ProcNo, page: PageNo, word: WordNo, value: u64) -> Result<(), PlainRefusal>
+    pub fn load(
+        &mut self,
+        p: ProcNo,
+        page: PageNo,
+        word: WordNo,
+        value: u64,
+    ) -> Result<(), PlainRefusal>
         requires all { HasAll self.old }
         ensures event { Applies (state_of self.old) (state_of self.new) (events.Load 0 p page word value) result }
         ensures many { IsAsMany self.old self.new }
@@ -105,7 +113,13 @@ impl Parts {
     }
 
     /// The word of the page's object becomes `value`.
-    pub fn store(&mut self, p: ProcNo, page: PageNo, word: WordNo, value: u64) -> Result<(), PlainRefusal>
+    pub fn store(
+        &mut self,
+        p: ProcNo,
+        page: PageNo,
+        word: WordNo,
+        value: u64,
+    ) -> Result<(), PlainRefusal>
         requires all { HasAll self.old }
         ensures event { Applies (state_of self.old) (state_of self.new) (events.Store 0 p page word value) result }
         ensures many { IsAsMany self.old self.new }
@@ -152,7 +166,13 @@ impl Parts {
     }
 
     /// The pages get fresh objects and these rights.
-    pub fn map(&mut self, p: ProcNo, page: PageNo, n: u16, rights: Rights) -> Result<(), PlainRefusal>
+    pub fn map(
+        &mut self,
+        p: ProcNo,
+        page: PageNo,
+        n: u16,
+        rights: Rights,
+    ) -> Result<(), PlainRefusal>
         requires all { HasAll self.old }
         requires made { IsMade (state_of self.old) }
         ensures event { Applies (state_of self.old) (state_of self.new) (events.Map 0 p page n rights) result }
@@ -170,7 +190,13 @@ impl Parts {
     }
 
     /// The pages have these rights.
-    pub fn protect(&mut self, p: ProcNo, page: PageNo, n: u16, rights: Rights) -> Result<(), PlainRefusal>
+    pub fn protect(
+        &mut self,
+        p: ProcNo,
+        page: PageNo,
+        n: u16,
+        rights: Rights,
+    ) -> Result<(), PlainRefusal>
         requires all { HasAll self.old }
         requires made { IsMade (state_of self.old) }
         ensures event { Applies (state_of self.old) (state_of self.new) (events.Protect 0 p page n rights) result }

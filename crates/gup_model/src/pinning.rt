@@ -28,7 +28,13 @@ impl Parts {
     }
 
     /// The actor's running pin takes the page.
-    pub fn pin_try(&mut self, actor: ActorNo, p: ProcNo, page: PageNo, write: bool) -> Result<(), PlainRefusal>
+    pub fn pin_try(
+        &mut self,
+        actor: ActorNo,
+        p: ProcNo,
+        page: PageNo,
+        write: bool,
+    ) -> Result<(), PlainRefusal>
         requires all { HasAll self.old }
         requires actor { actor < vec_len self.old.actors }
         ensures event { Applies (state_of self.old) (state_of self.new) (events.PinTry actor p page write) result }
@@ -96,7 +102,12 @@ impl Parts {
     }
 
     /// The handle is given to another actor.
-    pub fn give(&mut self, actor: ActorNo, handle: HandleNo, to: ActorNo) -> Result<(), PlainRefusal>
+    pub fn give(
+        &mut self,
+        actor: ActorNo,
+        handle: HandleNo,
+        to: ActorNo,
+    ) -> Result<(), PlainRefusal>
         requires all { HasAll self.old }
         ensures event { Applies (state_of self.old) (state_of self.new) (events.Give actor handle to) result }
         ensures many { IsAsMany self.old self.new }

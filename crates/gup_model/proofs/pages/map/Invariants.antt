@@ -9,5 +9,5 @@ use Rattle.gup_model.proofs.pages.map.Given as goal
 abbrev pub invariant-loop-k : goal.invariant-loop-k
 invariant-loop-k l = record {
   pages : get nat_cmp l.pages ≡ spread l.first l.k (pages_from l.first l.rights l.object) (get nat_cmp l.initial.pages);
-  len : btree_map_len l.pages ≡ btree_map_len l.initial.pages + l.k
+  len : btree_map_len l.pages ≡ btree_map_len l.initial.pages + l.k;
 }

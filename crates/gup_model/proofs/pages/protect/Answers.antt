@@ -1,4 +1,4 @@
-use Rattle.std.proofs.Common.{◌≡◌, ℕ, ◌+◌, Option, IsSome, sym, subst, ap, ◌∙◌, arith}
+use Rattle.std.proofs.Common.{◌≡◌, ℕ, Option, IsSome, sym, subst, ap, ◌∙◌, arith}
 use Rattle.std.specs.BTreeMap.{get}
 use Rattle.std.specs.Ordering.{nat_cmp}
 use Rattle.gup_plain.specs.Put.{spread}
@@ -23,7 +23,7 @@ loop-k-preserved c =
     let same = still f g h c.args.first c.loop-k.k c.nth.result c.loop-k.invariant.pages c.nth.ensures in
     record {
       pages =
-        grown f g h (get nat_cmp c.set_rights.new.pages) c.args.first c.loop-k.k c.nth.result (with_rights c.args.rights (h c.nth.result))
+          grown f g h (get nat_cmp c.set_rights.new.pages) c.args.first c.loop-k.k c.nth.result (with_rights c.args.rights (h c.nth.result))
           c.loop-k.invariant.pages c.nth.ensures c.set_rights.ensures.pages (ap (λ (o : Option Page). with_rights c.args.rights o) same);
       len = c.set_rights.ensures.len ∙ c.loop-k.invariant.len;
     }

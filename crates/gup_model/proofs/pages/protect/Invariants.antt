@@ -9,5 +9,5 @@ use Rattle.gup_model.proofs.pages.protect.Given as goal
 abbrev pub invariant-loop-k : goal.invariant-loop-k
 invariant-loop-k l = record {
   pages : get nat_cmp l.pages ≡ spread l.first l.k (λ page. with_rights l.rights (get nat_cmp l.initial.pages page)) (get nat_cmp l.initial.pages);
-  len : btree_map_len l.pages ≡ btree_map_len l.initial.pages
+  len : btree_map_len l.pages ≡ btree_map_len l.initial.pages;
 }

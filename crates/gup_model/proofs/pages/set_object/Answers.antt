@@ -11,4 +11,4 @@ returns-in-Some-clause-pages c =
     let found : get nat_cmp c.args.pages.now c.args.page ≡ Some c.in-Some.entry.now = sym c.in-Some.ensures.value in
     rw found
     (updated (get nat_cmp c.args.pages.now) (get nat_cmp (c.get_mut.follows.lender entry)) c.args.page (Some entry)
-      ((c.get_mut.follows.holds entry).3 c.requires).0)
+    ((c.get_mut.follows.holds entry).3 c.requires).0)

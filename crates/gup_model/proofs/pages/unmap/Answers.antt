@@ -1,4 +1,4 @@
-use Rattle.std.proofs.Common.{◌≡◌, ℕ, ◌+◌, Option, None, IsSome, refl, sym, subst, arith}
+use Rattle.std.proofs.Common.{ℕ, Option, None, IsSome, refl, sym, subst, arith}
 use Rattle.std.specs.BTreeMap.{get}
 use Rattle.std.specs.Ordering.{nat_cmp}
 use Rattle.gup_model.specs.declared.pages.Page.{Page}
@@ -19,7 +19,7 @@ loop-k-preserved c =
     let g : ℕ → Option Page = λ _. None in
     record {
       pages =
-        grown f g (get nat_cmp c.loop-k.pages) (get nat_cmp c.remove.new.pages) c.args.first c.loop-k.k c.nth.result None
+          grown f g (get nat_cmp c.loop-k.pages) (get nat_cmp c.remove.new.pages) c.args.first c.loop-k.k c.nth.result None
           c.loop-k.invariant.pages c.nth.ensures c.remove.ensures.pages refl;
       len = omega arith;
     }

@@ -8,5 +8,5 @@ use Rattle.gup_model.proofs.pages.unmap.Given as goal
 abbrev pub invariant-loop-k : goal.invariant-loop-k
 invariant-loop-k l = record {
   pages : get nat_cmp l.pages ≡ spread l.first l.k (λ _. None) (get nat_cmp l.initial.pages);
-  len : btree_map_len l.pages + l.k ≡ btree_map_len l.initial.pages
+  len : btree_map_len l.pages + l.k ≡ btree_map_len l.initial.pages;
 }

@@ -1,4 +1,4 @@
-use Rattle.std.proofs.Common.{◌≡◌, ℕ, ◌+◌, [], refl, arith}
+use Rattle.std.proofs.Common.{◌≡◌, ℕ, [], refl, arith}
 use Rattle.std.proofs.Math.Path.{fun_ext}
 use Rattle.std.specs.BTreeMap.{BTreeMap}
 use Rattle.gup_model.specs.Parts.{slots_in, store_of}

@@ -9,5 +9,5 @@ abbrev pub invariant-loop-a : goal.invariant-loop-a
 invariant-loop-a l = record {
   len : vec_len l.actors ≡ l._a;
   taken : at_place (λ (a : Actor). a.taken.items) [] l.actors.items ≡ (λ _. []);
-  store : at_place store_of (λ _. 0) l.actors.items ≡ (λ _ _. 0)
+  store : at_place store_of (λ _. 0) l.actors.items ≡ (λ _ _. 0);
 }

@@ -1,4 +1,4 @@
-use Rattle.std.proofs.Common.{◌≡◌, ◌+◌, Option, None, refl, arith}
+use Rattle.std.proofs.Common.{Option, None, refl, arith}
 use Rattle.gup_plain.specs.State.{Noted}
 use Rattle.gup_model.proofs.TableLemmas.{place_push}
 use Rattle.gup_model.proofs.parts.mirrors.Goals as goal

@@ -1,4 +1,4 @@
-use Rattle.std.proofs.Common.{◌≡◌, ◌+◌, Option, None, refl, arith}
+use Rattle.std.proofs.Common.{arith}
 use Rattle.gup_plain.specs.State.{Handle, unmade}
 use Rattle.gup_model.proofs.TableLemmas.{place_push}
 use Rattle.gup_model.proofs.parts.pins.Goals as goal

@@ -1,4 +1,4 @@
-use Rattle.std.proofs.Common.{◌≡◌, ◌+◌, Option, None, refl, arith}
+use Rattle.std.proofs.Common.{arith}
 use Rattle.gup_model.specs.Space.{seen, blank}
 use Rattle.gup_model.proofs.TableLemmas.{place_push}
 use Rattle.gup_model.proofs.parts.spaces.Goals as goal

@@ -1,8 +1,6 @@
-use Rattle.std.proofs.Common.{◌≡◌, ℕ, sym, ◌∙◌, ap, arith}
+use Rattle.std.proofs.Common.{ℕ, arith}
 use Rattle.std.proofs.lemmas.Grind.{common_steps}
-use Rattle.gup_plain.specs.Put.{put}
 use Rattle.gup_model.specs.declared.contents.Contents.{Contents}
-use Rattle.gup_model.specs.Contents.{content_of}
 use Rattle.gup_model.proofs.ContentsLemmas.{copied-whole}
 use Rattle.gup_model.proofs.contents.Contents.copy.Goals as goal
 

@@ -1,4 +1,4 @@
-use Rattle.std.proofs.Common.{◌≡◌, refl, subst}
+use Rattle.std.proofs.Common.{refl, subst}
 use Rattle.gup_plain.specs.Event.{IsUnbornOrGrowing}
 use Rattle.gup_model.proofs.Processes.{At, ended_badly}
 use Rattle.gup_model.specs.Space.{SpaceState}

@@ -1,4 +1,4 @@
-use Rattle.std.proofs.Common.{◌≡◌, ℕ, ◌+◌, ◌<◌, ◌≤◌, refl, subst, sym, ◌∙◌, ap, arith}
+use Rattle.std.proofs.Common.{ℕ, ◌+◌, ◌≤◌, refl, subst, sym, ◌∙◌, ap, arith}
 use Rattle.gup_plain.specs.Event.{page_numbers}
 use Rattle.gup_plain.specs.declared.event.PlainEvent.TheVariants as events
 use Rattle.gup_model.proofs.Processes.{At, mapped, same_pages, found}
@@ -33,13 +33,14 @@ returns-in_err-map-clause-event c =
     let at : At c.args.self.now c.args.p c.get.result was = record { index = c.get.ensures.value; below = c.get.ensures.below; spaces = c.requires.all.spaces; is = c.index_mut-space.ensures.value } in
     let kept = c.in_err-map.ensures.err in
     refused (state_of c.args.self.now) _ (events.Map 0 c.args.p c.args.page c.args.n c.args.rights) c.from_residual-in_err-map.result c.from_residual-in_err-map.ensures.1
-      (same_pages c.args.self.now c.args.p c.get.result was c.map.new.pages at kept.0 kept.1)
+    (same_pages c.args.self.now c.args.p c.get.result was c.map.new.pages at kept.0 kept.1)
 
 pub returns-clause-event : goal.returns-clause-event
 returns-clause-event c =
     let was : Space = c.index_mut-space.result.now in
     let at : At c.args.self.now c.args.p c.get.result was = record { index = c.get.ensures.value; below = c.get.ensures.below; spaces = c.requires.all.spaces; is = c.index_mut-space.ensures.value } in
-    let P : SpaceState → Type 0 = λ x. CanMap x c.args.page c.args.n in
-    (subst P c.space.ensures (c.if-not-can_map.ensures.0 refl),
+    let P : SpaceState → Type 0 = λ x. CanMap x c.args.page c.args.n in (
+      subst P c.space.ensures (c.if-not-can_map.ensures.0 refl),
       mapped c.args.self.now c.args.p c.get.result c.args.page c.args.n c.in_ok-made.made c.args.rights was c.map.new.pages at
-        c.requires.made (c.in_ok-made.ensures ∙ ap (λ (n : ℕ). c.args.self.now.contents.made + n) c.from.ensures) c.in_ok-map.ensures.pages c.in_ok-map.ensures.len)
+          c.requires.made (c.in_ok-made.ensures ∙ ap (λ (n : ℕ). c.args.self.now.contents.made + n) c.from.ensures) c.in_ok-map.ensures.pages c.in_ok-map.ensures.len,
+    )

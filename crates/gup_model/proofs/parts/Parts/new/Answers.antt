@@ -1,4 +1,4 @@
-use Rattle.std.proofs.Common.{◌≡◌, ℕ, Bool, false, List, [], Option, None, refl, ◌∙◌, ap}
+use Rattle.std.proofs.Common.{◌≡◌, ℕ, false, List, [], Option, None, ◌∙◌, ap}
 use Rattle.gup_plain.specs.State.{PlainState, Handle, unmade, Pending, Noted, start}
 use Rattle.gup_model.specs.Parts.{with_spaces, store_of}
 use Rattle.gup_model.specs.Space.{SpaceState, seen, blank}

@@ -1,12 +1,8 @@
-use Rattle.std.proofs.Common.{◌≡◌, ℕ, ◌==◌, not, Bool, vec_len, List, [], ◌∷◌, ◌++◌, Contains, filter, refl, sym, subst, ◌∙◌, ap, arith, ◌<◌}
-use Rattle.gup_plain.specs.Event.{pending_pages, pending_objects, AreTaken, write_flag, happened}
-use Rattle.gup_plain.specs.Put.{put}
+use Rattle.std.proofs.Common.{◌≡◌, Bool, vec_len, List, refl, sym, subst, ◌∙◌, ap, arith, ◌<◌}
+use Rattle.gup_plain.specs.Event.{pending_objects, AreTaken, write_flag}
 use Rattle.gup_plain.specs.State.{Pending, Handle, unmade}
-use Rattle.gup_plain.specs.declared.event.PlainEvent.TheVariants as events
 use Rattle.gup_model.proofs.Actors.{AtActor, pending-at, pin_made, pin-at}
-use Rattle.gup_model.proofs.Refusals.{refused}
-use Rattle.gup_model.proofs.TakenLemmas.{has, lacks, taken-has}
-use Rattle.gup_model.specs.Parts.{state_of, pending_of, handles_of}
+use Rattle.gup_model.specs.Parts.{pending_of}
 use Rattle.gup_model.specs.declared.parts.Actor.{Actor}
 use Rattle.gup_model.specs.declared.parts.Parts.{Parts}
 use Rattle.gup_model.proofs.parts.Parts.pin_ok.Goals as goal
@@ -23,10 +19,13 @@ returns-clause-event c =
     let unmade_before : Handle → Type 0 = λ h. h ≡ unmade in
     let P : Bool → Type 0 = λ w. AreTaken c.deref.result.now w in
     let Q : List Pending → Type 0 = λ taken. AreTaken taken (write_flag taken) in
-    let agreed = c.in-Some.ensures in
-    ((subst unmade_before (sym (pin-at v c.args.handle c.get.result c.index_mut-pin.result.now c.get.ensures.value below c.index_mut-pin.ensures.value)) (c.if-not-is_unmade.ensures.0 refl),
-        subst Q first (subst P agreed.1 agreed.0)),
+    let agreed = c.in-Some.ensures in (
+      (
+        subst unmade_before (sym (pin-at v c.args.handle c.get.result c.index_mut-pin.result.now c.get.ensures.value below c.index_mut-pin.ensures.value)) (c.if-not-is_unmade.ensures.0 refl),
+        subst Q first (subst P agreed.1 agreed.0),
+      ),
       pin_made v c.args.actor c.args.handle c.get-2.result c.get.result was (record was { taken = c.clear.new.self }) c.hold.new.self c.in_ok-objects.objects.items c.in-Some.write
-        at c.get.ensures.value below refl c.clear.ensures.items c.hold.ensures
-        (c.in_ok-objects.ensures ∙ ap (λ (taken : List Pending). pending_objects taken) again)
-        (agreed.1 ∙ ap (λ (taken : List Pending). write_flag taken) first))
+          at c.get.ensures.value below refl c.clear.ensures.items c.hold.ensures
+          (c.in_ok-objects.ensures ∙ ap (λ (taken : List Pending). pending_objects taken) again)
+          (agreed.1 ∙ ap (λ (taken : List Pending). write_flag taken) first),
+    )

@@ -1,8 +1,6 @@
-use Rattle.std.proofs.Common.{◌≡◌, ℕ, ◌+◌, ◌-◌, ◌<◌, ◌≤◌, IsSome, refl, subst, sym, ◌∙◌, ap, arith}
-use Rattle.std.specs.BTreeMap.{get}
-use Rattle.std.specs.Ordering.{nat_cmp}
+use Rattle.std.proofs.Common.{ℕ, ◌+◌, ◌<◌, IsSome, refl, subst, sym, ◌∙◌}
 use Rattle.gup_model.proofs.Processes.{At, protected, found}
-use Rattle.gup_model.proofs.SpaceLemmas.{absurd_truth, right_some, page_numbers-is}
+use Rattle.gup_model.proofs.SpaceLemmas.{absurd_truth, right_some}
 use Rattle.gup_model.specs.Space.{SpaceState, seen, CanProtect, HasNumbers}
 use Rattle.gup_model.specs.declared.space.Space.{Space}
 use Rattle.gup_model.proofs.parts.Parts.protect.Goals as goal
@@ -34,8 +32,9 @@ returns-clause-event c =
     let at : At c.args.self.now c.args.p c.get.result was = record { index = c.get.ensures.value; below = c.get.ensures.below; spaces = c.requires.all.spaces; is = c.index_mut-space.ensures.value } in
     let P : SpaceState → Type 0 = λ x. CanProtect x c.args.page c.args.n in
     let can = c.if-not-can_protect.ensures.can.0 refl in
-    let Q : SpaceState → Type 0 = λ x. (k : ℕ) → k < c.args.n → IsSome (x.page (c.args.page + k)) in
-    (subst P c.space.ensures can,
+    let Q : SpaceState → Type 0 = λ x. (k : ℕ) → k < c.args.n → IsSome (x.page (c.args.page + k)) in (
+      subst P c.space.ensures can,
       protected c.args.self.now c.args.p c.get.result c.args.page c.args.n c.args.rights was c.protect.new.pages at
-        (subst Q (c.space.ensures ∙ found c.args.self.now c.args.p c.get.result was at) (λ k small. right_some _ (can.1 k small)))
-        c.protect.ensures.pages c.protect.ensures.len)
+          (subst Q (c.space.ensures ∙ found c.args.self.now c.args.p c.get.result was at) (λ k small. right_some _ (can.1 k small)))
+          c.protect.ensures.pages c.protect.ensures.len,
+    )

@@ -1,4 +1,4 @@
-use Rattle.std.proofs.Common.{◌≡◌, ℕ, ◌+◌, ◌<◌, ◌≤◌, Option, refl, ap, arith}
+use Rattle.std.proofs.Common.{◌+◌, ◌≤◌, Option, refl, ap, arith}
 use Rattle.gup_plain.specs.Event.{page_numbers}
 use Rattle.gup_model.specs.declared.pages.Page.{Page}
 use Rattle.gup_model.specs.Pages.{right_in}
@@ -13,6 +13,7 @@ returns-then-get-from-gt-PAGE_NUMBERS c =
 pub returns : goal.returns
 returns c =
     let is = page_numbers-is in
-    let bound : c.args.page + c.args.n ≤ page_numbers = omega arith in
-    (λ h. (c.if-not-is_born.ensures.0 refl, bound, λ k small. ap (λ (o : Option Page). right_in o) (c.are_free.ensures.0 h k small), omega arith),
-      λ can. c.are_free.ensures.1 (λ k small. right_none _ (can.2 k small)))
+    let bound : c.args.page + c.args.n ≤ page_numbers = omega arith in (
+      λ h. (c.if-not-is_born.ensures.0 refl, bound, λ k small. ap (λ (o : Option Page). right_in o) (c.are_free.ensures.0 h k small), omega arith),
+      λ can. c.are_free.ensures.1 (λ k small. right_none _ (can.2 k small)),
+    )

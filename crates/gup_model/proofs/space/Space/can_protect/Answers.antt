@@ -1,4 +1,4 @@
-use Rattle.std.proofs.Common.{◌+◌, ◌<◌, arith}
+use Rattle.std.proofs.Common.{arith}
 use Rattle.gup_model.specs.Space.{seen}
 use Rattle.gup_model.proofs.SpaceLemmas.{absurd_truth, too-far-to-protect}
 use Rattle.gup_model.proofs.space.Space.can_protect.Goals as goal

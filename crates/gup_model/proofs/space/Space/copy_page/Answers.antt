@@ -1,8 +1,8 @@
-use Rattle.std.proofs.Common.{◌≡◌, ℕ, ◌<◌, ◌↔◌, Bool, true, false, List, IsTrue, Some, sym, subst, ap, ◌∙◌}
+use Rattle.std.proofs.Common.{◌≡◌, ℕ, Bool, true, false, List, sym, ap, ◌∙◌}
 use Rattle.gup_plain.specs.Put.{put, spread}
 use Rattle.gup_model.specs.Flags.{flag_of}
 use Rattle.gup_model.specs.Space.{copied_of}
-use Rattle.gup_model.proofs.TableLemmas.{at_found, key_updated, put_same}
+use Rattle.gup_model.proofs.TableLemmas.{at_found, key_updated}
 use Rattle.gup_model.proofs.space.Space.copy_page.Goals as goal
 
 pub returns-in-Some-clause-copied : goal.returns-in-Some-clause-copied

@@ -1,5 +1,4 @@
-use Rattle.std.proofs.Common.{◌≡◌, ℕ, ◌<◌, ◌↔◌, Bool, true, false, List, IsTrue, Some, sym, subst, ap, ◌∙◌}
-use Rattle.gup_plain.specs.Put.{put, spread}
+use Rattle.std.proofs.Common.{ℕ, Bool, false, sym, ◌∙◌}
 use Rattle.gup_model.specs.Flags.{flag_of}
 use Rattle.gup_model.specs.Space.{copied_of}
 use Rattle.gup_model.proofs.TableLemmas.{at_absent, key_updated, put_same}
