@@ -190,7 +190,8 @@ impl Space {
     {
         match self.birth {
             Birth::Unborn | Birth::Growing(_) => true,
-            Birth::Born | Birth::Failed => false,
+            Birth::Born => false,
+            Birth::Failed => false,
         }
     }
 
