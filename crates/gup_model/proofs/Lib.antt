@@ -1,4 +1,3 @@
-<<<<<<< HEAD
 pub mod Puts
 pub mod Tidy
 pub mod Mappings
@@ -9,7 +8,6 @@ pub mod Values
 pub mod Owners
 pub mod Lists
 pub mod Counting
-=======
 pub mod WordsLemmas
 pub mod ContentsLemmas
 pub mod FlagsLemmas
@@ -23,4 +21,3 @@ pub mod Processes
 pub mod Refusals
 pub mod Actors
 pub mod Made
->>>>>>> 61f65ad2ef551b537195c3dcdeab0ce5a7202c52
