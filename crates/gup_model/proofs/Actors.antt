@@ -5,11 +5,12 @@ use Rattle.gup_plain.specs.Put.{put}
 use Rattle.gup_plain.specs.State.{PlainState, Handle, unmade, held, Pending}
 use Rattle.gup_plain.specs.Event.{happened, pending_objects, write_flag}
 use Rattle.gup_plain.specs.declared.event.PlainEvent.TheVariants as events
-use Rattle.gup_model.specs.declared.parts.Actor.{Actor}
+use Rattle.gup_parts.specs.declared.actor.Actor.{Actor}
 use Rattle.gup_model.specs.declared.parts.Parts.{Parts}
-use Rattle.gup_model.specs.Parts.{state_of, spaces_of, other_state, with_spaces, pending_of, stores_of, handles_of, store_of}
-use Rattle.gup_model.specs.Tables.{at_place}
-use Rattle.gup_model.proofs.TableLemmas.{place_put, place_is, put_same}
+use Rattle.gup_model.specs.Parts.{state_of, spaces_of, other_state, with_spaces, pending_of, stores_of, handles_of}
+use Rattle.gup_parts.specs.Actor.{store_of}
+use Rattle.gup_parts.specs.Tables.{at_place}
+use Rattle.gup_parts.specs.TableLemmas.{place_put, place_is, put_same}
 
 -- the actor with this number is at this index, and is so
 pub record AtActor (v : Parts) (a i : ℕ) (was : Actor) : Type 0 where

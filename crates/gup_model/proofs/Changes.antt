@@ -7,12 +7,12 @@ use Rattle.gup_plain.specs.Put.{put, put2, within, spread}
 use Rattle.gup_plain.specs.State.{PlainState, Birth, growing, born, failed, named_or_zero}
 use Rattle.gup_plain.specs.Event.{happened, page_numbers}
 use Rattle.gup_plain.specs.declared.event.PlainEvent.TheVariants as events
-use Rattle.gup_model.specs.declared.pages.Page.{Page}
-use Rattle.gup_model.specs.Contents.{IsFresh}
-use Rattle.gup_model.specs.Pages.{right_in, object_in, with_object, with_rights, own_objects, pages_from}
+use Rattle.gup_parts.specs.declared.pages.Page.{Page}
+use Rattle.gup_parts.specs.Contents.{IsFresh}
+use Rattle.gup_parts.specs.Pages.{right_in, object_in, with_object, with_rights, own_objects, pages_from}
 use Rattle.gup_model.specs.Parts.{with_spaces}
-use Rattle.gup_model.specs.Space.{SpaceState, blank}
-use Rattle.gup_model.proofs.TableLemmas.{put_same}
+use Rattle.gup_parts.specs.Space.{SpaceState, blank}
+use Rattle.gup_parts.specs.TableLemmas.{put_same}
 
 -- ---- a function behind a change
 

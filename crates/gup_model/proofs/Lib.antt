@@ -8,15 +8,7 @@ pub mod Values
 pub mod Owners
 pub mod Lists
 pub mod Counting
-pub mod WordsLemmas
-pub mod ContentsLemmas
-pub mod FlagsLemmas
-pub mod TableLemmas
-pub mod ResultLemmas
-pub mod OwnObjects
-pub mod TakenLemmas
 pub mod Changes
-pub mod SpaceLemmas
 pub mod Processes
 pub mod Refusals
 pub mod Actors

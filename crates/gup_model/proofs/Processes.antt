@@ -8,19 +8,19 @@ use Rattle.gup_plain.specs.Put.{put, put2, spread}
 use Rattle.gup_plain.specs.State.{PlainState, Birth, growing, born, failed}
 use Rattle.gup_plain.specs.Event.{happened, page_numbers}
 use Rattle.gup_plain.specs.declared.event.PlainEvent.TheVariants as events
-use Rattle.gup_model.specs.declared.contents.Contents.{Contents}
-use Rattle.gup_model.specs.declared.pages.Page.{Page}
+use Rattle.gup_parts.specs.declared.contents.Contents.{Contents}
+use Rattle.gup_parts.specs.declared.pages.Page.{Page}
 use Rattle.gup_model.specs.declared.parts.Parts.{Parts}
-use Rattle.gup_model.specs.declared.space.Birth.{Birth as Stage}
-use Rattle.gup_model.specs.declared.space.Space.{Space}
-use Rattle.gup_model.specs.Contents.{content_of}
-use Rattle.gup_model.specs.Pages.{with_object, with_rights, own_objects, pages_from}
+use Rattle.gup_parts.specs.declared.space.Birth.{Birth as Stage}
+use Rattle.gup_parts.specs.declared.space.Space.{Space}
+use Rattle.gup_parts.specs.Contents.{content_of}
+use Rattle.gup_parts.specs.Pages.{with_object, with_rights, own_objects, pages_from}
 use Rattle.gup_model.specs.Parts.{state_of, spaces_of, other_state, with_spaces, IsMade}
-use Rattle.gup_model.specs.Space.{SpaceState, seen, blank, birth_of, copied_of}
-use Rattle.gup_model.specs.Tables.{at_place}
-use Rattle.gup_model.proofs.TableLemmas.{place_put, place_is, put_same}
+use Rattle.gup_parts.specs.Space.{SpaceState, seen, blank, birth_of, copied_of}
+use Rattle.gup_parts.specs.Tables.{at_place}
+use Rattle.gup_parts.specs.TableLemmas.{place_put, place_is, put_same}
 use Rattle.gup_model.proofs.Changes.{after_birth, after_unmap, after_discard, after_map, after_protect, after_grow, after_page, after_word, after_end, after_fail}
-use Rattle.gup_model.proofs.SpaceLemmas.{page_numbers-is}
+use Rattle.gup_parts.specs.SpaceLemmas.{page_numbers-is}
 
 -- the process with this number is at this index, and is so
 pub record At (v : Parts) (p i : ℕ) (was : Space) : Type 0 where

@@ -1,25 +1,18 @@
 -- The plain model's state as the program keeps it, in parts.
 use Rattle.std.specs.Prelude.{◌≡◌, ℕ, ◌<◌, ◌≤◌, false, List, [], Option, None, IsSome, All, vec_len, Result, MatchResult}
-use Rattle.std.specs.BTreeMap.{BTreeMap}
 use Rattle.gup_plain.specs.State.{PlainState, Handle, unmade, Pending, Noted, start, objects_of}
 use Rattle.gup_plain.specs.Event.{CanHappen, happened, page_numbers}
 use Rattle.gup_plain.specs.declared.event.PlainEvent.{PlainEvent}
 use Rattle.gup_plain.specs.declared.event.PlainEvent.TheVariants as events
 use Rattle.gup_model.specs.declared.refusal.PlainRefusal.{PlainRefusal}
 use Rattle.gup_model.specs.declared.refusal.PlainRefusal.TheVariants.{Broken, NoMemory}
-use Rattle.gup_model.specs.declared.parts.Actor.{Actor}
+use Rattle.gup_parts.specs.declared.actor.Actor.{Actor}
 use Rattle.gup_model.specs.declared.parts.Parts.{Parts}
-use Rattle.gup_model.specs.Contents.{content_of}
-use Rattle.gup_model.specs.Pages.{right_in, object_in}
-use Rattle.gup_model.specs.Space.{SpaceState, seen, blank}
-use Rattle.gup_model.specs.Tables.{at_key, at_place}
-
--- a slot that was never written has 0
-abbrev pub slots_in : BTreeMap ℕ ℕ → ℕ → ℕ
-slots_in store = at_key (λ (w : ℕ). w) 0 store
-
-abbrev pub store_of : Actor → ℕ → ℕ
-store_of a = slots_in a.store
+use Rattle.gup_parts.specs.Actor.{store_of}
+use Rattle.gup_parts.specs.Contents.{content_of}
+use Rattle.gup_parts.specs.Pages.{right_in, object_in}
+use Rattle.gup_parts.specs.Space.{SpaceState, seen, blank}
+use Rattle.gup_parts.specs.Tables.{at_place}
 
 -- the processes
 abbrev pub spaces_of : Parts → ℕ → SpaceState

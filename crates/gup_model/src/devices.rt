@@ -1,14 +1,13 @@
 //! The events of devices and of mirrors.
-ghost use Rattle.std.specs.Prelude.{◌≡◌, ◌<◌, ◌%◌, vec_len, OnOk, OnErr};
-ghost use Rattle.gup_plain.specs.Put.{put};
+ghost use Rattle.std.specs.Prelude.{◌≡◌, ◌<◌, ◌%◌, vec_len};
 ghost use Rattle.gup_plain.specs.declared.event.PlainEvent.TheVariants as events;
-ghost use Rattle.gup_model.specs.Parts.{state_of, slots_in, HasAll, IsAsMany, Applies};
+ghost use Rattle.gup_model.specs.Parts.{state_of, HasAll, IsAsMany, Applies};
 
-use crate::mirror::Mirror;
 use crate::parts::Parts;
 use crate::refusal::PlainRefusal;
-use gup_base::{ActorNo, HandleNo, MirrorNo, NoMemory, PageNo, ProcNo, WordNo};
-use std::collections::BTreeMap;
+use gup_base::{ActorNo, HandleNo, MirrorNo, PageNo, ProcNo, WordNo};
+use gup_parts::actor;
+use gup_parts::mirror::Mirror;
 
 // How many slots a device's store has.
 const SLOTS: u32 = 4096;
@@ -18,15 +17,6 @@ fn word_in_page(index: u32) -> WordNo
     ensures { result ≡ index % 512 }
 {
     WordNo::new(u64::from(index % 512)).unwrap()
-}
-
-// Writes a slot of a store.
-fn set_slot(store: &mut BTreeMap<u32, u64>, slot: u32, value: u64) -> Result<(), NoMemory>
-    ensures ok { OnOk result (slots_in store.new ≡ put slot value (slots_in store.old)) }
-    ensures err { OnErr result (slots_in store.new ≡ slots_in store.old) }
-{
-    store.insert(slot, value)?;
-    Ok(())
 }
 
 impl Parts {
@@ -51,7 +41,7 @@ impl Parts {
             return Err(PlainRefusal::Broken);
         }
         let by = &mut self.actors[actor.get() as usize];
-        set_slot(&mut by.store, slot, value)?;
+        actor::set_slot(&mut by.store, slot, value)?;
         Ok(())
     }
 

@@ -6,11 +6,12 @@ ghost use Rattle.gup_plain.specs.State.{unborn, born};
 ghost use Rattle.gup_plain.specs.declared.event.PlainEvent.TheVariants as events;
 ghost use Rattle.gup_model.specs.Parts.{state_of, HasAll, IsMade, IsAsMany, Applies};
 
-use crate::pages;
-use crate::parts::{Parts, made_after};
+use crate::parts::Parts;
 use crate::refusal::PlainRefusal;
-use crate::space::{Birth, PAGE_NUMBERS};
 use gup_base::{PageNo, ProcNo, WordNo};
+use gup_parts::contents::made_after;
+use gup_parts::pages;
+use gup_parts::space::{Birth, PAGE_NUMBERS};
 
 impl Parts {
     /// The process, which is unborn, is born.

@@ -1,36 +1,19 @@
 //! The plain model's state, in parts, and the events of pages.
-ghost use Rattle.std.specs.Prelude.{◌≡◌, ℕ, ◌+◌, ◌<◌, ◌↔◌, vec_len, false, [], Option, None, Some, IsTrue, MatchOption, IfOk};
-ghost use Rattle.gup_plain.specs.State.{IsNamed, born, start, Handle, unmade, Noted};
+ghost use Rattle.std.specs.Prelude.{◌≡◌, ◌↔◌, vec_len, false, Some, IsTrue, MatchOption, IfOk};
+ghost use Rattle.gup_plain.specs.State.{IsNamed, born, start};
 ghost use Rattle.gup_plain.specs.declared.event.PlainEvent.TheVariants as events;
-ghost use Rattle.gup_model.specs.Parts.{state_of, spaces_of, store_of, HasAll, IsMade, IsAsMany, Applies};
-ghost use Rattle.gup_model.specs.Space.{seen, blank};
-ghost use Rattle.gup_model.specs.Tables.{at_place};
-ghost use Rattle.gup_model.specs.declared.parts.Actor.{Actor};
+ghost use Rattle.gup_model.specs.Parts.{state_of, spaces_of, HasAll, IsMade, IsAsMany, Applies};
+ghost use Rattle.gup_parts.specs.Space.{seen};
 
-use crate::contents::Contents;
-use crate::mirror::Mirror;
-use crate::pages::{self, Page};
-use crate::pin::Pin;
 use crate::refusal::PlainRefusal;
-use crate::space::Space;
-use crate::taken::Taken;
 use gup_base::{NoMemory, PageNo, ProcNo, Rights, WordNo};
+use gup_parts::actor::{self, Actor};
+use gup_parts::contents::{Contents, made_after};
+use gup_parts::mirror::{self, Mirror};
+use gup_parts::pages::{self, Page};
+use gup_parts::pin::{self, Pin};
+use gup_parts::space::{self, Space};
 use std::alloc::Global;
-use std::collections::BTreeMap;
-
-// How many processes, handles and mirror slots a number can name.
-const PROCESSES: u8 = 16;
-
-const HANDLES: u16 = 1024;
-
-const MIRRORS: u8 = 64;
-
-/// An actor: the pages that its running pin has taken, and a device's words.
-#[derive(Drop)]
-pub struct Actor {
-    pub taken: Vec<Taken>,
-    pub store: BTreeMap<u32, u64>,
-}
 
 /// All that the plain state has.
 #[derive(Drop)]
@@ -55,10 +38,10 @@ impl Parts {
         Ok(Parts {
             processes,
             contents: Contents::new(alloc),
-            spaces: spaces(alloc)?,
-            pins: pins(alloc)?,
-            actors: idle(alloc, actors)?,
-            mirrors: mirrors(alloc)?,
+            spaces: space::spaces(alloc)?,
+            pins: pin::pins(alloc)?,
+            actors: actor::idle(alloc, actors)?,
+            mirrors: mirror::mirrors(alloc)?,
             alloc,
         })
     }
@@ -209,59 +192,4 @@ impl Parts {
         pages::protect(&mut space.pages, page, n, rights);
         Ok(())
     }
-}
-
-fn spaces(alloc: Global) -> Result<Vec<Space>, NoMemory>
-    ensures len { IfOk result (λ spaces. vec_len spaces ≡ 16) }
-    ensures blank { IfOk result (λ spaces. at_place seen blank spaces.items ≡ (λ _. blank)) }
-{
-    let mut spaces = Vec::new(alloc);
-    for _p in 0..PROCESSES {
-        spaces.push(Space::new(alloc))?;
-    }
-    Ok(spaces)
-}
-
-fn pins(alloc: Global) -> Result<Vec<Pin>, NoMemory>
-    ensures len { IfOk result (λ pins. vec_len pins ≡ 1024) }
-    ensures unmade { IfOk result (λ pins. at_place (λ (h : Handle). h) unmade pins.items ≡ (λ _. unmade)) }
-{
-    let mut pins = Vec::new(alloc);
-    for _h in 0..HANDLES {
-        pins.push(Pin::unmade(alloc))?;
-    }
-    Ok(pins)
-}
-
-fn idle(alloc: Global, n: u8) -> Result<Vec<Actor>, NoMemory>
-    ensures len { IfOk result (λ actors. vec_len actors ≡ n) }
-    ensures taken { IfOk result (λ actors. at_place (λ (a : Actor). a.taken.items) [] actors.items ≡ (λ _. [])) }
-    ensures store { IfOk result (λ actors. at_place store_of (λ _. 0) actors.items ≡ (λ _ _. 0)) }
-{
-    let mut actors = Vec::new(alloc);
-    for _a in 0..n {
-        actors.push(Actor {
-            taken: Vec::new(alloc),
-            store: BTreeMap::new(alloc),
-        })?;
-    }
-    Ok(actors)
-}
-
-fn mirrors(alloc: Global) -> Result<Vec<Option<Mirror>>, NoMemory>
-    ensures len { IfOk result (λ mirrors. vec_len mirrors ≡ 64) }
-    ensures empty { IfOk result (λ mirrors. at_place (λ (n : Option Noted). n) None mirrors.items ≡ (λ _. None)) }
-{
-    let mut mirrors = Vec::new(alloc);
-    for _m in 0..MIRRORS {
-        mirrors.push(None)?;
-    }
-    Ok(mirrors)
-}
-
-/// How many objects there are when `n` more are made.
-pub fn made_after(made: u64, n: u64) -> Result<u64, NoMemory>
-    ensures { IfOk result (λ after. after ≡ made + n) }
-{
-    made.checked_add(n).ok_or(NoMemory)
 }

@@ -7,8 +7,8 @@ ghost use Rattle.gup_model.specs.Parts.{state_of, HasAll, IsAsMany, Applies};
 
 use crate::parts::Parts;
 use crate::refusal::PlainRefusal;
-use crate::taken;
 use gup_base::{ActorNo, HandleNo, PageNo, ProcNo, Rights};
+use gup_parts::taken;
 
 impl Parts {
     // The object of a page that may be pinned so.

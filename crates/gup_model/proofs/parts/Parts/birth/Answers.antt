@@ -1,7 +1,7 @@
 use Rattle.std.proofs.Common.{refl}
 use Rattle.gup_model.proofs.Processes.{At, birthed}
-use Rattle.gup_model.specs.declared.space.Birth.TheVariants as births
-use Rattle.gup_model.specs.declared.space.Space.{Space}
+use Rattle.gup_parts.specs.declared.space.Birth.TheVariants as births
+use Rattle.gup_parts.specs.declared.space.Space.{Space}
 use Rattle.gup_model.proofs.parts.Parts.birth.Goals as goal
 
 pub returns-clause-state : goal.returns-clause-state

@@ -1,8 +1,8 @@
 use Rattle.std.proofs.Common.{IsSome, refl, subst}
 use Rattle.gup_model.proofs.Processes.{At, discarded, found}
-use Rattle.gup_model.proofs.SpaceLemmas.{right_some}
-use Rattle.gup_model.specs.Space.{SpaceState}
-use Rattle.gup_model.specs.declared.space.Space.{Space}
+use Rattle.gup_parts.specs.SpaceLemmas.{right_some}
+use Rattle.gup_parts.specs.Space.{SpaceState}
+use Rattle.gup_parts.specs.declared.space.Space.{Space}
 use Rattle.gup_model.proofs.parts.Parts.discard.Goals as goal
 
 pub returns-clause-event : goal.returns-clause-event

@@ -1,8 +1,8 @@
 use Rattle.std.proofs.Common.{◌≡◌, refl, subst}
 use Rattle.gup_plain.specs.State.{born, unborn}
 use Rattle.gup_model.proofs.Processes.{At, begun}
-use Rattle.gup_model.specs.Space.{SpaceState}
-use Rattle.gup_model.specs.declared.space.Space.{Space}
+use Rattle.gup_parts.specs.Space.{SpaceState}
+use Rattle.gup_parts.specs.declared.space.Space.{Space}
 use Rattle.gup_model.proofs.parts.Parts.fork_begin.Goals as goal
 
 pub returns-clause-event : goal.returns-clause-event

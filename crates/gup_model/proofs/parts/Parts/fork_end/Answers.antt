@@ -1,10 +1,10 @@
 use Rattle.std.proofs.Common.{◌≡◌, ℕ, ◌<◌, true, IsSome, refl, subst, sym}
 use Rattle.gup_plain.specs.State.{growing}
 use Rattle.gup_model.proofs.Processes.{At, ended}
-use Rattle.gup_model.proofs.SpaceLemmas.{absurd_truth, all_keys, right_some, some_right}
-use Rattle.gup_model.specs.Pages.{right_in}
-use Rattle.gup_model.specs.Space.{SpaceState, copied_of}
-use Rattle.gup_model.specs.declared.space.Space.{Space}
+use Rattle.gup_parts.specs.SpaceLemmas.{absurd_truth, all_keys, right_some, some_right}
+use Rattle.gup_parts.specs.Pages.{right_in}
+use Rattle.gup_parts.specs.Space.{SpaceState, copied_of}
+use Rattle.gup_parts.specs.declared.space.Space.{Space}
 use Rattle.gup_model.proofs.parts.Parts.fork_end.Goals as goal
 
 abbrev AreCopied : SpaceState → Type 0

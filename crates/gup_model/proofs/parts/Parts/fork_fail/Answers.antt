@@ -1,8 +1,8 @@
 use Rattle.std.proofs.Common.{refl, subst}
 use Rattle.gup_plain.specs.Event.{IsUnbornOrGrowing}
 use Rattle.gup_model.proofs.Processes.{At, ended_badly}
-use Rattle.gup_model.specs.Space.{SpaceState}
-use Rattle.gup_model.specs.declared.space.Space.{Space}
+use Rattle.gup_parts.specs.Space.{SpaceState}
+use Rattle.gup_parts.specs.declared.space.Space.{Space}
 use Rattle.gup_model.proofs.parts.Parts.fork_fail.Goals as goal
 
 pub returns-clause-event : goal.returns-clause-event

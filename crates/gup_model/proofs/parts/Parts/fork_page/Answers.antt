@@ -3,10 +3,10 @@ use Rattle.gup_plain.specs.Put.{put, spread}
 use Rattle.gup_plain.specs.declared.event.PlainEvent.TheVariants as events
 use Rattle.gup_model.proofs.Processes.{At, page_copied, untouched}
 use Rattle.gup_model.proofs.Refusals.{refused}
-use Rattle.gup_model.proofs.SpaceLemmas.{absurd_truth}
+use Rattle.gup_parts.specs.SpaceLemmas.{absurd_truth}
 use Rattle.gup_model.specs.Parts.{state_of}
-use Rattle.gup_model.specs.Space.{SpaceState}
-use Rattle.gup_model.specs.declared.space.Space.{Space}
+use Rattle.gup_parts.specs.Space.{SpaceState}
+use Rattle.gup_parts.specs.declared.space.Space.{Space}
 use Rattle.gup_model.proofs.parts.Parts.fork_page.Goals as goal
 
 pub returns-then-not-has_copied_none-clause-event : goal.returns-then-not-has_copied_none-clause-event

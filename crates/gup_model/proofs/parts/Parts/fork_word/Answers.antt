@@ -4,8 +4,8 @@ use Rattle.gup_plain.specs.declared.event.PlainEvent.TheVariants as events
 use Rattle.gup_model.proofs.Processes.{At, word_copied, untouched}
 use Rattle.gup_model.proofs.Refusals.{refused}
 use Rattle.gup_model.specs.Parts.{state_of}
-use Rattle.gup_model.specs.Space.{SpaceState}
-use Rattle.gup_model.specs.declared.space.Space.{Space}
+use Rattle.gup_parts.specs.Space.{SpaceState}
+use Rattle.gup_parts.specs.declared.space.Space.{Space}
 use Rattle.gup_model.proofs.parts.Parts.fork_word.Goals as goal
 
 pub returns-in_err-touch-clause-event : goal.returns-in_err-touch-clause-event

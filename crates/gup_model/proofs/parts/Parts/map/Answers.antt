@@ -3,10 +3,10 @@ use Rattle.gup_plain.specs.Event.{page_numbers}
 use Rattle.gup_plain.specs.declared.event.PlainEvent.TheVariants as events
 use Rattle.gup_model.proofs.Processes.{At, mapped, same_pages, found}
 use Rattle.gup_model.proofs.Refusals.{refused}
-use Rattle.gup_model.proofs.SpaceLemmas.{absurd_truth, right_none, page_numbers-is}
+use Rattle.gup_parts.specs.SpaceLemmas.{absurd_truth, right_none, page_numbers-is}
 use Rattle.gup_model.specs.Parts.{state_of}
-use Rattle.gup_model.specs.Space.{SpaceState, seen, CanMap}
-use Rattle.gup_model.specs.declared.space.Space.{Space}
+use Rattle.gup_parts.specs.Space.{SpaceState, seen, CanMap}
+use Rattle.gup_parts.specs.declared.space.Space.{Space}
 use Rattle.gup_model.proofs.parts.Parts.map.Goals as goal
 
 pub returns-then-not-can_map-clause-event : goal.returns-then-not-can_map-clause-event

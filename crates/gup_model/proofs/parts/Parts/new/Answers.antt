@@ -1,10 +1,11 @@
 use Rattle.std.proofs.Common.{◌≡◌, ℕ, false, List, [], Option, None, ◌∙◌, ap}
 use Rattle.gup_plain.specs.State.{PlainState, Handle, unmade, Pending, Noted, start}
-use Rattle.gup_model.specs.Parts.{with_spaces, store_of}
-use Rattle.gup_model.specs.Space.{SpaceState, seen, blank}
-use Rattle.gup_model.specs.Contents.{content_of}
-use Rattle.gup_model.specs.Tables.{at_place}
-use Rattle.gup_model.specs.declared.parts.Actor.{Actor}
+use Rattle.gup_model.specs.Parts.{with_spaces}
+use Rattle.gup_parts.specs.Actor.{store_of}
+use Rattle.gup_parts.specs.Space.{SpaceState, seen, blank}
+use Rattle.gup_parts.specs.Contents.{content_of}
+use Rattle.gup_parts.specs.Tables.{at_place}
+use Rattle.gup_parts.specs.declared.actor.Actor.{Actor}
 use Rattle.gup_model.proofs.parts.Parts.new.Goals as goal
 
 abbrev assembled : (ℕ → ℕ → ℕ) → ℕ → (ℕ → Handle) → (ℕ → List Pending) → (ℕ → ℕ → ℕ) → (ℕ → Option Noted) → (ℕ → SpaceState) → PlainState

@@ -3,9 +3,9 @@ use Rattle.gup_plain.specs.Event.{pending_pages}
 use Rattle.gup_plain.specs.Put.{put}
 use Rattle.gup_plain.specs.State.{Pending}
 use Rattle.gup_model.proofs.Actors.{AtActor, pending-at, taken_changed, same_taken}
-use Rattle.gup_model.proofs.TakenLemmas.{lacks, taken-has}
+use Rattle.gup_parts.specs.TakenLemmas.{lacks, taken-has}
 use Rattle.gup_model.specs.Parts.{state_of, pending_of}
-use Rattle.gup_model.specs.declared.parts.Actor.{Actor}
+use Rattle.gup_parts.specs.declared.actor.Actor.{Actor}
 use Rattle.gup_model.proofs.parts.Parts.pin_drop.Goals as goal
 
 pub returns-then-not-has_page-clause-event : goal.returns-then-not-has_page-clause-event

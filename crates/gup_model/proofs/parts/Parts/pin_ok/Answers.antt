@@ -3,7 +3,7 @@ use Rattle.gup_plain.specs.Event.{pending_objects, AreTaken, write_flag}
 use Rattle.gup_plain.specs.State.{Pending, Handle, unmade}
 use Rattle.gup_model.proofs.Actors.{AtActor, pending-at, pin_made, pin-at}
 use Rattle.gup_model.specs.Parts.{pending_of}
-use Rattle.gup_model.specs.declared.parts.Actor.{Actor}
+use Rattle.gup_parts.specs.declared.actor.Actor.{Actor}
 use Rattle.gup_model.specs.declared.parts.Parts.{Parts}
 use Rattle.gup_model.proofs.parts.Parts.pin_ok.Goals as goal
 

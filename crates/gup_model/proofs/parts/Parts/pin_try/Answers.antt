@@ -5,9 +5,9 @@ use Rattle.gup_plain.specs.State.{Pending}
 use Rattle.gup_plain.specs.declared.event.PlainEvent.TheVariants as events
 use Rattle.gup_model.proofs.Actors.{AtActor, pending-at, taken_changed, same_taken}
 use Rattle.gup_model.proofs.Refusals.{refused}
-use Rattle.gup_model.proofs.TakenLemmas.{lacks, taken-has}
+use Rattle.gup_parts.specs.TakenLemmas.{lacks, taken-has}
 use Rattle.gup_model.specs.Parts.{state_of, pending_of}
-use Rattle.gup_model.specs.declared.parts.Actor.{Actor}
+use Rattle.gup_parts.specs.declared.actor.Actor.{Actor}
 use Rattle.gup_model.proofs.parts.Parts.pin_try.Goals as goal
 
 pub returns-then-has_page-clause-event : goal.returns-then-has_page-clause-event

@@ -1,8 +1,8 @@
 use Rattle.std.proofs.Common.{ℕ, ◌+◌, ◌<◌, IsSome, refl, subst, sym, ◌∙◌}
 use Rattle.gup_model.proofs.Processes.{At, protected, found}
-use Rattle.gup_model.proofs.SpaceLemmas.{absurd_truth, right_some}
-use Rattle.gup_model.specs.Space.{SpaceState, seen, CanProtect, HasNumbers}
-use Rattle.gup_model.specs.declared.space.Space.{Space}
+use Rattle.gup_parts.specs.SpaceLemmas.{absurd_truth, right_some}
+use Rattle.gup_parts.specs.Space.{SpaceState, seen, CanProtect, HasNumbers}
+use Rattle.gup_parts.specs.declared.space.Space.{Space}
 use Rattle.gup_model.proofs.parts.Parts.protect.Goals as goal
 
 pub can_protect-requires : goal.can_protect-requires
