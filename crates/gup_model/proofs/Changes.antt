@@ -1,5 +1,5 @@
 -- What a change of one process, and of the contents, is to the plain state.
-use Rattle.std.proofs.Common.{◌≡◌, ℕ, ◌+◌, ◌-◌, ◌<◌, ◌==◌, Bool, true, false, if◌then◌else◌, Option, Some, None, IsSome, refl, sym, ◌∙◌, ap, arith}
+use Rattle.std.proofs.Common.{◌≡◌, ℕ, ◌+◌, ◌-◌, ◌<◌, ◌≤◌, ◌==◌, Bool, true, false, if◌then◌else◌, Option, Some, None, IsSome, refl, sym, ◌∙◌, ap, arith}
 use Rattle.std.proofs.Math.Path.{fun_ext}
 use Rattle.std.proofs.lemmas.Bool.Decides.{nat_tests}
 use Rattle.gup_base.specs.declared.entry.Rights.{Rights}
@@ -8,7 +8,6 @@ use Rattle.gup_plain.specs.State.{PlainState, Birth, growing, born, failed, name
 use Rattle.gup_plain.specs.Event.{happened, page_numbers}
 use Rattle.gup_plain.specs.declared.event.PlainEvent.TheVariants as events
 use Rattle.gup_parts.specs.declared.pages.Page.{Page}
-use Rattle.gup_parts.specs.Contents.{IsFresh}
 use Rattle.gup_parts.specs.Pages.{right_in, object_in, with_object, with_rights, own_objects, pages_from}
 use Rattle.gup_model.specs.Parts.{with_spaces}
 use Rattle.gup_parts.specs.Space.{SpaceState, blank}
@@ -38,6 +37,10 @@ pub through_spread : {X Y : Type 0} (g : X → Y) (first n : ℕ) (h f : ℕ →
 through_spread g first n h f = fun_ext (λ q. chosen g (within first n q) (h q) (f q) (g (h q)) (g (f q)) (λ _. refl) (λ _. refl))
 
 -- ---- fresh objects
+
+-- an object that isn't made yet has zeros
+abbrev pub IsFresh : (made : ℕ) → (ℕ → ℕ → ℕ) → Type 0
+IsFresh made content = (object word : ℕ) → made ≤ object → content object word ≡ 0
 
 pub fresh_one : (made : ℕ) (content : ℕ → ℕ → ℕ) → IsFresh made content → content ≡ put made (λ _. 0) content
 fresh_one made content fresh = sym (put_same made content (λ _. 0) (fun_ext (λ w. sym (fresh made w (omega arith)))))

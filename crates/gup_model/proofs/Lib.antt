@@ -1,9 +1,9 @@
 pub mod Puts
 pub mod Tidy
 pub mod Mappings
-pub mod Forks
+pub mod TidyForks
 pub mod Pins
-pub mod Events
+pub mod TidyEvents
 pub mod Values
 pub mod Owners
 pub mod Lists

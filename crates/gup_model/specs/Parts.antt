@@ -115,10 +115,34 @@ pub record IsAsMany (old new : Parts) : Type 0 where
   pub pins : vec_len new.pins ≡ vec_len old.pins
   pub mirrors : vec_len new.mirrors ≡ vec_len old.mirrors
 
--- where the event is refused as broken, it cannot happen
+-- letting the event happen may take memory of the program's own, or numbers of objects
+abbrev pub WantsMemory : PlainEvent → Type 0
+WantsMemory (events.Map actor p page k rights) = Unit {0}
+WantsMemory (events.Unmap actor p page) = ⊥
+WantsMemory (events.Discard actor p page) = Unit {0}
+WantsMemory (events.Protect actor p page k rights) = ⊥
+WantsMemory (events.Load actor p page word value) = ⊥
+WantsMemory (events.Store actor p page word value) = Unit {0}
+WantsMemory (events.PinTry actor p page write) = Unit {0}
+WantsMemory (events.PinDrop actor page) = ⊥
+WantsMemory (events.PinOk actor h) = Unit {0}
+WantsMemory (events.Unpin actor h) = ⊥
+WantsMemory (events.Give actor h to) = ⊥
+WantsMemory (events.Take actor h) = ⊥
+WantsMemory (events.MoveOut actor h index slot value) = Unit {0}
+WantsMemory (events.MoveIn actor h index slot value) = Unit {0}
+WantsMemory (events.MirrorFill actor m p page) = ⊥
+WantsMemory (events.Look actor m word value) = ⊥
+WantsMemory (events.ForkBegin parent child) = Unit {0}
+WantsMemory (events.ForkPage parent child page) = Unit {0}
+WantsMemory (events.ForkWord parent child page word) = Unit {0}
+WantsMemory (events.ForkEnd parent child) = ⊥
+WantsMemory (events.ForkFail child) = ⊥
+
+-- where the event is refused as broken, it cannot happen, and where for want of memory, it wants some
 abbrev pub IsRight : PlainRefusal → PlainState → PlainEvent → Type 0
 IsRight Broken s e = CanHappen s e → ⊥
-IsRight NoMemory s e = Unit {0}
+IsRight NoMemory s e = WantsMemory e
 
 -- The event has happened, or it is refused and nothing has changed.
 abbrev pub Applies : PlainState → PlainState → PlainEvent → Result (Unit {0}) PlainRefusal → Type 0

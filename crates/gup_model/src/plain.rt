@@ -3,7 +3,7 @@ ghost use Rattle.std.specs.Prelude.{◌≡◌, ℕ, ◌<◌, ◌≤◌, ◌↔�
 ghost use Rattle.gup_plain.specs.Event.{CanHappen, happened};
 ghost use Rattle.gup_plain.specs.Put.{put};
 ghost use Rattle.gup_plain.specs.State.{start, unborn, born};
-ghost use Rattle.gup_model.specs.Parts.{state_of, processes_of, actors_of, HasActor};
+ghost use Rattle.gup_model.specs.Parts.{state_of, processes_of, actors_of, HasActor, WantsMemory};
 
 use crate::parts::Parts;
 use crate::refusal::PlainRefusal;
@@ -78,13 +78,15 @@ impl Plain {
     /// Lets the event happen. Its actor, where it has one, is one of the actors.
     ///
     /// `Broken` comes only where the event can't happen, and where it can't, no event is let happen: memory may be
-    /// wanted before that is known. `NoMemory` comes where the program's own memory ran out, and where the objects
-    /// made, a fork taking 2^35 numbers, would be more than a `u64` counts. Either leaves all as it was.
+    /// wanted before that is known. `NoMemory` comes only for an event that wants memory, where the program's own ran
+    /// out, and where the objects made, a fork taking 2^35 numbers, would be more than a `u64` counts. Either leaves all
+    /// as it was.
     pub fn apply(&mut self, e: &PlainEvent) -> Result<(), PlainRefusal>
         requires { HasActor (actors_of self.old) e.now }
         ensures can { OnOk result (CanHappen (state_of self.old) e.now) }
         ensures changed { OnOk result (state_of self.new ≡ happened (state_of self.old) e.now) }
         ensures broken { IsErrOf result PlainRefusal.Broken → CanHappen (state_of self.old) e.now → ⊥ }
+        ensures memory { IsErrOf result PlainRefusal.NoMemory → WantsMemory e.now }
         ensures unchanged { OnErr result (state_of self.new ≡ state_of self.old) }
         ensures processes { processes_of self.new ≡ processes_of self.old }
         ensures actors { actors_of self.new ≡ actors_of self.old }

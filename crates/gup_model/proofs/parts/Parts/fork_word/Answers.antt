@@ -12,14 +12,14 @@ pub returns-in_err-touch-clause-event : goal.returns-in_err-touch-clause-event
 returns-in_err-touch-clause-event c =
     let was : Space = c.index_mut-space.result.now in
     let at : At c.args.self.now c.args.child c.get.result was = record { index = c.get.ensures.value; below = c.get.ensures.below; spaces = c.requires.all.spaces; is = c.index_mut-space.ensures.value } in
-    refused (state_of c.args.self.now) _ (events.ForkWord c.args.parent c.args.child c.args.page c.args.word) c.from_residual.result c.from_residual.ensures.1
+    refused (state_of c.args.self.now) _ (events.ForkWord c.args.parent c.args.child c.args.page c.args.word) c.from_residual.result tt c.from_residual.ensures.1
     (untouched c.args.self.now c.args.child c.get.result was c.touch.new.self c.args.self.now.contents at refl refl c.touch.ensures.birth c.touch.ensures.pages c.touch.ensures.copied)
 
 pub returns-in_err-write-clause-event : goal.returns-in_err-write-clause-event
 returns-in_err-write-clause-event c =
     let was : Space = c.index_mut-space.result.now in
     let at : At c.args.self.now c.args.child c.get.result was = record { index = c.get.ensures.value; below = c.get.ensures.below; spaces = c.requires.all.spaces; is = c.index_mut-space.ensures.value } in
-    refused (state_of c.args.self.now) _ (events.ForkWord c.args.parent c.args.child c.args.page c.args.word) c.from_residual-in_err-write.result c.from_residual-in_err-write.ensures.1
+    refused (state_of c.args.self.now) _ (events.ForkWord c.args.parent c.args.child c.args.page c.args.word) c.from_residual-in_err-write.result tt c.from_residual-in_err-write.ensures.1
     (untouched c.args.self.now c.args.child c.get.result was c.touch.new.self c.write.new.self at c.in_err-write.ensures.made c.in_err-write.ensures.err c.touch.ensures.birth c.touch.ensures.pages c.touch.ensures.copied)
 
 pub returns-clause-event : goal.returns-clause-event

@@ -32,7 +32,7 @@ returns-in_err-map-clause-event c =
     let was : Space = c.index_mut-space.result.now in
     let at : At c.args.self.now c.args.p c.get.result was = record { index = c.get.ensures.value; below = c.get.ensures.below; spaces = c.requires.all.spaces; is = c.index_mut-space.ensures.value } in
     let kept = c.in_err-map.ensures.err in
-    refused (state_of c.args.self.now) _ (events.Map 0 c.args.p c.args.page c.args.n c.args.rights) c.from_residual-in_err-map.result c.from_residual-in_err-map.ensures.1
+    refused (state_of c.args.self.now) _ (events.Map 0 c.args.p c.args.page c.args.n c.args.rights) c.from_residual-in_err-map.result tt c.from_residual-in_err-map.ensures.1
     (same_pages c.args.self.now c.args.p c.get.result was c.map.new.pages at kept.0 kept.1)
 
 pub returns-clause-event : goal.returns-clause-event

@@ -24,7 +24,7 @@ returns-in_err-push-clause-event c =
     let was : Actor = c.index_mut-by.result.now in
     let at : AtActor c.args.self.now c.args.actor c.get.result was = record { index = c.get.ensures.value; below = c.requires.actor; is = c.index_mut-by.ensures.value } in
     let pending = pending-at c.args.self.now c.args.actor c.get.result was at in
-    refused (state_of c.args.self.now) _ (events.PinTry c.args.actor c.args.p c.args.page c.args.write) c.from_residual.result c.from_residual.ensures.1
+    refused (state_of c.args.self.now) _ (events.PinTry c.args.actor c.args.p c.args.page c.args.write) c.from_residual.result tt c.from_residual.ensures.1
     (same_taken c.args.self.now c.args.actor c.get.result was (record was { taken = c.push.new.taken }) at refl c.in_err-push.ensures.err)
 
 pub returns-clause-event : goal.returns-clause-event
