@@ -1,11 +1,25 @@
+ghost use Rattle.std.specs.Prelude.{◌<◌, ◌≤◌};
+
 use super::*;
-use gup_base::{ActorNo, HandleNo, MirrorNo, PageNo, ProcNo, Rights, WordNo};
+use gup_base::{ActorNo, HandleNo, MirrorNo, NoMemory, PageNo, ProcNo, Rights, WordNo};
 use gup_plain::PlainEvent;
+use std::alloc::Global;
 use std::test::Fail;
 
 const OK: Result<(), PlainRefusal> = Ok(());
 
 const BROKEN: Result<(), PlainRefusal> = Err(PlainRefusal::Broken);
+
+// The start, with one process born.
+fn started(alloc: Global, processes: u8, actors: u8, first: ProcNo) -> Result<Plain, NoMemory>
+    requires processes { processes ≤ 16 }
+    requires actors { actors ≤ 81 }
+    requires first { first < processes }
+{
+    let mut plain = Plain::new(alloc, processes, actors)?;
+    plain.birth(first);
+    Ok(plain)
+}
 
 // Lets the event happen, where its actor is there.
 fn step(plain: &mut Plain, event: PlainEvent) -> Result<(), PlainRefusal> {
@@ -30,8 +44,7 @@ fn each_event_happens_where_it_can(rt: HostRuntime) -> Result<(), Fail> {
     let handle = HandleNo::new(1_023).ok_or("a handle")?;
     let mirror = MirrorNo::new(63).ok_or("a mirror")?;
     let rights = Rights::RW;
-    let mut plain = Plain::new(rt.alloc(), 3, 2).or(Err("memory"))?;
-    plain.birth(proc);
+    let mut plain = started(rt.alloc(), 3, 2, proc).or(Err("memory"))?;
     for (event, expected) in [
         (
             PlainEvent::Map {
@@ -348,8 +361,7 @@ fn a_fork_copies_each_word(rt: HostRuntime) -> Result<(), Fail> {
     let next = PageNo::new(6).ok_or("a page")?;
     let word = WordNo::new(511).ok_or("a word")?;
     let rights = Rights::RW;
-    let mut plain = Plain::new(rt.alloc(), 3, 1).or(Err("memory"))?;
-    plain.birth(parent);
+    let mut plain = started(rt.alloc(), 3, 1, parent).or(Err("memory"))?;
     for (event, expected) in [
         (
             PlainEvent::Map {
