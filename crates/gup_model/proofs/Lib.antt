@@ -1,10 +1,15 @@
 pub mod Puts
 pub mod Tidy
 pub mod Mappings
-pub mod Forks
+pub mod TidyForks
 pub mod Pins
-pub mod Events
+pub mod TidyEvents
 pub mod Values
 pub mod Owners
 pub mod Lists
 pub mod Counting
+pub mod Changes
+pub mod Processes
+pub mod Refusals
+pub mod Actors
+pub mod Made

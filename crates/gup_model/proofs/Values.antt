@@ -9,7 +9,7 @@ use Rattle.gup_plain.specs.State.{PlainState}
 use Rattle.gup_plain.specs.Event.{CanHappen, happened, words}
 use Rattle.gup_model.specs.LastWrite.{ArePossible, after, written_by, or_else, last_written, Reads}
 use Rattle.gup_model.proofs.Tidy.{IsTidy}
-use Rattle.gup_model.proofs.Events.{tidy_after_event}
+use Rattle.gup_model.proofs.TidyEvents.{tidy_after_event}
 
 -- the word after an event is what the event writes to it, or else the word before
 word_after : (s : PlainState) (e : PlainEvent) → IsTidy s → (o w : ℕ) → or_else (written_by s e o w) (s.content o w) ≡ (happened s e).content o w

@@ -1,2 +1,3 @@
 pub mod LastWrite
 pub mod Possible
+pub mod Parts

@@ -6,7 +6,7 @@ use Rattle.gup_plain.specs.State.{PlainState, start}
 use Rattle.gup_plain.specs.Event.{happened}
 use Rattle.gup_model.specs.LastWrite.{ArePossible, after, written_by, last_written, Reads, Names, IsByOwner}
 use Rattle.gup_model.proofs.Tidy.{IsTidy, starts_tidy}
-use Rattle.gup_model.proofs.Events.{tidy_after, possible_parts, after_parts}
+use Rattle.gup_model.proofs.TidyEvents.{tidy_after, possible_parts, after_parts}
 use Rattle.gup_model.proofs.Values.{last_written_is, read_is}
 use Rattle.gup_model.proofs.Owners.{made_grows, named_before, named_long_before, written_is_made, is_by_owner}
 use Rattle.gup_model.proofs.law.last_write.Goals as goal

@@ -8,7 +8,7 @@ use Rattle.gup_plain.specs.Event.{CanHappen, happened}
 use Rattle.gup_model.specs.LastWrite.{ArePossible, after}
 use Rattle.gup_model.proofs.Tidy.{IsTidy}
 use Rattle.gup_model.proofs.Mappings.{tidy-Map, tidy-Unmap, tidy-Discard, tidy-Protect}
-use Rattle.gup_model.proofs.Forks.{tidy-ForkBegin, tidy-ForkPage, tidy-ForkWord, tidy-ForkEnd, tidy-ForkFail}
+use Rattle.gup_model.proofs.TidyForks.{tidy-ForkBegin, tidy-ForkPage, tidy-ForkWord, tidy-ForkEnd, tidy-ForkFail}
 use Rattle.gup_model.proofs.Pins.{tidy-Store, tidy-PinTry, tidy-PinDrop, tidy-PinOk, tidy-handle, tidy-MoveIn}
 
 pub tidy_after_event : (s : PlainState) (e : PlainEvent) → IsTidy s → CanHappen s e → IsTidy (happened s e)

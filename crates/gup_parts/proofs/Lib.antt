@@ -1,0 +1,5 @@
+pub mod WordsLemmas
+pub mod ContentsLemmas
+pub mod FlagsLemmas
+pub mod ResultLemmas
+pub mod OwnObjects
