@@ -1,7 +1,7 @@
 -- Ordered pages, and the place of a page among them.
-use Rattle.std.proofs.Common.{◌≡◌, ℕ, zero, suc, ◌+◌, ◌-◌, ◌*◌, ◌/◌, ◌<◌, ◌≤◌, ltb, cond, List, [], ◌∷◌, ◌++◌, take, drop, length, get_or, refl, ◌∙◌, ⊎_elim, arith, rules, length-append, length-take, length-drop}
+use Rattle.std.proofs.Common.{◌≡◌, ℕ, zero, suc, ◌+◌, ◌-◌, ◌<◌, ◌≤◌, ltb, cond, List, ◌++◌, take, drop, length, get_or, refl, ◌∙◌, ⊎_elim, arith, length-append, length-take, length-drop}
 use Rattle.std.specs.List.{remove}
-use Rattle.std.proofs.lemmas.List.{places, length-take-le, get_or_append_left, get_or-append_right, get_or-take, get_or-drop}
+use Rattle.std.proofs.lemmas.List.{length-take-le, get_or_append_left, get_or-append_right, get_or-take, get_or-drop}
 use Rattle.std.proofs.lemmas.List.Edits.{length-remove, get_or-remove_below, get_or-remove_above}
 use Rattle.std.proofs.lemmas.Bool.{cases_lt}
 use Rattle.std.proofs.lemmas.Bool.Decides.{nat_tests}

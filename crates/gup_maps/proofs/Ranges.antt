@@ -1,10 +1,10 @@
 -- Whether pages next to each other have values.
-use Rattle.std.proofs.Common.{add-zero, IsSome, take, drop, ◌++◌, length-append, length-take, length-drop, ◌≡◌, ℕ, zero, suc, ◌+◌, ◌-◌, ◌<◌, ◌≤◌, ◌==◌, eqb, Bool, true, false, not, ◌||◌, MatchBool, List, length, get_or, Option, Some, None, is_some, refl, ap, sym, ◌∙◌, inl, inr, ◌⊎◌, ⊎_elim, arith}
+use Rattle.std.proofs.Common.{add-zero, take, drop, ◌++◌, length-append, length-take, length-drop, ◌≡◌, ℕ, zero, suc, ◌+◌, ◌-◌, ◌<◌, ◌≤◌, eqb, Bool, true, false, not, MatchBool, List, length, get_or, None, is_some, refl, ap, sym, ◌∙◌, inl, inr, ◌⊎◌, ⊎_elim, arith}
 use Rattle.std.specs.List.{remove}
 use Rattle.std.proofs.lemmas.List.Edits.{length-remove}
 use Rattle.std.proofs.lemmas.Bool.{cases_lt, cases_eq, cases_Bool, false≢true, or_parts, or_from, or_left, or_right, eqb-true, eqb-false}
 use Rattle.gup_plain.specs.Denial.{any_below}
-use Rattle.gup_maps.specs.Table.{at, pages_of, any_present, any_absent, IsOrdered, IsPlace, IsThere, IsGap, IsRun, IsNext, IsKept, run}
+use Rattle.gup_maps.specs.Table.{at, pages_of, any_present, any_absent, IsOrdered, IsPlace, IsThere, IsGap, IsRun, IsNextPage, IsKept, run}
 use Rattle.gup_maps.proofs.Places.{rises, place_more, run_from_last, ordered-remove, ordered-insert}
 use Rattle.gup_maps.proofs.Rows.{length-pages, at_none, nowhere, is_somewhere, pages-remove, pages-insert, length-run, page-run}
 
@@ -123,11 +123,11 @@ module _ {V : Type 0} (rows : List (ℕ × V)) (ordered : IsOrdered (pages_of ro
 
   -- ---- the least page at or above another
 
-  pub next_is : (from i : ℕ) → IsPlace (pages_of rows) from i → i < length rows → IsNext (at rows) from (get_or (pages_of rows) i 0)
+  pub next_is : (from i : ℕ) → IsPlace (pages_of rows) from i → i < length rows → IsNextPage (at rows) from (get_or (pages_of rows) i 0)
   next_is from i place inside =
       let len : length (pages_of rows) ≡ length rows = length-pages rows in
       record {
-        present = is_somewhere rows ordered i (get_or (pages_of rows) i 0) inside refl;
+        mapped = is_somewhere rows ordered i (get_or (pages_of rows) i 0) inside refl;
         above = place.behind i (omega arith) (omega arith);
         least = λ page above below.
             at_none rows page

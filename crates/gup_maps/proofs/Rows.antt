@@ -1,5 +1,5 @@
 -- What a table has at a page, by its rows.
-use Rattle.std.proofs.Common.{◌≡◌, ℕ, zero, suc, ◌+◌, ◌<◌, ◌≤◌, ◌==◌, Bool, true, false, not, cond, List, [], ◌∷◌, ◌++◌, take, drop, set, map, length, get_or, Option, Some, None, IsSome, is_some, refl, ap, sym, ◌∙◌, ⊎_elim, arith, length-append, length-take, length-drop, ◌-◌}
+use Rattle.std.proofs.Common.{◌≡◌, ℕ, zero, suc, ◌+◌, ◌<◌, ◌≤◌, ◌==◌, true, cond, List, [], ◌∷◌, ◌++◌, take, drop, set, length, get_or, Some, None, is_some, refl, ap, sym, ◌∙◌, ⊎_elim, arith, length-append, length-take, length-drop, ◌-◌}
 use Rattle.std.proofs.Math.Path.{fun_ext}
 use Rattle.std.specs.List.{remove}
 use borrow.Rule.Slice.PartMut.{post_of}
@@ -7,9 +7,8 @@ use Rattle.std.proofs.lemmas.List.{get_or-map, append_assoc, map-append, map-set
 use Rattle.std.proofs.lemmas.Bool.{cases_lt, cases_eq}
 use Rattle.std.proofs.lemmas.Bool.Decides.{nat_tests}
 use Rattle.gup_plain.specs.Put.{put, spread, within}
-use Rattle.gup_plain.specs.Denial.{any_below}
-use Rattle.gup_maps.specs.Table.{at, pages_of, run, any_present, any_absent, IsOrdered, IsPlace, IsThere, IsGap, IsRun, IsNext}
-use Rattle.gup_maps.proofs.Places.{rises, place_more}
+use Rattle.gup_maps.specs.Table.{at, pages_of, run, IsOrdered, IsPlace, IsThere, IsRun}
+use Rattle.gup_maps.proofs.Places.{rises}
 
 -- the page of a row
 pub page_of : {V : Type 0} (rows : List (ℕ × V)) (i : ℕ) (row : ℕ × V) → i < length rows → get_or (pages_of rows) i 0 ≡ (get_or rows i row).0

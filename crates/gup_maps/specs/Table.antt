@@ -14,11 +14,15 @@ any_present value page n = any_below n (λ k. is_some (value (page + k)))
 abbrev pub any_absent : {V : Type 0} → (ℕ → Option V) → (page n : ℕ) → Bool
 any_absent value page n = any_below n (λ k. not (is_some (value (page + k))))
 
--- the page is the least with a value at or above this one
-pub record IsNext {V : Type 0} (value : ℕ → Option V) (from page : ℕ) : Type 0 where
-  pub present : IsSome (value page)
+-- the page is the least mapped one at or above this one
+pub record IsNextPage {V : Type 0} (value : ℕ → Option V) (from page : ℕ) : Type 0 where
+  pub mapped : IsSome (value page)
   pub above : from ≤ page
   pub least : (g : ℕ) → from ≤ g → g < page → value g ≡ None
+
+-- none is mapped at or above this one
+abbrev pub IsLastPage : {V : Type 0} → (ℕ → Option V) → (from : ℕ) → Type 0
+IsLastPage value from = (g : ℕ) → from ≤ g → value g ≡ None
 
 -- the pages of the rows
 abbrev pub pages_of : {V : Type 0} → List (ℕ × V) → List ℕ

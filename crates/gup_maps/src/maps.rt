@@ -1,5 +1,5 @@
 //! The mappings of a process.
-ghost use Rattle.std.specs.Prelude.{◌≡◌, ℕ, ◌+◌, ◌<◌, ◌≤◌, ◌^◌, ◌↔◌, if◌then◌else◌, true, false, is_some, None, Some, Err, IfOk, OnOk, OnErr, IsTrue, MatchOption, MatchResult};
+ghost use Rattle.std.specs.Prelude.{◌≡◌, ℕ, ◌+◌, ◌<◌, ◌≤◌, ◌^◌, ◌↔◌, if◌then◌else◌, true, false, is_some, is_err, None, Some, Err, IfOk, OnOk, OnErr, IsTrue, MatchOption, MatchResult};
 ghost use Rattle.gup_plain.specs.Denial.{any_mapped, any_unmapped};
 ghost use Rattle.gup_plain.specs.Put.{put, spread};
 ghost use Rattle.gup_maps.specs.Maps.{no_maps, maps_of, IsNextPage, IsLastPage};
@@ -130,15 +130,14 @@ impl Maps {
     /// `Hole` comes exactly where one of the pages isn't mapped, and then nothing changes (Linux changes those before
     /// it).
     pub fn protect(&mut self, page: PageNo, n: u16, rights: Rights) -> Result<(), Hole>
-        ensures hole { (result ≡ Err Hole) ↔ (any_unmapped (maps_of self.old).right page n ≡ true) }
+        ensures hole { is_err result ≡ any_unmapped (maps_of self.old).right page n }
         ensures right { OnOk result ((maps_of self.new).right ≡ spread page n (λ _. Some rights) (maps_of self.old).right) }
         ensures pages { (maps_of self.new).pages ≡ (maps_of self.old).pages }
         ensures err { OnErr result (maps_of self.new ≡ maps_of self.old) }
     {
-        if self.rights.replace(page, n, rights) {
-            Ok(())
-        } else {
-            Err(Hole)
+        if !self.rights.replace(page, n, rights) {
+            return Err(Hole);
         }
+        Ok(())
     }
 }

@@ -1,8 +1,8 @@
 //! Values at pages.
 ghost use Rattle.std.specs.Prelude.{◌≡◌, ℕ, ◌+◌, ◌<◌, ◌≤◌, ◌^◌, ◌↔◌, ◌++◌, nat_lt, if◌then◌else◌, true, false, not, is_some, take, drop, length, vec_len, vec_capacity, None, Some, IfOk, IsSome, MatchOption};
-ghost use Rattle.std.specs.Bool.{MatchBool};
+ghost use Rattle.std.specs.Bool.{MatchBool, OnTrue, OnFalse};
 ghost use Rattle.gup_plain.specs.Put.{put, spread};
-ghost use Rattle.gup_maps.specs.Table.{at, pages_of, any_present, any_absent, run, IsNext, IsOrdered, IsPlace, IsThere, IsGap, IsRun};
+ghost use Rattle.gup_maps.specs.Table.{at, pages_of, any_present, any_absent, run, IsNextPage, IsLastPage, IsOrdered, IsPlace, IsThere, IsGap, IsRun};
 
 use gup_base::{NoMemory, PageNo};
 use std::alloc::Global;
@@ -109,7 +109,8 @@ fn fill<V: Copy>(rows: &mut Vec<(PageNo, V)>, place: usize, n: u16, value: V)
 impl<V: Copy> Table<V> {
     /// A table without values, and with the memory for all that it will have.
     pub fn new(alloc: Global) -> Result<Table<V>, NoMemory>
-        ensures { IfOk result (λ table. at table ≡ (λ _. None)) }
+        ensures at { IfOk result (λ table. at table ≡ (λ _. None)) }
+        ensures len { IfOk result (λ table. length table ≡ 0) }
     {
         let rows = Vec::with_capacity(alloc, MOST)?;
         Ok(Table { rows })
@@ -138,7 +139,7 @@ impl<V: Copy> Table<V> {
 
     /// The least page with a value at or above this one, where there is one.
     pub fn next(&self, from: PageNo) -> Option<PageNo>
-        ensures { MatchOption result ((g : ℕ) → from ≤ g → at self.now g ≡ None) (IsNext (at self.now) from) }
+        ensures { MatchOption result (IsLastPage (at self.now) from) (IsNextPage (at self.now) from) }
     {
         let rows = self.rows.as_slice();
         let place = place_of(rows, from);
@@ -220,7 +221,8 @@ impl<V: Copy> Table<V> {
     /// changes.
     pub fn replace(&mut self, page: PageNo, n: u16, value: V) -> bool
         ensures all { result ≡ not (any_absent (at self.old) page n) }
-        ensures at { at self.new ≡ (if result then spread page n (λ _. Some value) (at self.old) else at self.old) }
+        ensures at { OnTrue result (at self.new ≡ spread page n (λ _. Some value) (at self.old)) }
+        ensures unchanged { OnFalse result (self.new ≡ self.old) }
         ensures len { length self.new ≡ length self.old }
     {
         let rows = self.rows.as_slice();

@@ -1,5 +1,4 @@
-use Rattle.std.proofs.Common.{◌≡◌, ℕ, ◌+◌, ◌-◌, ◌<◌, ◌≤◌, length, get_or, ap, ◌∙◌, sym, arith, rules}
-use Rattle.gup_maps.specs.Table.{at, pages_of}
+use Rattle.std.proofs.Common.{◌≡◌, ◌+◌, ◌<◌, length, arith}
 use Rattle.gup_maps.proofs.Rows.{at-filled, pages-filled}
 use Rattle.gup_maps.proofs.table.fill.Goals as goal
 

@@ -1,4 +1,4 @@
-use Rattle.std.proofs.Common.{◌≡◌, ℕ, ◌+◌, ◌<◌, ◌≤◌, Bool, true, false, MatchBool, eqb, List, None, length, get_or, ap, ◌∙◌, sym, arith, rules}
+use Rattle.std.proofs.Common.{◌≡◌, ℕ, ◌<◌, Bool, true, false, MatchBool, eqb, List, None, length, get_or, sym, arith}
 use Rattle.std.proofs.lemmas.Bool.{le-ltb, eqb-true, eqb-false}
 use Rattle.gup_maps.specs.Table.{at, pages_of, IsThere, IsOrdered, IsPlace}
 use Rattle.gup_maps.proofs.Rows.{page_of, length-pages, nowhere}

@@ -1,4 +1,4 @@
-use Rattle.std.proofs.Common.{◌≡◌, ℕ, ◌+◌, ◌-◌, ◌<◌, ◌≤◌, ◌++◌, length, get_or, ap, ◌∙◌, sym, arith, rules}
+use Rattle.std.proofs.Common.{◌≡◌, ◌++◌, ◌∙◌, arith}
 use Rattle.gup_maps.specs.Table.{run}
 use Rattle.gup_maps.proofs.Rows.{turned, length-run}
 use Rattle.gup_maps.proofs.table.insert_run.Goals as goal

@@ -1,4 +1,3 @@
-use Rattle.std.proofs.Common.{◌≡◌}
 use Rattle.gup_maps.proofs.Ranges.{gap_from_absent}
 use Rattle.gup_maps.proofs.table.Table.insert.Goals as goal
 

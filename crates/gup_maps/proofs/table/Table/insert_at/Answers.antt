@@ -1,5 +1,4 @@
-use Rattle.std.proofs.Common.{◌≡◌, ◌+◌, ◌<◌, ◌≤◌, length, vec_capacity, sym, ◌∙◌, arith}
-use Rattle.gup_maps.specs.Table.{pages_of}
+use Rattle.std.proofs.Common.{arith}
 use Rattle.gup_maps.proofs.Rows.{at-insert}
 use Rattle.gup_maps.proofs.Ranges.{kept-insert, length-inserted}
 use Rattle.gup_maps.proofs.table.Table.insert_at.Goals as goal

@@ -1,5 +1,3 @@
-use Rattle.std.proofs.Common.{◌≡◌, ◌<◌, get_or, length, sym, arith}
-use Rattle.gup_maps.specs.Table.{at, pages_of, IsNext}
 use Rattle.gup_maps.proofs.Rows.{page_of}
 use Rattle.gup_maps.proofs.Ranges.{next_is, none_from}
 use Rattle.gup_maps.proofs.table.Table.next.Goals as goal

@@ -1,4 +1,4 @@
-use Rattle.std.proofs.Common.{◌≡◌, ◌<◌, Some, length, sym, ap, ◌∙◌, arith}
+use Rattle.std.proofs.Common.{◌≡◌, ◌<◌, length, sym, arith}
 use Rattle.gup_maps.specs.Table.{pages_of}
 use Rattle.gup_maps.proofs.Rows.{somewhere, at-remove, length-pages}
 use Rattle.gup_maps.proofs.Ranges.{kept-remove}

@@ -1,7 +1,7 @@
-use Rattle.std.proofs.Common.{◌≡◌, ◌+◌, ◌<◌, ◌≤◌, length, is_some, vec_capacity, sym, ap, ◌∙◌, arith}
+use Rattle.std.proofs.Common.{◌≡◌, ◌<◌, length, ◌∙◌, arith}
 use Rattle.gup_maps.specs.Table.{pages_of}
 use Rattle.gup_maps.proofs.Rows.{at-insert, spread-one, length-pages, is_somewhere}
-use Rattle.gup_maps.proofs.Ranges.{kept-insert, length-inserted, length-same, run_one, gap_one}
+use Rattle.gup_maps.proofs.Ranges.{kept-insert, length-same, run_one, gap_one}
 use Rattle.gup_maps.proofs.table.Table.set.Goals as goal
 
 pub invariant_of-self-else-has_row : goal.invariant_of-self-else-has_row
