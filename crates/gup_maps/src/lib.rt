@@ -6,3 +6,6 @@ mod table;
 
 pub use maps::{Hole, MapRefusal, Maps};
 pub use table::Table;
+
+#[cfg(test)]
+mod tests;
