@@ -1,0 +1,236 @@
+//! Values at pages.
+ghost use Rattle.std.specs.Prelude.{◌≡◌, ℕ, ◌+◌, ◌<◌, ◌≤◌, ◌^◌, ◌↔◌, ◌++◌, nat_lt, if◌then◌else◌, true, false, not, is_some, take, drop, length, vec_len, vec_capacity, None, Some, IfOk, IsSome, MatchOption};
+ghost use Rattle.std.specs.Bool.{MatchBool, OnTrue, OnFalse};
+ghost use Rattle.gup_plain.specs.Put.{put, spread};
+ghost use Rattle.gup_maps.specs.Table.{at, pages_of, any_present, any_absent, run, IsNextPage, IsLastPage, IsOrdered, IsPlace, IsThere, IsGap, IsRun};
+
+use gup_base::{NoMemory, PageNo};
+use std::alloc::Global;
+use std::marker::Model;
+
+// How many pages have a value at most.
+const MOST: usize = 1024;
+
+/// A value at some of the pages, at most 1,024 of them.
+#[derive(Drop)]
+pub struct Table<V> {
+    rows: Vec<(PageNo, V)>,
+}
+
+impl<V> Model for Table<V> {
+    ghost use Rattle.std.specs.Prelude.{ℕ, List, vec_capacity};
+    ghost use Rattle.gup_maps.specs.Table.{IsKept};
+
+    ghost Value = { List (ℕ × V) };
+
+    ghost view = { λ t. t.rows.items };
+
+    ghost invariant = { λ t. IsKept t.rows.items (vec_capacity t.rows) };
+}
+
+// 1 where the page is below the other, and else 0, without a branch.
+fn is_below(page: PageNo, other: PageNo) -> usize
+    ensures { result ≡ (if nat_lt page other then 1 else 0) }
+{
+    (page.get().wrapping_sub(other.get()) >> 63) as usize
+}
+
+// The place of the page among the rows: that of the first row that isn't below it.
+fn place_of<V>(rows: &[(PageNo, V)], page: PageNo) -> usize
+    requires { IsOrdered (pages_of rows.now) }
+    ensures { IsPlace (pages_of rows.now) page result }
+{
+    let mut low = 0;
+    let mut size = rows.len();
+    while size > 0 {
+        let rest = size / 2;
+        let half = size - rest;
+        low += half * is_below(rows[low + half - 1].0, page);
+        size = rest;
+    }
+    low
+}
+
+// Whether the page has a row, which then stands at its place.
+fn has_row<V>(rows: &[(PageNo, V)], place: usize, page: PageNo) -> bool
+    requires ordered { IsOrdered (pages_of rows.now) }
+    requires place { IsPlace (pages_of rows.now) page place }
+    ensures { MatchBool result (IsThere (pages_of rows.now) page place) (at rows.now page ≡ None) }
+{
+    place < rows.len() && rows[place].0 == page
+}
+
+// Whether each of the `n` pages from `page` on has a row. They are then next to each other.
+fn has_run<V>(rows: &[(PageNo, V)], place: usize, page: PageNo, n: u16) -> bool
+    requires ordered { IsOrdered (pages_of rows.now) }
+    requires place { IsPlace (pages_of rows.now) page place }
+    ensures { MatchBool result (IsRun (pages_of rows.now) page n place × (any_absent (at rows.now) page n ≡ false))
+        (any_absent (at rows.now) page n ≡ true) }
+{
+    if n == 0 {
+        return true;
+    }
+    let count = usize::from(n);
+    if rows.len() - place < count {
+        return false;
+    }
+    rows[place + (count - 1)].0.get() == page.get() + u64::from(n - 1)
+}
+
+// Puts the rows of the `n` pages from `page` on at this place.
+fn insert_run<V: Copy>(rows: &mut Vec<(PageNo, V)>, place: usize, page: PageNo, n: u16, value: V)
+    requires place { place ≤ vec_len rows.old }
+    requires room { vec_len rows.old + n ≤ vec_capacity rows.old }
+    requires below { page + n ≤ 2 ^ 35 }
+    ensures rows { rows.new.items ≡ take place rows.old.items ++ (run page n value ++ drop place rows.old.items) }
+    ensures room { vec_capacity rows.old ≤ vec_capacity rows.new }
+{
+    for k in 0..n {
+        let next = PageNo::new(page.get() + u64::from(k)).unwrap();
+        rows.push((next, value)).unwrap();
+    }
+    rows[place..].rotate_right(usize::from(n));
+}
+
+// Gives the `n` rows from this place on this value.
+fn fill<V: Copy>(rows: &mut Vec<(PageNo, V)>, place: usize, n: u16, value: V)
+    requires ordered { IsOrdered (pages_of rows.old.items) }
+    requires within { place + n ≤ vec_len rows.old }
+    ensures pages { pages_of rows.new.items ≡ pages_of rows.old.items }
+    ensures at { (page : ℕ) → IsRun (pages_of rows.old.items) page n place
+        → at rows.new.items ≡ spread page n (λ _. Some value) (at rows.old.items) }
+    ensures room { vec_capacity rows.old ≤ vec_capacity rows.new }
+{
+    for k in 0..n {
+        rows[place + usize::from(k)].1 = value;
+    }
+}
+
+impl<V: Copy> Table<V> {
+    /// A table without values, and with the memory for all that it will have.
+    pub fn new(alloc: Global) -> Result<Table<V>, NoMemory>
+        ensures at { IfOk result (λ table. at table ≡ (λ _. None)) }
+        ensures len { IfOk result (λ table. length table ≡ 0) }
+    {
+        let rows = Vec::with_capacity(alloc, MOST)?;
+        Ok(Table { rows })
+    }
+
+    /// How many pages have a value.
+    pub fn len(&self) -> u16
+        ensures len { result ≡ length self.now }
+        ensures within { result ≤ 1024 }
+    {
+        self.rows.len() as u16
+    }
+
+    /// The value at the page, where there is one.
+    pub fn get(&self, page: PageNo) -> Option<V>
+        ensures { result ≡ at self.now page }
+    {
+        let rows = self.rows.as_slice();
+        let place = place_of(rows, page);
+        if has_row(rows, place, page) {
+            Some(rows[place].1)
+        } else {
+            None
+        }
+    }
+
+    /// The least page with a value at or above this one, where there is one.
+    pub fn next(&self, from: PageNo) -> Option<PageNo>
+        ensures { MatchOption result (IsLastPage (at self.now) from) (IsNextPage (at self.now) from) }
+    {
+        let rows = self.rows.as_slice();
+        let place = place_of(rows, from);
+        if place < rows.len() {
+            Some(rows[place].0)
+        } else {
+            None
+        }
+    }
+
+    /// Gives the page this value, whether or not it has one.
+    pub fn set(&mut self, page: PageNo, value: V)
+        requires { at self.old page ≡ None → length self.old < 1024 }
+        ensures at { at self.new ≡ put page (Some value) (at self.old) }
+        ensures len { length self.new ≡ length self.old + (if is_some (at self.old page) then 0 else 1) }
+    {
+        let rows = self.rows.as_slice();
+        let place = place_of(rows, page);
+        if has_row(rows, place, page) {
+            fill(&mut self.rows, place, 1, value);
+        } else {
+            insert_run(&mut self.rows, place, page, 1, value);
+        }
+    }
+
+    /// Takes out the value at the page, and answers it, where there is one.
+    pub fn remove(&mut self, page: PageNo) -> Option<V>
+        ensures value { result ≡ at self.old page }
+        ensures at { at self.new ≡ put page None (at self.old) }
+        ensures len { length self.new + (if is_some result then 1 else 0) ≡ length self.old }
+    {
+        let rows = self.rows.as_slice();
+        let place = place_of(rows, page);
+        if has_row(rows, place, page) {
+            Some(self.rows.remove(place).1)
+        } else {
+            None
+        }
+    }
+
+    /// Gives `n` pages from `page` on, none of which has a value, this one.
+    pub fn insert(&mut self, page: PageNo, n: u16, value: V)
+        requires below { page + n ≤ 2 ^ 35 }
+        requires absent { any_present (at self.old) page n ≡ false }
+        requires room { length self.old + n ≤ 1024 }
+        ensures at { at self.new ≡ spread page n (λ _. Some value) (at self.old) }
+        ensures len { length self.new ≡ length self.old + n }
+    {
+        let place = place_of(self.rows.as_slice(), page);
+        self.insert_at(place, page, n, value);
+    }
+
+    /// The place at which `n` pages from `page` on can be inserted, where none of them has a value.
+    pub(crate) fn gap(&self, page: PageNo, n: u16) -> Option<usize>
+        ensures { MatchOption result (any_present (at self.now) page n ≡ true)
+            (λ place. (any_present (at self.now) page n ≡ false) × IsGap (pages_of self.now) page n place) }
+    {
+        let rows = self.rows.as_slice();
+        let place = place_of(rows, page);
+        if place < rows.len() && rows[place].0.get() < page.get() + u64::from(n) {
+            None
+        } else {
+            Some(place)
+        }
+    }
+
+    /// Gives `n` pages from `page` on, whose place this is, the value.
+    pub(crate) fn insert_at(&mut self, place: usize, page: PageNo, n: u16, value: V)
+        requires below { page + n ≤ 2 ^ 35 }
+        requires gap { IsGap (pages_of self.old) page n place }
+        requires room { length self.old + n ≤ 1024 }
+        ensures at { at self.new ≡ spread page n (λ _. Some value) (at self.old) }
+        ensures len { length self.new ≡ length self.old + n }
+    {
+        insert_run(&mut self.rows, place, page, n, value);
+    }
+
+    /// Gives `n` pages from `page` on this value, where each of them has one, and answers whether. Else nothing
+    /// changes.
+    pub fn replace(&mut self, page: PageNo, n: u16, value: V) -> bool
+        ensures all { result ≡ not (any_absent (at self.old) page n) }
+        ensures at { OnTrue result (at self.new ≡ spread page n (λ _. Some value) (at self.old)) }
+        ensures unchanged { OnFalse result (self.new ≡ self.old) }
+        ensures len { length self.new ≡ length self.old }
+    {
+        let rows = self.rows.as_slice();
+        let place = place_of(rows, page);
+        if !has_run(rows, place, page, n) {
+            return false;
+        }
+        fill(&mut self.rows, place, n, value);
+        true
+    }
+}

@@ -1,0 +1,104 @@
+use super::*;
+use gup_base::{PageNo, Rights};
+use std::test::Fail;
+
+#[test]
+fn mappings_are_made_and_refused(rt: HostRuntime) -> Result<(), Fail> {
+    let overlap = Err(MapRefusal::Overlap);
+    let full = Err(MapRefusal::Full);
+    let mut maps = Maps::new(rt.alloc()).or(Err("memory"))?;
+    assert_eq!(rt; maps.len(), 0);
+    for (first, n, want, len) in [
+        (34_359_738_367, 1, Ok(()), 1),
+        (34_359_672_833, 65_535, overlap, 1),
+        (0, 1_024, full, 1),
+        (0, 1_000, Ok(()), 1_001),
+        (1_001, 23, Ok(()), 1_024),
+        (1_000, 1, full, 1_024),
+        (1_000, 2, overlap, 1_024),
+        (999, 1, overlap, 1_024),
+        (999, 0, Ok(()), 1_024),
+        (34_359_672_833, 65_534, full, 1_024),
+    ] {
+        let page = PageNo::new(first).ok_or("a page")?;
+        assert!(rt; page.get() + u64::from(n) <= 34_359_738_368);
+        assert_eq!(rt;
+            maps.map(page, n, Rights::R),
+            want,
+            "{n} pages from {first}"
+        );
+        assert_eq!(rt; maps.len(), len, "{n} pages from {first}");
+    }
+    Ok(())
+}
+
+#[test]
+fn rights_are_changed_and_lost(rt: HostRuntime) -> Result<(), Fail> {
+    let mut maps = Maps::new(rt.alloc()).or(Err("memory"))?;
+    let last = PageNo::new(34_359_738_367).ok_or("a page")?;
+    let ten = PageNo::new(10).ok_or("a page")?;
+    assert_eq!(rt; maps.map(last, 1, Rights::R), Ok(()));
+    assert_eq!(rt; maps.map(ten, 3, Rights::R), Ok(()));
+    for (first, n, want) in [
+        (10, 4, Err(Hole)),
+        (9, 2, Err(Hole)),
+        (11, 2, Ok(())),
+        (20, 0, Ok(())),
+        (20, 1, Err(Hole)),
+        (34_359_738_367, 2, Err(Hole)),
+        (34_359_738_367, 1, Ok(())),
+    ] {
+        let page = PageNo::new(first).ok_or("a page")?;
+        assert_eq!(rt;
+            maps.protect(page, n, Rights::RW),
+            want,
+            "{n} pages from {first}"
+        );
+    }
+    for (number, rights, next, mapped) in [
+        (0, None, Some(10), false),
+        (10, Some(Rights::R), Some(10), true),
+        (11, Some(Rights::RW), Some(11), true),
+        (13, None, Some(34_359_738_367), false),
+        (34_359_738_367, Some(Rights::RW), Some(34_359_738_367), true),
+    ] {
+        let page = PageNo::new(number).ok_or("a page")?;
+        assert_eq!(rt; maps.rights_at(page), rights, "page {number}");
+        assert_eq!(rt;
+            maps.next_page(page).map(|p| p.get()),
+            next,
+            "page {number}"
+        );
+        assert_eq!(rt; maps.unmap_page(page), mapped, "page {number}");
+        assert_eq!(rt; maps.rights_at(page), None, "page {number}");
+        assert!(rt; !maps.unmap_page(page), "page {number}");
+    }
+    assert_eq!(rt; maps.len(), 1);
+    assert_eq!(rt; maps.next_page(last), None);
+    Ok(())
+}
+
+#[test]
+fn values_are_kept_by_page(rt: HostRuntime) -> Result<(), Fail> {
+    let mut table = Table::new(rt.alloc()).or(Err("memory"))?;
+    for (number, value, len) in [(7, 1_u64, 1), (34_359_738_367, 2, 2), (0, 3, 3), (7, 4, 3)] {
+        let page = PageNo::new(number).ok_or("a page")?;
+        assert!(rt; table.len() < 1_024);
+        table.set(page, value);
+        assert_eq!(rt; table.get(page), Some(value), "page {number}");
+        assert_eq!(rt; table.len(), len, "page {number}");
+    }
+    for (number, value, next) in [
+        (0, Some(3), Some(7)),
+        (1, None, Some(7)),
+        (7, Some(4), Some(34_359_738_367)),
+        (34_359_738_367, Some(2), None),
+    ] {
+        let page = PageNo::new(number).ok_or("a page")?;
+        assert_eq!(rt; table.get(page), value, "page {number}");
+        assert_eq!(rt; table.remove(page), value, "page {number}");
+        assert_eq!(rt; table.next(page).map(|p| p.get()), next, "page {number}");
+    }
+    assert_eq!(rt; table.len(), 0);
+    Ok(())
+}
