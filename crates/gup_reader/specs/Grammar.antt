@@ -14,7 +14,6 @@ use Rattle.gup_script.specs.Script.{ScriptValue, FrameCounts, actor_at}
 use Rattle.gup_reader.specs.Said.{Word, Said, a_process, a_child, a_thread, a_device, a_mover, a_seed, some_turns, random_turns, said_words, Action, maps, unmaps, protects, discards, loads, stores, exits, pins, gets, puts, forks, unpins, takes, gives, transfers, transfers_parts, mirrors, looks, moves, action_words, IsShaped, op_words_of}
 use Rattle.gup_outline.specs.Outline.{Outline, empty_outline, with_process, with_actor, with_operation, with_turns, with_seed, is_thread, is_device, how_many, has_mover, is_child, is_receiver, draws}
 use Rattle.gup_script.specs.Limits.{most_processes, most_threads, most_devices, most_operations, most_turns, most_slots, most_frames, most_tables}
-use Rattle.gup_reader.specs.Grammar.{most_bytes}
 
 -- 1. Numbers: those that a line has are spelled right and in range
 
