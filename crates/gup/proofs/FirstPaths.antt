@@ -5,13 +5,12 @@ use Rattle.std.proofs.lemmas.List.Elements.{All-nil, All-cons, All-head}
 use Rattle.gup_plain.specs.declared.note.What.{What}
 use Rattle.gup_script.specs.declared.op.Kind.{Kind}
 use Rattle.gup_script.specs.declared.op.Kind.TheVariants.{Thread, Device, Mover}
-use Rattle.gup_script.specs.OnePage.{IsThread, IsOnePage}
+use Rattle.gup_script.specs.OnePage.{IsThread, IsOnePage, IsOfPage}
 use Rattle.gup_script.specs.Script.{ScriptValue, Process, Actor}
 use Rattle.gup_script.specs.Valid.{KindFits, IsScript}
 use Rattle.gup_follows.specs.Place.{first_place}
 use Rattle.gup_turns.specs.Run.{RunState, Runs, run_start, next_actor, IsCoreRun, HasTurns}
 use Rattle.gup_turns.specs.Turn.{HasTurn}
-use Rattle.gup_script.specs.OnePage.{IsOfPage}
 use Rattle.gup_script.specs.declared.op.Op.{Op}
 use Rattle.gup_script.specs.declared.op.Op.TheVariants.{Map, Unmap, Protect, Discard, Load, Store, Exit}
 use Rattle.gup.specs.Cause.{operations}

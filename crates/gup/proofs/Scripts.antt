@@ -8,8 +8,7 @@ use Rattle.gup_script.specs.declared.op.Kind.{Kind}
 use Rattle.gup_script.specs.Script.{ScriptValue, Actor, actor_at}
 use Rattle.gup.specs.FirstPath.{IsFirstPath}
 use Rattle.gup_script.specs.OnePage.{IsOfPage}
-use Rattle.gup_script.specs.Valid.{IsOp}
-use Rattle.gup_script.specs.Valid.{IsScript}
+use Rattle.gup_script.specs.Valid.{IsOp, IsScript}
 use Rattle.gup_turns.proofs.Scripts.{all_at}
 use Rattle.gup_follows.specs.Place.{ops_in, ops_of, process_in, process_of, process_of_kind}
 

@@ -1,12 +1,13 @@
 -- The scripts that the machine runs, and those of one thread among them.
 use Rattle.std.specs.Prelude.{◌≡◌, ℕ, true, [], ◌+◌, ◌≤◌, ◌⊎◌, List, length, All}
-use Rattle.gup_script.specs.declared.refusal.ScriptFault.{ScriptFault}
-use Rattle.gup_script.specs.declared.refusal.Reason.TheVariants.{Later}
-use Rattle.gup_script.specs.declared.refusal.ReadRefusal.{ReadRefusal}
-use Rattle.gup_script.specs.declared.refusal.ReadRefusal.TheVariants.{Fault, NoMemory}
-use Rattle.gup_script.specs.Fault.{HasFault}
-use Rattle.gup_script.specs.Grammar.{Accepts}
-use Rattle.gup_script.specs.OnePage.{IsOfPage, IsOnePage, IsFirstBeyond}
+use Rattle.gup_reader.specs.declared.refusal.ScriptFault.{ScriptFault}
+use Rattle.gup_reader.specs.declared.refusal.Reason.TheVariants.{Later}
+use Rattle.gup_reader.specs.declared.refusal.ReadRefusal.{ReadRefusal}
+use Rattle.gup_reader.specs.declared.refusal.ReadRefusal.TheVariants.{Fault, NoMemory}
+use Rattle.gup_reader.specs.Fault.{HasFault}
+use Rattle.gup_reader.specs.Grammar.{Accepts}
+use Rattle.gup_script.specs.OnePage.{IsOfPage, IsOnePage}
+use Rattle.gup_reader.specs.Beyond.{IsFirstBeyond}
 use Rattle.gup_script.specs.Script.{ScriptValue, Process, Actor}
 
 -- the bytes are this script, and it is one that the machine can run

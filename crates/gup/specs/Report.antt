@@ -11,9 +11,9 @@ use Rattle.gup.specs.declared.top.Unread.TheVariants.{Failed, Fault, NoMemory}
 use Rattle.gup.specs.Cause.{HasCauses, operations}
 use Rattle.gup.specs.Text.{outcomes_of}
 use Rattle.gup.specs.Ran.{HaveFinished}
-use Rattle.gup_script.specs.declared.refusal.Reason.{Reason}
-use Rattle.gup_script.specs.declared.refusal.Reason.TheVariants as reasons
-use Rattle.gup_script.specs.declared.refusal.ScriptFault.{ScriptFault}
+use Rattle.gup_reader.specs.declared.refusal.Reason.{Reason}
+use Rattle.gup_reader.specs.declared.refusal.Reason.TheVariants as reasons
+use Rattle.gup_reader.specs.declared.refusal.ScriptFault.{ScriptFault}
 use Rattle.gup_script.specs.Script.{ScriptValue}
 use Rattle.gup.specs.FirstPath.{Runs, IsRefused}
 

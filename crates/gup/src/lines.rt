@@ -8,7 +8,8 @@ ghost use Rattle.gup.specs.Text.{text_of, name_in, cause_text, word_text, answer
 use crate::answers::{Outcome, Outcomes};
 use gup_base::{ActorNo, NoMemory, Words};
 use gup_plain::{Answer, Cause, Journal, Note, What};
-use gup_script::{Reason, Script, ScriptFault};
+use gup_reader::{Reason, ScriptFault};
+use gup_script::Script;
 use itoa::Buffer;
 use std::alloc::{AllocError, Global};
 

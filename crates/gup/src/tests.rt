@@ -5,7 +5,7 @@ use crate::machine::Machine;
 use crate::top::Report;
 use gup_base::{ActorNo, Zone};
 use gup_io::{Failed, MemSink, MemSource, Sink, Source, SureSource};
-use gup_script::{Reason, ScriptFault, read_script};
+use gup_reader::{Reason, ScriptFault, read_script};
 use std::alloc::{AllocError, Global};
 use std::process::Abort;
 use std::test::Fail;

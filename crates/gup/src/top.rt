@@ -19,10 +19,11 @@ use crate::run::run_all;
 use gup_base::NoMemory;
 use gup_io::{ReadToEnd, Sink, Source, read_up_to, write_all};
 use gup_plain::Journal;
-use gup_script::{
-    ReadRefusal, Reason, Script, ScriptFault, first_line_beyond, one_script, read_script,
+use gup_reader::{
+    ReadRefusal, Reason, ScriptFault, first_line_beyond, one_script, read_script,
     scripts_have_no_fault,
 };
+use gup_script::Script;
 use gup_turns::{core_run_follows, core_run_is_in_order, core_run_is_plain};
 use std::alloc::Global;
 

@@ -1,13 +1,5 @@
 pub mod Script
-pub mod Said
-pub mod Outline
-pub mod Grammar
-pub mod Fault
-pub mod Reading
+pub mod Limits
 pub mod Valid
 pub mod OnePage
 pub mod Views
-pub mod Steps
-pub mod Limits
-pub mod ReaderViews
-pub mod StageViews

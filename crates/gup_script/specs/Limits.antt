@@ -1,16 +1,26 @@
--- How many actors a reader holds: no more than there are numbers for.
-use Rattle.std.specs.Prelude.{◌≡◌, ◌<◌, ◌≤◌, false}
-use Rattle.gup_script.specs.declared.op.Kind.{Kind}
-use Rattle.gup_script.specs.declared.op.Kind.TheVariants.{Thread, Device, Mover}
-use Rattle.gup_script.specs.Outline.{Outline, is_thread, is_device, is_mover, how_many, has_mover}
+-- The limits that a script is held to.
+use Rattle.std.specs.Prelude.{ℕ}
 
-pub record IsWithin (st : Outline) : Type 0 where
-  pub threads : how_many is_thread st ≤ 64
-  pub devices : how_many is_device st ≤ 16
-  pub movers : how_many is_mover st ≤ 1
+abbrev pub most_processes : ℕ
+most_processes = 16
 
--- there may be one more actor of this kind
-abbrev pub HasRoomFor : Kind → Outline → Type 0
-HasRoomFor (Thread p) st = how_many is_thread st < 64
-HasRoomFor (Device slots) st = how_many is_device st < 16
-HasRoomFor Mover st = has_mover st ≡ false
+abbrev pub most_threads : ℕ
+most_threads = 64
+
+abbrev pub most_devices : ℕ
+most_devices = 16
+
+abbrev pub most_operations : ℕ
+most_operations = 16384
+
+abbrev pub most_turns : ℕ
+most_turns = 1000000
+
+abbrev pub most_slots : ℕ
+most_slots = 4096
+
+abbrev pub most_frames : ℕ
+most_frames = 1024
+
+abbrev pub most_tables : ℕ
+most_tables = 8192

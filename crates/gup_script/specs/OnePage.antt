@@ -1,16 +1,14 @@
 -- The scripts that the machine so far can run: at most one process, one thread of it, and one page. The machine for
 -- many actors takes this away again.
-use Rattle.std.specs.Prelude.{◌≡◌, ℕ, ◌+◌, ◌≤◌, ◌==◌, ◌&&◌, nat_le, Bool, true, false, List, [], ◌∷◌, ◌++◌, length, All}
+use Rattle.std.specs.Prelude.{◌≡◌, ℕ, ◌+◌, ◌≤◌, ◌==◌, ◌&&◌, nat_le, Bool, true, false, List, [], ◌∷◌, length, All}
 use Rattle.std.specs.List.{list_all}
 use Rattle.gup_base.specs.declared.entry.Rights.{Rights}
 use Rattle.gup_base.specs.declared.entry.Rights.TheVariants.{R, RW}
-use Rattle.gup_text.specs.Text.{parts}
 use Rattle.gup_script.specs.declared.op.Kind.{Kind}
 use Rattle.gup_script.specs.declared.op.Kind.TheVariants.{Thread, Device, Mover}
 use Rattle.gup_script.specs.declared.op.Op.{Op}
 use Rattle.gup_script.specs.declared.op.Op.TheVariants.{Map, Unmap, Protect, Discard, Load, Store, Exit}
 use Rattle.gup_script.specs.Script.{ScriptValue, Process, Actor}
-use Rattle.gup_script.specs.Grammar.{Stage, before_head, before_frames, open_at, IsRight, AreRight, Accepts}
 
 -- the operation names this page and no other, and maps it to read and write
 abbrev pub IsOfPage : ℕ → Op → Type 0
@@ -84,26 +82,3 @@ unfoldable pub is_one_page : ScriptValue → Bool
 is_one_page s =
     nat_le 1 (s.frames.movable + s.frames.normal)
     && (one_born s.processes && (one_thread_of s.actors && length s.turns == 0))
-
--- the text is a script, and no script of one page
-abbrev pub IsBeyond : List ℕ → Type 0
-IsBeyond text = (script : ScriptValue) × Accepts text script × (IsOnePage script → ⊥)
-
--- what the lines so far have made is such a script, as far as they have made one
-abbrev pub IsOnePageAt : Stage → Type 0
-IsOnePageAt before_head = Unit {0}
-IsOnePageAt before_frames = Unit {0}
-IsOnePageAt (open_at st) = IsOnePage st.script
-
-abbrev pub StaysOnePage : Stage → List (List ℕ) → Type 0
-StaysOnePage stage [] = IsOnePageAt stage
-StaysOnePage stage (line ∷ lines) =
-    IsOnePageAt stage × ((next : Stage) → IsRight stage line next → StaysOnePage next lines)
-
--- the line with this number is the first that makes it another
-abbrev pub IsFirstBeyond : List ℕ → ℕ → Type 0
-IsFirstBeyond text number =
-    (front : List (List ℕ)) × (line : List ℕ) × (more : List (List ℕ)) × (before next : Stage)
-    × (parts 10 text ≡ front ++ line ∷ more) × (number ≡ length front + 1)
-    × AreRight before_head front before × StaysOnePage before_head front
-    × IsRight before line next × (IsOnePageAt next → ⊥)

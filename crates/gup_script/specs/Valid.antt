@@ -5,7 +5,7 @@ use Rattle.gup_script.specs.declared.op.Kind.TheVariants.{Thread, Device, Mover}
 use Rattle.gup_script.specs.declared.op.Op.{Op}
 use Rattle.gup_script.specs.declared.op.Op.TheVariants.{Map, Unmap, Protect, Discard, Load, Store, Exit}
 use Rattle.gup_script.specs.Script.{ScriptValue, Actor}
-use Rattle.gup_script.specs.Outline.{most_operations, most_turns, most_slots}
+use Rattle.gup_script.specs.Limits.{most_operations, most_turns, most_slots}
 
 -- the numbers of an operation are in range
 

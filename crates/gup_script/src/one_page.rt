@@ -75,13 +75,23 @@ fn are_one_born(processes: &[Process]) -> bool
 
 /// Whether the contents are those of such a script.
 #[tactic(auto, unfolding(crate::specs::OnePage::is_one_page))]
-pub fn is_one_page(contents: &Contents) -> bool
+fn are_one_page(contents: &Contents) -> bool
     ensures { result ≡ is_one_page (script_value contents.now) }
 {
     (contents.movable > 0 || contents.normal > 0)
         && are_one_born(contents.processes.as_slice())
         && are_one_thread(contents.actors.as_slice())
         && contents.turns.is_empty()
+}
+
+impl Contents {
+    /// Whether the contents are those of such a script, as `Script::is_one_page` tells.
+    pub fn is_one_page(&self) -> bool
+        ensures found { result ≡ is_one_page (script_value self.now) }
+        ensures exact { IsTrue result ↔ IsOnePage (script_value self.now) }
+    {
+        are_one_page(self)
+    }
 }
 
 impl Script {
@@ -91,6 +101,6 @@ impl Script {
         ensures found { result ≡ is_one_page self.now }
         ensures exact { IsTrue result ↔ IsOnePage self.now }
     {
-        is_one_page(self.contents())
+        self.contents().is_one_page()
     }
 }

@@ -8,22 +8,22 @@ use std::marker::Model;
 
 /// A process as its line declares it: born at the start, or brought by a fork.
 #[derive(Clone, Debug, Drop)]
-pub(crate) struct Process {
+pub struct Process {
     pub name: String,
     pub born: bool,
 }
 
 /// An actor with its operations in order.
 #[derive(Clone, Debug, Drop)]
-pub(crate) struct Actor {
+pub struct Actor {
     pub name: String,
     pub kind: Kind,
     pub ops: Vec<Op>,
 }
 
-/// All that a script says, or its lines so far.
+/// All that a script says, or its lines so far, with nothing promised of it.
 #[derive(Clone, Debug, Drop)]
-pub(crate) struct Contents {
+pub struct Contents {
     pub movable: u32,
     pub normal: u32,
     pub tables: u32,
@@ -56,8 +56,8 @@ impl Model for Script {
 impl Script {
     ghost use Rattle.gup_script.specs.Views.{script_value};
 
-    /// The script with these contents.
-    pub(crate) fn new(contents: Contents) -> Script
+    /// The script with these contents, which are those of one.
+    pub fn new(contents: Contents) -> Script
         requires { IsScript (script_value contents) }
         ensures { result ≡ script_value contents }
     {

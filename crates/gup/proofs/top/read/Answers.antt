@@ -1,5 +1,5 @@
 use Rattle.std.proofs.Common.{List, ℕ, subst}
-use Rattle.gup_script.specs.declared.refusal.ReadRefusal.{ReadRefusal}
+use Rattle.gup_reader.specs.declared.refusal.ReadRefusal.{ReadRefusal}
 use Rattle.gup.specs.FirstPath.{Runs, IsRefused, IsRefusalFor}
 use Rattle.gup.proofs.Told.{told_script, told_refused, loses_first}
 use Rattle.gup.proofs.top.read.Goals as goal

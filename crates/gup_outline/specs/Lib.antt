@@ -1,0 +1,4 @@
+pub mod Outline
+pub mod Named
+pub mod Room
+pub mod ReaderViews

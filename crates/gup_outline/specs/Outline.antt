@@ -1,0 +1,115 @@
+-- What the lines so far have made: the script up to here, its names, and what counts and comes once.
+use Rattle.std.specs.Prelude.{ℕ, ◌+◌, ◌*◌, ◌/◌, ◌%◌, ◌^◌, Bool, true, false, not, List, [], ◌∷◌, ◌++◌, length, count_by, slice_get, Option, Some, None, zero, suc}
+use Rattle.std.specs.List.{list_any}
+use Rattle.gup_names.specs.Names.{Entry, declared}
+use Rattle.gup_names.specs.declared.names.Named.TheVariants as named
+use Rattle.gup_script.specs.declared.op.Kind.{Kind}
+use Rattle.gup_script.specs.declared.op.Kind.TheVariants.{Thread, Device, Mover}
+use Rattle.gup_script.specs.declared.op.Op.{Op}
+use Rattle.gup_script.specs.Script.{ScriptValue, Process, Actor, FrameCounts}
+
+pub record Outline : Type 0 where
+  pub script : ScriptValue
+  -- all names, in the order in which they are declared
+  pub names : List Entry
+  -- how many operations there are
+  pub operations : ℕ
+  -- is there a `seed` line?
+  pub seeded : Bool
+
+-- the three numbers of a `frames` line
+abbrev pub frame_counts : ℕ × ℕ × ℕ → FrameCounts
+frame_counts numbers = record { movable = numbers.0; normal = numbers.1; tables = numbers.2 }
+
+abbrev pub empty_outline : FrameCounts → Outline
+empty_outline counts =
+    record {
+      script = record { frames = counts; processes = []; actors = []; handles = []; mirrors = []; turns = []; seed = 0 };
+      names = [];
+      operations = 0;
+      seeded = false;
+    }
+
+-- one more process, actor or operation; more written turns; the seed
+
+abbrev pub with_process : List ℕ → Bool → Outline → Outline
+with_process name born st =
+    record st {
+      script = record st.script { processes = st.script.processes ++ record { name = name; born = born } ∷ [] };
+      names = declared st.names name (named.Process (length st.script.processes));
+    }
+
+abbrev pub with_actor : List ℕ → Kind → Outline → Outline
+with_actor name kind st =
+    record st {
+      script = record st.script { actors = st.script.actors ++ record { name = name; kind = kind; ops = [] } ∷ [] };
+      names = declared st.names name (named.Actor (length st.script.actors));
+    }
+
+abbrev pub with_op : ℕ → Op → List Actor → List Actor
+with_op k op [] = []
+with_op zero op (a ∷ actors) = record a { ops = a.ops ++ op ∷ [] } ∷ actors
+with_op (suc k) op (a ∷ actors) = a ∷ with_op k op actors
+
+abbrev pub with_operation : ℕ → Op → Outline → Outline
+with_operation a op st =
+    record st {
+      script = record st.script { actors = with_op a op st.script.actors };
+      operations = st.operations + 1;
+    }
+
+abbrev pub with_turns : List ℕ → Outline → Outline
+with_turns turns st = record st { script = record st.script { turns = st.script.turns ++ turns } }
+
+abbrev pub with_seed : ℕ → Outline → Outline
+with_seed seed st = record st { script = record st.script { seed = seed }; seeded = true }
+
+-- the kinds of actors, and how many there are of one
+
+abbrev pub is_thread : Kind → Bool
+is_thread (Thread p) = true
+is_thread (Device slots) = false
+is_thread Mover = false
+
+abbrev pub is_device : Kind → Bool
+is_device (Device slots) = true
+is_device (Thread p) = false
+is_device Mover = false
+
+abbrev pub is_mover : Kind → Bool
+is_mover Mover = true
+is_mover (Thread p) = false
+is_mover (Device slots) = false
+
+abbrev pub how_many : (Kind → Bool) → Outline → ℕ
+how_many test st = count_by (λ (a : Actor). test a.kind) st.script.actors
+
+abbrev pub has_mover : Outline → Bool
+has_mover st = list_any (λ (a : Actor). is_mover a.kind) st.script.actors
+
+-- a process that a fork is to bring
+abbrev pub is_child_at : Option Process → Bool
+is_child_at None = false
+is_child_at (Some process) = not process.born
+
+abbrev pub is_child : Outline → ℕ → Bool
+is_child st p = is_child_at (slice_get st.script.processes p)
+
+-- an actor to which a handle can be given: a thread or a device
+abbrev pub is_receiver_at : Option Actor → Bool
+is_receiver_at None = false
+is_receiver_at (Some actor) = not (is_mover actor.kind)
+
+abbrev pub is_receiver : Outline → ℕ → Bool
+is_receiver st a = is_receiver_at (slice_get st.script.actors a)
+
+-- The generator of `random`: each number is drawn from the high bits of a state, which goes on from its start.
+abbrev pub next_state : ℕ → ℕ
+next_state x = (x * 6364136223846793005 + 1442695040888963407) % 2 ^ 64
+
+abbrev pub drawn : (below x : ℕ) → ℕ
+drawn below x = (x / 2 ^ 33) % below
+
+abbrev pub draws : (count below x : ℕ) → List ℕ
+draws zero below x = []
+draws (suc count) below x = drawn below (next_state x) ∷ draws count below (next_state x)

@@ -1,0 +1,7 @@
+pub mod Said
+pub mod Grammar
+pub mod Fault
+pub mod Reading
+pub mod Beyond
+pub mod Steps
+pub mod StageViews

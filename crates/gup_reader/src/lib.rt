@@ -1,0 +1,19 @@
+//! The reader of a script's text, the grammar, and what the grammar promises.
+#![tactic(auto)]
+
+mod beyond;
+mod declarations;
+mod law;
+mod operations;
+mod read;
+mod refusal;
+mod stage;
+mod turns;
+
+pub use beyond::first_line_beyond;
+pub use law::{one_fault, one_script, script_or_fault, scripts_have_no_fault};
+pub use read::read_script;
+pub use refusal::{ReadRefusal, Reason, ScriptFault};
+
+#[cfg(test)]
+mod tests;

@@ -1,0 +1,391 @@
+use super::*;
+use gup_base::{ActorNo, PageNo, ProcNo, Rights, WordNo};
+use gup_script::{Kind, Op, Script};
+use std::alloc::Global;
+use std::process::Abort;
+use std::test::*;
+
+/// Seven lines that declare one of each.
+const DECLARED: &str =
+    "gup 1\nframes 8 8 64\nprocess p\nchild c\nthread t p\ndevice d 64\nmover m\n";
+
+/// What stands behind the seven lines, and its first fault. Where a line has a second fault, the first goes before it.
+const LINES: [(&str, u32, Reason); 120] = [
+    ("process q\t\n", 8, Reason::Byte),
+    ("# \u{e9}\n", 8, Reason::Byte),
+    (" \u{7f}wrong\n", 8, Reason::Byte),
+    (" process q\n", 8, Reason::Space),
+    ("process q \n", 8, Reason::Space),
+    ("process  q\n", 8, Reason::Space),
+    (" \n", 8, Reason::Space),
+    ("  wrong\n", 8, Reason::Space),
+    ("wrong\n", 8, Reason::Word),
+    ("map 0 1 rw\n", 8, Reason::Word),
+    ("frames 8 8 64\n", 8, Reason::Word),
+    ("gup 1\n", 8, Reason::Word),
+    ("on t out h 0 0 1\n", 8, Reason::Word),
+    ("on t move p 0\n", 8, Reason::Word),
+    ("on d map 0 1 rw\n", 8, Reason::Word),
+    ("on d exit 1\n", 8, Reason::Word),
+    ("on m load 0.0\n", 8, Reason::Word),
+    ("process\n", 8, Reason::Shape),
+    ("process q r\n", 8, Reason::Shape),
+    ("child\n", 8, Reason::Shape),
+    ("thread u\n", 8, Reason::Shape),
+    ("device e\n", 8, Reason::Shape),
+    ("mover\n", 8, Reason::Shape),
+    ("seed\n", 8, Reason::Shape),
+    ("seed 01 1\n", 8, Reason::Shape),
+    ("turns\n", 8, Reason::Shape),
+    ("random 01\n", 8, Reason::Shape),
+    ("on\n", 8, Reason::Shape),
+    ("on q\n", 8, Reason::Shape),
+    ("on t map 01 0\n", 8, Reason::Shape),
+    ("on t map 01 0 w\n", 8, Reason::Shape),
+    ("on t protect 0 1 write\n", 8, Reason::Shape),
+    ("on t unmap 0\n", 8, Reason::Shape),
+    ("on t discard 0 1 rw\n", 8, Reason::Shape),
+    ("on t store 0.0\n", 8, Reason::Shape),
+    ("on t exit now\n", 8, Reason::Shape),
+    ("on t pin 9 01 17 rw\n", 8, Reason::Shape),
+    ("on t pin h 0 1 read lang\n", 8, Reason::Shape),
+    ("on t pinfast h 0 1\n", 8, Reason::Shape),
+    ("on d outv h 01\n", 8, Reason::Shape),
+    (
+        "on d inv h 0 1:1 1:1 1:1 1:1 1:1 1:1 1:1 1:1 x\n",
+        8,
+        Reason::Shape,
+    ),
+    ("on m move q 01 high\n", 8, Reason::Shape),
+    ("on q fly\n", 8, Reason::Name),
+    ("on p exit\n", 8, Reason::Name),
+    ("on t map 0 0 rw\n", 8, Reason::Number),
+    ("on t map 0 1025 rw\n", 8, Reason::Number),
+    ("on t map 34359738367 2 rw\n", 8, Reason::Number),
+    ("on t unmap 00 1\n", 8, Reason::Number),
+    ("on t load 5\n", 8, Reason::Number),
+    ("on t load 5.512\n", 8, Reason::Number),
+    ("on t load 34359738368.0\n", 8, Reason::Number),
+    ("on t store 5.0 18446744073709551616\n", 8, Reason::Number),
+    ("on t store 5.0 +7\n", 8, Reason::Number),
+    ("on t pin 9 0 17 read\n", 8, Reason::Number),
+    ("on t get 9 34359738368\n", 8, Reason::Number),
+    ("on d out h 4294967296 0 1\n", 8, Reason::Number),
+    ("on d in h 0 0 65\n", 8, Reason::Number),
+    ("on d outv h 0 0:33 0:32\n", 8, Reason::Number),
+    ("on d inv h 0 0:0\n", 8, Reason::Number),
+    ("on d mirror 9 q 00\n", 8, Reason::Number),
+    ("on d look s 512\n", 8, Reason::Number),
+    ("on m move q x normal\n", 8, Reason::Number),
+    ("device 9 0\n", 8, Reason::Number),
+    ("device e 4097\n", 8, Reason::Number),
+    ("seed 1\nseed 01\n", 9, Reason::Number),
+    ("turns q*0\n", 8, Reason::Number),
+    ("turns t*1000001\n", 8, Reason::Number),
+    ("turns q t*\n", 8, Reason::Number),
+    ("random 1 -1\n", 8, Reason::Number),
+    ("process P\n", 8, Reason::Name),
+    ("process 9\n", 8, Reason::Name),
+    ("child a2345678901234567\n", 8, Reason::Name),
+    ("thread t q\n", 8, Reason::Name),
+    ("thread u t\n", 8, Reason::Name),
+    ("mover M\n", 8, Reason::Name),
+    ("on t pin H 0 1 read\n", 8, Reason::Name),
+    ("on t put t\n", 8, Reason::Name),
+    ("on t fork p\n", 8, Reason::Name),
+    ("on t fork t\n", 8, Reason::Name),
+    ("on t unpin h\n", 8, Reason::Name),
+    ("on d take p\n", 8, Reason::Name),
+    ("on t give h d\n", 8, Reason::Name),
+    ("on d out h 0 0 64\n", 8, Reason::Name),
+    ("on d in t 0 0 1\n", 8, Reason::Name),
+    ("on d outv h 0 0:32 0:32\n", 8, Reason::Name),
+    ("on d mirror t p 0\n", 8, Reason::Name),
+    ("on d mirror s t 0\n", 8, Reason::Name),
+    ("on d look s 511\n", 8, Reason::Name),
+    ("on m move t 0 normal\n", 8, Reason::Name),
+    ("turns p\n", 8, Reason::Name),
+    ("turns t*1000000 t q\n", 8, Reason::Name),
+    ("process t\n", 8, Reason::Twice),
+    ("child p\n", 8, Reason::Twice),
+    ("thread d p\n", 8, Reason::Twice),
+    ("device m 1\n", 8, Reason::Twice),
+    ("mover p\n", 8, Reason::Twice),
+    ("mover n\n", 8, Reason::Twice),
+    ("seed 1\nseed 1\n", 9, Reason::Twice),
+    ("on t pinfast t 0 1 write long\n", 8, Reason::Twice),
+    ("on t get p 0\n", 8, Reason::Twice),
+    ("turns t*1000000\nturns d\n", 9, Reason::Limit),
+    ("turns t*500000 d*500000 m\n", 8, Reason::Limit),
+    ("random 1 1000001\n", 8, Reason::Limit),
+    ("turns t\nrandom 1 1000000\n", 9, Reason::Limit),
+    ("random 1 18446744073709551615\n", 8, Reason::Limit),
+    ("on t pin h 0 16 write long\n", 8, Reason::Later),
+    ("on t pinfast h 34359738366 2 read\n", 8, Reason::Later),
+    ("on t get g 0\n", 8, Reason::Later),
+    ("on t fork c\n", 8, Reason::Later),
+    ("on d mirror s c 0\n", 8, Reason::Later),
+    ("on m move c 0 movable\n", 8, Reason::Later),
+    (
+        "# x\n\n#\non m move p 34359738367 normal\n",
+        11,
+        Reason::Later,
+    ),
+    ("process q\n\nwrong\nwrong  too\n", 10, Reason::Word),
+    ("process q\nprocess q\nprocess q\n", 9, Reason::Twice),
+    ("on u exit\nthread u p\n", 8, Reason::Name),
+    ("thread u q\nprocess q\n", 8, Reason::Name),
+    ("on t exit\non t exi\n", 9, Reason::Word),
+    ("on t load 0.0\non t load 0.0x\n", 9, Reason::Number),
+    ("turns t d*2 m*\n", 8, Reason::Number),
+    ("random 1 1\nrandom 1\n", 9, Reason::Shape),
+];
+
+/// Whole texts, and the first fault of each.
+const TEXTS: [(&str, u32, Reason); 24] = [
+    ("", 1, Reason::Short),
+    ("\n", 2, Reason::Short),
+    ("gup 1\n", 2, Reason::Short),
+    ("# x\ngup 1\n\n#\n", 5, Reason::Short),
+    ("gup 1", 1, Reason::End),
+    ("gup 2 ", 1, Reason::End),
+    ("gup 1\r", 1, Reason::Byte),
+    ("gup 1\nframes 8 8 64\n#", 3, Reason::End),
+    ("gup 1\nframes 8 8 64\nprocess p", 3, Reason::End),
+    ("gup 1\nframes 8 8 64\nprocess \u{e9}", 3, Reason::Byte),
+    ("gup 1\r\nframes 8 8 64\n", 1, Reason::Byte),
+    ("gup  2\n", 1, Reason::Space),
+    ("gup 2\nframes 8 8 64\n", 1, Reason::Head),
+    ("\n#\nframes 8 8 64\n", 3, Reason::Head),
+    ("gup 1 1\n", 1, Reason::Head),
+    ("gup 1\ngup 1\n", 2, Reason::Frames),
+    ("gup 1\n\nframes 8 8\n", 3, Reason::Frames),
+    ("gup 1\nframes 8 8 64 1\n", 2, Reason::Frames),
+    ("gup 1\nframes 08 8 64\n", 2, Reason::Frames),
+    ("gup 1\nframes 1024 1 64\n", 2, Reason::Frames),
+    (
+        "gup 1\nframes 1 18446744073709551615 64\n",
+        2,
+        Reason::Frames,
+    ),
+    ("gup 1\nframes 8 8 8193\n", 2, Reason::Frames),
+    ("gup 1\nframes 8 8 64\nrandom 1 1\n", 3, Reason::Name),
+    ("gup 1\nframes 8 8 64\nturns t\n", 3, Reason::Name),
+];
+
+/// Two processes, four actors, five operations, written and drawn turns, and a seed.
+const WHOLE: &str =
+    "# all\ngup 1\n\nframes 512 512 8192\nrandom 3 0\nprocess p\nchild c\nthread t p\ndevice d 4096\nthread u c\nmover m\nseed 18446744073709551615\non t map 5 1024 r\non u discard 0 3\non t protect 34359738367 1 rw\non t store 5.511 7\non t exit\nturns t u*3 d m*2\nrandom 7 6\nturns d\n";
+
+/// The fault for which the text is refused.
+fn fault(alloc: Global, text: &[u8]) -> Result<ScriptFault, Fail> {
+    match read_script(alloc, text) {
+        Ok(_) => Err("a script")?,
+        Err(ReadRefusal::NoMemory) => Err("no memory")?,
+        Err(ReadRefusal::Fault(fault)) => Ok(fault),
+    }
+}
+
+/// Each text is this head and the first part of a row, and has the fault of that row.
+fn expect_faults(
+    rt: &impl Abort,
+    alloc: Global,
+    head: &str,
+    rows: &[(&str, u32, Reason)],
+) -> Result<(), Fail> {
+    for (lines, line, reason) in rows {
+        let text = format!(in alloc; "{head}{lines}")?;
+        let expected = ScriptFault {
+            line: *line,
+            reason: *reason,
+        };
+        assert_eq!(rt; fault(alloc, text.as_bytes())?, expected, "{lines}");
+    }
+    Ok(())
+}
+
+#[test]
+fn faults_of_lines(rt: HostRuntime) -> Result<(), Fail> {
+    expect_faults(&rt, rt.alloc(), DECLARED, &LINES)
+}
+
+#[test]
+fn faults_of_texts(rt: HostRuntime) -> Result<(), Fail> {
+    expect_faults(&rt, rt.alloc(), "", &TEXTS)
+}
+
+/// The text with so many more lines `PREFIX`, number and `SUFFIX`.
+fn with_lines(text: &mut String, count: u32, prefix: &str, suffix: &str) -> Result<(), Fail> {
+    let alloc = *text.allocator();
+    for k in 0..count {
+        let line = format!(in alloc; "{prefix}{k}{suffix}\n")?;
+        text.push_str(line.as_str())?;
+    }
+    Ok(())
+}
+
+#[test]
+fn limits(rt: HostRuntime) -> Result<(), Fail> {
+    for (most, prefix, suffix, beyond, reason) in [
+        (14, "process q", "", "child r\n", Reason::Limit),
+        (14, "child q", "", "process p\n", Reason::Twice),
+        (63, "thread u", " p", "thread v c\n", Reason::Limit),
+        (63, "thread u", " p", "thread t c\n", Reason::Twice),
+        (15, "device e", " 1", "device f 4096\n", Reason::Limit),
+        (16_384, "on t load ", ".0", "on t exit\n", Reason::Limit),
+        (16_384, "on t load ", ".0", "on t get g 0\n", Reason::Limit),
+        (16_384, "on t load ", ".0", "on t get t 0\n", Reason::Twice),
+    ] {
+        let mut text = String::from_str(rt.alloc(), DECLARED)?;
+        with_lines(&mut text, most, prefix, suffix)?;
+        assert!(rt;
+            read_script(rt.alloc(), text.as_bytes()).is_ok(),
+            "{prefix}"
+        );
+        text.push_str(beyond)?;
+        let fault = fault(rt.alloc(), text.as_bytes())?;
+        assert_eq!(rt;
+            fault,
+            ScriptFault {
+                line: most + 8,
+                reason
+            },
+            "{beyond}"
+        );
+    }
+    Ok(())
+}
+
+#[test]
+fn long_texts(rt: HostRuntime) -> Result<(), Fail> {
+    let mut text = Vec::new(rt.alloc());
+    for _ in 0..1_048_576 {
+        text.push(b'\n')?;
+    }
+    let short = ScriptFault {
+        line: 1_048_577,
+        reason: Reason::Short,
+    };
+    assert_eq!(rt; fault(rt.alloc(), text.as_slice())?, short);
+    text.push(255)?;
+    let long = ScriptFault {
+        line: 0,
+        reason: Reason::Long,
+    };
+    assert_eq!(rt; fault(rt.alloc(), text.as_slice())?, long);
+    Ok(())
+}
+
+/// What the readers say of the whole script.
+fn expect_whole(rt: &impl Abort, script: &Script) -> Result<(), Fail> {
+    assert_eq!(rt; script.frames(), (512, 512, 8_192));
+    assert_eq!(rt; script.processes(), 2);
+    assert_eq!(rt; script.actors(), 4);
+    assert_eq!(rt; script.seed(), u64::MAX);
+    let [p, c] = [0, 1].map(|v| ProcNo::new(v));
+    let p = p.ok_or("a process")?;
+    let c = c.ok_or("a process")?;
+    for (process, name, born) in [(p, "p", true), (c, "c", false)] {
+        assert_eq!(rt; script.process_name(process), name);
+        assert_eq!(rt; script.starts_born(process), born);
+    }
+    let actors = [
+        (0, "t", Kind::Thread(p), 4),
+        (1, "d", Kind::Device(4_096), 0),
+        (2, "u", Kind::Thread(c), 1),
+        (3, "m", Kind::Mover, 0),
+    ];
+    for (number, name, kind, operations) in actors {
+        let actor = ActorNo::new(number).ok_or("an actor")?;
+        assert_eq!(rt; script.name_of(actor), name);
+        assert_eq!(rt; script.kind(actor), kind);
+        assert_eq!(rt; script.ops(actor).len(), operations);
+    }
+    let first = ActorNo::new(0).ok_or("an actor")?;
+    let page = PageNo::new(5).ok_or("a page")?;
+    let last = PageNo::new(34_359_738_367).ok_or("a page")?;
+    let word = WordNo::new(511).ok_or("a word")?;
+    let operations = [
+        Op::Map {
+            page,
+            n: 1_024,
+            rights: Rights::R,
+        },
+        Op::Protect {
+            page: last,
+            n: 1,
+            rights: Rights::RW,
+        },
+        Op::Store {
+            page,
+            word,
+            value: 7,
+        },
+        Op::Exit,
+    ];
+    assert_eq!(rt; script.ops(first), operations.as_slice());
+    let turns = [0, 2, 2, 2, 1, 3, 3, 2, 3, 1, 1, 1, 3, 1];
+    assert_eq!(rt; script.turns().len(), turns.len());
+    for (turn, number) in script.turns().iter().zip(turns) {
+        assert_eq!(rt; turn.get(), number);
+    }
+    assert!(rt; !script.is_one_page());
+    Ok(())
+}
+
+#[test]
+fn whole_script(rt: HostRuntime) -> Result<(), Fail> {
+    let script = read_script(rt.alloc(), WHOLE.as_bytes())
+        .ok()
+        .ok_or("the text is a script")?;
+    expect_whole(&rt, &script)?;
+    let copy = script.copy()?;
+    expect_whole(&rt, &copy)
+}
+
+/// What stands behind the head of a script of one page, and the first line that makes it another.
+const PAGES: [(&str, Option<u32>); 13] = [
+    ("", None),
+    ("process p\nthread t p\n", None),
+    (
+        "process p\nthread t p\non t map 5 1 rw\non t store 5.0 7\non t load 5.1\non t unmap 5 1\n",
+        None,
+    ),
+    ("process p\nprocess q\nthread t p\n", Some(4)),
+    ("child p\n", Some(3)),
+    ("device d 1\n", Some(3)),
+    ("process p\nthread t p\nthread u p\n", Some(5)),
+    ("process p\nthread t p\n#\nturns t\nturns t\n", Some(6)),
+    ("process p\nthread t p\non t exit\n", Some(5)),
+    ("process p\nthread t p\non t map 5 1 r\n", Some(5)),
+    ("process p\nthread t p\non t map 5 2 rw\n", Some(5)),
+    ("process p\nthread t p\non t protect 5 1 rw\n", Some(5)),
+    (
+        "process p\nthread t p\non t load 5.0\non t load 6.0\n",
+        Some(6),
+    ),
+];
+
+/// The first line that makes the script in the text another than one of one page.
+fn line_beyond(alloc: Global, text: &[u8]) -> Result<Option<u32>, Fail> {
+    let Ok(script) = read_script(alloc, text) else {
+        return Err("no script")?;
+    };
+    if script.is_one_page() {
+        return Ok(None);
+    }
+    Ok(Some(first_line_beyond(alloc, text)?))
+}
+
+#[test]
+fn one_page(rt: HostRuntime) -> Result<(), Fail> {
+    for (lines, expected) in PAGES {
+        let text = format!(in rt.alloc(); "gup 1\nframes 0 1 0\n{lines}")?;
+        assert_eq!(rt;
+            line_beyond(rt.alloc(), text.as_bytes())?,
+            expected,
+            "{lines}"
+        );
+    }
+    Ok(())
+}
