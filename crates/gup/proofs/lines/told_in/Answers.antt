@@ -8,5 +8,5 @@ use Rattle.gup.proofs.lines.told_in.Goals as goal
 pub returns : goal.returns
 returns c =
     items_from_collect c.collect.result c.collect.ensures.ran
-        (YieldsList-from_filter_map _ told_of (YieldsList-from_slice c.args.notes.now cc)
-            c.filter_map.ensures.closure (λ x r q k. search (rules, tests)))
+    (YieldsList-from_filter_map _ told_of (YieldsList-from_slice c.args.notes.now cc)
+    c.filter_map.ensures.closure (λ x r q k. search (rules, tests)))
