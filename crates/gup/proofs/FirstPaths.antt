@@ -1,15 +1,13 @@
 -- The scripts that the machine can run: those of one thread, and those without an actor.
-use Rattle.std.proofs.Common.{◌≡◌, ℕ, ◌+◌, ◌<◌, ◌≤◌, true, List, [], ◌∷◌, length, Option, Some, None, slice_get, All, refl, sym, ap, subst, ◌∙◌, arith, zero, suc}
+use Rattle.std.proofs.Common.{◌≡◌, ℕ, ◌≤◌, List, [], ◌∷◌, length, All, refl, sym, ap, arith}
 use Rattle.std.specs.Prelude.{sum_by}
 use Rattle.std.proofs.lemmas.List.Elements.{All-nil, All-cons, All-head}
-use Rattle.gup_plain.specs.declared.note.What.{What}
 use Rattle.gup_script.specs.declared.op.Kind.{Kind}
 use Rattle.gup_script.specs.declared.op.Kind.TheVariants.{Thread, Device, Mover}
 use Rattle.gup_script.specs.OnePage.{IsThread, IsOnePage, IsOfPage}
-use Rattle.gup_script.specs.Script.{ScriptValue, Process, Actor}
+use Rattle.gup_script.specs.Script.{ScriptValue, Actor}
 use Rattle.gup_script.specs.Valid.{KindFits, IsScript}
-use Rattle.gup_follows.specs.Place.{first_place}
-use Rattle.gup_turns.specs.Run.{RunState, Runs, run_start, next_actor, IsCoreRun, HasTurns}
+use Rattle.gup_turns.specs.Run.{RunState, run_start, IsCoreRun, HasTurns}
 use Rattle.gup_turns.specs.Turn.{HasTurn}
 use Rattle.gup_script.specs.declared.op.Op.{Op}
 use Rattle.gup_script.specs.declared.op.Op.TheVariants.{Map, Unmap, Protect, Discard, Load, Store, Exit}

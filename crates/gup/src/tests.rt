@@ -45,19 +45,84 @@ const RUNS: [(&str, &str); 6] = [
 const REFUSALS: [(&str, u32, Reason, &str); 15] = [
     ("", 1, Reason::Short, "line 1: short\n"),
     ("gup 1\n", 2, Reason::Short, "line 2: short\n"),
-    ("gup 1\nframes 8 8 64\nprocess p", 3, Reason::End, "line 3: end\n"),
-    ("gup 1\nframes 8 8 64\nprocess p\nthread t p\non t load 34359738368.0\n", 5, Reason::Number, "line 5: number\n"),
-    ("gup 1\nframes 8 8 64\nprocess p\nthread t p\non t store 5.0 18446744073709551616\n", 5, Reason::Number, "line 5: number\n"),
-    ("gup 1\nframes 8 8 64\nprocess p\nprocess q\nthread t r\n", 5, Reason::Name, "line 5: name\n"),
-    ("gup 1\nframes 8 8 64\nprocess p\nprocess q\nthread t q\n", 4, Reason::Later, "line 4: later\n"),
-    ("gup 1\nframes 8 8 64\nchild c\n", 3, Reason::Later, "line 3: later\n"),
-    ("gup 1\nframes 8 8 64\nprocess p\nthread t p\nthread v p\n", 5, Reason::Later, "line 5: later\n"),
-    ("gup 1\nframes 8 8 64\ndevice d 8\n", 3, Reason::Later, "line 3: later\n"),
-    ("gup 1\nframes 0 0 64\n", 2, Reason::Later, "line 2: later\n"),
-    ("gup 1\nframes 8 8 64\nprocess p\nthread t p\non t map 5 1 rw\non t load 6.0\non t load 5.0\n", 6, Reason::Later, "line 6: later\n"),
-    ("gup 1\nframes 8 8 64\nprocess p\nthread t p\non t map 5 1 r\n", 5, Reason::Later, "line 5: later\n"),
-    ("gup 1\nframes 8 8 64\nprocess p\nthread t p\non t exit\n", 5, Reason::Later, "line 5: later\n"),
-    ("gup 1\nframes 8 8 64\nprocess p\nthread t p\nturns t*3\n", 5, Reason::Later, "line 5: later\n"),
+    (
+        "gup 1\nframes 8 8 64\nprocess p",
+        3,
+        Reason::End,
+        "line 3: end\n",
+    ),
+    (
+        "gup 1\nframes 8 8 64\nprocess p\nthread t p\non t load 34359738368.0\n",
+        5,
+        Reason::Number,
+        "line 5: number\n",
+    ),
+    (
+        "gup 1\nframes 8 8 64\nprocess p\nthread t p\non t store 5.0 18446744073709551616\n",
+        5,
+        Reason::Number,
+        "line 5: number\n",
+    ),
+    (
+        "gup 1\nframes 8 8 64\nprocess p\nprocess q\nthread t r\n",
+        5,
+        Reason::Name,
+        "line 5: name\n",
+    ),
+    (
+        "gup 1\nframes 8 8 64\nprocess p\nprocess q\nthread t q\n",
+        4,
+        Reason::Later,
+        "line 4: later\n",
+    ),
+    (
+        "gup 1\nframes 8 8 64\nchild c\n",
+        3,
+        Reason::Later,
+        "line 3: later\n",
+    ),
+    (
+        "gup 1\nframes 8 8 64\nprocess p\nthread t p\nthread v p\n",
+        5,
+        Reason::Later,
+        "line 5: later\n",
+    ),
+    (
+        "gup 1\nframes 8 8 64\ndevice d 8\n",
+        3,
+        Reason::Later,
+        "line 3: later\n",
+    ),
+    (
+        "gup 1\nframes 0 0 64\n",
+        2,
+        Reason::Later,
+        "line 2: later\n",
+    ),
+    (
+        "gup 1\nframes 8 8 64\nprocess p\nthread t p\non t map 5 1 rw\non t load 6.0\non t load 5.0\n",
+        6,
+        Reason::Later,
+        "line 6: later\n",
+    ),
+    (
+        "gup 1\nframes 8 8 64\nprocess p\nthread t p\non t map 5 1 r\n",
+        5,
+        Reason::Later,
+        "line 5: later\n",
+    ),
+    (
+        "gup 1\nframes 8 8 64\nprocess p\nthread t p\non t exit\n",
+        5,
+        Reason::Later,
+        "line 5: later\n",
+    ),
+    (
+        "gup 1\nframes 8 8 64\nprocess p\nthread t p\nturns t*3\n",
+        5,
+        Reason::Later,
+        "line 5: later\n",
+    ),
 ];
 
 /// Gives one byte a read, and fails at the read that has number `fails`, from 1.
@@ -179,7 +244,11 @@ fn scripts(rt: HostRuntime) -> Result<(), Fail> {
 fn refusals(rt: HostRuntime) -> Result<(), Fail> {
     for (script, line, reason, text) in REFUSALS {
         let report = expect(&rt, rt.alloc(), &["run"], script, 3, text)?;
-        assert_eq!(rt; report.refusal, Some(ScriptFault { line, reason }), "{script}");
+        assert_eq!(rt;
+            report.refusal,
+            Some(ScriptFault { line, reason }),
+            "{script}"
+        );
         assert!(rt; report.journal.notes().is_empty());
     }
     Ok(())

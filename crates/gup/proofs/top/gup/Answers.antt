@@ -100,7 +100,7 @@ returns-in-Err-Fault-clause-complete g c command read_well wrote_well =
     let P : Unread → Type 0 = λ why. IsUnreadFor (g.S.Source.remaining c.args.source.now) (g.S.Source.faults c.args.source.now) (g.S.Source.faults c.read.new.source) why in
     let status : ℕ = c.refuse.result.status in
     of_none (g.S.Source.remaining c.args.source.now) (λ script. (status ≡ 0) ⊎ (status ≡ 7))
-        (refused_none (g.S.Source.remaining c.args.source.now) c.in-Err-Fault.fault c.one_script.ensures c.scripts_have_no_fault.ensures (subst P c.in-Err-Fault.field-0-is c.in-Err-Fault.ensures.unread))
+    (refused_none (g.S.Source.remaining c.args.source.now) c.in-Err-Fault.fault c.one_script.ensures c.scripts_have_no_fault.ensures (subst P c.in-Err-Fault.field-0-is c.in-Err-Fault.ensures.unread))
 
 pub returns-in-Err-Fault-clause-text_part : goal.returns-in-Err-Fault-clause-text_part
 returns-in-Err-Fault-clause-text_part g c six command =
@@ -108,4 +108,4 @@ returns-in-Err-Fault-clause-text_part g c six command =
     let notes = c.refuse.result.journal.notes in
     let Q : ScriptValue → Type 0 = λ script. IsRunOf script notes × AppendsPart (g.K.Sink.taken c.args.sink.now) (g.K.Sink.taken c.refuse.new.sink) (text_of script notes) in
     of_none (g.S.Source.remaining c.args.source.now) Q
-        (refused_none (g.S.Source.remaining c.args.source.now) c.in-Err-Fault.fault c.one_script.ensures c.scripts_have_no_fault.ensures (subst P c.in-Err-Fault.field-0-is c.in-Err-Fault.ensures.unread))
+    (refused_none (g.S.Source.remaining c.args.source.now) c.in-Err-Fault.fault c.one_script.ensures c.scripts_have_no_fault.ensures (subst P c.in-Err-Fault.field-0-is c.in-Err-Fault.ensures.unread))

@@ -1,9 +1,7 @@
 use Rattle.std.proofs.Common.{◌≡◌, ◌≤◌, ℕ, List, [], length, subst, sym, ◌∙◌, arith}
 use Rattle.gup_plain.specs.Note.{NoteValue}
-use Rattle.gup_script.specs.Script.{ScriptValue}
 use Rattle.gup_follows.specs.Plain.{judged_first}
 use Rattle.gup_turns.specs.Run.{run_start}
-use Rattle.gup.specs.FirstPath.{IsFirstPath}
 use Rattle.gup.specs.Report.{IsRunOf}
 use Rattle.gup.proofs.Causes.{caused}
 use Rattle.gup.proofs.FirstPaths.{first_path, has_turns, nothing_runs, all_finished, no_operations}

@@ -1,5 +1,4 @@
-use Rattle.std.proofs.Common.{◌≡◌, ◌≤◌, length, sym, subst, arith}
-use Rattle.gup_script.specs.Script.{ScriptValue}
+use Rattle.std.proofs.Common.{sym, subst, arith}
 use Rattle.gup_script.specs.Valid.{IsScript}
 use Rattle.gup.specs.FirstPath.{IsFirstPath}
 use Rattle.gup.proofs.FirstPaths.{first_path}
