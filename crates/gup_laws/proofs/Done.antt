@@ -1,5 +1,5 @@
 -- A fork's next step: the fork that an actor is in, after a change, and the pages that are done, with one more.
-use Rattle.std.proofs.Common.{◌≡◌, ℕ, ◌==◌, ◌⊎◌, inl, inr, Bool, true, false, List, ◌∷◌, refl, subst, arith}
+use Rattle.std.proofs.Common.{◌≡◌, ℕ, ◌==◌, ◌⊎◌, inl, inr, Bool, true, false, List, ◌∷◌, refl, sym, subst, arith}
 use Rattle.std.specs.Prelude.{Option, Some, None, IsSome, Contains}
 use Rattle.std.proofs.lemmas.Bool.Decides.{nat_tests}
 use Rattle.std.proofs.lemmas.Map.Made.{Contains-tail}
@@ -44,3 +44,11 @@ undone_either x xs y none =
 pub some_there : {X : Type 0} (o : Option X) → (o ≡ None → ⊥) → IsSome o
 some_there None some = absurd (some refl)
 some_there (Some x) some = refl
+
+-- what holds of the changed fork, and of the forks of others, holds of each
+pub fork_after : (P : ℕ → Forking → Type 0) (forks : ℕ → Option Forking) (a : ℕ) (x : Forking) → P a x → ((b : ℕ) (k : Forking) → (b ≡ a → ⊥) → forks b ≡ Some k → P b k) → (b : ℕ) (k : Forking) → put a (Some x) forks b ≡ Some k → P b k
+fork_after P forks a x here there b k is =
+    elim (changed_fork forks a x b k is) [
+      | inl e ↦ subst (λ (c : ℕ). P c k) (sym e.0) (subst (P a) e.1 here)
+      | inr e ↦ there b k e.0 e.1
+    ]

@@ -1,18 +1,21 @@
 -- A fork begins, and reads the count of a page.
-use Rattle.std.proofs.Common.{◌≡◌, ℕ, ◌+◌, ◌≤◌, Bool, true, false, List, [], refl, ap, sym, ◌∙◌, subst, arith}
-use Rattle.std.specs.Prelude.{Option, Some, None, IsSome, slice_get}
+use Rattle.std.proofs.Common.{◌≡◌, ℕ, ◌+◌, ◌<◌, ◌≤◌, Bool, true, false, List, [], refl, ap, sym, ◌∙◌, subst, arith}
+use Rattle.std.specs.Prelude.{Option, Some, None, IsSome, Contains, slice_get, nat_lt}
 use Rattle.std.proofs.lemmas.Bool.Decides.{nat_tests}
 use Rattle.gup_base.specs.declared.entry.Entry.{Entry}
 use Rattle.gup_base.specs.declared.entry.Rights.{Rights}
 use Rattle.gup_plain.specs.Put.{put}
-use Rattle.gup_plain.specs.State.{unborn, failed}
-use Rattle.gup_events.specs.State.{CoreState, Taken, idle, between, counted, copying, plain_of}
+use Rattle.gup_plain.specs.State.{unborn, failed, born, growing}
+use Rattle.gup_plain.specs.Event.{words}
+use Rattle.gup_events.specs.State.{CoreState, Taken, idle, forking, ForkStep, between, counted, cleared, copying, plain_of}
 use Rattle.gup_events.specs.Event.{Can, happens, bias, copies_page, is_done, begin_fork, count_page}
-use Rattle.gup_events.specs.Sound.{View, Forking, moving_of, forking_of, IsSoundBy, IsSound, Simulates, IsUncopiedBy}
+use Rattle.gup_events.specs.Sound.{View, Forking, moving_of, forking_of, step_page, shared_page, lowered_page, is_failing, copied_words, step_words, keeps_table, birth_of_child, IsSoundBy, IsSound, Simulates, IsUncopiedBy}
 use Rattle.gup_laws.proofs.Clauses.{MarksAre, MovesAre, ForksAre, WholeFree, WholeKept, WholeOther, RightNames, WholeNames, NamesObject, MarksTable, MovesTable, ForksTable, ForksStructure, TableHeld, StructureHeld, TableBorn, ForkParent, ForkBirth, GrowingLocked, GrowingForked, GrowingRights, UnbornUnmapped, FailedUnmapped, FlagBorn, OwnMade, OwnNames, OwnEntry, OwnWords, OwnMarked, OwnMarking, MarkedOwn, EntryMapped, EntryAllowed, EntryWords, Untouched, NamesAlone, NamesMade, RightNumbered, HandleFlag, TakenNames, PreparedZero, MarkingOwn, ForkFresh, ForkCopied, ForkUncopied, ForkUndone, ForkMapped, CopyWords, ShareHandle, ShareTaken, ShareLowered, ShareUnowned, MirrorBorn, MirrorNames}
 use Rattle.gup_laws.proofs.Lonely.{handle_counts, taken_counts}
 use Rattle.gup_laws.proofs.Named.{by_pages}
-use Rattle.gup_laws.proofs.Children.{growing_parent, uncopied_before, fork_here, copied_made}
+use Rattle.gup_laws.proofs.Done.{fork_after}
+use Rattle.gup_laws.proofs.Tally.{number_here}
+use Rattle.gup_laws.proofs.Children.{birth_goes, growing_parent, uncopied_before, fork_here, copied_made}
 use Rattle.gup_laws.proofs.Holders.{no_element}
 use Rattle.gup_laws.proofs.Named.{named_twice}
 
@@ -110,63 +113,33 @@ taken_copies v s p page b n e t h there takes same =
     let count : bias ≤ s.count e.frame = subst (λ f. bias ≤ s.count f) same (taken_counts v s h b n t takes) in
     grind (arith, nat_tests)
 
-counts_copy : (s : CoreState) (a p c : ℕ) (done : List ℕ) (page : ℕ) (e : Entry) → IsSound s → Can s (count_page a p c done page e true) → Simulates s (count_page a p c done page e true)
-counts_copy s a p c done page e (v, h) can =
-    let S : CoreState = happens s (count_page a p c done page e true) in
-    let V : View = record v { forks = put a (Some (record { proc = p; child = c; done = done; step = copying page 0 })) v.forks } in
-    let before : Forking = record { proc = p; child = c; done = done; step = between } in
-    let mine : v.forks a ≡ Some before = fork_here v s a p c done between h can.0 in
-    let free : s.table p ≡ None = can.1 in
-    let there : v.whole p page ≡ Some e = h.whole_entry p page e can.4 in
-    let undone : is_done done page → ⊥ = can.3 in
-    let mapped : IsSome (s.right c page) = can.2 in
-    let reads : true ≡ copies_page s p e.frame = can.5 in
-    let still : v.moves a ≡ None = h.moves_are a ∙ ap moving_of can.0 in
-    let marks_are : MarksAre V S = λ b. grind (arith, nat_tests, h.marks_are b) in
-    let moves_are : MovesAre V S = λ b. grind (arith, nat_tests, h.moves_are b) in
-    let forks_are : ForksAre V S = λ b. grind (arith, nat_tests, h.forks_are b) in
-    let whole_free : WholeFree V S = λ q i d. grind (arith, nat_tests, h.whole_free q i d) in
-    let whole_kept : WholeKept V S = λ q i b d. grind (arith, nat_tests, h.whole_kept q i b d, h.whole_free q i d) in
-    let whole_other : WholeOther V S = λ q i b d m. grind (arith, nat_tests, h.whole_other q i b d m, h.whole_free q i d) in
-    let marks_table : MarksTable V S = λ b m. grind (arith, nat_tests, h.marks_table b m) in
-    let moves_table : MovesTable V S = λ b m. grind (arith, nat_tests, h.moves_table b m) in
-    let forks_table : ForksTable V S = λ b i fork. grind (arith, nat_tests, h.forks_table b i fork) in
-    let forks_structure : ForksStructure V S = λ b fork. grind (arith, nat_tests, h.forks_structure b fork, h.forks_structure a before) in
-    let table_held : TableHeld V S = λ q b. grind (arith, nat_tests, h.table_held q b) in
-    let structure_held : StructureHeld V S = λ q b. grind (arith, nat_tests, h.structure_held q b) in
-    let table_born : TableBorn V S = λ q b. grind (arith, nat_tests, h.table_born q b, h.fork_parent a before) in
-    let fork_parent : ForkParent V S = λ b fork. grind (arith, nat_tests, h.fork_parent b fork, h.fork_parent a before) in
-    let fork_birth : ForkBirth V S = λ b fork. grind (arith, nat_tests, h.fork_birth b fork, h.fork_birth a before) in
-    let growing_forked : GrowingForked V S = λ x q b. grind (arith, nat_tests, h.growing_forked x q b) in
-    let own_marked : OwnMarked V S = λ q i o d. grind (arith, nat_tests, h.own_marked q i o d) in
-    let own_marking : OwnMarking V S = λ q i o b d. grind (arith, nat_tests, h.own_marking q i o b d, h.own_marked q i o d) in
-    let untouched : Untouched V S = λ q i w r mapped empty now. let old : IsUncopiedBy v.forks q i = uncopied_before v.forks a _ q i now (λ word k is child at. grind (arith)) in grind (arith, nat_tests, h.untouched q i w r mapped empty old) in
-    let prepared_zero : PreparedZero V S = λ b u w. grind (arith, nat_tests, h.prepared_zero b u w) in
-    let fork_fresh : ForkFresh V S = λ b i fork. grind (arith, nat_tests, h.fork_fresh b i fork, h.fork_fresh a i before) in
-    let fork_copied : ForkCopied V S = λ b i w fork. grind (arith, nat_tests, h.fork_copied b i w fork, h.fork_copied a i w before) in
-    let fork_uncopied : ForkUncopied V S = λ b i w fork. grind (arith, nat_tests, h.fork_uncopied b i w fork, h.fork_uncopied a i w before) in
-    let fork_undone : ForkUndone V S = λ b i fork. grind (arith, nat_tests, h.fork_undone b i fork, can.3) in
-    let fork_mapped : ForkMapped V S = λ b i fork. grind (arith, nat_tests, h.fork_mapped b i fork) in
-    let copy_words : CopyWords V S = λ b i n w u fork. grind (arith, nat_tests, h.copy_words b i n w u fork) in
-    let share_handle : ShareHandle V S = λ b i j n fork d. grind (arith, nat_tests, h.share_handle b i j n fork d) in
-    let share_taken : ShareTaken V S = λ b i y n fork d t. grind (arith, nat_tests, h.share_taken b i y n fork d t) in
-    let share_lowered : ShareLowered V S = λ b i fork d. grind (arith, nat_tests, h.share_lowered b i fork d) in
-    let share_unowned : ShareUnowned V S = λ b i fork d. grind (arith, nat_tests, h.share_unowned b i fork d) in
-    let sound : IsSoundBy V S = assumption in
-    record { sound = (V, sound); can = tt; same = refl }
+-- a step that begins with a page: nothing is copied or made read-only yet
+record IsBeginning (step : ForkStep) (page : ℕ) : Type 0 where
+  at : step_page step ≡ Some page
+  going : is_failing step ≡ false
+  copied : (g : ℕ) → copied_words step g ≡ 0
+  written : step_words step ≡ 0
+  lowered : lowered_page step ≡ None
+  uncleared : (g : ℕ) → step ≡ cleared g → ⊥
+  uncopied : (g n : ℕ) → step ≡ copying g n → n ≡ 0
+  keeps : (p c : ℕ) (done : List ℕ) → keeps_table (forking p c done step) ≡ Some p
 
-counts_share : (s : CoreState) (a p c : ℕ) (done : List ℕ) (page : ℕ) (e : Entry) → IsSound s → Can s (count_page a p c done page e false) → Simulates s (count_page a p c done page e false)
-counts_share s a p c done page e (v, h) can =
-    let S : CoreState = happens s (count_page a p c done page e false) in
-    let V : View = record v { forks = put a (Some (record { proc = p; child = c; done = done; step = counted page })) v.forks } in
+-- it shares no page that a pin holds
+record IsApart (v : View) (s : CoreState) (p : ℕ) (step : ForkStep) : Type 0 where
+  handles : (g j n : ℕ) (d : Entry) → shared_page step ≡ Some g → v.whole p g ≡ Some d → slice_get (s.pinned j) n ≡ Some d.frame → ⊥
+  takens : (g b n : ℕ) (d : Entry) (t : Taken) → shared_page step ≡ Some g → v.whole p g ≡ Some d → slice_get (s.taken b) n ≡ Some t → t.frame ≡ d.frame → ⊥
+
+counted_page : (v : View) (s : CoreState) (a p c : ℕ) (done : List ℕ) (page : ℕ) (step : ForkStep) → IsSoundBy v s → s.job a ≡ forking p c done between → s.table p ≡ None → IsSome (s.right c page) → (is_done done page → ⊥) → IsBeginning step page → IsApart v s p step → IsSoundBy (record v { forks = put a (Some (record { proc = p; child = c; done = done; step = step })) v.forks }) (record s { table = put p (Some a) s.table; job = put a (forking p c done step) s.job })
+counted_page v s a p c done page step h is free mapped undone begins apart =
+    let S : CoreState = record s { table = put p (Some a) s.table; job = put a (forking p c done step) s.job } in
+    let next : Forking = record { proc = p; child = c; done = done; step = step } in
+    let V : View = record v { forks = put a (Some next) v.forks } in
     let before : Forking = record { proc = p; child = c; done = done; step = between } in
-    let mine : v.forks a ≡ Some before = fork_here v s a p c done between h can.0 in
-    let free : s.table p ≡ None = can.1 in
-    let there : v.whole p page ≡ Some e = h.whole_entry p page e can.4 in
-    let undone : is_done done page → ⊥ = can.3 in
-    let mapped : IsSome (s.right c page) = can.2 in
-    let reads : false ≡ copies_page s p e.frame = can.5 in
-    let still : v.moves a ≡ None = h.moves_are a ∙ ap moving_of can.0 in
+    let mine : v.forks a ≡ Some before = fork_here v s a p c done between h is in
+    let still : v.moves a ≡ None = h.moves_are a ∙ ap moving_of is in
+    let lives : s.birth p ≡ born = h.fork_parent a before mine in
+    let grows : s.birth c ≡ growing p = h.fork_birth a before mine in
+    let keeps : keeps_table (forking p c done step) ≡ Some p = begins.keeps p c done in
     let marks_are : MarksAre V S = λ b. grind (arith, nat_tests, h.marks_are b) in
     let moves_are : MovesAre V S = λ b. grind (arith, nat_tests, h.moves_are b) in
     let forks_are : ForksAre V S = λ b. grind (arith, nat_tests, h.forks_are b) in
@@ -175,31 +148,85 @@ counts_share s a p c done page e (v, h) can =
     let whole_other : WholeOther V S = λ q i b d m. grind (arith, nat_tests, h.whole_other q i b d m, h.whole_free q i d) in
     let marks_table : MarksTable V S = λ b m. grind (arith, nat_tests, h.marks_table b m) in
     let moves_table : MovesTable V S = λ b m. grind (arith, nat_tests, h.moves_table b m) in
-    let forks_table : ForksTable V S = λ b i fork. grind (arith, nat_tests, h.forks_table b i fork) in
-    let forks_structure : ForksStructure V S = λ b fork. grind (arith, nat_tests, h.forks_structure b fork, h.forks_structure a before) in
+    let table_here : S.table p ≡ Some a = number_here p (Some a) s.table in
+    let table_there : (q b : ℕ) → s.table q ≡ Some b → S.table q ≡ Some b = λ q b held. grind (arith, nat_tests) in
+    let forks_table : ForksTable V S = λ b i. fork_after (λ b k. step_page k.step ≡ Some i → S.table k.proc ≡ Some b) v.forks a next (λ at. table_here) (λ b k other was at. table_there k.proc b (h.forks_table b i k was at)) b in
+    let forks_structure : ForksStructure V S = fork_after (λ b k. s.structure k.proc ≡ Some b) v.forks a next (h.forks_structure a before mine) (λ b k other. h.forks_structure b k) in
     let table_held : TableHeld V S = λ q b. grind (arith, nat_tests, h.table_held q b) in
     let structure_held : StructureHeld V S = λ q b. grind (arith, nat_tests, h.structure_held q b) in
-    let table_born : TableBorn V S = λ q b. grind (arith, nat_tests, h.table_born q b, h.fork_parent a before) in
-    let fork_parent : ForkParent V S = λ b fork. grind (arith, nat_tests, h.fork_parent b fork, h.fork_parent a before) in
-    let fork_birth : ForkBirth V S = λ b fork. grind (arith, nat_tests, h.fork_birth b fork, h.fork_birth a before) in
+    let table_born : TableBorn V S = λ q b. grind (arith, nat_tests, h.table_born q b) in
+    let fork_parent : ForkParent V S = fork_after (λ b k. s.birth k.proc ≡ born) v.forks a next lives (λ b k other. h.fork_parent b k) in
+    let birth_here : s.birth c ≡ birth_of_child next = grows ∙ sym (birth_goes next begins.going) in
+    let fork_birth : ForkBirth V S = fork_after (λ b k. s.birth k.child ≡ birth_of_child k) v.forks a next birth_here (λ b k other. h.fork_birth b k) in
     let growing_forked : GrowingForked V S = λ x q b. grind (arith, nat_tests, h.growing_forked x q b) in
     let own_marked : OwnMarked V S = λ q i o d. grind (arith, nat_tests, h.own_marked q i o d) in
     let own_marking : OwnMarking V S = λ q i o b d. grind (arith, nat_tests, h.own_marking q i o b d, h.own_marked q i o d) in
-    let untouched : Untouched V S = λ q i w r mapped empty now. let old : IsUncopiedBy v.forks q i = uncopied_before v.forks a _ q i now (λ word k is child at. grind (arith)) in grind (arith, nat_tests, h.untouched q i w r mapped empty old) in
-    let prepared_zero : PreparedZero V S = λ b u w. grind (arith, nat_tests, h.prepared_zero b u w) in
-    let fork_fresh : ForkFresh V S = λ b i fork. grind (arith, nat_tests, h.fork_fresh b i fork, h.fork_fresh a i before) in
-    let fork_copied : ForkCopied V S = λ b i w fork. grind (arith, nat_tests, h.fork_copied b i w fork, h.fork_copied a i w before) in
-    let fork_uncopied : ForkUncopied V S = λ b i w fork. grind (arith, nat_tests, h.fork_uncopied b i w fork, h.fork_uncopied a i w before) in
-    let fork_undone : ForkUndone V S = λ b i fork. grind (arith, nat_tests, h.fork_undone b i fork, can.3) in
-    let fork_mapped : ForkMapped V S = λ b i fork. grind (arith, nat_tests, h.fork_mapped b i fork) in
-    let copy_words : CopyWords V S = λ b i n w u fork. grind (arith, nat_tests, h.copy_words b i n w u fork) in
-    let share_handle : ShareHandle V S = λ b i j n fork d. grind (arith, nat_tests, h.share_handle b i j n fork d, handle_copies v s p page j n d h) in
-    let share_taken : ShareTaken V S = λ b i y n fork d t. grind (arith, nat_tests, h.share_taken b i y n fork d t, taken_copies v s p page y n d t h) in
-    let share_lowered : ShareLowered V S = λ b i fork d. grind (arith, nat_tests, h.share_lowered b i fork d) in
-    let share_unowned : ShareUnowned V S = λ b i fork d. grind (arith, nat_tests, h.share_unowned b i fork d) in
-    let sound : IsSoundBy V S = assumption in
-    record { sound = (V, sound); can = tt; same = refl }
+    let untouched : Untouched V S = λ q i w r there empty now. let old : IsUncopiedBy v.forks q i = uncopied_before v.forks a _ q i now (λ word k was child at. grind (arith)) in h.untouched q i w r there empty old in
+    let prepared_zero : PreparedZero V S = λ b u w. grind (arith, nat_tests, h.prepared_zero b u w, begins.written) in
+    let fork_fresh : ForkFresh V S = λ b i. fork_after (λ b k. is_failing k.step ≡ false → (Contains k.done i → ⊥) → v.whole k.child i ≡ None) v.forks a next (λ going. h.fork_fresh a i before mine refl) (λ b k other. h.fork_fresh b i k) b in
+    let fork_copied : ForkCopied V S = λ b i w. fork_after (λ b k. is_failing k.step ≡ false → Contains k.done i → w < words → s.copied k.child i w ≡ true) v.forks a next (λ going. h.fork_copied a i w before mine refl) (λ b k other. h.fork_copied b i w k) b in
+    let uncopied_here : (i w : ℕ) → (Contains done i → ⊥) → w < words → s.copied c i w ≡ nat_lt w (copied_words step i) = λ i w un below. h.fork_uncopied a i w before mine refl un below ∙ ap (nat_lt w) (sym (begins.copied i)) in
+    let fork_uncopied : ForkUncopied V S = λ b i w. fork_after (λ b k. is_failing k.step ≡ false → (Contains k.done i → ⊥) → w < words → s.copied k.child i w ≡ nat_lt w (copied_words k.step i)) v.forks a next (λ going. uncopied_here i w) (λ b k other. h.fork_uncopied b i w k) b in
+    let page_is : (i : ℕ) → step_page step ≡ Some i → page ≡ i = λ i at. let same : Some page ≡ Some i = sym begins.at ∙ at in cc in
+    let fork_undone : ForkUndone V S = λ b i. fork_after (λ b k. step_page k.step ≡ Some i → Contains k.done i → ⊥) v.forks a next (λ at has. undone (subst (Contains done) (sym (page_is i at)) has)) (λ b k other. h.fork_undone b i k) b in
+    let fork_mapped : ForkMapped V S = λ b i. fork_after (λ b k. step_page k.step ≡ Some i → s.right k.child i ≡ None → ⊥) v.forks a next (λ at none. let some : IsSome (s.right c i) = subst (λ g. IsSome (s.right c g)) (page_is i at) mapped in absurd (cc)) (λ b k other. h.fork_mapped b i k) b in
+    let copy_words : CopyWords V S = λ b i n w u. fork_after (λ b k. k.step ≡ copying i n → s.prepared b ≡ Some u → w < n → s.word u w ≡ s.content (s.object k.child i) w) v.forks a next (λ at prepares below. absurd (omega (arith, begins.uncopied i n at, below))) (λ b k other. h.copy_words b i n w u k) b in
+    let share_handle : ShareHandle V S = λ b i j n k d. fork_after (λ b k. shared_page k.step ≡ Some i → v.whole k.proc i ≡ Some d → slice_get (s.pinned j) n ≡ Some d.frame → ⊥) v.forks a next (apart.handles i j n d) (λ b k other was. h.share_handle b i j n k d was) b k in
+    let share_taken : ShareTaken V S = λ b i y n k d t. fork_after (λ b k. shared_page k.step ≡ Some i → v.whole k.proc i ≡ Some d → slice_get (s.taken y) n ≡ Some t → t.frame ≡ d.frame → ⊥) v.forks a next (apart.takens i y n d t) (λ b k other was. h.share_taken b i y n k d t was) b k in
+    let share_lowered : ShareLowered V S = λ b i k d. fork_after (λ b k. lowered_page k.step ≡ Some i → v.whole k.proc i ≡ Some d → d.writable ≡ false) v.forks a next (λ low. absurd (let none : None ≡ Some i = sym begins.lowered ∙ low in cc)) (λ b k other was. h.share_lowered b i k d was) b k in
+    let share_unowned : ShareUnowned V S = λ b i k d. fork_after (λ b k. k.step ≡ cleared i → v.whole k.proc i ≡ Some d → s.own d.frame ≡ None) v.forks a next (λ at. absurd (begins.uncleared i at)) (λ b k other was. h.share_unowned b i k d was) b k in
+    assumption
+
+begins_copy : (page : ℕ) → IsBeginning (copying page 0) page
+begins_copy page =
+    record {
+      at = refl;
+      going = refl;
+      copied = λ g. grind (arith, nat_tests);
+      written = refl;
+      lowered = refl;
+      uncleared = λ g is. absurd (cc);
+      uncopied = λ g n is. cc;
+      keeps = λ p c done. refl;
+    }
+
+begins_share : (page : ℕ) → IsBeginning (counted page) page
+begins_share page =
+    record {
+      at = refl;
+      going = refl;
+      copied = λ g. refl;
+      written = refl;
+      lowered = refl;
+      uncleared = λ g is. absurd (cc);
+      uncopied = λ g n is. absurd (cc);
+      keeps = λ p c done. refl;
+    }
+
+-- what is to be copied is not shared, and what is shared is under no pin: else it were to be copied
+apart_from_pins : (v : View) (s : CoreState) (p page : ℕ) → IsSoundBy v s → (e : Entry) → v.whole p page ≡ Some e → false ≡ copies_page s p e.frame → IsApart v s p (counted page)
+apart_from_pins v s p page h e there reads =
+    record {
+      handles = λ g j n d at also pins.
+          let same : page ≡ g = cc in
+          let here : v.whole p page ≡ Some d = subst (λ i. v.whole p i ≡ Some d) (sym same) also in
+          let alike : d ≡ e = cc in
+          let copies : copies_page s p d.frame ≡ true = handle_copies v s p page j n d h here pins in
+          let not : false ≡ copies_page s p d.frame = subst (λ (x : Entry). false ≡ copies_page s p x.frame) (sym alike) reads in
+          absurd (let no : false ≡ true = not ∙ copies in cc);
+      takens = λ g b n d t at also takes frame.
+          let same : page ≡ g = cc in
+          let here : v.whole p page ≡ Some d = subst (λ i. v.whole p i ≡ Some d) (sym same) also in
+          let alike : d ≡ e = cc in
+          let copies : copies_page s p d.frame ≡ true = taken_copies v s p page b n d t h here takes frame in
+          let not : false ≡ copies_page s p d.frame = subst (λ (x : Entry). false ≡ copies_page s p x.frame) (sym alike) reads in
+          absurd (let no : false ≡ true = not ∙ copies in cc);
+    }
 
 pub simulates-count_page : (s : CoreState) (a p c : ℕ) (done : List ℕ) (page : ℕ) (e : Entry) (copies : Bool) → IsSound s → Can s (count_page a p c done page e copies) → Simulates s (count_page a p c done page e copies)
-simulates-count_page s a p c done page e true sound can = counts_copy s a p c done page e sound can
-simulates-count_page s a p c done page e false sound can = counts_share s a p c done page e sound can
+simulates-count_page s a p c done page e true (v, h) can =
+    let apart : IsApart v s p (copying page 0) = record { handles = λ g j n d at. absurd (cc); takens = λ g b n d t at. absurd (cc) } in
+    record { sound = (_, counted_page v s a p c done page (copying page 0) h can.0 can.1 can.2 can.3 (begins_copy page) apart); can = tt; same = refl }
+simulates-count_page s a p c done page e false (v, h) can =
+    let there : v.whole p page ≡ Some e = h.whole_entry p page e can.4 in
+    record { sound = (_, counted_page v s a p c done page (counted page) h can.0 can.1 can.2 can.3 (begins_share page) (apart_from_pins v s p page h e there can.5)); can = tt; same = refl }

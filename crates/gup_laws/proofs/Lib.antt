@@ -10,6 +10,7 @@ pub mod Children
 pub mod Done
 pub mod Start
 pub mod Faults
+pub mod Breaks
 pub mod PinLists
 pub mod Pins
 pub mod Moves

@@ -1,18 +1,16 @@
 -- A run of core events that can happen, so that the laws speak of something: pages are mapped, written, mirrored, pinned,
 -- shared, copied, moved and given back, and forks end and fail.
-use Rattle.std.proofs.Common.{◌≡◌, ℕ, ◌+◌, ◌<◌, ◌≤◌, ◌==◌, Bool, true, false, List, [], ◌∷◌, refl, subst, arith}
+use Rattle.std.proofs.Common.{◌≡◌, ℕ, ◌+◌, ◌<◌, ◌≤◌, true, false, [], ◌∷◌, refl, subst, arith}
 use Rattle.std.specs.Prelude.{Option, Some, None, IsSome, Contains}
 use Rattle.std.proofs.lemmas.Bool.Decides.{nat_tests}
 use Rattle.gup_base.specs.declared.entry.Entry.{Entry}
 use Rattle.gup_base.specs.declared.entry.Rights.TheVariants.{RW}
 use Rattle.gup_plain.specs.Put.{put, spread}
 use Rattle.gup_plain.specs.Event.{page_numbers}
-use Rattle.gup_events.specs.State.{more, between}
-use Rattle.gup_events.specs.Event.{entry_of, map_pages, lower_entry, protect_pages, drop_entry, discard_entry, load, store, move_out, move_in, empty_mirror, fill_mirror, look, begin_fork, count_page, share_entry, share_mark, share_child, copy_word, pass_page, end_fork, fail_fork, put_child, release_fork, fail_unborn}
+use Rattle.gup_events.specs.Event.{entry_of}
 use Rattle.std.proofs.lemmas.List.Elements.{All-nil}
 use Rattle.gup_laws.proofs.Holders.{no_element, first_element}
 use Rattle.gup_events.specs.State.{start}
-use Rattle.gup_events.specs.Event.{CoreEvent, take_frame, fill, upgrade, raise_flag, pin_page, make_handle, give_handle, take_handle, unpin_page, break_entry, put_entry, count_one, set_mark, clear_entry, count_moved, place_frame, restore_entry, get_reference, put_reference}
 use Rattle.gup_events.specs.Invariant.{AllCan}
 use Rattle.gup_laws.specs.Possible.{first_born, one_run}
 
@@ -37,209 +35,79 @@ all_done page is =
 given_back : (page : ℕ) → ◌≡◌ {A = Option Entry} (put 7 None (put 7 (Some (entry_of 6 false)) (λ _. None)) page) None
 given_back page = grind (arith, nat_tests)
 
+-- the first event can happen, and then the others
+◌and_then◌ : {P Q : Type 0} → P → Q → P × Q
+◌and_then◌ can rest = (can, rest)
+
+infixr 5 ◌and_then◌
 pub they_can_happen : AllCan (start 2 8 first_born) one_run
-they_can_happen = (
-  (refl, (refl, refl), few_pages, (λ k inside. refl), omega arith),
-  (
-    (tt, refl, omega arith, refl),
-    (
-      (refl, (refl, refl), refl, refl, refl, refl),
-      (
-        (refl, (refl, refl), refl, refl, refl),
-        (
-          (refl, refl, omega arith),
-          (
-            (refl, (true, refl), omega arith, refl),
-            (
-              (refl, (refl, refl), refl),
-              (
-                (refl, omega arith, refl),
-                (
-                  refl,
-                  (
-                    refl,
-                    (
-                      (refl, (refl, refl), (refl, refl), refl, refl, (refl, (λ is. refl), λ is. omega arith), All-nil _, All-nil _),
-                      (
-                        (refl, refl, λ no. absurd (cc)),
-                        (
-                          ((refl, refl, omega arith), refl, refl),
-                          (
-                            ((refl, refl, omega arith), refl),
-                            (
-                              refl,
-                              (
-                                refl,
-                                (
-                                  (refl, refl),
-                                  (
-                                    (refl, refl, (refl, refl), (refl, refl), refl, refl),
-                                    (
-                                      (refl, refl, refl, no_element 7, refl, refl),
-                                      (
-                                        (refl, refl, (λ m noted is at proc page. emptied m is)),
-                                        (
-                                          (refl, refl),
-                                          (
-                                            (refl, refl),
-                                            (
-                                              (refl, all_done),
-                                              (
-                                                (tt, refl, omega arith, refl),
-                                                (
-                                                  (refl, (refl, refl), refl, refl, refl, refl, refl, (λ is. refl), (λ m noted is at proc page. emptied m is)),
-                                                  (
-                                                    refl,
-                                                    (
-                                                      (refl, (refl, refl), (refl, refl), refl, refl, refl),
-                                                      (
-                                                        refl,
-                                                        (
-                                                          (refl, refl, (refl, refl), refl, refl, (λ m noted is at proc page. emptied m is)),
-                                                          (
-                                                            (refl, refl),
-                                                            (
-                                                              (tt, refl, omega arith, refl),
-                                                              (
-                                                                (refl, refl, refl),
-                                                                (
-                                                                  refl,
-                                                                  (
-                                                                    (refl, (refl, refl), refl, refl),
-                                                                    (
-                                                                      (refl, refl, (refl, refl), refl, refl, (λ m noted is at proc page. emptied m is)),
-                                                                      (
-                                                                        (refl, refl),
-                                                                        (
-                                                                          (refl, (λ no. absurd (cc)), refl),
-                                                                          (
-                                                                            refl,
-                                                                            (
-                                                                              (refl, (refl, refl), refl, (λ m noted is at proc page. emptied m is)),
-                                                                              (
-                                                                                (refl, (refl, refl), one_page, (λ k e inside is writes. refl), λ k inside m noted is at proc page. emptied m is),
-                                                                                (
-                                                                                  (refl, (refl, refl), refl, refl, refl, refl, (λ m noted is at proc page. emptied m is)),
-                                                                                  (
-                                                                                    refl,
-                                                                                    (
-                                                                                      (refl, (refl, refl), refl, refl, refl, refl, (λ m noted is at proc page. emptied m is)),
-                                                                                      (
-                                                                                        refl,
-                                                                                        (
-                                                                                          (refl, refl, (refl, refl), (refl, refl), refl, refl),
-                                                                                          (
-                                                                                            (refl, refl, refl, no_element 7, refl),
-                                                                                            (
-                                                                                              (refl, tt, refl),
-                                                                                              (
-                                                                                                (refl, λ page. refl),
-                                                                                                (
-                                                                                                  (refl, refl),
-                                                                                                  (
-                                                                                                    (tt, refl, omega arith, refl),
-                                                                                                    (
-                                                                                                      (refl, (refl, refl), refl, refl, refl, refl),
-                                                                                                      (
-                                                                                                        (refl, refl, (refl, refl), (refl, refl), refl, refl),
-                                                                                                        (
-                                                                                                          (refl, refl, refl, no_element 7, refl, refl),
-                                                                                                          (
-                                                                                                            (refl, refl, λ m noted is at proc page. emptied m is),
-                                                                                                            (
-                                                                                                              (refl, refl),
-                                                                                                              (
-                                                                                                                (refl, refl),
-                                                                                                                (
-                                                                                                                  (refl, tt, refl),
-                                                                                                                  (
-                                                                                                                    (refl, refl),
-                                                                                                                    (
-                                                                                                                      (refl, given_back),
-                                                                                                                      (
-                                                                                                                        (refl, (refl, refl), (refl, refl), refl, refl, refl),
-                                                                                                                        (
-                                                                                                                          refl,
-                                                                                                                          (
-                                                                                                                            refl,
-                                                                                                                            (
-                                                                                                                              (refl, (refl, refl), (refl, refl), refl, refl, (refl, (λ is. absurd (cc)), λ is. absurd (cc)), All-nil _, All-nil _),
-                                                                                                                              (
-                                                                                                                                (refl, refl, λ no. absurd (cc)),
-                                                                                                                                (
-                                                                                                                                  (refl, refl, (refl, refl), (refl, refl), refl, refl),
-                                                                                                                                  (
-                                                                                                                                    (refl, refl, refl, no_element 7, refl, refl),
-                                                                                                                                    (
-                                                                                                                                      (tt, refl, omega arith, refl),
-                                                                                                                                      (
-                                                                                                                                        (refl, omega arith, refl, refl),
-                                                                                                                                        tt,
-                                                                                                                                      ),
-                                                                                                                                    ),
-                                                                                                                                  ),
-                                                                                                                                ),
-                                                                                                                              ),
-                                                                                                                            ),
-                                                                                                                          ),
-                                                                                                                        ),
-                                                                                                                      ),
-                                                                                                                    ),
-                                                                                                                  ),
-                                                                                                                ),
-                                                                                                              ),
-                                                                                                            ),
-                                                                                                          ),
-                                                                                                        ),
-                                                                                                      ),
-                                                                                                    ),
-                                                                                                  ),
-                                                                                                ),
-                                                                                              ),
-                                                                                            ),
-                                                                                          ),
-                                                                                        ),
-                                                                                      ),
-                                                                                    ),
-                                                                                  ),
-                                                                                ),
-                                                                              ),
-                                                                            ),
-                                                                          ),
-                                                                        ),
-                                                                      ),
-                                                                    ),
-                                                                  ),
-                                                                ),
-                                                              ),
-                                                            ),
-                                                          ),
-                                                        ),
-                                                      ),
-                                                    ),
-                                                  ),
-                                                ),
-                                              ),
-                                            ),
-                                          ),
-                                        ),
-                                      ),
-                                    ),
-                                  ),
-                                ),
-                              ),
-                            ),
-                          ),
-                        ),
-                      ),
-                    ),
-                  ),
-                ),
-              ),
-            ),
-          ),
-        ),
-      ),
-    ),
-  ),
-)
+they_can_happen =
+    (refl, (refl, refl), few_pages, (λ k inside. refl), omega arith)
+    and_then (tt, refl, omega arith, refl)
+    and_then (refl, (refl, refl), refl, refl, refl, refl)
+    and_then (refl, (refl, refl), refl, refl, refl)
+    and_then (refl, refl, omega arith)
+    and_then (refl, (true, refl), omega arith, refl)
+    and_then (refl, (refl, refl), refl)
+    and_then (refl, omega arith, refl)
+    and_then refl
+    and_then refl
+    and_then (refl, (refl, refl), (refl, refl), refl, refl, (refl, (λ is. refl), λ is. omega arith), All-nil _, All-nil _)
+    and_then (refl, refl, λ no. absurd (cc))
+    and_then ((refl, refl, omega arith), refl, refl)
+    and_then ((refl, refl, omega arith), refl)
+    and_then refl
+    and_then refl
+    and_then (refl, refl)
+    and_then (refl, refl, (refl, refl), (refl, refl), refl, refl)
+    and_then (refl, refl, refl, no_element 7, refl, refl)
+    and_then (refl, refl, (λ m noted is at proc page. emptied m is))
+    and_then (refl, refl)
+    and_then (refl, refl)
+    and_then (refl, all_done)
+    and_then (tt, refl, omega arith, refl)
+    and_then (refl, (refl, refl), refl, refl, refl, refl, refl, (λ is. refl), (λ m noted is at proc page. emptied m is))
+    and_then refl
+    and_then (refl, (refl, refl), (refl, refl), refl, refl, refl)
+    and_then refl
+    and_then (refl, refl, (refl, refl), refl, refl, (λ m noted is at proc page. emptied m is))
+    and_then (refl, refl)
+    and_then (tt, refl, omega arith, refl)
+    and_then (refl, refl, refl)
+    and_then refl
+    and_then (refl, (refl, refl), refl, refl)
+    and_then (refl, refl, (refl, refl), refl, refl, (λ m noted is at proc page. emptied m is))
+    and_then (refl, refl)
+    and_then (refl, (λ no. absurd (cc)), refl)
+    and_then refl
+    and_then (refl, (refl, refl), refl, (λ m noted is at proc page. emptied m is))
+    and_then (refl, (refl, refl), one_page, (λ k e inside is writes. refl), λ k inside m noted is at proc page. emptied m is)
+    and_then (refl, (refl, refl), refl, refl, refl, refl, (λ m noted is at proc page. emptied m is))
+    and_then refl
+    and_then (refl, (refl, refl), refl, refl, refl, refl, (λ m noted is at proc page. emptied m is))
+    and_then refl
+    and_then (refl, refl, (refl, refl), (refl, refl), refl, refl)
+    and_then (refl, refl, refl, no_element 7, refl)
+    and_then (refl, tt, refl)
+    and_then (refl, λ page. refl)
+    and_then (refl, refl)
+    and_then (tt, refl, omega arith, refl)
+    and_then (refl, (refl, refl), refl, refl, refl, refl)
+    and_then (refl, refl, (refl, refl), (refl, refl), refl, refl)
+    and_then (refl, refl, refl, no_element 7, refl, refl)
+    and_then (refl, refl, λ m noted is at proc page. emptied m is)
+    and_then (refl, refl)
+    and_then (refl, refl)
+    and_then (refl, tt, refl)
+    and_then (refl, refl)
+    and_then (refl, given_back)
+    and_then (refl, (refl, refl), (refl, refl), refl, refl, refl)
+    and_then refl
+    and_then refl
+    and_then (refl, (refl, refl), (refl, refl), refl, refl, (refl, (λ is. absurd (cc)), λ is. absurd (cc)), All-nil _, All-nil _)
+    and_then (refl, refl, λ no. absurd (cc))
+    and_then (refl, refl, (refl, refl), (refl, refl), refl, refl)
+    and_then (refl, refl, refl, no_element 7, refl, refl)
+    and_then (tt, refl, omega arith, refl)
+    and_then (refl, omega arith, refl, refl)
+    and_then tt

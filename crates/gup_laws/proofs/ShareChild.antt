@@ -1,6 +1,6 @@
 -- A fork brings a page by sharing it, or passes it, where it has no entry.
 use Rattle.std.proofs.Common.{◌≡◌, ℕ, ◌<◌, inl, inr, subst, Bool, true, false, List, ◌∷◌, refl, ap, sym, ◌∙◌, arith}
-use Rattle.std.specs.Prelude.{Some, None, IsSome, Contains, nat_lt}
+use Rattle.std.specs.Prelude.{Some, None, IsSome, Contains, slice_get, nat_lt}
 use Rattle.std.proofs.lemmas.Bool.Decides.{nat_tests}
 use Rattle.gup_base.specs.declared.entry.Entry.{Entry}
 use Rattle.gup_base.specs.declared.entry.Rights.{Rights}
@@ -9,14 +9,13 @@ use Rattle.gup_plain.specs.State.{growing, born}
 use Rattle.gup_plain.specs.Event.{words}
 use Rattle.gup_events.specs.State.{CoreState, between, cleared, plain_of}
 use Rattle.gup_events.specs.Event.{Can, happens, entry_of, is_done, share_child, pass_page}
-use Rattle.gup_events.specs.Sound.{View, Forking, marking_of, moving_of, IsSoundBy, IsSound, Simulates, IsUncopiedBy, is_failing, copied_words}
+use Rattle.gup_events.specs.Sound.{View, Forking, marking_of, moving_of, IsSoundBy, IsSound, Simulates, IsUncopiedBy, is_failing, copied_words, birth_of_child, step_page, shared_page, lowered_page}
 use Rattle.gup_laws.proofs.Clauses.{References, MarksAre, MovesAre, ForksAre, WholeEntry, WholeMoved, WholeFree, WholeKept, WholeOther, MovedGone, WholeNames, MarksTable, MovesTable, ForksTable, ForksStructure, TableHeld, StructureHeld, TableBorn, ForkParent, ForkBirth, GrowingForked, OwnNames, OwnEntry, OwnWords, OwnMarked, OwnMarking, MarkedOwn, EntryMapped, EntryMarked, EntryAllowed, EntryWords, Untouched, PreparedOnce, PreparedZero, MarkingEntry, MovingOnce, ForkFresh, ForkCopied, ForkUncopied, ForkUndone, ForkMapped, CopyWords, ShareHandle, ShareTaken, ShareLowered, ShareUnowned, MirrorEntry}
 use Rattle.gup_laws.proofs.Tally.{tally_is, tally_entry}
 use Rattle.gup_laws.proofs.Lonely.{once_wholes, prepared_whole, whole_none}
-use Rattle.gup_laws.proofs.Children.{only_fork, born_uncopied, uncopied_before, fork_here, no_child}
-use Rattle.gup_laws.proofs.Done.{changed_fork, done_either, undone_either}
-use Rattle.gup_laws.proofs.Shared.{child_names}
-use Rattle.gup_laws.proofs.Shared.{shown_same, page_forks, none_before}
+use Rattle.gup_laws.proofs.Children.{only_fork, born_uncopied, uncopied_before, fork_here}
+use Rattle.gup_laws.proofs.Done.{fork_after, changed_fork, done_either, undone_either}
+use Rattle.gup_laws.proofs.Shared.{child_names, shown_same, page_forks, none_before}
 
 -- parent and child have the page's frame, and their objects have its words
 pub simulates-share_child : (s : CoreState) (a p c : ℕ) (done : List ℕ) (page f : ℕ) (writable : Bool) → IsSound s → Can s (share_child a p c done page f writable) → Simulates s (share_child a p c done page f writable)
@@ -25,6 +24,7 @@ simulates-share_child s a p c done page f writable (v, h) can =
     let V : View = record v { whole = put2 c page (Some (entry_of f false)) v.whole; forks = put a (Some (record { proc = p; child = c; done = page ∷ done; step = between })) v.forks } in
     let before : Forking = record { proc = p; child = c; done = done; step = cleared page } in
     let mine : v.forks a ≡ Some before = fork_here v s a p c done (cleared page) h can.0 in
+    let next : Forking = record { proc = p; child = c; done = page ∷ done; step = between } in
     let lives : s.birth p ≡ born = h.fork_parent a before mine in
     let grows : s.birth c ≡ growing p = h.fork_birth a before mine in
     let still : v.moves a ≡ None = h.moves_are a ∙ ap moving_of can.0 in
@@ -54,12 +54,12 @@ simulates-share_child s a p c done page f writable (v, h) can =
     let marks_table : MarksTable V S = λ b m. grind (arith, nat_tests, h.marks_table b m) in
     let moves_table : MovesTable V S = λ b m. grind (arith, nat_tests, h.moves_table b m) in
     let forks_table : ForksTable V S = λ b i fork. grind (arith, nat_tests, h.forks_table b i fork) in
-    let forks_structure : ForksStructure V S = λ b fork. grind (arith, nat_tests, h.forks_structure b fork, h.forks_structure a before) in
+    let forks_structure : ForksStructure V S = fork_after (λ b k. s.structure k.proc ≡ Some b) v.forks a next (h.forks_structure a before mine) (λ b k other. h.forks_structure b k) in
     let table_held : TableHeld V S = λ q b. grind (arith, nat_tests, h.table_held q b) in
     let structure_held : StructureHeld V S = λ q b. grind (arith, nat_tests, h.structure_held q b) in
     let table_born : TableBorn V S = λ q b. grind (arith, nat_tests, h.table_born q b) in
-    let fork_parent : ForkParent V S = λ b fork. grind (arith, nat_tests, h.fork_parent b fork, h.fork_parent a before) in
-    let fork_birth : ForkBirth V S = λ b fork. grind (arith, nat_tests, h.fork_birth b fork, h.fork_birth a before) in
+    let fork_parent : ForkParent V S = fork_after (λ b k. s.birth k.proc ≡ born) v.forks a next lives (λ b k other. h.fork_parent b k) in
+    let fork_birth : ForkBirth V S = fork_after (λ b k. s.birth k.child ≡ birth_of_child k) v.forks a next grows (λ b k other. h.fork_birth b k) in
     let growing_forked : GrowingForked V S = λ x q b. grind (arith, nat_tests, h.growing_forked x q b) in
     let own_names : OwnNames V S = λ q i o d. grind (arith, nat_tests, h.own_names q i o d) in
     let own_entry : OwnEntry V S = λ u q i o. grind (arith, nat_tests, h.own_entry u q i o, h.names_alone c page q i o) in
@@ -76,7 +76,6 @@ simulates-share_child s a p c done page f writable (v, h) can =
     let prepared_zero : PreparedZero V S = λ b u w. grind (arith, nat_tests, h.prepared_zero b u w) in
     let marking_entry : MarkingEntry V S = λ b m. grind (arith, nat_tests, h.marking_entry b m, h.marks_table b m, h.table_born m.proc b) in
     let moving_once : MovingOnce V S = λ b m. grind (arith, nat_tests, h.moving_once b m, h.whole_moved b m, once_wholes v s h p page m.proc m.page e m.entry, h.moves_table b m) in
-    let next : Forking = record { proc = p; child = c; done = page ∷ done; step = between } in
     let next_fresh : (i : ℕ) → (Contains (page ∷ done) i → ⊥) → V.whole c i ≡ None = λ i un. let either = undone_either page done i un in let old = h.fork_fresh a i before mine refl either.1 in grind (arith, nat_tests, either.0) in
     let other_fresh : (b i : ℕ) (k : Forking) → (b ≡ a → ⊥) → v.forks b ≡ Some k → is_failing k.step ≡ false → (Contains k.done i → ⊥) → V.whole k.child i ≡ None = λ b i k apart is going un. let old = h.fork_fresh b i k is going un in grind (arith, nat_tests, only_fork v s a b before k h mine refl is) in
     let next_copied : (i w : ℕ) → Contains (page ∷ done) i → w < words → S.copied c i w ≡ true = λ i w has below. elim (done_either page done i has) [ inl same ↦ grind (arith, nat_tests) | inr old ↦ (let was = h.fork_copied a i w before mine refl old below in grind (arith, nat_tests)) ] in
@@ -85,8 +84,8 @@ simulates-share_child s a p c done page f writable (v, h) can =
     let fork_fresh : ForkFresh V S = λ b i k is. elim (changed_fork v.forks a next b k is) [ inl e ↦ subst (λ (l : Forking). is_failing l.step ≡ false → (Contains l.done i → ⊥) → V.whole l.child i ≡ None) e.1 (λ going un. next_fresh i un) | inr e ↦ λ going un. other_fresh b i k e.0 e.1 going un ] in
     let fork_copied : ForkCopied V S = λ b i w k is. elim (changed_fork v.forks a next b k is) [ inl e ↦ subst (λ (l : Forking). is_failing l.step ≡ false → Contains l.done i → w < words → S.copied l.child i w ≡ true) e.1 (λ going has below. next_copied i w has below) | inr e ↦ λ going has below. other_copied b i w k e.0 e.1 ∙ h.fork_copied b i w k e.1 going has below ] in
     let fork_uncopied : ForkUncopied V S = λ b i w k is. elim (changed_fork v.forks a next b k is) [ inl e ↦ subst (λ (l : Forking). is_failing l.step ≡ false → (Contains l.done i → ⊥) → w < words → S.copied l.child i w ≡ nat_lt w (copied_words l.step i)) e.1 (λ going un below. next_uncopied i w un below) | inr e ↦ λ going un below. other_copied b i w k e.0 e.1 ∙ h.fork_uncopied b i w k e.1 going un below ] in
-    let fork_undone : ForkUndone V S = λ b i fork. grind (arith, nat_tests, h.fork_undone b i fork) in
-    let fork_mapped : ForkMapped V S = λ b i fork. grind (arith, nat_tests, h.fork_mapped b i fork) in
+    let fork_undone : ForkUndone V S = λ b i. fork_after (λ b k. step_page k.step ≡ Some i → Contains k.done i → ⊥) v.forks a next (λ at. absurd (cc)) (λ b k other. h.fork_undone b i k) b in
+    let fork_mapped : ForkMapped V S = λ b i. fork_after (λ b k. step_page k.step ≡ Some i → s.right k.child i ≡ None → ⊥) v.forks a next (λ at. absurd (cc)) (λ b k other. h.fork_mapped b i k) b in
     let copy_words : CopyWords V S = λ b i n w u fork. grind (arith, nat_tests, h.copy_words b i n w u fork, only_fork v s a b before fork h mine refl, h.fork_mapped b i fork, λ (r : Rights). h.right_names fork.child i r, h.names_alone c page fork.child i (s.object c page)) in
     let share_handle : ShareHandle V S = λ b i j n fork d. grind (arith, nat_tests, h.share_handle b i j n fork d, h.fork_parent b fork) in
     let share_taken : ShareTaken V S = λ b i y n fork d t. grind (arith, nat_tests, h.share_taken b i y n fork d t, h.fork_parent b fork) in
@@ -103,6 +102,7 @@ simulates-pass_page s a p c done page (v, h) can =
     let V : View = record v { forks = put a (Some (record { proc = p; child = c; done = page ∷ done; step = between })) v.forks } in
     let before : Forking = record { proc = p; child = c; done = done; step = between } in
     let mine : v.forks a ≡ Some before = fork_here v s a p c done between h can.0 in
+    let next : Forking = record { proc = p; child = c; done = page ∷ done; step = between } in
     let lives : s.birth p ≡ born = h.fork_parent a before mine in
     let grows : s.birth c ≡ growing p = h.fork_birth a before mine in
     let still : v.moves a ≡ None = h.moves_are a ∙ ap moving_of can.0 in
@@ -119,18 +119,17 @@ simulates-pass_page s a p c done page (v, h) can =
     let marks_are : MarksAre V S = λ b. grind (arith, nat_tests, h.marks_are b) in
     let moves_are : MovesAre V S = λ b. grind (arith, nat_tests, h.moves_are b) in
     let forks_are : ForksAre V S = λ b. grind (arith, nat_tests, h.forks_are b) in
-    let forks_table : ForksTable V S = λ b i fork. grind (arith, nat_tests, h.forks_table b i fork) in
-    let forks_structure : ForksStructure V S = λ b fork. grind (arith, nat_tests, h.forks_structure b fork, h.forks_structure a before) in
+    let forks_table : ForksTable V S = λ b i. fork_after (λ b k. step_page k.step ≡ Some i → s.table k.proc ≡ Some b) v.forks a next (λ at. absurd (cc)) (λ b k other. h.forks_table b i k) b in
+    let forks_structure : ForksStructure V S = fork_after (λ b k. s.structure k.proc ≡ Some b) v.forks a next (h.forks_structure a before mine) (λ b k other. h.forks_structure b k) in
     let table_held : TableHeld V S = λ q b. grind (arith, nat_tests, h.table_held q b) in
     let structure_held : StructureHeld V S = λ q b. grind (arith, nat_tests, h.structure_held q b) in
-    let fork_parent : ForkParent V S = λ b fork. grind (arith, nat_tests, h.fork_parent b fork, h.fork_parent a before) in
-    let fork_birth : ForkBirth V S = λ b fork. grind (arith, nat_tests, h.fork_birth b fork, h.fork_birth a before) in
+    let fork_parent : ForkParent V S = fork_after (λ b k. s.birth k.proc ≡ born) v.forks a next lives (λ b k other. h.fork_parent b k) in
+    let fork_birth : ForkBirth V S = fork_after (λ b k. s.birth k.child ≡ birth_of_child k) v.forks a next grows (λ b k other. h.fork_birth b k) in
     let growing_forked : GrowingForked V S = λ x q b. grind (arith, nat_tests, h.growing_forked x q b) in
     let own_words : OwnWords V S = λ u o w. grind (arith, nat_tests, h.own_words u o w, h.own_entry u c page (s.object c page)) in
     let entry_words : EntryWords V S = λ q i w d r. grind (arith, nat_tests, h.entry_words q i w d r, h.names_alone c page q i (s.object c page), h.right_names q i r) in
     let untouched : Untouched V S = λ q i w r there none now. let old : IsUncopiedBy v.forks q i = uncopied_before v.forks a _ q i now (λ word k is child at. grind (arith)) in grind (arith, nat_tests, λ (is : s.right q i ≡ Some r) (bare : v.whole q i ≡ None). h.untouched q i w r is bare old, h.right_names q i r there, h.names_alone c page q i (s.object c page), h.names_alone c page p page (s.object c page), zero_words w r) in
     let prepared_zero : PreparedZero V S = λ b u w. grind (arith, nat_tests, h.prepared_zero b u w) in
-    let next : Forking = record { proc = p; child = c; done = page ∷ done; step = between } in
     let next_fresh : (i : ℕ) → (Contains (page ∷ done) i → ⊥) → V.whole c i ≡ None = λ i un. let either = undone_either page done i un in let old = h.fork_fresh a i before mine refl either.1 in old in
     let other_fresh : (b i : ℕ) (k : Forking) → (b ≡ a → ⊥) → v.forks b ≡ Some k → is_failing k.step ≡ false → (Contains k.done i → ⊥) → V.whole k.child i ≡ None = λ b i k apart is going un. h.fork_fresh b i k is going un in
     let next_copied : (i w : ℕ) → Contains (page ∷ done) i → w < words → S.copied c i w ≡ true = λ i w has below. elim (done_either page done i has) [ inl same ↦ grind (arith, nat_tests) | inr old ↦ (let was = h.fork_copied a i w before mine refl old below in grind (arith, nat_tests)) ] in
@@ -139,12 +138,12 @@ simulates-pass_page s a p c done page (v, h) can =
     let fork_fresh : ForkFresh V S = λ b i k is. elim (changed_fork v.forks a next b k is) [ inl e ↦ subst (λ (l : Forking). is_failing l.step ≡ false → (Contains l.done i → ⊥) → V.whole l.child i ≡ None) e.1 (λ going un. next_fresh i un) | inr e ↦ λ going un. other_fresh b i k e.0 e.1 going un ] in
     let fork_copied : ForkCopied V S = λ b i w k is. elim (changed_fork v.forks a next b k is) [ inl e ↦ subst (λ (l : Forking). is_failing l.step ≡ false → Contains l.done i → w < words → S.copied l.child i w ≡ true) e.1 (λ going has below. next_copied i w has below) | inr e ↦ λ going has below. other_copied b i w k e.0 e.1 ∙ h.fork_copied b i w k e.1 going has below ] in
     let fork_uncopied : ForkUncopied V S = λ b i w k is. elim (changed_fork v.forks a next b k is) [ inl e ↦ subst (λ (l : Forking). is_failing l.step ≡ false → (Contains l.done i → ⊥) → w < words → S.copied l.child i w ≡ nat_lt w (copied_words l.step i)) e.1 (λ going un below. next_uncopied i w un below) | inr e ↦ λ going un below. other_copied b i w k e.0 e.1 ∙ h.fork_uncopied b i w k e.1 going un below ] in
-    let fork_undone : ForkUndone V S = λ b i fork. grind (arith, nat_tests, h.fork_undone b i fork) in
-    let fork_mapped : ForkMapped V S = λ b i fork. grind (arith, nat_tests, h.fork_mapped b i fork) in
+    let fork_undone : ForkUndone V S = λ b i. fork_after (λ b k. step_page k.step ≡ Some i → Contains k.done i → ⊥) v.forks a next (λ at. absurd (cc)) (λ b k other. h.fork_undone b i k) b in
+    let fork_mapped : ForkMapped V S = λ b i. fork_after (λ b k. step_page k.step ≡ Some i → s.right k.child i ≡ None → ⊥) v.forks a next (λ at. absurd (cc)) (λ b k other. h.fork_mapped b i k) b in
     let copy_words : CopyWords V S = λ b i n w u fork. grind (arith, nat_tests, h.copy_words b i n w u fork, only_fork v s a b before fork h mine refl, h.fork_mapped b i fork, λ (r : Rights). h.right_names fork.child i r, h.names_alone c page fork.child i (s.object c page)) in
-    let share_handle : ShareHandle V S = λ b i j n fork d. grind (arith, nat_tests, h.share_handle b i j n fork d) in
-    let share_taken : ShareTaken V S = λ b i y n fork d t. grind (arith, nat_tests, h.share_taken b i y n fork d t) in
-    let share_lowered : ShareLowered V S = λ b i fork d. grind (arith, nat_tests, h.share_lowered b i fork d) in
-    let share_unowned : ShareUnowned V S = λ b i fork d. grind (arith, nat_tests, h.share_unowned b i fork d) in
+    let share_handle : ShareHandle V S = λ b i j n k d. fork_after (λ b k. shared_page k.step ≡ Some i → v.whole k.proc i ≡ Some d → slice_get (s.pinned j) n ≡ Some d.frame → ⊥) v.forks a next (λ at. absurd (cc)) (λ b k other was. h.share_handle b i j n k d was) b k in
+    let share_taken : ShareTaken V S = λ b i y n k d t. fork_after (λ b k. shared_page k.step ≡ Some i → v.whole k.proc i ≡ Some d → slice_get (s.taken y) n ≡ Some t → t.frame ≡ d.frame → ⊥) v.forks a next (λ at. absurd (cc)) (λ b k other was. h.share_taken b i y n k d t was) b k in
+    let share_lowered : ShareLowered V S = λ b i k d. fork_after (λ b k. lowered_page k.step ≡ Some i → v.whole k.proc i ≡ Some d → d.writable ≡ false) v.forks a next (λ at. absurd (cc)) (λ b k other was. h.share_lowered b i k d was) b k in
+    let share_unowned : ShareUnowned V S = λ b i k d. fork_after (λ b k. k.step ≡ cleared i → v.whole k.proc i ≡ Some d → s.own d.frame ≡ None) v.forks a next (λ at. absurd (cc)) (λ b k other was. h.share_unowned b i k d was) b k in
     let sound : IsSoundBy V S = assumption in
     record { sound = (V, sound); can = (page_forks v s p c page h grows mapped, λ w inside. h.fork_uncopied a page w before mine refl undone inside ∙ none_before w); same = ap (λ (x : ℕ × ℕ). record (plain_of s) { content = put x.1 (spread 0 words (s.content x.0) (s.content x.1)) s.content; copied = put2 c page (spread 0 words (λ _. true) (s.copied c page)) s.copied }) (sym (shown_same v s p c page h grows mapped)) }
