@@ -1,5 +1,5 @@
 -- The core events: when each can happen, what it changes, and the plain event that stands at it.
-use Rattle.std.specs.Prelude.{◌≡◌, ℕ, ◌+◌, ◌-◌, ◌*◌, ◌/◌, ◌%◌, ◌<◌, ◌≤◌, ◌==◌, ◌&&◌, nat_le, not, Bool, true, false, if◌then◌else◌, List, [], ◌∷◌, ◌++◌, map, length, slice_get, All, Contains, Option, Some, None, IsSome, zero, suc}
+use Rattle.std.specs.Prelude.{◌≡◌, ℕ, ◌+◌, ◌-◌, ◌*◌, ◌/◌, ◌%◌, ◌<◌, ◌≤◌, ◌==◌, ◌&&◌, ◌||◌, nat_le, nat_lt, not, Bool, true, false, if◌then◌else◌, List, [], ◌∷◌, ◌++◌, map, length, slice_get, All, Contains, Option, Some, None, IsSome, zero, suc}
 use Rattle.std.specs.Option.{option_map}
 use Rattle.gup_base.specs.declared.entry.Entry.{Entry}
 use Rattle.gup_base.specs.declared.entry.Rights.{Rights}
@@ -9,7 +9,7 @@ use Rattle.gup_plain.specs.declared.event.PlainEvent.TheVariants as events
 use Rattle.gup_plain.specs.Event.{happened, most_pages, page_numbers, words, most_slots, IsHeldBy, IsGivenTo, may_write, given_to, held_by, object_at}
 use Rattle.gup_plain.specs.Put.{put, put2, spread}
 use Rattle.gup_plain.specs.State.{PlainState, Noted, unborn, growing, born, failed, unmade, held, gone, named_or_zero}
-use Rattle.gup_events.specs.State.{CoreState, Taken, Job, idle, marking, moving, forking, walking, Counted, unread, one, more, ForkStep, between, counted, lowered, cleared, copying, failing}
+use Rattle.gup_events.specs.State.{CoreState, Taken, Job, idle, marking, moving, forking, walking, Counted, unread, one, more, ForkStep, between, counted, lowered, cleared, copying, failing, WalkStep, entered, ready, read, grabbed, rechecked, differed, refused, stopped, dropping, over}
 
 -- what a pin adds to the count of its frame, and from which count on a frame may be pinned
 abbrev pub bias : ℕ
@@ -100,6 +100,29 @@ pub data CoreEvent : Type 0 where
   fill_mirror : (a m p page f : ℕ) (writable : Bool) → CoreEvent
   look : (a m word f value : ℕ) → CoreEvent
 
+  -- the lockless walk of process p, for pages that are written, or kept for long; which sequence it has read
+
+  enter_walk : (a p : ℕ) (write long : Bool) → CoreEvent
+  -- the sequence is read: where it is odd, a fork is running, and the walk is over
+  read_sequence : (a p : ℕ) (write long : Bool) (sequence : ℕ) → CoreEvent
+  -- a page's entry is read: where it isn't right for the pin, the walk stops
+  read_entry : (a p : ℕ) (write long : Bool) (sequence page : ℕ) (was : Option Entry) → CoreEvent
+  -- its frame gets the weight of a pin, or the walk stops
+  grab_frame : (a p : ℕ) (write long : Bool) (sequence page : ℕ) (entry : Entry) → CoreEvent
+  miss_frame : (a p : ℕ) (write long : Bool) (sequence page : ℕ) (entry : Entry) → CoreEvent
+  -- the entry is read again: it is the same, and the page is taken; or it is another
+  recheck_same : (a p : ℕ) (write long : Bool) (sequence page : ℕ) (entry : Entry) → CoreEvent
+  recheck_other : (a p : ℕ) (write long : Bool) (sequence page : ℕ) (entry : Entry) → CoreEvent
+  -- the frame's mark is read: an unmarked frame in a read-only entry is refused
+  read_mark : (a p : ℕ) (write long : Bool) (sequence page : ℕ) (entry : Entry) (mark : Bool) → CoreEvent
+  -- at the end the sequence is read again: where it has changed, all that was taken is dropped
+  read_again : (a p : ℕ) (write long : Bool) (sequence : ℕ) (step : WalkStep) (now : ℕ) → CoreEvent
+  -- what a walk has to drop: a frame whose entry was another, the last page taken, the first of all
+  drop_grab : (a p : ℕ) (write long : Bool) (sequence f : ℕ) → CoreEvent
+  drop_last : (a p : ℕ) (write long : Bool) (sequence : ℕ) (left : List Taken) (last : Taken) → CoreEvent
+  drop_first : (a p : ℕ) (write long : Bool) (sequence : ℕ) (first : Taken) (left : List Taken) → CoreEvent
+  leave_walk : (a p : ℕ) (write long : Bool) (sequence : ℕ) → CoreEvent
+
 -- the actor may take a frame: between operations, for a move that has read the count 1, for a fork's copy
 abbrev pub MayPrepare : Job → Type 0
 MayPrepare idle = Unit {0}
@@ -178,6 +201,30 @@ CanMove s a h index slot f =
 abbrev pub is_writable : Rights → Bool
 is_writable R = false
 is_writable RW = true
+
+-- a fork has begun, and has neither ended nor failed
+abbrev pub is_odd : ℕ → Bool
+is_odd n = n % 2 == 1
+
+-- is the entry wrong for the walk's pin?
+abbrev pub is_wrong : CoreState → (write long : Bool) → Entry → Bool
+is_wrong s write long e = (write && not e.writable) || (long && nat_lt e.frame s.movable)
+
+-- what a walk makes of the entry that it read
+abbrev pub step_read : CoreState → (write long : Bool) → (page : ℕ) → Option Entry → WalkStep
+step_read s write long page None = stopped
+step_read s write long page (Some e) = if is_wrong s write long e then stopped else read page e
+
+-- the steps behind which a walk reads the sequence again
+abbrev pub MayRest : WalkStep → Type 0
+MayRest ready = Unit {0}
+MayRest stopped = Unit {0}
+MayRest step = ⊥
+
+-- where pages are left to drop
+abbrev pub step_left : List Taken → WalkStep
+step_left [] = over
+step_left (t ∷ taken) = dropping
 
 abbrev pub Can : CoreState → CoreEvent → Type 0
 -- faults
@@ -272,6 +319,30 @@ Can s (empty_mirror a m) = IsSome (s.mirrored m)
 Can s (fill_mirror a m p page f writable) =
     (s.birth p ≡ born) × AreUnlocked s p × (s.entry p page ≡ Some (entry_of f writable))
 Can s (look a m word f value) = (s.mirrored m ≡ Some f) × (word < words) × (value ≡ s.word f word)
+-- walks
+Can s (enter_walk a p write long) =
+    (s.birth p ≡ born) × IsIdle s a × (s.taken a ≡ []) × (s.has_pinned p ≡ true)
+Can s (read_sequence a p write long sequence) =
+    (s.job a ≡ walking p write long 0 entered) × (sequence ≡ s.sequence p)
+Can s (read_entry a p write long sequence page was) =
+    (s.job a ≡ walking p write long sequence ready) × (was ≡ s.entry p page) × IsUntaken (s.taken a) page
+Can s (grab_frame a p write long sequence page e) =
+    (s.job a ≡ walking p write long sequence (read page e)) × (s.count e.frame ≡ 0 → ⊥)
+Can s (miss_frame a p write long sequence page e) = s.job a ≡ walking p write long sequence (read page e)
+Can s (recheck_same a p write long sequence page e) =
+    (s.job a ≡ walking p write long sequence (grabbed page e)) × (s.entry p page ≡ Some e)
+Can s (recheck_other a p write long sequence page e) =
+    (s.job a ≡ walking p write long sequence (grabbed page e)) × (s.entry p page ≡ Some e → ⊥)
+Can s (read_mark a p write long sequence page e mark) =
+    (s.job a ≡ walking p write long sequence (rechecked page e)) × (mark ≡ s.mark e.frame)
+Can s (read_again a p write long sequence step now) =
+    (s.job a ≡ walking p write long sequence step) × MayRest step × (now ≡ s.sequence p)
+Can s (drop_grab a p write long sequence f) = s.job a ≡ walking p write long sequence (differed f)
+Can s (drop_last a p write long sequence left last) =
+    (s.job a ≡ walking p write long sequence refused) × (s.taken a ≡ left ++ last ∷ [])
+Can s (drop_first a p write long sequence first left) =
+    (s.job a ≡ walking p write long sequence dropping) × (s.taken a ≡ first ∷ left)
+Can s (leave_walk a p write long sequence) = s.job a ≡ walking p write long sequence over
 
 -- a frame loses n references; at 0 it is free, and nothing marks or owns it
 abbrev pub without_references : ℕ → ℕ → CoreState → CoreState
@@ -504,6 +575,50 @@ happens s (fill_mirror a m p page f writable) =
       slot = put m (Some (record { proc = p; page = page; object = s.object p page })) s.slot;
     }
 happens s (look a m word f value) = s
+-- walks
+happens s (enter_walk a p write long) =
+    record s { walks = put p (s.walks p + 1) s.walks; job = put a (walking p write long 0 entered) s.job }
+happens s (read_sequence a p write long sequence) =
+    record s { job = put a (walking p write long sequence (if is_odd sequence then over else ready)) s.job }
+happens s (read_entry a p write long sequence page was) =
+    record s { job = put a (walking p write long sequence (step_read s write long page was)) s.job }
+happens s (grab_frame a p write long sequence page e) =
+    record s {
+      count = put e.frame (s.count e.frame + bias) s.count;
+      job = put a (walking p write long sequence (grabbed page e)) s.job;
+    }
+happens s (miss_frame a p write long sequence page e) =
+    record s { job = put a (walking p write long sequence stopped) s.job }
+happens s (recheck_same a p write long sequence page e) =
+    record s {
+      taken =
+          put a
+          (s.taken a ++ record { proc = p; page = page; frame = e.frame; object = s.object p page; write = write; long = long } ∷ [])
+          s.taken;
+      job = put a (walking p write long sequence (rechecked page e)) s.job;
+    }
+happens s (recheck_other a p write long sequence page e) =
+    record s { job = put a (walking p write long sequence (differed e.frame)) s.job }
+happens s (read_mark a p write long sequence page e mark) =
+    record s { job = put a (walking p write long sequence (if e.writable || mark then ready else refused)) s.job }
+happens s (read_again a p write long sequence step now) =
+    record s {
+      job = put a (walking p write long sequence (if now == sequence then over else step_left (s.taken a))) s.job;
+    }
+happens s (drop_grab a p write long sequence f) =
+    record (without_references f bias s) { job = put a (walking p write long sequence stopped) s.job }
+happens s (drop_last a p write long sequence left last) =
+    record (without_references last.frame bias s) {
+      taken = put a left s.taken;
+      job = put a (walking p write long sequence stopped) s.job;
+    }
+happens s (drop_first a p write long sequence first left) =
+    record (without_references first.frame bias s) {
+      taken = put a left s.taken;
+      job = put a (walking p write long sequence (step_left left)) s.job;
+    }
+happens s (leave_walk a p write long sequence) =
+    record s { walks = put p (s.walks p - 1) s.walks; job = put a idle s.job }
 
 -- the plain event that stands at a core event, if one does
 abbrev pub told : CoreEvent → Option PlainEvent
@@ -529,6 +644,9 @@ told (move_out a h index slot f value) = Some (events.MoveOut a h index slot val
 told (move_in a h index slot f value) = Some (events.MoveIn a h index slot value)
 told (fill_mirror a m p page f writable) = Some (events.MirrorFill a m p page)
 told (look a m word f value) = Some (events.Look a m word value)
+told (recheck_same a p write long sequence page e) = Some (events.PinTry a p page write)
+told (drop_last a p write long sequence left last) = Some (events.PinDrop a last.page)
+told (drop_first a p write long sequence first left) = Some (events.PinDrop a first.page)
 told e = None
 
 -- the plain state behind the plain event that stands at a core event, if one does

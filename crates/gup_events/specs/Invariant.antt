@@ -1,14 +1,15 @@
 -- What is true of every state that the core machine reaches: the count of a frame is that of its references, an
 -- exclusive frame belongs to one page or to the pins that outlived it, what a fork shares and a mover moves is under no
--- pin, and frames have the bytes that the plain model says.
-use Rattle.std.specs.Prelude.{◌≡◌, ℕ, ◌+◌, ◌<◌, ◌≤◌, ◌⊎◌, Bool, true, false, List, [], ◌∷◌, length, slice_get, Contains, sum_by, Option, Some, None, IsSome}
+-- pin, what a walk has taken is as good as pinned while no fork has begun, and frames have the bytes that the plain
+-- model says.
+use Rattle.std.specs.Prelude.{◌≡◌, ℕ, ◌+◌, ◌<◌, ◌≤◌, ◌⊎◌, Bool, true, false, not, List, [], ◌∷◌, length, slice_get, Contains, sum_by, Option, Some, None, IsSome}
 use Rattle.gup_base.specs.declared.entry.Entry.{Entry}
 use Rattle.gup_base.specs.declared.entry.Rights.{Rights}
 use Rattle.gup_base.specs.declared.entry.Rights.TheVariants.{RW}
 use Rattle.gup_plain.specs.Event.{CanHappen, words}
 use Rattle.gup_plain.specs.State.{PlainState, Noted, Handle, failed, born, objects_of}
 use Rattle.gup_plain.specs.declared.event.PlainEvent.{PlainEvent}
-use Rattle.gup_events.specs.State.{CoreState, Taken, Job, idle, marking, moving, forking, walking, Counted, one, ForkStep, counted, lowered, cleared, copying, plain_of}
+use Rattle.gup_events.specs.State.{CoreState, Taken, Job, idle, marking, moving, forking, walking, Counted, one, ForkStep, counted, lowered, cleared, copying, WalkStep, entered, ready, read, grabbed, rechecked, differed, refused, stopped, dropping, over, plain_of}
 use Rattle.gup_events.specs.Event.{CoreEvent, Can, happens, told, after_told, bias}
 
 -- 1. References: whatever may hold a frame
@@ -24,6 +25,8 @@ pub data Holder : Type 0 where
   -- a page of a handle, and one that a running pin has taken
   page_of_pin : (h k : ℕ) → Holder
   page_taken : (a k : ℕ) → Holder
+  -- a frame that a walk has grabbed, before it reads the entry again or drops it
+  grabbed_by : (a : ℕ) → Holder
 
 abbrev pub frame_of : Option Entry → Option ℕ
 frame_of None = None
@@ -41,6 +44,22 @@ abbrev pub taken_frame : Option Taken → Option ℕ
 taken_frame None = None
 taken_frame (Some t) = Some t.frame
 
+abbrev pub step_frame : WalkStep → Option ℕ
+step_frame entered = None
+step_frame ready = None
+step_frame (read page e) = None
+step_frame (grabbed page e) = Some e.frame
+step_frame (rechecked page e) = None
+step_frame (differed f) = Some f
+step_frame refused = None
+step_frame stopped = None
+step_frame dropping = None
+step_frame over = None
+
+abbrev pub grabbed_frame : Job → Option ℕ
+grabbed_frame (walking p write long sequence step) = step_frame step
+grabbed_frame job = None
+
 -- the frame that it holds, if it holds one
 abbrev pub holds : CoreState → Holder → Option ℕ
 holds s (entry_of_page p page) = frame_of (s.entry p page)
@@ -50,10 +69,12 @@ holds s (owed_by a) = s.owed a
 holds s (got_as k) = got_frame (s.got k)
 holds s (page_of_pin h k) = slice_get (s.pinned h) k
 holds s (page_taken a k) = taken_frame (slice_get (s.taken a) k)
+holds s (grabbed_by a) = grabbed_frame (s.job a)
 
 abbrev pub weight : Holder → ℕ
 weight (page_of_pin h k) = bias
 weight (page_taken a k) = bias
+weight (grabbed_by a) = bias
 weight holder = 1
 
 abbrev pub HasNoRepetition : List Holder → Type 0
@@ -82,11 +103,25 @@ IsEntry s p page e = (s.entry p page ≡ Some e) ⊎ ((a : ℕ) × HasCleared s 
 abbrev pub Names : CoreState → (p page o : ℕ) → Type 0
 Names s p page o = IsSome (s.right p page) × (s.object p page ≡ o)
 
--- 3. Settled pins: the pages of handles, and those that a slow pin has taken
+-- 3. Settled pins: the pages of handles, and those that a slow pin has taken, or a walk that has read the sequence
+-- again and found it the same
 
-abbrev pub is_walk : Job → Bool
-is_walk (walking p write long sequence step) = true
-is_walk job = false
+abbrev pub is_over : WalkStep → Bool
+is_over entered = false
+is_over ready = false
+is_over (read page e) = false
+is_over (grabbed page e) = false
+is_over (rechecked page e) = false
+is_over (differed f) = false
+is_over refused = false
+is_over stopped = false
+is_over dropping = false
+is_over over = true
+
+-- may the actor's walk have to drop what it has taken?
+abbrev pub is_unsettled : Job → Bool
+is_unsettled (walking p write long sequence step) = not (is_over step)
+is_unsettled job = false
 
 abbrev pub InHandle : CoreState → (f o : ℕ) → Type 0
 InHandle s f o =
@@ -94,7 +129,7 @@ InHandle s f o =
 
 abbrev pub InPin : CoreState → (f o : ℕ) → Type 0
 InPin s f o =
-    (a : ℕ) × (t : Taken) × (is_walk (s.job a) ≡ false) × Contains (s.taken a) t × (t.frame ≡ f) × (t.object ≡ o)
+    (a : ℕ) × (t : Taken) × (is_unsettled (s.job a) ≡ false) × Contains (s.taken a) t × (t.frame ≡ f) × (t.object ≡ o)
 
 -- a settled pin page has this frame and this object
 abbrev pub IsSettled : CoreState → (f o : ℕ) → Type 0
@@ -128,11 +163,33 @@ IsSharing (lowered g) page = g ≡ page
 IsSharing (cleared g) page = g ≡ page
 IsSharing step page = ⊥
 
+-- is the walk between its two readings of the sequence?
+abbrev pub is_inside : WalkStep → Bool
+is_inside entered = false
+is_inside ready = true
+is_inside (read page e) = true
+is_inside (grabbed page e) = true
+is_inside (rechecked page e) = true
+is_inside (differed f) = true
+is_inside refused = true
+is_inside stopped = true
+is_inside dropping = false
+is_inside over = false
+
+-- The process still has the even sequence that the walk has read: no fork of it has begun meanwhile.
+abbrev pub IsUndisturbed : CoreState → (a p : ℕ) → WalkStep → Type 0
+IsUndisturbed s a p step =
+    (write long : Bool) × (sequence : ℕ) × (s.job a ≡ walking p write long sequence step) × (is_inside step ≡ true)
+    × (s.sequence p ≡ sequence)
+
 pub record IsParted (s : CoreState) : Type 0 where
   -- what a fork found not to be copied is under no settled pin, up to its share
   pub share : (a p c page : ℕ) (done : List ℕ) (step : ForkStep) (e : Entry) → s.job a ≡ forking p c done step → IsSharing step page → s.entry p page ≡ Some e → IsUnpinned s e.frame
-  -- and so is the frame that a mover has cleared and counted once
+  -- and each walk of that process is disturbed
+  pub share_walk : (a p c page b : ℕ) (done : List ℕ) (step : ForkStep) (walk : WalkStep) → s.job a ≡ forking p c done step → IsSharing step page → IsUndisturbed s b p walk → ⊥
+  -- the frame that a mover has cleared and counted once is under no settled pin, and no walk has taken it
   pub move : (a p page : ℕ) (e : Entry) → s.job a ≡ moving p page e one → IsUnpinned s e.frame
+  pub move_walk : (a p page b : ℕ) (e : Entry) (t : Taken) → s.job a ≡ moving p page e one → Contains (s.taken b) t → t.frame ≡ e.frame → ⊥
 
 -- 6. Bytes: what the plain state says of objects is so in frames
 
@@ -156,12 +213,39 @@ pub record StandsFor (s : CoreState) : Type 0 where
   -- a filled mirror slot has the frame of its page's entry, and the page still names the slot's object
   pub mirror : (m f : ℕ) (noted : Noted) → s.mirrored m ≡ Some f → s.slot m ≡ Some noted → (s.birth noted.proc ≡ born) × ((e : Entry) × (s.entry noted.proc noted.page ≡ Some e) × (e.frame ≡ f)) × Names s noted.proc noted.page noted.object
 
+-- 7. Walks
+
+-- A frame and an object as those of a settled pin: the frame is in the entry of the page that names the object, and in
+-- no other; no settled pin has one of them without the other; and the frame has the object's words.
+pub record IsAsPinned (s : CoreState) (f o : ℕ) : Type 0 where
+  pub entry : (p page : ℕ) → Names s p page o → (e : Entry) × IsEntry s p page e × (e.frame ≡ f)
+  pub alone : (p page : ℕ) (e : Entry) → IsEntry s p page e → e.frame ≡ f → Names s p page o
+  pub object : (g u : ℕ) → IsSettled s g u → (f ≡ g → o ≡ u) × (o ≡ u → f ≡ g)
+  pub words : HasWords s f o
+
+-- the walk has yet to read the mark of this frame, which it read through a read-only entry, or has read that it is clear
+abbrev pub AwaitsMark : WalkStep → (f : ℕ) → Type 0
+AwaitsMark (rechecked page e) f = (e.frame ≡ f) × (e.writable ≡ false)
+AwaitsMark refused f = Unit {0}
+AwaitsMark step f = ⊥
+
+pub record IsWalked (s : CoreState) : Type 0 where
+  -- the process of a walk has pinned
+  pub flag : (a p sequence : ℕ) (write long : Bool) (step : WalkStep) → s.job a ≡ walking p write long sequence step → s.has_pinned p ≡ true
+  -- a frame that a walk has grabbed isn't free
+  pub grab : (a f : ℕ) → grabbed_frame (s.job a) ≡ Some f → s.count f ≡ 0 → ⊥
+  -- What an undisturbed walk has taken: a marked frame is as a pinned one. All are marked but the last, before its mark
+  -- is read and found.
+  pub marked : (a p : ℕ) (step : WalkStep) (t : Taken) → IsUndisturbed s a p step → Contains (s.taken a) t → s.mark t.frame ≡ true → IsAsPinned s t.frame t.object
+  pub unmarked : (a p k : ℕ) (step : WalkStep) (t : Taken) → IsUndisturbed s a p step → slice_get (s.taken a) k ≡ Some t → s.mark t.frame ≡ false → AwaitsMark step t.frame × (k + 1 ≡ length (s.taken a))
+
 -- What is known of a reachable state.
 pub record Holds (s : CoreState) : Type 0 where
   pub counts : CountsReferences s
   pub exclusive : IsExclusive s
   pub parted : IsParted s
   pub stands : StandsFor s
+  pub walked : IsWalked s
 
 -- The plain event that stands at a core event, if one does, can happen in the plain state that the core state
 -- stands for.
