@@ -2,18 +2,18 @@
 use Rattle.gup_events.specs.State.{CoreState}
 use Rattle.gup_events.specs.Event.{CoreEvent, Can, take_frame, fill, count_one, set_mark, upgrade, break_entry, put_entry, raise_flag, pin_page, make_handle, unpin_page, give_handle, take_handle, get_reference, put_reference, clear_entry, count_moved, place_frame, restore_entry, begin_fork, count_page, share_entry, share_mark, share_child, copy_word, place_child, pass_page, end_fork, fail_fork, put_child, release_fork, fail_unborn, map_pages, lower_entry, protect_pages, drop_entry, discard_entry, load, store, move_out, move_in, empty_mirror, fill_mirror, look}
 use Rattle.gup_events.specs.Sound.{IsSound, Simulates}
-use Rattle.gup_laws.proofs.Faults.{simulates-take_frame, simulates-fill, simulates-count_one, simulates-set_mark, simulates-upgrade}
-use Rattle.gup_laws.proofs.Breaks.{simulates-break_entry, simulates-put_entry}
-use Rattle.gup_laws.proofs.Pins.{simulates-raise_flag, simulates-pin_page, simulates-make_handle, simulates-unpin_page, simulates-give_handle, simulates-take_handle, simulates-get_reference, simulates-put_reference}
-use Rattle.gup_laws.proofs.Moves.{simulates-clear_entry, simulates-count_moved, simulates-place_frame, simulates-restore_entry}
-use Rattle.gup_laws.proofs.ForkBegins.{simulates-begin_fork, simulates-count_page}
-use Rattle.gup_laws.proofs.Shares.{simulates-share_entry, simulates-share_mark}
-use Rattle.gup_laws.proofs.ShareChild.{simulates-share_child, simulates-pass_page}
-use Rattle.gup_laws.proofs.Copies.{simulates-copy_word, simulates-place_child}
-use Rattle.gup_laws.proofs.ForkEnds.{simulates-end_fork, simulates-fail_fork, simulates-put_child, simulates-release_fork, simulates-fail_unborn}
-use Rattle.gup_laws.proofs.Mappings.{simulates-map_pages, simulates-lower_entry, simulates-protect_pages, simulates-drop_entry, simulates-discard_entry}
-use Rattle.gup_laws.proofs.Data.{simulates-load, simulates-store, simulates-move_out, simulates-move_in}
-use Rattle.gup_laws.proofs.Mirrors.{simulates-empty_mirror, simulates-fill_mirror, simulates-look}
+use Rattle.gup_fault_laws.specs.Faults.{simulates-take_frame, simulates-fill, simulates-count_one, simulates-set_mark, simulates-upgrade}
+use Rattle.gup_fault_laws.specs.Breaks.{simulates-break_entry, simulates-put_entry}
+use Rattle.gup_pin_laws.specs.Pins.{simulates-raise_flag, simulates-pin_page, simulates-make_handle, simulates-unpin_page, simulates-give_handle, simulates-take_handle, simulates-get_reference, simulates-put_reference}
+use Rattle.gup_pin_laws.specs.Moves.{simulates-clear_entry, simulates-count_moved, simulates-place_frame, simulates-restore_entry}
+use Rattle.gup_fork_laws.specs.ForkBegins.{simulates-begin_fork, simulates-count_page}
+use Rattle.gup_fork_laws.specs.Shares.{simulates-share_entry, simulates-share_mark}
+use Rattle.gup_fork_laws.specs.ShareChild.{simulates-share_child, simulates-pass_page}
+use Rattle.gup_fork_laws.specs.Copies.{simulates-copy_word, simulates-place_child}
+use Rattle.gup_fork_laws.specs.ForkEnds.{simulates-end_fork, simulates-fail_fork, simulates-put_child, simulates-release_fork, simulates-fail_unborn}
+use Rattle.gup_fault_laws.specs.Mappings.{simulates-map_pages, simulates-lower_entry, simulates-protect_pages, simulates-drop_entry, simulates-discard_entry}
+use Rattle.gup_fault_laws.specs.Data.{simulates-load, simulates-store, simulates-move_out, simulates-move_in}
+use Rattle.gup_fault_laws.specs.Mirrors.{simulates-empty_mirror, simulates-fill_mirror, simulates-look}
 
 pub simulated : (s : CoreState) (e : CoreEvent) → IsSound s → Can s e → Simulates s e
 simulated s (take_frame a f) h c = simulates-take_frame s a f h c

@@ -9,8 +9,8 @@ use Rattle.gup_events.specs.State.{CoreState, Counted, one, Job, idle, marking, 
 use Rattle.gup_events.specs.Event.{bias}
 use Rattle.gup_events.specs.Invariant.{Holder, entry_of_page, cleared_by, prepared_by, owed_by, got_as, page_of_pin, page_taken, CountsReferences, holds, IsEntry, Names, IsSettled, IsExclusive, IsSharing, IsParted, IsUncopied, StandsFor, Holds, frame_of, cleared_frame}
 use Rattle.gup_events.specs.Sound.{View, Moving, Forking, moving_of, forking_of, moved_frame, shared_page, IsUncopiedBy, held, IsSoundBy}
-use Rattle.gup_laws.proofs.Rows.{contains_at}
-use Rattle.gup_laws.proofs.Lonely.{whole_is, handle_counts, taken_counts, mapped_names, born_mapped}
+use Rattle.gup_clauses.specs.Rows.{contains_at}
+use Rattle.gup_clauses.specs.Lonely.{whole_is, handle_counts, taken_counts, mapped_names, born_mapped}
 
 -- 1. Jobs, back from what they are seen as
 

@@ -5,7 +5,7 @@ use Rattle.gup_plain.specs.State.{born, unborn, growing}
 use Rattle.gup_events.specs.State.{start}
 use Rattle.gup_events.specs.Invariant.{Holder, entry_of_page, cleared_by, prepared_by, owed_by, got_as, page_of_pin, page_taken}
 use Rattle.gup_events.specs.Sound.{View, held, Tally, IsSound}
-use Rattle.gup_laws.proofs.Holders.{no_element}
+use Rattle.gup_clauses.specs.Holders.{no_element}
 
 abbrev nothing : View
 nothing = record { whole = λ _ _. None; names = λ _ _. None; marks = λ _. None; moves = λ _. None; forks = λ _. None }

@@ -14,8 +14,8 @@ use Rattle.gup_events.specs.State.{CoreState, Taken, plain_of, pending_of}
 use Rattle.gup_events.specs.Event.{happens, told, after_told, IsUntaken, AreAlike, frames_of, objects_taken, writes_taken, long_taken, make_handle, unpin_page}
 use Rattle.gup_events.specs.Invariant.{CanTell}
 use Rattle.gup_events.specs.Sound.{View, IsSoundBy}
-use Rattle.gup_laws.proofs.Rows.{all_at, all_from, contains_at, at_mapped, mapped_at}
-use Rattle.gup_laws.proofs.Lonely.{born_mapped}
+use Rattle.gup_clauses.specs.Rows.{all_at, all_from, contains_at, at_mapped, mapped_at}
+use Rattle.gup_clauses.specs.Lonely.{born_mapped}
 
 -- 1. A page more
 

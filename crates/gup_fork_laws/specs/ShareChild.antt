@@ -10,12 +10,12 @@ use Rattle.gup_plain.specs.Event.{words}
 use Rattle.gup_events.specs.State.{CoreState, between, cleared, plain_of}
 use Rattle.gup_events.specs.Event.{Can, happens, entry_of, is_done, share_child, pass_page}
 use Rattle.gup_events.specs.Sound.{View, Forking, marking_of, moving_of, IsSoundBy, IsSound, Simulates, IsUncopiedBy, is_failing, copied_words, birth_of_child, step_page, shared_page, lowered_page}
-use Rattle.gup_laws.proofs.Clauses.{References, MarksAre, MovesAre, ForksAre, WholeEntry, WholeMoved, WholeFree, WholeKept, WholeOther, MovedGone, WholeNames, MarksTable, MovesTable, ForksTable, ForksStructure, TableHeld, StructureHeld, TableBorn, ForkParent, ForkBirth, GrowingForked, OwnNames, OwnEntry, OwnWords, OwnMarked, OwnMarking, MarkedOwn, EntryMapped, EntryMarked, EntryAllowed, EntryWords, Untouched, PreparedOnce, PreparedZero, MarkingEntry, MovingOnce, ForkFresh, ForkCopied, ForkUncopied, ForkUndone, ForkMapped, CopyWords, ShareHandle, ShareTaken, ShareLowered, ShareUnowned, MirrorEntry}
-use Rattle.gup_laws.proofs.Tally.{tally_is, tally_entry}
-use Rattle.gup_laws.proofs.Lonely.{once_wholes, prepared_whole, whole_none}
-use Rattle.gup_laws.proofs.Children.{only_fork, born_uncopied, uncopied_before, fork_here}
-use Rattle.gup_laws.proofs.Done.{fork_after, changed_fork, done_either, undone_either}
-use Rattle.gup_laws.proofs.Shared.{child_names, shown_same, page_forks, none_before}
+use Rattle.gup_clauses.specs.Clauses.{References, MarksAre, MovesAre, ForksAre, WholeEntry, WholeMoved, WholeFree, WholeKept, WholeOther, MovedGone, WholeNames, MarksTable, MovesTable, ForksTable, ForksStructure, TableHeld, StructureHeld, TableBorn, ForkParent, ForkBirth, GrowingForked, OwnNames, OwnEntry, OwnWords, OwnMarked, OwnMarking, MarkedOwn, EntryMapped, EntryMarked, EntryAllowed, EntryWords, Untouched, PreparedOnce, PreparedZero, MarkingEntry, MovingOnce, ForkFresh, ForkCopied, ForkUncopied, ForkUndone, ForkMapped, CopyWords, ShareHandle, ShareTaken, ShareLowered, ShareUnowned, MirrorEntry}
+use Rattle.gup_clauses.specs.Tally.{tally_is, tally_entry}
+use Rattle.gup_clauses.specs.Lonely.{once_wholes, prepared_whole, whole_none}
+use Rattle.gup_clauses.specs.Children.{only_fork, born_uncopied, uncopied_before, fork_here}
+use Rattle.gup_clauses.specs.Done.{fork_after, changed_fork, done_either, undone_either}
+use Rattle.gup_fork_laws.specs.Shared.{child_names, shown_same, page_forks, none_before}
 
 -- parent and child have the page's frame, and their objects have its words
 pub simulates-share_child : (s : CoreState) (a p c : ℕ) (done : List ℕ) (page f : ℕ) (writable : Bool) → IsSound s → Can s (share_child a p c done page f writable) → Simulates s (share_child a p c done page f writable)

@@ -10,12 +10,12 @@ use Rattle.gup_plain.specs.Event.{words}
 use Rattle.gup_events.specs.State.{CoreState, between, copying, plain_of}
 use Rattle.gup_events.specs.Event.{Can, happens, entry_of, is_writable, copy_word, place_child}
 use Rattle.gup_events.specs.Sound.{View, Forking, IsUncopiedBy, is_failing, copied_words, IsSoundBy, IsSound, Simulates}
-use Rattle.gup_laws.proofs.Clauses.{References, MarksAre, MovesAre, ForksAre, WholeEntry, WholeMoved, WholeFree, WholeKept, WholeOther, MovedGone, WholeNames, MarksTable, MovesTable, ForksTable, ForksStructure, TableHeld, StructureHeld, TableBorn, ForkParent, ForkBirth, GrowingForked, OwnAlone, OwnMade, OwnNames, OwnEntry, OwnWords, OwnMarked, OwnMarking, MarkedOwn, EntryMapped, EntryMarked, EntryAllowed, EntryWords, Untouched, HandleMarked, HandleOwn, HandleFlag, TakenMarked, TakenOwn, PreparedOnce, PreparedUnmarked, PreparedUnowned, PreparedZero, MarkingEntry, MarkingOwn, ForkFresh, ForkCopied, ForkUncopied, ForkUndone, ForkMapped, CopyWords, ShareHandle, ShareTaken, ShareLowered, ShareUnowned, MirrorEntry}
-use Rattle.gup_laws.proofs.Named.{named_here}
-use Rattle.gup_laws.proofs.Tally.{tally_is, tally_entry, tally_prepared, number_here}
-use Rattle.gup_laws.proofs.Lonely.{handle_counts, taken_counts, prepared_whole, prepared_alone, born_mapped, mapped_names}
-use Rattle.gup_laws.proofs.Children.{fork_here, only_fork, uncopied_before}
-use Rattle.gup_laws.proofs.Done.{changed_fork, done_either, undone_either, some_there}
+use Rattle.gup_clauses.specs.Clauses.{References, MarksAre, MovesAre, ForksAre, WholeEntry, WholeMoved, WholeFree, WholeKept, WholeOther, MovedGone, WholeNames, MarksTable, MovesTable, ForksTable, ForksStructure, TableHeld, StructureHeld, TableBorn, ForkParent, ForkBirth, GrowingForked, OwnAlone, OwnMade, OwnNames, OwnEntry, OwnWords, OwnMarked, OwnMarking, MarkedOwn, EntryMapped, EntryMarked, EntryAllowed, EntryWords, Untouched, HandleMarked, HandleOwn, HandleFlag, TakenMarked, TakenOwn, PreparedOnce, PreparedUnmarked, PreparedUnowned, PreparedZero, MarkingEntry, MarkingOwn, ForkFresh, ForkCopied, ForkUncopied, ForkUndone, ForkMapped, CopyWords, ShareHandle, ShareTaken, ShareLowered, ShareUnowned, MirrorEntry}
+use Rattle.gup_clauses.specs.Named.{named_here}
+use Rattle.gup_clauses.specs.Tally.{tally_is, tally_entry, tally_prepared, number_here}
+use Rattle.gup_clauses.specs.Lonely.{handle_counts, taken_counts, prepared_whole, prepared_alone, born_mapped, mapped_names}
+use Rattle.gup_clauses.specs.Children.{fork_here, only_fork, uncopied_before}
+use Rattle.gup_clauses.specs.Done.{changed_fork, done_either, undone_either, some_there}
 
 -- the word of a page's entry is that of its object
 entry_word : (v : View) (s : CoreState) → IsSoundBy v s → (p g w : ℕ) (e : Entry) → v.whole p g ≡ Some e → IsSome (s.right p g) → w < words → s.word e.frame w ≡ s.content (s.object p g) w

@@ -10,8 +10,8 @@ use Rattle.gup_events.specs.State.{CoreState, Taken, one, Job, idle, marking, mo
 use Rattle.gup_events.specs.Event.{bias}
 use Rattle.gup_events.specs.Invariant.{Holder, entry_of_page, cleared_by, prepared_by, owed_by, got_as, page_of_pin, page_taken, weight, frame_of, got_frame, taken_frame}
 use Rattle.gup_events.specs.Sound.{View, Moving, moved_frame, moving_of, keeps_table, held, IsSoundBy}
-use Rattle.gup_laws.proofs.Holders.{kind, first, second, by_holder}
-use Rattle.gup_laws.proofs.Tally.{held_weighs, held_weigh}
+use Rattle.gup_clauses.specs.Holders.{kind, first, second, by_holder}
+use Rattle.gup_clauses.specs.Tally.{held_weighs, held_weigh}
 
 moving_keeps : (job : Job) (m : Moving) → moving_of job ≡ Some m → keeps_table job ≡ Some m.proc
 moving_keeps (moving p page e count) m is = cc

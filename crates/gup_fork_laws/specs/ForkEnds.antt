@@ -9,11 +9,11 @@ use Rattle.gup_plain.specs.Event.{IsUnbornOrGrowing}
 use Rattle.gup_events.specs.State.{CoreState, forking, ForkStep, between, counted, lowered, cleared, copying, failing, plain_of}
 use Rattle.gup_events.specs.Event.{Can, happens, MayFail, end_fork, fail_fork, put_child, release_fork, fail_unborn}
 use Rattle.gup_events.specs.Sound.{View, Forking, keeps_table, step_page, is_failing, IsSoundBy, IsSound, Simulates}
-use Rattle.gup_laws.proofs.Clauses.{References, MarksAre, MovesAre, ForksAre, WholeEntry, WholeMoved, WholeFree, WholeKept, WholeOther, MovedGone, RightNames, WholeNames, NamesObject, MarksTable, MovesTable, ForksTable, ForksStructure, TableHeld, StructureHeld, TableBorn, ForkParent, ForkBirth, GrowingLocked, GrowingForked, GrowingRights, UnbornUnmapped, FailedUnmapped, FlagBorn, OwnAlone, OwnMade, OwnNames, OwnEntry, OwnWords, OwnMarked, OwnMarking, MarkedOwn, EntryMapped, EntryMarked, EntryAllowed, EntryWords, Untouched, NamesAlone, NamesMade, RightNumbered, HandleMarked, HandleOwn, HandleFlag, TakenMarked, TakenOwn, TakenNames, PreparedOnce, PreparedUnmarked, PreparedUnowned, PreparedZero, MarkingEntry, MarkingOwn, MovingOnce, ForkFresh, ForkCopied, ForkUncopied, ForkUndone, ForkMapped, CopyWords, ShareHandle, ShareTaken, ShareLowered, ShareUnowned, MirrorBorn, MirrorEntry, MirrorNames}
-use Rattle.gup_laws.proofs.Named.{by_pages}
-use Rattle.gup_laws.proofs.Tally.{tally_is, tally_entry}
-use Rattle.gup_laws.proofs.Lonely.{once_wholes, handle_counts, taken_counts, prepared_whole}
-use Rattle.gup_laws.proofs.Children.{birth_goes, fork_here, growing_parent, only_fork, uncopied_before}
+use Rattle.gup_clauses.specs.Clauses.{References, MarksAre, MovesAre, ForksAre, WholeEntry, WholeMoved, WholeFree, WholeKept, WholeOther, MovedGone, RightNames, WholeNames, NamesObject, MarksTable, MovesTable, ForksTable, ForksStructure, TableHeld, StructureHeld, TableBorn, ForkParent, ForkBirth, GrowingLocked, GrowingForked, GrowingRights, UnbornUnmapped, FailedUnmapped, FlagBorn, OwnAlone, OwnMade, OwnNames, OwnEntry, OwnWords, OwnMarked, OwnMarking, MarkedOwn, EntryMapped, EntryMarked, EntryAllowed, EntryWords, Untouched, NamesAlone, NamesMade, RightNumbered, HandleMarked, HandleOwn, HandleFlag, TakenMarked, TakenOwn, TakenNames, PreparedOnce, PreparedUnmarked, PreparedUnowned, PreparedZero, MarkingEntry, MarkingOwn, MovingOnce, ForkFresh, ForkCopied, ForkUncopied, ForkUndone, ForkMapped, CopyWords, ShareHandle, ShareTaken, ShareLowered, ShareUnowned, MirrorBorn, MirrorEntry, MirrorNames}
+use Rattle.gup_clauses.specs.Named.{by_pages}
+use Rattle.gup_clauses.specs.Tally.{tally_is, tally_entry}
+use Rattle.gup_clauses.specs.Lonely.{once_wholes, handle_counts, taken_counts, prepared_whole}
+use Rattle.gup_clauses.specs.Children.{birth_goes, fork_here, growing_parent, only_fork, uncopied_before}
 
 -- what becomes of the parent's table lock where a fork fails
 abbrev failed_table : ForkStep → Option ℕ → Option ℕ

@@ -8,10 +8,10 @@ use Rattle.gup_plain.specs.Put.{put2}
 use Rattle.gup_events.specs.State.{CoreState}
 use Rattle.gup_events.specs.Event.{Can, happens, entry_of, break_entry, put_entry}
 use Rattle.gup_events.specs.Sound.{View, IsSoundBy, IsSound, Simulates}
-use Rattle.gup_laws.proofs.Clauses.{References, WholeEntry, WholeMoved, WholeFree, WholeKept, WholeOther, MovedGone, WholeNames, OwnAlone, OwnMade, OwnNames, OwnEntry, OwnWords, OwnMarked, OwnMarking, MarkedOwn, EntryMapped, EntryMarked, EntryAllowed, EntryWords, Untouched, HandleMarked, HandleOwn, HandleFlag, TakenMarked, TakenOwn, PreparedOnce, PreparedUnmarked, PreparedUnowned, PreparedZero, MarkingEntry, MarkingOwn, MovingOnce, ForkFresh, CopyWords, ShareHandle, ShareTaken, ShareLowered, ShareUnowned, MirrorEntry}
-use Rattle.gup_laws.proofs.Tally.{tally_is, tally_entry, tally_prepared, tally_owed}
-use Rattle.gup_laws.proofs.Steps.{shared_is_step, lowered_is_shared}
-use Rattle.gup_laws.proofs.Lonely.{handle_counts, taken_counts, prepared_whole, prepared_alone, born_mapped, unmarked_unowned, owed_whole, owed_prepared, owed_moving}
+use Rattle.gup_clauses.specs.Clauses.{References, WholeEntry, WholeMoved, WholeFree, WholeKept, WholeOther, MovedGone, WholeNames, OwnAlone, OwnMade, OwnNames, OwnEntry, OwnWords, OwnMarked, OwnMarking, MarkedOwn, EntryMapped, EntryMarked, EntryAllowed, EntryWords, Untouched, HandleMarked, HandleOwn, HandleFlag, TakenMarked, TakenOwn, PreparedOnce, PreparedUnmarked, PreparedUnowned, PreparedZero, MarkingEntry, MarkingOwn, MovingOnce, ForkFresh, CopyWords, ShareHandle, ShareTaken, ShareLowered, ShareUnowned, MirrorEntry}
+use Rattle.gup_clauses.specs.Tally.{tally_is, tally_entry, tally_prepared, tally_owed}
+use Rattle.gup_clauses.specs.Steps.{shared_is_step, lowered_is_shared}
+use Rattle.gup_clauses.specs.Lonely.{handle_counts, taken_counts, prepared_whole, prepared_alone, born_mapped, unmarked_unowned, owed_whole, owed_prepared, owed_moving}
 
 -- the old frame was no page's alone; the new one is prepared, so it was in no entry and under no pin
 pub simulates-break_entry : (s : CoreState) (a p page old new : ℕ) (was writable : Bool) → IsSound s → Can s (break_entry a p page old new was writable) → Simulates s (break_entry a p page old new was writable)

@@ -10,8 +10,8 @@ use Rattle.gup_events.specs.State.{Taken}
 use Rattle.gup_events.specs.Event.{bias}
 use Rattle.gup_events.specs.Invariant.{Holder, entry_of_page, cleared_by, prepared_by, owed_by, got_as, page_of_pin, page_taken, weight, HasNoRepetition, frame_of, got_frame, taken_frame}
 use Rattle.gup_events.specs.Sound.{Moving, moved_frame, held, Tally}
-use Rattle.gup_laws.proofs.Rows.{at_end, at_others, none_past}
-use Rattle.gup_laws.proofs.Holders.{same_holders, by_holder, first_element, later_element, taken_out, IsWithout, element_weighs, elements_weigh}
+use Rattle.gup_clauses.specs.Rows.{at_end, at_others, none_past}
+use Rattle.gup_clauses.specs.Holders.{same_holders, by_holder, first_element, later_element, taken_out, IsWithout, element_weighs, elements_weigh}
 
 -- what a holder of this weight that holds `old` and will hold `new` does to the counts
 abbrev pub amount : Option ℕ → (weight f : ℕ) → ℕ

@@ -9,10 +9,10 @@ use Rattle.gup_events.specs.State.{CoreState, idle}
 use Rattle.gup_events.specs.Event.{Can, happens, MayPrepare, entry_of, take_frame, fill, count_one, set_mark, upgrade}
 use Rattle.gup_events.specs.Invariant.{frame_of}
 use Rattle.gup_events.specs.Sound.{View, Marking, IsSoundBy, IsSound, Simulates}
-use Rattle.gup_laws.proofs.Clauses.{References, MarksAre, MovesAre, ForksAre, WholeEntry, WholeMoved, WholeFree, WholeKept, WholeOther, MovedGone, WholeNames, MarksTable, MovesTable, ForksTable, TableHeld, StructureHeld, TableBorn, OwnAlone, OwnMade, OwnNames, OwnEntry, OwnWords, OwnMarked, OwnMarking, MarkedOwn, EntryMapped, EntryMarked, EntryAllowed, EntryWords, Untouched, HandleMarked, HandleOwn, HandleFlag, TakenMarked, TakenOwn, PreparedOnce, PreparedUnmarked, PreparedUnowned, PreparedZero, MarkingEntry, MarkingOwn, MovingOnce, ForkFresh, CopyWords, ShareHandle, ShareTaken, ShareLowered, ShareUnowned, MirrorEntry}
-use Rattle.gup_laws.proofs.Tally.{tally_is, tally_entry, tally_prepared}
-use Rattle.gup_laws.proofs.Steps.{shared_is_step, lowered_is_shared, prepares_before}
-use Rattle.gup_laws.proofs.Lonely.{once_wholes, whole_counts, handle_counts, taken_counts, prepared_whole, prepared_alone, prepared_counts, whole_none, mapped_names, born_mapped}
+use Rattle.gup_clauses.specs.Clauses.{References, MarksAre, MovesAre, ForksAre, WholeEntry, WholeMoved, WholeFree, WholeKept, WholeOther, MovedGone, WholeNames, MarksTable, MovesTable, ForksTable, TableHeld, StructureHeld, TableBorn, OwnAlone, OwnMade, OwnNames, OwnEntry, OwnWords, OwnMarked, OwnMarking, MarkedOwn, EntryMapped, EntryMarked, EntryAllowed, EntryWords, Untouched, HandleMarked, HandleOwn, HandleFlag, TakenMarked, TakenOwn, PreparedOnce, PreparedUnmarked, PreparedUnowned, PreparedZero, MarkingEntry, MarkingOwn, MovingOnce, ForkFresh, CopyWords, ShareHandle, ShareTaken, ShareLowered, ShareUnowned, MirrorEntry}
+use Rattle.gup_clauses.specs.Tally.{tally_is, tally_entry, tally_prepared}
+use Rattle.gup_clauses.specs.Steps.{shared_is_step, lowered_is_shared, prepares_before}
+use Rattle.gup_clauses.specs.Lonely.{once_wholes, whole_counts, handle_counts, taken_counts, prepared_whole, prepared_alone, prepared_counts, whole_none, mapped_names, born_mapped}
 
 -- nobody holds a frame of count 0
 pub simulates-take_frame : (s : CoreState) (a f : ℕ) → IsSound s → Can s (take_frame a f) → Simulates s (take_frame a f)

@@ -7,10 +7,10 @@ use Rattle.gup_plain.specs.Put.{put, put2}
 use Rattle.gup_events.specs.State.{CoreState, idle, Counted, unread, one}
 use Rattle.gup_events.specs.Event.{Can, happens, entry_of, counted_as, clear_entry, count_moved, place_frame, restore_entry}
 use Rattle.gup_events.specs.Sound.{View, Moving, IsSoundBy, IsSound, Simulates}
-use Rattle.gup_laws.proofs.Clauses.{References, MarksAre, MovesAre, ForksAre, WholeEntry, WholeMoved, WholeFree, WholeKept, WholeOther, MovedGone, WholeNames, MarksTable, MovesTable, ForksTable, TableHeld, StructureHeld, TableBorn, OwnAlone, OwnMade, OwnNames, OwnEntry, OwnWords, OwnMarked, OwnMarking, MarkedOwn, EntryMapped, EntryMarked, EntryAllowed, EntryWords, Untouched, HandleMarked, HandleOwn, HandleFlag, TakenMarked, TakenOwn, PreparedOnce, PreparedUnmarked, PreparedUnowned, PreparedZero, MarkingEntry, MarkingOwn, MovingOnce, ForkFresh, CopyWords, ShareHandle, ShareTaken, ShareLowered, ShareUnowned, MirrorEntry}
-use Rattle.gup_laws.proofs.Tally.{tally_is, tally_entry, tally_moves, tally_prepared, tally_owed}
-use Rattle.gup_laws.proofs.Steps.{shared_is_step}
-use Rattle.gup_laws.proofs.Lonely.{once_wholes, handle_counts, taken_counts, prepared_whole, prepared_alone}
+use Rattle.gup_clauses.specs.Clauses.{References, MarksAre, MovesAre, ForksAre, WholeEntry, WholeMoved, WholeFree, WholeKept, WholeOther, MovedGone, WholeNames, MarksTable, MovesTable, ForksTable, TableHeld, StructureHeld, TableBorn, OwnAlone, OwnMade, OwnNames, OwnEntry, OwnWords, OwnMarked, OwnMarking, MarkedOwn, EntryMapped, EntryMarked, EntryAllowed, EntryWords, Untouched, HandleMarked, HandleOwn, HandleFlag, TakenMarked, TakenOwn, PreparedOnce, PreparedUnmarked, PreparedUnowned, PreparedZero, MarkingEntry, MarkingOwn, MovingOnce, ForkFresh, CopyWords, ShareHandle, ShareTaken, ShareLowered, ShareUnowned, MirrorEntry}
+use Rattle.gup_clauses.specs.Tally.{tally_is, tally_entry, tally_moves, tally_prepared, tally_owed}
+use Rattle.gup_clauses.specs.Steps.{shared_is_step}
+use Rattle.gup_clauses.specs.Lonely.{once_wholes, handle_counts, taken_counts, prepared_whole, prepared_alone}
 
 -- the page's entry is the one that the mover keeps
 pub simulates-clear_entry : (s : CoreState) (a p page : ℕ) (e : Entry) → IsSound s → Can s (clear_entry a p page e) → Simulates s (clear_entry a p page e)

@@ -10,14 +10,14 @@ use Rattle.gup_plain.specs.Event.{words}
 use Rattle.gup_events.specs.State.{CoreState, Taken, idle, forking, ForkStep, between, counted, cleared, copying, plain_of}
 use Rattle.gup_events.specs.Event.{Can, happens, bias, copies_page, is_done, begin_fork, count_page}
 use Rattle.gup_events.specs.Sound.{View, Forking, moving_of, forking_of, step_page, shared_page, lowered_page, is_failing, copied_words, step_words, keeps_table, birth_of_child, IsSoundBy, IsSound, Simulates, IsUncopiedBy}
-use Rattle.gup_laws.proofs.Clauses.{MarksAre, MovesAre, ForksAre, WholeFree, WholeKept, WholeOther, RightNames, WholeNames, NamesObject, MarksTable, MovesTable, ForksTable, ForksStructure, TableHeld, StructureHeld, TableBorn, ForkParent, ForkBirth, GrowingLocked, GrowingForked, GrowingRights, UnbornUnmapped, FailedUnmapped, FlagBorn, OwnMade, OwnNames, OwnEntry, OwnWords, OwnMarked, OwnMarking, MarkedOwn, EntryMapped, EntryAllowed, EntryWords, Untouched, NamesAlone, NamesMade, RightNumbered, HandleFlag, TakenNames, PreparedZero, MarkingOwn, ForkFresh, ForkCopied, ForkUncopied, ForkUndone, ForkMapped, CopyWords, ShareHandle, ShareTaken, ShareLowered, ShareUnowned, MirrorBorn, MirrorNames}
-use Rattle.gup_laws.proofs.Lonely.{handle_counts, taken_counts}
-use Rattle.gup_laws.proofs.Named.{by_pages}
-use Rattle.gup_laws.proofs.Done.{fork_after}
-use Rattle.gup_laws.proofs.Tally.{number_here}
-use Rattle.gup_laws.proofs.Children.{birth_goes, growing_parent, uncopied_before, fork_here, copied_made}
-use Rattle.gup_laws.proofs.Holders.{no_element}
-use Rattle.gup_laws.proofs.Named.{named_twice}
+use Rattle.gup_clauses.specs.Clauses.{MarksAre, MovesAre, ForksAre, WholeFree, WholeKept, WholeOther, RightNames, WholeNames, NamesObject, MarksTable, MovesTable, ForksTable, ForksStructure, TableHeld, StructureHeld, TableBorn, ForkParent, ForkBirth, GrowingLocked, GrowingForked, GrowingRights, UnbornUnmapped, FailedUnmapped, FlagBorn, OwnMade, OwnNames, OwnEntry, OwnWords, OwnMarked, OwnMarking, MarkedOwn, EntryMapped, EntryAllowed, EntryWords, Untouched, NamesAlone, NamesMade, RightNumbered, HandleFlag, TakenNames, PreparedZero, MarkingOwn, ForkFresh, ForkCopied, ForkUncopied, ForkUndone, ForkMapped, CopyWords, ShareHandle, ShareTaken, ShareLowered, ShareUnowned, MirrorBorn, MirrorNames}
+use Rattle.gup_clauses.specs.Lonely.{handle_counts, taken_counts}
+use Rattle.gup_clauses.specs.Named.{by_pages}
+use Rattle.gup_clauses.specs.Done.{fork_after}
+use Rattle.gup_clauses.specs.Tally.{number_here}
+use Rattle.gup_clauses.specs.Children.{birth_goes, growing_parent, uncopied_before, fork_here, copied_made}
+use Rattle.gup_clauses.specs.Holders.{no_element}
+use Rattle.gup_clauses.specs.Named.{named_twice}
 
 -- the object of a page of a new child
 abbrev new_name : Option Rights → ℕ → Option ℕ

@@ -6,8 +6,8 @@ use Rattle.gup_base.specs.declared.entry.Rights.{Rights}
 use Rattle.gup_plain.specs.State.{growing, named_or_zero}
 use Rattle.gup_events.specs.State.{CoreState, plain_of}
 use Rattle.gup_events.specs.Sound.{View, IsSoundBy}
-use Rattle.gup_laws.proofs.Done.{some_there}
-use Rattle.gup_laws.proofs.Named.{named_here}
+use Rattle.gup_clauses.specs.Done.{some_there}
+use Rattle.gup_clauses.specs.Named.{named_here}
 use Rattle.gup_plain.specs.Event.{AreForking}
 
 -- the child of a fork names an object of its own where it is mapped

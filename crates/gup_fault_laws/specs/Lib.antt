@@ -1,0 +1,5 @@
+pub mod Faults
+pub mod Breaks
+pub mod Mappings
+pub mod Data
+pub mod Mirrors

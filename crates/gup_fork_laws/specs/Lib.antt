@@ -1,0 +1,6 @@
+pub mod Shared
+pub mod ForkBegins
+pub mod Shares
+pub mod ShareChild
+pub mod Copies
+pub mod ForkEnds
