@@ -1,19 +1,25 @@
 -- The clauses of a sound state, each under a name of its own, so that a lemma on an event says which it proves anew.
 -- Each is the clause of `IsSoundBy` with the same name; a difference between the two is refused where the record is made.
-use Rattle.std.specs.Prelude.{◌≡◌, ℕ, ◌<◌, ◌≤◌, nat_lt, true, false, length, slice_get, Contains, Some, None}
+use Rattle.std.specs.Prelude.{◌≡◌, ℕ, ◌+◌, ◌<◌, ◌≤◌, nat_lt, true, false, not, length, slice_get, Contains, Some, None}
 use Rattle.gup_base.specs.declared.entry.Entry.{Entry}
 use Rattle.gup_base.specs.declared.entry.Rights.{Rights}
 use Rattle.gup_base.specs.declared.entry.Rights.TheVariants.{R}
 use Rattle.gup_plain.specs.Event.{page_numbers, words}
 use Rattle.gup_plain.specs.State.{growing, born, unborn, failed, Noted, objects_of}
-use Rattle.gup_events.specs.State.{CoreState, Taken, one, copying, cleared}
-use Rattle.gup_events.specs.Event.{writes_taken, long_taken}
-use Rattle.gup_events.specs.Invariant.{frame_of}
-use Rattle.gup_events.specs.Sound.{Marking, Moving, Forking, View, marking_of, moving_of, forking_of, marked_frame, fork_child, step_page, shared_page, lowered_page, is_failing, copied_words, words_written, birth_of_child, keeps_table, keeps_structure, IsUncopiedBy, held, Tally}
+use Rattle.gup_events.specs.State.{CoreState, Taken, one, copying, cleared, entered}
+use Rattle.gup_events.specs.Event.{writes_taken, long_taken, is_odd}
+use Rattle.gup_events.specs.Invariant.{frame_of, is_inside}
+use Rattle.gup_events.specs.Sound.{Marking, Moving, Forking, Walking, View, marking_of, moving_of, forking_of, walking_of, marked_frame, fork_child, step_page, shared_page, lowered_page, is_failing, copied_words, words_written, birth_of_child, keeps_table, keeps_structure, is_open, tried_page, tried_entry, rechecked_entry, unkept, IsUncopiedBy, held, held_by_walk, Tally}
 
 module _ (v : View) (s : CoreState) where
   abbrev pub References : Type 0
-  References = Tally s.count (held s.entry v.moves s.prepared s.owed s.got s.pinned s.taken)
+  References = Tally v.references (held s.entry v.moves s.prepared s.owed s.got s.pinned s.taken)
+
+  abbrev pub Grabs : Type 0
+  Grabs = Tally v.grabs (held_by_walk v.walks)
+
+  abbrev pub CountIs : Type 0
+  CountIs = (f : ℕ) → s.count f ≡ v.references f + v.grabs f
 
   -- the views
   abbrev pub MarksAre : Type 0
@@ -24,6 +30,9 @@ module _ (v : View) (s : CoreState) where
 
   abbrev pub ForksAre : Type 0
   ForksAre = (a : ℕ) → v.forks a ≡ forking_of (s.job a)
+
+  abbrev pub WalksAre : Type 0
+  WalksAre = (a : ℕ) → v.walks a ≡ walking_of (s.job a)
 
   abbrev pub WholeEntry : Type 0
   WholeEntry = (p g : ℕ) (e : Entry) → s.entry p g ≡ Some e → v.whole p g ≡ Some e
@@ -99,6 +108,13 @@ module _ (v : View) (s : CoreState) where
   abbrev pub FlagBorn : Type 0
   FlagBorn = (p : ℕ) → s.has_pinned p ≡ true → s.birth p ≡ born
 
+  -- the sequence is odd while a fork of the process runs that hasn't failed
+  abbrev pub ForkOdd : Type 0
+  ForkOdd = (a : ℕ) (k : Forking) → v.forks a ≡ Some k → is_odd (s.sequence k.proc) ≡ not (is_failing k.step)
+
+  abbrev pub QuietEven : Type 0
+  QuietEven = (p : ℕ) → s.structure p ≡ None → is_odd (s.sequence p) ≡ false
+
   -- exclusive frames
   abbrev pub OwnAlone : Type 0
   OwnAlone = (f g o : ℕ) → s.own f ≡ Some o → s.own g ≡ Some o → f ≡ g
@@ -167,10 +183,13 @@ module _ (v : View) (s : CoreState) where
   HandleNormal = (h k f : ℕ) → slice_get (s.pinned h) k ≡ Some f → s.for_long h ≡ true → s.movable ≤ f
 
   abbrev pub TakenMarked : Type 0
-  TakenMarked = (a k : ℕ) (t : Taken) → slice_get (s.taken a) k ≡ Some t → s.mark t.frame ≡ true
+  TakenMarked = (a k : ℕ) (t : Taken) → slice_get (s.taken a) k ≡ Some t → is_open (v.walks a) ≡ false → s.mark t.frame ≡ true
 
   abbrev pub TakenOwn : Type 0
-  TakenOwn = (a k : ℕ) (t : Taken) → slice_get (s.taken a) k ≡ Some t → s.own t.frame ≡ Some t.object
+  TakenOwn = (a k : ℕ) (t : Taken) → slice_get (s.taken a) k ≡ Some t → is_open (v.walks a) ≡ false → s.own t.frame ≡ Some t.object
+
+  abbrev pub TakenMade : Type 0
+  TakenMade = (a k : ℕ) (t : Taken) → slice_get (s.taken a) k ≡ Some t → t.object < s.made
 
   abbrev pub TakenFlag : Type 0
   TakenFlag = (a k : ℕ) (t : Taken) → slice_get (s.taken a) k ≡ Some t → s.has_pinned t.proc ≡ true
@@ -190,9 +209,58 @@ module _ (v : View) (s : CoreState) where
   abbrev pub TakenApart : Type 0
   TakenApart = (a j k : ℕ) (t u : Taken) → slice_get (s.taken a) j ≡ Some t → slice_get (s.taken a) k ≡ Some u → t.page ≡ u.page → j ≡ k
 
+  -- walks
+  abbrev pub WalkFlag : Type 0
+  WalkFlag = (a : ℕ) (w : Walking) → v.walks a ≡ Some w → s.has_pinned w.proc ≡ true
+
+  abbrev pub WalkEmpty : Type 0
+  WalkEmpty = (a k : ℕ) (w : Walking) (t : Taken) → v.walks a ≡ Some w → w.step ≡ entered → slice_get (s.taken a) k ≡ Some t → ⊥
+
+  abbrev pub WalkEven : Type 0
+  WalkEven = (a : ℕ) (w : Walking) → v.walks a ≡ Some w → is_inside w.step ≡ true → is_odd w.sequence ≡ false
+
+  abbrev pub WalkBelow : Type 0
+  WalkBelow = (a : ℕ) (w : Walking) → v.walks a ≡ Some w → is_inside w.step ≡ true → w.sequence ≤ s.sequence w.proc
+
+  abbrev pub WalkProc : Type 0
+  WalkProc = (a k : ℕ) (w : Walking) (t : Taken) → v.walks a ≡ Some w → slice_get (s.taken a) k ≡ Some t → t.proc ≡ w.proc
+
+  abbrev pub WalkWrite : Type 0
+  WalkWrite = (a k : ℕ) (w : Walking) (t : Taken) → v.walks a ≡ Some w → slice_get (s.taken a) k ≡ Some t → t.write ≡ w.write
+
+  abbrev pub WalkLong : Type 0
+  WalkLong = (a k : ℕ) (w : Walking) (t : Taken) → v.walks a ≡ Some w → slice_get (s.taken a) k ≡ Some t → t.long ≡ w.long
+
+  -- the page that it tries is none that it has taken, and the entry is right for the pin
+  abbrev pub WalkUntaken : Type 0
+  WalkUntaken = (a k g : ℕ) (w : Walking) (t : Taken) → v.walks a ≡ Some w → tried_page w.step ≡ Some g → slice_get (s.taken a) k ≡ Some t → t.page ≡ g → ⊥
+
+  abbrev pub WalkWrites : Type 0
+  WalkWrites = (a : ℕ) (w : Walking) (e : Entry) → v.walks a ≡ Some w → tried_entry w.step ≡ Some e → w.write ≡ true → e.writable ≡ true
+
+  abbrev pub WalkNormal : Type 0
+  WalkNormal = (a : ℕ) (w : Walking) (e : Entry) → v.walks a ≡ Some w → tried_entry w.step ≡ Some e → w.long ≡ true → s.movable ≤ e.frame
+
+  -- The walk is undisturbed: a frame taken is exclusively the object's, or else unmarked; what it keeps is marked.
+  abbrev pub WalkOwn : Type 0
+  WalkOwn = (a k o : ℕ) (w : Walking) (t : Taken) → v.walks a ≡ Some w → is_inside w.step ≡ true → w.sequence ≡ s.sequence w.proc → slice_get (s.taken a) k ≡ Some t → s.own t.frame ≡ Some o → o ≡ t.object
+
+  abbrev pub WalkUnowned : Type 0
+  WalkUnowned = (a k : ℕ) (w : Walking) (t : Taken) → v.walks a ≡ Some w → is_inside w.step ≡ true → w.sequence ≡ s.sequence w.proc → slice_get (s.taken a) k ≡ Some t → s.own t.frame ≡ None → s.mark t.frame ≡ false
+
+  abbrev pub WalkKept : Type 0
+  WalkKept = (a k : ℕ) (w : Walking) (t : Taken) → v.walks a ≡ Some w → is_inside w.step ≡ true → w.sequence ≡ s.sequence w.proc → slice_get (s.taken a) k ≡ Some t → k + unkept w.step < length (s.taken a) → s.mark t.frame ≡ true
+
+  -- the page taken last has the entry that was rechecked; one that was writable is marked
+  abbrev pub WalkLast : Type 0
+  WalkLast = (a k : ℕ) (w : Walking) (t : Taken) (e : Entry) → v.walks a ≡ Some w → rechecked_entry w.step ≡ Some e → slice_get (s.taken a) k ≡ Some t → k + 1 ≡ length (s.taken a) → t.frame ≡ e.frame
+
+  abbrev pub WalkWritable : Type 0
+  WalkWritable = (a k : ℕ) (w : Walking) (t : Taken) (e : Entry) → v.walks a ≡ Some w → rechecked_entry w.step ≡ Some e → e.writable ≡ true → w.sequence ≡ s.sequence w.proc → slice_get (s.taken a) k ≡ Some t → k + 1 ≡ length (s.taken a) → s.mark t.frame ≡ true
+
   -- what actors are in the middle of
   abbrev pub PreparedOnce : Type 0
-  PreparedOnce = (a f : ℕ) → s.prepared a ≡ Some f → s.count f ≡ 1
+  PreparedOnce = (a f : ℕ) → s.prepared a ≡ Some f → v.references f ≡ 1
 
   abbrev pub PreparedUnmarked : Type 0
   PreparedUnmarked = (a f : ℕ) → s.prepared a ≡ Some f → s.mark f ≡ false
@@ -210,7 +278,7 @@ module _ (v : View) (s : CoreState) where
   MarkingOwn = (a : ℕ) (m : Marking) → v.marks a ≡ Some m → s.own m.frame ≡ v.names m.proc m.page
 
   abbrev pub MovingOnce : Type 0
-  MovingOnce = (a : ℕ) (m : Moving) → v.moves a ≡ Some m → m.count ≡ one → s.count m.entry.frame ≡ 1
+  MovingOnce = (a : ℕ) (m : Moving) → v.moves a ≡ Some m → m.count ≡ one → v.references m.entry.frame ≡ 1
 
   -- forks
   abbrev pub ForkFresh : Type 0
@@ -236,7 +304,7 @@ module _ (v : View) (s : CoreState) where
   ShareHandle = (a g h j : ℕ) (k : Forking) (e : Entry) → v.forks a ≡ Some k → shared_page k.step ≡ Some g → v.whole k.proc g ≡ Some e → slice_get (s.pinned h) j ≡ Some e.frame → ⊥
 
   abbrev pub ShareTaken : Type 0
-  ShareTaken = (a g b j : ℕ) (k : Forking) (e : Entry) (t : Taken) → v.forks a ≡ Some k → shared_page k.step ≡ Some g → v.whole k.proc g ≡ Some e → slice_get (s.taken b) j ≡ Some t → t.frame ≡ e.frame → ⊥
+  ShareTaken = (a g b j : ℕ) (k : Forking) (e : Entry) (t : Taken) → v.forks a ≡ Some k → shared_page k.step ≡ Some g → v.whole k.proc g ≡ Some e → slice_get (s.taken b) j ≡ Some t → is_open (v.walks b) ≡ false → t.frame ≡ e.frame → ⊥
 
   abbrev pub ShareLowered : Type 0
   ShareLowered = (a g : ℕ) (k : Forking) (e : Entry) → v.forks a ≡ Some k → lowered_page k.step ≡ Some g → v.whole k.proc g ≡ Some e → e.writable ≡ false

@@ -6,7 +6,7 @@ use Rattle.std.proofs.lemmas.Bool.Decides.{nat_tests}
 use Rattle.std.proofs.lemmas.List.Elements.{Contains-append_right}
 use Rattle.std.proofs.lemmas.List.Sums.{sum_by-cons}
 use Rattle.std.proofs.lemmas.Map.Made.{Contains-tail}
-use Rattle.gup_events.specs.Invariant.{Holder, entry_of_page, cleared_by, prepared_by, owed_by, got_as, page_of_pin, page_taken, weight, HasNoRepetition}
+use Rattle.gup_events.specs.Invariant.{Holder, entry_of_page, cleared_by, prepared_by, owed_by, got_as, page_of_pin, page_taken, grabbed_by, weight, HasNoRepetition}
 
 -- a holder as three numbers
 
@@ -18,6 +18,7 @@ kind (owed_by a) = 3
 kind (got_as k) = 4
 kind (page_of_pin h k) = 5
 kind (page_taken a k) = 6
+kind (grabbed_by a) = 7
 
 abbrev pub first : Holder → ℕ
 first (entry_of_page p page) = p
@@ -27,6 +28,7 @@ first (owed_by a) = a
 first (got_as k) = k
 first (page_of_pin h k) = h
 first (page_taken a k) = a
+first (grabbed_by a) = a
 
 abbrev pub second : Holder → ℕ
 second (entry_of_page p page) = page
@@ -36,6 +38,7 @@ second (owed_by a) = 0
 second (got_as k) = 0
 second (page_of_pin h k) = k
 second (page_taken a k) = k
+second (grabbed_by a) = 0
 
 abbrev same_holder : Holder → Holder → Bool
 same_holder x y = kind x == kind y && (first x == first y && second x == second y)
@@ -47,7 +50,8 @@ with_kind (suc (suc zero)) i j = prepared_by i
 with_kind (suc (suc (suc zero))) i j = owed_by i
 with_kind (suc (suc (suc (suc zero)))) i j = got_as i
 with_kind (suc (suc (suc (suc (suc zero))))) i j = page_of_pin i j
-with_kind (suc (suc (suc (suc (suc (suc n)))))) i j = page_taken i j
+with_kind (suc (suc (suc (suc (suc (suc zero)))))) i j = page_taken i j
+with_kind (suc (suc (suc (suc (suc (suc (suc n))))))) i j = grabbed_by i
 
 again : (x : Holder) → with_kind (kind x) (first x) (second x) ≡ x
 again (entry_of_page p page) = refl
@@ -57,6 +61,7 @@ again (owed_by a) = refl
 again (got_as k) = refl
 again (page_of_pin h k) = refl
 again (page_taken a k) = refl
+again (grabbed_by a) = refl
 
 same_numbers : (x y : Holder) → kind x ≡ kind y → first x ≡ first y → second x ≡ second y → with_kind (kind x) (first x) (second x) ≡ with_kind (kind y) (first y) (second y)
 same_numbers x y k i j = cc

@@ -1,6 +1,7 @@
--- What a count says of who holds a frame: a frame without references is nobody's, one of count 1 has a single holder,
--- and a pinned one has a count of 1,024 at least.
-use Rattle.std.proofs.Common.{◌≡◌, ℕ, ◌<◌, ◌≤◌, ◌==◌, ◌⊎◌, inl, inr, Bool, true, false, refl, ap, sym, ◌∙◌, arith}
+-- What the references of a frame say of who holds it: a frame without any is nobody's, one with 1 has a single holder,
+-- and a pinned one has 1,024 at least. A count has the grabs of walks as well; where one holder is the whole count, no
+-- walk has grabbed the frame.
+use Rattle.std.proofs.Common.{◌≡◌, ℕ, ◌+◌, ◌<◌, ◌≤◌, ◌==◌, ◌⊎◌, inl, inr, Bool, true, false, refl, ap, sym, ◌∙◌, arith}
 use Rattle.std.specs.Prelude.{Option, Some, None, IsSome, slice_get}
 use Rattle.std.proofs.lemmas.Bool.Decides.{nat_tests}
 use Rattle.gup_base.specs.declared.entry.Entry.{Entry}
@@ -8,8 +9,8 @@ use Rattle.gup_base.specs.declared.entry.Rights.{Rights}
 use Rattle.gup_plain.specs.State.{born}
 use Rattle.gup_events.specs.State.{CoreState, Taken, one, Job, idle, marking, moving, forking, walking}
 use Rattle.gup_events.specs.Event.{bias}
-use Rattle.gup_events.specs.Invariant.{Holder, entry_of_page, cleared_by, prepared_by, owed_by, got_as, page_of_pin, page_taken, weight, frame_of, got_frame, taken_frame}
-use Rattle.gup_events.specs.Sound.{View, Moving, moved_frame, moving_of, keeps_table, held, IsSoundBy}
+use Rattle.gup_events.specs.Invariant.{Holder, entry_of_page, cleared_by, prepared_by, owed_by, got_as, page_of_pin, page_taken, grabbed_by, weight, frame_of, got_frame, taken_frame}
+use Rattle.gup_events.specs.Sound.{View, Moving, moved_frame, moving_of, walk_frame, keeps_table, held, held_by_walk, IsSoundBy}
 use Rattle.gup_clauses.specs.Holders.{kind, first, second, by_holder}
 use Rattle.gup_clauses.specs.Tally.{held_weighs, held_weigh}
 
@@ -88,13 +89,13 @@ module _ (v : View) (s : CoreState) (h : IsSoundBy v s) where
       ]
 
   -- who else holds a frame of which one holder is the whole count? Nobody.
-  pub no_other : (x y : Holder) (f : ℕ) → holding x ≡ Some f → s.count f ≡ weight x → (x ≡ y → ⊥) → holding y ≡ Some f → (weight y ≡ 0 → ⊥) → ⊥
+  pub no_other : (x y : Holder) (f : ℕ) → holding x ≡ Some f → v.references f ≡ weight x → (x ≡ y → ⊥) → holding y ≡ Some f → (weight y ≡ 0 → ⊥) → ⊥
   no_other x y f is all apart that positive =
-      let both = held_weigh s.count holding x y f h.references apart is that in
+      let both = held_weigh v.references holding x y f h.references apart is that in
       omega arith
 
   -- no page's entry, where the holder is none
-  pub no_whole : (x : Holder) (f p g : ℕ) (e : Entry) → holding x ≡ Some f → s.count f ≡ weight x → 2 ≤ kind x → v.whole p g ≡ Some e → e.frame ≡ f → ⊥
+  pub no_whole : (x : Holder) (f p g : ℕ) (e : Entry) → holding x ≡ Some f → v.references f ≡ weight x → 2 ≤ kind x → v.whole p g ≡ Some e → e.frame ≡ f → ⊥
   no_whole x f p g e is all other there same =
       let y : Holder = (whole_holder p g e there).0 in
       let by : IsHolder p g e y = (whole_holder p g e there).1 in
@@ -102,7 +103,7 @@ module _ (v : View) (s : CoreState) (h : IsSoundBy v s) where
       no_other x y f is all apart (by.holds ∙ ap (λ n. Some n) same) (λ zero. omega (arith, by.weight))
 
   -- two pages' entries have a frame of count 1 only where they are one
-  pub once_wholes : (p g q d : ℕ) (e u : Entry) → v.whole p g ≡ Some e → v.whole q d ≡ Some u → e.frame ≡ u.frame → s.count e.frame ≡ 1 → (p ≡ q) × (g ≡ d)
+  pub once_wholes : (p g q d : ℕ) (e u : Entry) → v.whole p g ≡ Some e → v.whole q d ≡ Some u → e.frame ≡ u.frame → v.references e.frame ≡ 1 → (p ≡ q) × (g ≡ d)
   once_wholes p g q d e u there also same once =
       let x : Holder = (whole_holder p g e there).0 in
       let by : IsHolder p g e x = (whole_holder p g e there).1 in
@@ -111,20 +112,66 @@ module _ (v : View) (s : CoreState) (h : IsSoundBy v s) where
       let wrong = λ (apart : x ≡ y → ⊥). no_other x y e.frame by.holds (once ∙ sym by.weight) apart (to.holds ∙ ap (λ n. Some n) (sym same)) (λ zero. omega (arith, to.weight)) in
       by_holder x y (λ is. (sym by.place ∙ (ap place is ∙ to.place), sym by.number ∙ (ap number is ∙ to.number))) (λ apart. absurd (wrong apart))
 
-  pub whole_counts : (p g : ℕ) (e : Entry) → v.whole p g ≡ Some e → 1 ≤ s.count e.frame
+  pub whole_counts : (p g : ℕ) (e : Entry) → v.whole p g ≡ Some e → 1 ≤ v.references e.frame
   whole_counts p g e there =
       let by : IsHolder p g e (whole_holder p g e there).0 = (whole_holder p g e there).1 in
-      omega (arith, held_weighs s.count holding (whole_holder p g e there).0 e.frame h.references by.holds, by.weight)
+      omega (arith, held_weighs v.references holding (whole_holder p g e there).0 e.frame h.references by.holds, by.weight)
 
   -- pins weigh 1,024
 
-  pub handle_counts : (j k f : ℕ) → slice_get (s.pinned j) k ≡ Some f → bias ≤ s.count f
+  pub handle_counts : (j k f : ℕ) → slice_get (s.pinned j) k ≡ Some f → bias ≤ v.references f
   unfolding held
-  handle_counts j k f is = held_weighs s.count holding (page_of_pin j k) f h.references is
+  handle_counts j k f is = held_weighs v.references holding (page_of_pin j k) f h.references is
 
-  pub taken_counts : (a k : ℕ) (t : Taken) → slice_get (s.taken a) k ≡ Some t → bias ≤ s.count t.frame
+  pub taken_counts : (a k : ℕ) (t : Taken) → slice_get (s.taken a) k ≡ Some t → bias ≤ v.references t.frame
   unfolding held
-  taken_counts a k t is = held_weighs s.count holding (page_taken a k) t.frame h.references (ap taken_frame is)
+  taken_counts a k t is = held_weighs v.references holding (page_taken a k) t.frame h.references (ap taken_frame is)
+
+  -- the two parts of a count
+
+  pub uncounted : (f : ℕ) → s.count f ≡ 0 → (v.references f ≡ 0) × (v.grabs f ≡ 0)
+  uncounted f free = (omega (arith, h.count_is f, free), omega (arith, h.count_is f, free))
+
+  -- the references are the whole count
+  pub all_counted : (f n : ℕ) → s.count f ≡ n → n ≤ v.references f → (v.references f ≡ n) × (v.grabs f ≡ 0)
+  all_counted f n all weighs = (omega (arith, h.count_is f, all, weighs), omega (arith, h.count_is f, all, weighs))
+
+  -- one holder is the whole count
+  pub holder_alone : (x : Holder) (f : ℕ) → holding x ≡ Some f → s.count f ≡ weight x → (v.references f ≡ weight x) × (v.grabs f ≡ 0)
+  holder_alone x f is all = all_counted f (weight x) all (held_weighs v.references holding x f h.references is)
+
+  pub whole_alone : (p g : ℕ) (e : Entry) → v.whole p g ≡ Some e → s.count e.frame ≡ 1 → (v.references e.frame ≡ 1) × (v.grabs e.frame ≡ 0)
+  whole_alone p g e there once = all_counted e.frame 1 once (whole_counts p g e there)
+
+  pub owed_alone : (a f : ℕ) → s.owed a ≡ Some f → s.count f ≡ 1 → (v.references f ≡ 1) × (v.grabs f ≡ 0)
+  unfolding held
+  owed_alone a f is once = holder_alone (owed_by a) f is once
+
+  pub got_alone : (k f : ℕ) → got_frame (s.got k) ≡ Some f → s.count f ≡ 1 → (v.references f ≡ 1) × (v.grabs f ≡ 0)
+  unfolding held
+  got_alone k f is once = holder_alone (got_as k) f is once
+
+  pub pin_alone : (j k f : ℕ) → slice_get (s.pinned j) k ≡ Some f → s.count f ≡ bias → (v.references f ≡ bias) × (v.grabs f ≡ 0)
+  pin_alone j k f is all = all_counted f bias all (handle_counts j k f is)
+
+  pub taken_alone : (a k : ℕ) (t : Taken) → slice_get (s.taken a) k ≡ Some t → s.count t.frame ≡ bias → (v.references t.frame ≡ bias) × (v.grabs t.frame ≡ 0)
+  taken_alone a k t is all = all_counted t.frame bias all (taken_counts a k t is)
+
+  -- a frame that a walk has grabbed
+
+  pub grab_counts : (a f : ℕ) → walk_frame (v.walks a) ≡ Some f → bias ≤ v.grabs f
+  unfolding held_by_walk
+  grab_counts a f is = held_weighs v.grabs (held_by_walk v.walks) (grabbed_by a) f h.grabs is
+
+  pub grabbed_counts : (a f : ℕ) → walk_frame (v.walks a) ≡ Some f → bias ≤ s.count f
+  grabbed_counts a f is = omega (arith, grab_counts a f is, h.count_is f)
+
+  pub grabbed_counted : (a f : ℕ) → walk_frame (v.walks a) ≡ Some f → s.count f ≡ 0 → ⊥
+  grabbed_counted a f is free = omega (arith, grabbed_counts a f is, free)
+
+  -- where a walk's grab is the whole count, nobody else holds the frame
+  pub grab_alone : (a f : ℕ) → walk_frame (v.walks a) ≡ Some f → s.count f ≡ bias → (v.references f ≡ 0) × (v.grabs f ≡ bias)
+  grab_alone a f is all = (omega (arith, grab_counts a f is, h.count_is f, all), omega (arith, grab_counts a f is, h.count_is f, all))
 
   -- a prepared frame is in no entry, and nobody else prepares it
 
@@ -137,7 +184,7 @@ module _ (v : View) (s : CoreState) (h : IsSoundBy v s) where
   prepared_alone a b f is that =
       by_holder (prepared_by a) (prepared_by b) (λ same. ap first same) (λ apart. absurd (no_other (prepared_by a) (prepared_by b) f is (h.prepared_once a f is) apart that (λ zero. omega arith)))
 
-  pub prepared_counts : (a f : ℕ) → s.prepared a ≡ Some f → 1 ≤ s.count f
+  pub prepared_counts : (a f : ℕ) → s.prepared a ≡ Some f → 1 ≤ v.references f
   prepared_counts a f is = omega (arith, h.prepared_once a f is)
 
   -- a page without an entry, whose table nobody keeps
@@ -171,7 +218,11 @@ module _ (v : View) (s : CoreState) (h : IsSoundBy v s) where
   no_moving x b m is other positive that once =
       no_other (cleared_by b) x m.entry.frame (ap moved_frame that) (h.moving_once b m that once) (λ same. other (sym (ap kind same))) is positive
 
-  pub owed_whole : (a f p g : ℕ) (e : Entry) → s.owed a ≡ Some f → s.count f ≡ 1 → v.whole p g ≡ Some e → e.frame ≡ f → ⊥
+  pub owed_counts : (a f : ℕ) → s.owed a ≡ Some f → 1 ≤ v.references f
+  unfolding held
+  owed_counts a f is = held_weighs v.references holding (owed_by a) f h.references is
+
+  pub owed_whole : (a f p g : ℕ) (e : Entry) → s.owed a ≡ Some f → v.references f ≡ 1 → v.whole p g ≡ Some e → e.frame ≡ f → ⊥
   unfolding held
   owed_whole a f p g e is once there same = no_whole (owed_by a) f p g e is once (omega arith) there same
 
@@ -183,7 +234,11 @@ module _ (v : View) (s : CoreState) (h : IsSoundBy v s) where
   unfolding held
   owed_moving a b m is that once = no_moving (owed_by a) b m is (λ k. omega (arith, k)) (λ k. omega (arith, k)) that once
 
-  pub got_whole : (k f p g : ℕ) (e : Entry) → got_frame (s.got k) ≡ Some f → s.count f ≡ 1 → v.whole p g ≡ Some e → e.frame ≡ f → ⊥
+  pub got_counts : (k f : ℕ) → got_frame (s.got k) ≡ Some f → 1 ≤ v.references f
+  unfolding held
+  got_counts k f is = held_weighs v.references holding (got_as k) f h.references is
+
+  pub got_whole : (k f p g : ℕ) (e : Entry) → got_frame (s.got k) ≡ Some f → v.references f ≡ 1 → v.whole p g ≡ Some e → e.frame ≡ f → ⊥
   unfolding held
   got_whole k f p g e is once there same = no_whole (got_as k) f p g e is once (omega arith) there same
 
@@ -197,16 +252,16 @@ module _ (v : View) (s : CoreState) (h : IsSoundBy v s) where
 
   -- a pinned page that is the whole count of its frame
 
-  pub pin_whole : (j k f p g : ℕ) (e : Entry) → slice_get (s.pinned j) k ≡ Some f → s.count f ≡ bias → v.whole p g ≡ Some e → e.frame ≡ f → ⊥
+  pub pin_whole : (j k f p g : ℕ) (e : Entry) → slice_get (s.pinned j) k ≡ Some f → v.references f ≡ bias → v.whole p g ≡ Some e → e.frame ≡ f → ⊥
   unfolding held
   pin_whole j k f p g e is all there same = no_whole (page_of_pin j k) f p g e is all (omega arith) there same
 
-  pub pin_handle : (j k i n f : ℕ) → slice_get (s.pinned j) k ≡ Some f → s.count f ≡ bias → slice_get (s.pinned i) n ≡ Some f → (j ≡ i) × (k ≡ n)
+  pub pin_handle : (j k i n f : ℕ) → slice_get (s.pinned j) k ≡ Some f → v.references f ≡ bias → slice_get (s.pinned i) n ≡ Some f → (j ≡ i) × (k ≡ n)
   unfolding held
   pin_handle j k i n f is all that =
       by_holder (page_of_pin j k) (page_of_pin i n) (λ same. (ap first same, ap second same)) (λ apart. absurd (no_other (page_of_pin j k) (page_of_pin i n) f is all apart that (λ zero. omega arith)))
 
-  pub pin_taken : (j k b n f : ℕ) (t : Taken) → slice_get (s.pinned j) k ≡ Some f → s.count f ≡ bias → slice_get (s.taken b) n ≡ Some t → t.frame ≡ f → ⊥
+  pub pin_taken : (j k b n f : ℕ) (t : Taken) → slice_get (s.pinned j) k ≡ Some f → v.references f ≡ bias → slice_get (s.taken b) n ≡ Some t → t.frame ≡ f → ⊥
   unfolding held
   pin_taken j k b n f t is all that same =
       no_other (page_of_pin j k) (page_taken b n) f is all (λ e. let k : 5 ≡ 6 = ap kind e in omega (arith, k)) (ap taken_frame that ∙ ap (λ x. Some x) same) (λ zero. omega (arith, zero))

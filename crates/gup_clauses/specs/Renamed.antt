@@ -10,7 +10,7 @@ use Rattle.gup_base.specs.declared.entry.Entry.{Entry}
 use Rattle.gup_plain.specs.Put.{put}
 use Rattle.gup_events.specs.State.{Taken}
 use Rattle.gup_events.specs.Event.{frames_of}
-use Rattle.gup_events.specs.Invariant.{Holder, entry_of_page, cleared_by, prepared_by, owed_by, got_as, page_of_pin, page_taken, weight, HasNoRepetition, taken_frame}
+use Rattle.gup_events.specs.Invariant.{Holder, entry_of_page, cleared_by, prepared_by, owed_by, got_as, page_of_pin, page_taken, grabbed_by, weight, HasNoRepetition, taken_frame}
 use Rattle.gup_events.specs.Sound.{Moving, held, Tally}
 use Rattle.gup_clauses.specs.Rows.{contains_at, at_contains, at_mapped, mapped_at}
 
@@ -60,6 +60,7 @@ swapped a h (owed_by b) = owed_by b
 swapped a h (got_as k) = got_as k
 swapped a h (page_of_pin i k) = swapped_pin a h i k (i == h)
 swapped a h (page_taken b k) = swapped_taken a h b k (b == a)
+swapped a h (grabbed_by b) = grabbed_by b
 
 is_itself : (n : ℕ) → (n == n) ≡ true
 is_itself n = grind (arith, nat_tests)
@@ -83,6 +84,7 @@ swapped_back a h (owed_by b) = refl
 swapped_back a h (got_as k) = refl
 swapped_back a h (page_of_pin i k) = pin_back a h i k (i == h) refl
 swapped_back a h (page_taken b k) = taken_back a h b k (b == a) refl
+swapped_back a h (grabbed_by b) = refl
 
 pin_even : (a h i k : ℕ) (b : Bool) → weight (swapped_pin a h i k b) ≡ 1024
 pin_even a h i k true = refl
@@ -100,6 +102,7 @@ swapped_even a h (owed_by b) = refl
 swapped_even a h (got_as k) = refl
 swapped_even a h (page_of_pin i k) = pin_even a h i k (i == h)
 swapped_even a h (page_taken b k) = taken_even a h b k (b == a)
+swapped_even a h (grabbed_by b) = refl
 
 module _ (count : ℕ → ℕ) (entry : ℕ → ℕ → Option Entry) (moves : ℕ → Option Moving) (prepared owed : ℕ → Option ℕ) (got : ℕ → Option (ℕ × ℕ)) (pinned : ℕ → List ℕ) (taken : ℕ → List Taken) where
   frames_at : (a k : ℕ) → slice_get (frames_of (taken a)) k ≡ taken_frame (slice_get (taken a) k)
@@ -131,3 +134,4 @@ module _ (count : ℕ → ℕ) (entry : ℕ → ℕ → Option Entry) (moves : �
       same (got_as k) = refl
       same (page_of_pin i k) = by_pin i k (i == h)
       same (page_taken b k) = by_taken b k (b == a)
+      same (grabbed_by b) = refl

@@ -1,8 +1,9 @@
--- What the readings of a fork's step and of an actor's job have to do with one another.
-use Rattle.std.proofs.Common.{◌≡◌, ℕ, List, zero, suc}
-use Rattle.std.specs.Prelude.{Some}
+-- What the readings of a fork's step and of an actor's job have to do with one another, and which numbers are odd.
+use Rattle.std.proofs.Common.{◌≡◌, ℕ, ◌+◌, ◌%◌, ◌==◌, Bool, true, false, List, zero, suc, arith}
+use Rattle.std.specs.Prelude.{Some, not}
+use Rattle.std.proofs.lemmas.Bool.Decides.{nat_tests}
 use Rattle.gup_events.specs.State.{Job, idle, marking, moving, forking, walking, ForkStep, between, counted, lowered, cleared, copying, failing}
-use Rattle.gup_events.specs.Event.{MayPrepare}
+use Rattle.gup_events.specs.Event.{MayPrepare, is_odd}
 use Rattle.gup_events.specs.Sound.{Forking, forking_of, step_page, shared_page, lowered_page}
 
 pub shared_is_step : (step : ForkStep) (g : ℕ) → shared_page step ≡ Some g → step_page step ≡ Some g
@@ -37,3 +38,11 @@ prepares_before idle k g n may is at = absurd (cc)
 prepares_before (marking p page f) k g n may is at = absurd (cc)
 prepares_before (moving p page e count) k g n may is at = absurd (cc)
 prepares_before (walking p write long sequence step) k g n may is at = absurd (cc)
+
+-- a fork that begins, ends or fails makes an even sequence odd, and an odd one even
+pub odd_next : (n : ℕ) → is_odd (n + 1) ≡ not (is_odd n)
+odd_next n = grind (arith, nat_tests)
+
+-- an even sequence isn't an odd one
+pub even_apart : (m n : ℕ) → is_odd m ≡ false → is_odd n ≡ true → m ≡ n → ⊥
+even_apart m n even odd same = cc

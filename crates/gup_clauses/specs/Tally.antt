@@ -1,5 +1,5 @@
 -- The count identity: what a change of one holder does to the counts.
-use Rattle.std.proofs.Common.{◌≡◌, ℕ, ◌+◌, ◌-◌, ◌≤◌, ◌==◌, Bool, true, false, List, [], ◌∷◌, ◌++◌, length, refl, ap, sym, subst, arith}
+use Rattle.std.proofs.Common.{◌≡◌, ℕ, ◌+◌, ◌-◌, ◌≤◌, ◌==◌, Bool, true, false, List, [], ◌∷◌, ◌++◌, length, refl, ap, sym, ◌∙◌, subst, arith}
 use Rattle.std.specs.Prelude.{Option, Some, None, Contains, sum_by, slice_get, if◌then◌else◌}
 use Rattle.std.proofs.lemmas.Bool.Decides.{nat_tests}
 use Rattle.std.proofs.lemmas.List.Sums.{sum_by-cons}
@@ -8,8 +8,8 @@ use Rattle.gup_base.specs.declared.entry.Entry.{Entry}
 use Rattle.gup_plain.specs.Put.{put, put2}
 use Rattle.gup_events.specs.State.{Taken}
 use Rattle.gup_events.specs.Event.{bias}
-use Rattle.gup_events.specs.Invariant.{Holder, entry_of_page, cleared_by, prepared_by, owed_by, got_as, page_of_pin, page_taken, weight, HasNoRepetition, frame_of, got_frame, taken_frame}
-use Rattle.gup_events.specs.Sound.{Moving, moved_frame, held, Tally}
+use Rattle.gup_events.specs.Invariant.{Holder, entry_of_page, cleared_by, prepared_by, owed_by, got_as, page_of_pin, page_taken, grabbed_by, weight, HasNoRepetition, frame_of, got_frame, taken_frame}
+use Rattle.gup_events.specs.Sound.{Moving, Walking, moved_frame, walk_frame, held, held_by_walk, Tally}
 use Rattle.gup_clauses.specs.Rows.{at_end, at_others, none_past}
 use Rattle.gup_clauses.specs.Holders.{same_holders, by_holder, first_element, later_element, taken_out, IsWithout, element_weighs, elements_weigh}
 
@@ -117,6 +117,11 @@ tally_change count holds now y others tally f = go (is_of (holds y) f) (is_of (n
 pub tally_is : (count now : ℕ → ℕ) (holds : Holder → Option ℕ) → Tally count holds → ((f : ℕ) → count f ≡ now f) → Tally now holds
 tally_is count now holds tally same f = subst (λ k. Listed f k holds) (same f) (tally f)
 
+-- the same holders
+pub tally_alike : (count : ℕ → ℕ) (holds now : Holder → Option ℕ) → ((x : Holder) → now x ≡ holds x) → Tally count holds → Tally count now
+tally_alike count holds now same tally f =
+    listed_same f (count f) holds now (λ x is. same x ∙ is) (λ x is. sym (same x) ∙ is) (tally f)
+
 -- what a frame's count is at least, of one holder and of two
 pub held_weighs : (count : ℕ → ℕ) (holds : Holder → Option ℕ) (x : Holder) (f : ℕ) → Tally count holds → holds x ≡ Some f → weight x ≤ count f
 held_weighs count holds x f tally is =
@@ -146,6 +151,9 @@ number_here a x f = grind (arith, nat_tests)
 page_here : {X : Type 0} (p g : ℕ) (x : X) (f : ℕ → ℕ → X) → put2 p g x f p g ≡ x
 page_here p g x f = grind (arith, nat_tests)
 
+same_number : (b a : ℕ) → (b == a) ≡ true → b ≡ a
+same_number b a is = grind (arith, nat_tests)
+
 -- the row of h is another
 row_apart : (h j : ℕ) (xs ys : List ℕ) (f : ℕ → List ℕ) (k : ℕ) → f h ≡ ys → (h ≡ j → slice_get xs k ≡ slice_get ys k) → slice_get (put h xs f j) k ≡ slice_get (f j) k
 row_apart h j xs ys f k is same = grind (arith, nat_tests)
@@ -170,6 +178,7 @@ module _ (count : ℕ → ℕ) (entry : ℕ → ℕ → Option Entry) (moves : �
       others (got_as b) apart = refl
       others (page_of_pin j i) apart = refl
       others (page_taken b i) apart = refl
+      others (grabbed_by b) apart = refl
 
   pub tally_moves : (a : ℕ) (m : Option Moving) → Tally count (held entry moves prepared owed got pinned taken) → Tally (changed (moved_frame (moves a)) (moved_frame m) 1 count) (held entry (put a m moves) prepared owed got pinned taken)
   unfolding held
@@ -187,6 +196,7 @@ module _ (count : ℕ → ℕ) (entry : ℕ → ℕ → Option Entry) (moves : �
       others (got_as b) apart = refl
       others (page_of_pin j i) apart = refl
       others (page_taken b i) apart = refl
+      others (grabbed_by b) apart = refl
 
   pub tally_prepared : (a : ℕ) (f : Option ℕ) → Tally count (held entry moves prepared owed got pinned taken) → Tally (changed (prepared a) (f) 1 count) (held entry moves (put a f prepared) owed got pinned taken)
   unfolding held
@@ -204,6 +214,7 @@ module _ (count : ℕ → ℕ) (entry : ℕ → ℕ → Option Entry) (moves : �
       others (got_as b) apart = refl
       others (page_of_pin j i) apart = refl
       others (page_taken b i) apart = refl
+      others (grabbed_by b) apart = refl
 
   pub tally_owed : (a : ℕ) (f : Option ℕ) → Tally count (held entry moves prepared owed got pinned taken) → Tally (changed (owed a) (f) 1 count) (held entry moves prepared (put a f owed) got pinned taken)
   unfolding held
@@ -221,6 +232,7 @@ module _ (count : ℕ → ℕ) (entry : ℕ → ℕ → Option Entry) (moves : �
       others (got_as b) apart = refl
       others (page_of_pin j i) apart = refl
       others (page_taken b i) apart = refl
+      others (grabbed_by b) apart = refl
 
   pub tally_got : (k : ℕ) (g : Option (ℕ × ℕ)) → Tally count (held entry moves prepared owed got pinned taken) → Tally (changed (got_frame (got k)) (got_frame g) 1 count) (held entry moves prepared owed (put k g got) pinned taken)
   unfolding held
@@ -238,6 +250,7 @@ module _ (count : ℕ → ℕ) (entry : ℕ → ℕ → Option Entry) (moves : �
       others (got_as b) apart = ap got_frame (number_apart k b g got (λ e. apart (ap got_as e)))
       others (page_of_pin j i) apart = refl
       others (page_taken b i) apart = refl
+      others (grabbed_by b) apart = refl
 
   pub tally_pinned : (h f : ℕ) (left : List ℕ) (had : pinned h ≡ left ++ f ∷ []) → Tally count (held entry moves prepared owed got pinned taken) → Tally (changed (Some f) (None) bias count) (held entry moves prepared owed got (put h left pinned) taken)
   unfolding held
@@ -255,6 +268,7 @@ module _ (count : ℕ → ℕ) (entry : ℕ → ℕ → Option Entry) (moves : �
       others (got_as b) apart = refl
       others (page_of_pin j i) apart = row_apart h j left (left ++ f ∷ []) pinned i had (λ e. sym (at_others left f i (λ l. apart (same_holders (page_of_pin h (length left)) (page_of_pin j i) refl e (sym l)))))
       others (page_taken b i) apart = refl
+      others (grabbed_by b) apart = refl
 
   pub tally_taken : (a : ℕ) (t : Taken) → Tally count (held entry moves prepared owed got pinned taken) → Tally (changed (None) (Some t.frame) bias count) (held entry moves prepared owed got pinned (put a (taken a ++ t ∷ []) taken))
   unfolding held
@@ -272,3 +286,58 @@ module _ (count : ℕ → ℕ) (entry : ℕ → ℕ → Option Entry) (moves : �
       others (got_as b) apart = refl
       others (page_of_pin j i) apart = refl
       others (page_taken b i) apart = taken_apart a b (taken a ++ t ∷ []) (taken a) taken i refl (λ e. at_others (taken a) t i (λ l. apart (same_holders (page_taken a (length (taken a))) (page_taken b i) refl e (sym l))))
+      others (grabbed_by b) apart = refl
+
+-- 3. What a walk's next step does to the grabs
+module _ (grabs : ℕ → ℕ) (walks : ℕ → Option Walking) where
+  -- the walk of an actor has grabbed a frame, and has grabbed another, or none, behind the change
+  pub tally_walk : (a : ℕ) (w : Option Walking) → Tally grabs (held_by_walk walks) → Tally (changed (walk_frame (walks a)) (walk_frame w) bias grabs) (held_by_walk (put a w walks))
+  unfolding held_by_walk
+  tally_walk a w tally =
+      let was : held_by_walk walks (grabbed_by a) ≡ walk_frame (walks a) = refl in
+      let is : held_by_walk (put a w walks) (grabbed_by a) ≡ walk_frame w = ap walk_frame (number_here a w walks) in
+      let all : Tally (changed (held_by_walk walks (grabbed_by a)) (held_by_walk (put a w walks) (grabbed_by a)) bias grabs) (held_by_walk (put a w walks)) = tally_change grabs (held_by_walk walks) (held_by_walk (put a w walks)) (grabbed_by a) others tally in
+      subst (λ o. Tally (changed o (walk_frame w) bias grabs) (held_by_walk (put a w walks))) was (subst (λ o. Tally (changed (held_by_walk walks (grabbed_by a)) o bias grabs) (held_by_walk (put a w walks))) is all)
+    where
+      others : (x : Holder) → (grabbed_by a ≡ x → ⊥) → held_by_walk (put a w walks) x ≡ held_by_walk walks x
+      others (grabbed_by b) apart = ap walk_frame (number_apart a b w walks (λ e. apart (ap grabbed_by e)))
+      others (entry_of_page q d) apart = refl
+      others (cleared_by b) apart = refl
+      others (prepared_by b) apart = refl
+      others (owed_by b) apart = refl
+      others (got_as b) apart = refl
+      others (page_of_pin j i) apart = refl
+      others (page_taken b i) apart = refl
+
+  walk_apart : (a : ℕ) (w : Option Walking) → walk_frame (walks a) ≡ walk_frame w → (b : ℕ) → walk_frame (put a w walks b) ≡ walk_frame (walks b)
+  walk_apart a w same b = go (b == a) refl
+    where
+      go : (t : Bool) → (b == a) ≡ t → walk_frame (if t then w else walks b) ≡ walk_frame (walks b)
+      go true is = sym same ∙ ap (λ n. walk_frame (walks n)) (sym (same_number b a is))
+      go false other = refl
+
+  -- the step grabs and drops nothing
+  pub tally_step : (a : ℕ) (w : Option Walking) → walk_frame (walks a) ≡ walk_frame w → Tally grabs (held_by_walk walks) → Tally grabs (held_by_walk (put a w walks))
+  unfolding held_by_walk
+  tally_step a w same tally =
+      tally_alike grabs (held_by_walk walks) (held_by_walk (put a w walks)) each tally
+    where
+      each : (x : Holder) → held_by_walk (put a w walks) x ≡ held_by_walk walks x
+      each (grabbed_by b) = walk_apart a w same b
+      each (entry_of_page q d) = refl
+      each (cleared_by b) = refl
+      each (prepared_by b) = refl
+      each (owed_by b) = refl
+      each (got_as b) = refl
+      each (page_of_pin j i) = refl
+      each (page_taken b i) = refl
+
+  -- it grabs a frame
+  pub tally_grab : (a f : ℕ) (w : Option Walking) → walk_frame (walks a) ≡ None → walk_frame w ≡ Some f → Tally grabs (held_by_walk walks) → Tally (put f (grabs f + bias) grabs) (held_by_walk (put a w walks))
+  tally_grab a f w old new tally =
+      tally_is (changed (walk_frame (walks a)) (walk_frame w) bias grabs) (put f (grabs f + bias) grabs) (held_by_walk (put a w walks)) (tally_walk a w tally) (λ d. grind (arith, nat_tests))
+
+  -- it drops the frame that it has grabbed, or passes it on
+  pub tally_drop : (a f : ℕ) (w : Option Walking) → walk_frame (walks a) ≡ Some f → walk_frame w ≡ None → Tally grabs (held_by_walk walks) → Tally (put f (grabs f - bias) grabs) (held_by_walk (put a w walks))
+  tally_drop a f w old new tally =
+      tally_is (changed (walk_frame (walks a)) (walk_frame w) bias grabs) (put f (grabs f - bias) grabs) (held_by_walk (put a w walks)) (tally_walk a w tally) (λ d. grind (arith, nat_tests))
