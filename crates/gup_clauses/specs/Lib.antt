@@ -9,3 +9,4 @@ pub mod Named
 pub mod Done
 pub mod Children
 pub mod PinLists
+pub mod Simulated

@@ -5,16 +5,11 @@ use Rattle.std.specs.Prelude.{Option, Some, None}
 use Rattle.gup_plain.specs.declared.event.PlainEvent.{PlainEvent}
 use Rattle.gup_plain.specs.State.{PlainState}
 use Rattle.gup_events.specs.State.{CoreState, plain_of}
-use Rattle.gup_events.specs.Event.{CoreEvent, happens, told, after_told}
+use Rattle.gup_events.specs.Event.{CoreEvent, Can, happens, told, after_told}
 use Rattle.gup_events.specs.Invariant.{CanTell, AllCan, run}
 use Rattle.gup_events.specs.Sound.{IsSound, Simulates}
 use Rattle.gup_laws.specs.Law.{with_told, all_told}
-use Rattle.gup_laws.proofs.Law.{simulated}
 use Rattle.gup_model.specs.LastWrite.{ArePossible, after}
-
-pub sound_run : (s : CoreState) (es : List CoreEvent) → IsSound s → AllCan s es → IsSound (run s es)
-sound_run s [] h can = h
-sound_run s (e ∷ es) h can = sound_run (happens s e) es (simulated s e h can.0).sound can.1
 
 -- the plain events at the rest, behind that at the first
 possible_with : (told : Option PlainEvent) (s t : PlainState) (es : List PlainEvent) → CanTell s told → t ≡ after_told s told → ArePossible t es → ArePossible s (with_told told es)
@@ -25,14 +20,19 @@ after_with : (told : Option PlainEvent) (s t : PlainState) (es : List PlainEvent
 after_with None s t es same = ap (λ u. after u es) same
 after_with (Some e) s t es same = ap (λ u. after u es) same
 
-pub possible_run : (s : CoreState) (es : List CoreEvent) → IsSound s → AllCan s es → ArePossible (plain_of s) (all_told es)
-possible_run s [] h can = tt
-possible_run s (e ∷ es) h can =
-    let step : Simulates s e = simulated s e h can.0 in
-    possible_with (told e) (plain_of s) (plain_of (happens s e)) (all_told es) step.can step.same (possible_run (happens s e) es step.sound can.1)
+module _ (simulated : (s : CoreState) (e : CoreEvent) → IsSound s → Can s e → Simulates s e) where
+  pub sound_run : (s : CoreState) (es : List CoreEvent) → IsSound s → AllCan s es → IsSound (run s es)
+  sound_run s [] h can = h
+  sound_run s (e ∷ es) h can = sound_run (happens s e) es (simulated s e h can.0).sound can.1
 
-pub stands_run : (s : CoreState) (es : List CoreEvent) → IsSound s → AllCan s es → plain_of (run s es) ≡ after (plain_of s) (all_told es)
-stands_run s [] h can = refl
-stands_run s (e ∷ es) h can =
-    let step : Simulates s e = simulated s e h can.0 in
-    stands_run (happens s e) es step.sound can.1 ∙ after_with (told e) (plain_of s) (plain_of (happens s e)) (all_told es) step.same
+  pub possible_run : (s : CoreState) (es : List CoreEvent) → IsSound s → AllCan s es → ArePossible (plain_of s) (all_told es)
+  possible_run s [] h can = tt
+  possible_run s (e ∷ es) h can =
+      let step : Simulates s e = simulated s e h can.0 in
+      possible_with (told e) (plain_of s) (plain_of (happens s e)) (all_told es) step.can step.same (possible_run (happens s e) es step.sound can.1)
+
+  pub stands_run : (s : CoreState) (es : List CoreEvent) → IsSound s → AllCan s es → plain_of (run s es) ≡ after (plain_of s) (all_told es)
+  stands_run s [] h can = refl
+  stands_run s (e ∷ es) h can =
+      let step : Simulates s e = simulated s e h can.0 in
+      stands_run (happens s e) es step.sound can.1 ∙ after_with (told e) (plain_of s) (plain_of (happens s e)) (all_told es) step.same

@@ -20,7 +20,16 @@ pub fn starts_sound()
 /// A core event that can happen in a sound state leaves a sound state, and does its plain event to the plain state.
 pub fn simulates()
     ensures { (s : CoreState) (e : CoreEvent) → IsSound s → Can s e → Simulates s e }
-{}
+{
+    gup_fault_laws::faults_simulate();
+    gup_fault_laws::mappings_simulate();
+    gup_fault_laws::data_simulates();
+    gup_fault_laws::mirrors_simulate();
+    gup_pin_laws::pins_simulate();
+    gup_pin_laws::moves_simulate();
+    gup_fork_laws::forks_simulate();
+    gup_walk_laws::walks_simulate();
+}
 
 /// In a sound state each frame's count is that of its references, the exclusive rule holds, what a fork shares and a
 /// mover moves is under no pin, and frames have the bytes that the plain state says.
@@ -35,7 +44,9 @@ pub fn core_runs_hold()
     ensures holds { (movable normal : ℕ) (is_born : ℕ → Bool) (es : List CoreEvent) → AllCan (start movable normal is_born) es → Holds (run (start movable normal is_born) es) }
     ensures plain { (movable normal : ℕ) (is_born : ℕ → Bool) (es : List CoreEvent) → AllCan (start movable normal is_born) es → ArePossible (plain_start is_born) (all_told es) }
     ensures stands { (movable normal : ℕ) (is_born : ℕ → Bool) (es : List CoreEvent) → AllCan (start movable normal is_born) es → plain_of (run (start movable normal is_born) es) ≡ after (plain_start is_born) (all_told es) }
-{}
+{
+    simulates();
+}
 
 /// The laws are not empty: a run with nearly every kind of event can happen, each event when it does.
 pub fn runs_are_possible()

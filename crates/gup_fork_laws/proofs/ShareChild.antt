@@ -15,7 +15,7 @@ use Rattle.gup_clauses.specs.Tally.{tally_is, tally_entry}
 use Rattle.gup_clauses.specs.Lonely.{once_wholes, prepared_whole, whole_none}
 use Rattle.gup_clauses.specs.Children.{only_fork, born_uncopied, uncopied_before, fork_here}
 use Rattle.gup_clauses.specs.Done.{fork_after, changed_fork, done_either, undone_either}
-use Rattle.gup_fork_laws.specs.Shared.{child_names, shown_same, page_forks, none_before}
+use Rattle.gup_fork_laws.proofs.Shared.{child_names, shown_same, page_forks, none_before}
 
 -- parent and child have the page's frame, and their objects have its words
 pub simulates-share_child : (s : CoreState) (a p c : ℕ) (done : List ℕ) (page f : ℕ) (writable : Bool) → IsSound s → Can s (share_child a p c done page f writable) → Simulates s (share_child a p c done page f writable)

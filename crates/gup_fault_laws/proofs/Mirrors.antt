@@ -13,7 +13,7 @@ use Rattle.gup_events.specs.Sound.{IsSoundBy, IsSound, Simulates}
 use Rattle.gup_clauses.specs.Clauses.{MirrorNoted, MirrorBorn, MirrorEntry, MirrorNames}
 use Rattle.gup_clauses.specs.Lonely.{born_mapped}
 use Rattle.gup_clauses.specs.Named.{named_here}
-use Rattle.gup_fault_laws.specs.Data.{reads}
+use Rattle.gup_fault_laws.proofs.Data.{reads}
 use Rattle.gup_plain.specs.declared.event.PlainEvent.TheVariants.{Look}
 
 pub simulates-empty_mirror : (s : CoreState) (a m : ℕ) → IsSound s → Can s (empty_mirror a m) → Simulates s (empty_mirror a m)
