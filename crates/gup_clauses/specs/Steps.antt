@@ -1,5 +1,5 @@
 -- What the readings of a fork's step and of an actor's job have to do with one another, and which numbers are odd.
-use Rattle.std.proofs.Common.{◌≡◌, ℕ, ◌+◌, ◌%◌, ◌==◌, Bool, true, false, List, zero, suc, arith}
+use Rattle.std.proofs.Common.{◌≡◌, ℕ, ◌+◌, true, false, List, zero, suc, arith}
 use Rattle.std.specs.Prelude.{Some, not}
 use Rattle.std.proofs.lemmas.Bool.Decides.{nat_tests}
 use Rattle.gup_events.specs.State.{Job, idle, marking, moving, forking, walking, ForkStep, between, counted, lowered, cleared, copying, failing}

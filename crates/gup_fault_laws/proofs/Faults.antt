@@ -9,44 +9,51 @@ use Rattle.gup_events.specs.State.{CoreState, idle}
 use Rattle.gup_events.specs.Event.{Can, happens, MayPrepare, entry_of, take_frame, fill, count_one, set_mark, upgrade}
 use Rattle.gup_events.specs.Invariant.{frame_of}
 use Rattle.gup_events.specs.Sound.{View, Marking, IsSoundBy, IsSound, Simulates}
-use Rattle.gup_clauses.specs.Clauses.{References, MarksAre, MovesAre, ForksAre, WholeEntry, WholeMoved, WholeFree, WholeKept, WholeOther, MovedGone, WholeNames, MarksTable, MovesTable, ForksTable, TableHeld, StructureHeld, TableBorn, OwnAlone, OwnMade, OwnNames, OwnEntry, OwnWords, OwnMarked, OwnMarking, MarkedOwn, EntryMapped, EntryMarked, EntryAllowed, EntryWords, Untouched, HandleMarked, HandleOwn, HandleFlag, TakenMarked, TakenOwn, PreparedOnce, PreparedUnmarked, PreparedUnowned, PreparedZero, MarkingEntry, MarkingOwn, MovingOnce, ForkFresh, CopyWords, ShareHandle, ShareTaken, ShareLowered, ShareUnowned, MirrorEntry}
+use Rattle.gup_clauses.specs.Clauses.{References, CountIs, MarksAre, MovesAre, ForksAre, WalksAre, WholeEntry, WholeMoved, WholeFree, WholeKept, WholeOther, MovedGone, WholeNames, MarksTable, MovesTable, ForksTable, TableHeld, StructureHeld, TableBorn, OwnAlone, OwnMade, OwnNames, OwnEntry, OwnWords, OwnMarked, OwnMarking, MarkedOwn, EntryMapped, EntryMarked, EntryAllowed, EntryWords, Untouched, HandleMarked, HandleOwn, HandleFlag, TakenMarked, TakenOwn, WalkOwn, WalkUnowned, WalkKept, WalkWritable, PreparedOnce, PreparedUnmarked, PreparedUnowned, PreparedZero, MarkingEntry, MarkingOwn, MovingOnce, ForkFresh, CopyWords, ShareHandle, ShareTaken, ShareLowered, ShareUnowned, MirrorEntry}
 use Rattle.gup_clauses.specs.Tally.{tally_is, tally_entry, tally_prepared}
 use Rattle.gup_clauses.specs.Steps.{shared_is_step, lowered_is_shared, prepares_before}
-use Rattle.gup_clauses.specs.Lonely.{once_wholes, whole_counts, handle_counts, taken_counts, prepared_whole, prepared_alone, prepared_counts, whole_none, mapped_names, born_mapped}
+use Rattle.gup_clauses.specs.Lonely.{uncounted, whole_alone, once_wholes, whole_counts, handle_counts, taken_counts, prepared_whole, prepared_alone, prepared_counts, whole_none, mapped_names, born_mapped}
 
 -- nobody holds a frame of count 0
 pub simulates-take_frame : (s : CoreState) (a f : ℕ) → IsSound s → Can s (take_frame a f) → Simulates s (take_frame a f)
 simulates-take_frame s a f (v, h) c =
     let S : CoreState = happens s (take_frame a f) in
+    let V : View = record v { references = put f 1 v.references } in
     let may : MayPrepare (s.job a) = c.0 in
     let none : s.prepared a ≡ None = c.1 in
     let free : s.count f ≡ 0 = c.3 in
-    let references : References v S = tally_is _ _ _ (tally_prepared _ _ _ _ _ _ _ _ a (Some f) h.references) (λ d. grind (arith, nat_tests)) in
-    let own_alone : OwnAlone v S = λ u i o. grind (arith, nat_tests, h.own_alone u i o) in
-    let own_made : OwnMade v S = λ u o. grind (arith, nat_tests, h.own_made u o) in
-    let own_names : OwnNames v S = λ q i o d. grind (arith, nat_tests, h.own_names q i o d) in
-    let own_entry : OwnEntry v S = λ u q i o. grind (arith, nat_tests, h.own_entry u q i o) in
-    let own_words : OwnWords v S = λ u o w. grind (arith, nat_tests, h.own_words u o w) in
-    let own_marked : OwnMarked v S = λ q i o d. grind (arith, nat_tests, h.own_marked q i o d) in
-    let own_marking : OwnMarking v S = λ q i o b d. grind (arith, nat_tests, h.own_marking q i o b d) in
-    let marked_own : MarkedOwn v S = λ q i d. grind (arith, nat_tests, h.marked_own q i d) in
-    let entry_marked : EntryMarked v S = λ q i d. grind (arith, nat_tests, h.entry_marked q i d, whole_counts v s h q i d) in
-    let entry_words : EntryWords v S = λ q i w d r. grind (arith, nat_tests, h.entry_words q i w d r, whole_counts v s h q i d) in
-    let handle_marked : HandleMarked v S = λ j n u. grind (arith, nat_tests, h.handle_marked j n u, handle_counts v s h j n u) in
-    let handle_own : HandleOwn v S = λ j n u. grind (arith, nat_tests, h.handle_own j n u, handle_counts v s h j n u) in
-    let handle_flag : HandleFlag v S = λ j n u o q i. grind (arith, nat_tests, h.handle_flag j n u o q i, handle_counts v s h j n u) in
-    let taken_marked : TakenMarked v S = λ b n t. grind (arith, nat_tests, h.taken_marked b n t, taken_counts v s h b n t) in
-    let taken_own : TakenOwn v S = λ b n t. grind (arith, nat_tests, h.taken_own b n t, taken_counts v s h b n t) in
-    let prepared_once : PreparedOnce v S = λ b u. grind (arith, nat_tests, h.prepared_once b u) in
-    let prepared_unmarked : PreparedUnmarked v S = λ b u. grind (arith, nat_tests, h.prepared_unmarked b u) in
-    let prepared_unowned : PreparedUnowned v S = λ b u. grind (arith, nat_tests, h.prepared_unowned b u) in
-    let prepared_zero : PreparedZero v S = λ b u w. grind (arith, nat_tests, h.prepared_zero b u w) in
-    let marking_own : MarkingOwn v S = λ b m. grind (arith, nat_tests, h.marking_own b m, h.marking_entry b m, λ (e : Entry). whole_counts v s h m.proc m.page e) in
-    let moving_once : MovingOnce v S = λ b m. grind (arith, nat_tests, h.moving_once b m, h.whole_moved b m, whole_counts v s h m.proc m.page m.entry) in
-    let copy_words : CopyWords v S = λ b i n w u fork. grind (arith, nat_tests, h.copy_words b i n w u fork, prepared_counts v s h b u, prepares_before (s.job b) fork i n, h.forks_are b) in
-    let share_unowned : ShareUnowned v S = λ b i fork d. grind (arith, nat_tests, h.share_unowned b i fork d) in
-    let sound : IsSoundBy v S = assumption in
-    record { sound = (v, sound); can = tt; same = refl }
+    let unheld : v.references f ≡ 0 = (uncounted v s h f free).0 in
+    let references : References V S = tally_is _ _ _ (tally_prepared _ _ _ _ _ _ _ _ a (Some f) h.references) (λ d. grind (arith, nat_tests)) in
+    let count_is : CountIs V S = λ u. grind (arith, nat_tests, h.count_is u) in
+    let own_alone : OwnAlone V S = λ u i o. grind (arith, nat_tests, h.own_alone u i o) in
+    let own_made : OwnMade V S = λ u o. grind (arith, nat_tests, h.own_made u o) in
+    let own_names : OwnNames V S = λ q i o d. grind (arith, nat_tests, h.own_names q i o d) in
+    let own_entry : OwnEntry V S = λ u q i o. grind (arith, nat_tests, h.own_entry u q i o) in
+    let own_words : OwnWords V S = λ u o w. grind (arith, nat_tests, h.own_words u o w) in
+    let own_marked : OwnMarked V S = λ q i o d. grind (arith, nat_tests, h.own_marked q i o d) in
+    let own_marking : OwnMarking V S = λ q i o b d. grind (arith, nat_tests, h.own_marking q i o b d) in
+    let marked_own : MarkedOwn V S = λ q i d. grind (arith, nat_tests, h.marked_own q i d) in
+    let entry_marked : EntryMarked V S = λ q i d. grind (arith, nat_tests, h.entry_marked q i d, whole_counts v s h q i d) in
+    let entry_words : EntryWords V S = λ q i w d r. grind (arith, nat_tests, h.entry_words q i w d r, whole_counts v s h q i d) in
+    let handle_marked : HandleMarked V S = λ j n u. grind (arith, nat_tests, h.handle_marked j n u, handle_counts v s h j n u) in
+    let handle_own : HandleOwn V S = λ j n u. grind (arith, nat_tests, h.handle_own j n u, handle_counts v s h j n u) in
+    let handle_flag : HandleFlag V S = λ j n u o q i. grind (arith, nat_tests, h.handle_flag j n u o q i, handle_counts v s h j n u) in
+    let taken_marked : TakenMarked V S = λ b n t. grind (arith, nat_tests, h.taken_marked b n t, taken_counts v s h b n t) in
+    let taken_own : TakenOwn V S = λ b n t. grind (arith, nat_tests, h.taken_own b n t, taken_counts v s h b n t) in
+    let walk_own : WalkOwn V S = λ b n o w t. grind (arith, nat_tests, h.walk_own b n o w t, taken_counts v s h b n t) in
+    let walk_unowned : WalkUnowned V S = λ b n w t. grind (arith, nat_tests, h.walk_unowned b n w t, taken_counts v s h b n t) in
+    let walk_kept : WalkKept V S = λ b n w t. grind (arith, nat_tests, h.walk_kept b n w t, taken_counts v s h b n t) in
+    let walk_writable : WalkWritable V S = λ b n w t d. grind (arith, nat_tests, h.walk_writable b n w t d, taken_counts v s h b n t) in
+    let prepared_once : PreparedOnce V S = λ b u. grind (arith, nat_tests, h.prepared_once b u) in
+    let prepared_unmarked : PreparedUnmarked V S = λ b u. grind (arith, nat_tests, h.prepared_unmarked b u) in
+    let prepared_unowned : PreparedUnowned V S = λ b u. grind (arith, nat_tests, h.prepared_unowned b u) in
+    let prepared_zero : PreparedZero V S = λ b u w. grind (arith, nat_tests, h.prepared_zero b u w) in
+    let marking_own : MarkingOwn V S = λ b m. grind (arith, nat_tests, h.marking_own b m, h.marking_entry b m, λ (e : Entry). whole_counts v s h m.proc m.page e) in
+    let moving_once : MovingOnce V S = λ b m. grind (arith, nat_tests, h.moving_once b m, h.whole_moved b m, whole_counts v s h m.proc m.page m.entry) in
+    let copy_words : CopyWords V S = λ b i n w u fork. grind (arith, nat_tests, h.copy_words b i n w u fork, prepared_counts v s h b u, prepares_before (s.job b) fork i n, h.forks_are b) in
+    let share_unowned : ShareUnowned V S = λ b i fork d. grind (arith, nat_tests, h.share_unowned b i fork d) in
+    let sound : IsSoundBy V S = assumption in
+    record { sound = (V, sound); can = tt; same = refl }
 
 -- the prepared frame is zero, as the page's object is so far
 pub simulates-fill : (s : CoreState) (a p page f : ℕ) → IsSound s → Can s (fill a p page f) → Simulates s (fill a p page f)
@@ -84,6 +91,10 @@ simulates-fill s a p page f (v, h) c =
     let handle_flag : HandleFlag V S = λ j k d o q g. grind (arith, nat_tests, h.handle_flag j k d o q g, handle_counts v s h j k d, h.prepared_once a f) in
     let taken_marked : TakenMarked V S = λ b k t. grind (arith, nat_tests, h.taken_marked b k t) in
     let taken_own : TakenOwn V S = λ b k t. grind (arith, nat_tests, h.taken_own b k t, taken_counts v s h b k t, h.prepared_once a f) in
+    let walk_own : WalkOwn V S = λ b n o w t. grind (arith, nat_tests, h.walk_own b n o w t, taken_counts v s h b n t, h.prepared_once a f) in
+    let walk_unowned : WalkUnowned V S = λ b n w t. grind (arith, nat_tests, h.walk_unowned b n w t, taken_counts v s h b n t, h.prepared_once a f) in
+    let walk_kept : WalkKept V S = λ b n w t. grind (arith, nat_tests, h.walk_kept b n w t) in
+    let walk_writable : WalkWritable V S = λ b n w t d. grind (arith, nat_tests, h.walk_writable b n w t d) in
     let prepared_once : PreparedOnce V S = λ b d. grind (arith, nat_tests, h.prepared_once b d) in
     let prepared_unmarked : PreparedUnmarked V S = λ b d. grind (arith, nat_tests, h.prepared_unmarked b d, prepared_alone v s h a b f) in
     let prepared_unowned : PreparedUnowned V S = λ b d. grind (arith, nat_tests, h.prepared_unowned b d, prepared_alone v s h a b f) in
@@ -112,11 +123,13 @@ simulates-count_one s a p page f writable (v, h) c =
     let unmarked : s.mark f ≡ false = c.4 in
     let once : s.count f ≡ 1 = c.5 in
     let there : v.whole p page ≡ Some e = h.whole_entry p page e here in
+    let alone : v.references f ≡ 1 = (whole_alone v s h p page e there once).0 in
     let named : v.names p page ≡ Some (s.object p page) = h.whole_names p page e there in
     let mapped : IsSome (s.right p page) = born_mapped v s h p page e c.0 there in
     let marks_are : MarksAre V S = λ b. grind (arith, nat_tests, h.marks_are b) in
     let moves_are : MovesAre V S = λ b. grind (arith, nat_tests, h.moves_are b) in
     let forks_are : ForksAre V S = λ b. grind (arith, nat_tests, h.forks_are b) in
+    let walks_are : WalksAre V S = λ b. grind (arith, nat_tests, h.walks_are b) in
     let whole_free : WholeFree V S = λ q i d. grind (arith, nat_tests, h.whole_free q i d) in
     let whole_kept : WholeKept V S = λ q i b d. grind (arith, nat_tests, h.whole_kept q i b d, h.whole_free q i d) in
     let whole_other : WholeOther V S = λ q i b d m. grind (arith, nat_tests, h.whole_other q i b d m, h.whole_free q i d, h.moves_are a) in
@@ -137,6 +150,8 @@ simulates-count_one s a p page f writable (v, h) c =
     let handle_own : HandleOwn V S = λ j n u. grind (arith, nat_tests, h.handle_own j n u, handle_counts v s h j n u) in
     let handle_flag : HandleFlag V S = λ j n u o q i. grind (arith, nat_tests, h.handle_flag j n u o q i, handle_counts v s h j n u) in
     let taken_own : TakenOwn V S = λ b n t. grind (arith, nat_tests, h.taken_own b n t, taken_counts v s h b n t) in
+    let walk_own : WalkOwn V S = λ b n o w t. grind (arith, nat_tests, h.walk_own b n o w t, taken_counts v s h b n t) in
+    let walk_unowned : WalkUnowned V S = λ b n w t. grind (arith, nat_tests, h.walk_unowned b n w t, taken_counts v s h b n t) in
     let prepared_unowned : PreparedUnowned V S = λ b u. grind (arith, nat_tests, h.prepared_unowned b u, prepared_whole v s h b u p page e) in
     let marking_entry : MarkingEntry V S = λ b m. grind (arith, nat_tests, h.marking_entry b m) in
     let marking_own : MarkingOwn V S = λ b m. grind (arith, nat_tests, h.marking_own b m, h.marking_entry b m, h.marks_table b m, λ (d : Entry). once_wholes v s h p page m.proc m.page e d) in
@@ -158,6 +173,7 @@ simulates-set_mark s a p page f (v, h) c =
     let marks_are : MarksAre V S = λ b. grind (arith, nat_tests, h.marks_are b) in
     let moves_are : MovesAre V S = λ b. grind (arith, nat_tests, h.moves_are b) in
     let forks_are : ForksAre V S = λ b. grind (arith, nat_tests, h.forks_are b) in
+    let walks_are : WalksAre V S = λ b. grind (arith, nat_tests, h.walks_are b) in
     let whole_free : WholeFree V S = λ q i d. grind (arith, nat_tests, h.whole_free q i d, h.whole_kept q i a d) in
     let whole_kept : WholeKept V S = λ q i b d. grind (arith, nat_tests, h.whole_kept q i b d) in
     let whole_other : WholeOther V S = λ q i b d m. grind (arith, nat_tests, h.whole_other q i b d m) in
@@ -173,6 +189,9 @@ simulates-set_mark s a p page f (v, h) c =
     let entry_marked : EntryMarked V S = λ q i d. grind (arith, nat_tests, h.entry_marked q i d) in
     let handle_marked : HandleMarked V S = λ j n u. grind (arith, nat_tests, h.handle_marked j n u) in
     let taken_marked : TakenMarked V S = λ b n t. grind (arith, nat_tests, h.taken_marked b n t) in
+    let walk_unowned : WalkUnowned V S = λ b n w t. grind (arith, nat_tests, h.walk_unowned b n w t, λ (e : Entry). h.whole_names p page e) in
+    let walk_kept : WalkKept V S = λ b n w t. grind (arith, nat_tests, h.walk_kept b n w t) in
+    let walk_writable : WalkWritable V S = λ b n w t d. grind (arith, nat_tests, h.walk_writable b n w t d) in
     let prepared_unmarked : PreparedUnmarked V S = λ b u. grind (arith, nat_tests, h.prepared_unmarked b u, λ (e : Entry). prepared_whole v s h b u p page e) in
     let marking_entry : MarkingEntry V S = λ b m. grind (arith, nat_tests, h.marking_entry b m) in
     let marking_own : MarkingOwn V S = λ b m. grind (arith, nat_tests, h.marking_own b m) in
