@@ -1,17 +1,17 @@
 -- The end of a page fault: an entry breaks with a shared frame, and the reference that is owed is given back.
-use Rattle.std.proofs.Common.{◌≡◌, ℕ, Bool, refl, sym, arith}
+use Rattle.std.proofs.Common.{◌≡◌, ℕ, ◌-◌, ◌≤◌, Bool, refl, sym, arith}
 use Rattle.std.specs.Prelude.{Some, None, IsSome}
 use Rattle.std.proofs.lemmas.Bool.Decides.{nat_tests}
 use Rattle.gup_base.specs.declared.entry.Entry.{Entry}
 use Rattle.gup_base.specs.declared.entry.Rights.{Rights}
-use Rattle.gup_plain.specs.Put.{put2}
+use Rattle.gup_plain.specs.Put.{put, put2}
 use Rattle.gup_events.specs.State.{CoreState}
 use Rattle.gup_events.specs.Event.{Can, happens, entry_of, break_entry, put_entry}
 use Rattle.gup_events.specs.Sound.{View, IsSoundBy, IsSound, Simulates}
-use Rattle.gup_clauses.specs.Clauses.{References, WholeEntry, WholeMoved, WholeFree, WholeKept, WholeOther, MovedGone, WholeNames, OwnAlone, OwnMade, OwnNames, OwnEntry, OwnWords, OwnMarked, OwnMarking, MarkedOwn, EntryMapped, EntryMarked, EntryAllowed, EntryWords, Untouched, HandleMarked, HandleOwn, HandleFlag, TakenMarked, TakenOwn, PreparedOnce, PreparedUnmarked, PreparedUnowned, PreparedZero, MarkingEntry, MarkingOwn, MovingOnce, ForkFresh, CopyWords, ShareHandle, ShareTaken, ShareLowered, ShareUnowned, MirrorEntry}
+use Rattle.gup_clauses.specs.Clauses.{References, CountIs, WholeEntry, WholeMoved, WholeFree, WholeKept, WholeOther, MovedGone, WholeNames, OwnAlone, OwnMade, OwnNames, OwnEntry, OwnWords, OwnMarked, OwnMarking, MarkedOwn, EntryMapped, EntryMarked, EntryAllowed, EntryWords, Untouched, HandleMarked, HandleOwn, HandleFlag, TakenMarked, TakenOwn, WalkOwn, WalkUnowned, WalkKept, WalkWritable, PreparedOnce, PreparedUnmarked, PreparedUnowned, PreparedZero, MarkingEntry, MarkingOwn, MovingOnce, ForkFresh, CopyWords, ShareHandle, ShareTaken, ShareLowered, ShareUnowned, MirrorEntry}
 use Rattle.gup_clauses.specs.Tally.{tally_is, tally_entry, tally_prepared, tally_owed}
 use Rattle.gup_clauses.specs.Steps.{shared_is_step, lowered_is_shared}
-use Rattle.gup_clauses.specs.Lonely.{handle_counts, taken_counts, prepared_whole, prepared_alone, born_mapped, unmarked_unowned, owed_whole, owed_prepared, owed_moving}
+use Rattle.gup_clauses.specs.Lonely.{handle_counts, taken_counts, prepared_whole, prepared_alone, born_mapped, unmarked_unowned, owed_counts, owed_alone, owed_whole, owed_prepared, owed_moving}
 
 -- the old frame was no page's alone; the new one is prepared, so it was in no entry and under no pin
 pub simulates-break_entry : (s : CoreState) (a p page old new : ℕ) (was writable : Bool) → IsSound s → Can s (break_entry a p page old new was writable) → Simulates s (break_entry a p page old new was writable)
@@ -54,6 +54,10 @@ simulates-break_entry s a p page old new was writable (v, h) c =
     let handle_flag : HandleFlag V S = λ j n u o q i. grind (arith, nat_tests, h.handle_flag j n u o q i, handle_counts v s h j n u, h.prepared_once a new) in
     let taken_marked : TakenMarked V S = λ b n t. grind (arith, nat_tests, h.taken_marked b n t) in
     let taken_own : TakenOwn V S = λ b n t. grind (arith, nat_tests, h.taken_own b n t, taken_counts v s h b n t, h.prepared_once a new) in
+    let walk_own : WalkOwn V S = λ b n o w t. grind (arith, nat_tests, h.walk_own b n o w t, taken_counts v s h b n t, h.prepared_once a new) in
+    let walk_unowned : WalkUnowned V S = λ b n w t. grind (arith, nat_tests, h.walk_unowned b n w t, taken_counts v s h b n t, h.prepared_once a new) in
+    let walk_kept : WalkKept V S = λ b n w t. grind (arith, nat_tests, h.walk_kept b n w t) in
+    let walk_writable : WalkWritable V S = λ b n w t d. grind (arith, nat_tests, h.walk_writable b n w t d) in
     let prepared_once : PreparedOnce V S = λ b u. grind (arith, nat_tests, h.prepared_once b u) in
     let prepared_unmarked : PreparedUnmarked V S = λ b u. grind (arith, nat_tests, h.prepared_unmarked b u, prepared_alone v s h a b new) in
     let prepared_unowned : PreparedUnowned V S = λ b u. grind (arith, nat_tests, h.prepared_unowned b u, prepared_alone v s h a b new) in
@@ -74,27 +78,35 @@ simulates-break_entry s a p page old new was writable (v, h) c =
 pub simulates-put_entry : (s : CoreState) (a f : ℕ) → IsSound s → Can s (put_entry a f) → Simulates s (put_entry a f)
 simulates-put_entry s a f (v, h) c =
     let S : CoreState = happens s (put_entry a f) in
+    let V : View = record v { references = put f (v.references f - 1) v.references } in
     let had : s.owed a ≡ Some f = c in
-    let references : References v S = tally_is _ _ _ (tally_owed _ _ _ _ _ _ _ _ a None h.references) (λ d. grind (arith, nat_tests)) in
-    let own_alone : OwnAlone v S = λ u i o. grind (arith, nat_tests, h.own_alone u i o) in
-    let own_made : OwnMade v S = λ u o. grind (arith, nat_tests, h.own_made u o) in
-    let own_names : OwnNames v S = λ q i o d. grind (arith, nat_tests, h.own_names q i o d) in
-    let own_entry : OwnEntry v S = λ u q i o. grind (arith, nat_tests, h.own_entry u q i o) in
-    let own_words : OwnWords v S = λ u o w. grind (arith, nat_tests, h.own_words u o w) in
-    let own_marked : OwnMarked v S = λ q i o d. grind (arith, nat_tests, h.own_marked q i o d) in
-    let own_marking : OwnMarking v S = λ q i o b d. grind (arith, nat_tests, h.own_marking q i o b d) in
-    let marked_own : MarkedOwn v S = λ q i d. grind (arith, nat_tests, h.marked_own q i d) in
-    let entry_marked : EntryMarked v S = λ q i d. grind (arith, nat_tests, h.entry_marked q i d, owed_whole v s h a f q i d) in
-    let handle_marked : HandleMarked v S = λ j n u. grind (arith, nat_tests, h.handle_marked j n u, handle_counts v s h j n u) in
-    let handle_own : HandleOwn v S = λ j n u. grind (arith, nat_tests, h.handle_own j n u, handle_counts v s h j n u) in
-    let handle_flag : HandleFlag v S = λ j n u o q i. grind (arith, nat_tests, h.handle_flag j n u o q i) in
-    let taken_marked : TakenMarked v S = λ b n t. grind (arith, nat_tests, h.taken_marked b n t, taken_counts v s h b n t) in
-    let taken_own : TakenOwn v S = λ b n t. grind (arith, nat_tests, h.taken_own b n t, taken_counts v s h b n t) in
-    let prepared_once : PreparedOnce v S = λ b u. grind (arith, nat_tests, h.prepared_once b u, owed_prepared v s h a f b) in
-    let prepared_unmarked : PreparedUnmarked v S = λ b u. grind (arith, nat_tests, h.prepared_unmarked b u) in
-    let prepared_unowned : PreparedUnowned v S = λ b u. grind (arith, nat_tests, h.prepared_unowned b u) in
-    let marking_own : MarkingOwn v S = λ b m. grind (arith, nat_tests, h.marking_own b m, h.marking_entry b m, λ (e : Entry). owed_whole v s h a f m.proc m.page e) in
-    let moving_once : MovingOnce v S = λ b m. grind (arith, nat_tests, h.moving_once b m, owed_moving v s h a b m) in
-    let share_unowned : ShareUnowned v S = λ b i fork d. grind (arith, nat_tests, h.share_unowned b i fork d) in
-    let sound : IsSoundBy v S = assumption in
-    record { sound = (v, sound); can = tt; same = refl }
+    let counts : 1 ≤ v.references f = owed_counts v s h a f had in
+    let lone : s.count f ≡ 1 → v.references f ≡ 1 = λ once. (owed_alone v s h a f had once).0 in
+    let references : References V S = tally_is _ _ _ (tally_owed _ _ _ _ _ _ _ _ a None h.references) (λ d. grind (arith, nat_tests)) in
+    let count_is : CountIs V S = λ u. grind (arith, nat_tests, h.count_is u) in
+    let own_alone : OwnAlone V S = λ u i o. grind (arith, nat_tests, h.own_alone u i o) in
+    let own_made : OwnMade V S = λ u o. grind (arith, nat_tests, h.own_made u o) in
+    let own_names : OwnNames V S = λ q i o d. grind (arith, nat_tests, h.own_names q i o d) in
+    let own_entry : OwnEntry V S = λ u q i o. grind (arith, nat_tests, h.own_entry u q i o) in
+    let own_words : OwnWords V S = λ u o w. grind (arith, nat_tests, h.own_words u o w) in
+    let own_marked : OwnMarked V S = λ q i o d. grind (arith, nat_tests, h.own_marked q i o d) in
+    let own_marking : OwnMarking V S = λ q i o b d. grind (arith, nat_tests, h.own_marking q i o b d) in
+    let marked_own : MarkedOwn V S = λ q i d. grind (arith, nat_tests, h.marked_own q i d) in
+    let entry_marked : EntryMarked V S = λ q i d. grind (arith, nat_tests, h.entry_marked q i d, owed_whole v s h a f q i d) in
+    let handle_marked : HandleMarked V S = λ j n u. grind (arith, nat_tests, h.handle_marked j n u, handle_counts v s h j n u) in
+    let handle_own : HandleOwn V S = λ j n u. grind (arith, nat_tests, h.handle_own j n u, handle_counts v s h j n u) in
+    let handle_flag : HandleFlag V S = λ j n u o q i. grind (arith, nat_tests, h.handle_flag j n u o q i) in
+    let taken_marked : TakenMarked V S = λ b n t. grind (arith, nat_tests, h.taken_marked b n t, taken_counts v s h b n t) in
+    let taken_own : TakenOwn V S = λ b n t. grind (arith, nat_tests, h.taken_own b n t, taken_counts v s h b n t) in
+    let walk_own : WalkOwn V S = λ b n o w t. grind (arith, nat_tests, h.walk_own b n o w t) in
+    let walk_unowned : WalkUnowned V S = λ b n w t. grind (arith, nat_tests, h.walk_unowned b n w t) in
+    let walk_kept : WalkKept V S = λ b n w t. grind (arith, nat_tests, h.walk_kept b n w t, taken_counts v s h b n t) in
+    let walk_writable : WalkWritable V S = λ b n w t d. grind (arith, nat_tests, h.walk_writable b n w t d, taken_counts v s h b n t) in
+    let prepared_once : PreparedOnce V S = λ b u. grind (arith, nat_tests, h.prepared_once b u, owed_prepared v s h a f b) in
+    let prepared_unmarked : PreparedUnmarked V S = λ b u. grind (arith, nat_tests, h.prepared_unmarked b u) in
+    let prepared_unowned : PreparedUnowned V S = λ b u. grind (arith, nat_tests, h.prepared_unowned b u) in
+    let marking_own : MarkingOwn V S = λ b m. grind (arith, nat_tests, h.marking_own b m, h.marking_entry b m, λ (e : Entry). owed_whole v s h a f m.proc m.page e) in
+    let moving_once : MovingOnce V S = λ b m. grind (arith, nat_tests, h.moving_once b m, owed_moving v s h a b m) in
+    let share_unowned : ShareUnowned V S = λ b i fork d. grind (arith, nat_tests, h.share_unowned b i fork d) in
+    let sound : IsSoundBy V S = assumption in
+    record { sound = (V, sound); can = tt; same = refl }

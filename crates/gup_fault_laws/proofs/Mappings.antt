@@ -12,7 +12,7 @@ use Rattle.gup_events.specs.State.{CoreState, plain_of}
 use Rattle.gup_events.specs.Event.{Can, happens, entry_of, map_pages, lower_entry, protect_pages, drop_entry, discard_entry}
 use Rattle.gup_events.specs.Invariant.{frame_of}
 use Rattle.gup_events.specs.Sound.{View, IsSoundBy, IsSound, Simulates}
-use Rattle.gup_clauses.specs.Clauses.{References, WholeEntry, WholeMoved, WholeFree, WholeKept, WholeOther, MovedGone, RightNames, WholeNames, NamesObject, GrowingRights, UnbornUnmapped, FailedUnmapped, OwnMade, OwnNames, OwnEntry, OwnWords, OwnMarked, OwnMarking, MarkedOwn, EntryMapped, EntryMarked, EntryAllowed, EntryWords, Untouched, NamesAlone, NamesMade, RightNumbered, HandleFlag, TakenNames, MarkingEntry, MarkingOwn, ForkFresh, ForkMapped, CopyWords, ShareHandle, ShareTaken, ShareLowered, ShareUnowned, MirrorEntry, MirrorNames}
+use Rattle.gup_clauses.specs.Clauses.{References, WholeEntry, WholeMoved, WholeFree, WholeKept, WholeOther, MovedGone, RightNames, WholeNames, NamesObject, GrowingRights, UnbornUnmapped, FailedUnmapped, OwnMade, OwnNames, OwnEntry, OwnWords, OwnMarked, OwnMarking, MarkedOwn, EntryMapped, EntryMarked, EntryAllowed, EntryWords, Untouched, NamesAlone, NamesMade, RightNumbered, HandleFlag, TakenMade, TakenNames, MarkingEntry, MarkingOwn, ForkFresh, ForkMapped, CopyWords, ShareHandle, ShareTaken, ShareLowered, ShareUnowned, MirrorEntry, MirrorNames}
 use Rattle.gup_clauses.specs.Tally.{tally_is, tally_entry, tally_owed}
 use Rattle.gup_clauses.specs.Named.{by_pages}
 use Rattle.gup_clauses.specs.Children.{no_child, copied_made}
@@ -51,7 +51,8 @@ simulates-map_pages s a p page n rights (v, h) c =
     let names_made : NamesMade V S = λ q i o. grind (arith, nat_tests, h.names_made q i o) in
     let right_numbered : RightNumbered V S = λ q i r. grind (arith, nat_tests, h.right_numbered q i r) in
     let handle_flag : HandleFlag V S = λ j n u o q i. grind (arith, nat_tests, h.handle_flag j n u o q i, h.own_made u o) in
-    let taken_names : TakenNames V S = λ b n q i t. grind (arith, nat_tests, h.taken_names b n q i t, h.taken_own b n t, h.own_made t.frame t.object) in
+    let taken_made : TakenMade V S = λ b n t. grind (arith, nat_tests, h.taken_made b n t) in
+    let taken_names : TakenNames V S = λ b n q i t. grind (arith, nat_tests, h.taken_names b n q i t, h.taken_made b n t) in
     let marking_own : MarkingOwn V S = λ b m. grind (arith, nat_tests, h.marking_own b m, h.marking_entry b m, λ (e : Entry). empty m.page e) in
     let fork_mapped : ForkMapped V S = λ b i fork. grind (arith, nat_tests, h.fork_mapped b i fork) in
     let copy_words : CopyWords V S = λ b i n w u fork. grind (arith, nat_tests, h.copy_words b i n w u fork, copied_made v s b i n fork h, no_child v s p b fork h c.0) in
@@ -216,7 +217,8 @@ simulates-discard_entry s a p page was (v, h) c =
     let names_alone : NamesAlone V S = λ q i x j o. grind (arith, nat_tests, h.names_alone q i x j o, h.names_made q i o, h.names_made x j o) in
     let names_made : NamesMade V S = λ q i o. grind (arith, nat_tests, h.names_made q i o) in
     let handle_flag : HandleFlag V S = λ j n u o q i. grind (arith, nat_tests, h.handle_flag j n u o q i, h.own_made u o) in
-    let taken_names : TakenNames V S = λ b n q i t. grind (arith, nat_tests, h.taken_names b n q i t, h.taken_own b n t, h.own_made t.frame t.object) in
+    let taken_made : TakenMade V S = λ b n t. grind (arith, nat_tests, h.taken_made b n t) in
+    let taken_names : TakenNames V S = λ b n q i t. grind (arith, nat_tests, h.taken_names b n q i t, h.taken_made b n t) in
     let marking_entry : MarkingEntry V S = λ b m. grind (arith, nat_tests, h.marking_entry b m, h.marks_table b m) in
     let marking_own : MarkingOwn V S = λ b m. grind (arith, nat_tests, h.marking_own b m, h.marks_table b m) in
     let fork_fresh : ForkFresh V S = λ b i fork. grind (arith, nat_tests, h.fork_fresh b i fork) in
