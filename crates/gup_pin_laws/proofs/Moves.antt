@@ -7,10 +7,10 @@ use Rattle.gup_plain.specs.Put.{put, put2}
 use Rattle.gup_events.specs.State.{CoreState, idle, Counted, unread, one}
 use Rattle.gup_events.specs.Event.{Can, happens, entry_of, counted_as, clear_entry, count_moved, place_frame, restore_entry}
 use Rattle.gup_events.specs.Sound.{View, Moving, IsSoundBy, IsSound, Simulates}
-use Rattle.gup_clauses.specs.Clauses.{References, MarksAre, MovesAre, ForksAre, WholeEntry, WholeMoved, WholeFree, WholeKept, WholeOther, MovedGone, WholeNames, MarksTable, MovesTable, ForksTable, TableHeld, StructureHeld, TableBorn, OwnAlone, OwnMade, OwnNames, OwnEntry, OwnWords, OwnMarked, OwnMarking, MarkedOwn, EntryMapped, EntryMarked, EntryAllowed, EntryWords, Untouched, HandleMarked, HandleOwn, HandleFlag, TakenMarked, TakenOwn, PreparedOnce, PreparedUnmarked, PreparedUnowned, PreparedZero, MarkingEntry, MarkingOwn, MovingOnce, ForkFresh, CopyWords, ShareHandle, ShareTaken, ShareLowered, ShareUnowned, MirrorEntry}
+use Rattle.gup_clauses.specs.Clauses.{References, MarksAre, MovesAre, ForksAre, WalksAre, WholeEntry, WholeMoved, WholeFree, WholeKept, WholeOther, MovedGone, WholeNames, MarksTable, MovesTable, ForksTable, TableHeld, StructureHeld, TableBorn, OwnAlone, OwnMade, OwnNames, OwnEntry, OwnWords, OwnMarked, OwnMarking, MarkedOwn, EntryMapped, EntryMarked, EntryAllowed, EntryWords, Untouched, HandleMarked, HandleOwn, HandleFlag, TakenMarked, TakenOwn, WalkOwn, WalkUnowned, WalkKept, WalkWritable, PreparedOnce, PreparedUnmarked, PreparedUnowned, PreparedZero, MarkingEntry, MarkingOwn, MovingOnce, ForkFresh, CopyWords, ShareHandle, ShareTaken, ShareLowered, ShareUnowned, MirrorEntry}
 use Rattle.gup_clauses.specs.Tally.{tally_is, tally_entry, tally_moves, tally_prepared, tally_owed}
 use Rattle.gup_clauses.specs.Steps.{shared_is_step}
-use Rattle.gup_clauses.specs.Lonely.{once_wholes, handle_counts, taken_counts, prepared_whole, prepared_alone}
+use Rattle.gup_clauses.specs.Lonely.{whole_alone, once_wholes, handle_counts, taken_counts, prepared_whole, prepared_alone}
 
 -- the page's entry is the one that the mover keeps
 pub simulates-clear_entry : (s : CoreState) (a p page : ℕ) (e : Entry) → IsSound s → Can s (clear_entry a p page e) → Simulates s (clear_entry a p page e)
@@ -26,6 +26,7 @@ simulates-clear_entry s a p page e (v, h) c =
     let marks_are : MarksAre V S = λ b. grind (arith, nat_tests, h.marks_are b) in
     let moves_are : MovesAre V S = λ b. grind (arith, nat_tests, h.moves_are b) in
     let forks_are : ForksAre V S = λ b. grind (arith, nat_tests, h.forks_are b) in
+    let walks_are : WalksAre V S = λ b. grind (arith, nat_tests, h.walks_are b) in
     let whole_entry : WholeEntry V S = λ q i d. grind (arith, nat_tests, h.whole_entry q i d) in
     let whole_moved : WholeMoved V S = λ b m. grind (arith, nat_tests, h.whole_moved b m) in
     let whole_free : WholeFree V S = λ q i d. grind (arith, nat_tests, h.whole_free q i d) in
@@ -52,10 +53,13 @@ simulates-count_moved s a p page e count (v, h) c =
     let V : View = record v { moves = put a (Some (record { proc = p; page = page; entry = e; count = counted_as count })) v.moves } in
     let was : Moving = record { proc = p; page = page; entry = e; count = unread } in
     let mine : v.moves a ≡ Some was = grind (arith, h.moves_are a) in
+    let there : v.whole p page ≡ Some e = h.whole_moved a was mine in
+    let lone : s.count e.frame ≡ 1 → v.references e.frame ≡ 1 = λ once. (whole_alone v s h p page e there once).0 in
     let references : References V S = tally_is _ _ _ (tally_moves _ _ _ _ _ _ _ _ a (Some (record { proc = p; page = page; entry = e; count = counted_as count })) h.references) (λ d. grind (arith, nat_tests)) in
     let marks_are : MarksAre V S = λ b. grind (arith, nat_tests, h.marks_are b) in
     let moves_are : MovesAre V S = λ b. grind (arith, nat_tests, h.moves_are b) in
     let forks_are : ForksAre V S = λ b. grind (arith, nat_tests, h.forks_are b) in
+    let walks_are : WalksAre V S = λ b. grind (arith, nat_tests, h.walks_are b) in
     let whole_moved : WholeMoved V S = λ b m. grind (arith, nat_tests, h.whole_moved b m, h.whole_moved a was) in
     let whole_kept : WholeKept V S = λ q i b d. grind (arith, nat_tests, h.whole_kept q i b d) in
     let whole_other : WholeOther V S = λ q i b d m. grind (arith, nat_tests, h.whole_other q i b d m, h.whole_other q i a d was) in
@@ -82,13 +86,15 @@ simulates-place_frame s a p page f e (v, h) c =
     let there : v.whole p page ≡ Some e = h.whole_moved a was mine in
     let had : s.prepared a ≡ Some f = c.1 in
     let none : s.owed a ≡ None = c.2 in
-    let once : s.count e.frame ≡ 1 = h.moving_once a was mine refl in
+    let once : v.references e.frame ≡ 1 = h.moving_once a was mine refl in
     let named : v.names p page ≡ Some (s.object p page) = h.whole_names p page e there in
     let apart : f ≡ e.frame → ⊥ = λ same. prepared_whole v s h a f p page e had there (sym same) in
+    let fork_fresh : ForkFresh V S = λ b i fork. grind (arith, nat_tests, h.fork_fresh b i fork) in
     let references : References V S = tally_is _ _ _ (tally_moves _ _ _ _ _ _ _ _ a None (tally_prepared _ _ _ _ _ _ _ _ a None (tally_entry _ _ _ _ _ _ _ _ p page (Some (entry_of f e.writable)) (tally_owed _ _ _ _ _ _ _ _ a (Some e.frame) h.references)))) (λ d. grind (arith, nat_tests)) in
     let marks_are : MarksAre V S = λ b. grind (arith, nat_tests, h.marks_are b) in
     let moves_are : MovesAre V S = λ b. grind (arith, nat_tests, h.moves_are b) in
     let forks_are : ForksAre V S = λ b. grind (arith, nat_tests, h.forks_are b) in
+    let walks_are : WalksAre V S = λ b. grind (arith, nat_tests, h.walks_are b) in
     let whole_entry : WholeEntry V S = λ q i d. grind (arith, nat_tests, h.whole_entry q i d) in
     let whole_moved : WholeMoved V S = λ b m. grind (arith, nat_tests, h.whole_moved b m, h.moves_table b m) in
     let whole_free : WholeFree V S = λ q i d. grind (arith, nat_tests, h.whole_free q i d, h.whole_other p i a d was) in
@@ -127,13 +133,16 @@ simulates-place_frame s a p page f e (v, h) c =
     let marking_entry : MarkingEntry V S = λ b m. grind (arith, nat_tests, h.marking_entry b m, h.marks_table b m) in
     let marking_own : MarkingOwn V S = λ b m. grind (arith, nat_tests, h.marking_own b m, h.marks_table b m, h.marking_entry b m, λ (d : Entry). prepared_whole v s h a f m.proc m.page d, λ (d : Entry). once_wholes v s h p page m.proc m.page e d) in
     let moving_once : MovingOnce V S = λ b m. grind (arith, nat_tests, h.moving_once b m) in
-    let fork_fresh : ForkFresh V S = λ b i fork. grind (arith, nat_tests, h.fork_fresh b i fork) in
     let copy_words : CopyWords V S = λ b i n w u fork. grind (arith, nat_tests, h.copy_words b i n w u fork, prepared_alone v s h a b f) in
     let share_handle : ShareHandle V S = λ b i j n fork d. grind (arith, nat_tests, h.share_handle b i j n fork d, h.forks_table b i fork, shared_is_step fork.step i) in
     let share_taken : ShareTaken V S = λ b i y n fork d t. grind (arith, nat_tests, h.share_taken b i y n fork d t, h.forks_table b i fork, shared_is_step fork.step i) in
     let share_lowered : ShareLowered V S = λ b i fork d. grind (arith, nat_tests, h.share_lowered b i fork d, h.share_lowered b i fork e) in
     let share_unowned : ShareUnowned V S = λ b i fork d. grind (arith, nat_tests, h.share_unowned b i fork d, h.share_unowned b i fork e, prepared_whole v s h a f fork.proc i d, h.forks_table b i fork) in
     let mirror_entry : MirrorEntry V S = λ m u noted. grind (arith, nat_tests, h.mirror_entry m u noted) in
+    let walk_own : WalkOwn V S = λ b n o w t. grind (arith, nat_tests, h.walk_own b n o w t, taken_counts v s h b n t, h.prepared_once a f) in
+    let walk_unowned : WalkUnowned V S = λ b n w t. grind (arith, nat_tests, h.walk_unowned b n w t, taken_counts v s h b n t, h.prepared_once a f) in
+    let walk_kept : WalkKept V S = λ b n w t. grind (arith, nat_tests, h.walk_kept b n w t, taken_counts v s h b n t, h.prepared_once a f) in
+    let walk_writable : WalkWritable V S = λ b n w t d. grind (arith, nat_tests, h.walk_writable b n w t d, taken_counts v s h b n t, h.prepared_once a f) in
     let sound : IsSoundBy V S = assumption in
     record { sound = (V, sound); can = tt; same = refl }
 
@@ -153,6 +162,7 @@ simulates-restore_entry s a p page e count (v, h) c =
     let marks_are : MarksAre V S = λ b. grind (arith, nat_tests, h.marks_are b) in
     let moves_are : MovesAre V S = λ b. grind (arith, nat_tests, h.moves_are b) in
     let forks_are : ForksAre V S = λ b. grind (arith, nat_tests, h.forks_are b) in
+    let walks_are : WalksAre V S = λ b. grind (arith, nat_tests, h.walks_are b) in
     let whole_entry : WholeEntry V S = λ q i d. grind (arith, nat_tests, h.whole_entry q i d) in
     let whole_moved : WholeMoved V S = λ b m. grind (arith, nat_tests, h.whole_moved b m) in
     let whole_free : WholeFree V S = λ q i d. grind (arith, nat_tests, h.whole_free q i d, h.whole_other p i a d was) in
