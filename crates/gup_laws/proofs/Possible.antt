@@ -1,6 +1,6 @@
 -- A run of core events that can happen, so that the laws speak of something: pages are mapped, written, mirrored, pinned,
--- shared, copied, moved and given back, and forks end and fail.
-use Rattle.std.proofs.Common.{◌≡◌, ℕ, ◌+◌, ◌<◌, ◌≤◌, true, false, [], ◌∷◌, refl, subst, arith}
+-- shared, copied, moved and given back, forks end and fail, and walks pin a page, miss it, and drop it.
+use Rattle.std.proofs.Common.{◌≡◌, ℕ, ◌+◌, ◌<◌, ◌≤◌, true, false, [], ◌∷◌, refl, ap, subst, arith}
 use Rattle.std.specs.Prelude.{Option, Some, None, IsSome, Contains}
 use Rattle.std.proofs.lemmas.Bool.Decides.{nat_tests}
 use Rattle.gup_base.specs.declared.entry.Entry.{Entry}
@@ -35,6 +35,10 @@ all_done page is =
 given_back : (page : ℕ) → ◌≡◌ {A = Option Entry} (put 7 None (put 7 (Some (entry_of 6 false)) (λ _. None)) page) None
 given_back page = grind (arith, nat_tests)
 
+-- the entry that a fork has made read-only is another
+entries_apart : Some (entry_of 3 false) ≡ Some (entry_of 3 true) → ⊥
+entries_apart same = let e : entry_of 3 false ≡ entry_of 3 true = cc in let writable : false ≡ true = ap (λ (d : Entry). d.writable) e in cc
+
 -- the first event can happen, and then the others
 ◌and_then◌ : {P Q : Type 0} → P → Q → P × Q
 ◌and_then◌ can rest = (can, rest)
@@ -59,10 +63,52 @@ they_can_happen =
     and_then refl
     and_then refl
     and_then (refl, refl)
+    and_then (refl, (refl, refl), refl, refl)
+    and_then (refl, refl)
+    and_then (refl, refl, All-nil _)
+    and_then (refl, λ none. omega (arith, none))
+    and_then (refl, refl)
+    and_then (refl, refl)
+    and_then (refl, tt, refl)
+    and_then refl
+    and_then (refl, refl, λ no. absurd (cc))
+    and_then (refl, refl)
+    and_then (refl, (refl, refl), refl, refl)
+    and_then (refl, refl)
+    and_then (refl, refl, All-nil _)
+    and_then refl
+    and_then (refl, tt, refl)
+    and_then refl
+    and_then (refl, (refl, refl), refl, refl)
+    and_then (refl, refl)
+    and_then (refl, (refl, refl), refl, refl)
+    and_then (refl, refl)
+    and_then (refl, (refl, refl), refl, refl)
+    and_then (refl, refl)
     and_then (refl, refl, (refl, refl), (refl, refl), refl, refl)
     and_then (refl, refl, refl, no_element 7, refl, refl)
-    and_then (refl, refl, (λ m noted is at proc page. emptied m is))
+    and_then (refl, refl, All-nil _)
+    and_then (refl, λ none. omega (arith, none))
     and_then (refl, refl)
+    and_then (refl, refl)
+    and_then (refl, tt, refl)
+    and_then (refl, refl)
+    and_then refl
+    and_then (refl, refl, All-nil _)
+    and_then (refl, λ none. omega (arith, none))
+    and_then (refl, refl, (λ m noted is at proc page. emptied m is))
+    and_then (refl, entries_apart)
+    and_then refl
+    and_then (refl, tt, refl)
+    and_then refl
+    and_then (refl, refl)
+    and_then (refl, refl, All-nil _)
+    and_then (refl, λ none. omega (arith, none))
+    and_then (refl, refl)
+    and_then (refl, refl)
+    and_then (refl, refl)
+    and_then (refl, tt, refl)
+    and_then refl
     and_then (refl, refl)
     and_then (refl, all_done)
     and_then (tt, refl, omega arith, refl)

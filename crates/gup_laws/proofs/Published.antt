@@ -1,16 +1,18 @@
 -- What is published of a sound state follows from its clauses.
-use Rattle.std.proofs.Common.{◌≡◌, ℕ, ◌≤◌, inl, inr, true, List, refl, ap, sym, ◌∙◌, subst, arith}
-use Rattle.std.specs.Prelude.{Option, Some, None, IsSome}
+use Rattle.std.proofs.Common.{◌≡◌, ℕ, ◌+◌, ◌<◌, ◌≤◌, inl, inr, Bool, true, false, List, length, refl, ap, sym, ◌∙◌, subst, arith}
+use Rattle.std.specs.Prelude.{Option, Some, None, IsSome, Contains, slice_get, not}
 use Rattle.gup_base.specs.declared.entry.Entry.{Entry}
 use Rattle.gup_base.specs.declared.entry.Rights.{Rights}
 use Rattle.gup_base.specs.declared.entry.Rights.TheVariants.{R, RW}
 use Rattle.gup_plain.specs.State.{born, failed}
-use Rattle.gup_events.specs.State.{CoreState, Counted, one, Job, idle, marking, moving, forking, walking, ForkStep, between, counted, lowered, cleared, copying, failing}
-use Rattle.gup_events.specs.Event.{bias}
-use Rattle.gup_events.specs.Invariant.{Holder, entry_of_page, cleared_by, prepared_by, owed_by, got_as, page_of_pin, page_taken, CountsReferences, holds, IsEntry, Names, IsSettled, IsExclusive, IsSharing, IsParted, IsUncopied, StandsFor, Holds, frame_of, cleared_frame}
-use Rattle.gup_events.specs.Sound.{View, Moving, Forking, moving_of, forking_of, moved_frame, shared_page, IsUncopiedBy, held, IsSoundBy}
-use Rattle.gup_clauses.specs.Rows.{contains_at}
-use Rattle.gup_clauses.specs.Lonely.{whole_is, handle_counts, taken_counts, mapped_names, born_mapped}
+use Rattle.gup_events.specs.State.{CoreState, Taken, Counted, one, Job, idle, marking, moving, forking, walking, ForkStep, between, counted, lowered, cleared, copying, failing, WalkStep, entered, ready, read, grabbed, rechecked, differed, refused, stopped, dropping, over}
+use Rattle.gup_events.specs.Event.{bias, is_odd}
+use Rattle.gup_events.specs.Invariant.{IsEntry, Names, IsSettled, IsExclusive, IsSharing, IsUndisturbed, IsParted, IsUncopied, StandsFor, IsAsPinned, AwaitsMark, IsWalked, Holds, frame_of, is_unsettled}
+use Rattle.gup_events.specs.Sound.{View, Moving, Forking, Walking, moving_of, forking_of, walking_of, is_open, is_failing, unkept, shared_page, IsUncopiedBy, IsSoundBy}
+use Rattle.gup_clauses.specs.Rows.{contains_at, at_within}
+use Rattle.gup_clauses.specs.Steps.{even_apart}
+use Rattle.gup_clauses.specs.Lonely.{whole_is, handle_counts, taken_counts, grabbed_counted, mapped_names, born_mapped}
+use Rattle.gup_laws.proofs.Counted.{walked_is, counts}
 
 -- 1. Jobs, back from what they are seen as
 
@@ -28,12 +30,12 @@ job_forking (marking p page f) k is = absurd (cc)
 job_forking (moving p page e count) k is = absurd (cc)
 job_forking (walking p write long sequence step) k is = absurd (cc)
 
-moved_is : (job : Job) → cleared_frame job ≡ moved_frame (moving_of job)
-moved_is (moving p page e count) = refl
-moved_is idle = refl
-moved_is (marking p page f) = refl
-moved_is (forking p c done step) = refl
-moved_is (walking p write long sequence step) = refl
+unsettled_is : (job : Job) → is_open (walking_of job) ≡ is_unsettled job
+unsettled_is (walking p write long sequence step) = refl
+unsettled_is idle = refl
+unsettled_is (marking p page f) = refl
+unsettled_is (moving p page e count) = refl
+unsettled_is (forking p c done step) = refl
 
 sharing_is : (step : ForkStep) (page : ℕ) → IsSharing step page → shared_page step ≡ Some page
 sharing_is (counted g) page is = ap (λ n. Some n) is
@@ -42,6 +44,14 @@ sharing_is (cleared g) page is = ap (λ n. Some n) is
 sharing_is between page is = absurd is
 sharing_is (copying g n) page is = absurd is
 sharing_is failing page is = absurd is
+
+sharing_goes : (step : ForkStep) (page : ℕ) → IsSharing step page → is_failing step ≡ false
+sharing_goes (counted g) page is = refl
+sharing_goes (lowered g) page is = refl
+sharing_goes (cleared g) page is = refl
+sharing_goes between page is = refl
+sharing_goes (copying g n) page is = refl
+sharing_goes failing page is = absurd is
 
 some_value : {X : Type 0} (o : Option X) → IsSome o → (x : X) × (o ≡ Some x)
 some_value None is = absurd (cc)
@@ -52,30 +62,20 @@ framed None f is = absurd (cc)
 framed (Some e) f is = (e, refl, cc)
 
 module _ (v : View) (s : CoreState) (h : IsSoundBy v s) where
-  -- 2. References
-
-  holds_is : (x : Holder) → holds s x ≡ held s.entry v.moves s.prepared s.owed s.got s.pinned s.taken x
-  unfolding held
-  holds_is (cleared_by a) = moved_is (s.job a) ∙ ap moved_frame (sym (h.moves_are a))
-  holds_is (entry_of_page p page) = refl
-  holds_is (prepared_by a) = refl
-  holds_is (owed_by a) = refl
-  holds_is (got_as k) = refl
-  holds_is (page_of_pin i k) = refl
-  holds_is (page_taken a k) = refl
-
-  counts : CountsReferences s
-  counts f =
-      let t = h.references f in
-      (t.0, t.1, (λ x. (λ is. (t.2 x).0 (sym (holds_is x) ∙ is), λ has. holds_is x ∙ (t.2 x).1 has)), t.3)
-
-  -- 3. Entries
+  -- 2. Entries
 
   is_moving : (a p page : ℕ) (e : Entry) (count : Counted) → s.job a ≡ moving p page e count → v.moves a ≡ Some (record { proc = p; page = page; entry = e; count = count })
   is_moving a p page e count is = h.moves_are a ∙ ap moving_of is
 
   is_forking : (a p c : ℕ) (done : List ℕ) (step : ForkStep) → s.job a ≡ forking p c done step → v.forks a ≡ Some (record { proc = p; child = c; done = done; step = step })
   is_forking a p c done step is = h.forks_are a ∙ ap forking_of is
+
+  is_walking : (a p : ℕ) (write long : Bool) (sequence : ℕ) (step : WalkStep) → s.job a ≡ walking p write long sequence step → v.walks a ≡ Some (record { proc = p; write = write; long = long; sequence = sequence; step = step })
+  is_walking a p write long sequence step is = h.walks_are a ∙ ap walking_of is
+
+  -- no walk of the actor may have to drop what it has taken
+  is_closed : (a : ℕ) → is_unsettled (s.job a) ≡ false → is_open (v.walks a) ≡ false
+  is_closed a is = ap is_open (h.walks_are a) ∙ (unsettled_is (s.job a) ∙ is)
 
   entry_whole : (p page : ℕ) (e : Entry) → IsEntry s p page e → v.whole p page ≡ Some e
   entry_whole p page e (inl is) = h.whole_entry p page e is
@@ -94,7 +94,7 @@ module _ (v : View) (s : CoreState) (h : IsSoundBy v s) where
         | inr moved ↦ inr (moved.0, (moved.1.count, job_cleared moved.0 p page e moved.1 moved.2 moved.3 moved.4 moved.5))
       ]
 
-  -- 4. Settled pins
+  -- 3. Settled pins
 
   names_is : (p page o : ℕ) → Names s p page o → v.names p page ≡ Some o
   names_is p page o is = mapped_names v s h p page is.0 ∙ ap (λ n. Some n) is.1
@@ -103,14 +103,14 @@ module _ (v : View) (s : CoreState) (h : IsSoundBy v s) where
   settled_own f o (inl is) = h.handle_own is.0 is.1 f is.2 ∙ is.3
   settled_own f o (inr is) =
       let at = contains_at (s.taken is.0) is.1 is.3 in
-      let own : s.own is.1.frame ≡ Some is.1.object = h.taken_own is.0 at.0 is.1 at.1 in
+      let own : s.own is.1.frame ≡ Some is.1.object = h.taken_own is.0 at.0 is.1 at.1 (is_closed is.0 is.2) in
       subst (λ g. s.own g ≡ Some o) is.4 (own ∙ ap (λ n. Some n) is.5)
 
   settled_marked : (f o : ℕ) → IsSettled s f o → s.mark f ≡ true
   settled_marked f o (inl is) = h.handle_marked is.0 is.1 f is.2
   settled_marked f o (inr is) =
       let at = contains_at (s.taken is.0) is.1 is.3 in
-      subst (λ g. s.mark g ≡ true) is.4 (h.taken_marked is.0 at.0 is.1 at.1)
+      subst (λ g. s.mark g ≡ true) is.4 (h.taken_marked is.0 at.0 is.1 at.1 (is_closed is.0 is.2))
 
   settled_flag : (f o p page : ℕ) → IsSettled s f o → v.names p page ≡ Some o → s.has_pinned p ≡ true
   settled_flag f o p page (inl is) named = h.handle_flag is.0 is.1 f o p page is.2 (h.handle_own is.0 is.1 f is.2 ∙ is.3) named
@@ -119,13 +119,36 @@ module _ (v : View) (s : CoreState) (h : IsSoundBy v s) where
       let here = h.taken_names is.0 at.0 p page is.1 at.1 (named ∙ ap (λ n. Some n) (sym is.5)) in
       subst (λ q. s.has_pinned q ≡ true) (sym here.0) (h.taken_flag is.0 at.0 is.1 at.1)
 
-  settled_counts : (f o : ℕ) → IsSettled s f o → bias ≤ s.count f
+  settled_counts : (f o : ℕ) → IsSettled s f o → bias ≤ v.references f
   settled_counts f o (inl is) = handle_counts v s h is.0 is.1 f is.2
   settled_counts f o (inr is) =
       let at = contains_at (s.taken is.0) is.1 is.3 in
-      subst (λ g. bias ≤ s.count g) is.4 (taken_counts v s h is.0 at.0 is.1 at.1)
+      subst (λ g. bias ≤ v.references g) is.4 (taken_counts v s h is.0 at.0 is.1 at.1)
 
-  -- 5. The exclusive rule
+  -- a frame that is exclusively the object's, where who names the object has pinned
+  as_pinned : (f o : ℕ) → s.own f ≡ Some o → ((p page : ℕ) → v.names p page ≡ Some o → s.has_pinned p ≡ true) → IsAsPinned s f o
+  as_pinned f o owns flag =
+      record {
+        entry = λ p page named.
+            let at = framed (v.whole p page) f (h.own_entry f p page o owns (names_is p page o named)) in
+            (at.0, whole_entry p page at.0 at.1, at.2);
+        alone = λ p page e is same.
+            let there : v.whole p page ≡ Some e = entry_whole p page e is in
+            let own : s.own e.frame ≡ Some o = ap s.own same ∙ owns in
+            let named : v.names p page ≡ Some o = h.own_names p page o e there own in
+            let lives : s.birth p ≡ born = h.flag_born p (flag p page named) in
+            (born_mapped v s h p page e lives there, h.names_object p page o named);
+        object = λ g u that. (
+          λ same. let own : Some o ≡ Some u = sym owns ∙ (ap s.own same ∙ settled_own g u that) in let r : o ≡ u = cc in r,
+          λ same. h.own_alone f g o owns (settled_own g u that ∙ ap (λ n. Some n) (sym same)),
+        );
+        words = λ w within. h.own_words f o w owns within;
+      }
+
+  settled_pinned : (f o : ℕ) → IsSettled s f o → IsAsPinned s f o
+  settled_pinned f o settled = as_pinned f o (settled_own f o settled) (λ p page. settled_flag f o p page settled)
+
+  -- 4. The exclusive rule
 
   allowed : (p page : ℕ) (e : Entry) → v.whole p page ≡ Some e → e.writable ≡ true → (s.birth p ≡ failed → ⊥) → s.right p page ≡ Some RW
   allowed p page e there writable lives = go (s.right p page) refl
@@ -150,41 +173,47 @@ module _ (v : View) (s : CoreState) (h : IsSoundBy v s) where
         writable = λ p page e is w. (h.entry_marked p page e (entry_whole p page e is) w, allowed p page e (entry_whole p page e is) w);
         one_entry = λ p page q g d e is that. one_page p page q g d e (entry_whole p page d is) (entry_whole q g e that);
         pin_marked = settled_marked;
-        pin_entry = λ f o p page settled named.
-            let at = framed (v.whole p page) f (h.own_entry f p page o (settled_own f o settled) (names_is p page o named)) in
-            (at.0, whole_entry p page at.0 at.1, at.2);
-        pin_alone = λ f o p page e settled is same.
-            let there : v.whole p page ≡ Some e = entry_whole p page e is in
-            let own : s.own e.frame ≡ Some o = ap s.own same ∙ settled_own f o settled in
-            let named : v.names p page ≡ Some o = h.own_names p page o e there own in
-            let lives : s.birth p ≡ born = h.flag_born p (settled_flag f o p page settled named) in
-            (born_mapped v s h p page e lives there, h.names_object p page o named);
-        one_object = λ f g o u is that. (
-          λ same. let own : Some o ≡ Some u = sym (settled_own f o is) ∙ (ap s.own same ∙ settled_own g u that) in let r : o ≡ u = cc in r,
-          λ same. h.own_alone f g o (settled_own f o is) (settled_own g u that ∙ ap (λ n. Some n) (sym same)),
-        );
+        pin_entry = λ f o p page settled. (settled_pinned f o settled).entry p page;
+        pin_alone = λ f o p page e settled. (settled_pinned f o settled).alone p page e;
+        one_object = λ f g o u is. (settled_pinned f o is).object g u;
         pin_flag = λ f o p page settled named. settled_flag f o p page settled (names_is p page o named);
       }
 
-  -- 6. Forks and movers
+  -- 5. Forks and movers
 
   unshared : (a g : ℕ) (k : Forking) (e : Entry) (o : ℕ) → v.forks a ≡ Some k → shared_page k.step ≡ Some g → v.whole k.proc g ≡ Some e → IsSettled s e.frame o → ⊥
   unshared a g k e o is shares there (inl pin) = h.share_handle a g pin.0 pin.1 k e is shares there pin.2
   unshared a g k e o is shares there (inr pin) =
       let at = contains_at (s.taken pin.0) pin.1 pin.3 in
-      h.share_taken a g pin.0 at.0 k e pin.1 is shares there at.1 pin.4
+      h.share_taken a g pin.0 at.0 k e pin.1 is shares there at.1 (is_closed pin.0 pin.2) pin.4
+
+  -- the sequence is odd while a fork runs, and a walk goes on with an even one only
+  disturbed : (a p c page b : ℕ) (done : List ℕ) (step : ForkStep) (walk : WalkStep) → s.job a ≡ forking p c done step → IsSharing step page → IsUndisturbed s b p walk → ⊥
+  disturbed a p c page b done step walk is sharing (write, long, sequence, walks, inside, same) =
+      let odd : is_odd (s.sequence p) ≡ true = h.fork_odd a (record { proc = p; child = c; done = done; step = step }) (is_forking a p c done step is) ∙ ap not (sharing_goes step page sharing) in
+      let even : is_odd sequence ≡ false = h.walk_even b (record { proc = p; write = write; long = long; sequence = sequence; step = walk }) (is_walking b p write long sequence walk walks) inside in
+      even_apart sequence (s.sequence p) even odd (sym same)
+
+  moved_once : (a p page : ℕ) (e : Entry) → s.job a ≡ moving p page e one → v.references e.frame ≡ 1
+  moved_once a p page e is = h.moving_once a (record { proc = p; page = page; entry = e; count = one }) (is_moving a p page e one is) refl
+
+  untaken : (a p page b : ℕ) (e : Entry) (t : Taken) → s.job a ≡ moving p page e one → Contains (s.taken b) t → t.frame ≡ e.frame → ⊥
+  untaken a p page b e t is has same =
+      let at = contains_at (s.taken b) t has in
+      let counts : bias ≤ v.references e.frame = subst (λ f. bias ≤ v.references f) same (taken_counts v s h b at.0 t at.1) in
+      omega (arith, moved_once a p page e is, counts)
 
   parted : IsParted s
   parted =
       record {
         share = λ a p c page done step e is sharing here o.
             unshared a page (record { proc = p; child = c; done = done; step = step }) e o (is_forking a p c done step is) (sharing_is step page sharing) (h.whole_entry p page e here);
-        move = λ a p page e is o settled.
-            let once : s.count e.frame ≡ 1 = h.moving_once a (record { proc = p; page = page; entry = e; count = one }) (is_moving a p page e one is) refl in
-            omega (arith, once, settled_counts e.frame o settled);
+        share_walk = disturbed;
+        move = λ a p page e is o settled. omega (arith, moved_once a p page e is, settled_counts e.frame o settled);
+        move_walk = untaken;
       }
 
-  -- 7. Bytes
+  -- 6. Bytes
 
   uncopied : (p page : ℕ) → IsUncopied s p page → IsUncopiedBy v.forks p page
   uncopied p page free a word k is child step =
@@ -207,7 +236,7 @@ module _ (v : View) (s : CoreState) (h : IsSoundBy v s) where
         untouched = λ p page w mapped none free within.
             let r = some_value (s.right p page) mapped in
             h.untouched p page w r.0 r.1 (absent p page none) (uncopied p page free) within;
-        pin_words = λ f o settled w within. h.own_words f o w (settled_own f o settled) within;
+        pin_words = λ f o settled. (settled_pinned f o settled).words;
         copy_words = λ a p c page word w f done is prepares below.
             h.copy_words a page word w f (record { proc = p; child = c; done = done; step = copying page word }) (is_forking a p c done (copying page word) is) refl prepares below;
         handle_pages = h.handle_pages;
@@ -219,5 +248,86 @@ module _ (v : View) (s : CoreState) (h : IsSoundBy v s) where
             (lives, (at.0, at.1, at.2), (born_mapped v s h noted.proc noted.page at.0 lives there, h.names_object noted.proc noted.page noted.object named));
       }
 
+  -- 7. Walks
+
+  -- what an undisturbed walk has taken is exclusively the object's, if it is marked
+  taken_own : (a p k : ℕ) (step : WalkStep) (t : Taken) → IsUndisturbed s a p step → slice_get (s.taken a) k ≡ Some t → s.mark t.frame ≡ true → s.own t.frame ≡ Some t.object
+  taken_own a p k step t (write, long, sequence, walks, inside, same) at marked = go (s.own t.frame) refl
+    where
+      w : Walking
+      w = record { proc = p; write = write; long = long; sequence = sequence; step = step }
+
+      here : v.walks a ≡ Some w
+      here = is_walking a p write long sequence step walks
+
+      go : (o : Option ℕ) → s.own t.frame ≡ o → o ≡ Some t.object
+      go None none = absurd (let unmarked : s.mark t.frame ≡ false = h.walk_unowned a k w t here inside (sym same) at none in cc)
+      go (Some o) some = ap (λ n. Some n) (h.walk_own a k o w t here inside (sym same) at some)
+
+  taken_flag : (a k : ℕ) (t : Taken) → slice_get (s.taken a) k ≡ Some t → (p page : ℕ) → v.names p page ≡ Some t.object → s.has_pinned p ≡ true
+  taken_flag a k t at p page named =
+      let here = h.taken_names a k p page t at named in
+      subst (λ q. s.has_pinned q ≡ true) (sym here.0) (h.taken_flag a k t at)
+
+  taken_pinned : (a p : ℕ) (step : WalkStep) (t : Taken) → IsUndisturbed s a p step → Contains (s.taken a) t → s.mark t.frame ≡ true → IsAsPinned s t.frame t.object
+  taken_pinned a p step t undisturbed has marked =
+      let at = contains_at (s.taken a) t has in
+      as_pinned t.frame t.object (taken_own a p at.0 step t undisturbed at.1 marked) (taken_flag a at.0 t at.1)
+
+  -- all that it keeps is marked
+  not_kept : (a p k : ℕ) (step : WalkStep) (t : Taken) → IsUndisturbed s a p step → slice_get (s.taken a) k ≡ Some t → s.mark t.frame ≡ false → k + unkept step < length (s.taken a) → ⊥
+  not_kept a p k step t (write, long, sequence, walks, inside, same) at unmarked kept =
+      let w : Walking = record { proc = p; write = write; long = long; sequence = sequence; step = step } in
+      let marked : s.mark t.frame ≡ true = h.walk_kept a k w t (is_walking a p write long sequence step walks) inside (sym same) at kept in
+      cc
+
+  -- the last one has the entry that was read, which is read-only where the frame isn't marked
+  last_waits : (a p k page : ℕ) (e : Entry) (t : Taken) → IsUndisturbed s a p (rechecked page e) → slice_get (s.taken a) k ≡ Some t → s.mark t.frame ≡ false → k + 1 ≡ length (s.taken a) → (t.frame ≡ e.frame) × (e.writable ≡ false)
+  last_waits a p k page e t (write, long, sequence, walks, inside, same) at unmarked last = (frame, go e.writable refl)
+    where
+      w : Walking
+      w = record { proc = p; write = write; long = long; sequence = sequence; step = rechecked page e }
+
+      here : v.walks a ≡ Some w
+      here = is_walking a p write long sequence (rechecked page e) walks
+
+      frame : t.frame ≡ e.frame
+      frame = h.walk_last a k w t e here refl at last
+
+      go : (b : Bool) → e.writable ≡ b → b ≡ false
+      go false is = refl
+      go true is = absurd (let marked : s.mark t.frame ≡ true = h.walk_writable a k w t e here refl is (sym same) at last in cc)
+
+  waits : (a p k : ℕ) (step : WalkStep) (t : Taken) → IsUndisturbed s a p step → slice_get (s.taken a) k ≡ Some t → s.mark t.frame ≡ false → AwaitsMark step t.frame × (k + 1 ≡ length (s.taken a))
+  waits a p k step t undisturbed at unmarked = go step undisturbed (not_kept a p k step t undisturbed at unmarked)
+    where
+      within : k < length (s.taken a)
+      within = at_within (s.taken a) k t at
+
+      go : (x : WalkStep) → IsUndisturbed s a p x → (k + unkept x < length (s.taken a) → ⊥) → AwaitsMark x t.frame × (k + 1 ≡ length (s.taken a))
+      go (rechecked page e) still past =
+          let last : k + 1 ≡ length (s.taken a) = omega (arith, within, past) in
+          let same = last_waits a p k page e t still at unmarked last in
+          ((sym same.0, same.1), last)
+      go refused still past = (tt, omega (arith, within, past))
+      go entered still past = absurd (past (omega (arith, within)))
+      go ready still past = absurd (past (omega (arith, within)))
+      go (read page e) still past = absurd (past (omega (arith, within)))
+      go (grabbed page e) still past = absurd (past (omega (arith, within)))
+      go (differed f) still past = absurd (past (omega (arith, within)))
+      go stopped still past = absurd (past (omega (arith, within)))
+      go dropping still past = absurd (past (omega (arith, within)))
+      go over still past = absurd (past (omega (arith, within)))
+
+  walked : IsWalked s
+  walked =
+      record {
+        flag = λ a p sequence write long step is.
+            h.walk_flag a (record { proc = p; write = write; long = long; sequence = sequence; step = step }) (is_walking a p write long sequence step is);
+        grab = λ a f is. grabbed_counted v s h a f (sym (walked_is v s h a) ∙ is);
+        marked = taken_pinned;
+        unmarked = waits;
+      }
+
   pub published : Holds s
-  published = record { counts = counts; exclusive = exclusive; parted = parted; stands = stands }
+  published = record { counts = counts v s h; exclusive = exclusive; parted = parted; stands = stands; walked = walked }

@@ -1,14 +1,14 @@
 -- The start is sound: nothing is mapped, and no frame has a reference.
 use Rattle.std.proofs.Common.{◌≡◌, ℕ, Bool, true, false, [], refl, arith}
-use Rattle.std.specs.Prelude.{Some, None, if◌then◌else◌}
+use Rattle.std.specs.Prelude.{Option, Some, None, if◌then◌else◌}
 use Rattle.gup_plain.specs.State.{born, unborn, growing}
 use Rattle.gup_events.specs.State.{start}
-use Rattle.gup_events.specs.Invariant.{Holder, entry_of_page, cleared_by, prepared_by, owed_by, got_as, page_of_pin, page_taken}
-use Rattle.gup_events.specs.Sound.{View, held, Tally, IsSound}
+use Rattle.gup_events.specs.Invariant.{Holder, entry_of_page, cleared_by, prepared_by, owed_by, got_as, page_of_pin, page_taken, grabbed_by}
+use Rattle.gup_events.specs.Sound.{View, held, held_by_walk, Tally, IsSound}
 use Rattle.gup_clauses.specs.Holders.{no_element}
 
 abbrev nothing : View
-nothing = record { whole = λ _ _. None; names = λ _ _. None; marks = λ _. None; moves = λ _. None; forks = λ _. None }
+nothing = record { whole = λ _ _. None; names = λ _ _. None; marks = λ _. None; moves = λ _. None; forks = λ _. None; walks = λ _. None; references = λ _. 0; grabs = λ _. 0 }
 
 none_held : (x : Holder) (f : ℕ) → held (λ _ _. None) (λ _. None) (λ _. None) (λ _. None) (λ _. None) (λ _. []) (λ _. []) x ≡ Some f → ⊥
 unfolding held
@@ -19,9 +19,22 @@ none_held (owed_by a) f is = absurd (cc)
 none_held (got_as k) f is = absurd (cc)
 none_held (page_of_pin h k) f is = absurd (cc)
 none_held (page_taken a k) f is = absurd (cc)
+none_held (grabbed_by a) f is = absurd (cc)
 
-none_counted : Tally (λ _. 0) (held (λ _ _. None) (λ _. None) (λ _. None) (λ _. None) (λ _. None) (λ _. []) (λ _. []))
-none_counted f = ([], tt, (λ x. (λ is. absurd (none_held x f is), λ has. absurd (no_element x has))), refl)
+none_walks : (x : Holder) (f : ℕ) → held_by_walk (λ _. None) x ≡ Some f → ⊥
+unfolding held_by_walk
+none_walks (grabbed_by a) f is = absurd (cc)
+none_walks (entry_of_page p page) f is = absurd (cc)
+none_walks (cleared_by a) f is = absurd (cc)
+none_walks (prepared_by a) f is = absurd (cc)
+none_walks (owed_by a) f is = absurd (cc)
+none_walks (got_as k) f is = absurd (cc)
+none_walks (page_of_pin h k) f is = absurd (cc)
+none_walks (page_taken a k) f is = absurd (cc)
+
+-- nobody holds anything
+none_counted : (holds : Holder → Option ℕ) → ((x : Holder) (f : ℕ) → holds x ≡ Some f → ⊥) → Tally (λ _. 0) holds
+none_counted holds none f = ([], tt, (λ x. (λ is. absurd (none x f is), λ has. absurd (no_element x has))), refl)
 
 -- a process is born or unborn
 not_growing : (b : Bool) (p : ℕ) → (if b then born else unborn) ≡ growing p → ⊥
@@ -32,10 +45,13 @@ pub sound_start : (movable normal : ℕ) (is_born : ℕ → Bool) → IsSound (s
 sound_start movable normal is_born = (
   nothing,
   record {
-    references = none_counted;
+    references = none_counted (held (λ _ _. None) (λ _. None) (λ _. None) (λ _. None) (λ _. None) (λ _. []) (λ _. [])) none_held;
+    grabs = none_counted (held_by_walk (λ _. None)) none_walks;
+    count_is = λ f. refl;
     marks_are = λ a. refl;
     moves_are = λ a. refl;
     forks_are = λ a. refl;
+    walks_are = λ a. refl;
     whole_entry = λ q i d. grind arith;
     whole_moved = λ b m. grind arith;
     whole_free = λ q i d. grind arith;
@@ -55,6 +71,8 @@ sound_start movable normal is_born = (
     fork_parent = λ b fork. grind arith;
     fork_birth = λ b fork. grind arith;
     flag_born = λ q. grind arith;
+    fork_odd = λ b fork. grind arith;
+    quiet_even = λ q free. refl;
     own_alone = λ u i o. grind arith;
     own_made = λ u o. grind arith;
     own_names = λ q i o d. grind arith;
@@ -77,12 +95,28 @@ sound_start movable normal is_born = (
     handle_normal = λ j n u. grind arith;
     taken_marked = λ b n t. grind arith;
     taken_own = λ b n t. grind arith;
+    taken_made = λ b n t. grind arith;
     taken_flag = λ b n t. grind arith;
     taken_names = λ b n q i t. grind arith;
     taken_normal = λ b n t. grind arith;
     taken_write = λ b n t. grind arith;
     taken_long = λ b n t. grind arith;
     taken_apart = λ b n o t y. grind arith;
+    walk_flag = λ b w. grind arith;
+    walk_empty = λ b n w t. grind arith;
+    walk_even = λ b w. grind arith;
+    walk_below = λ b w. grind arith;
+    walk_proc = λ b n w t. grind arith;
+    walk_write = λ b n w t. grind arith;
+    walk_long = λ b n w t. grind arith;
+    walk_untaken = λ b n i w t. grind arith;
+    walk_writes = λ b w d. grind arith;
+    walk_normal = λ b w d. grind arith;
+    walk_own = λ b n o w t. grind arith;
+    walk_unowned = λ b n w t. grind arith;
+    walk_kept = λ b n w t. grind arith;
+    walk_last = λ b n w t d. grind arith;
+    walk_writable = λ b n w t d. grind arith;
     prepared_once = λ b u. grind arith;
     prepared_unmarked = λ b u. grind arith;
     prepared_unowned = λ b u. grind arith;
