@@ -1,0 +1,3 @@
+pub mod Switches
+pub mod Steps
+pub mod Begins
