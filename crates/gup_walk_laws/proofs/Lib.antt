@@ -1,3 +1,5 @@
 pub mod Switches
 pub mod Steps
-pub mod Begins
+pub mod WalkBegins
+pub mod WalkReads
+pub mod WalkRechecks

@@ -60,7 +60,7 @@ module _ (v : View) (s : CoreState) (ts : List Taken) where
     pub settled : is_open o ≡ false → AreSettled
     pub walk : (w : Walking) → o ≡ Some w → IsWalk w
 
-by_number : {P : Type 0} (b a : ℕ) → (b ≡ a → P) → ((b ≡ a → ⊥) → P) → P
+pub by_number : {P : Type 0} (b a : ℕ) → (b ≡ a → P) → ((b ≡ a → ⊥) → P) → P
 by_number {P} b a same apart = go (b == a) refl
   where
     go : (t : Bool) → (b == a) ≡ t → P

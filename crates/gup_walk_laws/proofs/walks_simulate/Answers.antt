@@ -1,5 +1,7 @@
 -- One lemma an event.
-use Rattle.gup_walk_laws.proofs.Begins.{simulates-enter_walk, simulates-read_sequence, simulates-leave_walk}
+use Rattle.gup_walk_laws.proofs.WalkBegins.{simulates-enter_walk, simulates-read_sequence, simulates-leave_walk}
+use Rattle.gup_walk_laws.proofs.WalkReads.{simulates-read_entry, simulates-grab_frame, simulates-miss_frame}
+use Rattle.gup_walk_laws.proofs.WalkRechecks.{simulates-recheck_other, simulates-read_mark}
 use Rattle.gup_walk_laws.proofs.walks_simulate.Goals as goal
 
 pub returns-clause-enter_walk : goal.returns-clause-enter_walk
@@ -7,6 +9,21 @@ returns-clause-enter_walk c = λ a p write long s sound can. simulates-enter_wal
 
 pub returns-clause-read_sequence : goal.returns-clause-read_sequence
 returns-clause-read_sequence c = λ a p write long sequence s sound can. simulates-read_sequence s a p write long sequence sound can
+
+pub returns-clause-read_entry : goal.returns-clause-read_entry
+returns-clause-read_entry c = λ a p write long sequence page was s sound can. simulates-read_entry s a p write long sequence page was sound can
+
+pub returns-clause-grab_frame : goal.returns-clause-grab_frame
+returns-clause-grab_frame c = λ a p write long sequence page entry s sound can. simulates-grab_frame s a p write long sequence page entry sound can
+
+pub returns-clause-miss_frame : goal.returns-clause-miss_frame
+returns-clause-miss_frame c = λ a p write long sequence page entry s sound can. simulates-miss_frame s a p write long sequence page entry sound can
+
+pub returns-clause-recheck_other : goal.returns-clause-recheck_other
+returns-clause-recheck_other c = λ a p write long sequence page entry s sound can. simulates-recheck_other s a p write long sequence page entry sound can
+
+pub returns-clause-read_mark : goal.returns-clause-read_mark
+returns-clause-read_mark c = λ a p write long sequence page entry mark s sound can. simulates-read_mark s a p write long sequence page entry mark sound can
 
 pub returns-clause-leave_walk : goal.returns-clause-leave_walk
 returns-clause-leave_walk c = λ a p write long sequence s sound can. simulates-leave_walk s a p write long sequence sound can
