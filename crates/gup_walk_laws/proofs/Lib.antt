@@ -3,3 +3,5 @@ pub mod Steps
 pub mod WalkBegins
 pub mod WalkReads
 pub mod WalkRechecks
+pub mod WalkTakes
+pub mod WalkEnds

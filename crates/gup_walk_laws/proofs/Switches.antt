@@ -67,10 +67,10 @@ by_number {P} b a same apart = go (b == a) refl
     go true is = same (grind (arith, nat_tests))
     go false other = apart (λ e. let no : ⊥ = grind (arith, nat_tests) in no)
 
-put_here : {X : Type 0} (a : ℕ) (x : X) (f : ℕ → X) → put a x f a ≡ x
+pub put_here : {X : Type 0} (a : ℕ) (x : X) (f : ℕ → X) → put a x f a ≡ x
 put_here a x f = grind (arith, nat_tests)
 
-put_there : {X : Type 0} (a : ℕ) (x : X) (f : ℕ → X) (b : ℕ) → (b ≡ a → ⊥) → put a x f b ≡ f b
+pub put_there : {X : Type 0} (a : ℕ) (x : X) (f : ℕ → X) (b : ℕ) → (b ≡ a → ⊥) → put a x f b ≡ f b
 put_there a x f b apart = grind (arith, nat_tests)
 
 module _ (v : View) (s : CoreState) (h : IsSoundBy v s) where

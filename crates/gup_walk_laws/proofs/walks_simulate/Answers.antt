@@ -1,7 +1,9 @@
 -- One lemma an event.
 use Rattle.gup_walk_laws.proofs.WalkBegins.{simulates-enter_walk, simulates-read_sequence, simulates-leave_walk}
 use Rattle.gup_walk_laws.proofs.WalkReads.{simulates-read_entry, simulates-grab_frame, simulates-miss_frame}
+use Rattle.gup_walk_laws.proofs.WalkTakes.{simulates-recheck_same}
 use Rattle.gup_walk_laws.proofs.WalkRechecks.{simulates-recheck_other, simulates-read_mark}
+use Rattle.gup_walk_laws.proofs.WalkEnds.{simulates-read_again}
 use Rattle.gup_walk_laws.proofs.walks_simulate.Goals as goal
 
 pub returns-clause-enter_walk : goal.returns-clause-enter_walk
@@ -19,11 +21,17 @@ returns-clause-grab_frame c = λ a p write long sequence page entry s sound can.
 pub returns-clause-miss_frame : goal.returns-clause-miss_frame
 returns-clause-miss_frame c = λ a p write long sequence page entry s sound can. simulates-miss_frame s a p write long sequence page entry sound can
 
+pub returns-clause-recheck_same : goal.returns-clause-recheck_same
+returns-clause-recheck_same c = λ a p write long sequence page entry s sound can. simulates-recheck_same s a p write long sequence page entry sound can
+
 pub returns-clause-recheck_other : goal.returns-clause-recheck_other
 returns-clause-recheck_other c = λ a p write long sequence page entry s sound can. simulates-recheck_other s a p write long sequence page entry sound can
 
 pub returns-clause-read_mark : goal.returns-clause-read_mark
 returns-clause-read_mark c = λ a p write long sequence page entry mark s sound can. simulates-read_mark s a p write long sequence page entry mark sound can
+
+pub returns-clause-read_again : goal.returns-clause-read_again
+returns-clause-read_again c = λ a p write long sequence step now s sound can. simulates-read_again s a p write long sequence step now sound can
 
 pub returns-clause-leave_walk : goal.returns-clause-leave_walk
 returns-clause-leave_walk c = λ a p write long sequence s sound can. simulates-leave_walk s a p write long sequence sound can
