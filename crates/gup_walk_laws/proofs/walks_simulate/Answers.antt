@@ -4,6 +4,7 @@ use Rattle.gup_walk_laws.proofs.WalkReads.{simulates-read_entry, simulates-grab_
 use Rattle.gup_walk_laws.proofs.WalkTakes.{simulates-recheck_same}
 use Rattle.gup_walk_laws.proofs.WalkRechecks.{simulates-recheck_other, simulates-read_mark}
 use Rattle.gup_walk_laws.proofs.WalkEnds.{simulates-read_again}
+use Rattle.gup_walk_laws.proofs.WalkDrops.{simulates-drop_grab, simulates-drop_last, simulates-drop_first}
 use Rattle.gup_walk_laws.proofs.walks_simulate.Goals as goal
 
 pub returns-clause-enter_walk : goal.returns-clause-enter_walk
@@ -32,6 +33,15 @@ returns-clause-read_mark c = λ a p write long sequence page entry mark s sound 
 
 pub returns-clause-read_again : goal.returns-clause-read_again
 returns-clause-read_again c = λ a p write long sequence step now s sound can. simulates-read_again s a p write long sequence step now sound can
+
+pub returns-clause-drop_grab : goal.returns-clause-drop_grab
+returns-clause-drop_grab c = λ a p write long sequence f s sound can. simulates-drop_grab s a p write long sequence f sound can
+
+pub returns-clause-drop_last : goal.returns-clause-drop_last
+returns-clause-drop_last c = λ a p write long sequence left last s sound can. simulates-drop_last s a p write long sequence left last sound can
+
+pub returns-clause-drop_first : goal.returns-clause-drop_first
+returns-clause-drop_first c = λ a p write long sequence first left s sound can. simulates-drop_first s a p write long sequence first left sound can
 
 pub returns-clause-leave_walk : goal.returns-clause-leave_walk
 returns-clause-leave_walk c = λ a p write long sequence s sound can. simulates-leave_walk s a p write long sequence sound can
