@@ -1,7 +1,6 @@
 -- A walk's step that takes or drops no page: what is right of the walk behind it.
-use Rattle.std.proofs.Common.{◌≡◌, ℕ, ◌+◌, ◌<◌, ◌≤◌, Bool, true, false, List, [], length, refl, ap, sym, ◌∙◌, subst, arith}
-use Rattle.std.specs.Prelude.{Option, Some, None, slice_get}
-use Rattle.std.proofs.lemmas.Bool.Decides.{nat_tests}
+use Rattle.std.proofs.Common.{◌≡◌, ℕ, ◌+◌, ◌<◌, ◌≤◌, Bool, true, false, List, [], length, refl, ap, sym, ◌∙◌, subst}
+use Rattle.std.specs.Prelude.{Some, None, slice_get}
 use Rattle.gup_base.specs.declared.entry.Entry.{Entry}
 use Rattle.gup_events.specs.State.{CoreState, Taken, Job, idle, walking, WalkStep, entered}
 use Rattle.gup_events.specs.Invariant.{is_inside, step_frame}

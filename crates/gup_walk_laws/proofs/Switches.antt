@@ -5,10 +5,11 @@ use Rattle.std.specs.Prelude.{Option, Some, None, slice_get}
 use Rattle.std.proofs.lemmas.Bool.Decides.{nat_tests}
 use Rattle.gup_base.specs.declared.entry.Entry.{Entry}
 use Rattle.gup_plain.specs.Put.{put}
-use Rattle.gup_events.specs.State.{CoreState, Taken, Job, one, entered}
+use Rattle.gup_events.specs.State.{CoreState, Taken, Job, entered}
 use Rattle.gup_events.specs.Event.{writes_taken, long_taken, is_odd}
 use Rattle.gup_events.specs.Invariant.{is_inside}
-use Rattle.gup_events.specs.Sound.{View, Moving, Forking, Walking, marking_of, moving_of, forking_of, walking_of, keeps_table, keeps_structure, shared_page, is_open, tried_page, tried_entry, rechecked_entry, unkept, held, held_by_walk, Tally, IsSoundBy}
+use Rattle.gup_events.specs.Sound.{View, Forking, Walking, marking_of, moving_of, forking_of, walking_of, keeps_table, keeps_structure, shared_page, is_open, tried_page, tried_entry, rechecked_entry, unkept, IsSoundBy}
+use Rattle.gup_clauses.specs.Tally.{number_here}
 use Rattle.gup_clauses.specs.Clauses.{References, Grabs, CountIs, MarksAre, MovesAre, ForksAre, WalksAre, TableHeld, StructureHeld, TakenMarked, TakenOwn, TakenMade, TakenFlag, TakenNames, TakenNormal, TakenWrite, TakenLong, TakenApart, WalkFlag, WalkEmpty, WalkEven, WalkBelow, WalkProc, WalkWrite, WalkLong, WalkUntaken, WalkWrites, WalkNormal, WalkOwn, WalkUnowned, WalkKept, WalkLast, WalkWritable, PreparedOnce, MovingOnce, ShareTaken}
 
 -- the job of an actor that marks, moves and forks nothing, and so keeps no lock
@@ -67,9 +68,6 @@ by_number {P} b a same apart = go (b == a) refl
     go true is = same (grind (arith, nat_tests))
     go false other = apart (λ e. let no : ⊥ = grind (arith, nat_tests) in no)
 
-pub put_here : {X : Type 0} (a : ℕ) (x : X) (f : ℕ → X) → put a x f a ≡ x
-put_here a x f = grind (arith, nat_tests)
-
 pub put_there : {X : Type 0} (a : ℕ) (x : X) (f : ℕ → X) (b : ℕ) → (b ≡ a → ⊥) → put a x f b ≡ f b
 put_there a x f b apart = grind (arith, nat_tests)
 
@@ -123,8 +121,8 @@ module _ (v : View) (s : CoreState) (h : IsSoundBy v s) where
     actors_are : ((b : ℕ) → (b ≡ a → ⊥) → taken b ≡ s.taken b) → IsActor v s (taken a) (walking_of job) → (b : ℕ) → IsActor v s (taken b) (put a (walking_of job) v.walks b)
     actors_are there new b =
         by_number b a
-          (λ same. subst (λ c. IsActor v s (taken c) (put a (walking_of job) v.walks c)) (sym same) (subst (IsActor v s (taken a)) (sym (put_here a (walking_of job) v.walks)) new))
-          (λ apart. subst (λ ts. IsActor v s ts (put a (walking_of job) v.walks b)) (sym (there b apart)) (subst (IsActor v s (s.taken b)) (sym (put_there a (walking_of job) v.walks b apart)) (actor_is b)))
+        (λ same. subst (λ c. IsActor v s (taken c) (put a (walking_of job) v.walks c)) (sym same) (subst (IsActor v s (taken a)) (sym (number_here a (walking_of job) v.walks)) new))
+        (λ apart. subst (λ ts. IsActor v s ts (put a (walking_of job) v.walks b)) (sym (there b apart)) (subst (IsActor v s (s.taken b)) (sym (put_there a (walking_of job) v.walks b apart)) (actor_is b)))
 
     -- The state is sound behind the change of an actor's job, and of the pages that it has taken.
     pub switches : IsLight (s.job a) → IsLight job → ((b : ℕ) → (b ≡ a → ⊥) → taken b ≡ s.taken b) → References switched_view switched → Grabs switched_view switched → CountIs switched_view switched → PreparedOnce switched_view switched → MovingOnce switched_view switched → IsActor v s (taken a) (walking_of job) → IsSoundBy switched_view switched

@@ -1,5 +1,5 @@
 -- What the plain state says of a page that a walk drops: it was pending, and all others stay so.
-use Rattle.std.proofs.Common.{◌≡◌, ℕ, ◌==◌, Bool, true, false, List, [], ◌∷◌, ◌++◌, map, length, suc, cond, refl, ap, sym, ◌∙◌, arith}
+use Rattle.std.proofs.Common.{◌≡◌, ℕ, ◌==◌, true, false, List, [], ◌∷◌, ◌++◌, map, suc, cond, refl, ap, sym, ◌∙◌, arith}
 use Rattle.std.specs.Prelude.{Some, not, slice_get, Contains}
 use Rattle.std.specs.List.{filter}
 use Rattle.std.proofs.lemmas.Bool.Decides.{nat_tests}

@@ -1,9 +1,8 @@
 -- A walk begins, reads the sequence of its process, and ends.
-use Rattle.std.proofs.Common.{◌≡◌, ℕ, Bool, true, false, List, [], refl, ap, sym, ◌∙◌, subst, arith}
-use Rattle.std.specs.Prelude.{Option, Some, None, slice_get, if◌then◌else◌}
-use Rattle.std.proofs.lemmas.Bool.Decides.{nat_tests}
+use Rattle.std.proofs.Common.{◌≡◌, ℕ, Bool, true, false, [], refl, ap, sym, ◌∙◌, subst, arith}
+use Rattle.std.specs.Prelude.{Some, None, slice_get, if◌then◌else◌}
 use Rattle.gup_plain.specs.Put.{put}
-use Rattle.gup_events.specs.State.{CoreState, Taken, Job, idle, walking, WalkStep, entered, ready, over}
+use Rattle.gup_events.specs.State.{CoreState, Taken, Job, idle, walking, entered, ready, over}
 use Rattle.gup_events.specs.Event.{Can, happens, is_odd, enter_walk, read_sequence, leave_walk}
 use Rattle.gup_events.specs.Sound.{View, Walking, walking_of, walk_frame, is_open, IsSoundBy, IsSound, Simulates}
 use Rattle.gup_walk_laws.proofs.Switches.{IsLight, AreSettled, IsWalk, actor_is, switched, switched_view}
@@ -21,23 +20,23 @@ simulates-enter_walk s a p write long (v, h) c =
     let was : IsLight (s.job a) = subst IsLight (sym idles) idle_light in
     let unseen : walk_frame (v.walks a) ≡ None = ap walk_frame (h.walks_are a ∙ ap walking_of idles) in
     let walk : IsWalk v s (s.taken a) w =
-        record {
-          flag = c.3;
-          empty = λ k t first is. nothing k t is;
-          even = λ inside. absurd (cc);
-          below = λ inside. absurd (cc);
-          proc = λ k t is. absurd (nothing k t is);
-          write = λ k t is. absurd (nothing k t is);
-          long = λ k t is. absurd (nothing k t is);
-          untaken = λ k g t tried. absurd (cc);
-          writes = λ e tried. absurd (cc);
-          normal = λ e tried. absurd (cc);
-          own = λ k o t inside. absurd (cc);
-          unowned = λ k t inside. absurd (cc);
-          kept = λ k t inside. absurd (cc);
-          last = λ k t e last. absurd (cc);
-          writable = λ k t e last. absurd (cc);
-        } in
+    record {
+      flag = c.3;
+      empty = λ k t first is. nothing k t is;
+      even = λ inside. absurd (cc);
+      below = λ inside. absurd (cc);
+      proc = λ k t is. absurd (nothing k t is);
+      write = λ k t is. absurd (nothing k t is);
+      long = λ k t is. absurd (nothing k t is);
+      untaken = λ k g t tried. absurd (cc);
+      writes = λ e tried. absurd (cc);
+      normal = λ e tried. absurd (cc);
+      own = λ k o t inside. absurd (cc);
+      unowned = λ k t inside. absurd (cc);
+      kept = λ k t inside. absurd (cc);
+      last = λ k t e last. absurd (cc);
+      writable = λ k t e last. absurd (cc);
+    } in
     let V : View = switched_view v s h a job s.count v.references v.grabs s.taken in
     let g : IsSoundBy V (switched v s h a job s.count v.references v.grabs s.taken) = changes_job v s h a job was (walking_light p write long 0 entered) unseen (in_walk v s (s.taken a) w (actor_is v s h a).pages (λ closed. absurd (cc)) walk) in
     let sound : IsSoundBy V S = assumption in

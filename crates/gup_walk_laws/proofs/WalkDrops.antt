@@ -1,18 +1,17 @@
 -- A walk drops what it has to: a frame whose entry was another, the last page that it has taken, the first of all.
-use Rattle.std.proofs.Common.{◌≡◌, ℕ, ◌+◌, ◌-◌, ◌<◌, ◌≤◌, ◌==◌, Bool, true, false, List, [], ◌∷◌, ◌++◌, map, length, suc, refl, ap, sym, ◌∙◌, subst, arith}
-use Rattle.std.specs.Prelude.{Some, None, slice_get, if◌then◌else◌}
+use Rattle.std.proofs.Common.{◌≡◌, ℕ, ◌+◌, ◌-◌, ◌<◌, ◌≤◌, ◌==◌, Bool, true, false, List, [], ◌∷◌, ◌++◌, length, suc, refl, ap, sym, ◌∙◌, subst, arith}
+use Rattle.std.specs.Prelude.{Some, None, slice_get}
 use Rattle.std.proofs.lemmas.Bool.Decides.{nat_tests}
 use Rattle.gup_plain.specs.Put.{put}
-use Rattle.gup_plain.specs.State.{Pending}
-use Rattle.gup_events.specs.State.{CoreState, Taken, Job, walking, WalkStep, entered, differed, refused, stopped, dropping, over, plain_of}
-use Rattle.gup_events.specs.Event.{Can, happens, bias, writes_taken, long_taken, step_left, drop_grab, drop_last, drop_first}
+use Rattle.gup_events.specs.State.{CoreState, Taken, Job, walking, WalkStep, entered, differed, refused, stopped, dropping, over}
+use Rattle.gup_events.specs.Event.{Can, happens, bias, writes_taken, long_taken, step_left, without_references, drop_grab, drop_last, drop_first}
 use Rattle.gup_events.specs.Invariant.{is_inside, step_frame}
-use Rattle.gup_events.specs.Sound.{View, Walking, walk_frame, is_open, tried_page, tried_entry, rechecked_entry, unkept, IsSoundBy, IsSound, Simulates}
+use Rattle.gup_events.specs.Sound.{View, Walking, walk_frame, is_open, tried_page, tried_entry, rechecked_entry, unkept, held, Tally, IsSoundBy, IsSound, Simulates}
 use Rattle.gup_clauses.specs.Clauses.{References, Grabs, CountIs, PreparedOnce, MovingOnce}
 use Rattle.gup_clauses.specs.Rows.{at_end, at_longer, at_within}
-use Rattle.gup_clauses.specs.Tally.{tally_is, tally_step, tally_drop}
+use Rattle.gup_clauses.specs.Tally.{changed, tally_is, tally_step, tally_drop, number_here}
 use Rattle.gup_clauses.specs.Lonely.{taken_counts, taken_alone, grab_counts, grab_alone}
-use Rattle.gup_walk_laws.proofs.Switches.{ArePages, AreSettled, IsWalk, IsActor, actor_is, switched, switched_view, switches, put_here, put_there}
+use Rattle.gup_walk_laws.proofs.Switches.{ArePages, AreSettled, IsWalk, IsActor, actor_is, switched, switched_view, switches, put_there}
 use Rattle.gup_walk_laws.proofs.Steps.{walking_light, walk_of, in_walk, rests, walk_seen, walk_known, walk_light}
 use Rattle.gup_walk_laws.proofs.TallyTaken.{tally_last, tally_first}
 use Rattle.gup_walk_laws.proofs.Freed.{freed}
@@ -83,12 +82,18 @@ module _ (v : View) (s : CoreState) (ts left : List Taken) (index : ℕ → ℕ)
         }
 
 -- A page is given back: its frame may be nobody's then.
-module _ (v : View) (s : CoreState) (h : IsSoundBy v s) (a p : ℕ) (write long : Bool) (sequence : ℕ) (from to : WalkStep) (t : Taken) (at : ℕ) (left : List Taken) where
-  drops_page : s.job a ≡ walking p write long sequence from → slice_get (s.taken a) at ≡ Some t → step_frame from ≡ step_frame to → (let less : ℕ → ℕ = put t.frame (v.references t.frame - bias) v.references in References (switched_view v s h a (walking p write long sequence to) (put t.frame (s.count t.frame - bias) s.count) less v.grabs (put a left s.taken)) (switched v s h a (walking p write long sequence to) (put t.frame (s.count t.frame - bias) s.count) less v.grabs (put a left s.taken))) → ArePages v s left → (is_open (Some (walk_of p write long sequence to)) ≡ false → AreSettled v s left) → IsWalk v s left (walk_of p write long sequence to) → IsSound (record s { count = put t.frame (s.count t.frame - bias) s.count; mark = put t.frame (if s.count t.frame == bias then false else s.mark t.frame) s.mark; own = put t.frame (if s.count t.frame == bias then None else s.own t.frame) s.own; job = put a (walking p write long sequence to) s.job; taken = put a left s.taken })
-  drops_page c is same references pages settled walk =
+module _ (v : View) (s : CoreState) (h : IsSoundBy v s) (a p : ℕ) (write long : Bool) (sequence : ℕ) where
+  abbrev without_page : (to : WalkStep) (t : Taken) (left : List Taken) → CoreState
+  without_page to t left =
+      record (without_references t.frame bias s) {
+        job = put a (walking p write long sequence to) s.job;
+        taken = put a left s.taken;
+      }
+
+  drops_page : (from to : WalkStep) (t : Taken) (at : ℕ) (left : List Taken) → s.job a ≡ walking p write long sequence from → slice_get (s.taken a) at ≡ Some t → step_frame from ≡ step_frame to → Tally (changed (Some t.frame) None bias v.references) (held s.entry v.moves s.prepared s.owed s.got s.pinned (put a left s.taken)) → ArePages v s left → (is_open (Some (walk_of p write long sequence to)) ≡ false → AreSettled v s left) → IsWalk v s left (walk_of p write long sequence to) → IsSound (without_page to t left)
+  drops_page from to t at left c is same tally pages settled walk =
       let f : ℕ = t.frame in
       let job : Job = walking p write long sequence to in
-      let old : Walking = walk_of p write long sequence from in
       let new : Walking = walk_of p write long sequence to in
       let count : ℕ → ℕ = put f (s.count f - bias) s.count in
       let less : ℕ → ℕ = put f (v.references f - bias) v.references in
@@ -96,11 +101,12 @@ module _ (v : View) (s : CoreState) (h : IsSoundBy v s) (a p : ℕ) (write long 
       let S : CoreState = switched v s h a job count less v.grabs taken in
       let V : View = switched_view v s h a job count less v.grabs taken in
       let weighs : bias ≤ v.references f = taken_counts v s h a at t is in
+      let references : References V S = tally_is _ _ _ tally (λ d. grind (arith, nat_tests)) in
       let grabs : Grabs V S = tally_step v.grabs v.walks a (Some new) (ap walk_frame (walk_seen v s h a p write long sequence from c) ∙ same) h.grabs in
       let count_is : CountIs V S = λ u. grind (arith, nat_tests, h.count_is u) in
       let prepared_once : PreparedOnce V S = λ b u. grind (arith, nat_tests, h.prepared_once b u) in
       let moving_once : MovingOnce V S = λ b m. grind (arith, nat_tests, h.moving_once b m) in
-      let actor : IsActor v s (taken a) (Some new) = subst (λ xs. IsActor v s xs (Some new)) (sym (put_here a left s.taken)) (in_walk v s left new pages settled walk) in
+      let actor : IsActor v s (taken a) (Some new) = subst (λ xs. IsActor v s xs (Some new)) (sym (number_here a left s.taken)) (in_walk v s left new pages settled walk) in
       let dropped : IsSoundBy V S = switches v s h a job count less v.grabs taken (walk_light v s h a p write long sequence from c) (walking_light p write long sequence to) (λ b apart. put_there a left s.taken b apart) references grabs count_is prepared_once moving_once actor in
       let none : (s.count f == bias) ≡ true → less f ≡ 0 = λ free. grind (arith, nat_tests, taken_alone v s h a at t is) in
       (V, freed V S dropped f (s.count f == bias) none)
@@ -117,7 +123,7 @@ simulates-drop_last s a p write long sequence left last (v, h) c =
     let pages : ArePages v s left = pages_less v s ts left (λ k. k) stood (actor_is v s h a).pages (λ j k same. same) in
     let walk : IsWalk v s left (walk_of p write long sequence stopped) = walk_less v s ts left (λ k. k) stood old was stopped (λ e. absurd (cc)) (λ inside. refl) refl refl refl (λ k t inside now there within. was.kept k t refl now (stood k t there) (omega (arith, within, at_within ts (length left) last is))) in
     let apart = λ (k : ℕ) (t : Taken) (there : slice_get left k ≡ Some t) (same : t.page ≡ last.page). let no : ⊥ = omega (arith, at_within left k t there, h.taken_apart a k (length left) t last (stood k t there) is same) in no in
-    record { sound = drops_page v s h a p write long sequence refused stopped last (length left) left c.0 is refl (tally_is _ _ _ (tally_last _ _ _ _ _ _ _ _ a left last had h.references) (λ d. grind (arith, nat_tests))) pages (λ closed. absurd (cc)) walk; can = told_contains ts (length left) last is; same = told_less s a left last.page (told_last left last ts had apart) }
+    record { sound = drops_page v s h a p write long sequence refused stopped last (length left) left c.0 is refl (tally_last _ _ _ _ _ _ _ _ a left last had h.references) pages (λ closed. absurd (cc)) walk; can = told_contains ts (length left) last is; same = told_less s a left last.page (told_last left last ts had apart) }
 
 -- the walk is disturbed, and nothing is known of what it has taken
 pub simulates-drop_first : (s : CoreState) (a p : ℕ) (write long : Bool) (sequence : ℕ) (first : Taken) (left : List Taken) → IsSound s → Can s (drop_first a p write long sequence first left) → Simulates s (drop_first a p write long sequence first left)
@@ -145,8 +151,8 @@ simulates-drop_first s a p write long sequence first left (v, h) c =
     nothing : AreSettled v s []
     nothing = record { marked = λ k t is. absurd (cc); own = λ k t is. absurd (cc); share = λ b g j fork e t forks shared there is. absurd (cc) }
 
-    by_left : (us : List Taken) → s.taken a ≡ first ∷ us → IsSound (record s { count = put first.frame (s.count first.frame - bias) s.count; mark = put first.frame (if s.count first.frame == bias then false else s.mark first.frame) s.mark; own = put first.frame (if s.count first.frame == bias then None else s.own first.frame) s.own; job = put a (walking p write long sequence (step_left us)) s.job; taken = put a us s.taken })
+    by_left : (us : List Taken) → s.taken a ≡ first ∷ us → IsSound (without_page v s h a p write long sequence (step_left us) first us)
     by_left [] all =
-        drops_page v s h a p write long sequence dropping over first 0 [] c.0 is refl (tally_is _ _ _ (tally_first _ _ _ _ _ _ _ _ a first [] all h.references) (λ d. grind (arith, nat_tests))) (pages [] all) (λ closed. nothing) (walk_less v s (s.taken a) [] suc (stood [] all) (walk_of p write long sequence dropping) was over (λ e. absurd (cc)) (λ inside. absurd (cc)) refl refl refl (λ k t inside. absurd (cc)))
+        drops_page v s h a p write long sequence dropping over first 0 [] c.0 is refl (tally_first _ _ _ _ _ _ _ _ a first [] all h.references) (pages [] all) (λ closed. nothing) (walk_less v s (s.taken a) [] suc (stood [] all) (walk_of p write long sequence dropping) was over (λ e. absurd (cc)) (λ inside. absurd (cc)) refl refl refl (λ k t inside. absurd (cc)))
     by_left (u ∷ us) all =
-        drops_page v s h a p write long sequence dropping dropping first 0 (u ∷ us) c.0 is refl (tally_is _ _ _ (tally_first _ _ _ _ _ _ _ _ a first (u ∷ us) all h.references) (λ d. grind (arith, nat_tests))) (pages (u ∷ us) all) (λ closed. absurd (cc)) (walk_less v s (s.taken a) (u ∷ us) suc (stood (u ∷ us) all) (walk_of p write long sequence dropping) was dropping (λ e. absurd (cc)) (λ inside. absurd (cc)) refl refl refl (λ k t inside. absurd (cc)))
+        drops_page v s h a p write long sequence dropping dropping first 0 (u ∷ us) c.0 is refl (tally_first _ _ _ _ _ _ _ _ a first (u ∷ us) all h.references) (pages (u ∷ us) all) (λ closed. absurd (cc)) (walk_less v s (s.taken a) (u ∷ us) suc (stood (u ∷ us) all) (walk_of p write long sequence dropping) was dropping (λ e. absurd (cc)) (λ inside. absurd (cc)) refl refl refl (λ k t inside. absurd (cc)))

@@ -1,16 +1,16 @@
 -- A walk reads the sequence again: where it has changed, what was taken is dropped; where it hasn't, it is settled.
-use Rattle.std.proofs.Common.{◌≡◌, ℕ, ◌+◌, ◌==◌, Bool, true, false, List, [], ◌∷◌, length, refl, ap, sym, ◌∙◌, arith}
+use Rattle.std.proofs.Common.{◌≡◌, ℕ, ◌==◌, Bool, true, false, List, [], ◌∷◌, refl, ap, sym, ◌∙◌, arith}
 use Rattle.std.specs.Prelude.{Option, Some, None, slice_get, if◌then◌else◌, not}
 use Rattle.std.proofs.lemmas.Bool.Decides.{nat_tests}
 use Rattle.gup_base.specs.declared.entry.Entry.{Entry}
 use Rattle.gup_plain.specs.Put.{put}
 use Rattle.gup_events.specs.State.{CoreState, Taken, walking, ForkStep, between, counted, lowered, cleared, copying, failing, WalkStep, entered, ready, read, grabbed, rechecked, differed, refused, stopped, dropping, over}
-use Rattle.gup_events.specs.Event.{Can, happens, MayRest, is_odd, step_left, read_again}
+use Rattle.gup_events.specs.Event.{Can, MayRest, is_odd, step_left, read_again}
 use Rattle.gup_events.specs.Invariant.{is_inside, step_frame}
 use Rattle.gup_events.specs.Sound.{View, Forking, Walking, shared_page, is_failing, unkept, IsSoundBy, IsSound, Simulates}
 use Rattle.gup_clauses.specs.Rows.{at_within}
 use Rattle.gup_clauses.specs.Steps.{even_apart}
-use Rattle.gup_walk_laws.proofs.Switches.{AreSettled, IsWalk, actor_is}
+use Rattle.gup_walk_laws.proofs.Switches.{AreSettled, IsWalk}
 use Rattle.gup_walk_laws.proofs.Steps.{walk_of, none_taken, outside, walk_known, next_step}
 
 -- a fork that shares a page isn't failing
@@ -64,9 +64,6 @@ pub simulates-read_again : (s : CoreState) (a p : ℕ) (write long : Bool) (sequ
 simulates-read_again s a p write long sequence step now (v, h) c =
     record { sound = by_sequence (now == sequence) refl; can = tt; same = refl }
   where
-    old : Walking
-    old = walk_of p write long sequence step
-
     was : IsWalk v s (s.taken a) (walk_of p write long sequence step)
     was = walk_known v s h a p write long sequence step c.0
 

@@ -1,11 +1,11 @@
 -- A walk reads a page's entry, and grabs its frame or misses it.
-use Rattle.std.proofs.Common.{◌≡◌, ℕ, ◌+◌, ◌<◌, ◌≤◌, Bool, true, false, List, length, refl, ap, sym, ◌∙◌, arith}
-use Rattle.std.specs.Prelude.{Option, Some, None, slice_get, if◌then◌else◌, ◌&&◌, ◌||◌, not, nat_lt}
+use Rattle.std.proofs.Common.{◌≡◌, ℕ, ◌+◌, ◌≤◌, Bool, true, false, refl, ap, arith}
+use Rattle.std.specs.Prelude.{Option, Some, None, if◌then◌else◌, ◌&&◌, ◌||◌, not, nat_lt}
 use Rattle.std.proofs.lemmas.Bool.Decides.{nat_tests}
 use Rattle.gup_base.specs.declared.entry.Entry.{Entry}
 use Rattle.gup_plain.specs.Put.{put}
-use Rattle.gup_events.specs.State.{CoreState, Taken, Job, walking, WalkStep, ready, read, grabbed, stopped}
-use Rattle.gup_events.specs.Event.{Can, happens, bias, IsUntaken, is_wrong, step_read, read_entry, grab_frame, miss_frame}
+use Rattle.gup_events.specs.State.{CoreState, Taken, Job, walking, ready, read, grabbed, stopped}
+use Rattle.gup_events.specs.Event.{Can, bias, is_wrong, step_read, read_entry, grab_frame, miss_frame}
 use Rattle.gup_events.specs.Sound.{View, Walking, walk_frame, IsSoundBy, IsSound, Simulates}
 use Rattle.gup_clauses.specs.Clauses.{Grabs, CountIs}
 use Rattle.gup_clauses.specs.Tally.{tally_grab}
@@ -28,9 +28,6 @@ right_normal false false f m right needs = absurd (cc)
 pub simulates-read_entry : (s : CoreState) (a p : ℕ) (write long : Bool) (sequence page : ℕ) (was : Option Entry) → IsSound s → Can s (read_entry a p write long sequence page was) → Simulates s (read_entry a p write long sequence page was)
 simulates-read_entry s a p write long sequence page was (v, h) c = record { sound = go was; can = tt; same = refl }
   where
-    behind : WalkStep → CoreState
-    behind step = record s { job = put a (walking p write long sequence step) s.job }
-
     walk : IsWalk v s (s.taken a) (walk_of p write long sequence ready)
     walk = walk_known v s h a p write long sequence ready c.0
 

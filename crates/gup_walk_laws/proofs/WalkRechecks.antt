@@ -1,13 +1,12 @@
 -- A walk reads the entry again, of which it has grabbed the frame: it is another. Or it was the same, and the walk reads
 -- the mark of the frame that it has taken.
-use Rattle.std.proofs.Common.{◌≡◌, ℕ, ◌+◌, ◌<◌, Bool, true, false, List, length, refl, ap, sym, ◌∙◌, arith}
+use Rattle.std.proofs.Common.{◌≡◌, ℕ, ◌+◌, ◌<◌, Bool, true, false, length, refl, ap, sym, ◌∙◌, arith}
 use Rattle.std.specs.Prelude.{Some, slice_get, if◌then◌else◌, ◌||◌}
-use Rattle.std.proofs.lemmas.Bool.Decides.{nat_tests}
 use Rattle.gup_base.specs.declared.entry.Entry.{Entry}
 use Rattle.gup_plain.specs.Put.{put}
-use Rattle.gup_events.specs.State.{CoreState, Taken, walking, WalkStep, ready, grabbed, rechecked, differed, refused}
-use Rattle.gup_events.specs.Event.{Can, happens, recheck_other, read_mark}
-use Rattle.gup_events.specs.Sound.{Walking, IsSoundBy, IsSound, Simulates}
+use Rattle.gup_events.specs.State.{CoreState, Taken, walking, ready, grabbed, rechecked, differed, refused}
+use Rattle.gup_events.specs.Event.{Can, recheck_other, read_mark}
+use Rattle.gup_events.specs.Sound.{Walking, IsSound, Simulates}
 use Rattle.gup_walk_laws.proofs.Switches.{IsWalk, by_number}
 use Rattle.gup_walk_laws.proofs.Steps.{walk_of, rests, walk_known, next_step}
 

@@ -1,19 +1,19 @@
 -- A walk reads the same entry again, and takes the page: its grab becomes a page taken.
-use Rattle.std.proofs.Common.{◌≡◌, ℕ, ◌+◌, ◌-◌, ◌<◌, ◌≤◌, ◌⊎◌, inl, inr, Bool, true, false, List, [], ◌∷◌, ◌++◌, length, refl, ap, sym, ◌∙◌, subst, arith}
+use Rattle.std.proofs.Common.{◌≡◌, ℕ, ◌+◌, ◌-◌, ◌<◌, ◌≤◌, inl, inr, Bool, true, false, List, [], ◌∷◌, ◌++◌, length, refl, ap, sym, ◌∙◌, subst, arith}
 use Rattle.std.specs.Prelude.{Some, None, slice_get}
 use Rattle.std.proofs.lemmas.Bool.Decides.{nat_tests}
 use Rattle.gup_base.specs.declared.entry.Entry.{Entry}
 use Rattle.gup_plain.specs.Put.{put}
 use Rattle.gup_plain.specs.State.{Pending, born}
 use Rattle.gup_events.specs.State.{CoreState, Taken, Job, walking, grabbed, rechecked, plain_of}
-use Rattle.gup_events.specs.Event.{Can, happens, bias, IsUntaken, AreAlike, writes_taken, long_taken, recheck_same}
+use Rattle.gup_events.specs.Event.{Can, bias, IsUntaken, AreAlike, writes_taken, long_taken, recheck_same}
 use Rattle.gup_events.specs.Sound.{View, Walking, walk_frame, IsSoundBy, IsSound, Simulates}
 use Rattle.gup_clauses.specs.Clauses.{References, Grabs, CountIs, PreparedOnce, MovingOnce}
 use Rattle.gup_clauses.specs.Rows.{at_either, at_within, all_from}
-use Rattle.gup_clauses.specs.Tally.{tally_is, tally_taken, tally_drop}
+use Rattle.gup_clauses.specs.Tally.{tally_is, tally_taken, tally_drop, number_here}
 use Rattle.gup_clauses.specs.Lonely.{once_wholes, prepared_whole, born_mapped, grab_counts}
 use Rattle.gup_clauses.specs.PinLists.{all_alike, all_untaken, write_more, long_more, untold, told_more, allows}
-use Rattle.gup_walk_laws.proofs.Switches.{ArePages, IsWalk, IsActor, actor_is, switched, switched_view, switches, put_here, put_there}
+use Rattle.gup_walk_laws.proofs.Switches.{ArePages, IsWalk, IsActor, actor_is, switched, switched_view, switches, put_there}
 use Rattle.gup_walk_laws.proofs.Steps.{walking_light, walk_of, in_walk, walk_seen, walk_known, walk_light}
 
 longer_by_one : (ts : List Taken) (t : Taken) → length (ts ++ t ∷ []) ≡ length ts + 1
@@ -79,23 +79,23 @@ simulates-recheck_same s a p write long sequence page e (v, h) c =
     let own_new = λ (o : ℕ) (is : s.own e.frame ≡ Some o). let owned : v.names p page ≡ Some o = h.own_names p page o e there is in let r : o ≡ s.object p page = cc in r in
     let unowned_new : s.own e.frame ≡ None → s.mark e.frame ≡ false = grind (arith, nat_tests, h.marked_own p page e, named) in
     let walk : IsWalk v s us now =
-        record {
-          flag = was.flag;
-          empty = λ k t first. absurd (cc);
-          even = λ inside. was.even refl;
-          below = λ inside. was.below refl;
-          proc = each_more (λ k t. t.proc ≡ p) ts new was.proc refl;
-          write = each_more (λ k t. t.write ≡ write) ts new was.write refl;
-          long = each_more (λ k t. t.long ≡ long) ts new was.long refl;
-          untaken = λ k g t tried. absurd (cc);
-          writes = λ d tried. absurd (cc);
-          normal = λ d tried. absurd (cc);
-          own = λ k o t inside same. each_more (λ k t. s.own t.frame ≡ Some o → o ≡ t.object) ts new (λ k t at. was.own k o t refl same at) (own_new o) k t;
-          unowned = λ k t inside same. each_more (λ k t. s.own t.frame ≡ None → s.mark t.frame ≡ false) ts new (λ k t at. was.unowned k t refl same at) unowned_new k t;
-          kept = λ k t inside same. each_more (λ k t. k + 1 < length us → s.mark t.frame ≡ true) ts new (λ k t at within. was.kept k t refl same at (omega (arith, at_within ts k t at))) (λ within. absurd (omega (arith, longer, within))) k t;
-          last = λ k t d checked. each_more (λ k t. k + 1 ≡ length us → t.frame ≡ d.frame) ts new (λ k t at end. absurd (omega (arith, longer, end, at_within ts k t at))) (λ end. let same : e ≡ d = cc in ap (λ (x : Entry). x.frame) same) k t;
-          writable = λ k t d checked writable same. each_more (λ k t. k + 1 ≡ length us → s.mark t.frame ≡ true) ts new (λ k t at end. absurd (omega (arith, longer, end, at_within ts k t at))) (λ end. h.entry_marked p page e there (let is : e ≡ d = cc in ap (λ (x : Entry). x.writable) is ∙ writable)) k t;
-        } in
-    let actor : IsActor v s (taken a) (Some now) = subst (λ xs. IsActor v s xs (Some now)) (sym (put_here a us s.taken)) (in_walk v s us now pages (λ closed. absurd (cc)) walk) in
+    record {
+      flag = was.flag;
+      empty = λ k t first. absurd (cc);
+      even = λ inside. was.even refl;
+      below = λ inside. was.below refl;
+      proc = each_more (λ k t. t.proc ≡ p) ts new was.proc refl;
+      write = each_more (λ k t. t.write ≡ write) ts new was.write refl;
+      long = each_more (λ k t. t.long ≡ long) ts new was.long refl;
+      untaken = λ k g t tried. absurd (cc);
+      writes = λ d tried. absurd (cc);
+      normal = λ d tried. absurd (cc);
+      own = λ k o t inside same. each_more (λ k t. s.own t.frame ≡ Some o → o ≡ t.object) ts new (λ k t at. was.own k o t refl same at) (own_new o) k t;
+      unowned = λ k t inside same. each_more (λ k t. s.own t.frame ≡ None → s.mark t.frame ≡ false) ts new (λ k t at. was.unowned k t refl same at) unowned_new k t;
+      kept = λ k t inside same. each_more (λ k t. k + 1 < length us → s.mark t.frame ≡ true) ts new (λ k t at within. was.kept k t refl same at (omega (arith, at_within ts k t at))) (λ within. absurd (omega (arith, longer, within))) k t;
+      last = λ k t d checked. each_more (λ k t. k + 1 ≡ length us → t.frame ≡ d.frame) ts new (λ k t at end. absurd (omega (arith, longer, end, at_within ts k t at))) (λ end. let same : e ≡ d = cc in ap (λ (x : Entry). x.frame) same) k t;
+      writable = λ k t d checked writable same. each_more (λ k t. k + 1 ≡ length us → s.mark t.frame ≡ true) ts new (λ k t at end. absurd (omega (arith, longer, end, at_within ts k t at))) (λ end. h.entry_marked p page e there (let is : e ≡ d = cc in ap (λ (x : Entry). x.writable) is ∙ writable)) k t;
+    } in
+    let actor : IsActor v s (taken a) (Some now) = subst (λ xs. IsActor v s xs (Some now)) (sym (number_here a us s.taken)) (in_walk v s us now pages (λ closed. absurd (cc)) walk) in
     let sound : IsSoundBy V S = switches v s h a job s.count more fewer taken (walk_light v s h a p write long sequence (grabbed page e) c.0) (walking_light p write long sequence (rechecked page e)) (λ b apart. put_there a us s.taken b apart) references grabs count_is prepared_once moving_once actor in
     record { sound = (V, sound); can = (is_born, allows v s h p page e write is_born there (was.writes e refl), untold ts page untaken); same = ap (λ (x : ℕ → List Pending). record (plain_of s) { pending = x }) (told_more s a p page new (born_mapped v s h p page e is_born there)) }
