@@ -1,5 +1,10 @@
 -- One lemma an event.
-use Rattle.gup_walk_laws.proofs.Walks.{simulates-enter_walk, simulates-read_sequence, simulates-read_entry, simulates-grab_frame, simulates-miss_frame, simulates-recheck_same, simulates-recheck_other, simulates-read_mark, simulates-read_again, simulates-drop_grab, simulates-drop_last, simulates-drop_first, simulates-leave_walk}
+use Rattle.gup_walk_laws.proofs.WalkBegins.{simulates-enter_walk, simulates-read_sequence, simulates-leave_walk}
+use Rattle.gup_walk_laws.proofs.WalkReads.{simulates-read_entry, simulates-grab_frame, simulates-miss_frame}
+use Rattle.gup_walk_laws.proofs.WalkTakes.{simulates-recheck_same}
+use Rattle.gup_walk_laws.proofs.WalkRechecks.{simulates-recheck_other, simulates-read_mark}
+use Rattle.gup_walk_laws.proofs.WalkEnds.{simulates-read_again}
+use Rattle.gup_walk_laws.proofs.WalkDrops.{simulates-drop_grab, simulates-drop_last, simulates-drop_first}
 use Rattle.gup_walk_laws.proofs.walks_simulate.Goals as goal
 
 pub returns-clause-enter_walk : goal.returns-clause-enter_walk
