@@ -1,16 +1,19 @@
 -- A fork shares a page: its entry becomes read-only, and its frame is exclusive no more.
-use Rattle.std.proofs.Common.{◌≡◌, ℕ, Bool, false, List, refl, ap, ◌∙◌, arith}
-use Rattle.std.specs.Prelude.{Some, None}
+use Rattle.std.proofs.Common.{◌≡◌, ℕ, Bool, true, false, List, refl, ap, sym, ◌∙◌, subst, arith}
+use Rattle.std.specs.Prelude.{Some, None, slice_get, not}
 use Rattle.std.proofs.lemmas.Bool.Decides.{nat_tests}
 use Rattle.gup_base.specs.declared.entry.Entry.{Entry}
 use Rattle.gup_plain.specs.Put.{put, put2}
 use Rattle.gup_plain.specs.State.{born}
-use Rattle.gup_events.specs.State.{CoreState, counted, lowered, cleared}
-use Rattle.gup_events.specs.Event.{Can, happens, entry_of, share_entry, share_mark}
-use Rattle.gup_events.specs.Sound.{View, Forking, marking_of, moving_of, IsSoundBy, IsSound, Simulates, IsUncopiedBy}
-use Rattle.gup_clauses.specs.Clauses.{References, MarksAre, MovesAre, ForksAre, WholeEntry, WholeMoved, WholeFree, WholeKept, WholeOther, MovedGone, WholeNames, ForksTable, ForksStructure, TableHeld, StructureHeld, ForkParent, ForkBirth, GrowingForked, OwnAlone, OwnMade, OwnNames, OwnEntry, OwnWords, OwnMarked, OwnMarking, MarkedOwn, EntryMapped, EntryMarked, EntryAllowed, EntryWords, Untouched, HandleMarked, HandleOwn, HandleFlag, TakenMarked, TakenOwn, PreparedUnmarked, PreparedUnowned, PreparedZero, MarkingEntry, MarkingOwn, ForkFresh, ForkCopied, ForkUncopied, ForkUndone, ForkMapped, CopyWords, ShareHandle, ShareTaken, ShareLowered, ShareUnowned, MirrorEntry}
+use Rattle.gup_events.specs.State.{CoreState, Taken, counted, lowered, cleared}
+use Rattle.gup_events.specs.Event.{Can, happens, entry_of, is_odd, share_entry, share_mark}
+use Rattle.gup_events.specs.Invariant.{is_inside}
+use Rattle.gup_events.specs.Sound.{View, Forking, Walking, is_failing, marking_of, moving_of, IsSoundBy, IsSound, Simulates, IsUncopiedBy}
+use Rattle.gup_clauses.specs.Clauses.{References, MarksAre, MovesAre, ForksAre, WholeEntry, WholeMoved, WholeFree, WholeKept, WholeOther, MovedGone, WholeNames, ForksTable, ForksStructure, TableHeld, StructureHeld, ForkParent, ForkBirth, GrowingForked, OwnAlone, OwnMade, OwnNames, OwnEntry, OwnWords, OwnMarked, OwnMarking, MarkedOwn, EntryMapped, EntryMarked, EntryAllowed, EntryWords, Untouched, HandleMarked, HandleOwn, HandleFlag, TakenMarked, TakenOwn, PreparedUnmarked, PreparedUnowned, PreparedZero, MarkingEntry, MarkingOwn, ForkFresh, ForkCopied, ForkUncopied, ForkUndone, ForkMapped, CopyWords, ShareHandle, ShareTaken, ShareLowered, ShareUnowned, MirrorEntry, WalksAre, ForkOdd, WalkOwn, WalkUnowned, WalkKept, WalkWritable}
+use Rattle.gup_clauses.specs.Done.{fork_after}
+use Rattle.gup_fork_laws.proofs.Disturbed.{rechecked_inside}
 use Rattle.gup_clauses.specs.Tally.{tally_is, tally_entry}
-use Rattle.gup_clauses.specs.Steps.{shared_is_step, lowered_is_shared}
+use Rattle.gup_clauses.specs.Steps.{shared_is_step, lowered_is_shared, even_apart}
 use Rattle.gup_clauses.specs.Children.{uncopied_before, fork_here, no_child}
 
 -- the parent's entry keeps its frame
@@ -19,6 +22,7 @@ simulates-share_entry s a p c done page f writable (v, h) can =
     let S : CoreState = happens s (share_entry a p c done page f writable) in
     let V : View = record v { whole = put2 p page (Some (entry_of f false)) v.whole; forks = put a (Some (record { proc = p; child = c; done = done; step = lowered page })) v.forks } in
     let before : Forking = record { proc = p; child = c; done = done; step = counted page } in
+    let next : Forking = record { proc = p; child = c; done = done; step = lowered page } in
     let mine : v.forks a ≡ Some before = fork_here v s a p c done (counted page) h can.0 in
     let lives : s.birth p ≡ born = h.fork_parent a before mine in
     let still : v.moves a ≡ None = h.moves_are a ∙ ap moving_of can.0 in
@@ -30,6 +34,7 @@ simulates-share_entry s a p c done page f writable (v, h) can =
     let marks_are : MarksAre V S = λ b. grind (arith, nat_tests, h.marks_are b) in
     let moves_are : MovesAre V S = λ b. grind (arith, nat_tests, h.moves_are b) in
     let forks_are : ForksAre V S = λ b. grind (arith, nat_tests, h.forks_are b) in
+    let walks_are : WalksAre V S = λ b. grind (arith, nat_tests, h.walks_are b) in
     let whole_entry : WholeEntry V S = λ q i d. grind (arith, nat_tests, h.whole_entry q i d) in
     let whole_moved : WholeMoved V S = λ b m. grind (arith, nat_tests, h.whole_moved b m, h.moves_table b m) in
     let whole_free : WholeFree V S = λ q i d. grind (arith, nat_tests, h.whole_free q i d) in
@@ -44,6 +49,7 @@ simulates-share_entry s a p c done page f writable (v, h) can =
     let fork_parent : ForkParent V S = λ b fork. grind (arith, nat_tests, h.fork_parent b fork, h.fork_parent a before) in
     let fork_birth : ForkBirth V S = λ b fork. grind (arith, nat_tests, h.fork_birth b fork, h.fork_birth a before) in
     let growing_forked : GrowingForked V S = λ x q b. grind (arith, nat_tests, h.growing_forked x q b) in
+    let fork_odd : ForkOdd V S = fork_after (λ b k. is_odd (s.sequence k.proc) ≡ not (is_failing k.step)) v.forks a next (h.fork_odd a before mine) (λ b k other. h.fork_odd b k) in
     let own_names : OwnNames V S = λ q i o d. grind (arith, nat_tests, h.own_names q i o d, h.own_names p page o e) in
     let own_entry : OwnEntry V S = λ u q i o. grind (arith, nat_tests, h.own_entry u q i o) in
     let own_marked : OwnMarked V S = λ q i o d. grind (arith, nat_tests, h.own_marked q i o d, h.own_marked p page o e) in
@@ -70,12 +76,23 @@ simulates-share_entry s a p c done page f writable (v, h) can =
     let sound : IsSoundBy V S = assumption in
     record { sound = (V, sound); can = tt; same = refl }
 
+-- while a process forks, no undisturbed walk has taken a marked frame of its entries: the walk would be its own
+no_marked_walk : (v : View) (s : CoreState) (p page : ℕ) (e : Entry) → IsSoundBy v s → v.whole p page ≡ Some e → is_odd (s.sequence p) ≡ true → (b n : ℕ) (w : Walking) (t : Taken) → v.walks b ≡ Some w → is_inside w.step ≡ true → w.sequence ≡ s.sequence w.proc → slice_get (s.taken b) n ≡ Some t → t.frame ≡ e.frame → s.mark t.frame ≡ true → ⊥
+no_marked_walk v s p page e h there odd b n w t walks inside undisturbed takes frame marked =
+    let named : v.names p page ≡ Some (s.object p page) = h.whole_names p page e there in
+    let owned : s.own e.frame ≡ Some (s.object p page) = h.marked_own p page e there (subst (λ u. s.mark u ≡ true) frame marked) ∙ named in
+    let object : s.object p page ≡ t.object = h.walk_own b n (s.object p page) w t walks inside undisturbed takes (subst (λ u. s.own u ≡ Some (s.object p page)) (sym frame) owned) in
+    let proc : p ≡ t.proc = (h.taken_names b n p page t takes (named ∙ ap (λ o. Some o) object)).0 in
+    let same : p ≡ w.proc = proc ∙ h.walk_proc b n w t walks takes in
+    even_apart w.sequence (s.sequence w.proc) (h.walk_even b w walks inside) (subst (λ q. is_odd (s.sequence q) ≡ true) same odd) undisturbed
+
 -- no pin has the frame, and no other page's entry, if it is exclusive
 pub simulates-share_mark : (s : CoreState) (a p c : ℕ) (done : List ℕ) (page f : ℕ) (writable : Bool) → IsSound s → Can s (share_mark a p c done page f writable) → Simulates s (share_mark a p c done page f writable)
 simulates-share_mark s a p c done page f writable (v, h) can =
     let S : CoreState = happens s (share_mark a p c done page f writable) in
     let V : View = record v { forks = put a (Some (record { proc = p; child = c; done = done; step = cleared page })) v.forks } in
     let before : Forking = record { proc = p; child = c; done = done; step = lowered page } in
+    let next : Forking = record { proc = p; child = c; done = done; step = cleared page } in
     let mine : v.forks a ≡ Some before = fork_here v s a p c done (lowered page) h can.0 in
     let unmarking : v.marks a ≡ None = h.marks_are a ∙ ap marking_of can.0 in
     let locked : s.table p ≡ Some a = h.forks_table a page before mine refl in
@@ -84,9 +101,12 @@ simulates-share_mark s a p c done page f writable (v, h) can =
     let there : v.whole p page ≡ Some e = h.whole_entry p page e here in
     let named : v.names p page ≡ Some (s.object p page) = h.whole_names p page e there in
     let read_only : writable ≡ false = h.share_lowered a page before e mine refl there in
+    let odd : is_odd (s.sequence p) ≡ true = h.fork_odd a before mine in
+    let no_walk : (b n : ℕ) (w : Walking) (t : Taken) → v.walks b ≡ Some w → is_inside w.step ≡ true → w.sequence ≡ s.sequence w.proc → slice_get (s.taken b) n ≡ Some t → t.frame ≡ f → s.mark t.frame ≡ true → ⊥ = no_marked_walk v s p page e h there odd in
     let marks_are : MarksAre V S = λ b. grind (arith, nat_tests, h.marks_are b) in
     let moves_are : MovesAre V S = λ b. grind (arith, nat_tests, h.moves_are b) in
     let forks_are : ForksAre V S = λ b. grind (arith, nat_tests, h.forks_are b) in
+    let walks_are : WalksAre V S = λ b. grind (arith, nat_tests, h.walks_are b) in
     let forks_table : ForksTable V S = λ b i fork. grind (arith, nat_tests, h.forks_table b i fork, h.forks_table a i before) in
     let forks_structure : ForksStructure V S = λ b fork. grind (arith, nat_tests, h.forks_structure b fork, h.forks_structure a before) in
     let table_held : TableHeld V S = λ q b. grind (arith, nat_tests, h.table_held q b) in
@@ -94,6 +114,7 @@ simulates-share_mark s a p c done page f writable (v, h) can =
     let fork_parent : ForkParent V S = λ b fork. grind (arith, nat_tests, h.fork_parent b fork, h.fork_parent a before) in
     let fork_birth : ForkBirth V S = λ b fork. grind (arith, nat_tests, h.fork_birth b fork, h.fork_birth a before) in
     let growing_forked : GrowingForked V S = λ x q b. grind (arith, nat_tests, h.growing_forked x q b) in
+    let fork_odd : ForkOdd V S = fork_after (λ b k. is_odd (s.sequence k.proc) ≡ not (is_failing k.step)) v.forks a next (h.fork_odd a before mine) (λ b k other. h.fork_odd b k) in
     let own_alone : OwnAlone V S = λ u i o. grind (arith, nat_tests, h.own_alone u i o) in
     let own_made : OwnMade V S = λ u o. grind (arith, nat_tests, h.own_made u o) in
     let own_names : OwnNames V S = λ q i o d. grind (arith, nat_tests, h.own_names q i o d) in
@@ -109,6 +130,10 @@ simulates-share_mark s a p c done page f writable (v, h) can =
     let handle_flag : HandleFlag V S = λ j n u o q i. grind (arith, nat_tests, h.handle_flag j n u o q i) in
     let taken_marked : TakenMarked V S = λ b n t. grind (arith, nat_tests, h.taken_marked b n t, h.share_taken a page b n before e t) in
     let taken_own : TakenOwn V S = λ b n t. grind (arith, nat_tests, h.taken_own b n t, h.share_taken a page b n before e t) in
+    let walk_own : WalkOwn V S = λ b n o w t. grind (arith, nat_tests, h.walk_own b n o w t) in
+    let walk_unowned : WalkUnowned V S = λ b n w t. grind (arith, nat_tests, h.walk_unowned b n w t) in
+    let walk_kept : WalkKept V S = λ b n w t. grind (arith, nat_tests, h.walk_kept b n w t, no_walk b n w t) in
+    let walk_writable : WalkWritable V S = λ b n w t d. grind (arith, nat_tests, h.walk_writable b n w t d, no_walk b n w t, rechecked_inside w.step d) in
     let prepared_unmarked : PreparedUnmarked V S = λ b u. grind (arith, nat_tests, h.prepared_unmarked b u) in
     let prepared_unowned : PreparedUnowned V S = λ b u. grind (arith, nat_tests, h.prepared_unowned b u) in
     let prepared_zero : PreparedZero V S = λ b u w. grind (arith, nat_tests, h.prepared_zero b u w) in
