@@ -44,6 +44,7 @@ pub simulates-begin_fork : (s : CoreState) (a p c : ℕ) → IsSound s → Can s
 simulates-begin_fork s a p c (v, h) can =
     let S : CoreState = happens s (begin_fork a p c) in
     let V : View = record v { forks = put a (Some (record { proc = p; child = c; done = []; step = between })) v.forks; names = put c (λ g. new_name (s.right p g) (s.made + g)) v.names } in
+    let next : Forking = record { proc = p; child = c; done = []; step = between } in
     let unlocked : s.structure p ≡ None = can.2.0 in
     let idles : s.job a ≡ idle = can.3.0 in
     let none : v.forks a ≡ None = h.forks_are a ∙ ap forking_of idles in
@@ -55,7 +56,7 @@ simulates-begin_fork s a p c (v, h) can =
     let right_names : RightNames V S = λ q i r. grind (arith, nat_tests, h.right_names q i r) in
     let whole_names : WholeNames V S = λ q i d. grind (arith, nat_tests, h.whole_names q i d, unborn_empty v s c i d h can.1) in
     let names_object : NamesObject V S = λ q i o. grind (arith, nat_tests, h.names_object q i o, new_name_is (s.right p i) (s.made + i) o) in
-    let forks_table : ForksTable V S = λ b i fork. grind (arith, nat_tests, h.forks_table b i fork) in
+    let forks_table : ForksTable V S = λ b i. fork_after (λ b k. step_page k.step ≡ Some i → s.table k.proc ≡ Some b) v.forks a next (λ at. absurd (cc)) (λ b k other. h.forks_table b i k) b in
     let forks_structure : ForksStructure V S = λ b fork. grind (arith, nat_tests, h.forks_structure b fork) in
     let table_held : TableHeld V S = λ q b. grind (arith, nat_tests, h.table_held q b) in
     let structure_held : StructureHeld V S = λ q b. grind (arith, nat_tests, h.structure_held q b) in
@@ -95,13 +96,13 @@ simulates-begin_fork s a p c (v, h) can =
     let fork_fresh : ForkFresh V S = λ b i fork. grind (arith, nat_tests, h.fork_fresh b i fork, λ (e : Entry). unborn_empty v s c i e h can.1) in
     let fork_copied : ForkCopied V S = λ b i w fork. grind (arith, nat_tests, h.fork_copied b i w fork, never_unborn v s c b fork h can.1, no_element i) in
     let fork_uncopied : ForkUncopied V S = λ b i w fork. grind (arith, nat_tests, h.fork_uncopied b i w fork, never_unborn v s c b fork h can.1) in
-    let fork_undone : ForkUndone V S = λ b i fork. grind (arith, nat_tests, h.fork_undone b i fork) in
+    let fork_undone : ForkUndone V S = λ b i. fork_after (λ b k. step_page k.step ≡ Some i → Contains k.done i → ⊥) v.forks a next (λ at. absurd (cc)) (λ b k other. h.fork_undone b i k) b in
     let fork_mapped : ForkMapped V S = λ b i fork. grind (arith, nat_tests, h.fork_mapped b i fork, never_unborn v s c b fork h can.1) in
     let copy_words : CopyWords V S = λ b i n w u fork. grind (arith, nat_tests, h.copy_words b i n w u fork, never_unborn v s c b fork h can.1, copied_made v s b i n fork h) in
-    let share_handle : ShareHandle V S = λ b i j n fork d. grind (arith, nat_tests, h.share_handle b i j n fork d) in
-    let share_taken : ShareTaken V S = λ b i y n fork d t. grind (arith, nat_tests, h.share_taken b i y n fork d t) in
-    let share_lowered : ShareLowered V S = λ b i fork d. grind (arith, nat_tests, h.share_lowered b i fork d) in
-    let share_unowned : ShareUnowned V S = λ b i fork d. grind (arith, nat_tests, h.share_unowned b i fork d) in
+    let share_handle : ShareHandle V S = λ b i j n k d. fork_after (λ b k. shared_page k.step ≡ Some i → v.whole k.proc i ≡ Some d → slice_get (s.pinned j) n ≡ Some d.frame → ⊥) v.forks a next (λ at. absurd (cc)) (λ b k other was. h.share_handle b i j n k d was) b k in
+    let share_taken : ShareTaken V S = λ b i y n k d t. fork_after (λ b k. shared_page k.step ≡ Some i → v.whole k.proc i ≡ Some d → slice_get (s.taken y) n ≡ Some t → is_open (v.walks y) ≡ false → t.frame ≡ d.frame → ⊥) v.forks a next (λ at. absurd (cc)) (λ b k other was. h.share_taken b i y n k d t was) b k in
+    let share_lowered : ShareLowered V S = λ b i k d. fork_after (λ b k. lowered_page k.step ≡ Some i → v.whole k.proc i ≡ Some d → d.writable ≡ false) v.forks a next (λ at. absurd (cc)) (λ b k other was. h.share_lowered b i k d was) b k in
+    let share_unowned : ShareUnowned V S = λ b i k d. fork_after (λ b k. k.step ≡ cleared i → v.whole k.proc i ≡ Some d → s.own d.frame ≡ None) v.forks a next (λ at. absurd (cc)) (λ b k other was. h.share_unowned b i k d was) b k in
     let mirror_born : MirrorBorn V S = λ m u noted. grind (arith, nat_tests, h.mirror_born m u noted) in
     let mirror_names : MirrorNames V S = λ m u noted. grind (arith, nat_tests, h.mirror_names m u noted, h.mirror_born m u noted) in
     let sound : IsSoundBy V S = assumption in

@@ -1,6 +1,6 @@
 -- The ends of a fork: the child is born, or fails and gives back what it has.
 use Rattle.std.proofs.Common.{◌≡◌, ℕ, ◌+◌, ◌-◌, ◌⊎◌, inl, inr, true, false, List, refl, ap, sym, ◌∙◌, subst, arith}
-use Rattle.std.specs.Prelude.{Option, Some, None, not}
+use Rattle.std.specs.Prelude.{Option, Some, None, not, Contains, slice_get}
 use Rattle.std.proofs.lemmas.Bool.Decides.{nat_tests}
 use Rattle.gup_base.specs.declared.entry.Entry.{Entry}
 use Rattle.gup_plain.specs.Put.{put, put2}
@@ -8,7 +8,7 @@ use Rattle.gup_plain.specs.State.{born, unborn, failed, growing}
 use Rattle.gup_plain.specs.Event.{IsUnbornOrGrowing}
 use Rattle.gup_events.specs.State.{CoreState, forking, ForkStep, between, counted, lowered, cleared, copying, failing, plain_of}
 use Rattle.gup_events.specs.Event.{Can, happens, MayFail, is_odd, end_fork, fail_fork, put_child, release_fork, fail_unborn}
-use Rattle.gup_events.specs.Sound.{View, Forking, keeps_table, step_page, is_failing, IsSoundBy, IsSound, Simulates}
+use Rattle.gup_events.specs.Sound.{View, Forking, keeps_table, step_page, is_failing, IsSoundBy, IsSound, Simulates, shared_page, lowered_page, is_open}
 use Rattle.gup_clauses.specs.Clauses.{References, MarksAre, MovesAre, ForksAre, WholeEntry, WholeMoved, WholeFree, WholeKept, WholeOther, MovedGone, RightNames, WholeNames, NamesObject, MarksTable, MovesTable, ForksTable, ForksStructure, TableHeld, StructureHeld, TableBorn, ForkParent, ForkBirth, GrowingLocked, GrowingForked, GrowingRights, UnbornUnmapped, FailedUnmapped, FlagBorn, OwnAlone, OwnMade, OwnNames, OwnEntry, OwnWords, OwnMarked, OwnMarking, MarkedOwn, EntryMapped, EntryMarked, EntryAllowed, EntryWords, Untouched, NamesAlone, NamesMade, RightNumbered, HandleMarked, HandleOwn, HandleFlag, TakenMarked, TakenOwn, TakenNames, PreparedOnce, PreparedUnmarked, PreparedUnowned, PreparedZero, MarkingEntry, MarkingOwn, MovingOnce, ForkFresh, ForkCopied, ForkUncopied, ForkUndone, ForkMapped, CopyWords, ShareHandle, ShareTaken, ShareLowered, ShareUnowned, MirrorBorn, MirrorEntry, MirrorNames, WalksAre, CountIs, ForkOdd, QuietEven, WalkBelow, WalkOwn, WalkUnowned, WalkKept, WalkWritable}
 use Rattle.gup_clauses.specs.Steps.{odd_next}
 use Rattle.gup_fork_laws.proofs.Disturbed.{raised_below, raised_own, raised_unowned, raised_kept, raised_writable}
@@ -16,6 +16,7 @@ use Rattle.gup_clauses.specs.Named.{by_pages}
 use Rattle.gup_clauses.specs.Tally.{tally_is, tally_entry}
 use Rattle.gup_clauses.specs.Lonely.{whole_alone, whole_counts, once_wholes, handle_counts, taken_counts, prepared_whole}
 use Rattle.gup_clauses.specs.Children.{birth_goes, fork_here, growing_parent, only_fork, uncopied_before}
+use Rattle.gup_clauses.specs.Done.{fork_after}
 
 -- what becomes of the parent's table lock where a fork fails
 abbrev failed_table : ForkStep → Option ℕ → Option ℕ
@@ -108,6 +109,7 @@ failing_fork s a p c done step v h may =
     let S : CoreState = happens s (fail_fork a p c done step) in
     let V : View = record v { forks = put a (Some (record { proc = p; child = c; done = done; step = failing })) v.forks } in
     let was : Forking = record { proc = p; child = c; done = done; step = step } in
+    let next : Forking = record { proc = p; child = c; done = done; step = failing } in
     let mine : v.forks a ≡ Some was = fork_here v s a p c done step h may.0 in
     let unmarking : v.marks a ≡ None = grind (arith, h.marks_are a) in
     let unmoving : v.moves a ≡ None = grind (arith, h.moves_are a) in
@@ -131,7 +133,7 @@ failing_fork s a p c done step v h may =
     let marks_table : MarksTable V S = λ b m. grind (arith, nat_tests, h.marks_table b m) in
     let moves_table : MovesTable V S = λ b m. grind (arith, nat_tests, h.moves_table b m) in
     let forks_table : ForksTable V S = λ b i fork. grind (arith, nat_tests, h.forks_table b i fork) in
-    let forks_structure : ForksStructure V S = λ b fork. grind (arith, nat_tests, h.forks_structure b fork) in
+    let forks_structure : ForksStructure V S = fork_after (λ b k. s.structure k.proc ≡ Some b) v.forks a next (locked) (λ b k other. h.forks_structure b k) in
     let table_held : TableHeld V S = λ q b. grind (arith, nat_tests, h.table_held q b, table_forks v s h q a p c done step may.0) in
     let structure_held : StructureHeld V S = λ q b. grind (arith, nat_tests, h.structure_held q b) in
     let table_born : TableBorn V S = λ q b. grind (arith, nat_tests, h.table_born q b) in
@@ -158,16 +160,16 @@ failing_fork s a p c done step v h may =
     let untouched : Untouched V S = λ q i w r mapped none free. grind (arith, nat_tests, h.untouched q i w r, uncopied_before v.forks a (Some (record { proc = p; child = c; done = done; step = failing })) q i free (λ n k is child. grind (arith, nat_tests))) in
     let right_numbered : RightNumbered V S = λ q i r. grind (arith, nat_tests, h.right_numbered q i r) in
     let prepared_zero : PreparedZero V S = λ b u w. grind (arith, nat_tests, h.prepared_zero b u w) in
-    let fork_fresh : ForkFresh V S = λ b i fork. grind (arith, nat_tests, h.fork_fresh b i fork) in
+    let fork_fresh : ForkFresh V S = λ b i. fork_after (λ b k. is_failing k.step ≡ false → (Contains k.done i → ⊥) → v.whole k.child i ≡ None) v.forks a next (λ at. absurd (cc)) (λ b k other. h.fork_fresh b i k) b in
     let fork_copied : ForkCopied V S = λ b i w fork. grind (arith, nat_tests, h.fork_copied b i w fork, only_fork v s a b was fork h mine goes) in
     let fork_uncopied : ForkUncopied V S = λ b i w fork. grind (arith, nat_tests, h.fork_uncopied b i w fork, only_fork v s a b was fork h mine goes) in
-    let fork_undone : ForkUndone V S = λ b i fork. grind (arith, nat_tests, h.fork_undone b i fork) in
+    let fork_undone : ForkUndone V S = λ b i. fork_after (λ b k. step_page k.step ≡ Some i → Contains k.done i → ⊥) v.forks a next (λ at. absurd (cc)) (λ b k other. h.fork_undone b i k) b in
     let fork_mapped : ForkMapped V S = λ b i fork. grind (arith, nat_tests, h.fork_mapped b i fork, only_fork v s a b was fork h mine goes) in
     let copy_words : CopyWords V S = λ b i n w u fork. grind (arith, nat_tests, h.copy_words b i n w u fork) in
-    let share_handle : ShareHandle V S = λ b i j n fork d. grind (arith, nat_tests, h.share_handle b i j n fork d) in
-    let share_taken : ShareTaken V S = λ b i y n fork d t. grind (arith, nat_tests, h.share_taken b i y n fork d t) in
-    let share_lowered : ShareLowered V S = λ b i fork d. grind (arith, nat_tests, h.share_lowered b i fork d) in
-    let share_unowned : ShareUnowned V S = λ b i fork d. grind (arith, nat_tests, h.share_unowned b i fork d) in
+    let share_handle : ShareHandle V S = λ b i j n k d. fork_after (λ b k. shared_page k.step ≡ Some i → v.whole k.proc i ≡ Some d → slice_get (s.pinned j) n ≡ Some d.frame → ⊥) v.forks a next (λ at. absurd (cc)) (λ b k other was. h.share_handle b i j n k d was) b k in
+    let share_taken : ShareTaken V S = λ b i y n k d t. fork_after (λ b k. shared_page k.step ≡ Some i → v.whole k.proc i ≡ Some d → slice_get (s.taken y) n ≡ Some t → is_open (v.walks y) ≡ false → t.frame ≡ d.frame → ⊥) v.forks a next (λ at. absurd (cc)) (λ b k other was. h.share_taken b i y n k d t was) b k in
+    let share_lowered : ShareLowered V S = λ b i k d. fork_after (λ b k. lowered_page k.step ≡ Some i → v.whole k.proc i ≡ Some d → d.writable ≡ false) v.forks a next (λ at. absurd (cc)) (λ b k other was. h.share_lowered b i k d was) b k in
+    let share_unowned : ShareUnowned V S = λ b i k d. fork_after (λ b k. k.step ≡ cleared i → v.whole k.proc i ≡ Some d → s.own d.frame ≡ None) v.forks a next (λ at. absurd (cc)) (λ b k other was. h.share_unowned b i k d was) b k in
     let mirror_born : MirrorBorn V S = λ m u noted. grind (arith, nat_tests, h.mirror_born m u noted) in
     let sound : IsSoundBy V S = assumption in
     record { sound = (V, sound); can = subst IsUnbornOrGrowing (sym grows) tt; same = ap (λ (o : ℕ → ℕ → ℕ). record (plain_of S) { object = o }) (by_pages (λ q g. grind (arith, nat_tests))) }
