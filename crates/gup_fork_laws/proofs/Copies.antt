@@ -1,21 +1,21 @@
 -- A fork's copy of a page that a pin may hold: word by word into a prepared frame, which then is the child's.
 use Rattle.std.proofs.Common.{◌≡◌, ℕ, ◌+◌, ◌<◌, inl, inr, true, false, List, ◌∷◌, refl, ap, sym, subst, arith}
-use Rattle.std.specs.Prelude.{Option, Some, None, IsSome, Contains, nat_lt}
+use Rattle.std.specs.Prelude.{Option, Some, None, IsSome, Contains, nat_lt, not, slice_get}
 use Rattle.std.proofs.lemmas.Bool.Decides.{nat_tests}
 use Rattle.gup_base.specs.declared.entry.Entry.{Entry}
 use Rattle.gup_base.specs.declared.entry.Rights.{Rights}
 use Rattle.gup_plain.specs.Put.{put, put2}
 use Rattle.gup_plain.specs.State.{born, growing, named_or_zero}
 use Rattle.gup_plain.specs.Event.{words}
-use Rattle.gup_events.specs.State.{CoreState, between, copying, plain_of}
-use Rattle.gup_events.specs.Event.{Can, happens, entry_of, is_writable, copy_word, place_child}
-use Rattle.gup_events.specs.Sound.{View, Forking, IsUncopiedBy, is_failing, copied_words, IsSoundBy, IsSound, Simulates}
-use Rattle.gup_clauses.specs.Clauses.{References, MarksAre, MovesAre, ForksAre, WholeEntry, WholeMoved, WholeFree, WholeKept, WholeOther, MovedGone, WholeNames, MarksTable, MovesTable, ForksTable, ForksStructure, TableHeld, StructureHeld, TableBorn, ForkParent, ForkBirth, GrowingForked, OwnAlone, OwnMade, OwnNames, OwnEntry, OwnWords, OwnMarked, OwnMarking, MarkedOwn, EntryMapped, EntryMarked, EntryAllowed, EntryWords, Untouched, HandleMarked, HandleOwn, HandleFlag, TakenMarked, TakenOwn, PreparedOnce, PreparedUnmarked, PreparedUnowned, PreparedZero, MarkingEntry, MarkingOwn, ForkFresh, ForkCopied, ForkUncopied, ForkUndone, ForkMapped, CopyWords, ShareHandle, ShareTaken, ShareLowered, ShareUnowned, MirrorEntry}
+use Rattle.gup_events.specs.State.{CoreState, between, copying, plain_of, cleared}
+use Rattle.gup_events.specs.Event.{Can, happens, entry_of, is_writable, is_odd, copy_word, place_child}
+use Rattle.gup_events.specs.Sound.{View, Forking, IsUncopiedBy, is_failing, copied_words, IsSoundBy, IsSound, Simulates, step_page, shared_page, lowered_page, is_open, birth_of_child}
+use Rattle.gup_clauses.specs.Clauses.{References, MarksAre, MovesAre, ForksAre, WholeEntry, WholeMoved, WholeFree, WholeKept, WholeOther, MovedGone, WholeNames, MarksTable, MovesTable, ForksTable, ForksStructure, TableHeld, StructureHeld, TableBorn, ForkParent, ForkBirth, GrowingForked, OwnAlone, OwnMade, OwnNames, OwnEntry, OwnWords, OwnMarked, OwnMarking, MarkedOwn, EntryMapped, EntryMarked, EntryAllowed, EntryWords, Untouched, HandleMarked, HandleOwn, HandleFlag, TakenMarked, TakenOwn, PreparedOnce, PreparedUnmarked, PreparedUnowned, PreparedZero, MarkingEntry, MarkingOwn, ForkFresh, ForkCopied, ForkUncopied, ForkUndone, ForkMapped, CopyWords, ShareHandle, ShareTaken, ShareLowered, ShareUnowned, MirrorEntry, WalksAre, ForkOdd, WalkOwn, WalkUnowned, WalkKept, WalkWritable}
 use Rattle.gup_clauses.specs.Named.{named_here}
 use Rattle.gup_clauses.specs.Tally.{tally_is, tally_entry, tally_prepared, number_here}
 use Rattle.gup_clauses.specs.Lonely.{handle_counts, taken_counts, prepared_whole, prepared_alone, born_mapped, mapped_names}
 use Rattle.gup_clauses.specs.Children.{fork_here, only_fork, uncopied_before}
-use Rattle.gup_clauses.specs.Done.{changed_fork, done_either, undone_either, some_there}
+use Rattle.gup_clauses.specs.Done.{fork_after, changed_fork, done_either, undone_either, some_there}
 
 -- the word of a page's entry is that of its object
 entry_word : (v : View) (s : CoreState) → IsSoundBy v s → (p g w : ℕ) (e : Entry) → v.whole p g ≡ Some e → IsSome (s.right p g) → w < words → s.word e.frame w ≡ s.content (s.object p g) w
@@ -61,27 +61,29 @@ sound-copy_word s a p c done page word to e v h may =
     let marks_are : MarksAre V S = λ b. grind (arith, nat_tests, h.marks_are b) in
     let moves_are : MovesAre V S = λ b. grind (arith, nat_tests, h.moves_are b) in
     let forks_are : ForksAre V S = λ b. grind (arith, nat_tests, h.forks_are b) in
-    let forks_table : ForksTable V S = λ b i fork. grind (arith, nat_tests, h.forks_table b i fork, h.forks_table a i was) in
-    let forks_structure : ForksStructure V S = λ b fork. grind (arith, nat_tests, h.forks_structure b fork, h.forks_structure a was) in
+    let walks_are : WalksAre V S = λ b. grind (arith, nat_tests, h.walks_are b) in
+    let forks_table : ForksTable V S = λ b i. fork_after (λ b k. step_page k.step ≡ Some i → s.table k.proc ≡ Some b) v.forks a next (h.forks_table a i was mine) (λ b k other. h.forks_table b i k) b in
+    let forks_structure : ForksStructure V S = fork_after (λ b k. s.structure k.proc ≡ Some b) v.forks a next (h.forks_structure a was mine) (λ b k other. h.forks_structure b k) in
     let table_held : TableHeld V S = λ q b. grind (arith, nat_tests, h.table_held q b) in
     let structure_held : StructureHeld V S = λ q b. grind (arith, nat_tests, h.structure_held q b) in
-    let fork_parent : ForkParent V S = λ b fork. grind (arith, nat_tests, h.fork_parent b fork) in
-    let fork_birth : ForkBirth V S = λ b fork. grind (arith, nat_tests, h.fork_birth b fork) in
+    let fork_parent : ForkParent V S = fork_after (λ b k. s.birth k.proc ≡ born) v.forks a next (lives) (λ b k other. h.fork_parent b k) in
+    let fork_birth : ForkBirth V S = fork_after (λ b k. s.birth k.child ≡ birth_of_child k) v.forks a next (grows) (λ b k other. h.fork_birth b k) in
     let growing_forked : GrowingForked V S = λ x q b. grind (arith, nat_tests, h.growing_forked x q b) in
+    let fork_odd : ForkOdd V S = fork_after (λ b k. is_odd (s.sequence k.proc) ≡ not (is_failing k.step)) v.forks a next (h.fork_odd a was mine) (λ b k other. h.fork_odd b k) in
     let own_words : OwnWords V S = λ u o w. grind (arith, nat_tests, h.own_words u o w, h.prepared_unowned a to, h.own_entry u c page o) in
     let entry_words : EntryWords V S = λ q i w d r. grind (arith, nat_tests, h.entry_words q i w d r, prepared_whole v s h a to q i d, h.whole_names q i d, h.names_alone q i c page (s.object c page)) in
     let untouched : Untouched V S = λ q i w r mapped none free. let other : q ≡ c → i ≡ page → ⊥ = λ x y. free a (word + 1) next (number_here a (Some next) v.forks) (sym x) (ap (λ n. copying n (word + 1)) (sym y)) in let before : IsUncopiedBy v.forks q i = uncopied_before v.forks a (Some next) q i free (λ n k is child at. grind (arith, other)) in grind (arith, nat_tests, h.untouched q i w r mapped none before, h.right_names q i r, h.names_alone q i c page (s.object c page)) in
     let prepared_zero : PreparedZero V S = λ b u w. grind (arith, nat_tests, h.prepared_zero b u w, prepared_alone v s h a b to, h.prepared_zero a to w) in
-    let fork_fresh : ForkFresh V S = λ b i fork. grind (arith, nat_tests, h.fork_fresh b i fork, h.fork_fresh a i was) in
+    let fork_fresh : ForkFresh V S = λ b i. fork_after (λ b k. is_failing k.step ≡ false → (Contains k.done i → ⊥) → v.whole k.child i ≡ None) v.forks a next (h.fork_fresh a i was mine) (λ b k other. h.fork_fresh b i k) b in
     let fork_copied : ForkCopied V S = λ b i w fork. grind (arith, nat_tests, h.fork_copied b i w fork, h.fork_copied a i w was) in
     let fork_uncopied : ForkUncopied V S = λ b i w fork. grind (arith, nat_tests, h.fork_uncopied b i w fork, h.fork_uncopied a i w was, only_fork v s a b was fork h mine refl) in
-    let fork_undone : ForkUndone V S = λ b i fork. grind (arith, nat_tests, h.fork_undone b i fork, h.fork_undone a i was) in
-    let fork_mapped : ForkMapped V S = λ b i fork. grind (arith, nat_tests, h.fork_mapped b i fork, h.fork_mapped a i was) in
+    let fork_undone : ForkUndone V S = λ b i. fork_after (λ b k. step_page k.step ≡ Some i → Contains k.done i → ⊥) v.forks a next (h.fork_undone a i was mine) (λ b k other. h.fork_undone b i k) b in
+    let fork_mapped : ForkMapped V S = λ b i. fork_after (λ b k. step_page k.step ≡ Some i → s.right k.child i ≡ None → ⊥) v.forks a next (h.fork_mapped a i was mine) (λ b k other. h.fork_mapped b i k) b in
     let copy_words : CopyWords V S = λ b i n w u fork. grind (arith, nat_tests, h.copy_words b i n w u fork, h.copy_words a page word w to was, prepared_alone v s h a b to, only_fork v s a b was fork h mine refl, h.fork_mapped b i fork, λ (r : Rights). h.right_names fork.child i r, h.names_alone fork.child i c page (s.object c page)) in
-    let share_handle : ShareHandle V S = λ b i j n fork d. grind (arith, nat_tests, h.share_handle b i j n fork d) in
-    let share_taken : ShareTaken V S = λ b i y n fork d t. grind (arith, nat_tests, h.share_taken b i y n fork d t) in
-    let share_lowered : ShareLowered V S = λ b i fork d. grind (arith, nat_tests, h.share_lowered b i fork d) in
-    let share_unowned : ShareUnowned V S = λ b i fork d. grind (arith, nat_tests, h.share_unowned b i fork d) in
+    let share_handle : ShareHandle V S = λ b i j n k d. fork_after (λ b k. shared_page k.step ≡ Some i → v.whole k.proc i ≡ Some d → slice_get (s.pinned j) n ≡ Some d.frame → ⊥) v.forks a next (λ at. absurd (cc)) (λ b k other was. h.share_handle b i j n k d was) b k in
+    let share_taken : ShareTaken V S = λ b i y n k d t. fork_after (λ b k. shared_page k.step ≡ Some i → v.whole k.proc i ≡ Some d → slice_get (s.taken y) n ≡ Some t → is_open (v.walks y) ≡ false → t.frame ≡ d.frame → ⊥) v.forks a next (λ at. absurd (cc)) (λ b k other was. h.share_taken b i y n k d t was) b k in
+    let share_lowered : ShareLowered V S = λ b i k d. fork_after (λ b k. lowered_page k.step ≡ Some i → v.whole k.proc i ≡ Some d → d.writable ≡ false) v.forks a next (λ at. absurd (cc)) (λ b k other was. h.share_lowered b i k d was) b k in
+    let share_unowned : ShareUnowned V S = λ b i k d. fork_after (λ b k. k.step ≡ cleared i → v.whole k.proc i ≡ Some d → s.own d.frame ≡ None) v.forks a next (λ at. absurd (cc)) (λ b k other was. h.share_unowned b i k d was) b k in
     let sound : IsSoundBy V S = assumption in
     record { sound = (V, sound); can = ((grows, source, mapped), grind (arith, nat_tests, h.fork_uncopied a page word was mine refl undone below)); same = ap (λ (x : ℕ → ℕ → ℕ). record (plain_of S) { content = x }) (told_word s p c page word (named_or_zero (s.right p page) (s.object p page)) (named_or_zero (s.right c page) (s.object c page)) (sym (named_here (s.right p page) (s.object p page) source)) (sym (named_here (s.right c page) (s.object c page) mapped))) }
 
@@ -116,6 +118,7 @@ sound-place_child s a p c done page to rights v h may =
     let marks_are : MarksAre V S = λ b. grind (arith, nat_tests, h.marks_are b) in
     let moves_are : MovesAre V S = λ b. grind (arith, nat_tests, h.moves_are b) in
     let forks_are : ForksAre V S = λ b. grind (arith, nat_tests, h.forks_are b) in
+    let walks_are : WalksAre V S = λ b. grind (arith, nat_tests, h.walks_are b) in
     let whole_entry : WholeEntry V S = λ q i d. grind (arith, nat_tests, h.whole_entry q i d) in
     let whole_moved : WholeMoved V S = λ b m. grind (arith, nat_tests, h.whole_moved b m, h.moves_table b m, unlocked b) in
     let whole_free : WholeFree V S = λ q i d. grind (arith, nat_tests, h.whole_free q i d, h.whole_kept q i a d) in
@@ -126,13 +129,14 @@ sound-place_child s a p c done page to rights v h may =
     let marks_table : MarksTable V S = λ b m. grind (arith, nat_tests, h.marks_table b m) in
     let moves_table : MovesTable V S = λ b m. grind (arith, nat_tests, h.moves_table b m) in
     let forks_table : ForksTable V S = λ b i fork. grind (arith, nat_tests, h.forks_table b i fork) in
-    let forks_structure : ForksStructure V S = λ b fork. grind (arith, nat_tests, h.forks_structure b fork, h.forks_structure a was) in
+    let forks_structure : ForksStructure V S = fork_after (λ b k. s.structure k.proc ≡ Some b) v.forks a next (h.forks_structure a was mine) (λ b k other. h.forks_structure b k) in
     let table_held : TableHeld V S = λ q b. grind (arith, nat_tests, h.table_held q b) in
     let structure_held : StructureHeld V S = λ q b. grind (arith, nat_tests, h.structure_held q b) in
     let table_born : TableBorn V S = λ q b. grind (arith, nat_tests, h.table_born q b) in
-    let fork_parent : ForkParent V S = λ b fork. grind (arith, nat_tests, h.fork_parent b fork) in
-    let fork_birth : ForkBirth V S = λ b fork. grind (arith, nat_tests, h.fork_birth b fork) in
+    let fork_parent : ForkParent V S = fork_after (λ b k. s.birth k.proc ≡ born) v.forks a next (lives) (λ b k other. h.fork_parent b k) in
+    let fork_birth : ForkBirth V S = fork_after (λ b k. s.birth k.child ≡ birth_of_child k) v.forks a next (grows) (λ b k other. h.fork_birth b k) in
     let growing_forked : GrowingForked V S = λ x q b. grind (arith, nat_tests, h.growing_forked x q b) in
+    let fork_odd : ForkOdd V S = fork_after (λ b k. is_odd (s.sequence k.proc) ≡ not (is_failing k.step)) v.forks a next (h.fork_odd a was mine) (λ b k other. h.fork_odd b k) in
     let own_alone : OwnAlone V S = λ u i o. grind (arith, nat_tests, h.own_alone u i o, h.own_entry u c page o, h.own_entry i c page o) in
     let own_made : OwnMade V S = λ u o. grind (arith, nat_tests, h.own_made u o, h.names_made c page o) in
     let own_names : OwnNames V S = λ q i o d. grind (arith, nat_tests, h.own_names q i o d, prepared_whole v s h a to q i d) in
@@ -151,6 +155,10 @@ sound-place_child s a p c done page to rights v h may =
     let handle_flag : HandleFlag V S = λ j n u o q i. grind (arith, nat_tests, h.handle_flag j n u o q i, handle_counts v s h j n u, h.prepared_once a to) in
     let taken_marked : TakenMarked V S = λ b n t. grind (arith, nat_tests, h.taken_marked b n t) in
     let taken_own : TakenOwn V S = λ b n t. grind (arith, nat_tests, h.taken_own b n t, taken_counts v s h b n t, h.prepared_once a to) in
+    let walk_own : WalkOwn V S = λ b n o w t. grind (arith, nat_tests, h.walk_own b n o w t, taken_counts v s h b n t, h.prepared_once a to) in
+    let walk_unowned : WalkUnowned V S = λ b n w t. grind (arith, nat_tests, h.walk_unowned b n w t, taken_counts v s h b n t, h.prepared_once a to) in
+    let walk_kept : WalkKept V S = λ b n w t. grind (arith, nat_tests, h.walk_kept b n w t) in
+    let walk_writable : WalkWritable V S = λ b n w t d. grind (arith, nat_tests, h.walk_writable b n w t d) in
     let prepared_once : PreparedOnce V S = λ b u. grind (arith, nat_tests, h.prepared_once b u) in
     let prepared_unmarked : PreparedUnmarked V S = λ b u. grind (arith, nat_tests, h.prepared_unmarked b u, prepared_alone v s h a b to) in
     let prepared_unowned : PreparedUnowned V S = λ b u. grind (arith, nat_tests, h.prepared_unowned b u, prepared_alone v s h a b to) in
@@ -160,8 +168,8 @@ sound-place_child s a p c done page to rights v h may =
     let fork_fresh : ForkFresh V S = λ b i k is. elim (changed_fork v.forks a next b k is) [ inl e ↦ subst (λ (l : Forking). is_failing l.step ≡ false → (Contains l.done i → ⊥) → V.whole l.child i ≡ None) e.1 (λ going un. next_fresh i un) | inr e ↦ λ going un. other_fresh b i k e.0 e.1 going un ] in
     let fork_copied : ForkCopied V S = λ b i w k is. elim (changed_fork v.forks a next b k is) [ inl e ↦ subst (λ (l : Forking). is_failing l.step ≡ false → Contains l.done i → w < words → s.copied l.child i w ≡ true) e.1 (λ going has below. next_copied i w has below) | inr e ↦ h.fork_copied b i w k e.1 ] in
     let fork_uncopied : ForkUncopied V S = λ b i w k is. elim (changed_fork v.forks a next b k is) [ inl e ↦ subst (λ (l : Forking). is_failing l.step ≡ false → (Contains l.done i → ⊥) → w < words → s.copied l.child i w ≡ nat_lt w (copied_words l.step i)) e.1 (λ going un below. next_uncopied i w un below) | inr e ↦ h.fork_uncopied b i w k e.1 ] in
-    let fork_undone : ForkUndone V S = λ b i fork. grind (arith, nat_tests, h.fork_undone b i fork) in
-    let fork_mapped : ForkMapped V S = λ b i fork. grind (arith, nat_tests, h.fork_mapped b i fork) in
+    let fork_undone : ForkUndone V S = λ b i. fork_after (λ b k. step_page k.step ≡ Some i → Contains k.done i → ⊥) v.forks a next (λ at. absurd (cc)) (λ b k other. h.fork_undone b i k) b in
+    let fork_mapped : ForkMapped V S = λ b i. fork_after (λ b k. step_page k.step ≡ Some i → s.right k.child i ≡ None → ⊥) v.forks a next (λ at. absurd (cc)) (λ b k other. h.fork_mapped b i k) b in
     let copy_words : CopyWords V S = λ b i n w u fork. grind (arith, nat_tests, h.copy_words b i n w u fork) in
     let share_handle : ShareHandle V S = λ b i j n fork d. grind (arith, nat_tests, h.share_handle b i j n fork d, h.fork_parent b fork) in
     let share_taken : ShareTaken V S = λ b i y n fork d t. grind (arith, nat_tests, h.share_taken b i y n fork d t, h.fork_parent b fork) in

@@ -1,6 +1,6 @@
 -- A fork begins, and reads the count of a page.
 use Rattle.std.proofs.Common.{◌≡◌, ℕ, ◌+◌, ◌<◌, ◌≤◌, Bool, true, false, List, [], refl, ap, sym, ◌∙◌, subst, arith}
-use Rattle.std.specs.Prelude.{Option, Some, None, IsSome, Contains, slice_get, nat_lt}
+use Rattle.std.specs.Prelude.{Option, Some, None, IsSome, Contains, slice_get, nat_lt, not}
 use Rattle.std.proofs.lemmas.Bool.Decides.{nat_tests}
 use Rattle.gup_base.specs.declared.entry.Entry.{Entry}
 use Rattle.gup_base.specs.declared.entry.Rights.{Rights}
@@ -8,9 +8,11 @@ use Rattle.gup_plain.specs.Put.{put}
 use Rattle.gup_plain.specs.State.{unborn, failed, born, growing}
 use Rattle.gup_plain.specs.Event.{words}
 use Rattle.gup_events.specs.State.{CoreState, Taken, idle, forking, ForkStep, between, counted, cleared, copying, plain_of}
-use Rattle.gup_events.specs.Event.{Can, happens, bias, copies_page, is_done, begin_fork, count_page}
-use Rattle.gup_events.specs.Sound.{View, Forking, moving_of, forking_of, step_page, shared_page, lowered_page, is_failing, copied_words, step_words, keeps_table, birth_of_child, IsSoundBy, IsSound, Simulates, IsUncopiedBy}
-use Rattle.gup_clauses.specs.Clauses.{MarksAre, MovesAre, ForksAre, WholeFree, WholeKept, WholeOther, RightNames, WholeNames, NamesObject, MarksTable, MovesTable, ForksTable, ForksStructure, TableHeld, StructureHeld, TableBorn, ForkParent, ForkBirth, GrowingLocked, GrowingForked, GrowingRights, UnbornUnmapped, FailedUnmapped, FlagBorn, OwnMade, OwnNames, OwnEntry, OwnWords, OwnMarked, OwnMarking, MarkedOwn, EntryMapped, EntryAllowed, EntryWords, Untouched, NamesAlone, NamesMade, RightNumbered, HandleFlag, TakenNames, PreparedZero, MarkingOwn, ForkFresh, ForkCopied, ForkUncopied, ForkUndone, ForkMapped, CopyWords, ShareHandle, ShareTaken, ShareLowered, ShareUnowned, MirrorBorn, MirrorNames}
+use Rattle.gup_events.specs.Event.{Can, happens, bias, copies_page, is_done, is_odd, begin_fork, count_page}
+use Rattle.gup_events.specs.Sound.{View, Forking, moving_of, forking_of, step_page, shared_page, lowered_page, is_failing, copied_words, step_words, keeps_table, birth_of_child, is_open, IsSoundBy, IsSound, Simulates, IsUncopiedBy}
+use Rattle.gup_clauses.specs.Clauses.{MarksAre, MovesAre, ForksAre, WholeFree, WholeKept, WholeOther, RightNames, WholeNames, NamesObject, MarksTable, MovesTable, ForksTable, ForksStructure, TableHeld, StructureHeld, TableBorn, ForkParent, ForkBirth, GrowingLocked, GrowingForked, GrowingRights, UnbornUnmapped, FailedUnmapped, FlagBorn, OwnMade, OwnNames, OwnEntry, OwnWords, OwnMarked, OwnMarking, MarkedOwn, EntryMapped, EntryAllowed, EntryWords, Untouched, NamesAlone, NamesMade, RightNumbered, HandleFlag, TakenNames, PreparedZero, MarkingOwn, ForkFresh, ForkCopied, ForkUncopied, ForkUndone, ForkMapped, CopyWords, ShareHandle, ShareTaken, ShareLowered, ShareUnowned, MirrorBorn, MirrorNames, WalksAre, ForkOdd, QuietEven, TakenMade, WalkBelow, WalkOwn, WalkUnowned, WalkKept, WalkWritable}
+use Rattle.gup_clauses.specs.Steps.{odd_next}
+use Rattle.gup_fork_laws.proofs.Disturbed.{raised_below, raised_own, raised_unowned, raised_kept, raised_writable}
 use Rattle.gup_clauses.specs.Lonely.{handle_counts, taken_counts}
 use Rattle.gup_clauses.specs.Named.{by_pages}
 use Rattle.gup_clauses.specs.Done.{fork_after}
@@ -42,16 +44,19 @@ pub simulates-begin_fork : (s : CoreState) (a p c : ℕ) → IsSound s → Can s
 simulates-begin_fork s a p c (v, h) can =
     let S : CoreState = happens s (begin_fork a p c) in
     let V : View = record v { forks = put a (Some (record { proc = p; child = c; done = []; step = between })) v.forks; names = put c (λ g. new_name (s.right p g) (s.made + g)) v.names } in
+    let next : Forking = record { proc = p; child = c; done = []; step = between } in
     let unlocked : s.structure p ≡ None = can.2.0 in
     let idles : s.job a ≡ idle = can.3.0 in
     let none : v.forks a ≡ None = h.forks_are a ∙ ap forking_of idles in
+    let odd : is_odd (s.sequence p + 1) ≡ true = odd_next (s.sequence p) ∙ ap not (h.quiet_even p unlocked) in
     let marks_are : MarksAre V S = λ b. grind (arith, nat_tests, h.marks_are b) in
     let moves_are : MovesAre V S = λ b. grind (arith, nat_tests, h.moves_are b) in
     let forks_are : ForksAre V S = λ b. grind (arith, nat_tests, h.forks_are b) in
+    let walks_are : WalksAre V S = λ b. grind (arith, nat_tests, h.walks_are b) in
     let right_names : RightNames V S = λ q i r. grind (arith, nat_tests, h.right_names q i r) in
     let whole_names : WholeNames V S = λ q i d. grind (arith, nat_tests, h.whole_names q i d, unborn_empty v s c i d h can.1) in
     let names_object : NamesObject V S = λ q i o. grind (arith, nat_tests, h.names_object q i o, new_name_is (s.right p i) (s.made + i) o) in
-    let forks_table : ForksTable V S = λ b i fork. grind (arith, nat_tests, h.forks_table b i fork) in
+    let forks_table : ForksTable V S = λ b i. fork_after (λ b k. step_page k.step ≡ Some i → s.table k.proc ≡ Some b) v.forks a next (λ at. absurd (cc)) (λ b k other. h.forks_table b i k) b in
     let forks_structure : ForksStructure V S = λ b fork. grind (arith, nat_tests, h.forks_structure b fork) in
     let table_held : TableHeld V S = λ q b. grind (arith, nat_tests, h.table_held q b) in
     let structure_held : StructureHeld V S = λ q b. grind (arith, nat_tests, h.structure_held q b) in
@@ -64,6 +69,8 @@ simulates-begin_fork s a p c (v, h) can =
     let unborn_unmapped : UnbornUnmapped V S = λ q i. grind (arith, nat_tests, h.unborn_unmapped q i) in
     let failed_unmapped : FailedUnmapped V S = λ q i. grind (arith, nat_tests, h.failed_unmapped q i) in
     let flag_born : FlagBorn V S = λ q. grind (arith, nat_tests, h.flag_born q) in
+    let fork_odd : ForkOdd V S = λ b fork. grind (arith, nat_tests, h.fork_odd b fork, h.forks_structure b fork, odd) in
+    let quiet_even : QuietEven V S = λ q. grind (arith, nat_tests, h.quiet_even q) in
     let own_made : OwnMade V S = λ u o. grind (arith, nat_tests, h.own_made u o) in
     let own_names : OwnNames V S = λ q i o d. grind (arith, nat_tests, h.own_names q i o d, unborn_empty v s c i d h can.1) in
     let own_entry : OwnEntry V S = λ u q i o. grind (arith, nat_tests, h.own_entry u q i o, h.own_made u o, new_name_is (s.right p i) (s.made + i) o) in
@@ -77,19 +84,25 @@ simulates-begin_fork s a p c (v, h) can =
     let names_made : NamesMade V S = λ q i o. grind (arith, nat_tests, h.names_made q i o, new_name_is (s.right p i) (s.made + i) o, λ (r : Rights). h.right_numbered p i r) in
     let right_numbered : RightNumbered V S = λ q i r. grind (arith, nat_tests, h.right_numbered q i r, h.right_numbered p i r) in
     let handle_flag : HandleFlag V S = λ j n u o q i. grind (arith, nat_tests, h.handle_flag j n u o q i, h.own_made u o, new_name_is (s.right p i) (s.made + i) o) in
-    let taken_names : TakenNames V S = λ b n q i t. grind (arith, nat_tests, h.taken_names b n q i t, h.taken_own b n t, h.own_made t.frame t.object, new_name_is (s.right p i) (s.made + i) t.object) in
+    let taken_made : TakenMade V S = λ b n t. grind (arith, nat_tests, h.taken_made b n t) in
+    let taken_names : TakenNames V S = λ b n q i t. grind (arith, nat_tests, h.taken_names b n q i t, h.taken_made b n t, new_name_is (s.right p i) (s.made + i) t.object) in
+    let walk_below : WalkBelow V S = raised_below v s p h in
+    let walk_own : WalkOwn V S = raised_own v s p h in
+    let walk_unowned : WalkUnowned V S = raised_unowned v s p h in
+    let walk_kept : WalkKept V S = raised_kept v s p h in
+    let walk_writable : WalkWritable V S = raised_writable v s p h in
     let prepared_zero : PreparedZero V S = λ b u w. grind (arith, nat_tests, h.prepared_zero b u w) in
     let marking_own : MarkingOwn V S = λ b m. grind (arith, nat_tests, h.marking_own b m, h.marking_entry b m, λ (e : Entry). unborn_empty v s c m.page e h can.1) in
     let fork_fresh : ForkFresh V S = λ b i fork. grind (arith, nat_tests, h.fork_fresh b i fork, λ (e : Entry). unborn_empty v s c i e h can.1) in
     let fork_copied : ForkCopied V S = λ b i w fork. grind (arith, nat_tests, h.fork_copied b i w fork, never_unborn v s c b fork h can.1, no_element i) in
     let fork_uncopied : ForkUncopied V S = λ b i w fork. grind (arith, nat_tests, h.fork_uncopied b i w fork, never_unborn v s c b fork h can.1) in
-    let fork_undone : ForkUndone V S = λ b i fork. grind (arith, nat_tests, h.fork_undone b i fork) in
+    let fork_undone : ForkUndone V S = λ b i. fork_after (λ b k. step_page k.step ≡ Some i → Contains k.done i → ⊥) v.forks a next (λ at. absurd (cc)) (λ b k other. h.fork_undone b i k) b in
     let fork_mapped : ForkMapped V S = λ b i fork. grind (arith, nat_tests, h.fork_mapped b i fork, never_unborn v s c b fork h can.1) in
     let copy_words : CopyWords V S = λ b i n w u fork. grind (arith, nat_tests, h.copy_words b i n w u fork, never_unborn v s c b fork h can.1, copied_made v s b i n fork h) in
-    let share_handle : ShareHandle V S = λ b i j n fork d. grind (arith, nat_tests, h.share_handle b i j n fork d) in
-    let share_taken : ShareTaken V S = λ b i y n fork d t. grind (arith, nat_tests, h.share_taken b i y n fork d t) in
-    let share_lowered : ShareLowered V S = λ b i fork d. grind (arith, nat_tests, h.share_lowered b i fork d) in
-    let share_unowned : ShareUnowned V S = λ b i fork d. grind (arith, nat_tests, h.share_unowned b i fork d) in
+    let share_handle : ShareHandle V S = λ b i j n k d. fork_after (λ b k. shared_page k.step ≡ Some i → v.whole k.proc i ≡ Some d → slice_get (s.pinned j) n ≡ Some d.frame → ⊥) v.forks a next (λ at. absurd (cc)) (λ b k other was. h.share_handle b i j n k d was) b k in
+    let share_taken : ShareTaken V S = λ b i y n k d t. fork_after (λ b k. shared_page k.step ≡ Some i → v.whole k.proc i ≡ Some d → slice_get (s.taken y) n ≡ Some t → is_open (v.walks y) ≡ false → t.frame ≡ d.frame → ⊥) v.forks a next (λ at. absurd (cc)) (λ b k other was. h.share_taken b i y n k d t was) b k in
+    let share_lowered : ShareLowered V S = λ b i k d. fork_after (λ b k. lowered_page k.step ≡ Some i → v.whole k.proc i ≡ Some d → d.writable ≡ false) v.forks a next (λ at. absurd (cc)) (λ b k other was. h.share_lowered b i k d was) b k in
+    let share_unowned : ShareUnowned V S = λ b i k d. fork_after (λ b k. k.step ≡ cleared i → v.whole k.proc i ≡ Some d → s.own d.frame ≡ None) v.forks a next (λ at. absurd (cc)) (λ b k other was. h.share_unowned b i k d was) b k in
     let mirror_born : MirrorBorn V S = λ m u noted. grind (arith, nat_tests, h.mirror_born m u noted) in
     let mirror_names : MirrorNames V S = λ m u noted. grind (arith, nat_tests, h.mirror_names m u noted, h.mirror_born m u noted) in
     let sound : IsSoundBy V S = assumption in
@@ -101,17 +114,17 @@ handle_copies v s p page j n e h there pins =
     let marked : s.mark e.frame ≡ true = h.handle_marked j n e.frame pins in
     let named : v.names p page ≡ Some (s.object p page) = h.whole_names p page e there in
     let flag : s.has_pinned p ≡ true = h.handle_flag j n e.frame (s.object p page) p page pins (h.marked_own p page e there marked ∙ named) named in
-    grind (arith, nat_tests, handle_counts v s h j n e.frame)
+    grind (arith, nat_tests, handle_counts v s h j n e.frame, h.count_is e.frame)
 
-taken_copies : (v : View) (s : CoreState) (p page b n : ℕ) (e : Entry) (t : Taken) → IsSoundBy v s → v.whole p page ≡ Some e → slice_get (s.taken b) n ≡ Some t → t.frame ≡ e.frame → copies_page s p e.frame ≡ true
-taken_copies v s p page b n e t h there takes same =
-    let marked : s.mark t.frame ≡ true = h.taken_marked b n t takes in
-    let owned : s.own t.frame ≡ Some t.object = h.taken_own b n t takes in
+taken_copies : (v : View) (s : CoreState) (p page b n : ℕ) (e : Entry) (t : Taken) → IsSoundBy v s → v.whole p page ≡ Some e → slice_get (s.taken b) n ≡ Some t → is_open (v.walks b) ≡ false → t.frame ≡ e.frame → copies_page s p e.frame ≡ true
+taken_copies v s p page b n e t h there takes settled same =
+    let marked : s.mark t.frame ≡ true = h.taken_marked b n t takes settled in
+    let owned : s.own t.frame ≡ Some t.object = h.taken_own b n t takes settled in
     let names : v.names p page ≡ Some t.object = h.own_names p page t.object e there (subst (λ f. s.own f ≡ Some t.object) same owned) in
     let proc : p ≡ t.proc = (h.taken_names b n p page t takes names).0 in
     let flag : s.has_pinned p ≡ true = subst (λ q. s.has_pinned q ≡ true) (sym proc) (h.taken_flag b n t takes) in
-    let count : bias ≤ s.count e.frame = subst (λ f. bias ≤ s.count f) same (taken_counts v s h b n t takes) in
-    grind (arith, nat_tests)
+    let count : bias ≤ v.references e.frame = subst (λ f. bias ≤ v.references f) same (taken_counts v s h b n t takes) in
+    grind (arith, nat_tests, h.count_is e.frame)
 
 -- a step that begins with a page: nothing is copied or made read-only yet
 record IsBeginning (step : ForkStep) (page : ℕ) : Type 0 where
@@ -127,7 +140,7 @@ record IsBeginning (step : ForkStep) (page : ℕ) : Type 0 where
 -- it shares no page that a pin holds
 record IsApart (v : View) (s : CoreState) (p : ℕ) (step : ForkStep) : Type 0 where
   handles : (g j n : ℕ) (d : Entry) → shared_page step ≡ Some g → v.whole p g ≡ Some d → slice_get (s.pinned j) n ≡ Some d.frame → ⊥
-  takens : (g b n : ℕ) (d : Entry) (t : Taken) → shared_page step ≡ Some g → v.whole p g ≡ Some d → slice_get (s.taken b) n ≡ Some t → t.frame ≡ d.frame → ⊥
+  takens : (g b n : ℕ) (d : Entry) (t : Taken) → shared_page step ≡ Some g → v.whole p g ≡ Some d → slice_get (s.taken b) n ≡ Some t → is_open (v.walks b) ≡ false → t.frame ≡ d.frame → ⊥
 
 counted_page : (v : View) (s : CoreState) (a p c : ℕ) (done : List ℕ) (page : ℕ) (step : ForkStep) → IsSoundBy v s → s.job a ≡ forking p c done between → s.table p ≡ None → IsSome (s.right c page) → (is_done done page → ⊥) → IsBeginning step page → IsApart v s p step → IsSoundBy (record v { forks = put a (Some (record { proc = p; child = c; done = done; step = step })) v.forks }) (record s { table = put p (Some a) s.table; job = put a (forking p c done step) s.job })
 counted_page v s a p c done page step h is free mapped undone begins apart =
@@ -143,6 +156,7 @@ counted_page v s a p c done page step h is free mapped undone begins apart =
     let marks_are : MarksAre V S = λ b. grind (arith, nat_tests, h.marks_are b) in
     let moves_are : MovesAre V S = λ b. grind (arith, nat_tests, h.moves_are b) in
     let forks_are : ForksAre V S = λ b. grind (arith, nat_tests, h.forks_are b) in
+    let walks_are : WalksAre V S = λ b. grind (arith, nat_tests, h.walks_are b) in
     let whole_free : WholeFree V S = λ q i d. grind (arith, nat_tests, h.whole_free q i d) in
     let whole_kept : WholeKept V S = λ q i b d. grind (arith, nat_tests, h.whole_kept q i b d, h.whole_free q i d) in
     let whole_other : WholeOther V S = λ q i b d m. grind (arith, nat_tests, h.whole_other q i b d m, h.whole_free q i d) in
@@ -158,6 +172,8 @@ counted_page v s a p c done page step h is free mapped undone begins apart =
     let fork_parent : ForkParent V S = fork_after (λ b k. s.birth k.proc ≡ born) v.forks a next lives (λ b k other. h.fork_parent b k) in
     let birth_here : s.birth c ≡ birth_of_child next = grows ∙ sym (birth_goes next begins.going) in
     let fork_birth : ForkBirth V S = fork_after (λ b k. s.birth k.child ≡ birth_of_child k) v.forks a next birth_here (λ b k other. h.fork_birth b k) in
+    let odd : is_odd (s.sequence p) ≡ not (is_failing step) = h.fork_odd a before mine ∙ sym (ap not begins.going) in
+    let fork_odd : ForkOdd V S = fork_after (λ b k. is_odd (s.sequence k.proc) ≡ not (is_failing k.step)) v.forks a next odd (λ b k other. h.fork_odd b k) in
     let growing_forked : GrowingForked V S = λ x q b. grind (arith, nat_tests, h.growing_forked x q b) in
     let own_marked : OwnMarked V S = λ q i o d. grind (arith, nat_tests, h.own_marked q i o d) in
     let own_marking : OwnMarking V S = λ q i o b d. grind (arith, nat_tests, h.own_marking q i o b d, h.own_marked q i o d) in
@@ -172,7 +188,7 @@ counted_page v s a p c done page step h is free mapped undone begins apart =
     let fork_mapped : ForkMapped V S = λ b i. fork_after (λ b k. step_page k.step ≡ Some i → s.right k.child i ≡ None → ⊥) v.forks a next (λ at none. let some : IsSome (s.right c i) = subst (λ g. IsSome (s.right c g)) (page_is i at) mapped in absurd (cc)) (λ b k other. h.fork_mapped b i k) b in
     let copy_words : CopyWords V S = λ b i n w u. fork_after (λ b k. k.step ≡ copying i n → s.prepared b ≡ Some u → w < n → s.word u w ≡ s.content (s.object k.child i) w) v.forks a next (λ at prepares below. absurd (omega (arith, begins.uncopied i n at, below))) (λ b k other. h.copy_words b i n w u k) b in
     let share_handle : ShareHandle V S = λ b i j n k d. fork_after (λ b k. shared_page k.step ≡ Some i → v.whole k.proc i ≡ Some d → slice_get (s.pinned j) n ≡ Some d.frame → ⊥) v.forks a next (apart.handles i j n d) (λ b k other was. h.share_handle b i j n k d was) b k in
-    let share_taken : ShareTaken V S = λ b i y n k d t. fork_after (λ b k. shared_page k.step ≡ Some i → v.whole k.proc i ≡ Some d → slice_get (s.taken y) n ≡ Some t → t.frame ≡ d.frame → ⊥) v.forks a next (apart.takens i y n d t) (λ b k other was. h.share_taken b i y n k d t was) b k in
+    let share_taken : ShareTaken V S = λ b i y n k d t. fork_after (λ b k. shared_page k.step ≡ Some i → v.whole k.proc i ≡ Some d → slice_get (s.taken y) n ≡ Some t → is_open (v.walks y) ≡ false → t.frame ≡ d.frame → ⊥) v.forks a next (apart.takens i y n d t) (λ b k other was. h.share_taken b i y n k d t was) b k in
     let share_lowered : ShareLowered V S = λ b i k d. fork_after (λ b k. lowered_page k.step ≡ Some i → v.whole k.proc i ≡ Some d → d.writable ≡ false) v.forks a next (λ low. absurd (let none : None ≡ Some i = sym begins.lowered ∙ low in cc)) (λ b k other was. h.share_lowered b i k d was) b k in
     let share_unowned : ShareUnowned V S = λ b i k d. fork_after (λ b k. k.step ≡ cleared i → v.whole k.proc i ≡ Some d → s.own d.frame ≡ None) v.forks a next (λ at. absurd (begins.uncleared i at)) (λ b k other was. h.share_unowned b i k d was) b k in
     assumption
@@ -214,11 +230,11 @@ apart_from_pins v s p page h e there reads =
           let copies : copies_page s p d.frame ≡ true = handle_copies v s p page j n d h here pins in
           let not : false ≡ copies_page s p d.frame = subst (λ (x : Entry). false ≡ copies_page s p x.frame) (sym alike) reads in
           absurd (let no : false ≡ true = not ∙ copies in cc);
-      takens = λ g b n d t at also takes frame.
+      takens = λ g b n d t at also takes settled frame.
           let same : page ≡ g = cc in
           let here : v.whole p page ≡ Some d = subst (λ i. v.whole p i ≡ Some d) (sym same) also in
           let alike : d ≡ e = cc in
-          let copies : copies_page s p d.frame ≡ true = taken_copies v s p page b n d t h here takes frame in
+          let copies : copies_page s p d.frame ≡ true = taken_copies v s p page b n d t h here takes settled frame in
           let not : false ≡ copies_page s p d.frame = subst (λ (x : Entry). false ≡ copies_page s p x.frame) (sym alike) reads in
           absurd (let no : false ≡ true = not ∙ copies in cc);
     }

@@ -1,4 +1,5 @@
 pub mod Shared
+pub mod Disturbed
 pub mod ForkBegins
 pub mod Shares
 pub mod ShareChild

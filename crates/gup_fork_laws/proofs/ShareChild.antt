@@ -1,6 +1,6 @@
 -- A fork brings a page by sharing it, or passes it, where it has no entry.
-use Rattle.std.proofs.Common.{◌≡◌, ℕ, ◌<◌, inl, inr, subst, Bool, true, false, List, ◌∷◌, refl, ap, sym, ◌∙◌, arith}
-use Rattle.std.specs.Prelude.{Some, None, IsSome, Contains, slice_get, nat_lt}
+use Rattle.std.proofs.Common.{◌≡◌, ℕ, ◌+◌, ◌<◌, inl, inr, subst, Bool, true, false, List, ◌∷◌, refl, ap, sym, ◌∙◌, arith}
+use Rattle.std.specs.Prelude.{Some, None, IsSome, Contains, slice_get, nat_lt, not}
 use Rattle.std.proofs.lemmas.Bool.Decides.{nat_tests}
 use Rattle.gup_base.specs.declared.entry.Entry.{Entry}
 use Rattle.gup_base.specs.declared.entry.Rights.{Rights}
@@ -8,9 +8,9 @@ use Rattle.gup_plain.specs.Put.{put, put2, spread}
 use Rattle.gup_plain.specs.State.{growing, born}
 use Rattle.gup_plain.specs.Event.{words}
 use Rattle.gup_events.specs.State.{CoreState, between, cleared, plain_of}
-use Rattle.gup_events.specs.Event.{Can, happens, entry_of, is_done, share_child, pass_page}
-use Rattle.gup_events.specs.Sound.{View, Forking, marking_of, moving_of, IsSoundBy, IsSound, Simulates, IsUncopiedBy, is_failing, copied_words, birth_of_child, step_page, shared_page, lowered_page}
-use Rattle.gup_clauses.specs.Clauses.{References, MarksAre, MovesAre, ForksAre, WholeEntry, WholeMoved, WholeFree, WholeKept, WholeOther, MovedGone, WholeNames, MarksTable, MovesTable, ForksTable, ForksStructure, TableHeld, StructureHeld, TableBorn, ForkParent, ForkBirth, GrowingForked, OwnNames, OwnEntry, OwnWords, OwnMarked, OwnMarking, MarkedOwn, EntryMapped, EntryMarked, EntryAllowed, EntryWords, Untouched, PreparedOnce, PreparedZero, MarkingEntry, MovingOnce, ForkFresh, ForkCopied, ForkUncopied, ForkUndone, ForkMapped, CopyWords, ShareHandle, ShareTaken, ShareLowered, ShareUnowned, MirrorEntry}
+use Rattle.gup_events.specs.Event.{Can, happens, entry_of, is_done, is_odd, share_child, pass_page}
+use Rattle.gup_events.specs.Sound.{View, Forking, marking_of, moving_of, IsSoundBy, IsSound, Simulates, IsUncopiedBy, is_failing, copied_words, birth_of_child, step_page, shared_page, lowered_page, is_open}
+use Rattle.gup_clauses.specs.Clauses.{References, MarksAre, MovesAre, ForksAre, WholeEntry, WholeMoved, WholeFree, WholeKept, WholeOther, MovedGone, WholeNames, MarksTable, MovesTable, ForksTable, ForksStructure, TableHeld, StructureHeld, TableBorn, ForkParent, ForkBirth, GrowingForked, OwnNames, OwnEntry, OwnWords, OwnMarked, OwnMarking, MarkedOwn, EntryMapped, EntryMarked, EntryAllowed, EntryWords, Untouched, PreparedOnce, PreparedZero, MarkingEntry, MovingOnce, ForkFresh, ForkCopied, ForkUncopied, ForkUndone, ForkMapped, CopyWords, ShareHandle, ShareTaken, ShareLowered, ShareUnowned, MirrorEntry, WalksAre, CountIs, ForkOdd}
 use Rattle.gup_clauses.specs.Tally.{tally_is, tally_entry}
 use Rattle.gup_clauses.specs.Lonely.{once_wholes, prepared_whole, whole_none}
 use Rattle.gup_clauses.specs.Children.{only_fork, born_uncopied, uncopied_before, fork_here}
@@ -21,7 +21,7 @@ use Rattle.gup_fork_laws.proofs.Shared.{child_names, shown_same, page_forks, non
 pub simulates-share_child : (s : CoreState) (a p c : ℕ) (done : List ℕ) (page f : ℕ) (writable : Bool) → IsSound s → Can s (share_child a p c done page f writable) → Simulates s (share_child a p c done page f writable)
 simulates-share_child s a p c done page f writable (v, h) can =
     let S : CoreState = happens s (share_child a p c done page f writable) in
-    let V : View = record v { whole = put2 c page (Some (entry_of f false)) v.whole; forks = put a (Some (record { proc = p; child = c; done = page ∷ done; step = between })) v.forks } in
+    let V : View = record v { references = put f (v.references f + 1) v.references; whole = put2 c page (Some (entry_of f false)) v.whole; forks = put a (Some (record { proc = p; child = c; done = page ∷ done; step = between })) v.forks } in
     let before : Forking = record { proc = p; child = c; done = done; step = cleared page } in
     let mine : v.forks a ≡ Some before = fork_here v s a p c done (cleared page) h can.0 in
     let next : Forking = record { proc = p; child = c; done = page ∷ done; step = between } in
@@ -41,9 +41,11 @@ simulates-share_child s a p c done page f writable (v, h) can =
     let names_to : v.names c page ≡ Some (s.object c page) = child_names v s c page h mapped in
     let rights : s.right c page ≡ s.right p page = h.growing_rights c p page grows in
     let references : References V S = tally_is _ _ _ (tally_entry _ _ _ _ _ _ _ _ c page (Some (entry_of f false)) h.references) (λ d. grind (arith, nat_tests, h.whole_entry c page)) in
+    let count_is : CountIs V S = λ u. grind (arith, nat_tests, h.count_is u) in
     let marks_are : MarksAre V S = λ b. grind (arith, nat_tests, h.marks_are b) in
     let moves_are : MovesAre V S = λ b. grind (arith, nat_tests, h.moves_are b) in
     let forks_are : ForksAre V S = λ b. grind (arith, nat_tests, h.forks_are b) in
+    let walks_are : WalksAre V S = λ b. grind (arith, nat_tests, h.walks_are b) in
     let whole_entry : WholeEntry V S = λ q i d. grind (arith, nat_tests, h.whole_entry q i d) in
     let whole_moved : WholeMoved V S = λ b m. grind (arith, nat_tests, h.whole_moved b m, h.moves_table b m) in
     let whole_free : WholeFree V S = λ q i d. grind (arith, nat_tests, h.whole_free q i d, h.whole_kept q i a d) in
@@ -61,6 +63,7 @@ simulates-share_child s a p c done page f writable (v, h) can =
     let fork_parent : ForkParent V S = fork_after (λ b k. s.birth k.proc ≡ born) v.forks a next lives (λ b k other. h.fork_parent b k) in
     let fork_birth : ForkBirth V S = fork_after (λ b k. s.birth k.child ≡ birth_of_child k) v.forks a next grows (λ b k other. h.fork_birth b k) in
     let growing_forked : GrowingForked V S = λ x q b. grind (arith, nat_tests, h.growing_forked x q b) in
+    let fork_odd : ForkOdd V S = fork_after (λ b k. is_odd (s.sequence k.proc) ≡ not (is_failing k.step)) v.forks a next (h.fork_odd a before mine) (λ b k other. h.fork_odd b k) in
     let own_names : OwnNames V S = λ q i o d. grind (arith, nat_tests, h.own_names q i o d) in
     let own_entry : OwnEntry V S = λ u q i o. grind (arith, nat_tests, h.own_entry u q i o, h.names_alone c page q i o) in
     let own_words : OwnWords V S = λ u o w. grind (arith, nat_tests, h.own_words u o w, h.own_entry u c page (s.object c page)) in
@@ -119,6 +122,7 @@ simulates-pass_page s a p c done page (v, h) can =
     let marks_are : MarksAre V S = λ b. grind (arith, nat_tests, h.marks_are b) in
     let moves_are : MovesAre V S = λ b. grind (arith, nat_tests, h.moves_are b) in
     let forks_are : ForksAre V S = λ b. grind (arith, nat_tests, h.forks_are b) in
+    let walks_are : WalksAre V S = λ b. grind (arith, nat_tests, h.walks_are b) in
     let forks_table : ForksTable V S = λ b i. fork_after (λ b k. step_page k.step ≡ Some i → s.table k.proc ≡ Some b) v.forks a next (λ at. absurd (cc)) (λ b k other. h.forks_table b i k) b in
     let forks_structure : ForksStructure V S = fork_after (λ b k. s.structure k.proc ≡ Some b) v.forks a next (h.forks_structure a before mine) (λ b k other. h.forks_structure b k) in
     let table_held : TableHeld V S = λ q b. grind (arith, nat_tests, h.table_held q b) in
@@ -126,6 +130,7 @@ simulates-pass_page s a p c done page (v, h) can =
     let fork_parent : ForkParent V S = fork_after (λ b k. s.birth k.proc ≡ born) v.forks a next lives (λ b k other. h.fork_parent b k) in
     let fork_birth : ForkBirth V S = fork_after (λ b k. s.birth k.child ≡ birth_of_child k) v.forks a next grows (λ b k other. h.fork_birth b k) in
     let growing_forked : GrowingForked V S = λ x q b. grind (arith, nat_tests, h.growing_forked x q b) in
+    let fork_odd : ForkOdd V S = fork_after (λ b k. is_odd (s.sequence k.proc) ≡ not (is_failing k.step)) v.forks a next (h.fork_odd a before mine) (λ b k other. h.fork_odd b k) in
     let own_words : OwnWords V S = λ u o w. grind (arith, nat_tests, h.own_words u o w, h.own_entry u c page (s.object c page)) in
     let entry_words : EntryWords V S = λ q i w d r. grind (arith, nat_tests, h.entry_words q i w d r, h.names_alone c page q i (s.object c page), h.right_names q i r) in
     let untouched : Untouched V S = λ q i w r there none now. let old : IsUncopiedBy v.forks q i = uncopied_before v.forks a _ q i now (λ word k is child at. grind (arith)) in grind (arith, nat_tests, λ (is : s.right q i ≡ Some r) (bare : v.whole q i ≡ None). h.untouched q i w r is bare old, h.right_names q i r there, h.names_alone c page q i (s.object c page), h.names_alone c page p page (s.object c page), zero_words w r) in
@@ -142,7 +147,7 @@ simulates-pass_page s a p c done page (v, h) can =
     let fork_mapped : ForkMapped V S = λ b i. fork_after (λ b k. step_page k.step ≡ Some i → s.right k.child i ≡ None → ⊥) v.forks a next (λ at. absurd (cc)) (λ b k other. h.fork_mapped b i k) b in
     let copy_words : CopyWords V S = λ b i n w u fork. grind (arith, nat_tests, h.copy_words b i n w u fork, only_fork v s a b before fork h mine refl, h.fork_mapped b i fork, λ (r : Rights). h.right_names fork.child i r, h.names_alone c page fork.child i (s.object c page)) in
     let share_handle : ShareHandle V S = λ b i j n k d. fork_after (λ b k. shared_page k.step ≡ Some i → v.whole k.proc i ≡ Some d → slice_get (s.pinned j) n ≡ Some d.frame → ⊥) v.forks a next (λ at. absurd (cc)) (λ b k other was. h.share_handle b i j n k d was) b k in
-    let share_taken : ShareTaken V S = λ b i y n k d t. fork_after (λ b k. shared_page k.step ≡ Some i → v.whole k.proc i ≡ Some d → slice_get (s.taken y) n ≡ Some t → t.frame ≡ d.frame → ⊥) v.forks a next (λ at. absurd (cc)) (λ b k other was. h.share_taken b i y n k d t was) b k in
+    let share_taken : ShareTaken V S = λ b i y n k d t. fork_after (λ b k. shared_page k.step ≡ Some i → v.whole k.proc i ≡ Some d → slice_get (s.taken y) n ≡ Some t → is_open (v.walks y) ≡ false → t.frame ≡ d.frame → ⊥) v.forks a next (λ at. absurd (cc)) (λ b k other was. h.share_taken b i y n k d t was) b k in
     let share_lowered : ShareLowered V S = λ b i k d. fork_after (λ b k. lowered_page k.step ≡ Some i → v.whole k.proc i ≡ Some d → d.writable ≡ false) v.forks a next (λ at. absurd (cc)) (λ b k other was. h.share_lowered b i k d was) b k in
     let share_unowned : ShareUnowned V S = λ b i k d. fork_after (λ b k. k.step ≡ cleared i → v.whole k.proc i ≡ Some d → s.own d.frame ≡ None) v.forks a next (λ at. absurd (cc)) (λ b k other was. h.share_unowned b i k d was) b k in
     let sound : IsSoundBy V S = assumption in
