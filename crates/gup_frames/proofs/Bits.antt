@@ -46,12 +46,14 @@ has-remove words k inside =
     (λ i less other. bit_at_clear_other w64 n (k % 64) within i less other))
 
 -- the numbers below n: none of them, and one more
+nothing_below : (k : ℕ) → ltb k 0 ≡ false
+nothing_below k = grind (arith, nat_tests)
+
 below_none_at : (k : ℕ) → has (replicate 16 0) k ≡ ltb k 0
 below_none_at k =
     let zero_word : get_or (replicate 16 0) (k / 64) 0 ≡ 0 =
     ⊎_elim (λ (l : k / 64 < 16). get_or-replicate 16 (k / 64) 0 0 l) (λ (g : 16 ≤ k / 64). get_or_past (replicate 16 0) (k / 64) 0 g) (cases_lt (k / 64) 16) in
-    let none : ltb k 0 ≡ false = grind (arith, nat_tests) in
-    ap (λ n. eqb (bit_at n (k % 64)) 1) zero_word ∙ ap (λ b. eqb b 1) (bit_at-zero (k % 64)) ∙ sym none
+    ap (λ n. eqb (bit_at n (k % 64)) 1) zero_word ∙ ap (λ b. eqb b 1) (bit_at-zero (k % 64)) ∙ sym (nothing_below k)
 
 pub below_none : has (replicate 16 0) ≡ (λ k. ltb k 0)
 below_none = fun_ext below_none_at

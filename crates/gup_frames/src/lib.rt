@@ -2,7 +2,7 @@
 #![tactic(auto)]
 
 mod bitmap;
-//mod frames;
+mod frames;
 mod words;
 
-//pub use frames::Frames;
+pub use frames::Frames;

@@ -8,6 +8,14 @@ use gup_base::WordNo;
 // How many words a frame has.
 const WORDS: usize = 512;
 
+/// The word of the frame.
+pub(crate) fn read(words: &[u64], frame: usize, word: WordNo) -> u64
+    requires { 512 * (frame + 1) ≤ length words.now }
+    ensures { result ≡ word_in words.now frame word }
+{
+    words[WORDS * frame + word.get() as usize]
+}
+
 /// Writes the word of the frame.
 pub(crate) fn write(words: &mut Vec<u64>, frame: usize, word: WordNo, v: u64)
     requires { 512 * (frame + 1) ≤ vec_len words.old }
