@@ -119,7 +119,7 @@ left-first words low fits some =
     (cases_lt (s + t) 64) in (
       left-bits words low t inside ∙ ap (λ b. eqb b 1) first.1,
       λ k above below.
-      let i = k - low in
-      let is : k ≡ low + i = omega arith in
-      rw is (left-bits words low i (omega arith) ∙ ap (λ b. eqb b 1) (first.2 i (omega arith))),
+          let i = k - low in
+          let is : k ≡ low + i = omega arith in
+          rw is (left-bits words low i (omega arith) ∙ ap (λ b. eqb b 1) (first.2 i (omega arith))),
     )

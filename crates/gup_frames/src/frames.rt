@@ -37,19 +37,19 @@ impl Model for Frames {
     ghost Value = { FrameLists };
 
     ghost view = { λ a. record {
-        movable = a.movable;
-        normal = a.normal;
-        counts = a.counts.items;
-        marks = a.marks.items;
-        words = a.words.items;
+      movable = a.movable;
+      normal = a.normal;
+      counts = a.counts.items;
+      marks = a.marks.items;
+      words = a.words.items;
     } };
 
     ghost invariant = { λ a. IsKept (record {
-        movable = a.movable;
-        normal = a.normal;
-        counts = a.counts.items;
-        marks = a.marks.items;
-        words = a.words.items;
+      movable = a.movable;
+      normal = a.normal;
+      counts = a.counts.items;
+      marks = a.marks.items;
+      words = a.words.items;
     }) a.free a.free_movable a.free_normal };
 }
 
@@ -142,7 +142,9 @@ impl Frames {
     {
         match zone {
             Zone::Movable => self.free.lowest(0, self.movable as usize),
-            Zone::Normal => self.free.lowest(self.movable as usize, self.normal as usize),
+            Zone::Normal => self
+                .free
+                .lowest(self.movable as usize, self.normal as usize),
         }
     }
 

@@ -6,3 +6,6 @@ mod frames;
 mod words;
 
 pub use frames::Frames;
+
+#[cfg(test)]
+mod tests;

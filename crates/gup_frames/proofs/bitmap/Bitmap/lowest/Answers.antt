@@ -36,7 +36,7 @@ loop-low-preserved c =
     let low = c.loop-low.low in (
       omega arith,
       λ k above below.
-      ⊎_elim (λ (l : k < low). c.loop-low.invariant.1 k above l) (λ (g : low ≤ k). left-none words low (omega arith) k g below) (cases_lt k low),
+          ⊎_elim (λ (l : k < low). c.loop-low.invariant.1 k above l) (λ (g : low ≤ k). left-none words low (omega arith) k g below) (cases_lt k low),
     )
 
 pub returns : goal.returns
