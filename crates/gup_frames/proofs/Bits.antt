@@ -1,5 +1,5 @@
 -- Sets of numbers as bits: a bit is set, cleared, found.
-use Rattle.std.proofs.Common.{◌≡◌, ◌≢◌, ℕ, zero, suc, ◌+◌, ◌-◌, ◌*◌, ◌/◌, ◌%◌, ◌^◌, ◌<◌, ◌≤◌, eqb, ltb, Bool, true, false, cond, List, length, get_or, set, Option, Some, None, refl, ap, sym, ◌∙◌, ⊎_elim, arith, get_or-set_same, get_or-set_other, replicate, [], ◌∷◌, bit_and, bit_or, w64}
+use Rattle.std.proofs.Common.{◌≡◌, ◌≢◌, ℕ, zero, suc, ◌+◌, ◌-◌, ◌*◌, ◌/◌, ◌%◌, ◌^◌, ◌<◌, ◌≤◌, eqb, ltb, Bool, true, false, cond, List, length, get_or, set, Some, None, refl, ap, sym, ◌∙◌, ⊎_elim, arith, get_or-set_same, get_or-set_other, replicate, bit_and, bit_or, w64}
 use Rattle.std.specs.Int.{bit_at, bit_not, trailing_zeros}
 use Rattle.std.proofs.Math.Path.{fun_ext}
 use Rattle.std.proofs.lemmas.Bool.{cases_eq, cases_lt}

@@ -1,12 +1,12 @@
 -- Which frames are free, and how many.
-use Rattle.std.proofs.Common.{◌≡◌, ◌≢◌, ℕ, zero, suc, ◌+◌, ◌-◌, ◌<◌, ◌≤◌, eqb, ltb, leb, ◌&&◌, Bool, true, false, not, cond, Option, Some, None, IfSome, refl, ap, sym, ◌∙◌, ⊎_elim, arith}
-use Rattle.std.proofs.lemmas.Bool.{cases_eq, cases_lt, cases_Bool, eqb-true}
+use Rattle.std.proofs.Common.{◌≡◌, ◌≢◌, ℕ, zero, suc, ◌+◌, ◌<◌, ◌≤◌, eqb, ltb, Bool, true, false, not, cond, Option, Some, None, IfSome, refl, ap, sym, ◌∙◌, ⊎_elim, arith}
+use Rattle.std.proofs.lemmas.Bool.{cases_Bool, eqb-true}
 use Rattle.std.proofs.lemmas.Bool.Decides.{nat_tests}
 use Rattle.gup_base.specs.declared.entry.Allowed.{Allowed}
 use Rattle.gup_base.specs.declared.entry.Allowed.TheVariants.{Any, Only}
 use Rattle.gup_base.specs.declared.entry.Zone.TheVariants.{Movable, Normal}
 use Rattle.gup_plain.specs.Put.{lowest, within}
-use Rattle.gup_frames.specs.Frames.{FramesValue, frames_in, free_in, free_from, free_frame}
+use Rattle.gup_frames.specs.Frames.{FramesValue, frames_in, free_in, free_frame}
 
 -- what the lowest that passes a test is
 pub lowest_some : (first n : ℕ) (test : ℕ → Bool) (k : ℕ) → lowest first n test ≡ Some k → (first ≤ k) × (k < first + n) × (test k ≡ true)

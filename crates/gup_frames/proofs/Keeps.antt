@@ -4,13 +4,12 @@ use Rattle.std.proofs.Math.Path.{fun_ext}
 use Rattle.std.proofs.lemmas.List.{get_or_default, get_or_past, get_or-replicate, length-replicate}
 use Rattle.std.proofs.lemmas.Bool.{cases_eq, cases_lt}
 use Rattle.std.proofs.lemmas.Bool.Decides.{nat_tests}
-use Rattle.gup_base.specs.declared.entry.Zone.TheVariants.{Movable, Normal}
-use Rattle.gup_plain.specs.Put.{put, lowest, within}
+use Rattle.gup_plain.specs.Put.{put, lowest}
 use Rattle.gup_frames.specs.Bits.{has}
 use Rattle.gup_frames.specs.Frames.{FrameLists, FramesValue, frames_of, free_in, free_from, word_in, without_references}
 use Rattle.gup_frames.specs.Kept.{IsKept}
 use Rattle.gup_frames.proofs.Bits.{lowest_same}
-use Rattle.gup_frames.proofs.Free.{free_in-same, free_in-all, free_in-le, free_of-freed}
+use Rattle.gup_frames.proofs.Free.{free_in-all, free_in-le, free_of-freed}
 
 -- the lowest of the set is the lowest free one
 pub lowest_free_is : (l : FrameLists) (free : List ℕ) (a b : ℕ) → IsKept l free a b → (first n : ℕ) → first + n ≤ l.movable + l.normal → lowest first n (has free) ≡ free_from (frames_of l) first n

@@ -2,7 +2,7 @@
 use Rattle.std.specs.Prelude.{◌≡◌, ℕ, ◌+◌, ◌*◌, ◌≤◌, ◌==◌, List, length, slice_index_or}
 use Rattle.gup_base.specs.declared.entry.Zone.TheVariants.{Movable, Normal}
 use Rattle.gup_frames.specs.Bits.{has}
-use Rattle.gup_frames.specs.Frames.{FrameLists, frames_of, frames_in, free_of}
+use Rattle.gup_frames.specs.Frames.{FrameLists, frames_of, free_of}
 
 -- There are at most 1,024 frames, and each has its count, its mark and its words. The set has the free ones: a number
 -- past the end reads as that of a taken frame. The two numbers are how many are free in each zone.

@@ -168,6 +168,7 @@ impl Frames {
         ensures taken { MatchOption result (frames_of self.new ≡ frames_of self.old)
             (λ f. frames_of self.new ≡ taken f (frames_of self.old)) }
         ensures there { IfSome result (IsFrame (frames_of self.old)) }
+        ensures free { IfSome result (λ f. (frames_of self.old).count f ≡ 0) }
     {
         let Some(place) = self.lowest_free(allowed) else {
             return None;
@@ -203,15 +204,15 @@ impl Frames {
         requires held { by ≤ (frames_of self.old).count frame }
         ensures { frames_of self.new ≡ without_references frame by (frames_of self.old) }
     {
-        let place = frame.get() as usize;
-        let left = self.counts[place] - by;
-        self.counts[place] = left;
+        let at = frame.get() as usize;
+        let left = self.counts[at] - by;
+        self.counts[at] = left;
         if left > 0 {
             return;
         }
-        let movable = place < self.movable as usize;
-        self.marks[place] = false;
-        self.free.insert(place);
+        let movable = at < self.movable as usize;
+        self.marks[at] = false;
+        self.free.insert(at);
         self.free_movable += one_if(movable);
         self.free_normal += one_if(!movable);
     }

@@ -1,4 +1,4 @@
-use Rattle.std.proofs.Common.{◌≡◌, ℕ, ◌+◌, ◌*◌, ◌<◌, ◌≤◌, length, vec_len}
+use Rattle.std.proofs.Common.{◌≡◌, vec_len}
 use Rattle.gup_frames.specs.Frames.{word_in}
 use Rattle.gup_frames.proofs.FrameWords.{front_zero}
 use Rattle.gup_frames.proofs.words.clear.Given as goal

@@ -1,4 +1,4 @@
-use Rattle.std.proofs.Common.{◌≡◌, sym, ◌∙◌, ap, arith, nat_lt, true}
+use Rattle.std.proofs.Common.{◌≡◌, ◌∙◌, ap, arith, true}
 use Rattle.gup_plain.specs.Put.{put}
 use Rattle.gup_frames.proofs.Bits.{below_none, below_more}
 use Rattle.gup_frames.proofs.bitmap.Bitmap.below.Goals as goal

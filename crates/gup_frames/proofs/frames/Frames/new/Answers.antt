@@ -1,4 +1,4 @@
-use Rattle.std.proofs.Common.{arith, rules}
+use Rattle.std.proofs.Common.{rules}
 use Rattle.gup_frames.proofs.Keeps.{kept-new}
 use Rattle.gup_frames.proofs.frames.Frames.new.Goals as goal
 
