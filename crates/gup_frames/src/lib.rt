@@ -1,0 +1,2 @@
+//! The frames of the machine (stub).
+#![tactic(auto)]

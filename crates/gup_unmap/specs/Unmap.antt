@@ -1,0 +1,1 @@
+-- (the calls of this crate are stated with gup_space/specs/Shows and gup_events/specs/Fault)
