@@ -1,21 +1,19 @@
 -- What a fault does to frames and a process.
-use Rattle.std.specs.Prelude.{◌≡◌, ℕ, List, Option, Some, None, Result, Ok, Err}
+use Rattle.std.specs.Prelude.{◌≡◌, ℕ, Bool, true, false, List, [], ◌∷◌, Option, Some, None}
 use Rattle.gup_base.specs.declared.entry.Entry.{Entry}
 use Rattle.gup_plain.specs.declared.answer.Answer.{Answer}
-use Rattle.gup_frames.specs.Frames.{FramesValue}
-use Rattle.gup_space.specs.Space.{SpaceValue}
+use Rattle.gup_frames.specs.Frames.{FramesValue, FrameLists, frames_of}
+use Rattle.gup_space.specs.Space.{SpaceValue, SpaceParts, space_of}
 use Rattle.gup_space.specs.Shows.{Change, AreEvents}
+use Rattle.gup_space.specs.Counted.{AreCounted}
 use Rattle.gup_events.specs.Event.{CoreEvent}
-use Rattle.gup_events.specs.Fault.{Fault}
+use Rattle.gup_events.specs.Invariant.{frame_of}
+use Rattle.gup_events.specs.Fault.{Fault, events_of, refusal_of}
 
 -- the word of a page: that of its frame, or 0 where it has no entry
 abbrev pub page_word : FramesValue → Option Entry → (w : ℕ) → ℕ
 page_word frames None w = 0
 page_word frames (Some e) w = frames.word e.frame w
-
--- the frame of each entry has a reference
-abbrev pub AreCounted : FramesValue → SpaceValue → Type 0
-AreCounted frames space = (page : ℕ) (e : Entry) → space.entry page ≡ Some e → frames.count e.frame ≡ 0 → ⊥
 
 -- No byte changes: neither those of a frame that has a reference, nor those of a page.
 pub record KeepsBytes (c : Change) : Type 0 where
@@ -26,13 +24,6 @@ pub record KeepsBytes (c : Change) : Type 0 where
 abbrev pub IsUnchanged : Change → Type 0
 IsUnchanged c = (c.new_frames ≡ c.old_frames) × (c.new_space ≡ c.old_space)
 
--- what a call that answered this was refused with
-abbrev pub denial_of : Result (Unit {0}) Denied → Option Answer
-denial_of (Ok ok) = None
-denial_of (Err Missing) = Some answers.Missing
-denial_of (Err Forbidden) = Some answers.Forbidden
-denial_of (Err NoFrame) = Some answers.NoFrame
-
 -- The call was refused as the fault is, and then changed nothing; or else what is now is what the fault's events make
 -- of what was. Either way no byte changed.
 pub record IsFault (c : Change) (denied : Option Answer) (fault : (a p : ℕ) → Fault) : Type 0 where
@@ -41,12 +32,44 @@ pub record IsFault (c : Change) (denied : Option Answer) (fault : (a p : ℕ) �
   pub events : AreEvents c (λ a p. events_of (fault a p))
   pub bytes : KeepsBytes c
 
--- what a call needs of the entry that it reads: it is of a mapped page, and its frame is there and has a reference
-pub record IsCounted (frames : FramesValue) (space : SpaceValue) (page : ℕ) : Type 0 where
-  pub mapped : (e : Entry) → space.entry page ≡ Some e → IsSome (space.right page)
-  pub there : (e : Entry) → space.entry page ≡ Some e → IsFrame frames e.frame
-  pub counted : (e : Entry) → space.entry page ≡ Some e → frames.count e.frame ≡ 0 → ⊥
+-- from these lists and parts to those
+abbrev pub change_of : (old_frames new_frames : FrameLists) → (old_space new_space : SpaceParts) → Change
+change_of old_frames new_frames old_space new_space =
+    record {
+      old_frames = frames_of old_frames;
+      new_frames = frames_of new_frames;
+      old_space = space_of old_space;
+      new_space = space_of new_space;
+    }
 
--- a page without an entry finds room for one
-abbrev pub HasRoom : SpaceValue → (page : ℕ) → Type 0
-HasRoom space page = space.entry page ≡ None → space.entries < 1024
+-- there is an entry, and it is so
+abbrev pub HasEntry : Option Entry → (Entry → Type 0) → Type 0
+HasEntry None P = ⊥
+HasEntry (Some e) P = P e
+
+-- the entry is so writable or not, and its frame marked
+abbrev pub IsExclusiveEntry : FramesValue → (writable : Bool) → Option Entry → Type 0
+IsExclusiveEntry frames writable entry =
+    HasEntry entry (λ e. (e.writable ≡ writable) × (frames.mark e.frame ≡ true))
+
+-- there is an entry of a marked frame, or a writable one
+abbrev pub IsMarked : FramesValue → Option Entry → Type 0
+IsMarked frames entry = HasEntry entry (λ e. frames.mark e.frame ≡ true)
+
+abbrev pub IsWritable : Option Entry → Type 0
+IsWritable entry = HasEntry entry (λ e. e.writable ≡ true)
+
+-- there is no writable entry
+abbrev pub IsReadOnly : Option Entry → Type 0
+IsReadOnly None = Unit {0}
+IsReadOnly (Some e) = e.writable ≡ false
+
+-- one event alone
+abbrev pub one_event : CoreEvent → List CoreEvent
+one_event e = e ∷ []
+
+-- A page whose unmarked frame has one reference keeps that frame, and no frame's count changes.
+abbrev pub KeepsAlone : Change → (page : ℕ) → Type 0
+KeepsAlone c page =
+    (e : Entry) → c.old_space.entry page ≡ Some e → c.old_frames.mark e.frame ≡ false → c.old_frames.count e.frame ≡ 1
+    → (frame_of (c.new_space.entry page) ≡ Some e.frame) × ((f : ℕ) → c.new_frames.count f ≡ c.old_frames.count f)
