@@ -2,8 +2,8 @@
 use Rattle.std.specs.Prelude.{◌≡◌, ℕ, Bool, true, false, List, [], ◌∷◌, Option, Some, None}
 use Rattle.gup_base.specs.declared.entry.Entry.{Entry}
 use Rattle.gup_plain.specs.declared.answer.Answer.{Answer}
-use Rattle.gup_frames.specs.Frames.{FramesValue, FrameLists, frames_of}
-use Rattle.gup_space.specs.Space.{SpaceValue, SpaceParts, space_of}
+use Rattle.gup_frames.specs.Frames.{FramesValue}
+use Rattle.gup_space.specs.Space.{SpaceValue}
 use Rattle.gup_space.specs.Shows.{Change, AreEvents}
 use Rattle.gup_space.specs.Counted.{AreCounted}
 use Rattle.gup_events.specs.Event.{CoreEvent}
@@ -31,16 +31,6 @@ pub record IsFault (c : Change) (denied : Option Answer) (fault : (a p : ℕ) �
   pub unchanged : (answer : Answer) → denied ≡ Some answer → IsUnchanged c
   pub events : AreEvents c (λ a p. events_of (fault a p))
   pub bytes : KeepsBytes c
-
--- from these lists and parts to those
-abbrev pub change_of : (old_frames new_frames : FrameLists) → (old_space new_space : SpaceParts) → Change
-change_of old_frames new_frames old_space new_space =
-    record {
-      old_frames = frames_of old_frames;
-      new_frames = frames_of new_frames;
-      old_space = space_of old_space;
-      new_space = space_of new_space;
-    }
 
 -- there is an entry, and it is so
 abbrev pub HasEntry : Option Entry → (Entry → Type 0) → Type 0

@@ -3,9 +3,10 @@ ghost use Rattle.std.specs.Prelude.{◌≡◌, ℕ, true, false, Some, None, Ok,
 ghost use Rattle.gup_frames.specs.Frames.{frames_of, free_frame};
 ghost use Rattle.gup_events.specs.Fault.{read_fault, unshare_fault, unshares, write_fault, makes_writable};
 ghost use Rattle.gup_space.specs.Space.{space_of, HasRoom};
+ghost use Rattle.gup_space.specs.Shows.{change_of};
 ghost use Rattle.gup_space.specs.Counted.{IsCounted};
 ghost use Rattle.gup_fault.specs.Refused.{denial_of, frame_denial};
-ghost use Rattle.gup_fault.specs.Faults.{change_of, IsFault, HasEntry, IsReadOnly, IsMarked, IsWritable, KeepsAlone};
+ghost use Rattle.gup_fault.specs.Faults.{IsFault, HasEntry, IsReadOnly, IsMarked, IsWritable, KeepsAlone};
 
 use crate::denied::{Denied, NoFrame};
 use crate::steps::{break_entry, fill, fill_writable};

@@ -6,10 +6,10 @@ ghost use Rattle.gup_frames.specs.Frames.{frames_of, free_frame};
 ghost use Rattle.gup_events.specs.Event.{upgrade as upgrades};
 ghost use Rattle.gup_events.specs.Fault.{fills, fills_writable, marks, breaks};
 ghost use Rattle.gup_space.specs.Space.{space_of, HasRoom};
-ghost use Rattle.gup_space.specs.Shows.{AreEvents};
+ghost use Rattle.gup_space.specs.Shows.{change_of, AreEvents};
 ghost use Rattle.gup_space.specs.Counted.{IsCounted};
 ghost use Rattle.gup_fault.specs.Refused.{frame_denial};
-ghost use Rattle.gup_fault.specs.Faults.{change_of, one_event, IsFault, KeepsBytes, HasEntry, IsExclusiveEntry};
+ghost use Rattle.gup_fault.specs.Faults.{one_event, IsFault, KeepsBytes, HasEntry, IsExclusiveEntry};
 
 use crate::denied::NoFrame;
 use gup_base::{Allowed, Entry, PageNo};

@@ -1,7 +1,7 @@
 -- What frames and a process are to a state of the core machine.
 use Rattle.std.specs.Prelude.{◌≡◌, ℕ, List, Option, None}
-use Rattle.gup_frames.specs.Frames.{FramesValue}
-use Rattle.gup_space.specs.Space.{SpaceValue}
+use Rattle.gup_frames.specs.Frames.{FramesValue, FrameLists, frames_of}
+use Rattle.gup_space.specs.Space.{SpaceValue, SpaceParts, space_of}
 use Rattle.gup_events.specs.State.{CoreState}
 use Rattle.gup_events.specs.Event.{CoreEvent}
 use Rattle.gup_events.specs.Invariant.{run}
@@ -30,6 +30,16 @@ pub record Change : Type 0 where
   pub new_frames : FramesValue
   pub old_space : SpaceValue
   pub new_space : SpaceValue
+
+-- from these lists and parts to those
+abbrev pub change_of : (old_frames new_frames : FrameLists) → (old_space new_space : SpaceParts) → Change
+change_of old_frames new_frames old_space new_space =
+    record {
+      old_frames = frames_of old_frames;
+      new_frames = frames_of new_frames;
+      old_space = space_of old_space;
+      new_space = space_of new_space;
+    }
 
 -- In whatever state they stand, be the table lock free: these events of an actor lead from what was to what is.
 abbrev pub AreEvents : Change → (events : (a p : ℕ) → List CoreEvent) → Type 0

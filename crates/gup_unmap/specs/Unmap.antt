@@ -1,1 +1,0 @@
--- (the calls of this crate are stated with gup_space/specs/Shows and gup_events/specs/Fault)
