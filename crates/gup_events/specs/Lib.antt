@@ -2,3 +2,4 @@ pub mod State
 pub mod Event
 pub mod Invariant
 pub mod Sound
+pub mod Fault

@@ -124,6 +124,13 @@ impl<V: Copy> Table<V> {
         self.rows.len() as u16
     }
 
+    /// A law: the rows stand in the order of their pages, so no page has two.
+    pub fn is_ordered(&self)
+        ensures { IsOrdered (pages_of self.now) }
+    {
+        let _rows = &self.rows;
+    }
+
     /// The value at the page, where there is one.
     pub fn get(&self, page: PageNo) -> Option<V>
         ensures { result ≡ at self.now page }

@@ -1,0 +1,34 @@
+-- Functions of numbers that are changed at one place, and the free frame.
+use Rattle.std.proofs.Common.{◌≡◌, ℕ, zero, suc, ◌+◌, ◌==◌, Bool, true, false, cond, Option, Some, None, refl, sym, ap, ◌∙◌, arith}
+use Rattle.std.proofs.lemmas.Bool.{eqb-true}
+use Rattle.std.proofs.lemmas.Bool.Decides.{nat_tests}
+use Rattle.gup_base.specs.declared.entry.Allowed.{Allowed}
+use Rattle.gup_base.specs.declared.entry.Allowed.TheVariants.{Any, Only}
+use Rattle.gup_base.specs.declared.entry.Zone.{Zone}
+use Rattle.gup_base.specs.declared.entry.Zone.TheVariants.{Movable, Normal}
+use Rattle.gup_plain.specs.Put.{put, lowest}
+use Rattle.gup_frames.specs.Frames.{FramesValue, free_frame, frames_in}
+
+pub put_here : {X : Type 0} (k : ℕ) (x : X) (f : ℕ → X) → put k x f k ≡ x
+put_here k x f = grind (arith, nat_tests)
+
+pub put_away : {X : Type 0} (k j : ℕ) (x : X) (f : ℕ → X) → (j ≡ k → ⊥) → put k x f j ≡ f j
+put_away k j x f apart = grind (arith, nat_tests)
+
+-- the lowest number that passes a test passes it
+pub lowest_passes : (first n : ℕ) (test : ℕ → Bool) (f : ℕ) → lowest first n test ≡ Some f → test f ≡ true
+lowest_passes first zero test f is = absurd (cc)
+lowest_passes first (suc n) test f is = here_or (test first) refl is (lowest_passes (first + 1) n test f)
+  where
+    here_or : (passes : Bool) → test first ≡ passes → cond passes (Some first) (lowest (first + 1) n test) ≡ Some f → (lowest (first + 1) n test ≡ Some f → test f ≡ true) → test f ≡ true
+    here_or true passed is later = let e : first ≡ f = cc in ap test (sym e) ∙ passed
+    here_or false failed is later = later is
+
+-- a frame that may be taken has no references
+pub free_is_free : (frames : FramesValue) (allowed : Allowed) (f : ℕ) → free_frame frames allowed ≡ Some f → frames.count f ≡ 0
+free_is_free frames Any f is = eqb-true (frames.count f) 0 (lowest_passes 0 (frames_in frames) (λ g. frames.count g == 0) f is)
+free_is_free frames (Only Movable) f is = eqb-true (frames.count f) 0 (lowest_passes 0 frames.movable (λ g. frames.count g == 0) f is)
+free_is_free frames (Only Normal) f is = eqb-true (frames.count f) 0 (lowest_passes frames.movable frames.normal (λ g. frames.count g == 0) f is)
+
+pub free_is_other : (frames : FramesValue) (allowed : Allowed) (f g : ℕ) → free_frame frames allowed ≡ Some f → (frames.count g ≡ 0 → ⊥) → g ≡ f → ⊥
+free_is_other frames allowed f g is held same = held (ap frames.count same ∙ free_is_free frames allowed f is)

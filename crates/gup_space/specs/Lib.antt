@@ -1,0 +1,5 @@
+pub mod Space
+pub mod Shows
+pub mod After
+pub mod ShowsLemmas
+pub mod Counted

@@ -1,0 +1,154 @@
+-- Events of one process leave every other process as it is, and what they make of it and of frames is shown.
+use Rattle.std.specs.Prelude.{◌≡◌, ℕ, Bool, List, [], ◌∷◌, Option, None}
+use Rattle.std.proofs.Common.{refl, sym, ap, subst, ◌∙◌, arith}
+use Rattle.std.proofs.lemmas.Bool.Decides.{nat_tests}
+use Rattle.gup_base.specs.declared.entry.Entry.{Entry}
+use Rattle.gup_base.specs.declared.entry.Rights.{Rights}
+use Rattle.gup_space.specs.Space.{SpaceValue}
+use Rattle.gup_frames.specs.Frames.{FramesValue}
+use Rattle.gup_space.specs.Shows.{ShowsFrames, ShowsSpace, Change, AreEvents}
+use Rattle.gup_space.specs.After.{IsOf, taking, filling, counting, marking_it, upgrading, breaking, putting, dropping, discarding, mapping, lowering, protecting, loading, storing, AreOf, frames_after, space_after, all_frames_after, all_space_after, IsShownAs, IsMadeBy}
+use Rattle.gup_events.specs.State.{CoreState}
+use Rattle.gup_events.specs.Event.{CoreEvent, happens, take_frame, fill, count_one, set_mark, upgrade, break_entry, put_entry, drop_entry, discard_entry, map_pages, lower_entry, protect_pages, load, store}
+use Rattle.gup_events.specs.Invariant.{run}
+
+pub leaves_other : (p q : ℕ) (space : SpaceValue) (s : CoreState) {e : CoreEvent} → (p ≡ q → ⊥) → IsOf p e → ShowsSpace q space s → ShowsSpace q space (happens s e)
+leaves_other p q space s other (taking a f) h =
+    record { right = h.right; pages = h.pages; entry = h.entry; sequence = h.sequence; has_pinned = h.has_pinned; structure = h.structure; table = h.table }
+leaves_other p q space s other (filling a page f) h =
+    record { right = h.right; pages = h.pages; entry = λ g. grind (arith, nat_tests, h.entry g); sequence = h.sequence; has_pinned = h.has_pinned; structure = h.structure; table = h.table }
+leaves_other p q space s other (counting a page f writable) h =
+    record { right = h.right; pages = h.pages; entry = h.entry; sequence = h.sequence; has_pinned = h.has_pinned; structure = h.structure; table = grind (arith, nat_tests, h.table) }
+leaves_other p q space s other (marking_it a page f) h =
+    record { right = h.right; pages = h.pages; entry = h.entry; sequence = h.sequence; has_pinned = h.has_pinned; structure = h.structure; table = grind (arith, nat_tests, h.table) }
+leaves_other p q space s other (upgrading a page f) h =
+    record { right = h.right; pages = h.pages; entry = λ g. grind (arith, nat_tests, h.entry g); sequence = h.sequence; has_pinned = h.has_pinned; structure = h.structure; table = h.table }
+leaves_other p q space s other (breaking a page old new was writable) h =
+    record { right = h.right; pages = h.pages; entry = λ g. grind (arith, nat_tests, h.entry g); sequence = h.sequence; has_pinned = h.has_pinned; structure = h.structure; table = h.table }
+leaves_other p q space s other (putting a f) h =
+    record { right = h.right; pages = h.pages; entry = h.entry; sequence = h.sequence; has_pinned = h.has_pinned; structure = h.structure; table = h.table }
+leaves_other p q space s other (dropping a page was) h =
+    record { right = λ g. grind (arith, nat_tests, h.right g); pages = grind (arith, nat_tests, h.pages); entry = λ g. grind (arith, nat_tests, h.entry g); sequence = h.sequence; has_pinned = h.has_pinned; structure = h.structure; table = h.table }
+leaves_other p q space s other (discarding a page was) h =
+    record { right = h.right; pages = h.pages; entry = λ g. grind (arith, nat_tests, h.entry g); sequence = h.sequence; has_pinned = h.has_pinned; structure = h.structure; table = h.table }
+leaves_other p q space s other (mapping a page n rights) h =
+    record { right = λ g. grind (arith, nat_tests, h.right g); pages = grind (arith, nat_tests, h.pages); entry = h.entry; sequence = h.sequence; has_pinned = h.has_pinned; structure = h.structure; table = h.table }
+leaves_other p q space s other (lowering a page f) h =
+    record { right = h.right; pages = h.pages; entry = λ g. grind (arith, nat_tests, h.entry g); sequence = h.sequence; has_pinned = h.has_pinned; structure = h.structure; table = h.table }
+leaves_other p q space s other (protecting a page n rights) h =
+    record { right = λ g. grind (arith, nat_tests, h.right g); pages = h.pages; entry = h.entry; sequence = h.sequence; has_pinned = h.has_pinned; structure = h.structure; table = h.table }
+leaves_other p q space s other (loading a page word f value) h = h
+leaves_other p q space s other (storing a page word f value) h =
+    record { right = h.right; pages = h.pages; entry = h.entry; sequence = h.sequence; has_pinned = h.has_pinned; structure = h.structure; table = h.table }
+
+-- and so do lists of them
+pub leave_other : (p q : ℕ) (space : SpaceValue) (s : CoreState) (es : List CoreEvent) → (p ≡ q → ⊥) → AreOf p es → ShowsSpace q space s → ShowsSpace q space (run s es)
+leave_other p q space s [] other of h = h
+leave_other p q space s (e ∷ es) other of h =
+    leave_other p q space (happens s e) es other of.1 (leaves_other p q space s other of.0 h)
+
+-- ---- frames and a process behind events of that process
+
+pub shows_frames : (p : ℕ) (frames : FramesValue) (s : CoreState) {e : CoreEvent} → IsOf p e → ShowsFrames frames s → ShowsFrames (frames_after e frames) (happens s e)
+shows_frames p frames s (taking a f) h =
+    record { movable = h.movable; normal = h.normal; count = λ g. grind (arith, nat_tests, h.count g); mark = λ g. grind (arith, nat_tests, h.mark g); word = λ g w. grind (arith, nat_tests, h.word g w) }
+shows_frames p frames s (filling a page f) h =
+    record { movable = h.movable; normal = h.normal; count = h.count; mark = λ g. grind (arith, nat_tests, h.mark g); word = h.word }
+shows_frames p frames s (counting a page f writable) h =
+    record { movable = h.movable; normal = h.normal; count = h.count; mark = h.mark; word = h.word }
+shows_frames p frames s (marking_it a page f) h =
+    record { movable = h.movable; normal = h.normal; count = h.count; mark = λ g. grind (arith, nat_tests, h.mark g); word = h.word }
+shows_frames p frames s (upgrading a page f) h =
+    record { movable = h.movable; normal = h.normal; count = h.count; mark = h.mark; word = h.word }
+shows_frames p frames s (breaking a page old new was writable) h =
+    record { movable = h.movable; normal = h.normal; count = h.count; mark = λ g. grind (arith, nat_tests, h.mark g); word = λ g w. grind (arith, nat_tests, h.word g w, h.word old w) }
+shows_frames p frames s (putting a f) h =
+    record { movable = h.movable; normal = h.normal; count = λ g. grind (arith, nat_tests, h.count g, h.count f); mark = λ g. grind (arith, nat_tests, h.mark g, h.mark f, h.count f); word = h.word }
+shows_frames p frames s (dropping a page was) h =
+    record { movable = h.movable; normal = h.normal; count = h.count; mark = h.mark; word = h.word }
+shows_frames p frames s (discarding a page was) h =
+    record { movable = h.movable; normal = h.normal; count = h.count; mark = h.mark; word = h.word }
+shows_frames p frames s (mapping a page n rights) h =
+    record { movable = h.movable; normal = h.normal; count = h.count; mark = h.mark; word = h.word }
+shows_frames p frames s (lowering a page f) h =
+    record { movable = h.movable; normal = h.normal; count = h.count; mark = h.mark; word = h.word }
+shows_frames p frames s (protecting a page n rights) h =
+    record { movable = h.movable; normal = h.normal; count = h.count; mark = h.mark; word = h.word }
+shows_frames p frames s (loading a page word f value) h =
+    record { movable = h.movable; normal = h.normal; count = h.count; mark = h.mark; word = h.word }
+shows_frames p frames s (storing a page word f value) h =
+    record { movable = h.movable; normal = h.normal; count = h.count; mark = h.mark; word = λ g w. grind (arith, nat_tests, h.word g w) }
+
+pub shows_space : (p : ℕ) (space : SpaceValue) (s : CoreState) {e : CoreEvent} → IsOf p e → ShowsSpace p space s → ShowsSpace p (space_after e space) (happens s e)
+shows_space p space s (taking a f) h =
+    record { right = h.right; pages = h.pages; entry = h.entry; sequence = h.sequence; has_pinned = h.has_pinned; structure = h.structure; table = h.table }
+shows_space p space s (filling a page f) h =
+    record { right = h.right; pages = h.pages; entry = λ g. grind (arith, nat_tests, h.entry g); sequence = h.sequence; has_pinned = h.has_pinned; structure = h.structure; table = h.table }
+shows_space p space s (counting a page f writable) h =
+    record { right = h.right; pages = h.pages; entry = h.entry; sequence = h.sequence; has_pinned = h.has_pinned; structure = h.structure; table = grind (arith, nat_tests, h.table) }
+shows_space p space s (marking_it a page f) h =
+    record { right = h.right; pages = h.pages; entry = h.entry; sequence = h.sequence; has_pinned = h.has_pinned; structure = h.structure; table = grind (arith, nat_tests, h.table) }
+shows_space p space s (upgrading a page f) h =
+    record { right = h.right; pages = h.pages; entry = λ g. grind (arith, nat_tests, h.entry g); sequence = h.sequence; has_pinned = h.has_pinned; structure = h.structure; table = h.table }
+shows_space p space s (breaking a page old new was writable) h =
+    record { right = h.right; pages = h.pages; entry = λ g. grind (arith, nat_tests, h.entry g); sequence = h.sequence; has_pinned = h.has_pinned; structure = h.structure; table = h.table }
+shows_space p space s (putting a f) h =
+    record { right = h.right; pages = h.pages; entry = h.entry; sequence = h.sequence; has_pinned = h.has_pinned; structure = h.structure; table = h.table }
+shows_space p space s (dropping a page was) h =
+    record { right = λ g. grind (arith, nat_tests, h.right g); pages = grind (arith, nat_tests, h.pages); entry = λ g. grind (arith, nat_tests, h.entry g); sequence = h.sequence; has_pinned = h.has_pinned; structure = h.structure; table = h.table }
+shows_space p space s (discarding a page was) h =
+    record { right = h.right; pages = h.pages; entry = λ g. grind (arith, nat_tests, h.entry g); sequence = h.sequence; has_pinned = h.has_pinned; structure = h.structure; table = h.table }
+shows_space p space s (mapping a page n rights) h =
+    record { right = λ g. grind (arith, nat_tests, h.right g); pages = grind (arith, nat_tests, h.pages); entry = h.entry; sequence = h.sequence; has_pinned = h.has_pinned; structure = h.structure; table = h.table }
+shows_space p space s (lowering a page f) h =
+    record { right = h.right; pages = h.pages; entry = λ g. grind (arith, nat_tests, h.entry g); sequence = h.sequence; has_pinned = h.has_pinned; structure = h.structure; table = h.table }
+shows_space p space s (protecting a page n rights) h =
+    record { right = λ g. grind (arith, nat_tests, h.right g); pages = h.pages; entry = h.entry; sequence = h.sequence; has_pinned = h.has_pinned; structure = h.structure; table = h.table }
+shows_space p space s (loading a page word f value) h =
+    record { right = h.right; pages = h.pages; entry = h.entry; sequence = h.sequence; has_pinned = h.has_pinned; structure = h.structure; table = h.table }
+shows_space p space s (storing a page word f value) h =
+    record { right = h.right; pages = h.pages; entry = h.entry; sequence = h.sequence; has_pinned = h.has_pinned; structure = h.structure; table = h.table }
+
+pub show_frames : (p : ℕ) (frames : FramesValue) (s : CoreState) (es : List CoreEvent) → AreOf p es → ShowsFrames frames s → ShowsFrames (all_frames_after es frames) (run s es)
+show_frames p frames s [] of h = h
+show_frames p frames s (e ∷ es) of h =
+    show_frames p (frames_after e frames) (happens s e) es of.1 (shows_frames p frames s of.0 h)
+
+pub show_space : (p : ℕ) (space : SpaceValue) (s : CoreState) (es : List CoreEvent) → AreOf p es → ShowsSpace p space s → ShowsSpace p (all_space_after es space) (run s es)
+show_space p space s [] of h = h
+show_space p space s (e ∷ es) of h =
+    show_space p (space_after e space) (happens s e) es of.1 (shows_space p space s of.0 h)
+
+pub shown_as : (p : ℕ) (space other : SpaceValue) (s : CoreState) → IsShownAs space other → ShowsSpace p space s → ShowsSpace p other s
+shown_as p space other s same h =
+    record {
+      right = λ g. h.right g ∙ same.right g;
+      pages = h.pages ∙ same.pages;
+      entry = λ g. h.entry g ∙ same.entry g;
+      sequence = h.sequence ∙ same.sequence;
+      has_pinned = h.has_pinned ∙ same.has_pinned;
+      structure = h.structure ∙ same.structure;
+      table = h.table ∙ same.table;
+    }
+
+pub same_shown : (space other : SpaceValue) → space ≡ other → IsShownAs space other
+same_shown space other same =
+    record {
+      right = λ g. ap (λ (x : SpaceValue). x.right g) same;
+      pages = ap (λ (x : SpaceValue). x.pages) same;
+      entry = λ g. ap (λ (x : SpaceValue). x.entry g) same;
+      sequence = ap (λ (x : SpaceValue). x.sequence) same;
+      has_pinned = ap (λ (x : SpaceValue). x.has_pinned) same;
+      structure = ap (λ (x : SpaceValue). x.structure) same;
+      table = ap (λ (x : SpaceValue). x.table) same;
+    }
+
+-- A call whose change is made by events, be the table lock free, is those events.
+pub are_events : (c : Change) (events : (a p : ℕ) → List CoreEvent) → ((a p : ℕ) → c.old_space.table ≡ None → IsMadeBy c p (events a p)) → AreEvents c events
+are_events c events made s a p frames space free =
+    let by : IsMadeBy c p (events a p) = made a p (sym space.table ∙ free) in
+    let behind : ShowsFrames (all_frames_after (events a p) c.old_frames) (run s (events a p)) = show_frames p c.old_frames s (events a p) by.own frames in
+    (
+      subst (λ (f : FramesValue). ShowsFrames f (run s (events a p))) (sym by.frames) behind,
+      shown_as p (all_space_after (events a p) c.old_space) c.new_space (run s (events a p)) by.space (show_space p c.old_space s (events a p) by.own space),
+    )

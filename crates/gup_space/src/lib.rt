@@ -1,0 +1,7 @@
+//! One process of the machine: its mappings, its page table entries, and what forks, pins and locks keep of it.
+#![tactic(auto)]
+
+mod space;
+
+pub use space::Space;
+

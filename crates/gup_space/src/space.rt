@@ -1,0 +1,199 @@
+//! One process of the machine.
+ghost use Rattle.std.specs.Prelude.{◌≡◌, ℕ, ◌+◌, ◌<◌, ◌≤◌, ◌^◌, ◌↔◌, true, false, is_some, is_err, None, Some, Err, IfOk, OnOk, OnErr, IsSome, MatchOption};
+ghost use Rattle.gup_plain.specs.Denial.{any_mapped, any_unmapped};
+ghost use Rattle.gup_maps.specs.Maps.{IsNextPage, IsLastPage};
+ghost use Rattle.gup_space.specs.Space.{no_space, space_of, with_entry, with_rights, with_pages, without_page, AreMapped};
+
+use gup_base::{ActorNo, Entry, NoMemory, PageNo, Rights};
+use gup_maps::{Hole, MapRefusal, Maps, Table};
+use std::alloc::Global;
+use std::marker::Model;
+
+/// One process: its mappings, and what a page table has of it (of Linux's `mm_struct`). At most 1,024 pages are mapped,
+/// and at most 1,024 have an entry.
+#[derive(Drop)]
+pub struct Space {
+    maps: Maps,
+    entries: Table<Entry>,
+    sequence: u64,
+    has_pinned: bool,
+    structure: Option<ActorNo>,
+    table: Option<ActorNo>,
+}
+
+impl Model for Space {
+    ghost use Rattle.gup_space.specs.Space.{SpaceParts};
+
+    ghost Value = { SpaceParts };
+
+    ghost view = { λ s. record {
+        rights = s.maps;
+        entries = s.entries;
+        sequence = s.sequence;
+        has_pinned = s.has_pinned;
+        structure = s.structure;
+        table = s.table;
+    } };
+}
+
+impl Space {
+    /// A process without mappings and entries, which has never forked or pinned and whose locks are free, with the
+    /// memory for all that it will have: no other call takes any.
+    pub fn new(alloc: Global) -> Result<Space, NoMemory>
+        ensures { IfOk result (λ space. space_of space ≡ no_space) }
+    {
+        let maps = Maps::new(alloc)?;
+        let entries = Table::new(alloc)?;
+        Ok(Space {
+            maps,
+            entries,
+            sequence: 0,
+            has_pinned: false,
+            structure: None,
+            table: None,
+        })
+    }
+
+    /// The page's entry, where it has one.
+    pub fn entry(&self, page: PageNo) -> Option<Entry>
+        ensures { result ≡ (space_of self.now).entry page }
+    {
+        self.entries.get(page)
+    }
+
+    /// Gives the page this entry, or takes away the one that it has. A page that gets one is mapped, and finds room.
+    pub fn set_entry(&mut self, page: PageNo, entry: Option<Entry>)
+        requires mapped { IsSome entry → IsSome ((space_of self.old).right page) }
+        requires room { IsSome entry → (space_of self.old).entry page ≡ None → (space_of self.old).entries < 1024 }
+        ensures { space_of self.new ≡ with_entry page entry (space_of self.old) }
+    {
+        match entry {
+            Some(entry) => self.entries.set(page, entry),
+            None => {
+                let _old = self.entries.remove(page);
+            }
+        }
+    }
+
+    /// A law: where each page with an entry is mapped, a mapped page without one finds room for one.
+    pub fn has_room(&self, page: PageNo)
+        ensures { AreMapped (space_of self.now) → IsSome ((space_of self.now).right page)
+            → (space_of self.now).entry page ≡ None → (space_of self.now).entries < 1024 }
+    {
+        let _pages = self.maps.len();
+        self.entries.is_ordered();
+    }
+
+    /// How many pages are mapped, at most 1,024.
+    pub fn len(&self) -> u16
+        ensures len { result ≡ (space_of self.now).pages }
+        ensures within { result ≤ 1024 }
+    {
+        self.maps.len()
+    }
+
+    /// The rights of the page, where it is mapped.
+    pub fn rights_at(&self, page: PageNo) -> Option<Rights>
+        ensures { result ≡ (space_of self.now).right page }
+    {
+        self.maps.rights_at(page)
+    }
+
+    /// The least mapped page at or above `from`, where there is one.
+    pub fn next_page(&self, from: PageNo) -> Option<PageNo>
+        ensures { MatchOption result (IsLastPage (space_of self.now).right from) (IsNextPage (space_of self.now).right from) }
+    {
+        self.maps.next_page(from)
+    }
+
+    /// Maps the `n` pages from `page` on with these rights, as [`Maps::map`] does: they end below 2^35.
+    ///
+    /// A refusal changes nothing: `Overlap` exactly where one of the pages is mapped, else `Full` exactly where more
+    /// than 1,024 pages would be.
+    pub fn map(&mut self, page: PageNo, n: u16, rights: Rights) -> Result<(), MapRefusal>
+        requires { page + n ≤ 2 ^ 35 }
+        ensures overlap { (result ≡ Err MapRefusal.Overlap) ↔ (any_mapped (space_of self.old).right page n ≡ true) }
+        ensures full { (result ≡ Err MapRefusal.Full)
+            ↔ ((any_mapped (space_of self.old).right page n ≡ false) × (1024 < (space_of self.old).pages + n)) }
+        ensures mapped { OnOk result (space_of self.new ≡ with_pages page n rights (space_of self.old)) }
+        ensures err { OnErr result (space_of self.new ≡ space_of self.old) }
+    {
+        self.maps.map(page, n, rights)
+    }
+
+    /// Unmaps the page, and answers whether it was mapped. Its entry stays, if it has one.
+    pub fn unmap_page(&mut self, page: PageNo) -> bool
+        ensures was { result ≡ is_some ((space_of self.old).right page) }
+        ensures unmapped { space_of self.new ≡ without_page page (space_of self.old) }
+    {
+        self.maps.unmap_page(page)
+    }
+
+    /// Gives the `n` pages from `page` on these rights, as [`Maps::protect`] does.
+    ///
+    /// `Hole` comes exactly where one of the pages isn't mapped, and then nothing changes.
+    pub fn protect(&mut self, page: PageNo, n: u16, rights: Rights) -> Result<(), Hole>
+        ensures hole { is_err result ≡ any_unmapped (space_of self.old).right page n }
+        ensures protected { OnOk result (space_of self.new ≡ with_rights page n rights (space_of self.old)) }
+        ensures err { OnErr result (space_of self.new ≡ space_of self.old) }
+    {
+        self.maps.protect(page, n, rights)
+    }
+
+    /// The number that the beginning and the end of each fork raise (Linux's `write_protect_seq`).
+    pub fn sequence(&self) -> u64
+        ensures { result ≡ (space_of self.now).sequence }
+    {
+        self.sequence
+    }
+
+    /// Raises that number by one.
+    pub fn raise(&mut self)
+        requires { (space_of self.old).sequence < 2 ^ 40 }
+        ensures { space_of self.new ≡ record (space_of self.old) { sequence = (space_of self.old).sequence + 1 } }
+    {
+        self.sequence += 1;
+    }
+
+    /// Whether the process has ever pinned (Linux's `MMF_HAS_PINNED`).
+    pub fn has_pinned(&self) -> bool
+        ensures { result ≡ (space_of self.now).has_pinned }
+    {
+        self.has_pinned
+    }
+
+    /// From now on the process has pinned, or hasn't.
+    pub fn set_pinned(&mut self, on: bool)
+        ensures { space_of self.new ≡ record (space_of self.old) { has_pinned = on } }
+    {
+        self.has_pinned = on;
+    }
+
+    /// The actor that holds the lock of the process's structure (Linux's `mmap_lock` for writing), where one does.
+    pub fn structure(&self) -> Option<ActorNo>
+        ensures { result ≡ (space_of self.now).structure }
+    {
+        self.structure
+    }
+
+    /// Gives that lock to this actor, or frees it.
+    pub fn set_structure(&mut self, holder: Option<ActorNo>)
+        ensures { space_of self.new ≡ record (space_of self.old) { structure = holder } }
+    {
+        self.structure = holder;
+    }
+
+    /// The actor that holds the lock of the process's page tables (Linux's page table lock), where one does.
+    pub fn table(&self) -> Option<ActorNo>
+        ensures { result ≡ (space_of self.now).table }
+    {
+        self.table
+    }
+
+    /// Gives that lock to this actor, or frees it.
+    pub fn set_table(&mut self, holder: Option<ActorNo>)
+        ensures { space_of self.new ≡ record (space_of self.old) { table = holder } }
+    {
+        self.table = holder;
+    }
+}
