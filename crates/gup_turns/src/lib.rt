@@ -7,8 +7,9 @@ ghost use Rattle.gup_script.specs.Script.{ScriptValue};
 ghost use Rattle.gup_script.specs.Valid.{IsScript};
 ghost use Rattle.gup_follows.specs.Plain.{IsPlain};
 ghost use Rattle.gup_follows.specs.Follows.{Follows};
-ghost use Rattle.gup_follows.specs.Order.{InOrder};
-ghost use Rattle.gup_turns.specs.Run.{RunState, IsCoreRun};
+ghost use Rattle.gup_follows.specs.Order.{Turn, InOrder};
+ghost use Rattle.gup_turns.specs.Run.{RunState, Runs, run_start, IsCoreRun};
+ghost use Rattle.gup_turns.specs.Cause.{FindNoFrame};
 
 /// A script has one core run.
 pub fn one_core_run()
