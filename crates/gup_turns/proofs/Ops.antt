@@ -279,16 +279,20 @@ module _ (s : CoreState) (a p : ℕ) (place : Place) (h : IsOpen s p) where
 
   -- the reference of the entry that an event took out is given back
   given_back : (t : CoreState) (entry : Option Entry) → t.prepared ≡ s.prepared → t.owed ≡ put a (option_map (λ (e : Entry). e.frame) entry) s.owed → AllCan t (gives_back a entry) × AtRest (run t (gives_back a entry))
-  given_back t None prepared owed =
-      (tt, record {
-        prepared = λ b. ap (λ (f : ℕ → Option ℕ). f b) prepared ∙ h.rest.prepared b;
-        owed = λ b. ap (λ (f : ℕ → Option ℕ). f b) owed ∙ grind (arith, nat_tests, h.rest.owed b);
-      })
-  given_back t (Some e) prepared owed =
-      ((ap (λ (f : ℕ → Option ℕ). f a) owed ∙ put_same a (Some e.frame) s.owed, tt), record {
-        prepared = λ b. ap (λ (f : ℕ → Option ℕ). f b) prepared ∙ h.rest.prepared b;
-        owed = λ b. let was : t.owed b ≡ put a (Some e.frame) s.owed b = ap (λ (f : ℕ → Option ℕ). f b) owed in grind (arith, nat_tests, was, h.rest.owed b);
-      })
+  given_back t None prepared owed = (
+    tt,
+    record {
+      prepared = λ b. ap (λ (f : ℕ → Option ℕ). f b) prepared ∙ h.rest.prepared b;
+      owed = λ b. ap (λ (f : ℕ → Option ℕ). f b) owed ∙ grind (arith, nat_tests, h.rest.owed b);
+    },
+  )
+  given_back t (Some e) prepared owed = (
+    (ap (λ (f : ℕ → Option ℕ). f a) owed ∙ put_same a (Some e.frame) s.owed, tt),
+    record {
+      prepared = λ b. ap (λ (f : ℕ → Option ℕ). f b) prepared ∙ h.rest.prepared b;
+      owed = λ b. let was : t.owed b ≡ put a (Some e.frame) s.owed b = ap (λ (f : ℕ → Option ℕ). f b) owed in grind (arith, nat_tests, was, h.rest.owed b);
+    },
+  )
 
   gives_events : (entry : Option Entry) → AreTurnEvents (gives_back a entry)
   gives_events None = tt

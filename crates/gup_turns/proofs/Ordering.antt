@@ -13,7 +13,7 @@ use Rattle.gup_follows.specs.Place.{Place, process_of, ops_of}
 use Rattle.gup_turns.specs.Run.{RunState, Runs, next_actor, next_by, written_in, turn_in, run_after, op_in, waiting_with, waiting_in, taken_in, is_ready, can_go}
 use Rattle.gup_turns.proofs.Pointer.{PointerFits, IsFirstToGo, pointed_some, none_can_go, pointer_fits}
 use Rattle.gup_turns.proofs.Puts.{some_same}
-use Rattle.gup_turns.proofs.Shapes.{TurnOf, refused, mapped, protected, loaded, stored, took, took_last, passed, passed_last, took_lowest, took_all, GoesOver, unmaps, discards, TurnAt, idles, waits, goes}
+use Rattle.gup_turns.proofs.Shapes.{TurnOf, refused, mapped, protected, loaded, stored, took, took_last, passed, passed_last, took_lowest, took_all, TurnAt, idles, waits, goes}
 use Rattle.gup_turns.proofs.Stands.{stands_on, same_plain}
 use Rattle.gup_turns.proofs.Steps.{Stands, taken, waiting_agrees}
 use Rattle.gup_turns.proofs.Through.{Law}

@@ -5,7 +5,7 @@ use Rattle.gup_plain.specs.declared.note.What.TheVariants.{Done}
 use Rattle.gup_script.specs.Script.{ScriptValue}
 use Rattle.gup_events.specs.State.{CoreState}
 use Rattle.gup_follows.specs.Order.{Turn}
-use Rattle.gup_turns.specs.Run.{RunState, run_start, run_after}
+use Rattle.gup_turns.specs.Run.{RunState, run_after}
 
 -- each frame of the machine has a reference
 abbrev pub AreAllHeld : CoreState → Type 0
