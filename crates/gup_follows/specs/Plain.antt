@@ -6,6 +6,8 @@ use Rattle.gup_plain.specs.Put.{put}
 use Rattle.gup_plain.specs.State.{PlainState, Birth, unborn, growing, born, failed, start}
 use Rattle.gup_plain.specs.Event.{CanHappen, happened}
 use Rattle.gup_plain.specs.declared.answer.Answer.{Answer}
+use Rattle.gup_plain.specs.declared.event.PlainEvent.{PlainEvent}
+use Rattle.gup_plain.specs.declared.event.PlainEvent.TheVariants as events
 use Rattle.gup_plain.specs.declared.note.What.{What}
 use Rattle.gup_plain.specs.declared.note.What.TheVariants.{Silent, Idle, Wait, Event, Done}
 use Rattle.gup_script.specs.declared.op.Op.{Op}
@@ -22,7 +24,13 @@ IsSettled failed = Unit {0}
 IsSettled unborn = ⊥
 IsSettled (growing parent) = ⊥
 
--- Where an operation goes page by page, a turn without an event passes a page that is not named.
+-- the page that an unmapping takes down
+abbrev pub page_in : PlainEvent → ℕ
+page_in (events.Unmap actor proc page) = page
+page_in e = 0
+
+-- Where an operation goes page by page, a turn without an event passes a page that is not named. An exit passes none,
+-- and ends where no page is named.
 abbrev pub Passes : PlainState → ℕ → Op → (far : ℕ) → Type 0
 Passes s p (Unmap page n) far = far < n → s.right p (page + far) ≡ None
 Passes s p (Discard page n) far = far < n → s.right p (page + far) ≡ None
@@ -30,7 +38,17 @@ Passes s p (Map page n rights) far = Unit {0}
 Passes s p (Protect page n rights) far = Unit {0}
 Passes s p (Load page word) far = Unit {0}
 Passes s p (Store page word value) far = Unit {0}
-Passes s p Exit far = Unit {0}
+Passes s p Exit far = (page : ℕ) → s.right p page ≡ None
+
+-- an exit takes down the lowest page that is named
+abbrev pub TakesLowest : PlainState → ℕ → Op → PlainEvent → Type 0
+TakesLowest s p Exit e = (page : ℕ) → page < page_in e → s.right p page ≡ None
+TakesLowest s p (Unmap page n) e = Unit {0}
+TakesLowest s p (Discard page n) e = Unit {0}
+TakesLowest s p (Map page n rights) e = Unit {0}
+TakesLowest s p (Protect page n rights) e = Unit {0}
+TakesLowest s p (Load page word) e = Unit {0}
+TakesLowest s p (Store page word value) e = Unit {0}
 
 -- An answer without an event is the denial, if the plain state gives one, and else no denial.
 abbrev pub IsAnswerOf : Option Answer → Answer → Type 0
@@ -50,7 +68,7 @@ IsUndeniedAt false denied = denied ≡ None
 -- the note of an actor of process p, at this place of its operation, is right in the plain state
 abbrev pub IsRightOf : PlainState → ℕ → Place → Op → What → Type 0
 IsRightOf s p place op Silent = Passes s p op place.far
-IsRightOf s p place op (Event e) = CanHappen s e × IsUndeniedAt place.had (denial s p op)
+IsRightOf s p place op (Event e) = CanHappen s e × IsUndeniedAt place.had (denial s p op) × TakesLowest s p op e
 IsRightOf s p place op (Done answer) =
     IsSettled (s.birth p) × IsAnswerAfter place.had (denial s p op) answer × Passes s p op place.far
 IsRightOf s p place op Idle = Unit {0}

@@ -1,6 +1,7 @@
 -- A run follows its script, by induction over its turns.
 use Rattle.std.proofs.Common.{◌≡◌, ℕ, ◌+◌, ◌<◌, ◌==◌, ◌++◌, Bool, true, false, List, [], ◌∷◌, length, Option, Some, None, inl, refl, sym, ap, ap₂, ◌∙◌, subst, eqb-true, if◌then◌else◌, arith}
 use Rattle.std.proofs.lemmas.Bool.Decides.{nat_tests}
+use Rattle.gup_script.specs.Valid.{IsScript}
 use Rattle.gup_plain.specs.Note.{NoteValue}
 use Rattle.gup_plain.specs.State.{born}
 use Rattle.gup_script.specs.Script.{ScriptValue}
@@ -8,7 +9,7 @@ use Rattle.gup_script.specs.declared.op.Op.{Op}
 use Rattle.gup_follows.specs.Follows.{own_notes, notes_of_turn}
 use Rattle.gup_follows.specs.Order.{Turn, journal_of, waiting_at}
 use Rattle.gup_follows.specs.Place.{Place, place_behind, process_of, ops_of}
-use Rattle.gup_turns.specs.Run.{RunState, Runs, run_after, op_in, waiting_with, waiting_in, taken_in, is_ready, can_go, HasTurns}
+use Rattle.gup_turns.specs.Run.{RunState, Runs, run_after, op_in, waiting_with, waiting_in, taken_in, is_ready, can_go}
 use Rattle.gup_turns.proofs.Following.{LeftAt, Left, ops_split, ops_over, turn_left, other_left}
 use Rattle.gup_turns.proofs.Owning.{own_append}
 use Rattle.gup_turns.proofs.Pointer.{PointerFits, none_can_go, pointer_fits}
@@ -41,7 +42,7 @@ end_left script r h over a (Some op) is =
     subst (λ (os : List Op). Left a (process_of script a) (place.answered + 1) os place.far []) (sym (ops_split (ops_of script a) place.answered op is)) (inl (first, refl))
 
 -- what a turn of actor b does to what is left of actor a
-turn_of_any : (script : ScriptValue) (valid : HasTurns script) (r : RunState) (h : Stands script r) (b t a : ℕ) (later : List NoteValue) (own : Bool) → (a == b) ≡ own → LeftOf script a (if own then place_behind (r.places b) (taken_in script r b).whats else r.places a) later → LeftOf script a (r.places a) (own_notes a (notes_of_turn t b ((r.places b).answered + 1) (taken_in script r b).whats) ++ later)
+turn_of_any : (script : ScriptValue) (valid : IsScript script) (r : RunState) (h : Stands script r) (b t a : ℕ) (later : List NoteValue) (own : Bool) → (a == b) ≡ own → LeftOf script a (if own then place_behind (r.places b) (taken_in script r b).whats else r.places a) later → LeftOf script a (r.places a) (own_notes a (notes_of_turn t b ((r.places b).answered + 1) (taken_in script r b).whats) ++ later)
 turn_of_any script valid r h b t a later true e left =
     let same : a ≡ b = eqb-true a b e in
     let whats = (taken_in script r b).whats in
@@ -52,7 +53,7 @@ turn_of_any script valid r h b t a later true e left =
 turn_of_any script valid r h b t a later false e left =
     other_left a (process_of script a) b t ((r.places b).answered + 1) (r.places a) (ops_of script a) (taken_in script r b).whats later (grind (arith, nat_tests)) left
 
-pub follows_run : Law → (script : ScriptValue) → HasTurns script → (turns : List Turn) (number : ℕ) (r end : RunState) → Stands script r → PointerFits script r → Runs script r turns end → (a : ℕ) → LeftOf script a (r.places a) (own_notes a (journal_of number r.places turns))
+pub follows_run : Law → (script : ScriptValue) → IsScript script → (turns : List Turn) (number : ℕ) (r end : RunState) → Stands script r → PointerFits script r → Runs script r turns end → (a : ℕ) → LeftOf script a (r.places a) (own_notes a (journal_of number r.places turns))
 follows_run law script valid [] number r end h fits run a = end_left script r h (none_can_go script r fits run.0).1 a (op_in script r a) refl
 follows_run law script valid (turn ∷ turns) number r end h fits run a =
     let b = turn.actor in

@@ -6,30 +6,38 @@ use Rattle.gup_plain.specs.State.{PlainState}
 use Rattle.gup_plain.specs.declared.event.PlainEvent.{PlainEvent}
 use Rattle.gup_plain.specs.declared.event.PlainEvent.TheVariants as events
 use Rattle.gup_plain.specs.declared.note.What.{What}
-use Rattle.gup_plain.specs.declared.note.What.TheVariants.{Idle, Wait}
+use Rattle.gup_plain.specs.declared.note.What.TheVariants.{Idle, Wait, Event}
 use Rattle.gup_plain.specs.declared.note.Waiting.{Waiting}
 use Rattle.gup_script.specs.declared.op.Op.{Op}
 use Rattle.gup_script.specs.declared.op.Op.TheVariants.{Map, Unmap, Protect, Discard, Load, Store, Exit}
-use Rattle.gup_follows.specs.Follows.{Who, IsRefused, TakesDown, TakesDownLast, TakesDownAll, Shape, Shapes, own_notes, notes_of_turn, is_of_operation}
+use Rattle.gup_follows.specs.Follows.{Who, IsTurn, IsRefused, TakesDown, TakesDownLast, TakesDownAll, TakesDownWhole, Shape, Shapes, own_notes, notes_of_turn, is_of_operation}
 use Rattle.gup_follows.specs.Place.{Place, place_behind}
 use Rattle.gup_turns.proofs.Puts.{some_same}
-use Rattle.gup_turns.proofs.Shapes.{TurnOf, refused, mapped, loaded, stored, took, took_last, passed, passed_last, TurnAt, idles, waits, goes}
+use Rattle.gup_turns.proofs.Shapes.{TurnOf, refused, mapped, protected, loaded, stored, took, took_last, passed, passed_last, took_lowest, took_all, GoesOver, unmaps, discards, TurnAt, idles, waits, goes}
 use Rattle.gup_turns.proofs.Ordering.{op_moves}
 use Rattle.gup_turns.proofs.Owning.{own_other, own_same, own_idle}
 
--- the event of one page of an `unmap`
-abbrev pub unmap_of : Who → ℕ → PlainEvent
-unmap_of who page = events.Unmap who.actor who.proc page
+-- What is left of an operation of which so many turns are over: of one that goes over pages, those behind; of an exit,
+-- so many pages as are still mapped.
+abbrev pub RestOver : Who → Op → (page n : ℕ) → (ℕ → PlainEvent) → (far : ℕ) → List NoteValue → Type 0
+RestOver who op page n event far notes = TakesDownAll who event (page + far) (n - far) notes ⊎ ((far ≡ 0) × IsRefused who op notes)
 
--- what is left of an operation of which so many turns are over
 abbrev pub RestOf : Who → Op → (far : ℕ) → List NoteValue → Type 0
-RestOf who (Unmap page n) far notes = TakesDownAll who (unmap_of who) (page + far) (n - far) notes ⊎ ((far ≡ 0) × IsRefused who (Unmap page n) notes)
+RestOf who (Unmap page n) far notes = RestOver who (Unmap page n) page n (events.Unmap who.actor who.proc) far notes
+RestOf who (Discard page n) far notes = RestOver who (Discard page n) page n (events.Discard who.actor who.proc) far notes
+RestOf who Exit far notes = ((pages : ℕ) × TakesDownWhole who pages notes) ⊎ ((far ≡ 0) × IsRefused who Exit notes)
 RestOf who (Map page n rights) far notes = Shape who (Map page n rights) notes
+RestOf who (Protect page n rights) far notes = Shape who (Protect page n rights) notes
 RestOf who (Load page word) far notes = Shape who (Load page word) notes
 RestOf who (Store page word value) far notes = Shape who (Store page word value) notes
-RestOf who (Protect page n rights) far notes = Shape who (Protect page n rights) notes
-RestOf who (Discard page n) far notes = Shape who (Discard page n) notes
-RestOf who Exit far notes = Shape who Exit notes
+
+rest_over : (who : Who) {op : Op} {page n : ℕ} {event : ℕ → PlainEvent} (far : ℕ) (notes : List NoteValue) → GoesOver who.actor who.proc op page n event → RestOf who op far notes → RestOver who op page n event far notes
+rest_over who far notes (unmaps page n) rest = rest
+rest_over who far notes (discards page n) rest = rest
+
+over_rest : (who : Who) {op : Op} {page n : ℕ} {event : ℕ → PlainEvent} (far : ℕ) (notes : List NoteValue) → GoesOver who.actor who.proc op page n event → RestOver who op page n event far notes → RestOf who op far notes
+over_rest who far notes (unmaps page n) rest = rest
+over_rest who far notes (discards page n) rest = rest
 
 -- what is left of the operation, and then those behind it
 abbrev pub Goes : (a p number : ℕ) → Op → List Op → (far : ℕ) → List NoteValue → Type 0
@@ -57,18 +65,23 @@ ops_over (o ∷ ops) (suc k) is = ops_over ops k is
 
 -- an operation of which no turn is over
 
-shape_of : (who : Who) (op : Op) (notes : List NoteValue) → RestOf who op 0 notes → Shape who op notes
-shape_of who (Unmap page n) notes (inl all) =
+all_of : (who : Who) (event : ℕ → PlainEvent) (page n : ℕ) (notes : List NoteValue) → TakesDownAll who event (page + 0) (n - 0) notes → TakesDownAll who event page n notes
+all_of who event page n notes all =
     let first : page + 0 ≡ page = omega arith in
     let many : n - 0 ≡ n = omega arith in
-    inl (subst (λ (k : ℕ). TakesDownAll who (unmap_of who) page k notes) many (subst (λ (g : ℕ). TakesDownAll who (unmap_of who) g (n - 0) notes) first all))
+    subst (λ (k : ℕ). TakesDownAll who event page k notes) many (subst (λ (g : ℕ). TakesDownAll who event g (n - 0) notes) first all)
+
+shape_of : (who : Who) (op : Op) (notes : List NoteValue) → RestOf who op 0 notes → Shape who op notes
+shape_of who (Unmap page n) notes (inl all) = inl (all_of who (events.Unmap who.actor who.proc) page n notes all)
 shape_of who (Unmap page n) notes (inr refusal) = inr refusal.1
+shape_of who (Discard page n) notes (inl all) = inl (all_of who (events.Discard who.actor who.proc) page n notes all)
+shape_of who (Discard page n) notes (inr refusal) = inr refusal.1
+shape_of who Exit notes (inl whole) = inl whole
+shape_of who Exit notes (inr refusal) = inr refusal.1
 shape_of who (Map page n rights) notes rest = rest
+shape_of who (Protect page n rights) notes rest = rest
 shape_of who (Load page word) notes rest = rest
 shape_of who (Store page word value) notes rest = rest
-shape_of who (Protect page n rights) notes rest = rest
-shape_of who (Discard page n) notes rest = rest
-shape_of who Exit notes rest = rest
 
 pub left_shapes : (a p number : ℕ) (ops : List Op) (notes : List NoteValue) → Left a p number ops 0 notes → Shapes a p number ops notes
 left_shapes a p number [] notes left = left
@@ -91,13 +104,13 @@ refused_rest who (Unmap page n) far now first refusal = inr (first, refusal)
 refused_rest who (Load page word) far now first refusal = inr refusal
 refused_rest who (Store page word value) far now first refusal = inr refusal
 refused_rest who (Protect page n rights) far now first refusal = inr refusal
-refused_rest who (Discard page n) far now first refusal = inr refusal
-refused_rest who Exit far now first refusal = inr refusal
+refused_rest who (Discard page n) far now first refusal = inr (first, refusal)
+refused_rest who Exit far now first refusal = inr (first, refusal)
 
-last_rest : (who : Who) (page n far : ℕ) (now : List NoteValue) → far + 1 ≡ n → TakesDownLast who (unmap_of who (page + far)) now → RestOf who (Unmap page n) far now
-last_rest who page n far now last down =
+last_rest : (who : Who) (op : Op) (page n : ℕ) (event : ℕ → PlainEvent) (far : ℕ) (now : List NoteValue) → far + 1 ≡ n → TakesDownLast who (event (page + far)) now → RestOver who op page n event far now
+last_rest who op page n event far now last down =
     let one : 1 ≡ n - far = omega arith in
-    inl (subst (λ (k : ℕ). TakesDownAll who (unmap_of who) (page + far) k now) one down)
+    inl (subst (λ (k : ℕ). TakesDownAll who event (page + far) k now) one down)
 
 -- from behind turn t of the actor to before it
 module _ (a p t : ℕ) (place : Place) (ops : List Op) (later : List NoteValue) where
@@ -119,27 +132,47 @@ module _ (a p t : ℕ) (place : Place) (ops : List Op) (later : List NoteValue) 
   ends op whats rest left = inr (now whats, later, refl, rest, left_shapes a p (place.answered + 1 + 1) ops_behind later left)
 
   -- it takes one page down, and goes on
-  takes_and_goes : (page n : ℕ) (whats : List What) → place.far + 1 < n → TakesDown present (unmap_of present (page + place.far)) (now whats) → Left a p (place.answered + 1) (Unmap page n ∷ ops_behind) (place.far + 1) later → LeftBefore (Unmap page n) (now whats ++ later)
-  takes_and_goes page n whats more down (inl none) = absurd (let e = none.0 in omega arith)
-  takes_and_goes page n whats more down (inr (front, rest, is, inr refusal, shapes)) = absurd (let e = refusal.0 in omega arith)
-  takes_and_goes page n whats more down (inr (front, rest, is, inl all, shapes)) =
+  goes_over : (op : Op) (page n : ℕ) (event : ℕ → PlainEvent) (whats : List What) (front rest : List NoteValue) → GoesOver a p op page n event → place.far + 1 < n → TakesDown present (event (page + place.far)) (now whats) → later ≡ front ++ rest → RestOver present op page n event (place.far + 1) front → Shapes a p (place.answered + 1 + 1) ops_behind rest → LeftBefore op (now whats ++ later)
+  goes_over op page n event whats front rest over more down is (inr refusal) shapes = absurd (let e = refusal.0 in omega arith)
+  goes_over op page n event whats front rest over more down is (inl all) shapes =
       let first = page + place.far in
       let left = n - (place.far + 1) in
       let next : page + (place.far + 1) ≡ first + 1 = omega arith in
       let many : suc left ≡ n - place.far = omega arith in
-      let there : TakesDownAll present (unmap_of present) (first + 1) left front = subst (λ (g : ℕ). TakesDownAll present (unmap_of present) g left front) next all in
-      let whole : TakesDownAll present (unmap_of present) first (n - place.far) (now whats ++ front) = subst (λ (k : ℕ). TakesDownAll present (unmap_of present) first k (now whats ++ front)) many (takes_down present (unmap_of present) first left (now whats) front (omega arith) down there) in
-      inr (now whats ++ front, rest, ap (λ (ns : List NoteValue). now whats ++ ns) is ∙ sym (append_assoc (now whats) front rest), inl whole, shapes)
+      let there : TakesDownAll present event (first + 1) left front = subst (λ (g : ℕ). TakesDownAll present event g left front) next all in
+      let whole : TakesDownAll present event first (n - place.far) (now whats ++ front) = subst (λ (k : ℕ). TakesDownAll present event first k (now whats ++ front)) many (takes_down present event first left (now whats) front (omega arith) down there) in
+      inr (now whats ++ front, rest, ap (λ (ns : List NoteValue). now whats ++ ns) is ∙ sym (append_assoc (now whats) front rest), over_rest present place.far (now whats ++ front) over (inl whole), shapes)
+
+  takes_and_goes : (op : Op) (page n : ℕ) (event : ℕ → PlainEvent) (whats : List What) → GoesOver a p op page n event → place.far + 1 < n → TakesDown present (event (page + place.far)) (now whats) → Left a p (place.answered + 1) (op ∷ ops_behind) (place.far + 1) later → LeftBefore op (now whats ++ later)
+  takes_and_goes op page n event whats over more down (inl none) = absurd (let e = none.0 in omega arith)
+  takes_and_goes op page n event whats over more down (inr (front, rest, is, begun, shapes)) =
+      goes_over op page n event whats front rest over more down is (rest_over present (place.far + 1) front over begun) shapes
+
+  -- an exit takes one page more down in front
+  exits_on : (page : ℕ) (whats : List What) → IsTurn present (now whats) (Event (events.Unmap a p page) ∷ []) → Left a p (place.answered + 1) (Exit ∷ ops_behind) (place.far + 1) later → LeftBefore Exit (now whats ++ later)
+  exits_on page whats down (inl none) = absurd (let e = none.0 in omega arith)
+  exits_on page whats down (inr (front, rest, is, inr refusal, shapes)) = absurd (let e = refusal.0 in omega arith)
+  exits_on page whats down (inr (front, rest, is, inl (pages, whole), shapes)) =
+      let more : TakesDownWhole present (suc pages) (now whats ++ front) = (page, now whats, front, refl, down, whole) in
+      inr (now whats ++ front, rest, ap (λ (ns : List NoteValue). now whats ++ ns) is ∙ sym (append_assoc (now whats) front rest), inl (suc pages, more), shapes)
 
   op_left : {s : PlainState} (op : Op) (whats : List What) → TurnOf s a p place op whats → drop place.answered ops ≡ op ∷ ops_behind → LeftAt a p ops (place_behind place whats) later → LeftBefore op (now whats ++ later)
   op_left op whats (refused o answer first refusal right passes) is left = ends op whats (refused_rest present op place.far (now whats) first.0 (answer, refusal, (t, refl))) left
   op_left op whats (mapped page n rights first free) is left = ends op whats (inl (t, refl)) left
+  op_left op whats (protected page n rights first free) is left = ends op whats (inl (t, refl)) left
   op_left op whats (loaded page word value first free) is left = ends op whats (inl (value, (t, refl))) left
   op_left op whats (stored page word value first free) is left = ends op whats (inl (t, refl)) left
-  op_left op whats (took page n more) is left = takes_and_goes page n whats more (inl (t, refl)) (subst (λ (os : List Op). Left a p (place.answered + 1) os (place.far + 1) later) is left)
-  op_left op whats (passed page n more none) is left = takes_and_goes page n whats more (inr (t, refl)) (subst (λ (os : List Op). Left a p (place.answered + 1) os (place.far + 1) later) is left)
-  op_left op whats (took_last page n last) is left = ends op whats (last_rest present page n place.far (now whats) last (inl (t, refl))) left
-  op_left op whats (passed_last page n last none) is left = ends op whats (last_rest present page n place.far (now whats) last (inr (t, refl))) left
+  op_left op whats (took o page n event over more) is left =
+      takes_and_goes op page n event whats over more (inl (t, refl)) (subst (λ (os : List Op). Left a p (place.answered + 1) os (place.far + 1) later) is left)
+  op_left op whats (passed o page n event over more none) is left =
+      takes_and_goes op page n event whats over more (inr (t, refl)) (subst (λ (os : List Op). Left a p (place.answered + 1) os (place.far + 1) later) is left)
+  op_left op whats (took_last o page n event over last) is left =
+      ends op whats (over_rest present place.far (now whats) over (last_rest present op page n event place.far (now whats) last (inl (t, refl)))) left
+  op_left op whats (passed_last o page n event over last none) is left =
+      ends op whats (over_rest present place.far (now whats) over (last_rest present op page n event place.far (now whats) last (inr (t, refl)))) left
+  op_left op whats (took_lowest page none) is left =
+      exits_on page whats (t, refl) (subst (λ (os : List Op). Left a p (place.answered + 1) os (place.far + 1) later) is left)
+  op_left op whats (took_all none) is left = ends op whats (inl (zero, (t, refl))) left
 
   -- a turn without notes of an operation
   same_left : (what : What) → is_of_operation what ≡ false → LeftAt a p ops place later → LeftAt a p ops place (own_notes a (now (what ∷ [])) ++ later)

@@ -15,3 +15,4 @@ pub mod Ordering
 pub mod Owning
 pub mod Following
 pub mod FollowRuns
+pub mod Causes

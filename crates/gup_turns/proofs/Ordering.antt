@@ -1,6 +1,7 @@
 -- The turns of a run are in the script's order.
 use Rattle.std.proofs.Common.{◌≡◌, ℕ, Bool, true, false, List, [], ◌∷◌, length, Option, Some, None, is_none, slice_get, nat_le, refl, sym, ap, ◌∙◌, subst, zero, suc, arith}
 use Rattle.std.proofs.Math.Dec.{leb-zero, leb-suc-zero, leb-suc-suc}
+use Rattle.gup_script.specs.Valid.{IsScript}
 use Rattle.gup_plain.specs.State.{PlainState}
 use Rattle.gup_plain.specs.declared.note.What.{What}
 use Rattle.gup_plain.specs.declared.note.Waiting.{Waiting}
@@ -9,10 +10,10 @@ use Rattle.gup_script.specs.declared.op.Op.{Op}
 use Rattle.gup_events.specs.State.{plain_of}
 use Rattle.gup_follows.specs.Order.{Turn, Ordered, Moves, IsWrittenTurn, IsPassedOver, IsPassed, IsPointedTurn, IsNextTurn, AreInOrder, behind_by, written_turn, waiting_of, finished_in}
 use Rattle.gup_follows.specs.Place.{Place, process_of, ops_of}
-use Rattle.gup_turns.specs.Run.{RunState, Runs, next_actor, next_by, written_in, turn_in, run_after, op_in, waiting_with, waiting_in, taken_in, is_ready, can_go, HasTurns}
+use Rattle.gup_turns.specs.Run.{RunState, Runs, next_actor, next_by, written_in, turn_in, run_after, op_in, waiting_with, waiting_in, taken_in, is_ready, can_go}
 use Rattle.gup_turns.proofs.Pointer.{PointerFits, IsFirstToGo, pointed_some, none_can_go, pointer_fits}
 use Rattle.gup_turns.proofs.Puts.{some_same}
-use Rattle.gup_turns.proofs.Shapes.{TurnOf, refused, mapped, loaded, stored, took, took_last, passed, passed_last, TurnAt, idles, waits, goes}
+use Rattle.gup_turns.proofs.Shapes.{TurnOf, refused, mapped, protected, loaded, stored, took, took_last, passed, passed_last, took_lowest, took_all, TurnAt, idles, waits, goes}
 use Rattle.gup_turns.proofs.Stands.{stands_on, same_plain}
 use Rattle.gup_turns.proofs.Steps.{Stands, taken, waiting_agrees}
 use Rattle.gup_turns.proofs.Through.{Law}
@@ -27,12 +28,15 @@ finished_is (op ∷ ops) (suc k) = leb-suc-suc (length ops) k ∙ finished_is op
 pub op_moves : {s : PlainState} {a p : ℕ} {place : Place} {op : Op} {whats : List What} → TurnOf s a p place op whats → Moves whats
 op_moves (refused op answer first refusal right passes) = (omega arith, omega arith, (refl, tt))
 op_moves (mapped page n rights first free) = (omega arith, omega arith, (refl, (refl, tt)))
+op_moves (protected page n rights first free) = (omega arith, omega arith, (refl, (refl, tt)))
 op_moves (loaded page word value first free) = (omega arith, omega arith, (refl, (refl, tt)))
 op_moves (stored page word value first free) = (omega arith, omega arith, (refl, (refl, tt)))
-op_moves (took page n more) = (omega arith, omega arith, (refl, tt))
-op_moves (took_last page n last) = (omega arith, omega arith, (refl, (refl, tt)))
-op_moves (passed page n more none) = (omega arith, omega arith, (refl, tt))
-op_moves (passed_last page n last none) = (omega arith, omega arith, (refl, tt))
+op_moves (took op page n event over more) = (omega arith, omega arith, (refl, tt))
+op_moves (took_last op page n event over last) = (omega arith, omega arith, (refl, (refl, tt)))
+op_moves (passed op page n event over more none) = (omega arith, omega arith, (refl, tt))
+op_moves (passed_last op page n event over last none) = (omega arith, omega arith, (refl, tt))
+op_moves (took_lowest page none) = (omega arith, omega arith, (refl, tt))
+op_moves (took_all none) = (omega arith, omega arith, (refl, tt))
 
 -- what the order sees of an actor: that it has no operation left, and what it waits for if it has one
 pub record Sees (finished : Bool) (seen : Option Waiting) (op : Option Op) (waiting : Option Waiting) : Type 0 where
@@ -60,7 +64,7 @@ goes_on (Some op) None h is = (h.finishes, h.waits_so op refl)
 abbrev pub ordered_of : RunState → Ordered
 ordered_of r = record { plain = plain_of r.core; places = r.places; pointer = r.pointer; turns = r.turns }
 
-module _ (script : ScriptValue) (valid : HasTurns script) (r : RunState) (h : Stands script r) where
+module _ (script : ScriptValue) (valid : IsScript script) (r : RunState) (h : Stands script r) where
   pub sees : (a : ℕ) → Sees (finished_in script (ordered_of r) a) (waiting_of script (ordered_of r) a) (op_in script r a) (waiting_in script r a)
   sees a =
       record {
@@ -97,7 +101,7 @@ module _ (script : ScriptValue) (valid : HasTurns script) (r : RunState) (h : St
   next_right a is = next_by_right (written_in script r) a is
 
 -- the turns of a run are in order
-pub order_run : Law → (script : ScriptValue) → HasTurns script → (turns : List Turn) (r end : RunState) → Stands script r → PointerFits script r → Runs script r turns end → AreInOrder script (ordered_of r) turns
+pub order_run : Law → (script : ScriptValue) → IsScript script → (turns : List Turn) (r end : RunState) → Stands script r → PointerFits script r → Runs script r turns end → AreInOrder script (ordered_of r) turns
 order_run law script valid [] r end h fits run =
     let over = none_can_go script r fits run.0 in
     (over.0, λ a below. is_passed script valid r h a (over.1 a below))

@@ -25,7 +25,7 @@ pub put_own : {X : Type 0} (k : ℕ) (f : ℕ → X) → put k (f k) f ≡ f
 put_own k f = by_points (λ j. grind (arith, nat_tests))
 
 -- a number of a range is so far behind the first
-within_offset : (first n k : ℕ) → within first n k ≡ true → (k - first < n) × (first + (k - first) ≡ k)
+pub within_offset : (first n k : ℕ) → within first n k ≡ true → (k - first < n) × (first + (k - first) ≡ k)
 within_offset first n k is = grind (arith, nat_tests)
 
 -- what holds of a function at each step from the first number on, holds of it within the range

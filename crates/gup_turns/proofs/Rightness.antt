@@ -18,9 +18,9 @@ use Rattle.gup_follows.specs.Denial.{denial, op_denial}
 use Rattle.gup_follows.specs.Follows.{notes_of_turn, note_of}
 use Rattle.gup_follows.specs.Order.{plain_behind}
 use Rattle.gup_follows.specs.Place.{Place, place_after, place_behind, process_of, ops_of}
-use Rattle.gup_follows.specs.Plain.{Judged, judged_after, ArePlain, IsRightAt, IsRightOf, IsSettled, IsAnswerAfter, IsAnswerOf, IsUndeniedAt, Passes, plain_after}
+use Rattle.gup_follows.specs.Plain.{Judged, judged_after, ArePlain, IsRightAt, IsRightOf, IsSettled, IsAnswerAfter, IsAnswerOf, IsUndeniedAt, Passes, TakesLowest, plain_after}
 use Rattle.gup_turns.proofs.Puts.{put_same, put_twice, put_own}
-use Rattle.gup_turns.proofs.Shapes.{TurnOf, refused, mapped, loaded, stored, took, took_last, passed, passed_last, TurnAt, idles, waits, goes}
+use Rattle.gup_turns.proofs.Shapes.{TurnOf, refused, mapped, protected, loaded, stored, took, took_last, passed, passed_last, took_lowest, took_all, GoesOver, unmaps, discards, TurnAt, idles, waits, goes}
 use Rattle.gup_turns.proofs.Through.{events_of, AllCanHappen}
 
 -- the notes of one turn are right, each in what those before it have led to
@@ -51,33 +51,54 @@ module _ (ops : List Op) (s : PlainState) (a p : ℕ) (place : Place) (birth : s
   one_right : (op : Op) (what : What) → slice_get ops place.answered ≡ Some op → IsRightOf s p place op what → AreRight ops p s place (what ∷ [])
   one_right op what is right = (subst (λ (o : Option Op). IsRightAt s p place o what) (sym is) right, tt)
 
-  event_right : (op : Op) (e : PlainEvent) → CanHappen s e → op_denial s p op ≡ None → IsRightOf s p place op (Event e)
-  event_right op e can free = (can, undenied place.had (denial s p op) (denial_born s p op birth ∙ free))
+  event_right : (op : Op) (e : PlainEvent) → CanHappen s e → op_denial s p op ≡ None → TakesLowest s p op e → IsRightOf s p place op (Event e)
+  event_right op e can free lowest = (can, undenied place.had (denial s p op) (denial_born s p op birth ∙ free), lowest)
 
   done_right : (op : Op) (answer : Answer) → slice_get ops place.answered ≡ Some op → IsAnswerAfter place.had (denial s p op) answer → Passes s p op place.far → AreRight ops p s place (Done answer ∷ [])
   done_right op answer is right passes = one_right op (Done answer) is (settled (s.birth p) birth, right, passes)
 
   -- an event and its answer
-  two_right : (op : Op) (e : PlainEvent) (answer : Answer) → slice_get ops place.answered ≡ Some op → CanHappen s e → op_denial s p op ≡ None → is_denial answer ≡ false → (happened s e).birth ≡ s.birth → Passes (happened s e) p op (place.far + 1) → AreRight ops p s place (Event e ∷ Done answer ∷ [])
-  two_right op e answer is can free plain births passes =
+  two_right : (op : Op) (e : PlainEvent) (answer : Answer) → slice_get ops place.answered ≡ Some op → CanHappen s e → op_denial s p op ≡ None → TakesLowest s p op e → is_denial answer ≡ false → (happened s e).birth ≡ s.birth → Passes (happened s e) p op (place.far + 1) → AreRight ops p s place (Event e ∷ Done answer ∷ [])
+  two_right op e answer is can free lowest plain births passes =
       let born_then = settled ((happened s e).birth p) (ap (λ (f : ℕ → Birth). f p) births ∙ birth) in
-      let first = subst (λ (o : Option Op). IsRightAt s p place o (Event e)) (sym is) (event_right op e can free) in
+      let first = subst (λ (o : Option Op). IsRightAt s p place o (Event e)) (sym is) (event_right op e can free lowest) in
       let second = subst (λ (o : Option Op). IsRightAt (happened s e) p (place_after place (Event e)) o (Done answer)) (sym is) (born_then, plain, passes) in
       (first, (second, tt))
+
+  -- an operation that goes over pages is not denied
+  over_undenied : {op : Op} {page n : ℕ} {event : ℕ → PlainEvent} → GoesOver a p op page n event → op_denial s p op ≡ None
+  over_undenied (unmaps page n) = refl
+  over_undenied (discards page n) = refl
+
+  passes_over : {op : Op} {page n : ℕ} {event : ℕ → PlainEvent} → GoesOver a p op page n event → s.right p (page + place.far) ≡ None → Passes s p op place.far
+  passes_over (unmaps page n) none = λ less. none
+  passes_over (discards page n) none = λ less. none
+
+  took_right : (op : Op) (page n : ℕ) (event : ℕ → PlainEvent) → GoesOver a p op page n event → slice_get ops place.answered ≡ Some op → CanHappen s (event (page + place.far)) → AreRight ops p s place (Event (event (page + place.far)) ∷ [])
+  took_right op page n event (unmaps g m) is can = let e = events.Unmap a p (page + place.far) in one_right op (Event e) is (event_right op e can refl tt)
+  took_right op page n event (discards g m) is can = let e = events.Discard a p (page + place.far) in one_right op (Event e) is (event_right op e can refl tt)
+
+  took_last_right : (op : Op) (page n : ℕ) (event : ℕ → PlainEvent) → GoesOver a p op page n event → place.far + 1 ≡ n → slice_get ops place.answered ≡ Some op → CanHappen s (event (page + place.far)) → AreRight ops p s place (Event (event (page + place.far)) ∷ Done answers.Plain ∷ [])
+  took_last_right op page n event (unmaps g m) last is can = two_right op (events.Unmap a p (page + place.far)) answers.Plain is can refl tt refl refl (λ less. absurd (omega arith))
+  took_last_right op page n event (discards g m) last is can = two_right op (events.Discard a p (page + place.far)) answers.Plain is can refl tt refl refl (λ less. absurd (omega arith))
 
   -- a turn of each shape
   op_right : (op : Op) (whats : List What) → TurnOf s a p place op whats → slice_get ops place.answered ≡ Some op → AllCanHappen s (events_of whats) → AreRight ops p s place whats
   op_right op whats (refused o answer first refusal right passes) is can =
       let judged : IsAnswerOf (denial s p op) answer = subst (λ (d : Option Answer). IsAnswerOf d answer) (sym (denial_born s p op birth)) right in
       done_right op answer is (subst (λ (b : Bool). IsAnswerAfter b (denial s p op) answer) (sym first.1) judged) passes
-  op_right op whats (mapped page n rights first free) is can = two_right op (events.Map a p page n rights) answers.Plain is can.0 free refl refl tt
-  op_right op whats (loaded page word value first free) is can = two_right op (events.Load a p page word value) (answers.Value value) is can.0 free refl refl tt
-  op_right op whats (stored page word value first free) is can = two_right op (events.Store a p page word value) answers.Plain is can.0 free refl refl tt
-  op_right op whats (took page n more) is can = let e = events.Unmap a p (page + place.far) in one_right op (Event e) is (event_right op e can.0 refl)
-  op_right op whats (took_last page n last) is can = two_right op (events.Unmap a p (page + place.far)) answers.Plain is can.0 refl refl refl (λ less. absurd (omega arith))
-  op_right op whats (passed page n more none) is can = one_right op Silent is (λ less. none)
-  op_right op whats (passed_last page n last none) is can =
-      done_right op answers.Plain is (answers_undenied place.had (denial s p op) answers.Plain (denial_born s p op birth) refl) (λ less. none)
+  op_right op whats (mapped page n rights first free) is can = two_right op (events.Map a p page n rights) answers.Plain is can.0 free tt refl refl tt
+  op_right op whats (protected page n rights first free) is can = two_right op (events.Protect a p page n rights) answers.Plain is can.0 free tt refl refl tt
+  op_right op whats (loaded page word value first free) is can = two_right op (events.Load a p page word value) (answers.Value value) is can.0 free tt refl refl tt
+  op_right op whats (stored page word value first free) is can = two_right op (events.Store a p page word value) answers.Plain is can.0 free tt refl refl tt
+  op_right op whats (took o page n event over more) is can = took_right o page n event over is can.0
+  op_right op whats (took_last o page n event over last) is can = took_last_right o page n event over last is can.0
+  op_right op whats (passed o page n event over more none) is can = one_right op Silent is (passes_over over none)
+  op_right op whats (passed_last o page n event over last none) is can =
+      done_right op answers.Plain is (answers_undenied place.had (denial s p op) answers.Plain (denial_born s p op birth ∙ over_undenied over) refl) (passes_over over none)
+  op_right op whats (took_lowest page none) is can = let e = events.Unmap a p page in one_right op (Event e) is (event_right op e can.0 refl none)
+  op_right op whats (took_all none) is can =
+      done_right op answers.Plain is (answers_undenied place.had (denial s p op) answers.Plain (denial_born s p op birth) refl) none
 
 pub turn_right : (ops : List Op) {s : PlainState} {a p : ℕ} {place : Place} {op : Option Op} {waiting : Option Waiting} {whats : List What} → TurnAt s a p place op waiting whats → slice_get ops place.answered ≡ op → AllCanHappen s (events_of whats) → AreRight ops p s place whats
 turn_right ops {s = s} {p = p} {place = place} (idles waiting) is can = (subst (λ (o : Option Op). IsRightAt s p place o Idle) (sym is) tt, tt)

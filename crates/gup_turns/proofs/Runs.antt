@@ -1,12 +1,13 @@
 -- Facts of whole runs, by induction over their turns.
 use Rattle.std.proofs.Common.{◌≡◌, ℕ, ◌+◌, List, [], ◌∷◌, refl, sym, ap, ◌∙◌, subst}
+use Rattle.gup_script.specs.Valid.{IsScript}
 use Rattle.gup_plain.specs.State.{PlainState}
 use Rattle.gup_script.specs.Script.{ScriptValue}
 use Rattle.gup_events.specs.State.{plain_of}
 use Rattle.gup_follows.specs.Order.{Turn, journal_of}
 use Rattle.gup_follows.specs.Place.{ops_of}
 use Rattle.gup_follows.specs.Plain.{Judged, ArePlain}
-use Rattle.gup_turns.specs.Run.{RunState, Runs, turn_in, run_after, taken_in, HasTurns}
+use Rattle.gup_turns.specs.Run.{RunState, Runs, turn_in, run_after, taken_in}
 use Rattle.gup_turns.proofs.Puts.{some_same}
 use Rattle.gup_turns.proofs.Rightness.{turn_right, plain_append}
 use Rattle.gup_turns.proofs.Stands.{stands_on, same_plain, plain_can}
@@ -29,7 +30,7 @@ abbrev pub judged_of : RunState → Judged
 judged_of r = record { plain = plain_of r.core; places = r.places }
 
 -- the journal of a run is plain
-pub plain_run : Law → (script : ScriptValue) → HasTurns script → (turns : List Turn) (number : ℕ) (r end : RunState) → Stands script r → Runs script r turns end → ArePlain script (judged_of r) (journal_of number r.places turns)
+pub plain_run : Law → (script : ScriptValue) → IsScript script → (turns : List Turn) (number : ℕ) (r end : RunState) → Stands script r → Runs script r turns end → ArePlain script (judged_of r) (journal_of number r.places turns)
 plain_run law script valid [] number r end h run = tt
 plain_run law script valid (turn ∷ turns) number r end h run =
     let a = turn.actor in

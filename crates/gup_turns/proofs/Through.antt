@@ -7,11 +7,10 @@ use Rattle.gup_plain.specs.declared.note.What.{What}
 use Rattle.gup_plain.specs.declared.note.What.TheVariants.{Silent, Idle, Wait, Event, Done}
 use Rattle.gup_events.specs.State.{CoreState, plain_of}
 use Rattle.gup_events.specs.Event.{CoreEvent, Can, happens, told, after_told}
-use Rattle.gup_events.specs.Invariant.{CanTell, AllCan}
+use Rattle.gup_events.specs.Invariant.{CanTell, AllCan, run}
 use Rattle.gup_events.specs.Sound.{IsSound, Simulates}
 use Rattle.gup_laws.specs.Law.{with_told, all_told}
 use Rattle.gup_follows.specs.Order.{plain_behind}
-use Rattle.gup_turns.specs.Run.{state_after}
 use Rattle.gup_turns.proofs.Keeping.{keeps_unshared, keeps_births}
 use Rattle.gup_turns.proofs.Unshared.{IsUnshared, AreTurnEvents}
 
@@ -39,9 +38,9 @@ plain_through s (e ∷ es) = plain_through (happened s e) es
 
 -- Core events keep the state sound, and do their plain events to the plain state.
 pub record Leads (s : CoreState) (es : List CoreEvent) : Type 0 where
-  pub sound : IsSound (state_after s es)
+  pub sound : IsSound (run s es)
   pub can : AllCanHappen (plain_of s) (all_told es)
-  pub same : plain_of (state_after s es) ≡ plain_through (plain_of s) (all_told es)
+  pub same : plain_of (run s es) ≡ plain_through (plain_of s) (all_told es)
 
 can_with_told : (s : PlainState) (t : Option PlainEvent) (es : List PlainEvent) → CanTell s t → AllCanHappen (after_told s t) es → AllCanHappen s (with_told t es)
 can_with_told s None es now later = later
@@ -77,10 +76,10 @@ plain_behind-through s (Done answer ∷ whats) = plain_behind-through s whats
 
 -- what the events of turns leave as it is, one after another
 
-pub stay_unshared : (s : CoreState) (es : List CoreEvent) → AreTurnEvents es → IsUnshared s → AllCan s es → IsUnshared (state_after s es)
+pub stay_unshared : (s : CoreState) (es : List CoreEvent) → AreTurnEvents es → IsUnshared s → AllCan s es → IsUnshared (run s es)
 stay_unshared s [] kinds unshared can = unshared
 stay_unshared s (e ∷ es) kinds unshared can = stay_unshared (happens s e) es kinds.1 (keeps_unshared s kinds.0 unshared can.0) can.1
 
-pub births_stay : (s : CoreState) (es : List CoreEvent) → AreTurnEvents es → (state_after s es).birth ≡ s.birth
+pub births_stay : (s : CoreState) (es : List CoreEvent) → AreTurnEvents es → (run s es).birth ≡ s.birth
 births_stay s [] kinds = refl
 births_stay s (e ∷ es) kinds = births_stay (happens s e) es kinds.1 ∙ keeps_births s kinds.0

@@ -1,12 +1,11 @@
--- What is true beside soundness while a run's operations only map, unmap, load and store: no frame is shared, pinned or
--- moved, so each frame that is not free has one holder, no operation is in the middle of several turns, and no lock is
--- held.
+-- What is true beside soundness while no operation forks, pins, moves, mirrors or walks: no frame is shared, pinned or
+-- moved, so each frame that is not free has one holder, no operation keeps a job between its turns, and no lock is held.
 use Rattle.std.proofs.Common.{◌≡◌, ℕ, Bool, true, List, [], ◌∷◌, Option, Some, None, refl}
 use Rattle.gup_base.specs.declared.entry.Entry.{Entry}
 use Rattle.gup_base.specs.declared.entry.Rights.{Rights}
 use Rattle.gup_base.specs.declared.entry.Rights.TheVariants.{RW}
 use Rattle.gup_events.specs.State.{CoreState, idle, start}
-use Rattle.gup_events.specs.Event.{CoreEvent, take_frame, fill, upgrade, put_entry, map_pages, drop_entry, load, store}
+use Rattle.gup_events.specs.Event.{CoreEvent, take_frame, fill, upgrade, put_entry, map_pages, lower_entry, protect_pages, drop_entry, discard_entry, load, store}
 
 -- The clauses, each under a name of its own, so that a lemma on an event says which it proves anew.
 module _ (s : CoreState) where
@@ -50,7 +49,7 @@ module _ (s : CoreState) where
   EntryAllowed = (p g : ℕ) (e : Entry) → s.entry p g ≡ Some e → e.writable ≡ true → s.right p g ≡ Some RW
 
 pub record IsUnshared (s : CoreState) : Type 0 where
-  -- no operation is in the middle of several turns, no lock is held, and no mirror is filled
+  -- no operation keeps a job between its turns, no lock is held, and no mirror is filled
   pub idle_jobs : (a : ℕ) → s.job a ≡ idle
   pub structure_free : (p : ℕ) → s.structure p ≡ None
   pub table_free : (p : ℕ) → s.table p ≡ None
@@ -99,7 +98,10 @@ pub data IsTurnEvent : CoreEvent → Type 0 where
   upgrading : (a p page f : ℕ) → IsTurnEvent (upgrade a p page f)
   putting : (a f : ℕ) → IsTurnEvent (put_entry a f)
   mapping : (a p page n : ℕ) (rights : Rights) → IsTurnEvent (map_pages a p page n rights)
+  lowering : (a p page f : ℕ) → IsTurnEvent (lower_entry a p page f)
+  protecting : (a p page n : ℕ) (rights : Rights) → IsTurnEvent (protect_pages a p page n rights)
   dropping : (a p page : ℕ) (was : Option Entry) → IsTurnEvent (drop_entry a p page was)
+  discarding : (a p page : ℕ) (was : Option Entry) → IsTurnEvent (discard_entry a p page was)
   loading : (a p page word f value : ℕ) → IsTurnEvent (load a p page word f value)
   storing : (a p page word f value : ℕ) → IsTurnEvent (store a p page word f value)
 

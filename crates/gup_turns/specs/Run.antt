@@ -1,16 +1,15 @@
 -- The core run of a script.
-use Rattle.std.specs.Prelude.{◌≡◌, ℕ, ◌+◌, Bool, true, false, if◌then◌else◌, List, [], ◌∷◌, Option, Some, None, slice_get, length, All, zero, suc}
+use Rattle.std.specs.Prelude.{◌≡◌, ℕ, ◌+◌, Bool, true, false, if◌then◌else◌, List, [], ◌∷◌, Option, Some, None, slice_get, length, zero, suc}
 use Rattle.gup_plain.specs.Note.{NoteValue}
 use Rattle.gup_plain.specs.declared.note.What.TheVariants.{Idle, Wait}
 use Rattle.gup_plain.specs.declared.note.Waiting.{Waiting}
 use Rattle.gup_script.specs.declared.op.Op.{Op}
-use Rattle.gup_script.specs.Script.{ScriptValue, Actor}
-use Rattle.gup_script.specs.Valid.{IsScript}
+use Rattle.gup_script.specs.Script.{ScriptValue}
 use Rattle.gup_events.specs.State.{CoreState, start}
-use Rattle.gup_events.specs.Event.{CoreEvent, happens}
+use Rattle.gup_events.specs.Invariant.{run}
 use Rattle.gup_follows.specs.Place.{Place, first_place, process_of, present_op, starts_born}
 use Rattle.gup_follows.specs.Order.{Turn, places_behind, journal_of, behind, pointer_after}
-use Rattle.gup_turns.specs.Turn.{Taken, HasTurn, turn_of, waiting_for}
+use Rattle.gup_turns.specs.Turn.{Taken, turn_of, waiting_for}
 
 -- The core state, each actor's place, the pointer, and how many turns are over.
 pub record RunState : Type 0 where
@@ -27,10 +26,6 @@ run_start script =
       pointer = 0;
       turns = 0;
     }
-
-abbrev pub state_after : CoreState → List CoreEvent → CoreState
-state_after s [] = s
-state_after s (e ∷ es) = state_after (happens s e) es
 
 -- the actor's present operation, None where it has finished
 abbrev pub op_in : ScriptValue → RunState → ℕ → Option Op
@@ -86,7 +81,7 @@ next_actor script r = next_by script r (written_in script r)
 abbrev pub run_after : ScriptValue → RunState → ℕ → RunState
 run_after script r a =
     record {
-      core = state_after r.core (taken_in script r a).events;
+      core = run r.core (taken_in script r a).events;
       places = places_behind r.places (turn_in script r a);
       pointer = pointer_after (length script.actors) r.pointer (written_in script r) a;
       turns = r.turns + 1;
@@ -103,8 +98,3 @@ Runs script r (turn ∷ turns) end =
 abbrev pub IsCoreRun : ScriptValue → List NoteValue → RunState → Type 0
 IsCoreRun script notes end =
     (turns : List Turn) × (notes ≡ journal_of 1 (λ _. first_place) turns) × Runs script (run_start script) turns end
-
--- A script each of whose operations has a turn.
-pub record HasTurns (script : ScriptValue) : Type 0 where
-  pub valid : IsScript script
-  pub turns : All (λ (actor : Actor). All HasTurn actor.ops) script.actors

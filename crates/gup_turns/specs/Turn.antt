@@ -1,8 +1,10 @@
 -- The turn table: which core events a turn is, and what its notes say.
-use Rattle.std.specs.Prelude.{ℕ, ◌+◌, ◌==◌, Bool, true, false, if◌then◌else◌, List, [], ◌∷◌, Option, Some, None, zero, suc}
+use Rattle.std.specs.Prelude.{ℕ, ◌+◌, ◌==◌, Bool, true, false, if◌then◌else◌, List, [], ◌∷◌, ◌++◌, Option, Some, None, is_some, zero, suc}
 use Rattle.gup_base.specs.declared.entry.Entry.{Entry}
 use Rattle.gup_base.specs.declared.entry.Rights.{Rights}
 use Rattle.gup_base.specs.declared.entry.Rights.TheVariants.{R, RW}
+use Rattle.gup_plain.specs.Event.{page_numbers}
+use Rattle.gup_plain.specs.Put.{lowest}
 use Rattle.gup_plain.specs.State.{Birth, unborn, growing, born, failed}
 use Rattle.gup_plain.specs.declared.answer.Answer.{Answer}
 use Rattle.gup_plain.specs.declared.answer.Answer.TheVariants as answers
@@ -14,8 +16,8 @@ use Rattle.gup_plain.specs.declared.note.Waiting.TheVariants as waitings
 use Rattle.gup_script.specs.declared.op.Op.{Op}
 use Rattle.gup_script.specs.declared.op.Op.TheVariants.{Map, Unmap, Protect, Discard, Load, Store, Exit}
 use Rattle.gup_events.specs.State.{CoreState}
-use Rattle.gup_events.specs.Event.{CoreEvent, take_frame, fill, upgrade, put_entry, map_pages, drop_entry, load, store}
-use Rattle.gup_plain.specs.Denial.{any_mapped, map_denial}
+use Rattle.gup_events.specs.Event.{CoreEvent, take_frame, fill, upgrade, put_entry, map_pages, lower_entry, protect_pages, drop_entry, discard_entry, load, store}
+use Rattle.gup_plain.specs.Denial.{any_mapped, any_unmapped, map_denial, protect_denial}
 
 -- a turn: its core events in order, and its notes
 pub record Taken : Type 0 where
@@ -25,11 +27,6 @@ pub record Taken : Type 0 where
 -- a turn that changes nothing and ends the operation
 abbrev pub answers_with : Answer → Taken
 answers_with answer = record { events = []; whats = Done answer ∷ [] }
-
--- the lowest of the n numbers from this one on that passes the test
-abbrev pub lowest : (first n : ℕ) → (ℕ → Bool) → Option ℕ
-lowest first zero test = None
-lowest first (suc n) test = if test first then Some first else lowest (first + 1) n test
 
 -- The frame that a fault takes: the lowest free one of the movable zone, else the lowest free one of the normal
 -- zone. The movable frames have the lower numbers.
@@ -150,18 +147,63 @@ unmap_turn_by (Some rights) a p page entry last =
 abbrev pub unmap_turn : CoreState → (a p page : ℕ) → (last : Bool) → Taken
 unmap_turn s a p page last = unmap_turn_by (s.right p page) a p page (s.entry p page) last
 
--- `protect`, `discard` and `exit` have no turn yet.
-abbrev pub HasTurn : Op → Type 0
-HasTurn (Map page n rights) = Unit {0}
-HasTurn (Unmap page n) = Unit {0}
-HasTurn (Load page word) = Unit {0}
-HasTurn (Store page word value) = Unit {0}
-HasTurn (Protect page n rights) = ⊥
-HasTurn (Discard page n) = ⊥
-HasTurn Exit = ⊥
+-- protect
 
-abbrev pub no_turn : Taken
-no_turn = record { events = []; whats = [] }
+-- an entry that is writable becomes read-only
+abbrev pub lowers_entry : (a p page : ℕ) → Option Entry → List CoreEvent
+lowers_entry a p page None = []
+lowers_entry a p page (Some e) = if e.writable then lower_entry a p page e.frame ∷ [] else []
+
+-- those of n pages from this one on, in rising order
+abbrev pub lowers : (ℕ → Option Entry) → (a p page n : ℕ) → List CoreEvent
+lowers entry a p page zero = []
+lowers entry a p page (suc n) = lowers_entry a p page (entry page) ++ lowers entry a p (page + 1) n
+
+-- before the right to write goes, no entry has it; a right that comes leaves entries to the faults
+abbrev pub lowers_for : Rights → (ℕ → Option Entry) → (a p page n : ℕ) → List CoreEvent
+lowers_for R entry a p page n = lowers entry a p page n
+lowers_for RW entry a p page n = []
+
+abbrev pub protect_turn_by : (denied : Option Answer) → CoreState → (a p page n : ℕ) → Rights → Taken
+protect_turn_by (Some denied) s a p page n rights = answers_with denied
+protect_turn_by None s a p page n rights =
+    record {
+      events = lowers_for rights (s.entry p) a p page n ++ protect_pages a p page n rights ∷ [];
+      whats = Event (events.Protect a p page n rights) ∷ Done answers.Plain ∷ [];
+    }
+
+abbrev pub protect_turn : CoreState → (a p page n : ℕ) → Rights → Taken
+protect_turn s a p page n rights =
+    protect_turn_by (protect_denial (any_unmapped (s.right p) page n)) s a p page n rights
+
+-- discard: one page a turn
+
+abbrev pub discard_turn_by : Option Rights → (a p page : ℕ) → Option Entry → (last : Bool) → Taken
+discard_turn_by None a p page entry last = record { events = []; whats = silent_or_done last }
+discard_turn_by (Some rights) a p page entry last =
+    record {
+      events = discard_entry a p page entry ∷ gives_back a entry;
+      whats = Event (events.Discard a p page) ∷ done_if last;
+    }
+
+abbrev pub discard_turn : CoreState → (a p page : ℕ) → (last : Bool) → Taken
+discard_turn s a p page last = discard_turn_by (s.right p page) a p page (s.entry p page) last
+
+-- exit: the lowest mapped page, one a turn, and an answer where there is none
+
+abbrev pub lowest_page : (ℕ → Option Rights) → Option ℕ
+lowest_page right = lowest 0 page_numbers (λ page. is_some (right page))
+
+abbrev pub exit_turn_by : CoreState → (a p : ℕ) → Option ℕ → Taken
+exit_turn_by s a p None = answers_with answers.Plain
+exit_turn_by s a p (Some page) =
+    record {
+      events = drop_entry a p page (s.entry p page) ∷ gives_back a (s.entry p page);
+      whats = Event (events.Unmap a p page) ∷ [];
+    }
+
+abbrev pub exit_turn : CoreState → (a p : ℕ) → Taken
+exit_turn s a p = exit_turn_by s a p (lowest_page (s.right p))
 
 -- the turn of an operation of a born process, of which so many turns are over
 abbrev pub op_turn : CoreState → (a p far : ℕ) → Op → Taken
@@ -169,9 +211,9 @@ op_turn s a p far (Map page n rights) = map_turn s a p page n rights
 op_turn s a p far (Unmap page n) = unmap_turn s a p (page + far) (far + 1 == n)
 op_turn s a p far (Load page word) = load_turn s a p page word (s.entry p page)
 op_turn s a p far (Store page word value) = store_turn s a p page word value (s.entry p page)
-op_turn s a p far (Protect page n rights) = no_turn
-op_turn s a p far (Discard page n) = no_turn
-op_turn s a p far Exit = no_turn
+op_turn s a p far (Protect page n rights) = protect_turn s a p page n rights
+op_turn s a p far (Discard page n) = discard_turn s a p (page + far) (far + 1 == n)
+op_turn s a p far Exit = exit_turn s a p
 
 -- an operation of a failed process is refused
 abbrev pub turn_at : Birth → Taken → Taken

@@ -4,10 +4,12 @@
 ghost use Rattle.std.specs.Prelude.{◌≡◌, List};
 ghost use Rattle.gup_plain.specs.Note.{NoteValue};
 ghost use Rattle.gup_script.specs.Script.{ScriptValue};
+ghost use Rattle.gup_script.specs.Valid.{IsScript};
 ghost use Rattle.gup_follows.specs.Plain.{IsPlain};
 ghost use Rattle.gup_follows.specs.Follows.{Follows};
-ghost use Rattle.gup_follows.specs.Order.{InOrder};
-ghost use Rattle.gup_turns.specs.Run.{RunState, HasTurns, IsCoreRun};
+ghost use Rattle.gup_follows.specs.Order.{Turn, InOrder};
+ghost use Rattle.gup_turns.specs.Run.{RunState, Runs, run_start, IsCoreRun};
+ghost use Rattle.gup_turns.specs.Cause.{FindNoFrame};
 
 /// A script has one core run.
 pub fn one_core_run()
@@ -16,7 +18,7 @@ pub fn one_core_run()
 
 /// The core run of a script follows it.
 pub fn core_run_follows()
-    ensures { (script : ScriptValue) (notes : List NoteValue) (end : RunState) → HasTurns script → IsCoreRun script notes end → Follows script notes }
+    ensures { (script : ScriptValue) (notes : List NoteValue) (end : RunState) → IsScript script → IsCoreRun script notes end → Follows script notes }
 {
     gup_laws::simulates();
     gup_laws::starts_sound();
@@ -24,7 +26,7 @@ pub fn core_run_follows()
 
 /// The core run of a script is in the script's order.
 pub fn core_run_is_in_order()
-    ensures { (script : ScriptValue) (notes : List NoteValue) (end : RunState) → HasTurns script → IsCoreRun script notes end → InOrder script notes }
+    ensures { (script : ScriptValue) (notes : List NoteValue) (end : RunState) → IsScript script → IsCoreRun script notes end → InOrder script notes }
 {
     gup_laws::simulates();
     gup_laws::starts_sound();
@@ -32,8 +34,13 @@ pub fn core_run_is_in_order()
 
 /// The core run of a script is plain.
 pub fn core_run_is_plain()
-    ensures { (script : ScriptValue) (notes : List NoteValue) (end : RunState) → HasTurns script → IsCoreRun script notes end → IsPlain script notes }
+    ensures { (script : ScriptValue) (notes : List NoteValue) (end : RunState) → IsScript script → IsCoreRun script notes end → IsPlain script notes }
 {
     gup_laws::simulates();
     gup_laws::starts_sound();
 }
+
+/// In the core run of a script, an operation is refused for want of a frame only where none is free.
+pub fn no_frame_has_its_cause()
+    ensures { (script : ScriptValue) (turns : List Turn) (end : RunState) → Runs script (run_start script) turns end → FindNoFrame script (run_start script) turns }
+{}
