@@ -1,0 +1,245 @@
+//! The lines of a run.
+ghost use Rattle.std.specs.Prelude.{◌≡◌, ℕ, ◌<◌, List, [], ◌++◌, length, codes, decimal, IfOk, OnOk, OnErr};
+ghost use Rattle.std.specs.List.{flat_map, filter_map};
+ghost use Rattle.gup_script.specs.Script.{actor_at, process_at};
+ghost use Rattle.gup_lines.specs.Text.{name_in, process_name, cause_text, word_text, answer_text, head_of, line_of, waiting_text, stuck_line, told_of, outcomes_of, NamesProcess, BeginsWith};
+
+use crate::outcome::{Outcome, Outcomes};
+use gup_base::{ActorNo, NoMemory, ProcNo, Words};
+use gup_plain::{Answer, Cause, Journal, Note, Waiting, What};
+use gup_script::Script;
+use itoa::Buffer;
+use std::alloc::{AllocError, Global};
+
+/// The outcome that a note tells, if it ends an operation.
+#[tactic(auto, unfolding(crate::specs::Text::told_of))]
+fn told_by(note: &Note) -> Option<Outcome>
+    ensures { result ≡ told_of note.now }
+{
+    match note.what() {
+        What::Done(answer) => Some(Outcome {
+            actor: note.actor(),
+            op: note.op(),
+            answer,
+            words: Words::new(),
+        }),
+        What::Silent | What::Idle | What::Wait(_) | What::Event(_) => None,
+    }
+}
+
+/// The answers of the script's journal, in order.
+#[tactic(auto, unfolding(crate::specs::Text::told_of))]
+pub fn outcomes(alloc: Global, _script: &Script, journal: &Journal) -> Result<Outcomes, NoMemory>
+    ensures { IfOk result (λ outcomes. outcomes ≡ outcomes_of journal.now.notes) }
+{
+    Ok(Outcomes::of(told_in(alloc, journal.notes())?))
+}
+
+fn told_in(alloc: Global, notes: &[Note]) -> Result<Vec<Outcome>, AllocError>
+    ensures { IfOk result (λ found. found.items ≡ filter_map told_of notes.now) }
+{
+    notes.iter().filter_map(told_by).collect(alloc)
+}
+
+fn push_text(text: &mut Vec<u8>, piece: &str) -> Result<(), NoMemory>
+    ensures ok { OnOk result (text.new.items ≡ text.old.items ++ piece.now) }
+    ensures err { OnErr result (text.new.items ≡ text.old.items) }
+{
+    text.extend_from_slice(piece.as_bytes())?;
+    Ok(())
+}
+
+fn push_number(text: &mut Vec<u8>, n: u64) -> Result<(), NoMemory>
+    ensures ok { OnOk result (text.new.items ≡ text.old.items ++ decimal n) }
+    ensures err { OnErr result (text.new.items ≡ text.old.items) }
+{
+    let mut buffer = Buffer::new();
+    push_text(text, buffer.format(n))
+}
+
+#[tactic(auto, using(crate::proofs::Fronts::fronts))]
+fn push_cause(text: &mut Vec<u8>, cause: Cause) -> Result<(), NoMemory>
+    ensures ok { OnOk result (text.new.items ≡ text.old.items ++ cause_text cause) }
+    ensures err { OnErr result (BeginsWith text.new.items text.old.items) }
+{
+    match cause {
+        Cause::Missing => push_text(text, "missing"),
+        Cause::Forbidden => push_text(text, "forbidden"),
+        Cause::NoFrame => push_text(text, "noframe"),
+        Cause::Unmovable(count) => {
+            push_text(text, "unmovable ")?;
+            push_number(text, count)
+        }
+    }
+}
+
+// The words of a transfer, each behind a space.
+#[tactic(auto, using(crate::proofs::Fronts::fronts))]
+fn push_words(text: &mut Vec<u8>, words: &[u64]) -> Result<(), NoMemory>
+    ensures ok { OnOk result (text.new.items ≡ text.old.items ++ flat_map word_text words.now) }
+    ensures err { OnErr result (BeginsWith text.new.items text.old.items) }
+{
+    for word in words {
+        push_text(text, " ")?;
+        push_number(text, *word)?;
+    }
+    Ok(())
+}
+
+#[tactic(auto, using(crate::proofs::Fronts::fronts))]
+fn push_counted(text: &mut Vec<u8>, word: &str, count: u64) -> Result<(), NoMemory>
+    ensures ok { OnOk result (text.new.items ≡ text.old.items ++ (word.now ++ decimal count)) }
+    ensures err { OnErr result (BeginsWith text.new.items text.old.items) }
+{
+    push_text(text, word)?;
+    push_number(text, count)
+}
+
+#[tactic(auto, using(crate::proofs::Fronts::fronts))]
+fn push_short(text: &mut Vec<u8>, got: u8, wanted: u8, cause: Cause) -> Result<(), NoMemory>
+    ensures ok { OnOk result (text.new.items ≡ text.old.items ++ answer_text (Answer.Short got wanted cause) []) }
+    ensures err { OnErr result (BeginsWith text.new.items text.old.items) }
+{
+    push_counted(text, "ok ", u64::from(got))?;
+    push_counted(text, " of ", u64::from(wanted))?;
+    push_behind_space(text, cause)
+}
+
+#[tactic(auto, using(crate::proofs::Fronts::fronts))]
+fn push_behind_space(text: &mut Vec<u8>, cause: Cause) -> Result<(), NoMemory>
+    ensures ok { OnOk result (text.new.items ≡ text.old.items ++ (codes " " ++ cause_text cause)) }
+    ensures err { OnErr result (BeginsWith text.new.items text.old.items) }
+{
+    push_text(text, " ")?;
+    push_cause(text, cause)
+}
+
+#[tactic(auto, using(crate::proofs::Fronts::fronts))]
+fn push_answer(text: &mut Vec<u8>, answer: Answer, words: &[u64]) -> Result<(), NoMemory>
+    ensures ok { OnOk result (text.new.items ≡ text.old.items ++ answer_text answer words.now) }
+    ensures err { OnErr result (BeginsWith text.new.items text.old.items) }
+{
+    match answer {
+        Answer::Plain => push_text(text, "ok"),
+        Answer::Value(value) => push_counted(text, "ok ", value),
+        Answer::Pinned(pages) => push_counted(text, "ok ", u64::from(pages)),
+        Answer::Short { got, wanted, cause } => push_short(text, got, wanted, cause),
+        Answer::Words => {
+            push_text(text, "ok")?;
+            push_words(text, words)
+        }
+        Answer::Missing => push_text(text, "missing"),
+        Answer::Forbidden => push_text(text, "forbidden"),
+        Answer::Unmovable(count) => push_counted(text, "unmovable ", count),
+        Answer::NoFrame => push_text(text, "noframe"),
+        Answer::NotHeld => push_text(text, "notheld"),
+        Answer::Range => push_text(text, "range"),
+        Answer::Overlap => push_text(text, "overlap"),
+        Answer::Full => push_text(text, "full"),
+        Answer::Busy(count) => push_counted(text, "busy ", count),
+        Answer::Untouched => push_text(text, "untouched"),
+        Answer::Stale => push_text(text, "stale"),
+        Answer::Unborn => push_text(text, "unborn"),
+    }
+}
+
+// The actor's name; nothing where no such actor is declared.
+fn name_of(script: &Script, actor: ActorNo) -> &str
+    ensures { result.now ≡ name_in (actor_at script.now actor) }
+{
+    if actor.get() < u64::from(script.actors()) {
+        script.name_of(actor)
+    } else {
+        ""
+    }
+}
+
+// The process's name; nothing where no such process is declared.
+fn process_name(script: &Script, p: ProcNo) -> &str
+    ensures { result.now ≡ process_name (process_at script.now p) }
+{
+    if p.get() < u64::from(script.processes()) {
+        script.process_name(p)
+    } else {
+        ""
+    }
+}
+
+#[tactic(auto, using(crate::proofs::Fronts::fronts))]
+fn push_head(script: &Script, actor: ActorNo, op: u32, text: &mut Vec<u8>) -> Result<(), NoMemory>
+    ensures ok { OnOk result (text.new.items ≡ text.old.items ++ head_of script.now actor op) }
+    ensures err { OnErr result (BeginsWith text.new.items text.old.items) }
+{
+    push_text(text, name_of(script, actor))?;
+    push_counted(text, " ", u64::from(op))?;
+    push_text(text, " ")
+}
+
+#[tactic(auto, using(crate::proofs::Fronts::fronts))]
+fn write_line(script: &Script, o: &Outcome, text: &mut Vec<u8>) -> Result<(), NoMemory>
+    ensures ok { OnOk result (text.new.items ≡ text.old.items ++ line_of script.now o.now) }
+    ensures err { OnErr result (BeginsWith text.new.items text.old.items) }
+{
+    push_head(script, o.actor, o.op, text)?;
+    push_answer(text, o.answer, o.words.as_slice())?;
+    push_text(text, "\n")
+}
+
+/// Appends the line of an outcome: the actor's name, the operation's number, the answer and a line feed. Where
+/// memory is wanted the text is as it was.
+pub fn push_line(script: &Script, o: &Outcome, text: &mut Vec<u8>) -> Result<(), NoMemory>
+    ensures ok { OnOk result (text.new.items ≡ text.old.items ++ line_of script.now o.now) }
+    ensures err { OnErr result (text.new.items ≡ text.old.items) }
+{
+    let length = text.len();
+    let written = write_line(script, o, text);
+    if written.is_err() {
+        text.truncate(length);
+    }
+    written
+}
+
+// The process that an actor is stuck at.
+#[tactic(auto, using(crate::proofs::Fronts::fronts))]
+fn push_waiting(script: &Script, waiting: Waiting, text: &mut Vec<u8>) -> Result<(), NoMemory>
+    requires { NamesProcess script.now waiting }
+    ensures ok { OnOk result (text.new.items ≡ text.old.items ++ (codes " " ++ waiting_text script.now waiting)) }
+    ensures err { OnErr result (BeginsWith text.new.items text.old.items) }
+{
+    push_text(text, " ")?;
+    match waiting {
+        Waiting::Process(p) => {
+            push_text(text, "process ")?;
+            push_text(text, process_name(script, p))
+        }
+        // Nobody is stuck at a lock, and handles come with pins.
+        Waiting::Holder(_) | Waiting::Handle(_) => Ok(()),
+    }
+}
+
+#[tactic(auto, using(crate::proofs::Fronts::fronts))]
+fn write_stuck(script: &Script, actor: ActorNo, waiting: Waiting, text: &mut Vec<u8>) -> Result<(), NoMemory>
+    requires { NamesProcess script.now waiting }
+    ensures ok { OnOk result (text.new.items ≡ text.old.items ++ stuck_line script.now actor waiting) }
+    ensures err { OnErr result (BeginsWith text.new.items text.old.items) }
+{
+    push_text(text, "stuck ")?;
+    push_text(text, name_of(script, actor))?;
+    push_waiting(script, waiting, text)?;
+    push_text(text, "\n")
+}
+
+/// Appends the line of an actor that is stuck: `stuck`, its name, and what it waits for, a process of the script.
+/// Where memory is wanted the text is as it was.
+pub fn push_stuck(script: &Script, actor: ActorNo, waiting: Waiting, text: &mut Vec<u8>) -> Result<(), NoMemory>
+    requires { NamesProcess script.now waiting }
+    ensures ok { OnOk result (text.new.items ≡ text.old.items ++ stuck_line script.now actor waiting) }
+    ensures err { OnErr result (text.new.items ≡ text.old.items) }
+{
+    let length = text.len();
+    let written = write_stuck(script, actor, waiting, text);
+    if written.is_err() {
+        text.truncate(length);
+    }
+    written
+}
