@@ -4,13 +4,10 @@ use Rattle.std.specs.Prelude.{sum_by}
 use Rattle.std.proofs.lemmas.List.Elements.{All-nil, All-cons, All-head}
 use Rattle.gup_script.specs.declared.op.Kind.{Kind}
 use Rattle.gup_script.specs.declared.op.Kind.TheVariants.{Thread, Device, Mover}
-use Rattle.gup_script.specs.OnePage.{IsThread, IsOnePage, IsOfPage}
+use Rattle.gup_script.specs.OnePage.{IsThread, IsOnePage}
 use Rattle.gup_script.specs.Script.{ScriptValue, Actor}
 use Rattle.gup_script.specs.Valid.{KindFits, IsScript}
-use Rattle.gup_turns.specs.Run.{RunState, run_start, IsCoreRun, HasTurns}
-use Rattle.gup_turns.specs.Turn.{HasTurn}
-use Rattle.gup_script.specs.declared.op.Op.{Op}
-use Rattle.gup_script.specs.declared.op.Op.TheVariants.{Map, Unmap, Protect, Discard, Load, Store, Exit}
+use Rattle.gup_turns.specs.Run.{RunState, run_start, IsCoreRun}
 use Rattle.gup.specs.Cause.{operations}
 use Rattle.gup.specs.FirstPath.{IsFirstPath}
 use Rattle.gup.specs.Ran.{HaveFinished}
@@ -42,23 +39,6 @@ first_path s valid h one =
       few_ops = few_of s.actors one valid.few_ops;
       unwritten = h.unwritten;
       one_page = h.one_page;
-    }
-
--- an operation of the page has a turn
-has_turn : (page : ℕ) (op : Op) → IsOfPage page op → HasTurn op
-has_turn page (Map first n rights) of = tt
-has_turn page (Unmap first n) of = tt
-has_turn page (Load at word) of = tt
-has_turn page (Store at word value) of = tt
-has_turn page (Protect first n rights) of = absurd of
-has_turn page (Discard first n) of = absurd of
-has_turn page Exit of = absurd of
-
-pub has_turns : (s : ScriptValue) → IsScript s → IsOnePage s → HasTurns s
-has_turns s valid h =
-    record {
-      valid = valid;
-      turns = λ k d below j o within. has_turn h.one_page.0 _ (h.one_page.1 k d below j o within);
     }
 
 -- without an actor there is nothing to run

@@ -3,6 +3,7 @@ use Rattle.std.proofs.Common.{◌≡◌, ℕ, ◌+◌, ◌≤◌, Bool, true, Op
 use Rattle.std.proofs.lemmas.Bool.Decides.{nat_tests}
 use Rattle.gup_base.specs.declared.entry.Entry.{Entry}
 use Rattle.gup_base.specs.declared.entry.Rights.{Rights}
+use Rattle.gup_plain.specs.Put.{lowest}
 use Rattle.gup_plain.specs.State.{Birth}
 use Rattle.gup_plain.specs.declared.answer.Answer.{Answer}
 use Rattle.gup_plain.specs.declared.answer.Answer.TheVariants as answers
@@ -12,7 +13,7 @@ use Rattle.gup_script.specs.Valid.{IsOp}
 use Rattle.gup_script.specs.OnePage.{IsOfPage}
 use Rattle.gup_events.specs.State.{CoreState}
 use Rattle.gup_plain.specs.Denial.{any_mapped, map_denial}
-use Rattle.gup_turns.specs.Turn.{map_turn_by, unmap_turn_by, load_turn, store_turn, free_frame, lowest, turn_at, turn_of, op_turn}
+use Rattle.gup_turns.specs.Turn.{map_turn_by, unmap_turn_by, load_turn, store_turn, free_frame, turn_at, turn_of, op_turn}
 use Rattle.gup.specs.Page.{PageValue, map_answer, mapped, unmapped, allows_store, load_answer, loaded, store_answer, stored}
 use Rattle.gup.specs.Machine.{ShowsPage, map_whats, unmap_whats, load_whats, store_whats, mapped_pages, op_whats, page_after}
 use Rattle.gup.proofs.Shown.{Shown, page_of, load-entry-shown, store-allowed-shown}

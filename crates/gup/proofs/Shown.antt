@@ -11,8 +11,8 @@ use Rattle.std.proofs.lemmas.Grind.{common_steps}
 use Rattle.gup_plain.specs.Put.{put2}
 use Rattle.gup_events.specs.State.{CoreState}
 use Rattle.gup_events.specs.Event.{CoreEvent, happens, entry_of, take_frame, fill, upgrade}
+use Rattle.gup_events.specs.Invariant.{run}
 use Rattle.gup_turns.specs.Turn.{Taken, load_turn, loads, loads_by_fault, loads_by_fill, store_turn_by, stores_by_fault, stores_by_fill, stores_by_upgrade, stores_behind, free_frame}
-use Rattle.gup_turns.specs.Run.{state_after}
 use Rattle.gup.specs.Page.{PageValue, zeros, filled, written, load_answer, loaded, store_answer, stored, allows_store}
 use Rattle.gup.specs.Machine.{ShowsPage, load_whats, store_whats}
 
@@ -28,14 +28,14 @@ zeros-length = refl
 -- the turn says this, and leaves a state that has the page so
 pub record Shown (value : PageValue) (whats : List What) (p page : ℕ) (s : CoreState) (t : Taken) : Type 0 where
   pub whats_are : t.whats ≡ whats
-  pub page_is : ShowsPage value p page (state_after s t.events)
+  pub page_is : ShowsPage value p page (run s t.events)
 
 abbrev pub page_of : Option Rights → Option Entry → List ℕ → PageValue
 page_of r e ws = record { rights = r; entry = e; words = ws }
 
 -- a fill gives the page frame 0, zeroed
 fill-shown : (s : CoreState) (p page : ℕ) (r : Rights) (ws : List ℕ) → ShowsPage (page_of (Some r) None ws) p page s
-    → ShowsPage (page_of (Some r) (Some (entry_of 0 false)) zeros) p page (state_after s (take_frame 0 0 ∷ fill 0 p page 0 ∷ []))
+    → ShowsPage (page_of (Some r) (Some (entry_of 0 false)) zeros) p page (run s (take_frame 0 0 ∷ fill 0 p page 0 ∷ []))
 fill-shown s p page r ws h =
     record {
       is_born = h.is_born;
@@ -90,7 +90,7 @@ write-shown : (s : CoreState) (p page word value : ℕ) (r : Option Rights) (e :
     → Shown (page_of r (Some e) (slice_set ws word value)) (store_whats p page word value (store_answer true r)) p page s (stores_behind [] 0 p page word e.frame value)
 write-shown s p page word value r e ws small h =
     let within : word < length ws = omega (arith, h.sized) in
-    let page_is : ShowsPage (page_of r (Some e) (slice_set ws word value)) p page (state_after s (stores_behind [] 0 p page word e.frame value).events) =
+    let page_is : ShowsPage (page_of r (Some e) (slice_set ws word value)) p page (run s (stores_behind [] 0 p page word e.frame value).events) =
     record {
       is_born = h.is_born;
       structure = h.structure;
@@ -110,7 +110,7 @@ write-shown s p page word value r e ws small h =
 
 -- an upgraded entry is writable, and all else stays
 upgrade-shown : (s : CoreState) (p page : ℕ) (r : Option Rights) (e : Entry) (ws : List ℕ) → ShowsPage (page_of r (Some e) ws) p page s
-    → ShowsPage (page_of r (Some (entry_of 0 true)) ws) p page (state_after s (upgrade 0 p page e.frame ∷ []))
+    → ShowsPage (page_of r (Some (entry_of 0 true)) ws) p page (run s (upgrade 0 p page e.frame ∷ []))
 upgrade-shown s p page r e ws h =
     let zero_frame : e.frame ≡ 0 = h.frame e refl in
     record {
@@ -131,7 +131,7 @@ upgrade-shown s p page r e ws h =
 
 -- a store behind other events: the notes are those of the store
 behind-shown : (s : CoreState) (p page word value : ℕ) (es : List CoreEvent) (v : PageValue) (whats : List What) (f : ℕ)
-    → Shown v whats p page (state_after s es) (stores_behind [] 0 p page word f value)
+    → Shown v whats p page (run s es) (stores_behind [] 0 p page word f value)
     → Shown v whats p page s (stores_behind es 0 p page word f value)
 behind-shown s p page word value [] v whats f h = h
 behind-shown s p page word value (e ∷ es) v whats f h =
@@ -142,7 +142,7 @@ store-upgrade-shown : (s : CoreState) (p page word value : ℕ) (marked : Bool) 
     → Shown (written word value (page_of (Some RW) (Some e) ws)) (store_whats p page word value (store_answer false (Some RW))) p page s (stores_by_upgrade marked 0 p page word e.frame value)
 store-upgrade-shown s p page word value false e ws small is h = cc
 store-upgrade-shown s p page word value true e ws small is h =
-    let S : CoreState = state_after s (upgrade 0 p page e.frame ∷ []) in
+    let S : CoreState = run s (upgrade 0 p page e.frame ∷ []) in
     let P : ℕ → Type 0 = λ f. Shown (written word value (page_of (Some RW) (Some e) ws)) (store_whats p page word value (store_answer false (Some RW))) p page S (stores_behind [] 0 p page word f value) in
     behind-shown s p page word value (upgrade 0 p page e.frame ∷ []) _ _ e.frame
     (subst P (sym (h.frame e refl)) (write-shown S p page word value (Some RW) (entry_of 0 true) ws small (upgrade-shown s p page (Some RW) e ws h)))
@@ -151,12 +151,12 @@ store-fill-shown : (s : CoreState) (p page word value : ℕ) (free : Option ℕ)
     → Shown (written word value (filled (page_of (Some RW) None ws))) (store_whats p page word value (store_answer false (Some RW))) p page s (stores_by_fill 0 p page word value free)
 store-fill-shown s p page word value free ws small is h =
     let filling : List CoreEvent = take_frame 0 0 ∷ fill 0 p page 0 ∷ [] in
-    let S : CoreState = state_after s filling in
+    let S : CoreState = run s filling in
     let there : ShowsPage (page_of (Some RW) (Some (entry_of 0 false)) zeros) p page S = fill-shown s p page RW ws h in
     let P : Option ℕ → Type 0 = λ o. Shown (written word value (filled (page_of (Some RW) None ws))) (store_whats p page word value (store_answer false (Some RW))) p page s (stores_by_fill 0 p page word value o) in
     subst P (sym is)
     (behind-shown s p page word value (take_frame 0 0 ∷ fill 0 p page 0 ∷ upgrade 0 p page 0 ∷ []) _ _ 0
-    (write-shown (state_after S (upgrade 0 p page 0 ∷ [])) p page word value (Some RW) (entry_of 0 true) zeros small
+    (write-shown (run S (upgrade 0 p page 0 ∷ [])) p page word value (Some RW) (entry_of 0 true) zeros small
     (upgrade-shown S p page (Some RW) (entry_of 0 false) zeros there)))
 
 store-fault-shown : (s : CoreState) (p page word value : ℕ) (r : Option Rights) (e : Option Entry) (ws : List ℕ) → word < 512 → (e ≡ None → free_frame s ≡ Some 0) → ShowsPage (page_of r e ws) p page s

@@ -17,12 +17,13 @@ use Rattle.gup_script.specs.Valid.{IsScript}
 use Rattle.gup.specs.FirstPath.{IsFirstPath}
 use Rattle.gup_events.specs.State.{CoreState}
 use Rattle.gup_events.specs.Event.{CoreEvent, happens}
+use Rattle.gup_events.specs.Invariant.{run}
 use Rattle.gup_follows.specs.Place.{Place, place_behind, process_of, ops_of}
 use Rattle.gup_plain.specs.Note.{NoteValue}
 use Rattle.gup_follows.specs.Follows.{notes_of_turn}
 use Rattle.gup_follows.specs.Order.{pointer_after}
 use Rattle.gup_turns.specs.Turn.{Taken, waits_at, waits_for_locks, needs_locks}
-use Rattle.gup_turns.specs.Run.{RunState, state_after, waiting_with, waiting_in, op_in, taken_by, taken_in, run_after}
+use Rattle.gup_turns.specs.Run.{RunState, waiting_with, waiting_in, op_in, taken_by, taken_in, run_after}
 use Rattle.gup.specs.Page.{PageValue, load_answer, store_answer, map_answer, allows_store}
 use Rattle.gup.specs.Machine.{MachineValue, NamesOnly, ShowsPage, Shows, TakesTurn, counted, whats_of, load_whats, store_whats, map_whats, unmap_whats, op_whats, whats_by, machine_by, next_op, machine_whats, machine_after}
 use Rattle.gup.specs.Cause.{IsKnownAnswer}
@@ -33,11 +34,11 @@ use Rattle.gup.proofs.Scripts.{op_fits}
 happens-movable : (s : CoreState) (e : CoreEvent) → ((happens s e).movable ≡ s.movable) × ((happens s e).normal ≡ s.normal)
 happens-movable s e = (grind (arith), grind (arith))
 
-state_after-movable : (s : CoreState) (es : List CoreEvent) → ((state_after s es).movable ≡ s.movable) × ((state_after s es).normal ≡ s.normal)
-state_after-movable s [] = (refl, refl)
-state_after-movable s (e ∷ es) =
+run-movable : (s : CoreState) (es : List CoreEvent) → ((run s es).movable ≡ s.movable) × ((run s es).normal ≡ s.normal)
+run-movable s [] = (refl, refl)
+run-movable s (e ∷ es) =
     let one = happens-movable s e in
-    let rest = state_after-movable (happens s e) es in
+    let rest = run-movable (happens s e) es in
     (rest.0 ∙ one.0, rest.1 ∙ one.1)
 
 -- nobody waits: the process is born, and its locks are free
@@ -152,7 +153,7 @@ op_answered p v Exit = (None, answers.Plain, tt, refl)
 -- what a turn by this operation, or by none, says and leaves
 record TurnShown (m : MachineValue) (page : ℕ) (r : RunState) (o : Option Op) (t : Taken) : Type 0 where
   whats_are : t.whats ≡ whats_by m o
-  page_is : ShowsPage (machine_by m o).page (process_of m.script 0) page (state_after r.core t.events)
+  page_is : ShowsPage (machine_by m o).page (process_of m.script 0) page (run r.core t.events)
   place_is : place_behind (record { answered = m.answered; far = 0; had = false }) (whats_by m o) ≡ record { answered = (machine_by m o).answered; far = 0; had = false }
 
 turn-shown : (m : MachineValue) (page : ℕ) (r : RunState) (o : Option Op) → IsScript m.script → IsFirstPath m.script → NamesOnly m.script page → next_op m ≡ o → Shows m page r → TurnShown m page r o (taken_by r.core 0 (process_of m.script 0) 0 o None)
@@ -195,9 +196,9 @@ machine-shown m page r valid form names few h =
     let script_is : M.script ≡ m.script = (machine_by-script m (next_op m)).0 in
     let turns_are : M.turns ≡ counted m.turns = (machine_by-script m (next_op m)).1 in
     let whats : (taken_in m.script r 0).whats ≡ machine_whats m = ap (λ (k : Taken). k.whats) is ∙ t.whats_are in
-    let P : Taken → Type 0 = λ k. ShowsPage M.page (process_of m.script 0) page (state_after r.core k.events) in
-    let Q : ScriptValue → Type 0 = λ s. ShowsPage M.page (process_of s 0) page (state_after r.core (taken_in m.script r 0).events) in
-    let zones = state_after-movable r.core (taken_in m.script r 0).events in (
+    let P : Taken → Type 0 = λ k. ShowsPage M.page (process_of m.script 0) page (run r.core k.events) in
+    let Q : ScriptValue → Type 0 = λ s. ShowsPage M.page (process_of s 0) page (run r.core (taken_in m.script r 0).events) in
+    let zones = run-movable r.core (taken_in m.script r 0).events in (
       whats,
       record {
         movable = zones.0 ∙ h.movable ∙ ap (λ (s : ScriptValue). s.frames.movable) (sym script_is);

@@ -4,7 +4,7 @@ use Rattle.gup_follows.specs.Plain.{judged_first}
 use Rattle.gup_turns.specs.Run.{run_start}
 use Rattle.gup.specs.Report.{IsRunOf}
 use Rattle.gup.proofs.Causes.{caused}
-use Rattle.gup.proofs.FirstPaths.{first_path, has_turns, nothing_runs, all_finished, no_operations}
+use Rattle.gup.proofs.FirstPaths.{first_path, nothing_runs, all_finished, no_operations}
 use Rattle.gup.proofs.top.run_script.Goals as goal
 
 -- without an actor the journal is empty
@@ -12,14 +12,14 @@ pub returns-then-actors-eq0-clause-run : goal.returns-then-actors-eq0-clause-run
 returns-then-actors-eq0-clause-run c =
     let script = c.args.script.now in
     let none : length script.actors ≡ 0 = sym c.actors.ensures.count ∙ c.if-actors-eq0.true in
-    let turns = has_turns script c.actors.ensures.valid c.requires in
+    let valid = c.actors.ensures.valid in
     let run = nothing_runs script c.requires none in
-    let plain = c.core_run_is_plain.ensures script [] (run_start script) turns run in
+    let plain = c.core_run_is_plain.ensures script [] (run_start script) valid run in
     let P : List NoteValue → Type 0 = λ notes. IsRunOf script notes in
     subst P (sym c.new.ensures)
     (record {
-      follows = c.core_run_follows.ensures script [] (run_start script) turns run;
-      in_order = c.core_run_is_in_order.ensures script [] (run_start script) turns run;
+      follows = c.core_run_follows.ensures script [] (run_start script) valid run;
+      in_order = c.core_run_is_in_order.ensures script [] (run_start script) valid run;
       plain = plain;
       core = (run_start script, run, all_finished script (run_start script) none);
       causes = caused script (judged_first script) [] plain tt;
@@ -40,12 +40,12 @@ run_all-requires-clause-form c =
 pub returns-clause-run : goal.returns-clause-run
 returns-clause-run c =
     let script = c.args.script.now in
-    let turns = has_turns script c.actors.ensures.valid c.requires in
+    let valid = c.actors.ensures.valid in
     let run = c.in_ok-run.ensures.core in
-    let plain = c.core_run_is_plain.ensures script _ run.0 turns run.1 in
+    let plain = c.core_run_is_plain.ensures script _ run.0 valid run.1 in
     record {
-      follows = c.core_run_follows.ensures script _ run.0 turns run.1;
-      in_order = c.core_run_is_in_order.ensures script _ run.0 turns run.1;
+      follows = c.core_run_follows.ensures script _ run.0 valid run.1;
+      in_order = c.core_run_is_in_order.ensures script _ run.0 valid run.1;
       plain = plain;
       core = run;
       causes = caused script (judged_first script) _ plain c.in_ok-run.ensures.known;
