@@ -50,7 +50,8 @@ pub fn unshare(space: &mut Space, frames: &mut Frames, page: PageNo, allowed: Al
     ensures read_only { IsReadOnly ((space_of space.old).entry page) → IsReadOnly ((space_of space.new).entry page) }
     ensures alone { KeepsAlone (change_of frames.old frames.new space.old space.new) page }
 {
-    if space.rights_at(page).is_none() {
+    let rights = space.rights_at(page);
+    if rights.is_none() {
         return Err(Denied::Missing);
     }
     let Some(entry) = space.entry(page) else {
@@ -126,7 +127,8 @@ fn make_writable(space: &mut Space, frames: &mut Frames, page: PageNo, entry: En
         space.set_entry(page, upgraded);
         return Ok(());
     }
-    if frames.count(entry.frame) == 1 {
+    let references = frames.count(entry.frame);
+    if references == 1 {
         frames.set_mark(entry.frame, true);
         space.set_entry(page, upgraded);
         return Ok(());

@@ -46,12 +46,12 @@ pub(crate) fn fill_writable(space: &mut Space, frames: &mut Frames, page: PageNo
         (λ a p. fills_writable a p page (free_frame (frames_of frames.old) allowed)) }
     ensures entry { OnOk result (IsExclusiveEntry (frames_of frames.new) true ((space_of space.new).entry page)) }
 {
-    let Some(frame) = frames.take(allowed) else {
+    let Some(fresh) = frames.take(allowed) else {
         return Err(NoFrame);
     };
-    frames.set_mark(frame, true);
+    frames.set_mark(fresh, true);
     let writable = true;
-    space.set_entry(page, Some(Entry { frame, writable }));
+    space.set_entry(page, Some(Entry { frame: fresh, writable }));
     Ok(())
 }
 
@@ -111,12 +111,12 @@ pub(crate) fn break_entry(space: &mut Space, frames: &mut Frames, page: PageNo, 
         (λ a p. breaks a p page entry writable (free_frame (frames_of frames.old) allowed)) }
     ensures entry { OnOk result (IsExclusiveEntry (frames_of frames.new) writable ((space_of space.new).entry page)) }
 {
-    let Some(frame) = frames.take(allowed) else {
+    let Some(copy) = frames.take(allowed) else {
         return Err(NoFrame);
     };
-    frames.copy(entry.frame, frame);
-    frames.set_mark(frame, true);
-    space.set_entry(page, Some(Entry { frame, writable }));
+    frames.copy(entry.frame, copy);
+    frames.set_mark(copy, true);
+    space.set_entry(page, Some(Entry { frame: copy, writable }));
     frames.put(entry.frame, 1);
     Ok(())
 }
