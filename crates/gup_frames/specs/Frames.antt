@@ -1,5 +1,5 @@
 -- The frames of the machine, and what each call makes of them.
-use Rattle.std.specs.Prelude.{◌≡◌, ℕ, ◌+◌, ◌-◌, ◌<◌, ◌≤◌, ◌==◌, ◌&&◌, nat_le, nat_lt, Bool, false, if◌then◌else◌, Option, None, zero, suc}
+use Rattle.std.specs.Prelude.{ℕ, ◌+◌, ◌-◌, ◌*◌, ◌<◌, ◌==◌, nat_lt, Bool, false, if◌then◌else◌, Option, List, slice_index, slice_index_or, zero, suc}
 use Rattle.gup_base.specs.declared.entry.Allowed.{Allowed}
 use Rattle.gup_base.specs.declared.entry.Allowed.TheVariants.{Any, Only}
 use Rattle.gup_base.specs.declared.entry.Zone.{Zone}
@@ -74,3 +74,26 @@ free_in s first (suc n) = (if s.count first == 0 then 1 else 0) + free_in s (fir
 abbrev pub free_of : FramesValue → Zone → ℕ
 free_of s Movable = free_in s 0 s.movable
 free_of s Normal = free_in s s.movable s.normal
+
+-- what a `Frames` keeps, in order of the frames: their counts, their marks, and 512 words of each
+pub record FrameLists : Type 0 where
+  pub movable : ℕ
+  pub normal : ℕ
+  pub counts : List ℕ
+  pub marks : List Bool
+  pub words : List ℕ
+
+-- the words of each frame, of which each has 512
+abbrev pub word_in : List ℕ → ℕ → ℕ → ℕ
+word_in words f w = if nat_lt w 512 then slice_index words (512 * f + w) else 0
+
+-- the frames that these lists are of
+abbrev pub frames_of : FrameLists → FramesValue
+frames_of l =
+    record {
+      movable = l.movable;
+      normal = l.normal;
+      count = slice_index l.counts;
+      mark = λ f. slice_index_or l.marks f false;
+      word = word_in l.words;
+    }

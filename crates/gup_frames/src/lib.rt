@@ -1,2 +1,11 @@
-//! The frames of the machine (stub).
+//! The frames of the machine: the references, the mark and the words of each, and which of them are free.
 #![tactic(auto)]
+
+mod bitmap;
+mod frames;
+mod words;
+
+pub use frames::Frames;
+
+#[cfg(test)]
+mod tests;

@@ -1,0 +1,60 @@
+-- The words of frames in one list.
+use Rattle.std.proofs.Common.{◌≡◌, ◌≢◌, ℕ, ◌+◌, ◌-◌, ◌*◌, ◌<◌, ◌≤◌, eqb, ltb, ◌&&◌, cond, List, length, get_or, set, get_or-set_same, get_or-set_other, ap, ◌∙◌, ⊎_elim, arith}
+use Rattle.std.proofs.Math.Path.{fun_ext}
+use Rattle.std.proofs.lemmas.Bool.{cases_eq, cases_lt}
+use Rattle.std.proofs.lemmas.Bool.Decides.{nat_tests}
+use Rattle.gup_plain.specs.Put.{put}
+use Rattle.gup_frames.specs.Frames.{word_in}
+
+-- the first n words of the frame are 0
+abbrev pub front_zero : (frame n : ℕ) → (ℕ → ℕ → ℕ) → ℕ → ℕ → ℕ
+front_zero frame n word f w = cond (eqb f frame && ltb w n) 0 (word f w)
+
+pub front_none : (frame : ℕ) (word : ℕ → ℕ → ℕ) → word ≡ front_zero frame 0 word
+front_none frame word = fun_ext (λ f. fun_ext (λ w. at f w))
+  where
+    at : (f w : ℕ) → word f w ≡ front_zero frame 0 word f w
+    at f w = grind (arith, nat_tests)
+
+-- one word more is written
+pub front_more : (words old : List ℕ) (frame n : ℕ) → n < 512 → 512 * frame + n < length words → word_in words ≡ front_zero frame n (word_in old) → word_in (set words (512 * frame + n) 0) ≡ front_zero frame (n + 1) (word_in old)
+front_more words old frame n within inside done = fun_ext (λ f. fun_ext (λ w. at f w (ap (λ h. h f w) done)))
+  where
+    at : (f w : ℕ) → word_in words f w ≡ front_zero frame n (word_in old) f w → word_in (set words (512 * frame + n) 0) f w ≡ front_zero frame (n + 1) (word_in old) f w
+    at f w done =
+        ⊎_elim
+        (λ (here : 512 * f + w ≡ 512 * frame + n).
+        let read : get_or (set words (512 * frame + n) 0) (512 * f + w) 0 ≡ 0 = rw here (get_or-set_same words (512 * frame + n) 0 0 inside) in
+        grind (arith, nat_tests))
+        (λ (away : 512 * f + w ≢ 512 * frame + n).
+        let read : get_or (set words (512 * frame + n) 0) (512 * f + w) 0 ≡ get_or words (512 * f + w) 0 = get_or-set_other words (512 * frame + n) (512 * f + w) 0 0 away in
+        grind (arith, nat_tests))
+        (cases_eq (512 * f + w) (512 * frame + n))
+
+-- of a frame that has 512 words
+pub front_all : (frame : ℕ) (words : List ℕ) → front_zero frame 512 (word_in words) ≡ put frame (λ _. 0) (word_in words)
+front_all frame words = fun_ext (λ f. fun_ext (λ w. at f w))
+  where
+    at : (f w : ℕ) → front_zero frame 512 (word_in words) f w ≡ put frame (λ _. 0) (word_in words) f w
+    at f w = grind (arith, nat_tests)
+
+-- the frame `to` has the words of the other
+pub copied_words : (old new : List ℕ) (from to : ℕ) → ((k d : ℕ) → 512 * to ≤ k → k < 512 * to + (512 * from + 512 - 512 * from) → get_or new k d ≡ get_or old (512 * from + (k - 512 * to)) d) → ((k d : ℕ) → k < 512 * to → get_or new k d ≡ get_or old k d) → ((k d : ℕ) → 512 * to + (512 * from + 512 - 512 * from) ≤ k → get_or new k d ≡ get_or old k d) → word_in new ≡ put to (word_in old from) (word_in old)
+copied_words old new from to same below above = fun_ext (λ f. fun_ext (λ w. at f w))
+  where
+    at : (f w : ℕ) → word_in new f w ≡ put to (word_in old from) (word_in old) f w
+    at f w =
+        ⊎_elim
+        (λ (within : w < 512).
+        ⊎_elim
+        (λ (here : f ≡ to).
+        let read : get_or new (512 * f + w) 0 ≡ get_or old (512 * from + w) 0 =
+        same (512 * f + w) 0 (omega arith) (omega arith) ∙ ap (λ k. get_or old k 0) (omega arith) in
+        grind (arith, nat_tests))
+        (λ (ne : f ≢ to).
+        let read : get_or new (512 * f + w) 0 ≡ get_or old (512 * f + w) 0 =
+        ⊎_elim (λ (l : f < to). below (512 * f + w) 0 (omega arith)) (λ (g : to ≤ f). above (512 * f + w) 0 (omega arith)) (cases_lt f to) in
+        grind (arith, nat_tests))
+        (cases_eq f to))
+        (λ (past : 512 ≤ w). grind (arith, nat_tests))
+        (cases_lt w 512)

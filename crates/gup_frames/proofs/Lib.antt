@@ -1,0 +1,4 @@
+pub mod Bits
+pub mod FrameWords
+pub mod Free
+pub mod Keeps
