@@ -9,3 +9,6 @@ mod steps;
 pub use denied::{Denied, NoFrame};
 pub use ready::{ready_read, ready_write, unshare};
 pub use steps::{break_copy, fill, mark, upgrade};
+
+#[cfg(test)]
+mod tests;

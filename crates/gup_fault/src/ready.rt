@@ -17,12 +17,17 @@ use gup_space::Space;
 /// Makes the page ready for a load: any entry is enough, and one that has none gets a frame of zeros.
 ///
 /// Refused first where the page has no mapping, then where it wants a frame and none of the allowed zones is free.
-pub fn ready_read(space: &mut Space, frames: &mut Frames, page: PageNo, allowed: Allowed) -> Result<(), Denied>
+pub fn ready_read(
+    space: &mut Space,
+    frames: &mut Frames,
+    page: PageNo,
+    allowed: Allowed,
+) -> Result<(), Denied>
     requires room { HasRoom (space_of space.old) page }
     requires counted { IsCounted (frames_of frames.old) (space_of space.old) page }
     ensures fault { IsFault (change_of frames.old frames.new space.old space.new) (denial_of result)
         (λ a p. read_fault a p page ((space_of space.old).right page) ((space_of space.old).entry page)
-            (free_frame (frames_of frames.old) allowed)) }
+        (free_frame (frames_of frames.old) allowed)) }
     ensures entry { OnOk result (IsSome ((space_of space.new).entry page)) }
     ensures read_only { IsReadOnly ((space_of space.old).entry page) → IsReadOnly ((space_of space.new).entry page) }
 {
@@ -40,17 +45,23 @@ pub fn ready_read(space: &mut Space, frames: &mut Frames, page: PageNo, allowed:
 /// references (Linux's `FAULT_FLAG_UNSHARE`).
 ///
 /// Refused first where the page has no mapping, then where it wants a frame and none of the allowed zones is free.
-pub fn unshare(space: &mut Space, frames: &mut Frames, page: PageNo, allowed: Allowed) -> Result<(), Denied>
+pub fn unshare(
+    space: &mut Space,
+    frames: &mut Frames,
+    page: PageNo,
+    allowed: Allowed,
+) -> Result<(), Denied>
     requires room { HasRoom (space_of space.old) page }
     requires counted { IsCounted (frames_of frames.old) (space_of space.old) page }
     ensures fault { IsFault (change_of frames.old frames.new space.old space.new) (denial_of result)
         (λ a p. unshare_fault a p page ((space_of space.old).right page) ((space_of space.old).entry page)
-            (frames_of frames.old).mark (frames_of frames.old).count (free_frame (frames_of frames.old) allowed)) }
+        (frames_of frames.old).mark (frames_of frames.old).count (free_frame (frames_of frames.old) allowed)) }
     ensures marked { OnOk result (IsMarked (frames_of frames.new) ((space_of space.new).entry page)) }
     ensures read_only { IsReadOnly ((space_of space.old).entry page) → IsReadOnly ((space_of space.new).entry page) }
     ensures alone { KeepsAlone (change_of frames.old frames.new space.old space.new) page }
 {
-    if space.rights_at(page).is_none() {
+    let rights = space.rights_at(page);
+    if rights.is_none() {
         return Err(Denied::Missing);
     }
     let Some(entry) = space.entry(page) else {
@@ -62,12 +73,18 @@ pub fn unshare(space: &mut Space, frames: &mut Frames, page: PageNo, allowed: Al
 }
 
 // Makes the frame of the page's entry exclusive, or gives the page a copy that is.
-fn unshare_entry(space: &mut Space, frames: &mut Frames, page: PageNo, entry: Entry, allowed: Allowed) -> Result<(), NoFrame>
+fn unshare_entry(
+    space: &mut Space,
+    frames: &mut Frames,
+    page: PageNo,
+    entry: Entry,
+    allowed: Allowed,
+) -> Result<(), NoFrame>
     requires entry { (space_of space.old).entry page ≡ Some entry }
     requires counted { IsCounted (frames_of frames.old) (space_of space.old) page }
     ensures fault { IsFault (change_of frames.old frames.new space.old space.new) (frame_denial result)
         (λ a p. unshares a p page entry ((frames_of frames.old).mark entry.frame) ((frames_of frames.old).count entry.frame)
-            (free_frame (frames_of frames.old) allowed)) }
+        (free_frame (frames_of frames.old) allowed)) }
     ensures marked { OnOk result (IsMarked (frames_of frames.new) ((space_of space.new).entry page)) }
     ensures read_only { IsReadOnly ((space_of space.old).entry page) → IsReadOnly ((space_of space.new).entry page) }
     ensures alone { KeepsAlone (change_of frames.old frames.new space.old space.new) page }
@@ -87,12 +104,17 @@ fn unshare_entry(space: &mut Space, frames: &mut Frames, page: PageNo, entry: En
 ///
 /// Refused first where the page has no mapping, then where its rights don't allow a write, then where it wants a frame
 /// and none of the allowed zones is free.
-pub fn ready_write(space: &mut Space, frames: &mut Frames, page: PageNo, allowed: Allowed) -> Result<(), Denied>
+pub fn ready_write(
+    space: &mut Space,
+    frames: &mut Frames,
+    page: PageNo,
+    allowed: Allowed,
+) -> Result<(), Denied>
     requires room { HasRoom (space_of space.old) page }
     requires counted { IsCounted (frames_of frames.old) (space_of space.old) page }
     ensures fault { IsFault (change_of frames.old frames.new space.old space.new) (denial_of result)
         (λ a p. write_fault a p page ((space_of space.old).right page) ((space_of space.old).entry page)
-            (frames_of frames.old).mark (frames_of frames.old).count (free_frame (frames_of frames.old) allowed)) }
+        (frames_of frames.old).mark (frames_of frames.old).count (free_frame (frames_of frames.old) allowed)) }
     ensures writable { OnOk result (IsWritable ((space_of space.new).entry page)) }
     ensures alone { KeepsAlone (change_of frames.old frames.new space.old space.new) page }
 {
@@ -112,21 +134,31 @@ pub fn ready_write(space: &mut Space, frames: &mut Frames, page: PageNo, allowed
 }
 
 // Makes the page's entry writable once its frame is exclusive, or gives the page a copy that is.
-fn make_writable(space: &mut Space, frames: &mut Frames, page: PageNo, entry: Entry, allowed: Allowed) -> Result<(), NoFrame>
+fn make_writable(
+    space: &mut Space,
+    frames: &mut Frames,
+    page: PageNo,
+    entry: Entry,
+    allowed: Allowed,
+) -> Result<(), NoFrame>
     requires entry { (space_of space.old).entry page ≡ Some entry }
     requires counted { IsCounted (frames_of frames.old) (space_of space.old) page }
     ensures fault { IsFault (change_of frames.old frames.new space.old space.new) (frame_denial result)
         (λ a p. makes_writable a p page entry ((frames_of frames.old).mark entry.frame) ((frames_of frames.old).count entry.frame)
-            (free_frame (frames_of frames.old) allowed)) }
+        (free_frame (frames_of frames.old) allowed)) }
     ensures writable { OnOk result (IsWritable ((space_of space.new).entry page)) }
     ensures alone { KeepsAlone (change_of frames.old frames.new space.old space.new) page }
 {
-    let upgraded = Some(Entry { frame: entry.frame, writable: true });
+    let upgraded = Some(Entry {
+        frame: entry.frame,
+        writable: true,
+    });
     if frames.mark(entry.frame) {
         space.set_entry(page, upgraded);
         return Ok(());
     }
-    if frames.count(entry.frame) == 1 {
+    let references = frames.count(entry.frame);
+    if references == 1 {
         frames.set_mark(entry.frame, true);
         space.set_entry(page, upgraded);
         return Ok(());

@@ -20,7 +20,12 @@ use gup_space::Space;
 /// `do_anonymous_page`; that the entry is never writable at once is this project's own).
 ///
 /// Refused exactly where no frame of the allowed zones is free.
-pub fn fill(space: &mut Space, frames: &mut Frames, page: PageNo, allowed: Allowed) -> Result<(), NoFrame>
+pub fn fill(
+    space: &mut Space,
+    frames: &mut Frames,
+    page: PageNo,
+    allowed: Allowed,
+) -> Result<(), NoFrame>
     requires mapped { IsSome ((space_of space.old).right page) }
     requires absent { (space_of space.old).entry page ≡ None }
     requires room { HasRoom (space_of space.old) page }
@@ -32,13 +37,21 @@ pub fn fill(space: &mut Space, frames: &mut Frames, page: PageNo, allowed: Allow
         return Err(NoFrame);
     };
     frames.set_mark(frame, true);
-    let writable = false;
-    space.set_entry(page, Some(Entry { frame, writable }));
+    let filled = Entry {
+        frame,
+        writable: false,
+    };
+    space.set_entry(page, Some(filled));
     Ok(())
 }
 
 /// Gives the mapped page, which has no entry, a frame of zeros, marked, and a writable entry.
-pub(crate) fn fill_writable(space: &mut Space, frames: &mut Frames, page: PageNo, allowed: Allowed) -> Result<(), NoFrame>
+pub(crate) fn fill_writable(
+    space: &mut Space,
+    frames: &mut Frames,
+    page: PageNo,
+    allowed: Allowed,
+) -> Result<(), NoFrame>
     requires mapped { IsSome ((space_of space.old).right page) }
     requires absent { (space_of space.old).entry page ≡ None }
     requires room { HasRoom (space_of space.old) page }
@@ -46,12 +59,15 @@ pub(crate) fn fill_writable(space: &mut Space, frames: &mut Frames, page: PageNo
         (λ a p. fills_writable a p page (free_frame (frames_of frames.old) allowed)) }
     ensures entry { OnOk result (IsExclusiveEntry (frames_of frames.new) true ((space_of space.new).entry page)) }
 {
-    let Some(frame) = frames.take(allowed) else {
+    let Some(fresh) = frames.take(allowed) else {
         return Err(NoFrame);
     };
-    frames.set_mark(frame, true);
-    let writable = true;
-    space.set_entry(page, Some(Entry { frame, writable }));
+    frames.set_mark(fresh, true);
+    let written = Entry {
+        frame: fresh,
+        writable: true,
+    };
+    space.set_entry(page, Some(written));
     Ok(())
 }
 
@@ -77,10 +93,12 @@ pub fn upgrade(space: &mut Space, frames: &Frames, page: PageNo)
         → AreEvents (change_of frames.now frames.now space.old space.new) (λ a p. one_event (upgrades a p page e.frame)) }
     ensures bytes { KeepsBytes (change_of frames.now frames.now space.old space.new) }
 {
-    let _frames = frames;
     if let Some(entry) = space.entry(page) {
-        let writable = true;
-        space.set_entry(page, Some(Entry { frame: entry.frame, writable }));
+        let upgraded = Entry {
+            frame: entry.frame,
+            writable: true,
+        };
+        space.set_entry(page, Some(upgraded));
     }
 }
 
@@ -88,13 +106,19 @@ pub fn upgrade(space: &mut Space, frames: &Frames, page: PageNo)
 /// `wp_page_copy`): a fault to write where the entry gets writable, else one to read that unshares.
 ///
 /// Refused exactly where no frame of the allowed zones is free.
-pub fn break_copy(space: &mut Space, frames: &mut Frames, page: PageNo, allowed: Allowed, writable: bool) -> Result<(), NoFrame>
+pub fn break_copy(
+    space: &mut Space,
+    frames: &mut Frames,
+    page: PageNo,
+    allowed: Allowed,
+    writable: bool,
+) -> Result<(), NoFrame>
     requires unmarked { HasEntry ((space_of space.old).entry page) (λ e. (frames_of frames.old).mark e.frame ≡ false) }
     requires right { writable ≡ true → (space_of space.old).right page ≡ Some RW }
     requires counted { IsCounted (frames_of frames.old) (space_of space.old) page }
     ensures fault { (e : EntryValue) → (space_of space.old).entry page ≡ Some e
         → IsFault (change_of frames.old frames.new space.old space.new) (frame_denial result)
-            (λ a p. breaks a p page e writable (free_frame (frames_of frames.old) allowed)) }
+        (λ a p. breaks a p page e writable (free_frame (frames_of frames.old) allowed)) }
     ensures entry { OnOk result (IsExclusiveEntry (frames_of frames.new) writable ((space_of space.new).entry page)) }
 {
     let Some(entry) = space.entry(page) else {
@@ -104,19 +128,30 @@ pub fn break_copy(space: &mut Space, frames: &mut Frames, page: PageNo, allowed:
 }
 
 /// Gives the page, which has this entry, a marked copy of its frame, and gives the old reference back.
-pub(crate) fn break_entry(space: &mut Space, frames: &mut Frames, page: PageNo, entry: Entry, allowed: Allowed, writable: bool) -> Result<(), NoFrame>
+pub(crate) fn break_entry(
+    space: &mut Space,
+    frames: &mut Frames,
+    page: PageNo,
+    entry: Entry,
+    allowed: Allowed,
+    writable: bool,
+) -> Result<(), NoFrame>
     requires entry { (space_of space.old).entry page ≡ Some entry }
     requires counted { IsCounted (frames_of frames.old) (space_of space.old) page }
     ensures fault { IsFault (change_of frames.old frames.new space.old space.new) (frame_denial result)
         (λ a p. breaks a p page entry writable (free_frame (frames_of frames.old) allowed)) }
     ensures entry { OnOk result (IsExclusiveEntry (frames_of frames.new) writable ((space_of space.new).entry page)) }
 {
-    let Some(frame) = frames.take(allowed) else {
+    let Some(copy) = frames.take(allowed) else {
         return Err(NoFrame);
     };
-    frames.copy(entry.frame, frame);
-    frames.set_mark(frame, true);
-    space.set_entry(page, Some(Entry { frame, writable }));
+    frames.copy(entry.frame, copy);
+    frames.set_mark(copy, true);
+    let copied = Entry {
+        frame: copy,
+        writable,
+    };
+    space.set_entry(page, Some(copied));
     frames.put(entry.frame, 1);
     Ok(())
 }

@@ -3,3 +3,4 @@ pub mod Shows
 pub mod After
 pub mod ShowsLemmas
 pub mod Counted
+pub mod FaultLemmas

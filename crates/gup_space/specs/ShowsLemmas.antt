@@ -147,8 +147,7 @@ same_shown space other same =
 pub are_events : (c : Change) (events : (a p : ℕ) → List CoreEvent) → ((a p : ℕ) → c.old_space.table ≡ None → IsMadeBy c p (events a p)) → AreEvents c events
 are_events c events made s a p frames space free =
     let by : IsMadeBy c p (events a p) = made a p (sym space.table ∙ free) in
-    let behind : ShowsFrames (all_frames_after (events a p) c.old_frames) (run s (events a p)) = show_frames p c.old_frames s (events a p) by.own frames in
-    (
+    let behind : ShowsFrames (all_frames_after (events a p) c.old_frames) (run s (events a p)) = show_frames p c.old_frames s (events a p) by.own frames in (
       subst (λ (f : FramesValue). ShowsFrames f (run s (events a p))) (sym by.frames) behind,
       shown_as p (all_space_after (events a p) c.old_space) c.new_space (run s (events a p)) by.space (show_space p c.old_space s (events a p) by.own space),
     )

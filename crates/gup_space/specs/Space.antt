@@ -81,6 +81,6 @@ without_page page s =
 abbrev pub AreMapped : SpaceValue → Type 0
 AreMapped s = (page : ℕ) (e : Entry) → s.entry page ≡ Some e → IsSome (s.right page)
 
--- a page without an entry finds room for one
+-- a mapped page without an entry finds room for one
 abbrev pub HasRoom : SpaceValue → (page : ℕ) → Type 0
-HasRoom space page = space.entry page ≡ None → space.entries < 1024
+HasRoom s page = IsSome (s.right page) → s.entry page ≡ None → s.entries < 1024

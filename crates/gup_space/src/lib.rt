@@ -5,3 +5,5 @@ mod space;
 
 pub use space::Space;
 
+#[cfg(test)]
+mod tests;

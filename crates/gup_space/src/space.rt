@@ -2,7 +2,7 @@
 ghost use Rattle.std.specs.Prelude.{◌≡◌, ℕ, ◌+◌, ◌<◌, ◌≤◌, ◌^◌, ◌↔◌, true, false, is_some, is_err, None, Some, Err, IfOk, OnOk, OnErr, IsSome, MatchOption};
 ghost use Rattle.gup_plain.specs.Denial.{any_mapped, any_unmapped};
 ghost use Rattle.gup_maps.specs.Maps.{IsNextPage, IsLastPage};
-ghost use Rattle.gup_space.specs.Space.{no_space, space_of, with_entry, with_rights, with_pages, without_page, AreMapped};
+ghost use Rattle.gup_space.specs.Space.{no_space, space_of, with_entry, with_rights, with_pages, without_page, AreMapped, HasRoom};
 
 use gup_base::{ActorNo, Entry, NoMemory, PageNo, Rights};
 use gup_maps::{Hole, MapRefusal, Maps, Table};
@@ -27,12 +27,12 @@ impl Model for Space {
     ghost Value = { SpaceParts };
 
     ghost view = { λ s. record {
-        rights = s.maps;
-        entries = s.entries;
-        sequence = s.sequence;
-        has_pinned = s.has_pinned;
-        structure = s.structure;
-        table = s.table;
+      rights = s.maps;
+      entries = s.entries;
+      sequence = s.sequence;
+      has_pinned = s.has_pinned;
+      structure = s.structure;
+      table = s.table;
     } };
 }
 
@@ -75,10 +75,17 @@ impl Space {
         }
     }
 
+    /// How many pages have an entry, at most 1,024.
+    pub fn entries(&self) -> u16
+        ensures len { result ≡ (space_of self.now).entries }
+        ensures within { result ≤ 1024 }
+    {
+        self.entries.len()
+    }
+
     /// A law: where each page with an entry is mapped, a mapped page without one finds room for one.
     pub fn has_room(&self, page: PageNo)
-        ensures { AreMapped (space_of self.now) → IsSome ((space_of self.now).right page)
-            → (space_of self.now).entry page ≡ None → (space_of self.now).entries < 1024 }
+        ensures { AreMapped (space_of self.now) → HasRoom (space_of self.now) page }
     {
         let _pages = self.maps.len();
         self.entries.is_ordered();

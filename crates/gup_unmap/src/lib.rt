@@ -45,10 +45,11 @@ pub fn discard(space: &mut Space, frames: &mut Frames, page: PageNo) -> bool
     if space.rights_at(page).is_none() {
         return false;
     }
-    let Some(entry) = space.entry(page) else {
+    let Some(old) = space.entry(page) else {
         return true;
     };
-    space.set_entry(page, None);
-    frames.put(entry.frame, 1);
+    let cleared = None;
+    space.set_entry(page, cleared);
+    frames.put(old.frame, 1);
     true
 }

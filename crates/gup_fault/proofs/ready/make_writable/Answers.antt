@@ -15,18 +15,18 @@ pub returns-then-mark-clause-writable : goal.returns-then-mark-clause-writable
 returns-then-mark-clause-writable c =
     got_writable (space_of c.args.space.now) (space_of c.set_entry.new.self) c.args.page c.args.entry.frame c.set_entry.ensures
 
-pub returns-then-count-eq1-clause-fault : goal.returns-then-count-eq1-clause-fault
-returns-then-count-eq1-clause-fault c =
+pub returns-then-references-eq1-clause-fault : goal.returns-then-references-eq1-clause-fault
+returns-then-references-eq1-clause-fault c =
     let F = frames_of c.args.frames.now in
     let e = c.args.entry in
-    writes_alone F (frames_of c.set_mark.new.self) (space_of c.args.space.now) (space_of c.set_entry-then-count-eq1.new.self) c.args.page e (F.mark e.frame) (F.count e.frame) (free_frame F c.args.allowed)
-    (sym c.if-mark.ensures) (sym c.count.ensures ∙ c.if-count-eq1.true) c.requires.entry c.set_mark.ensures c.set_entry-then-count-eq1.ensures
+    writes_alone F (frames_of c.set_mark.new.self) (space_of c.args.space.now) (space_of c.set_entry-then-references-eq1.new.self) c.args.page e (F.mark e.frame) (F.count e.frame) (free_frame F c.args.allowed)
+    (sym c.if-mark.ensures) (sym c.count-references.ensures ∙ c.if-references-eq1.true) c.requires.entry c.set_mark.ensures c.set_entry-then-references-eq1.ensures
 
-pub returns-then-count-eq1-clause-writable : goal.returns-then-count-eq1-clause-writable
-returns-then-count-eq1-clause-writable c =
-    got_writable (space_of c.args.space.now) (space_of c.set_entry-then-count-eq1.new.self) c.args.page c.args.entry.frame c.set_entry-then-count-eq1.ensures
+pub returns-then-references-eq1-clause-writable : goal.returns-then-references-eq1-clause-writable
+returns-then-references-eq1-clause-writable c =
+    got_writable (space_of c.args.space.now) (space_of c.set_entry-then-references-eq1.new.self) c.args.page c.args.entry.frame c.set_entry-then-references-eq1.ensures
 
-pub returns-then-count-eq1-clause-alone : goal.returns-then-count-eq1-clause-alone
-returns-then-count-eq1-clause-alone c =
-    alone_upgraded (frames_of c.args.frames.now) (frames_of c.set_mark.new.self) (space_of c.args.space.now) (space_of c.set_entry-then-count-eq1.new.self) c.args.page c.args.entry
-    c.requires.entry c.set_mark.ensures c.set_entry-then-count-eq1.ensures
+pub returns-then-references-eq1-clause-alone : goal.returns-then-references-eq1-clause-alone
+returns-then-references-eq1-clause-alone c =
+    alone_upgraded (frames_of c.args.frames.now) (frames_of c.set_mark.new.self) (space_of c.args.space.now) (space_of c.set_entry-then-references-eq1.new.self) c.args.page c.args.entry
+    c.requires.entry c.set_mark.ensures c.set_entry-then-references-eq1.ensures

@@ -16,7 +16,7 @@ returns-in_default-clause-fault c =
 pub put-requires-clause-held : goal.put-requires-clause-held
 put-requires-clause-held c =
     let F = frames_of c.args.frames.now in
-    let f = c.in-Some.frame in
+    let f = c.in-Some.copy in
     let free : free_frame F c.args.allowed ≡ Some f = sym c.in-Some.ensures.frame in
     let held = c.requires.counted.counted c.args.entry c.requires.entry in
     still_held F _ c.args.entry.frame f held (free_is_free F c.args.allowed f free)
@@ -26,7 +26,7 @@ pub returns-clause-fault : goal.returns-clause-fault
 returns-clause-fault c =
     let F = frames_of c.args.frames.now in
     let S = space_of c.args.space.now in
-    let f = c.in-Some.frame in
+    let f = c.in-Some.copy in
     let old = c.args.entry.frame in
     let free : free_frame F c.args.allowed ≡ Some f = sym c.in-Some.ensures.frame in
     let held = c.requires.counted.counted c.args.entry c.requires.entry in
@@ -38,7 +38,7 @@ returns-clause-fault c =
 pub returns-clause-entry : goal.returns-clause-entry
 returns-clause-entry c =
     let F = frames_of c.args.frames.now in
-    let f = c.in-Some.frame in
+    let f = c.in-Some.copy in
     let old = c.args.entry.frame in
     let free : free_frame F c.args.allowed ≡ Some f = sym c.in-Some.ensures.frame in
     let held = c.requires.counted.counted c.args.entry c.requires.entry in

@@ -17,7 +17,7 @@ pub returns-clause-fault : goal.returns-clause-fault
 returns-clause-fault c =
     let F = frames_of c.args.frames.now in
     let S = space_of c.args.space.now in
-    let f = c.in-Some.frame in
+    let f = c.in-Some.fresh in
     let free : free_frame F c.args.allowed ≡ Some f = sym c.in-Some.ensures.frame in
     let frames : frames_of c.set_mark.new.self ≡ filled_frames f F = c.set_mark.ensures ∙ ap (λ (x : FramesValue). with_mark f true x) c.in-Some.ensures.taken in
     changes_alike F (filled_frames f F) _ S _ _ _ _ frames c.set_entry.ensures
@@ -26,6 +26,6 @@ returns-clause-fault c =
 pub returns-clause-entry : goal.returns-clause-entry
 returns-clause-entry c =
     let F = frames_of c.args.frames.now in
-    let f = c.in-Some.frame in
+    let f = c.in-Some.fresh in
     let frames : frames_of c.set_mark.new.self ≡ filled_frames f F = c.set_mark.ensures ∙ ap (λ (x : FramesValue). with_mark f true x) c.in-Some.ensures.taken in
     exclusive (frames_of c.set_mark.new.self) (space_of c.args.space.now) (space_of c.set_entry.new.self) c.args.page f true c.set_entry.ensures (filled_mark F _ f frames)

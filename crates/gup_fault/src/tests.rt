@@ -1,0 +1,340 @@
+ghost use Rattle.std.specs.Prelude.{◌≡◌, Some};
+ghost use Rattle.gup_frames.specs.Frames.{frames_of, IsFrame};
+ghost use Rattle.gup_space.specs.Space.{space_of, HasRoom};
+ghost use Rattle.gup_space.specs.Counted.{IsCounted};
+
+use super::*;
+use gup_base::{Allowed, Entry, FrameNo, PageNo, Rights, WordNo, Zone};
+use gup_frames::Frames;
+use gup_space::Space;
+use std::alloc::Global;
+use std::process::Abort;
+use std::test::Fail;
+
+#[derive(Clone, Copy, Debug, PartialEq, Eq)]
+enum Call {
+    Read,
+    Unshare,
+    Write,
+}
+
+// The frame is there.
+fn expect_frame(rt: &impl Abort, frames: &Frames, frame: FrameNo)
+    ensures { IsFrame (frames_of frames.now) frame }
+{
+    let many = u64::from(frames.movable()) + u64::from(frames.normal());
+    assert!(rt; frame.get() < many);
+}
+
+// What each call needs of the page.
+fn expect_counted(rt: &impl Abort, space: &Space, frames: &Frames, page: PageNo)
+    ensures counted { IsCounted (frames_of frames.now) (space_of space.now) page }
+    ensures room { HasRoom (space_of space.now) page }
+{
+    assert!(rt; space.entries() < 1_024);
+    let Some(entry) = space.entry(page) else {
+        return;
+    };
+    assert!(rt; space.rights_at(page).is_some());
+    expect_frame(rt, frames, entry.frame);
+    assert!(rt; frames.count(entry.frame) > 0);
+}
+
+fn ready(
+    rt: &impl Abort,
+    space: &mut Space,
+    frames: &mut Frames,
+    page: PageNo,
+    call: Call,
+) -> Result<(), Denied> {
+    expect_counted(rt, space, frames, page);
+    match call {
+        Call::Read => ready_read(space, frames, page, Allowed::Any),
+        Call::Unshare => unshare(space, frames, page, Allowed::Any),
+        Call::Write => ready_write(space, frames, page, Allowed::Any),
+    }
+}
+
+// A process with these pages mapped.
+fn space_with(alloc: Global, rt: &impl Abort, pages: &[(u64, Rights)]) -> Result<Space, Fail> {
+    let mut space = Space::new(alloc).or(Err("memory"))?;
+    for (number, rights) in pages {
+        let page = PageNo::new(*number).ok_or("a page")?;
+        assert!(rt; page.get() < 34_359_738_368);
+        space.map(page, 1, *rights).or(Err("a mapping"))?;
+    }
+    Ok(space)
+}
+
+// The page's frame, whether its entry is writable, and the frame's mark and count.
+fn seen(
+    rt: &impl Abort,
+    space: &Space,
+    frames: &Frames,
+    page: PageNo,
+) -> Option<(u64, bool, bool, u64)> {
+    let entry = space.entry(page)?;
+    expect_frame(rt, frames, entry.frame);
+    Some((
+        entry.frame.get(),
+        entry.writable,
+        frames.mark(entry.frame),
+        frames.count(entry.frame),
+    ))
+}
+
+#[test]
+fn pages_are_made_ready_or_refused(rt: HostRuntime) -> Result<(), Fail> {
+    let pages = [
+        (3, Rights::RW),
+        (4, Rights::RW),
+        (5, Rights::R),
+        (7, Rights::RW),
+    ];
+    let mut space = space_with(rt.alloc(), &rt, &pages)?;
+    let mut frames = Frames::new(rt.alloc(), 1, 2).or(Err("memory"))?;
+    for (number, call, want, got) in [
+        (6, Call::Read, Err(Denied::Missing), None),
+        (6, Call::Unshare, Err(Denied::Missing), None),
+        (6, Call::Write, Err(Denied::Missing), None),
+        (5, Call::Write, Err(Denied::Forbidden), None),
+        (5, Call::Read, Ok(()), Some((0, false, true, 1))),
+        (5, Call::Unshare, Ok(()), Some((0, false, true, 1))),
+        (3, Call::Write, Ok(()), Some((1, true, true, 1))),
+        (4, Call::Unshare, Ok(()), Some((2, false, true, 1))),
+        (4, Call::Write, Ok(()), Some((2, true, true, 1))),
+        (7, Call::Read, Err(Denied::NoFrame), None),
+        (7, Call::Unshare, Err(Denied::NoFrame), None),
+        (7, Call::Write, Err(Denied::NoFrame), None),
+    ] {
+        let page = PageNo::new(number).ok_or("a page")?;
+        assert_eq!(rt;
+            ready(&rt, &mut space, &mut frames, page, call),
+            want,
+            "{call:?} of {number}"
+        );
+        assert_eq!(rt;
+            seen(&rt, &space, &frames, page),
+            got,
+            "{call:?} of {number}"
+        );
+    }
+    Ok(())
+}
+
+// The other page gets the page's frame as well, as a fork shares it.
+fn share(
+    rt: &impl Abort,
+    space: &mut Space,
+    frames: &mut Frames,
+    page: PageNo,
+    other: PageNo,
+) -> Result<(), Fail> {
+    let entry = space.entry(page).ok_or("an entry")?;
+    let frame = entry.frame;
+    expect_frame(rt, frames, frame);
+    let count = frames.count(frame);
+    assert!(rt; 0 < count);
+    assert!(rt; count < 1_099_511_627_776);
+    frames.grab(frame, 1);
+    expect_frame(rt, frames, frame);
+    frames.set_mark(frame, false);
+    for at in [page, other] {
+        let shared = Entry {
+            frame,
+            writable: false,
+        };
+        assert!(rt; space.rights_at(at).is_some());
+        assert!(rt; space.entries() < 1_024);
+        space.set_entry(at, Some(shared));
+    }
+    Ok(())
+}
+
+// The frame's word 511.
+fn last_word(rt: &impl Abort, frames: &Frames, frame: FrameNo) -> Option<u64> {
+    expect_frame(rt, frames, frame);
+    let last = WordNo::new(511)?;
+    Some(frames.word(frame, last))
+}
+
+// Writes word 511 of the frame.
+fn write_last_word(rt: &impl Abort, frames: &mut Frames, frame: FrameNo, value: u64) -> Option<()> {
+    expect_frame(rt, frames, frame);
+    let last = WordNo::new(511)?;
+    frames.set_word(frame, last, value);
+    Some(())
+}
+
+#[test]
+fn shared_pages_are_copied_and_then_exclusive(rt: HostRuntime) -> Result<(), Fail> {
+    let pages = [
+        (3, Rights::RW),
+        (4, Rights::RW),
+        (5, Rights::RW),
+        (6, Rights::RW),
+    ];
+    let mut space = space_with(rt.alloc(), &rt, &pages)?;
+    let mut frames = Frames::new(rt.alloc(), 0, 3).or(Err("memory"))?;
+    let three = PageNo::new(3).ok_or("a page")?;
+    let four = PageNo::new(4).ok_or("a page")?;
+    let five = PageNo::new(5).ok_or("a page")?;
+    let zero = FrameNo::new(0).ok_or("a frame")?;
+    let one = FrameNo::new(1).ok_or("a frame")?;
+    assert_eq!(rt;
+        ready(&rt, &mut space, &mut frames, three, Call::Write),
+        Ok(())
+    );
+    assert_eq!(rt; write_last_word(&rt, &mut frames, zero, 9), Some(()));
+    share(&rt, &mut space, &mut frames, three, four)?;
+    share(&rt, &mut space, &mut frames, three, five)?;
+    for (number, call, want, got) in [
+        (3, Call::Read, Ok(()), Some((0, false, false, 3))),
+        (3, Call::Write, Ok(()), Some((1, true, true, 1))),
+        (5, Call::Unshare, Ok(()), Some((2, false, true, 1))),
+        (4, Call::Unshare, Ok(()), Some((0, false, true, 1))),
+        (4, Call::Write, Ok(()), Some((0, true, true, 1))),
+    ] {
+        let page = PageNo::new(number).ok_or("a page")?;
+        assert_eq!(rt;
+            ready(&rt, &mut space, &mut frames, page, call),
+            want,
+            "{call:?} of {number}"
+        );
+        assert_eq!(rt;
+            seen(&rt, &space, &frames, page),
+            got,
+            "{call:?} of {number}"
+        );
+    }
+    assert_eq!(rt; last_word(&rt, &frames, one), Some(9));
+    let six = PageNo::new(6).ok_or("a page")?;
+    share(&rt, &mut space, &mut frames, four, six)?;
+    for call in [Call::Unshare, Call::Write] {
+        assert_eq!(rt;
+            ready(&rt, &mut space, &mut frames, four, call),
+            Err(Denied::NoFrame),
+            "{call:?}"
+        );
+        assert_eq!(rt;
+            seen(&rt, &space, &frames, four),
+            Some((0, false, false, 2)),
+            "{call:?}"
+        );
+    }
+    Ok(())
+}
+
+fn fill_page(
+    rt: &impl Abort,
+    space: &mut Space,
+    frames: &mut Frames,
+    page: PageNo,
+) -> Result<(), NoFrame> {
+    expect_counted(rt, space, frames, page);
+    assert!(rt; space.rights_at(page).is_some());
+    assert!(rt; space.entry(page).is_none());
+    fill(space, frames, page, Allowed::Only(Zone::Normal))
+}
+
+fn mark_alone(rt: &impl Abort, space: &Space, frames: &mut Frames, page: PageNo) -> bool {
+    expect_counted(rt, space, frames, page);
+    let Some(entry) = space.entry(page) else {
+        return false;
+    };
+    expect_frame(rt, frames, entry.frame);
+    assert!(rt; !frames.mark(entry.frame));
+    assert!(rt; frames.count(entry.frame) == 1);
+    mark(space, frames, page);
+    true
+}
+
+fn upgrade_marked(rt: &impl Abort, space: &mut Space, frames: &Frames, page: PageNo) -> bool {
+    let Some(Rights::RW) = space.rights_at(page) else {
+        return false;
+    };
+    let Some(entry) = space.entry(page) else {
+        return false;
+    };
+    expect_frame(rt, frames, entry.frame);
+    assert!(rt; frames.mark(entry.frame));
+    upgrade(space, frames, page);
+    true
+}
+
+fn break_shared(
+    rt: &impl Abort,
+    space: &mut Space,
+    frames: &mut Frames,
+    page: PageNo,
+    writable: bool,
+) -> Option<Result<(), NoFrame>> {
+    expect_counted(rt, space, frames, page);
+    let Some(Rights::RW) = space.rights_at(page) else {
+        return None;
+    };
+    let Some(entry) = space.entry(page) else {
+        return None;
+    };
+    expect_frame(rt, frames, entry.frame);
+    assert!(rt; !frames.mark(entry.frame));
+    Some(break_copy(space, frames, page, Allowed::Any, writable))
+}
+
+#[test]
+fn steps_can_be_taken_one_by_one(rt: HostRuntime) -> Result<(), Fail> {
+    let pages = [(3, Rights::RW), (4, Rights::RW), (5, Rights::RW)];
+    let mut space = space_with(rt.alloc(), &rt, &pages)?;
+    let mut frames = Frames::new(rt.alloc(), 1, 1).or(Err("memory"))?;
+    let three = PageNo::new(3).ok_or("a page")?;
+    let four = PageNo::new(4).ok_or("a page")?;
+    let five = PageNo::new(5).ok_or("a page")?;
+    assert_eq!(rt; fill_page(&rt, &mut space, &mut frames, three), Ok(()));
+    assert_eq!(rt; fill_page(&rt, &mut space, &mut frames, four), Err(NoFrame));
+    assert!(rt; upgrade_marked(&rt, &mut space, &frames, three));
+    assert_eq!(rt; seen(&rt, &space, &frames, three), Some((1, true, true, 1)));
+    share(&rt, &mut space, &mut frames, three, four)?;
+    share(&rt, &mut space, &mut frames, three, five)?;
+    assert_eq!(rt;
+        break_shared(&rt, &mut space, &mut frames, four, true),
+        Some(Ok(()))
+    );
+    assert_eq!(rt; seen(&rt, &space, &frames, four), Some((0, true, true, 1)));
+    assert_eq!(rt;
+        break_shared(&rt, &mut space, &mut frames, five, false),
+        Some(Err(NoFrame))
+    );
+    assert_eq!(rt;
+        seen(&rt, &space, &frames, five),
+        Some((1, false, false, 2))
+    );
+    Ok(())
+}
+
+#[test]
+fn a_frame_that_is_alone_is_marked(rt: HostRuntime) -> Result<(), Fail> {
+    let mut space = space_with(rt.alloc(), &rt, &[(3, Rights::RW)])?;
+    let mut frames = Frames::new(rt.alloc(), 1, 0).or(Err("memory"))?;
+    let three = PageNo::new(3).ok_or("a page")?;
+    let zero = FrameNo::new(0).ok_or("a frame")?;
+    assert_eq!(rt;
+        ready(&rt, &mut space, &mut frames, three, Call::Read),
+        Ok(())
+    );
+    expect_frame(&rt, &frames, zero);
+    frames.set_mark(zero, false);
+    assert!(rt; mark_alone(&rt, &space, &mut frames, three));
+    assert_eq!(rt;
+        seen(&rt, &space, &frames, three),
+        Some((0, false, true, 1))
+    );
+    for (denied, text) in [
+        (Denied::Missing, "the page isn't mapped"),
+        (Denied::Forbidden, "the page's rights don't allow a write"),
+        (Denied::NoFrame, "no frame of the allowed zones is free"),
+    ] {
+        let shown = format!(in rt.alloc(); "{denied}")?;
+        assert_eq!(rt; shown.as_str(), text);
+    }
+    Ok(())
+}
