@@ -169,11 +169,11 @@ impl Space {
         self.has_pinned
     }
 
-    /// From now on the process has pinned, or hasn't.
-    pub fn set_pinned(&mut self, on: bool)
-        ensures { space_of self.new ≡ record (space_of self.old) { has_pinned = on } }
+    /// From now on the process has pinned. No call takes this back.
+    pub fn set_pinned(&mut self)
+        ensures { space_of self.new ≡ record (space_of self.old) { has_pinned = true } }
     {
-        self.has_pinned = on;
+        self.has_pinned = true;
     }
 
     /// The actor that holds the lock of the process's structure (Linux's `mmap_lock` for writing), where one does.

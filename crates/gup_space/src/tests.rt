@@ -93,7 +93,7 @@ fn locks_and_marks_of_a_process_are_kept(rt: HostRuntime) -> Result<(), Fail> {
     space.raise();
     assert_eq!(rt; space.sequence(), 1);
     assert!(rt; !space.has_pinned());
-    space.set_pinned(true);
+    space.set_pinned();
     assert!(rt; space.has_pinned());
     for (structure, table) in [
         (Some(actor), Some(other)),
