@@ -74,47 +74,45 @@ fn pages_are_protected_and_unmapped(rt: HostRuntime) -> Result<(), Fail> {
     Ok(())
 }
 
-// Gives the page this entry, or none, and answers what it has then, and how many pages have one.
+// Gives the page an entry that is writable or not, or none, and answers whether the one that it has then is, and how
+// many pages have one.
 fn set(
     rt: &impl Abort,
     space: &mut Space,
-    page: PageNo,
-    entry: Option<Entry>,
-) -> (Option<Entry>, u16) {
-    if entry.is_some() {
+    number: u64,
+    writable: Option<bool>,
+) -> Option<(Option<bool>, u16)> {
+    let page = PageNo::new(number)?;
+    let frame = FrameNo::new(1_023)?;
+    if let Some(writable) = writable {
         assert!(rt; space.rights_at(page).is_some());
         assert!(rt; space.entries() < 1_024);
+        space.has_room(page);
+        space.set_entry(page, Some(Entry { frame, writable }));
+    } else {
+        space.set_entry(page, None);
     }
-    space.has_room(page);
-    space.set_entry(page, entry);
-    (space.entry(page), space.entries())
+    Some((
+        space.entry(page).map(|entry| entry.writable),
+        space.entries(),
+    ))
 }
 
 #[test]
 fn entries_are_set_and_taken_away(rt: HostRuntime) -> Result<(), Fail> {
     let mut space = Space::new(rt.alloc()).or(Err("memory"))?;
     assert_eq!(rt; map(&rt, &mut space, 3, 2), Some((Ok(()), 2)));
-    let frame = FrameNo::new(1_023).ok_or("a frame")?;
-    let read_only = Some(Entry {
-        frame,
-        writable: false,
-    });
-    let writable = Some(Entry {
-        frame,
-        writable: true,
-    });
-    for (number, entry, many) in [
-        (3, read_only, 1),
-        (4, writable, 2),
-        (3, writable, 2),
+    for (number, writable, many) in [
+        (3, Some(false), 1),
+        (4, Some(true), 2),
+        (3, Some(true), 2),
         (3, None, 1),
         (5, None, 1),
         (4, None, 0),
     ] {
-        let page = PageNo::new(number).ok_or("a page")?;
         assert_eq!(rt;
-            set(&rt, &mut space, page, entry),
-            (entry, many),
+            set(&rt, &mut space, number, writable),
+            Some((writable, many)),
             "page {number}"
         );
     }
@@ -128,27 +126,34 @@ fn raise(rt: &impl Abort, space: &mut Space) -> u64 {
     space.sequence()
 }
 
-// Sets both locks and the flag, and answers what they are then.
+fn actor(number: Option<u64>) -> Option<ActorNo> {
+    ActorNo::new(number?)
+}
+
+// Gives both locks to these actors, or frees them, sets the flag, and answers what they are then.
 fn hold(
     space: &mut Space,
-    structure: Option<ActorNo>,
-    table: Option<ActorNo>,
+    structure: Option<u64>,
+    table: Option<u64>,
     on: bool,
-) -> (Option<ActorNo>, Option<ActorNo>, bool) {
-    space.set_structure(structure);
-    space.set_table(table);
+) -> (Option<u64>, Option<u64>, bool) {
+    space.set_structure(actor(structure));
+    space.set_table(actor(table));
     space.set_pinned(on);
-    (space.structure(), space.table(), space.has_pinned())
+    (
+        space.structure().map(|a| a.get()),
+        space.table().map(|a| a.get()),
+        space.has_pinned(),
+    )
 }
 
 #[test]
 fn locks_and_the_rest_are_kept(rt: HostRuntime) -> Result<(), Fail> {
     let mut space = Space::new(rt.alloc()).or(Err("memory"))?;
-    let actor = ActorNo::new(80).ok_or("an actor")?;
     assert_eq!(rt; raise(&rt, &mut space), 1);
     for (structure, table, on) in [
-        (Some(actor), None, true),
-        (None, Some(actor), false),
+        (Some(80), None, true),
+        (None, Some(7), false),
         (None, None, true),
     ] {
         assert_eq!(rt;
