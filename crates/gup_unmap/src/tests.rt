@@ -1,4 +1,6 @@
-ghost use Rattle.gup_frames.specs.Frames.{IsFrame};
+ghost use Rattle.gup_frames.specs.Frames.{frames_of, IsFrame};
+ghost use Rattle.gup_space.specs.Space.{space_of};
+ghost use Rattle.gup_space.specs.Counted.{IsCounted};
 
 use super::*;
 use gup_base::{Allowed, Entry, FrameNo, Rights};
