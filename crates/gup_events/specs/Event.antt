@@ -99,7 +99,6 @@ pub data CoreEvent : Type 0 where
   empty_mirror : (a m : ℕ) → CoreEvent
   fill_mirror : (a m p page f : ℕ) (writable : Bool) → CoreEvent
   look : (a m word f value : ℕ) → CoreEvent
-
   -- the lockless walk of process p, for pages that are written, or kept for long; which sequence it has read
 
   enter_walk : (a p : ℕ) (write long : Bool) → CoreEvent

@@ -83,6 +83,19 @@ fn seen(
     ))
 }
 
+// What the call answers, and what is seen of the page then.
+fn readied(
+    rt: &impl Abort,
+    space: &mut Space,
+    frames: &mut Frames,
+    number: u64,
+    call: Call,
+) -> Option<(Result<(), Denied>, Option<(u64, bool, bool, u64)>)> {
+    let page = PageNo::new(number)?;
+    let answer = ready(rt, space, frames, page, call);
+    Some((answer, seen(rt, space, frames, page)))
+}
+
 #[test]
 fn pages_are_made_ready_or_refused(rt: HostRuntime) -> Result<(), Fail> {
     let pages = [
@@ -107,15 +120,9 @@ fn pages_are_made_ready_or_refused(rt: HostRuntime) -> Result<(), Fail> {
         (7, Call::Unshare, Err(Denied::NoFrame), None),
         (7, Call::Write, Err(Denied::NoFrame), None),
     ] {
-        let page = PageNo::new(number).ok_or("a page")?;
         assert_eq!(rt;
-            ready(&rt, &mut space, &mut frames, page, call),
-            want,
-            "{call:?} of {number}"
-        );
-        assert_eq!(rt;
-            seen(&rt, &space, &frames, page),
-            got,
+            readied(&rt, &mut space, &mut frames, number, call),
+            Some((want, got)),
             "{call:?} of {number}"
         );
     }
@@ -166,59 +173,56 @@ fn write_last_word(rt: &impl Abort, frames: &mut Frames, frame: FrameNo, value: 
     Some(())
 }
 
-#[test]
-fn shared_pages_are_copied_and_then_exclusive(rt: HostRuntime) -> Result<(), Fail> {
+// Page 3 gets frame 0, whose last word is 9, and pages 4 and 5 share it.
+fn shared_by_three(rt: &impl Abort, alloc: Global, frames: &mut Frames) -> Result<Space, Fail> {
     let pages = [
         (3, Rights::RW),
         (4, Rights::RW),
         (5, Rights::RW),
         (6, Rights::RW),
     ];
-    let mut space = space_with(rt.alloc(), &rt, &pages)?;
-    let mut frames = Frames::new(rt.alloc(), 0, 3).or(Err("memory"))?;
+    let mut space = space_with(alloc, rt, &pages)?;
     let three = PageNo::new(3).ok_or("a page")?;
-    let four = PageNo::new(4).ok_or("a page")?;
-    let five = PageNo::new(5).ok_or("a page")?;
     let zero = FrameNo::new(0).ok_or("a frame")?;
-    let one = FrameNo::new(1).ok_or("a frame")?;
-    assert_eq!(rt;
-        ready(&rt, &mut space, &mut frames, three, Call::Write),
-        Ok(())
-    );
-    assert_eq!(rt; write_last_word(&rt, &mut frames, zero, 9), Some(()));
-    share(&rt, &mut space, &mut frames, three, four)?;
-    share(&rt, &mut space, &mut frames, three, five)?;
-    for (number, call, want, got) in [
-        (3, Call::Read, Ok(()), Some((0, false, false, 3))),
-        (3, Call::Write, Ok(()), Some((1, true, true, 1))),
-        (5, Call::Unshare, Ok(()), Some((2, false, true, 1))),
-        (4, Call::Unshare, Ok(()), Some((0, false, true, 1))),
-        (4, Call::Write, Ok(()), Some((0, true, true, 1))),
+    ready(rt, &mut space, frames, three, Call::Write).or(Err("a frame"))?;
+    write_last_word(rt, frames, zero, 9).ok_or("a word")?;
+    for number in 4..6 {
+        let other = PageNo::new(number).ok_or("a page")?;
+        share(rt, &mut space, frames, three, other)?;
+    }
+    Ok(space)
+}
+
+#[test]
+fn shared_pages_are_copied_and_then_exclusive(rt: HostRuntime) -> Result<(), Fail> {
+    let mut frames = Frames::new(rt.alloc(), 0, 3).or(Err("memory"))?;
+    let mut space = shared_by_three(&rt, rt.alloc(), &mut frames)?;
+    for (number, call, got) in [
+        (3, Call::Read, (0, false, false, 3)),
+        (3, Call::Write, (1, true, true, 1)),
+        (5, Call::Unshare, (2, false, true, 1)),
+        (4, Call::Unshare, (0, false, true, 1)),
+        (4, Call::Write, (0, true, true, 1)),
     ] {
-        let page = PageNo::new(number).ok_or("a page")?;
         assert_eq!(rt;
-            ready(&rt, &mut space, &mut frames, page, call),
-            want,
-            "{call:?} of {number}"
-        );
-        assert_eq!(rt;
-            seen(&rt, &space, &frames, page),
-            got,
+            readied(&rt, &mut space, &mut frames, number, call),
+            Some((Ok(()), Some(got))),
             "{call:?} of {number}"
         );
     }
+    let one = FrameNo::new(1).ok_or("a frame")?;
     assert_eq!(rt; last_word(&rt, &frames, one), Some(9));
-    let six = PageNo::new(6).ok_or("a page")?;
-    share(&rt, &mut space, &mut frames, four, six)?;
+    Ok(())
+}
+
+#[test]
+fn shared_pages_want_a_frame(rt: HostRuntime) -> Result<(), Fail> {
+    let mut frames = Frames::new(rt.alloc(), 1, 0).or(Err("memory"))?;
+    let mut space = shared_by_three(&rt, rt.alloc(), &mut frames)?;
     for call in [Call::Unshare, Call::Write] {
         assert_eq!(rt;
-            ready(&rt, &mut space, &mut frames, four, call),
-            Err(Denied::NoFrame),
-            "{call:?}"
-        );
-        assert_eq!(rt;
-            seen(&rt, &space, &frames, four),
-            Some((0, false, false, 2)),
+            readied(&rt, &mut space, &mut frames, 4, call),
+            Some((Err(Denied::NoFrame), Some((0, false, false, 3)))),
             "{call:?}"
         );
     }
@@ -282,52 +286,41 @@ fn break_shared(
 }
 
 #[test]
-fn steps_can_be_taken_one_by_one(rt: HostRuntime) -> Result<(), Fail> {
-    let pages = [(3, Rights::RW), (4, Rights::RW), (5, Rights::RW)];
-    let mut space = space_with(rt.alloc(), &rt, &pages)?;
+fn pages_are_filled_and_upgraded(rt: HostRuntime) -> Result<(), Fail> {
+    let mut space = space_with(rt.alloc(), &rt, &[(3, Rights::RW), (4, Rights::RW)])?;
     let mut frames = Frames::new(rt.alloc(), 1, 1).or(Err("memory"))?;
     let three = PageNo::new(3).ok_or("a page")?;
     let four = PageNo::new(4).ok_or("a page")?;
-    let five = PageNo::new(5).ok_or("a page")?;
     assert_eq!(rt; fill_page(&rt, &mut space, &mut frames, three), Ok(()));
     assert_eq!(rt; fill_page(&rt, &mut space, &mut frames, four), Err(NoFrame));
     assert!(rt; upgrade_marked(&rt, &mut space, &frames, three));
     assert_eq!(rt; seen(&rt, &space, &frames, three), Some((1, true, true, 1)));
-    share(&rt, &mut space, &mut frames, three, four)?;
-    share(&rt, &mut space, &mut frames, three, five)?;
-    assert_eq!(rt;
-        break_shared(&rt, &mut space, &mut frames, four, true),
-        Some(Ok(()))
-    );
-    assert_eq!(rt; seen(&rt, &space, &frames, four), Some((0, true, true, 1)));
-    assert_eq!(rt;
-        break_shared(&rt, &mut space, &mut frames, five, false),
-        Some(Err(NoFrame))
-    );
-    assert_eq!(rt;
-        seen(&rt, &space, &frames, five),
-        Some((1, false, false, 2))
-    );
     Ok(())
 }
 
 #[test]
-fn a_frame_that_is_alone_is_marked(rt: HostRuntime) -> Result<(), Fail> {
-    let mut space = space_with(rt.alloc(), &rt, &[(3, Rights::RW)])?;
-    let mut frames = Frames::new(rt.alloc(), 1, 0).or(Err("memory"))?;
+fn pages_are_broken_and_marked(rt: HostRuntime) -> Result<(), Fail> {
+    let mut frames = Frames::new(rt.alloc(), 3, 0).or(Err("memory"))?;
+    let mut space = shared_by_three(&rt, rt.alloc(), &mut frames)?;
     let three = PageNo::new(3).ok_or("a page")?;
-    let zero = FrameNo::new(0).ok_or("a frame")?;
-    assert_eq!(rt;
-        ready(&rt, &mut space, &mut frames, three, Call::Read),
-        Ok(())
-    );
-    expect_frame(&rt, &frames, zero);
-    frames.set_mark(zero, false);
+    for (number, writable) in [(4, true), (5, false)] {
+        let page = PageNo::new(number).ok_or("a page")?;
+        assert_eq!(rt;
+            break_shared(&rt, &mut space, &mut frames, page, writable),
+            Some(Ok(())),
+            "page {number}"
+        );
+    }
     assert!(rt; mark_alone(&rt, &space, &mut frames, three));
     assert_eq!(rt;
         seen(&rt, &space, &frames, three),
         Some((0, false, true, 1))
     );
+    Ok(())
+}
+
+#[test]
+fn refusals_can_be_read(rt: HostRuntime) -> Result<(), Fail> {
     for (denied, text) in [
         (Denied::Missing, "the page isn't mapped"),
         (Denied::Forbidden, "the page's rights don't allow a write"),

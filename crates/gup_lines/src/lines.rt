@@ -218,7 +218,12 @@ fn push_waiting(script: &Script, waiting: Waiting, text: &mut Vec<u8>) -> Result
 }
 
 #[tactic(auto, using(crate::proofs::Fronts::fronts))]
-fn write_stuck(script: &Script, actor: ActorNo, waiting: Waiting, text: &mut Vec<u8>) -> Result<(), NoMemory>
+fn write_stuck(
+    script: &Script,
+    actor: ActorNo,
+    waiting: Waiting,
+    text: &mut Vec<u8>,
+) -> Result<(), NoMemory>
     requires { NamesProcess script.now waiting }
     ensures ok { OnOk result (text.new.items ≡ text.old.items ++ stuck_line script.now actor waiting) }
     ensures err { OnErr result (BeginsWith text.new.items text.old.items) }
@@ -231,7 +236,12 @@ fn write_stuck(script: &Script, actor: ActorNo, waiting: Waiting, text: &mut Vec
 
 /// Appends the line of an actor that is stuck: `stuck`, its name, and what it waits for, a process of the script.
 /// Where memory is wanted the text is as it was.
-pub fn push_stuck(script: &Script, actor: ActorNo, waiting: Waiting, text: &mut Vec<u8>) -> Result<(), NoMemory>
+pub fn push_stuck(
+    script: &Script,
+    actor: ActorNo,
+    waiting: Waiting,
+    text: &mut Vec<u8>,
+) -> Result<(), NoMemory>
     requires { NamesProcess script.now waiting }
     ensures ok { OnOk result (text.new.items ≡ text.old.items ++ stuck_line script.now actor waiting) }
     ensures err { OnErr result (text.new.items ≡ text.old.items) }

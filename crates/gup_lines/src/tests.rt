@@ -48,22 +48,41 @@ fn each_answer_has_its_line(rt: HostRuntime) -> Result<(), Fail> {
     let mut text = Vec::new(rt.alloc());
     for (answer, line) in [
         (Answer::Plain, "t2 3 ok\n"),
-        (Answer::Value(18_446_744_073_709_551_615), "t2 3 ok 18446744073709551615\n"),
+        (
+            Answer::Value(18_446_744_073_709_551_615),
+            "t2 3 ok 18446744073709551615\n",
+        ),
         (Answer::Pinned(16), "t2 3 ok 16\n"),
         (
-            Answer::Short { got: 1, wanted: 3, cause: Cause::Missing },
+            Answer::Short {
+                got: 1,
+                wanted: 3,
+                cause: Cause::Missing,
+            },
             "t2 3 ok 1 of 3 missing\n",
         ),
         (
-            Answer::Short { got: 2, wanted: 3, cause: Cause::Unmovable(1_025) },
+            Answer::Short {
+                got: 2,
+                wanted: 3,
+                cause: Cause::Unmovable(1_025),
+            },
             "t2 3 ok 2 of 3 unmovable 1025\n",
         ),
         (
-            Answer::Short { got: 2, wanted: 3, cause: Cause::Forbidden },
+            Answer::Short {
+                got: 2,
+                wanted: 3,
+                cause: Cause::Forbidden,
+            },
             "t2 3 ok 2 of 3 forbidden\n",
         ),
         (
-            Answer::Short { got: 2, wanted: 3, cause: Cause::NoFrame },
+            Answer::Short {
+                got: 2,
+                wanted: 3,
+                cause: Cause::NoFrame,
+            },
             "t2 3 ok 2 of 3 noframe\n",
         ),
         (Answer::Words, "t2 3 ok 7 0\n"),

@@ -1,32 +1,59 @@
 use super::*;
 use gup_base::{ActorNo, Entry, FrameNo, PageNo, Rights};
 use gup_maps::{Hole, MapRefusal};
+use std::process::Abort;
 use std::test::Fail;
 
+// Maps the pages, and answers how many are mapped then.
+fn map(
+    rt: &impl Abort,
+    space: &mut Space,
+    first: u64,
+    n: u16,
+) -> Option<(Result<(), MapRefusal>, u16)> {
+    let page = PageNo::new(first)?;
+    assert!(rt; page.get() + u64::from(n) <= 34_359_738_368);
+    let answer = space.map(page, n, Rights::R);
+    Some((answer, space.len()))
+}
+
 #[test]
-fn pages_are_mapped_protected_and_unmapped(rt: HostRuntime) -> Result<(), Fail> {
+fn pages_are_mapped_or_refused(rt: HostRuntime) -> Result<(), Fail> {
     let mut space = Space::new(rt.alloc()).or(Err("memory"))?;
-    assert_eq!(rt; space.len(), 0);
     for (first, n, want, len) in [
         (34_359_738_367, 1, Ok(()), 1),
         (34_359_738_367, 1, Err(MapRefusal::Overlap), 1),
         (0, 1_024, Err(MapRefusal::Full), 1),
         (0, 1_023, Ok(()), 1_024),
     ] {
-        let page = PageNo::new(first).ok_or("a page")?;
-        assert!(rt; page.get() + u64::from(n) <= 34_359_738_368);
         assert_eq!(rt;
-            space.map(page, n, Rights::R),
-            want,
+            map(&rt, &mut space, first, n),
+            Some((want, len)),
             "{n} pages from {first}"
         );
-        assert_eq!(rt; space.len(), len, "{n} pages from {first}");
     }
-    for (first, n, want) in [
-        (1_022, 2, Err(Hole)),
-        (1_022, 1, Ok(())),
-        (2_000, 0, Ok(())),
-    ] {
+    Ok(())
+}
+
+// Unmaps the page: whether it was mapped, and how many pages are then.
+fn unmap(space: &mut Space, page: PageNo) -> (bool, u16) {
+    let was = space.unmap_page(page);
+    (was, space.len())
+}
+
+// The rights of the page, and the next mapped page from it on.
+fn mapping(space: &Space, page: PageNo) -> (Option<Rights>, Option<u64>) {
+    (
+        space.rights_at(page),
+        space.next_page(page).map(|next| next.get()),
+    )
+}
+
+#[test]
+fn pages_are_protected_and_unmapped(rt: HostRuntime) -> Result<(), Fail> {
+    let mut space = Space::new(rt.alloc()).or(Err("memory"))?;
+    assert_eq!(rt; map(&rt, &mut space, 10, 3), Some((Ok(()), 3)));
+    for (first, n, want) in [(11, 3, Err(Hole)), (11, 1, Ok(())), (20, 0, Ok(()))] {
         let page = PageNo::new(first).ok_or("a page")?;
         assert_eq!(rt;
             space.protect(page, n, Rights::RW),
@@ -34,78 +61,105 @@ fn pages_are_mapped_protected_and_unmapped(rt: HostRuntime) -> Result<(), Fail> 
             "{n} pages from {first}"
         );
     }
-    for (number, rights, next, mapped) in [
-        (1_021, Some(Rights::R), Some(1_021), true),
-        (1_022, Some(Rights::RW), Some(1_022), true),
-        (1_023, None, Some(34_359_738_367), false),
+    for (number, rights, next, was, left) in [
+        (9, None, Some(10), false, 3),
+        (10, Some(Rights::R), Some(10), true, 2),
+        (11, Some(Rights::RW), Some(11), true, 1),
+        (13, None, None, false, 1),
     ] {
         let page = PageNo::new(number).ok_or("a page")?;
-        assert_eq!(rt; space.rights_at(page), rights, "page {number}");
-        assert_eq!(rt;
-            space.next_page(page).map(|p| p.get()),
-            next,
-            "page {number}"
-        );
-        assert_eq!(rt; space.unmap_page(page), mapped, "page {number}");
-        assert_eq!(rt; space.rights_at(page), None, "page {number}");
+        assert_eq!(rt; mapping(&space, page), (rights, next), "page {number}");
+        assert_eq!(rt; unmap(&mut space, page), (was, left), "page {number}");
     }
-    assert_eq!(rt; space.len(), 1_022);
     Ok(())
+}
+
+// Gives the page an entry that is writable or not, or none, and answers whether the one that it has then is, and how
+// many pages have one.
+fn set(
+    rt: &impl Abort,
+    space: &mut Space,
+    number: u64,
+    writable: Option<bool>,
+) -> Option<(Option<bool>, u16)> {
+    let page = PageNo::new(number)?;
+    let frame = FrameNo::new(1_023)?;
+    if let Some(writable) = writable {
+        assert!(rt; space.rights_at(page).is_some());
+        assert!(rt; space.entries() < 1_024);
+        space.has_room(page);
+        space.set_entry(page, Some(Entry { frame, writable }));
+    } else {
+        space.set_entry(page, None);
+    }
+    Some((
+        space.entry(page).map(|entry| entry.writable),
+        space.entries(),
+    ))
 }
 
 #[test]
 fn entries_are_set_and_taken_away(rt: HostRuntime) -> Result<(), Fail> {
     let mut space = Space::new(rt.alloc()).or(Err("memory"))?;
-    let three = PageNo::new(3).ok_or("a page")?;
-    assert_eq!(rt; space.map(three, 2, Rights::RW), Ok(()));
-    for (number, frame, writable, entries) in [
-        (3, 9, false, 1),
-        (4, 1_023, true, 2),
-        (3, 9, true, 2),
+    assert_eq!(rt; map(&rt, &mut space, 3, 2), Some((Ok(()), 2)));
+    for (number, writable, many) in [
+        (3, Some(false), 1),
+        (4, Some(true), 2),
+        (3, Some(true), 2),
+        (3, None, 1),
+        (5, None, 1),
+        (4, None, 0),
     ] {
-        let page = PageNo::new(number).ok_or("a page")?;
-        let frame = FrameNo::new(frame).ok_or("a frame")?;
-        let entry = Some(Entry { frame, writable });
-        assert!(rt; space.rights_at(page).is_some());
-        assert!(rt; space.entries() < 1_024);
-        space.has_room(page);
-        space.set_entry(page, entry);
-        assert_eq!(rt; space.entry(page), entry, "page {number}");
-        assert_eq!(rt; space.entries(), entries, "page {number}");
+        assert_eq!(rt;
+            set(&rt, &mut space, number, writable),
+            Some((writable, many)),
+            "page {number}"
+        );
     }
-    for (number, entries) in [(3, 1), (5, 1), (4, 0)] {
-        let page = PageNo::new(number).ok_or("a page")?;
-        space.set_entry(page, None);
-        assert_eq!(rt; space.entry(page), None, "page {number}");
-        assert_eq!(rt; space.entries(), entries, "page {number}");
-    }
-    assert_eq!(rt; space.len(), 2);
     Ok(())
 }
 
-#[test]
-fn locks_and_marks_of_a_process_are_kept(rt: HostRuntime) -> Result<(), Fail> {
-    let mut space = Space::new(rt.alloc()).or(Err("memory"))?;
-    let actor = ActorNo::new(80).ok_or("an actor")?;
-    let other = ActorNo::new(7).ok_or("an actor")?;
-    assert_eq!(rt; space.sequence(), 0);
+// Raises the number, and answers what it is then.
+fn raise(rt: &impl Abort, space: &mut Space) -> u64 {
     assert!(rt; space.sequence() < 1_099_511_627_776);
     space.raise();
-    assert_eq!(rt; space.sequence(), 1);
-    assert!(rt; !space.has_pinned());
-    space.set_pinned();
-    assert!(rt; space.has_pinned());
-    for (structure, table) in [
-        (Some(actor), Some(other)),
-        (Some(other), None),
-        (None, Some(actor)),
-        (None, None),
+    space.sequence()
+}
+
+fn actor(number: Option<u64>) -> Option<ActorNo> {
+    ActorNo::new(number?)
+}
+
+// Gives both locks to these actors, or frees them, sets the flag, and answers what they are then.
+fn hold(
+    space: &mut Space,
+    structure: Option<u64>,
+    table: Option<u64>,
+    on: bool,
+) -> (Option<u64>, Option<u64>, bool) {
+    space.set_structure(actor(structure));
+    space.set_table(actor(table));
+    space.set_pinned(on);
+    (
+        space.structure().map(|a| a.get()),
+        space.table().map(|a| a.get()),
+        space.has_pinned(),
+    )
+}
+
+#[test]
+fn locks_and_the_rest_are_kept(rt: HostRuntime) -> Result<(), Fail> {
+    let mut space = Space::new(rt.alloc()).or(Err("memory"))?;
+    assert_eq!(rt; raise(&rt, &mut space), 1);
+    for (structure, table, on) in [
+        (Some(80), None, true),
+        (None, Some(7), false),
+        (None, None, true),
     ] {
-        space.set_structure(structure);
-        space.set_table(table);
-        assert_eq!(rt; space.structure(), structure);
-        assert_eq!(rt; space.table(), table);
+        assert_eq!(rt;
+            hold(&mut space, structure, table, on),
+            (structure, table, on)
+        );
     }
-    assert_eq!(rt; space.len(), 0);
     Ok(())
 }

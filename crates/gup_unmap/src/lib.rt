@@ -53,3 +53,6 @@ pub fn discard(space: &mut Space, frames: &mut Frames, page: PageNo) -> bool
     frames.put(old.frame, 1);
     true
 }
+
+#[cfg(test)]
+mod tests;
