@@ -130,20 +130,17 @@ fn actor(number: Option<u64>) -> Option<ActorNo> {
     ActorNo::new(number?)
 }
 
-// Gives both locks to these actors, or frees them, sets the flag, and answers what they are then.
+// Gives both locks to these actors, or frees them, and answers who holds them then.
 fn hold(
     space: &mut Space,
     structure: Option<u64>,
     table: Option<u64>,
-    on: bool,
-) -> (Option<u64>, Option<u64>, bool) {
+) -> (Option<u64>, Option<u64>) {
     space.set_structure(actor(structure));
     space.set_table(actor(table));
-    space.set_pinned(on);
     (
         space.structure().map(|a| a.get()),
         space.table().map(|a| a.get()),
-        space.has_pinned(),
     )
 }
 
@@ -151,15 +148,11 @@ fn hold(
 fn locks_and_the_rest_are_kept(rt: HostRuntime) -> Result<(), Fail> {
     let mut space = Space::new(rt.alloc()).or(Err("memory"))?;
     assert_eq!(rt; raise(&rt, &mut space), 1);
-    for (structure, table, on) in [
-        (Some(80), None, true),
-        (None, Some(7), false),
-        (None, None, true),
-    ] {
-        assert_eq!(rt;
-            hold(&mut space, structure, table, on),
-            (structure, table, on)
-        );
+    for (structure, table) in [(Some(80), None), (None, Some(7)), (None, None)] {
+        assert_eq!(rt; hold(&mut space, structure, table), (structure, table));
     }
+    assert!(rt; !space.has_pinned());
+    space.set_pinned();
+    assert!(rt; space.has_pinned());
     Ok(())
 }
