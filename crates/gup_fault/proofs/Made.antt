@@ -1,15 +1,14 @@
 -- What each step of a fault makes of frames and a process is what its events say.
-use Rattle.std.proofs.Common.{◌≡◌, ℕ, ◌+◌, ◌-◌, ◌≤◌, Bool, true, false, cond, eqb, List, [], ◌∷◌, ◌++◌, Option, Some, None, Result, Ok, Err, refl, sym, ap, subst, ◌∙◌, arith}
+use Rattle.std.proofs.Common.{◌≡◌, ℕ, ◌≤◌, Bool, true, false, cond, eqb, List, [], ◌∷◌, ◌++◌, Option, Some, None, Ok, Err, refl, sym, ap, subst, ◌∙◌, arith}
 use Rattle.std.proofs.lemmas.Bool.Decides.{nat_tests}
 use Rattle.gup_base.specs.declared.entry.Entry.{Entry}
 use Rattle.gup_plain.specs.declared.answer.Answer.{Answer}
-use Rattle.gup_plain.specs.Put.{put}
 use Rattle.gup_frames.specs.Frames.{FramesValue, taken, with_mark, copied, without_references}
 use Rattle.gup_space.specs.Space.{SpaceValue, with_entry}
 use Rattle.gup_space.specs.Shows.{Change, AreEvents}
 use Rattle.gup_space.specs.After.{taking, filling, counting, marking_it, upgrading, breaking, putting, IsMadeBy, IsShownAs}
 use Rattle.gup_space.specs.ShowsLemmas.{are_events, same_shown}
-use Rattle.gup_events.specs.Event.{CoreEvent, entry_of, take_frame, fill, count_one, set_mark, upgrade, break_entry, put_entry}
+use Rattle.gup_events.specs.Event.{CoreEvent, entry_of, take_frame, fill, upgrade, break_entry, put_entry}
 use Rattle.gup_events.specs.Invariant.{frame_of}
 use Rattle.gup_events.specs.Fault.{Fault, events_of, refusal_of, fills, fills_writable, marks, breaks}
 use Rattle.gup_fault.specs.Faults.{KeepsBytes, IsFault, one_event, page_word, HasEntry, IsExclusiveEntry}

@@ -1,6 +1,5 @@
 -- The faults of a page that has an entry, by what was read of its frame, and what the page has then.
-use Rattle.std.proofs.Common.{◌≡◌, ℕ, ◌==◌, Bool, true, false, cond, List, [], ◌∷◌, ◌++◌, Option, Some, None, Result, Ok, Err, OnOk, refl, sym, ap, subst, ◌∙◌, arith}
-use Rattle.std.proofs.lemmas.Bool.{eq-eqb}
+use Rattle.std.proofs.Common.{◌≡◌, ℕ, Bool, true, false, [], ◌∷◌, ◌++◌, Option, Some, None, Result, Ok, Err, OnOk, refl, sym, ap, subst, ◌∙◌}
 use Rattle.gup_base.specs.declared.entry.Entry.{Entry}
 use Rattle.gup_plain.specs.declared.answer.Answer.{Answer}
 use Rattle.gup_plain.specs.declared.answer.Answer.TheVariants as answers
@@ -9,10 +8,10 @@ use Rattle.gup_space.specs.Space.{SpaceValue, with_entry}
 use Rattle.gup_space.specs.Shows.{Change}
 use Rattle.gup_events.specs.Event.{entry_of, upgrade}
 use Rattle.gup_events.specs.Invariant.{frame_of}
-use Rattle.gup_events.specs.Fault.{Fault, marks, breaks, unshares, makes_writable}
+use Rattle.gup_events.specs.Fault.{marks, unshares, makes_writable}
 use Rattle.gup_fault.specs.declared.denied.NoFrame.{NoFrame as NoFrameError}
 use Rattle.gup_fault.specs.Refused.{frame_denial}
-use Rattle.gup_fault.specs.Faults.{IsFault, IsUnchanged, HasEntry, IsExclusiveEntry, IsMarked, IsWritable, IsReadOnly, KeepsAlone}
+use Rattle.gup_fault.specs.Faults.{IsFault, IsUnchanged, IsExclusiveEntry, IsMarked, IsWritable, IsReadOnly, KeepsAlone}
 use Rattle.gup_fault.proofs.Puts.{put_here}
 use Rattle.gup_fault.proofs.Made.{ch, faults_alike, changes_alike, marked, upgraded, marked_upgraded, has_entry, got}
 

@@ -3,7 +3,6 @@ use Rattle.std.specs.Prelude.{◌≡◌, ℕ, Bool, true, false, List, [], ◌�
 use Rattle.gup_base.specs.declared.entry.Entry.{Entry}
 use Rattle.gup_plain.specs.declared.answer.Answer.{Answer}
 use Rattle.gup_frames.specs.Frames.{FramesValue}
-use Rattle.gup_space.specs.Space.{SpaceValue}
 use Rattle.gup_space.specs.Shows.{Change, AreEvents}
 use Rattle.gup_space.specs.Counted.{AreCounted}
 use Rattle.gup_events.specs.Event.{CoreEvent}

@@ -1,5 +1,5 @@
 -- What frames and a process are to a state of the core machine.
-use Rattle.std.specs.Prelude.{◌≡◌, ℕ, List, Option, None}
+use Rattle.std.specs.Prelude.{◌≡◌, ℕ, List, None}
 use Rattle.gup_frames.specs.Frames.{FramesValue, FrameLists, frames_of}
 use Rattle.gup_space.specs.Space.{SpaceValue, SpaceParts, space_of}
 use Rattle.gup_events.specs.State.{CoreState}

@@ -1,15 +1,13 @@
 -- Events of one process leave every other process as it is, and what they make of it and of frames is shown.
-use Rattle.std.specs.Prelude.{◌≡◌, ℕ, Bool, List, [], ◌∷◌, Option, None}
-use Rattle.std.proofs.Common.{refl, sym, ap, subst, ◌∙◌, arith}
+use Rattle.std.specs.Prelude.{◌≡◌, ℕ, List, [], ◌∷◌, None}
+use Rattle.std.proofs.Common.{sym, ap, subst, ◌∙◌, arith}
 use Rattle.std.proofs.lemmas.Bool.Decides.{nat_tests}
-use Rattle.gup_base.specs.declared.entry.Entry.{Entry}
-use Rattle.gup_base.specs.declared.entry.Rights.{Rights}
 use Rattle.gup_space.specs.Space.{SpaceValue}
 use Rattle.gup_frames.specs.Frames.{FramesValue}
 use Rattle.gup_space.specs.Shows.{ShowsFrames, ShowsSpace, Change, AreEvents}
 use Rattle.gup_space.specs.After.{IsOf, taking, filling, counting, marking_it, upgrading, breaking, putting, dropping, discarding, mapping, lowering, protecting, loading, storing, AreOf, frames_after, space_after, all_frames_after, all_space_after, IsShownAs, IsMadeBy}
 use Rattle.gup_events.specs.State.{CoreState}
-use Rattle.gup_events.specs.Event.{CoreEvent, happens, take_frame, fill, count_one, set_mark, upgrade, break_entry, put_entry, drop_entry, discard_entry, map_pages, lower_entry, protect_pages, load, store}
+use Rattle.gup_events.specs.Event.{CoreEvent, happens}
 use Rattle.gup_events.specs.Invariant.{run}
 
 pub leaves_other : (p q : ℕ) (space : SpaceValue) (s : CoreState) {e : CoreEvent} → (p ≡ q → ⊥) → IsOf p e → ShowsSpace q space s → ShowsSpace q space (happens s e)

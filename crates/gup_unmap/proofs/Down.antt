@@ -1,6 +1,5 @@
 -- What taking a page down makes of frames and a process is what its events say.
-use Rattle.std.proofs.Common.{◌≡◌, ℕ, ◌-◌, Bool, true, false, cond, List, [], ◌∷◌, Option, Some, None, is_some, ◌≤◌, refl, sym, ap, subst, ◌∙◌, arith}
-use Rattle.std.proofs.lemmas.Bool.{cases_eq}
+use Rattle.std.proofs.Common.{◌≡◌, ℕ, ◌-◌, true, false, [], ◌∷◌, Option, Some, None, is_some, ◌≤◌, refl, sym, ap, subst, ◌∙◌, arith}
 use Rattle.std.proofs.lemmas.Bool.Decides.{nat_tests}
 use Rattle.gup_base.specs.declared.entry.Entry.{Entry}
 use Rattle.gup_base.specs.declared.entry.Rights.{Rights}
@@ -8,9 +7,9 @@ use Rattle.gup_plain.specs.Put.{put}
 use Rattle.gup_frames.specs.Frames.{FramesValue, without_references}
 use Rattle.gup_space.specs.Space.{SpaceValue, with_entry, without_page}
 use Rattle.gup_space.specs.Shows.{Change, AreEvents}
-use Rattle.gup_space.specs.After.{dropping, discarding, putting, IsMadeBy, IsShownAs}
+use Rattle.gup_space.specs.After.{dropping, discarding, putting, IsShownAs}
 use Rattle.gup_space.specs.ShowsLemmas.{are_events, same_shown}
-use Rattle.gup_events.specs.Event.{CoreEvent, drop_entry, discard_entry, put_entry}
+use Rattle.gup_events.specs.Event.{drop_entry, discard_entry, put_entry}
 use Rattle.gup_events.specs.Fault.{takes_down, discards}
 
 abbrev pub ch : (F F' : FramesValue) (S S' : SpaceValue) → Change

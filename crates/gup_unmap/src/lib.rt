@@ -2,14 +2,14 @@
 //! `munmap` and `madvise`, for private anonymous memory).
 #![tactic(auto)]
 
-ghost use Rattle.std.specs.Prelude.{◌≡◌, ℕ, is_some, true, false, Some, None};
-ghost use Rattle.gup_frames.specs.Frames.{frames_of};
+ghost use Rattle.std.specs.Prelude.{◌≡◌, ℕ, ◌≤◌, is_some, true, false, Some, None};
+ghost use Rattle.gup_frames.specs.Frames.{frames_of, IsFrame, without_references};
 ghost use Rattle.gup_events.specs.Fault.{takes_down, discards};
-ghost use Rattle.gup_space.specs.Space.{space_of};
+ghost use Rattle.gup_space.specs.Space.{space_of, with_entry};
 ghost use Rattle.gup_space.specs.Shows.{change_of, AreEvents};
 ghost use Rattle.gup_space.specs.Counted.{IsCounted};
 
-use gup_base::PageNo;
+use gup_base::{Entry, PageNo};
 use gup_frames::Frames;
 use gup_space::Space;
 
@@ -28,8 +28,7 @@ pub fn take_down(space: &mut Space, frames: &mut Frames, page: PageNo) -> bool
     let Some(entry) = space.entry(page) else {
         return true;
     };
-    space.set_entry(page, None);
-    frames.put(entry.frame, 1);
+    clear(space, frames, page, entry);
     true
 }
 
@@ -48,10 +47,19 @@ pub fn discard(space: &mut Space, frames: &mut Frames, page: PageNo) -> bool
     let Some(old) = space.entry(page) else {
         return true;
     };
-    let cleared = None;
-    space.set_entry(page, cleared);
-    frames.put(old.frame, 1);
+    clear(space, frames, page, old);
     true
+}
+
+// Takes the page's entry away, and gives its reference back.
+fn clear(space: &mut Space, frames: &mut Frames, page: PageNo, entry: Entry)
+    requires there { IsFrame (frames_of frames.old) entry.frame }
+    requires held { 1 ≤ (frames_of frames.old).count entry.frame }
+    ensures space { space_of space.new ≡ with_entry page None (space_of space.old) }
+    ensures frames { frames_of frames.new ≡ without_references entry.frame 1 (frames_of frames.old) }
+{
+    space.set_entry(page, None);
+    frames.put(entry.frame, 1);
 }
 
 #[cfg(test)]

@@ -3,7 +3,7 @@ ghost use Rattle.gup_space.specs.Space.{space_of};
 ghost use Rattle.gup_space.specs.Counted.{IsCounted};
 
 use super::*;
-use gup_base::{Allowed, Entry, FrameNo, Rights};
+use gup_base::{Allowed, FrameNo, Rights};
 use std::alloc::Global;
 use std::process::Abort;
 use std::test::Fail;

@@ -1,4 +1,4 @@
-use Rattle.std.proofs.Common.{◌≡◌, ◌≤◌, Some, true, ap, sym, refl, ◌∙◌, arith}
+use Rattle.std.proofs.Common.{◌≡◌, Some, true, ap, sym, refl, ◌∙◌}
 use Rattle.gup_plain.specs.declared.answer.Answer.TheVariants as answers
 use Rattle.gup_frames.specs.Frames.{FramesValue, frames_of, free_frame, with_mark, copied, without_references}
 use Rattle.gup_space.specs.Space.{space_of}

@@ -1,4 +1,3 @@
-use Rattle.std.proofs.Common.{ap, sym, subst, refl}
 use Rattle.gup_frames.specs.Frames.{frames_of}
 use Rattle.gup_space.specs.Space.{space_of}
 use Rattle.gup_fault.proofs.Made.{marked_at, keeps_marked_at}

@@ -1,4 +1,4 @@
-use Rattle.std.proofs.Common.{◌≡◌, ◌+◌, ◌-◌, cond, length, is_some, arith, refl}
+use Rattle.std.proofs.Common.{◌≡◌, ◌-◌, cond, length, is_some, arith, refl}
 use Rattle.std.proofs.lemmas.Bool.Decides.{nat_tests}
 use Rattle.gup_maps.specs.Table.{at}
 use Rattle.gup_space.proofs.space.Space.set_entry.Goals as goal
