@@ -1,0 +1,4 @@
+pub mod Searching
+pub mod Leading
+pub mod Loading
+pub mod Unmapping

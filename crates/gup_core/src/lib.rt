@@ -1,0 +1,10 @@
+//! The machine for many processes and actors: it takes the turns of a script's core run, on frames and processes that
+//! take no more memory than they had at the start.
+#![tactic(auto)]
+
+mod loads;
+mod said;
+mod turn;
+mod unmaps;
+
+pub use turn::Turn;
