@@ -2,3 +2,4 @@ pub mod Searching
 pub mod Leading
 pub mod Loading
 pub mod Unmapping
+pub mod Mapping

@@ -69,21 +69,20 @@ discarded c a p page last unlocked made s frames space =
 -- the lowest of n numbers from the first on that passes, where those before it don't
 found_at : (first n f : ℕ) (test : ℕ → Bool) → first ≤ f → f < first + n → test f ≡ true → ((k : ℕ) → first ≤ k → k < f → test k ≡ false) → lowest first n test ≡ Some f
 found_at first zero f test from below passes others = absurd (omega arith)
-found_at first (suc n) f test from below passes others = go (test first) refl
+found_at first (suc n) f test from below passes others =
+    go (test first) refl (λ more. found_at (first + 1) n f test more (omega arith) passes (λ k least less. others k (omega arith) less))
   where
-    go : (b : Bool) → test first ≡ b → cond b (Some first) (lowest (first + 1) n test) ≡ Some f
-    go true is = ap Some (here (eq-or-lt_of_le from))
-      where
-        here : (first ≡ f) ⊎ (first < f) → first ≡ f
-        here (inl same) = same
-        here (inr less) = let failed : test first ≡ false = others first (omega arith) less in absurd (cc)
-    go false is =
-        let more : first + 1 ≤ f = further (eq-or-lt_of_le from) in
-        found_at (first + 1) n f test more (omega arith) passes (λ k least less. others k (omega arith) less)
-      where
-        further : (first ≡ f) ⊎ (first < f) → first + 1 ≤ f
-        further (inl same) = let passed : test first ≡ true = ap test same ∙ passes in absurd (cc)
-        further (inr less) = omega arith
+    here : (first ≡ f) ⊎ (first < f) → test first ≡ true → first ≡ f
+    here (inl same) is = same
+    here (inr less) is = let failed : test first ≡ false = others first (omega arith) less in absurd (cc)
+
+    further : (first ≡ f) ⊎ (first < f) → test first ≡ false → first + 1 ≤ f
+    further (inl same) is = let passed : test first ≡ true = ap test same ∙ passes in absurd (cc)
+    further (inr less) is = omega arith
+
+    go : (b : Bool) → test first ≡ b → (first + 1 ≤ f → lowest (first + 1) n test ≡ Some f) → cond b (Some first) (lowest (first + 1) n test) ≡ Some f
+    go true is later = ap (λ (k : ℕ). Some k) (here (eq-or-lt_of_le from) is)
+    go false is later = later (further (eq-or-lt_of_le from) is)
 
 none_found : (first n : ℕ) (test : ℕ → Bool) → ((k : ℕ) → first ≤ k → test k ≡ false) → lowest first n test ≡ None
 none_found first zero test others = refl

@@ -1,3 +1,4 @@
 pub mod Said
 pub mod Quiet
+pub mod Lowered
 pub mod Machine

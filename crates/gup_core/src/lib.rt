@@ -3,6 +3,7 @@
 #![tactic(auto)]
 
 mod loads;
+mod mappings;
 mod said;
 mod turn;
 mod unmaps;

@@ -45,13 +45,19 @@ fn passed(mapped: bool, event: PlainEvent, last: bool) -> Said
     Said { event, answer }
 }
 
+fn first_page() -> PageNo
+    ensures { result ≡ 0 }
+{
+    PageNo::new(0).unwrap()
+}
+
 /// An exit takes down the lowest mapped page, and answers where there is none.
 pub fn exit(space: &mut Space, frames: &mut Frames, actor: ActorNo, proc: ProcNo) -> Said
     requires { IsQuiet (frames_of frames.old) (space_of space.old) }
     ensures { IsTurnOf (change_of frames.old frames.new space.old space.new) proc
         (λ s. exit_turn s actor proc) (whats_of result) }
 {
-    let Some(page) = space.next_page(PageNo::new(0).unwrap()) else {
+    let Some(page) = space.next_page(first_page()) else {
         return refused(Answer::Plain);
     };
     let _mapped = take_down(space, frames, page);

@@ -1,0 +1,173 @@
+-- What a mapping or a protection makes of a process is the turn's.
+use Rattle.std.proofs.Common.{◌≡◌, ℕ, ◌+◌, ◌<◌, ◌≤◌, ◌==◌, ◌↔◌, nat_lt, nat_le, not, Bool, true, false, cond, List, [], ◌∷◌, ◌++◌, Option, Some, None, IsSome, is_some, Result, Ok, Err, zero, suc, refl, sym, ap, ◌∙◌, subst, arith}
+use Rattle.std.proofs.lemmas.Bool.Decides.{nat_tests}
+use Rattle.gup_base.specs.declared.entry.Entry.{Entry}
+use Rattle.gup_base.specs.declared.entry.Rights.{Rights}
+use Rattle.gup_base.specs.declared.entry.Rights.TheVariants.{R, RW}
+use Rattle.gup_maps.specs.declared.maps.MapRefusal.{MapRefusal}
+use Rattle.gup_maps.specs.declared.maps.MapRefusal.TheVariants.{Overlap, Full}
+use Rattle.gup_plain.specs.Denial.{any_below, any_mapped, any_unmapped, map_denial, protect_denial}
+use Rattle.gup_plain.specs.Put.{within, spread}
+use Rattle.gup_plain.specs.declared.answer.Answer.{Answer}
+use Rattle.gup_plain.specs.declared.answer.Answer.TheVariants as answers
+use Rattle.gup_plain.specs.declared.event.PlainEvent.TheVariants as events
+use Rattle.gup_plain.specs.declared.note.What.{What}
+use Rattle.gup_plain.specs.declared.note.What.TheVariants.{Event, Done}
+use Rattle.gup_frames.specs.Frames.{FramesValue}
+use Rattle.gup_space.specs.Space.{SpaceValue, with_pages, with_rights}
+use Rattle.gup_space.specs.After.{mapping, lowering, protecting, IsShownAs}
+use Rattle.gup_space.specs.Shows.{Change, ShowsFrames, ShowsSpace}
+use Rattle.gup_space.specs.ShowsLemmas.{shows_frames, shows_space, shown_as, same_shown}
+use Rattle.gup_events.specs.State.{CoreState}
+use Rattle.gup_events.specs.Event.{CoreEvent, happens, entry_of, map_pages, lower_entry, protect_pages}
+use Rattle.gup_events.specs.Invariant.{run}
+use Rattle.gup_turns.specs.Turn.{Taken, map_turn, map_turn_by, lowers_entry, lowers, lowers_for, protect_turn, protect_turn_by}
+use Rattle.gup_core.specs.Lowered.{read_only, lowered, IsLowered, IsLoweredFor}
+use Rattle.gup_core.specs.Said.{Leads, IsTurnOf}
+use Rattle.gup_core.proofs.Leading.{ch, leads_alike, answers as answers_so}
+use Rattle.gup_core.proofs.Searching.{any_same}
+
+-- ---- map
+
+-- what a mapping was refused with
+abbrev pub refused_with : Result (Unit {0}) MapRefusal → Option Answer
+refused_with (Ok ok) = None
+refused_with (Err Overlap) = Some answers.Overlap
+refused_with (Err Full) = Some answers.Full
+
+pub map_denied : (r : Result (Unit {0}) MapRefusal) (overlaps : Bool) (pages n : ℕ)
+    → ((r ≡ Err Overlap) ↔ (overlaps ≡ true)) → ((r ≡ Err Full) ↔ ((overlaps ≡ false) × (1024 < pages + n)))
+    → map_denial overlaps pages n ≡ refused_with r
+map_denied (Ok ok) true pages n overlap full = let e : Ok ok ≡ Err Overlap = overlap.1 refl in absurd (cc)
+map_denied (Ok ok) false pages n overlap full = go (nat_lt 1024 (pages + n)) refl
+  where
+    go : (b : Bool) → nat_lt 1024 (pages + n) ≡ b → cond b (Some answers.Full) None ≡ None
+    go true is = let e : Ok ok ≡ Err Full = full.1 (refl, grind (arith, nat_tests)) in absurd (cc)
+    go false is = refl
+map_denied (Err Overlap) overlaps pages n overlap full = ap (λ b. map_denial b pages n) (overlap.0 refl)
+map_denied (Err Full) overlaps pages n overlap full =
+    let both = full.0 refl in
+    ap (λ b. map_denial b pages n) both.0 ∙ ap (λ b. cond b (Some answers.Full) None) (more both.1)
+  where
+    more : 1024 < pages + n → nat_lt 1024 (pages + n) ≡ true
+    more is = grind (arith, nat_tests)
+
+abbrev pub mapped_whats : (a p page n : ℕ) → Rights → Option Answer → List What
+mapped_whats a p page n rights None = Event (events.Map a p page n rights) ∷ Done answers.Plain ∷ []
+mapped_whats a p page n rights (Some answer) = Done answer ∷ []
+
+mapped_same : (S : SpaceValue) (p page n : ℕ) (s : CoreState) → ShowsSpace p S s → any_mapped (s.right p) page n ≡ any_mapped S.right page n
+mapped_same S p page n s space = any_same n (λ k. is_some (s.right p (page + k))) (λ k. is_some (S.right (page + k))) (λ k. ap is_some (space.right (page + k)))
+
+map_taken : (S : SpaceValue) (a p page n : ℕ) (rights : Rights) (s : CoreState) (denied : Option Answer) → map_denial (any_mapped S.right page n) S.pages n ≡ denied → ShowsSpace p S s
+    → map_turn s a p page n rights ≡ map_turn_by denied a p page n rights
+map_taken S a p page n rights s denied is space =
+    ap (λ b. map_turn_by (map_denial b (s.pages p) n) a p page n rights) (mapped_same S p page n s space)
+    ∙ ap (λ k. map_turn_by (map_denial (any_mapped S.right page n) k n) a p page n rights) space.pages
+    ∙ ap (λ o. map_turn_by o a p page n rights) is
+
+pub map_refused : (F : FramesValue) (S S' : SpaceValue) (a p page n : ℕ) (rights : Rights) (answer : Answer) → map_denial (any_mapped S.right page n) S.pages n ≡ Some answer → S' ≡ S
+    → IsTurnOf (ch F F S S') p (λ s. map_turn s a p page n rights) (Done answer ∷ [])
+map_refused F S S' a p page n rights answer denied same s frames space =
+    leads_alike (ch F F S S') p s _ _ (Done answer ∷ []) (map_taken S a p page n rights s (Some answer) denied space)
+    (record { says = refl; frames = frames; space = subst (λ (x : SpaceValue). ShowsSpace p x s) (sym same) space })
+
+pub map_done : (F : FramesValue) (S S' : SpaceValue) (a p page n : ℕ) (rights : Rights) → map_denial (any_mapped S.right page n) S.pages n ≡ None → S' ≡ with_pages page n rights S
+    → IsTurnOf (ch F F S S') p (λ s. map_turn s a p page n rights) (mapped_whats a p page n rights None)
+map_done F S S' a p page n rights undenied same s frames space =
+    leads_alike (ch F F S S') p s _ _ (mapped_whats a p page n rights None) (map_taken S a p page n rights s None undenied space)
+    (record {
+      says = refl;
+      frames = shows_frames p F s (mapping a page n rights) frames;
+      space =
+          subst (λ (x : SpaceValue). ShowsSpace p x (happens s (map_pages a p page n rights))) (sym same)
+          (shows_space p S s (mapping a page n rights) space);
+    })
+
+-- ---- lowering
+
+-- a place is in a range of one, or in the rest, or in neither
+lowered_next : (page n g : ℕ) (entry : ℕ → Option Entry) → lowered page (suc n) entry g ≡ lowered (page + 1) n (lowered page 1 entry) g
+lowered_next page n g entry = grind (arith, nat_tests)
+
+lowered_last : (page n g : ℕ) (entry : ℕ → Option Entry) → lowered (page + n) 1 (lowered page n entry) g ≡ lowered page (n + 1) entry g
+lowered_last page n g entry = grind (arith, nat_tests)
+
+pub lowered_none : (page : ℕ) (space : SpaceValue) → IsLowered page 0 space space
+lowered_none page space =
+    record {
+      right = refl;
+      pages = refl;
+      entry = λ g. grind (arith, nat_tests);
+      sequence = refl;
+      has_pinned = refl;
+      structure = refl;
+      table = refl;
+    }
+
+lowered_at : (page n g : ℕ) (entry other : ℕ → Option Entry) → entry g ≡ other g → lowered page n entry g ≡ lowered page n other g
+lowered_at page n g entry other same = ap (λ o. cond (within page n g) (read_only o) o) same
+
+pub lowered_more : (page n : ℕ) (old mid new : SpaceValue) → IsLowered page n old mid → IsLowered (page + n) 1 mid new → IsLowered page (n + 1) old new
+lowered_more page n old mid new first last =
+    record {
+      right = last.right ∙ first.right;
+      pages = last.pages ∙ first.pages;
+      entry = λ g. last.entry g ∙ lowered_at (page + n) 1 g mid.entry (lowered page n old.entry) (first.entry g) ∙ lowered_last page n g old.entry;
+      sequence = last.sequence ∙ first.sequence;
+      has_pinned = last.has_pinned ∙ first.has_pinned;
+      structure = last.structure ∙ first.structure;
+      table = last.table ∙ first.table;
+    }
+
+-- one page's event, if it has one
+lower_one : (F : FramesValue) (S : SpaceValue) (a p page : ℕ) (entry : Option Entry) (s : CoreState) → S.entry page ≡ entry → ShowsFrames F s → ShowsSpace p S s
+    → ShowsFrames F (run s (lowers_entry a p page entry)) × ShowsSpace p (record S { entry = lowered page 1 S.entry }) (run s (lowers_entry a p page entry))
+lower_one F S a p page None s found frames space =
+    (
+      frames,
+      record {
+        right = space.right;
+        pages = space.pages;
+        entry = λ g. space.entry g ∙ sym (absent g);
+        sequence = space.sequence;
+        has_pinned = space.has_pinned;
+        structure = space.structure;
+        table = space.table;
+      },
+    )
+  where
+    absent : (g : ℕ) → lowered page 1 S.entry g ≡ S.entry g
+    absent g = grind (arith, nat_tests)
+lower_one F S a p page (Some e) s found frames space = go e.writable refl
+  where
+    read_only_already : (g : ℕ) → e.writable ≡ false → lowered page 1 S.entry g ≡ S.entry g
+    read_only_already g is = grind (arith, nat_tests)
+
+    go : (writable : Bool) → e.writable ≡ writable → ShowsFrames F (run s (cond writable (lower_entry a p page e.frame ∷ []) [])) × ShowsSpace p (record S { entry = lowered page 1 S.entry }) (run s (cond writable (lower_entry a p page e.frame ∷ []) []))
+    go true is =
+        (
+          shows_frames p F s (lowering a page e.frame) frames,
+          record {
+            right = space.right;
+            pages = space.pages;
+            entry = λ g. grind (arith, nat_tests, space.entry g);
+            sequence = space.sequence;
+            has_pinned = space.has_pinned;
+            structure = space.structure;
+            table = space.table;
+          },
+        )
+    go false is =
+        (
+          frames,
+          record {
+            right = space.right;
+            pages = space.pages;
+            entry = λ g. space.entry g ∙ sym (read_only_already g is);
+            sequence = space.sequence;
+            has_pinned = space.has_pinned;
+            structure = space.structure;
+            table = space.table;
+          },
+        )
