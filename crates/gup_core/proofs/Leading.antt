@@ -1,5 +1,5 @@
 -- Turns from one state, made of events of frames and one process.
-use Rattle.std.proofs.Common.{◌≡◌, ℕ, true, List, [], ◌∷◌, Option, Some, None, refl, sym, ap, ◌∙◌, subst}
+use Rattle.std.proofs.Common.{◌≡◌, ℕ, true, false, List, [], ◌∷◌, Option, Some, None, Result, Ok, Err, is_err, OnOk, OnErr, refl, sym, ap, ◌∙◌, subst}
 use Rattle.gup_base.specs.declared.entry.Entry.{Entry}
 use Rattle.gup_plain.specs.declared.answer.Answer.{Answer}
 use Rattle.gup_plain.specs.declared.note.What.{What}
@@ -59,3 +59,12 @@ has_space F S p =
       structure = refl;
       table = refl;
     }
+
+-- a clause on the one side of a result, where it is on that side
+pub on_err : {E : Type 0} {P : Type 0} (r : Result (Unit {0}) E) → is_err r ≡ true → OnErr r P → P
+on_err (Ok ok) is h = absurd (cc)
+on_err (Err e) is h = h
+
+pub on_ok : {E : Type 0} {P : Type 0} (r : Result (Unit {0}) E) → is_err r ≡ false → OnOk r P → P
+on_ok (Ok ok) is h = h
+on_ok (Err e) is h = absurd (cc)

@@ -14,7 +14,7 @@ use Rattle.gup_plain.specs.declared.event.PlainEvent.TheVariants as events
 use Rattle.gup_plain.specs.declared.note.What.{What}
 use Rattle.gup_plain.specs.declared.note.What.TheVariants.{Event, Done}
 use Rattle.gup_frames.specs.Frames.{FramesValue}
-use Rattle.gup_space.specs.Space.{SpaceValue, with_pages, with_rights}
+use Rattle.gup_space.specs.Space.{SpaceValue, with_pages, with_rights, with_entry}
 use Rattle.gup_space.specs.After.{mapping, lowering, protecting, IsShownAs}
 use Rattle.gup_space.specs.Shows.{Change, ShowsFrames, ShowsSpace}
 use Rattle.gup_space.specs.ShowsLemmas.{shows_frames, shows_space, shown_as, same_shown}
@@ -171,3 +171,151 @@ lower_one F S a p page (Some e) s found frames space = go e.writable refl
             table = space.table;
           },
         )
+
+run_behind : (s : CoreState) (es fs : List CoreEvent) → run s (es ++ fs) ≡ run (run s es) fs
+run_behind s [] fs = refl
+run_behind s (e ∷ es) fs = run_behind (happens s e) es fs
+
+-- the pages behind the first are lowered from where that one is
+lowered_rest : (page n : ℕ) (S S' : SpaceValue) → IsLowered page (suc n) S S' → IsLowered (page + 1) n (record S { entry = lowered page 1 S.entry }) S'
+lowered_rest page n S S' h =
+    record {
+      right = h.right;
+      pages = h.pages;
+      entry = λ g. h.entry g ∙ lowered_next page n g S.entry;
+      sequence = h.sequence;
+      has_pinned = h.has_pinned;
+      structure = h.structure;
+      table = h.table;
+    }
+
+lowered_shown : (page : ℕ) (S S' : SpaceValue) → IsLowered page 0 S S' → IsShownAs S S'
+lowered_shown page S S' h =
+    record {
+      right = λ g. ap (λ (f : ℕ → Option Rights). f g) (sym h.right);
+      pages = sym h.pages;
+      entry = λ g. sym (h.entry g ∙ nothing g);
+      sequence = sym h.sequence;
+      has_pinned = sym h.has_pinned;
+      structure = sym h.structure;
+      table = sym h.table;
+    }
+  where
+    nothing : (g : ℕ) → lowered page 0 S.entry g ≡ S.entry g
+    nothing g = grind (arith, nat_tests)
+
+behind_first : (page g : ℕ) (S : SpaceValue) → page + 1 ≤ g → lowered page 1 S.entry g ≡ S.entry g
+behind_first page g S above = grind (arith, nat_tests)
+
+-- the events that lower n pages, by the entries that there were before them
+lower_all : (F : FramesValue) (S S' : SpaceValue) (a p page n : ℕ) (entry : ℕ → Option Entry) (s : CoreState)
+    → ((g : ℕ) → page ≤ g → entry g ≡ S.entry g) → IsLowered page n S S' → ShowsFrames F s → ShowsSpace p S s
+    → ShowsFrames F (run s (lowers entry a p page n)) × ShowsSpace p S' (run s (lowers entry a p page n))
+lower_all F S S' a p page zero entry s same h frames space = (frames, shown_as p S S' s (lowered_shown page S S' h) space)
+lower_all F S S' a p page (suc n) entry s same h frames space =
+    let S1 : SpaceValue = record S { entry = lowered page 1 S.entry } in
+    let es : List CoreEvent = lowers_entry a p page (entry page) in
+    let one = lower_one F S a p page (entry page) s (sym (same page (omega arith))) frames space in
+    let more : (g : ℕ) → page + 1 ≤ g → entry g ≡ S1.entry g = λ g above. same g (omega arith) ∙ sym (behind_first page g S above) in
+    let rest = lower_all F S1 S' a p (page + 1) n entry (run s es) more (lowered_rest page n S S' h) one.0 one.1 in
+    let P : CoreState → Type 0 = λ t. ShowsFrames F t × ShowsSpace p S' t in
+    subst P (sym (run_behind s es (lowers entry a p (page + 1) n))) rest
+
+-- ---- protect
+
+unmapped_same : (S : SpaceValue) (p page n : ℕ) (s : CoreState) → ShowsSpace p S s → any_unmapped (s.right p) page n ≡ any_unmapped S.right page n
+unmapped_same S p page n s space =
+    any_same n (λ k. not (is_some (s.right p (page + k)))) (λ k. not (is_some (S.right (page + k)))) (λ k. ap (λ o. not (is_some o)) (space.right (page + k)))
+
+protect_taken : (S : SpaceValue) (a p page n : ℕ) (rights : Rights) (s : CoreState) (lacks : Bool) → any_unmapped S.right page n ≡ lacks → ShowsSpace p S s
+    → protect_turn s a p page n rights ≡ protect_turn_by (protect_denial lacks) s a p page n rights
+protect_taken S a p page n rights s lacks is space =
+    ap (λ b. protect_turn_by (protect_denial b) s a p page n rights) (unmapped_same S p page n s space ∙ is)
+
+pub protect_refused : (F : FramesValue) (S S' : SpaceValue) (a p page n : ℕ) (rights : Rights) → any_unmapped S.right page n ≡ true → S' ≡ S
+    → IsTurnOf (ch F F S S') p (λ s. protect_turn s a p page n rights) (Done answers.Missing ∷ [])
+protect_refused F S S' a p page n rights lacks same s frames space =
+    leads_alike (ch F F S S') p s _ _ (Done answers.Missing ∷ []) (protect_taken S a p page n rights s true lacks space)
+    (record { says = refl; frames = frames; space = subst (λ (x : SpaceValue). ShowsSpace p x s) (sym same) space })
+
+abbrev pub protected_whats : (a p page n : ℕ) → Rights → List What
+protected_whats a p page n rights = Event (events.Protect a p page n rights) ∷ Done answers.Plain ∷ []
+
+-- the process with its entries lowered, and then with the rights
+rights_behind : (page n : ℕ) (rights : Rights) (S S1 S' : SpaceValue) → IsLowered page n S S1 → IsLowered page n (with_rights page n rights S) S' → IsShownAs (with_rights page n rights S1) S'
+rights_behind page n rights S S1 S' low h =
+    record {
+      right = λ g. ap (λ (f : ℕ → Option Rights). spread page n (λ _. Some rights) f g) low.right ∙ ap (λ (f : ℕ → Option Rights). f g) (sym h.right);
+      pages = low.pages ∙ sym h.pages;
+      entry = λ g. low.entry g ∙ sym (h.entry g);
+      sequence = low.sequence ∙ sym h.sequence;
+      has_pinned = low.has_pinned ∙ sym h.has_pinned;
+      structure = low.structure ∙ sym h.structure;
+      table = low.table ∙ sym h.table;
+    }
+
+protect_by : (rights : Rights) (F : FramesValue) (S S' : SpaceValue) (a p page n : ℕ) (s : CoreState) → IsLoweredFor rights page n (with_rights page n rights S) S'
+    → ShowsFrames F s → ShowsSpace p S s
+    → Leads (ch F F S S') p s (protect_turn_by None s a p page n rights) (protected_whats a p page n rights)
+protect_by R F S S' a p page n s h frames space =
+    let S1 : SpaceValue = record S { entry = lowered page n S.entry } in
+    let low : IsLowered page n S S1 = record { right = refl; pages = refl; entry = λ g. refl; sequence = refl; has_pinned = refl; structure = refl; table = refl } in
+    let es : List CoreEvent = lowers (s.entry p) a p page n in
+    let all = lower_all F S S1 a p page n (s.entry p) s (λ g above. space.entry g) low frames space in
+    let same : run s (es ++ protect_pages a p page n R ∷ []) ≡ happens (run s es) (protect_pages a p page n R) = run_behind s es (protect_pages a p page n R ∷ []) in
+    record {
+      says = refl;
+      frames = subst (λ (t : CoreState). ShowsFrames F t) (sym same) (shows_frames p F (run s es) (protecting a page n R) all.0);
+      space =
+          subst (λ (t : CoreState). ShowsSpace p S' t) (sym same)
+          (shown_as p (with_rights page n R S1) S' (happens (run s es) (protect_pages a p page n R)) (rights_behind page n R S S1 S' low h)
+          (shows_space p S1 (run s es) (protecting a page n R) all.1));
+    }
+protect_by RW F S S' a p page n s same frames space =
+    record {
+      says = refl;
+      frames = shows_frames p F s (protecting a page n RW) frames;
+      space =
+          subst (λ (x : SpaceValue). ShowsSpace p x (happens s (protect_pages a p page n RW))) (sym same)
+          (shows_space p S s (protecting a page n RW) space);
+    }
+
+pub protect_done : (F : FramesValue) (S S1 S' : SpaceValue) (a p page n : ℕ) (rights : Rights) → any_unmapped S.right page n ≡ false → S1 ≡ with_rights page n rights S → IsLoweredFor rights page n S1 S'
+    → IsTurnOf (ch F F S S') p (λ s. protect_turn s a p page n rights) (protected_whats a p page n rights)
+protect_done F S S1 S' a p page n rights all same low s frames space =
+    leads_alike (ch F F S S') p s _ _ (protected_whats a p page n rights) (protect_taken S a p page n rights s false all space)
+    (protect_by rights F S S' a p page n s (subst (λ (x : SpaceValue). IsLoweredFor rights page n x S') same low) frames space)
+
+-- each page with an entry is still mapped
+pub still_mapped : (page n : ℕ) (old new : SpaceValue) → IsLowered page n old new → ((g : ℕ) (e : Entry) → old.entry g ≡ Some e → IsSome (old.right g)) → (g : ℕ) (e : Entry) → new.entry g ≡ Some e → IsSome (new.right g)
+still_mapped page n old new h mapped g e found = go (old.entry g) refl (within page n g) (sym (h.entry g) ∙ found)
+  where
+    here : (d : Entry) → old.entry g ≡ Some d → IsSome (new.right g)
+    here d is = subst (λ (f : ℕ → Option Rights). IsSome (f g)) (sym h.right) (mapped g d is)
+
+    go : (entry : Option Entry) → old.entry g ≡ entry → (b : Bool) → cond b (read_only (old.entry g)) (old.entry g) ≡ Some e → IsSome (new.right g)
+    go (Some d) is b lowered_is = here d is
+    go None is true lowered_is = let none : read_only (old.entry g) ≡ None = ap read_only is in absurd (cc)
+    go None is false lowered_is = absurd (cc)
+
+-- pages that get rights are mapped
+pub rights_mapped : (page n : ℕ) (rights : Rights) (old new : SpaceValue) → new ≡ with_rights page n rights old → ((g : ℕ) (e : Entry) → old.entry g ≡ Some e → IsSome (old.right g)) → (g : ℕ) (e : Entry) → new.entry g ≡ Some e → IsSome (new.right g)
+rights_mapped page n rights old new same mapped g e found =
+    subst (λ (x : SpaceValue). IsSome (x.right g)) (sym same) (go (within page n g) (mapped g e (ap (λ (x : SpaceValue). x.entry g) (sym same) ∙ found)))
+  where
+    go : (b : Bool) → IsSome (old.right g) → IsSome (cond b (Some rights) (old.right g))
+    go true is = refl
+    go false is = is
+
+pub lowered_entry : (page : ℕ) (e : Entry) (old new : SpaceValue) → old.entry page ≡ Some e → new ≡ with_entry page (Some (entry_of e.frame false)) old → IsLowered page 1 old new
+lowered_entry page e old new found same =
+    subst (λ (x : SpaceValue). IsLowered page 1 old x) (sym same)
+    (record {
+      right = refl;
+      pages = refl;
+      entry = λ g. grind (arith, nat_tests);
+      sequence = refl;
+      has_pinned = refl;
+      structure = refl;
+      table = refl;
+    })
