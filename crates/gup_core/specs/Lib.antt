@@ -1,4 +1,5 @@
 pub mod Said
 pub mod Quiet
 pub mod Lowered
+pub mod Seats
 pub mod Machine

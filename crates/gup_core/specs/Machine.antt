@@ -2,21 +2,16 @@
 use Rattle.std.specs.Prelude.{◌≡◌, ℕ, ◌+◌, ◌-◌, ◌^◌, if◌then◌else◌, List, Option, Some, None, length, min, slice_get}
 use Rattle.gup_plain.specs.Note.{NoteValue}
 use Rattle.gup_plain.specs.State.{born, unborn}
-use Rattle.gup_script.specs.declared.op.Op.{Op}
-use Rattle.gup_script.specs.declared.op.Op.TheVariants.{Map, Unmap, Protect, Discard, Load, Store, Exit}
 use Rattle.gup_script.specs.Script.{ScriptValue}
-use Rattle.gup_follows.specs.Place.{Place, present_op, starts_born}
+use Rattle.gup_follows.specs.Place.{present_op, starts_born}
 use Rattle.gup_follows.specs.Follows.{notes_of_turn}
 use Rattle.gup_frames.specs.Frames.{FrameLists, frames_of}
 use Rattle.gup_space.specs.Space.{SpaceParts, space_of}
 use Rattle.gup_space.specs.Shows.{ShowsFrames, ShowsSpace}
 use Rattle.gup_turns.specs.Run.{RunState, run_start, run_after, taken_in}
 use Rattle.gup_turns.specs.Reached.{turned}
-
--- where an actor stands: how many operations it has answered, and over how many pages the present one has gone
-pub record Seat : Type 0 where
-  pub answered : ℕ
-  pub far : ℕ
+use Rattle.gup_core.specs.declared.seats.Seat.{Seat}
+use Rattle.gup_core.specs.Seats.{IsSeat}
 
 -- A machine: its script, the frames, the processes, the actors' seats, and how many turns are over.
 pub record MachineValue : Type 0 where
@@ -25,21 +20,6 @@ pub record MachineValue : Type 0 where
   pub spaces : List SpaceParts
   pub seats : List Seat
   pub turns : ℕ
-
--- an operation that goes over pages counts them; no other needs to know how far it is
-abbrev pub far_in : Option Op → (far : ℕ) → ℕ
-far_in (Some (Unmap page n)) far = far
-far_in (Some (Discard page n)) far = far
-far_in (Some (Map page n rights)) far = 0
-far_in (Some (Protect page n rights)) far = 0
-far_in (Some (Load page word)) far = 0
-far_in (Some (Store page word value)) far = 0
-far_in (Some Exit) far = 0
-far_in None far = 0
-
--- the actor stands there
-abbrev pub IsSeat : Option Op → Place → Seat → Type 0
-IsSeat op place seat = (seat.answered ≡ place.answered) × (seat.far ≡ far_in op place.far)
 
 -- the number of a turn stays at the last value of 32 bits
 abbrev pub counted : ℕ → ℕ

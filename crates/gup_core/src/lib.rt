@@ -4,7 +4,9 @@
 
 mod loads;
 mod mappings;
+mod ops;
 mod said;
+mod seats;
 mod turn;
 mod unmaps;
 
