@@ -3,3 +3,4 @@ pub mod Quiet
 pub mod Lowered
 pub mod Seats
 pub mod Machine
+pub mod Rest

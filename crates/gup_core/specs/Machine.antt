@@ -21,6 +21,10 @@ pub record MachineValue : Type 0 where
   pub seats : List Seat
   pub turns : ℕ
 
+abbrev pub machine_of : ScriptValue → FrameLists → List SpaceParts → List Seat → (turns : ℕ) → MachineValue
+machine_of script frames spaces seats turns =
+    record { script = script; frames = frames; spaces = spaces; seats = seats; turns = turns }
+
 -- the number of a turn stays at the last value of 32 bits
 abbrev pub counted : ℕ → ℕ
 counted turns = min (turns + 1) (2 ^ 32 - 1)
@@ -38,6 +42,10 @@ pub record Shows (m : MachineValue) (r : RunState) : Type 0 where
 pub record TakesTurn (old new : MachineValue) (actor : ℕ) (r : RunState) (notes : List NoteValue) : Type 0 where
   pub said : notes ≡ notes_of_turn (counted old.turns) actor ((r.places actor).answered + 1) (taken_in old.script r actor).whats
   pub shown : Shows new (run_after old.script r actor)
+
+-- so it is from each state that the machine shows
+abbrev pub TakesTurns : (old new : MachineValue) → (actor : ℕ) → List NoteValue → Type 0
+TakesTurns old new actor notes = (r : RunState) → Shows old r → TakesTurn old new actor r notes
 
 -- What a machine is between two turns: it has a space for each process and a seat for each actor, and shows a state
 -- that turns led to from the start.

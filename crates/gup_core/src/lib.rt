@@ -3,11 +3,14 @@
 #![tactic(auto)]
 
 mod loads;
+mod machine;
 mod mappings;
 mod ops;
 mod said;
 mod seats;
 mod turn;
+mod turns;
 mod unmaps;
 
+pub use machine::Machine;
 pub use turn::Turn;

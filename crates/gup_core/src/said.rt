@@ -1,5 +1,5 @@
 //! What a turn of an operation says.
-ghost use Rattle.std.specs.Prelude.{◌≡◌, None, Some};
+ghost use Rattle.std.specs.Prelude.{◌≡◌, is_some, None, Some};
 
 use gup_plain::{Answer, PlainEvent};
 
@@ -29,4 +29,11 @@ pub fn done(event: PlainEvent, answer: Answer) -> Said
         event: Some(event),
         answer: Some(answer),
     }
+}
+
+/// Whether the turn ends its operation.
+pub fn is_last(said: &Said) -> bool
+    ensures { result ≡ is_some said.now.answer }
+{
+    said.answer.is_some()
 }

@@ -1,5 +1,6 @@
 //! Where each actor stands.
 ghost use Rattle.std.specs.Prelude.{◌≡◌, ◌+◌, ◌<◌, ◌^◌, IfOk};
+ghost use Rattle.gup_script.specs.Valid.{IsOp};
 ghost use Rattle.gup_core.specs.Seats.{HasFar, seat_behind, far_behind, first_seats};
 
 use gup_base::NoMemory;
@@ -26,10 +27,11 @@ pub fn first(alloc: Global, actors: u8) -> Result<Vec<Seat>, NoMemory>
 }
 
 /// Behind a turn of its present operation an actor stands at the next page, or at the next operation.
-pub fn behind(seat: Seat, op: Op, answered: bool) -> Seat
-    requires few { seat.answered + 1 < 2 ^ 32 }
-    requires far { HasFar op seat.far }
-    ensures { result ≡ seat_behind seat op answered }
+pub fn behind(seat: &Seat, op: &Op, answered: bool) -> Seat
+    requires few { seat.now.answered + 1 < 2 ^ 32 }
+    requires op { IsOp op.now }
+    requires far { HasFar op.now seat.now.far }
+    ensures { result ≡ seat_behind seat.now op.now answered }
 {
     if answered {
         return Seat {
@@ -44,9 +46,10 @@ pub fn behind(seat: Seat, op: Op, answered: bool) -> Seat
 }
 
 // Only an operation that goes over pages counts them.
-fn far_of(op: Op, far: u16) -> u16
-    requires { HasFar op far }
-    ensures { result ≡ far_behind op far }
+fn far_of(op: &Op, far: u16) -> u16
+    requires op { IsOp op.now }
+    requires far { HasFar op.now far }
+    ensures { result ≡ far_behind op.now far }
 {
     match op {
         Op::Unmap { .. } | Op::Discard { .. } => far + 1,

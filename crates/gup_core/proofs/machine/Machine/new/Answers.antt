@@ -1,0 +1,7 @@
+use Rattle.gup_core.proofs.machine.Machine.new.Goals as goal
+
+pub invariant_of-result : goal.invariant_of-result
+invariant_of-result c = ?
+
+pub returns : goal.returns
+returns c = ?
