@@ -1,6 +1,5 @@
 -- Turns from one state, made of events of frames and one process.
-use Rattle.std.proofs.Common.{◌≡◌, ℕ, true, false, List, [], ◌∷◌, Option, Some, None, Result, Ok, Err, is_err, OnOk, OnErr, refl, sym, ap, ◌∙◌, subst}
-use Rattle.gup_base.specs.declared.entry.Entry.{Entry}
+use Rattle.std.proofs.Common.{◌≡◌, ℕ, true, false, List, [], ◌∷◌, Result, Ok, Err, is_err, OnOk, OnErr, refl, sym, subst}
 use Rattle.gup_plain.specs.declared.answer.Answer.{Answer}
 use Rattle.gup_plain.specs.declared.note.What.{What}
 use Rattle.gup_plain.specs.declared.note.What.TheVariants.{Done}

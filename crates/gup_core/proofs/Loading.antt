@@ -1,5 +1,5 @@
 -- What a load or a store makes of frames and a process is the turn's.
-use Rattle.std.proofs.Common.{◌≡◌, ℕ, Bool, true, false, List, [], ◌∷◌, Option, Some, None, IsSome, is_err, Result, Ok, Err, refl, sym, ap, ◌∙◌, subst, arith}
+use Rattle.std.proofs.Common.{◌≡◌, ℕ, true, false, List, [], ◌∷◌, Option, Some, None, IsSome, is_err, Result, Ok, Err, refl, sym, ap, ◌∙◌, subst, arith}
 use Rattle.std.proofs.lemmas.Bool.Decides.{nat_tests}
 use Rattle.gup_base.specs.declared.entry.Entry.{Entry}
 use Rattle.gup_base.specs.declared.entry.Allowed.TheVariants.{Any}
@@ -22,7 +22,7 @@ use Rattle.gup_events.specs.Fault.{fills, events_of, refusal_of}
 use Rattle.gup_fault.specs.declared.denied.NoFrame.{NoFrame}
 use Rattle.gup_fault.specs.Refused.{frame_denial}
 use Rattle.gup_fault.specs.Faults.{one_event}
-use Rattle.gup_turns.specs.Turn.{Taken, load_turn, loads, loads_by_fault, loads_by_fill, store_turn, store_turn_by, stores_behind, stores_by_fill, stores_by_upgrade, stores_by_fault, allows_store, frame_in, free_frame as free_in_state}
+use Rattle.gup_turns.specs.Turn.{load_turn, loads_by_fault, loads_by_fill, store_turn, store_turn_by, stores_behind, stores_by_fill, stores_by_upgrade, stores_by_fault, allows_store, free_frame as free_in_state}
 use Rattle.gup_core.specs.Said.{Leads, IsTurnOf}
 use Rattle.gup_core.proofs.Leading.{ch, leads_alike, says_alike, answers as answers_so, state_of, has_frames, has_space}
 use Rattle.gup_core.proofs.Searching.{free_agrees}

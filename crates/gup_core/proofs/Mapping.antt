@@ -1,12 +1,12 @@
 -- What a mapping or a protection makes of a process is the turn's.
-use Rattle.std.proofs.Common.{◌≡◌, ℕ, ◌+◌, ◌<◌, ◌≤◌, ◌==◌, ◌↔◌, nat_lt, nat_le, not, Bool, true, false, cond, List, [], ◌∷◌, ◌++◌, Option, Some, None, IsSome, is_some, Result, Ok, Err, zero, suc, refl, sym, ap, ◌∙◌, subst, arith}
+use Rattle.std.proofs.Common.{◌≡◌, ℕ, ◌+◌, ◌<◌, ◌≤◌, ◌↔◌, nat_lt, not, Bool, true, false, cond, List, [], ◌∷◌, ◌++◌, Option, Some, None, IsSome, is_some, Result, Ok, Err, zero, suc, refl, sym, ap, ◌∙◌, subst, arith}
 use Rattle.std.proofs.lemmas.Bool.Decides.{nat_tests}
 use Rattle.gup_base.specs.declared.entry.Entry.{Entry}
 use Rattle.gup_base.specs.declared.entry.Rights.{Rights}
 use Rattle.gup_base.specs.declared.entry.Rights.TheVariants.{R, RW}
 use Rattle.gup_maps.specs.declared.maps.MapRefusal.{MapRefusal}
 use Rattle.gup_maps.specs.declared.maps.MapRefusal.TheVariants.{Overlap, Full}
-use Rattle.gup_plain.specs.Denial.{any_below, any_mapped, any_unmapped, map_denial, protect_denial}
+use Rattle.gup_plain.specs.Denial.{any_mapped, any_unmapped, map_denial, protect_denial}
 use Rattle.gup_plain.specs.Put.{within, spread}
 use Rattle.gup_plain.specs.declared.answer.Answer.{Answer}
 use Rattle.gup_plain.specs.declared.answer.Answer.TheVariants as answers
@@ -16,15 +16,15 @@ use Rattle.gup_plain.specs.declared.note.What.TheVariants.{Event, Done}
 use Rattle.gup_frames.specs.Frames.{FramesValue}
 use Rattle.gup_space.specs.Space.{SpaceValue, with_pages, with_rights, with_entry}
 use Rattle.gup_space.specs.After.{mapping, lowering, protecting, IsShownAs}
-use Rattle.gup_space.specs.Shows.{Change, ShowsFrames, ShowsSpace}
-use Rattle.gup_space.specs.ShowsLemmas.{shows_frames, shows_space, shown_as, same_shown}
+use Rattle.gup_space.specs.Shows.{ShowsFrames, ShowsSpace}
+use Rattle.gup_space.specs.ShowsLemmas.{shows_frames, shows_space, shown_as}
 use Rattle.gup_events.specs.State.{CoreState}
 use Rattle.gup_events.specs.Event.{CoreEvent, happens, entry_of, map_pages, lower_entry, protect_pages}
 use Rattle.gup_events.specs.Invariant.{run}
-use Rattle.gup_turns.specs.Turn.{Taken, map_turn, map_turn_by, lowers_entry, lowers, lowers_for, protect_turn, protect_turn_by}
+use Rattle.gup_turns.specs.Turn.{map_turn, map_turn_by, lowers_entry, lowers, protect_turn, protect_turn_by}
 use Rattle.gup_core.specs.Lowered.{read_only, lowered, IsLowered, IsLoweredFor}
 use Rattle.gup_core.specs.Said.{Leads, IsTurnOf}
-use Rattle.gup_core.proofs.Leading.{ch, leads_alike, answers as answers_so}
+use Rattle.gup_core.proofs.Leading.{ch, leads_alike}
 use Rattle.gup_core.proofs.Searching.{any_same}
 
 -- ---- map
@@ -123,19 +123,18 @@ lowered_more page n old mid new first last =
 -- one page's event, if it has one
 lower_one : (F : FramesValue) (S : SpaceValue) (a p page : ℕ) (entry : Option Entry) (s : CoreState) → S.entry page ≡ entry → ShowsFrames F s → ShowsSpace p S s
     → ShowsFrames F (run s (lowers_entry a p page entry)) × ShowsSpace p (record S { entry = lowered page 1 S.entry }) (run s (lowers_entry a p page entry))
-lower_one F S a p page None s found frames space =
-    (
-      frames,
-      record {
-        right = space.right;
-        pages = space.pages;
-        entry = λ g. space.entry g ∙ sym (absent g);
-        sequence = space.sequence;
-        has_pinned = space.has_pinned;
-        structure = space.structure;
-        table = space.table;
-      },
-    )
+lower_one F S a p page None s found frames space = (
+  frames,
+  record {
+    right = space.right;
+    pages = space.pages;
+    entry = λ g. space.entry g ∙ sym (absent g);
+    sequence = space.sequence;
+    has_pinned = space.has_pinned;
+    structure = space.structure;
+    table = space.table;
+  },
+)
   where
     absent : (g : ℕ) → lowered page 1 S.entry g ≡ S.entry g
     absent g = grind (arith, nat_tests)
@@ -145,32 +144,30 @@ lower_one F S a p page (Some e) s found frames space = go e.writable refl
     read_only_already g is = grind (arith, nat_tests)
 
     go : (writable : Bool) → e.writable ≡ writable → ShowsFrames F (run s (cond writable (lower_entry a p page e.frame ∷ []) [])) × ShowsSpace p (record S { entry = lowered page 1 S.entry }) (run s (cond writable (lower_entry a p page e.frame ∷ []) []))
-    go true is =
-        (
-          shows_frames p F s (lowering a page e.frame) frames,
-          record {
-            right = space.right;
-            pages = space.pages;
-            entry = λ g. grind (arith, nat_tests, space.entry g);
-            sequence = space.sequence;
-            has_pinned = space.has_pinned;
-            structure = space.structure;
-            table = space.table;
-          },
-        )
-    go false is =
-        (
-          frames,
-          record {
-            right = space.right;
-            pages = space.pages;
-            entry = λ g. space.entry g ∙ sym (read_only_already g is);
-            sequence = space.sequence;
-            has_pinned = space.has_pinned;
-            structure = space.structure;
-            table = space.table;
-          },
-        )
+    go true is = (
+      shows_frames p F s (lowering a page e.frame) frames,
+      record {
+        right = space.right;
+        pages = space.pages;
+        entry = λ g. grind (arith, nat_tests, space.entry g);
+        sequence = space.sequence;
+        has_pinned = space.has_pinned;
+        structure = space.structure;
+        table = space.table;
+      },
+    )
+    go false is = (
+      frames,
+      record {
+        right = space.right;
+        pages = space.pages;
+        entry = λ g. space.entry g ∙ sym (read_only_already g is);
+        sequence = space.sequence;
+        has_pinned = space.has_pinned;
+        structure = space.structure;
+        table = space.table;
+      },
+    )
 
 run_behind : (s : CoreState) (es fs : List CoreEvent) → run s (es ++ fs) ≡ run (run s es) fs
 run_behind s [] fs = refl

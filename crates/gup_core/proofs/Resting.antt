@@ -1,14 +1,14 @@
 -- What is true of a machine between two turns, by the state that turns led to.
-use Rattle.std.proofs.Common.{◌≡◌, ℕ, ◌+◌, ◌<◌, ◌≤◌, ◌++◌, true, List, [], ◌∷◌, length, slice_get, Option, Some, None, IsSome, refl, sym, ap, ◌∙◌, subst, arith}
+use Rattle.std.proofs.Common.{◌≡◌, ℕ, ◌<◌, ◌≤◌, ◌++◌, true, List, [], ◌∷◌, length, slice_get, Option, Some, IsSome, refl, sym, ap, ◌∙◌, subst}
 use Rattle.gup_base.specs.declared.entry.Entry.{Entry}
 use Rattle.gup_base.specs.declared.entry.Rights.{Rights}
 use Rattle.gup_script.specs.declared.op.Op.{Op}
 use Rattle.gup_script.specs.declared.op.Op.TheVariants.{Map, Unmap, Protect, Discard, Load, Store, Exit}
 use Rattle.gup_script.specs.Script.{ScriptValue}
 use Rattle.gup_script.specs.Valid.{IsScript}
-use Rattle.gup_follows.specs.Place.{Place, ops_of, present_op}
+use Rattle.gup_follows.specs.Place.{ops_of, present_op}
 use Rattle.gup_frames.specs.Frames.{FramesValue, IsFrame, frames_of}
-use Rattle.gup_space.specs.Space.{SpaceValue, SpaceParts, space_of}
+use Rattle.gup_space.specs.Space.{SpaceValue, space_of}
 use Rattle.gup_space.specs.Shows.{ShowsFrames, ShowsSpace}
 use Rattle.gup_turns.specs.Run.{RunState, run_start, run_after}
 use Rattle.gup_turns.specs.Reached.{turned, IsStanding}
@@ -16,7 +16,7 @@ use Rattle.gup_core.specs.declared.seats.Seat.{Seat}
 use Rattle.gup_core.specs.Machine.{MachineValue, Shows, IsMachine}
 use Rattle.gup_core.specs.Quiet.{IsQuiet}
 use Rattle.gup_core.specs.Rest.{IsAtRest}
-use Rattle.gup_core.specs.Seats.{IsSeat, HasFar, far_in}
+use Rattle.gup_core.specs.Seats.{IsSeat, HasFar}
 
 quiet_in : (script : ScriptValue) (r : RunState) (F : FramesValue) (S : SpaceValue) (p : ℕ) → IsStanding script r → ((f : ℕ) → F.mark f ≡ true → IsFrame F f) → ShowsFrames F r.core → ShowsSpace p S r.core → IsQuiet F S
 quiet_in script r F S p h marked_there frames space =

@@ -1,6 +1,5 @@
 -- What a search finds depends on its test's answers alone.
-use Rattle.std.proofs.Common.{◌≡◌, ℕ, ◌+◌, ◌<◌, ◌≤◌, ◌==◌, ◌||◌, not, is_some, IsSome, Bool, true, false, cond, Option, Some, None, refl, sym, ap, ◌∙◌, zero, suc, arith}
-use Rattle.std.proofs.lemmas.Bool.Decides.{nat_tests}
+use Rattle.std.proofs.Common.{◌≡◌, ℕ, ◌+◌, ◌==◌, ◌||◌, Bool, cond, Some, refl, ap, ◌∙◌, zero, suc}
 use Rattle.gup_base.specs.declared.entry.Allowed.TheVariants.{Any}
 use Rattle.gup_plain.specs.Put.{lowest}
 use Rattle.gup_plain.specs.Denial.{any_below}

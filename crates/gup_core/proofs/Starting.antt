@@ -1,15 +1,14 @@
 -- A machine that has taken no turn shows the start.
-use Rattle.std.proofs.Common.{◌≡◌, ℕ, ◌-◌, ◌^◌, List, [], ◌∷◌, length, replicate, min, slice_get, Option, Some, None, All, zero, suc, refl, sym, ap, ◌∙◌, subst, arith}
+use Rattle.std.proofs.Common.{◌≡◌, ℕ, List, [], length, replicate, slice_get, Some, All, zero, suc, refl, sym, ap, ◌∙◌, subst}
 use Rattle.gup_script.specs.Script.{ScriptValue}
-use Rattle.gup_follows.specs.Place.{present_op, first_place, starts_born}
+use Rattle.gup_follows.specs.Place.{present_op, first_place}
 use Rattle.gup_frames.specs.Frames.{FramesValue, FrameLists, frames_of, no_references}
 use Rattle.gup_space.specs.Space.{SpaceValue, SpaceParts, space_of, no_space}
 use Rattle.gup_space.specs.Shows.{ShowsFrames, ShowsSpace}
-use Rattle.gup_events.specs.State.{start}
 use Rattle.gup_turns.specs.Run.{run_start}
 use Rattle.gup_turns.proofs.Scripts.{all_at}
 use Rattle.gup_core.specs.declared.seats.Seat.{Seat}
-use Rattle.gup_core.specs.Machine.{MachineValue, machine_of, Shows, IsMachine, IsNew}
+use Rattle.gup_core.specs.Machine.{machine_of, Shows, IsMachine}
 use Rattle.gup_core.specs.Seats.{IsSeat, first_seats}
 use Rattle.gup_core.proofs.Taking.{first_far}
 

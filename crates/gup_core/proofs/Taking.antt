@@ -1,12 +1,11 @@
 -- The three kinds of turn of an actor: idle, waiting, and a turn of its operation.
-use Rattle.std.proofs.Common.{◌≡◌, ℕ, ◌+◌, ◌-◌, ◌^◌, ◌<◌, ◌≤◌, ◌==◌, Bool, true, false, cond, List, [], ◌∷◌, length, min, slice_get, Option, Some, None, is_some, if◌then◌else◌, refl, sym, ap, ◌∙◌, subst, inl, inr, eqb-true, arith}
+use Rattle.std.proofs.Common.{◌≡◌, ℕ, ◌+◌, ◌-◌, ◌^◌, ◌<◌, ◌==◌, Bool, true, false, cond, List, [], ◌∷◌, length, min, slice_get, Option, Some, None, is_some, if◌then◌else◌, refl, sym, ap, ◌∙◌, subst, inl, inr, eqb-true, arith}
 use Rattle.std.proofs.lemmas.Bool.Decides.{nat_tests}
 use Rattle.std.proofs.lemmas.Option.{slice_get_cases}
 use Rattle.gup_plain.specs.Note.{NoteValue}
 use Rattle.gup_plain.specs.State.{Birth, born, unborn}
 use Rattle.gup_plain.specs.declared.answer.Answer.{Answer}
 use Rattle.gup_plain.specs.declared.event.PlainEvent.{PlainEvent}
-use Rattle.gup_plain.specs.declared.note.Waiting.{Waiting}
 use Rattle.gup_plain.specs.declared.note.Waiting.TheVariants as waitings
 use Rattle.gup_plain.specs.declared.note.What.{What}
 use Rattle.gup_plain.specs.declared.note.What.TheVariants.{Idle, Wait}
@@ -16,7 +15,7 @@ use Rattle.gup_script.specs.Script.{ScriptValue}
 use Rattle.gup_follows.specs.Place.{Place, place_behind, ops_of, process_of, present_op, starts_born}
 use Rattle.gup_follows.specs.Follows.{notes_of_turn}
 use Rattle.gup_follows.specs.Order.{Turn, places_behind, pointer_after}
-use Rattle.gup_frames.specs.Frames.{FramesValue, FrameLists, frames_of}
+use Rattle.gup_frames.specs.Frames.{FrameLists, frames_of}
 use Rattle.gup_space.specs.Space.{SpaceParts, space_of}
 use Rattle.gup_space.specs.After.{AreOf}
 use Rattle.gup_space.specs.Shows.{ShowsFrames, ShowsSpace, change_of}
@@ -24,11 +23,11 @@ use Rattle.gup_space.specs.ShowsLemmas.{leave_other}
 use Rattle.gup_events.specs.State.{CoreState}
 use Rattle.gup_events.specs.Event.{CoreEvent}
 use Rattle.gup_events.specs.Invariant.{run}
-use Rattle.gup_turns.specs.Turn.{Taken, op_turn, turn_at, turn_of, waits_at, waits_for_locks, needs_locks, waiting_for}
+use Rattle.gup_turns.specs.Turn.{Taken, op_turn, turn_at, waits_at, waits_for_locks, needs_locks}
 use Rattle.gup_turns.specs.Run.{RunState, op_in, waiting_with, waiting_in, taken_by, taken_in, run_after, written_in}
 use Rattle.gup_core.specs.declared.said.Said.{Said}
 use Rattle.gup_core.specs.declared.seats.Seat.{Seat}
-use Rattle.gup_core.specs.Machine.{MachineValue, machine_of, counted, Shows, TakesTurn, TakesTurns}
+use Rattle.gup_core.specs.Machine.{MachineValue, machine_of, counted, Shows, TakesTurns}
 use Rattle.gup_core.specs.Quiet.{IsQuiet}
 use Rattle.gup_core.specs.Rest.{IsAtRest}
 use Rattle.gup_core.specs.Said.{whats_by, whats_of, Leads, IsTurnOf}
@@ -253,10 +252,10 @@ pub goes_at : (m : MachineValue) (a p : ℕ) (seat next : Seat) (op : Op) (frame
 goes_at m a p seat next op frames spaces seats turns said rest is within many here present is_born count others next_is seated unseated turn =
     elim (slice_get_cases m.spaces p).1 [
       | inl old ↦
-        elim (slice_get_cases spaces p).1 [
-          | inl new ↦ at old.0 new.0 old.2 new.2
-          | inr past ↦ absurd (omega (arith, past.0))
-        ]
+          elim (slice_get_cases spaces p).1 [
+            | inl new ↦ at old.0 new.0 old.2 new.2
+            | inr past ↦ absurd (omega (arith, past.0))
+          ]
       | inr past ↦ absurd (omega (arith, past.0))
     ]
   where

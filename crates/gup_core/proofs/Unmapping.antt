@@ -1,6 +1,5 @@
 -- What an unmap, a discard or an exit makes of frames and a process is the turn's.
-use Rattle.std.proofs.Common.{◌≡◌, ℕ, ◌+◌, ◌<◌, ◌≤◌, ◌⊎◌, inl, inr, eq-or-lt_of_le, Bool, true, false, cond, List, [], ◌∷◌, Option, Some, None, IsSome, is_some, zero, suc, refl, sym, ap, ◌∙◌, subst, arith}
-use Rattle.std.proofs.lemmas.Bool.Decides.{nat_tests}
+use Rattle.std.proofs.Common.{◌≡◌, ℕ, ◌+◌, ◌<◌, ◌≤◌, ◌⊎◌, inl, inr, eq-or-lt_of_le, Bool, true, false, cond, [], ◌∷◌, Option, Some, None, IsSome, is_some, zero, suc, refl, ap, ◌∙◌, arith}
 use Rattle.gup_base.specs.declared.entry.Entry.{Entry}
 use Rattle.gup_base.specs.declared.entry.Rights.{Rights}
 use Rattle.gup_plain.specs.Event.{page_numbers}
@@ -13,12 +12,11 @@ use Rattle.gup_maps.specs.Maps.{IsNextPage, IsLastPage}
 use Rattle.gup_space.specs.Space.{SpaceValue}
 use Rattle.gup_space.specs.Shows.{Change, ShowsFrames, ShowsSpace, AreEvents}
 use Rattle.gup_events.specs.State.{CoreState}
-use Rattle.gup_events.specs.Event.{CoreEvent}
 use Rattle.gup_events.specs.Invariant.{run}
-use Rattle.gup_events.specs.Fault.{takes_down, discards, gives_back as gives_one_back}
-use Rattle.gup_turns.specs.Turn.{Taken, gives_back, unmap_turn, unmap_turn_by, discard_turn, discard_turn_by, exit_turn, exit_turn_by, lowest_page}
+use Rattle.gup_events.specs.Fault.{takes_down, discards}
+use Rattle.gup_turns.specs.Turn.{unmap_turn, unmap_turn_by, discard_turn, discard_turn_by, exit_turn, exit_turn_by, lowest_page}
 use Rattle.gup_core.specs.Said.{Leads, IsTurnOf, whats_of, passed_said}
-use Rattle.gup_core.proofs.Leading.{ch, leads_alike, says_alike, answers as answers_so}
+use Rattle.gup_core.proofs.Leading.{ch, leads_alike, answers as answers_so}
 use Rattle.gup_core.proofs.Searching.{lowest_same}
 
 -- ---- unmap

@@ -16,7 +16,14 @@ use gup_plain::{Answer, PlainEvent};
 use gup_space::Space;
 
 /// A load of a word: through the page's entry, or else by a fault that gives the page a frame of zeros.
-pub fn load(space: &mut Space, frames: &mut Frames, actor: ActorNo, proc: ProcNo, page: PageNo, word: WordNo) -> Said
+pub fn load(
+    space: &mut Space,
+    frames: &mut Frames,
+    actor: ActorNo,
+    proc: ProcNo,
+    page: PageNo,
+    word: WordNo,
+) -> Said
     requires { IsQuiet (frames_of frames.old) (space_of space.old) }
     ensures { IsTurnOf (change_of frames.old frames.new space.old space.new) proc
         (λ s. load_turn s actor proc page word (s.entry proc page)) (whats_of result) }
@@ -50,7 +57,15 @@ fn loaded(actor: ActorNo, proc: ProcNo, page: PageNo, word: WordNo, value: u64) 
 }
 
 /// A store of a word: through the page's entry where it allows that, or else by a fault that makes it.
-pub fn store(space: &mut Space, frames: &mut Frames, actor: ActorNo, proc: ProcNo, page: PageNo, word: WordNo, value: u64) -> Said
+pub fn store(
+    space: &mut Space,
+    frames: &mut Frames,
+    actor: ActorNo,
+    proc: ProcNo,
+    page: PageNo,
+    word: WordNo,
+    value: u64,
+) -> Said
     requires { IsQuiet (frames_of frames.old) (space_of space.old) }
     ensures { IsTurnOf (change_of frames.old frames.new space.old space.new) proc
         (λ s. store_turn s actor proc page word value (s.entry proc page)) (whats_of result) }
@@ -62,7 +77,15 @@ pub fn store(space: &mut Space, frames: &mut Frames, actor: ActorNo, proc: ProcN
 }
 
 // A store to a page without an entry.
-fn store_absent(space: &mut Space, frames: &mut Frames, actor: ActorNo, proc: ProcNo, page: PageNo, word: WordNo, value: u64) -> Said
+fn store_absent(
+    space: &mut Space,
+    frames: &mut Frames,
+    actor: ActorNo,
+    proc: ProcNo,
+    page: PageNo,
+    word: WordNo,
+    value: u64,
+) -> Said
     requires quiet { IsQuiet (frames_of frames.old) (space_of space.old) }
     requires absent { (space_of space.old).entry page ≡ None }
     ensures { IsTurnOf (change_of frames.old frames.new space.old space.new) proc
@@ -76,7 +99,16 @@ fn store_absent(space: &mut Space, frames: &mut Frames, actor: ActorNo, proc: Pr
 }
 
 // A store to a page with this entry.
-fn store_present(space: &mut Space, frames: &mut Frames, actor: ActorNo, proc: ProcNo, page: PageNo, word: WordNo, value: u64, entry: Entry) -> Said
+fn store_present(
+    space: &mut Space,
+    frames: &mut Frames,
+    actor: ActorNo,
+    proc: ProcNo,
+    page: PageNo,
+    word: WordNo,
+    value: u64,
+    entry: Entry,
+) -> Said
     requires quiet { IsQuiet (frames_of frames.old) (space_of space.old) }
     requires entry { (space_of space.old).entry page ≡ Some entry }
     ensures { IsTurnOf (change_of frames.old frames.new space.old space.new) proc
@@ -94,7 +126,15 @@ fn store_present(space: &mut Space, frames: &mut Frames, actor: ActorNo, proc: P
 }
 
 // The fault of a page without an entry: it gets a frame of zeros, and its entry becomes writable.
-fn store_by_fill(space: &mut Space, frames: &mut Frames, actor: ActorNo, proc: ProcNo, page: PageNo, word: WordNo, value: u64) -> Said
+fn store_by_fill(
+    space: &mut Space,
+    frames: &mut Frames,
+    actor: ActorNo,
+    proc: ProcNo,
+    page: PageNo,
+    word: WordNo,
+    value: u64,
+) -> Said
     requires quiet { IsQuiet (frames_of frames.old) (space_of space.old) }
     requires right { (space_of space.old).right page ≡ Some RW }
     requires absent { (space_of space.old).entry page ≡ None }
@@ -115,7 +155,16 @@ fn store_by_fill(space: &mut Space, frames: &mut Frames, actor: ActorNo, proc: P
 }
 
 // The fault of a page whose entry is read-only, and its frame marked: the entry becomes writable.
-fn store_by_upgrade(space: &mut Space, frames: &mut Frames, actor: ActorNo, proc: ProcNo, page: PageNo, word: WordNo, value: u64, entry: Entry) -> Said
+fn store_by_upgrade(
+    space: &mut Space,
+    frames: &mut Frames,
+    actor: ActorNo,
+    proc: ProcNo,
+    page: PageNo,
+    word: WordNo,
+    value: u64,
+    entry: Entry,
+) -> Said
     requires quiet { IsQuiet (frames_of frames.old) (space_of space.old) }
     requires right { (space_of space.old).right page ≡ Some RW }
     requires entry { (space_of space.old).entry page ≡ Some entry }

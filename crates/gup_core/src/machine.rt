@@ -36,19 +36,19 @@ impl Model for Machine {
     ghost Value = { MachineValue };
 
     ghost view = { λ m. record {
-        script = m.script;
-        frames = m.frames;
-        spaces = m.spaces.items;
-        seats = m.seats.items;
-        turns = m.turns;
+      script = m.script;
+      frames = m.frames;
+      spaces = m.spaces.items;
+      seats = m.seats.items;
+      turns = m.turns;
     } };
 
     ghost invariant = { λ m. IsMachine (record {
-        script = m.script;
-        frames = m.frames;
-        spaces = m.spaces.items;
-        seats = m.seats.items;
-        turns = m.turns;
+      script = m.script;
+      frames = m.frames;
+      spaces = m.spaces.items;
+      seats = m.seats.items;
+      turns = m.turns;
     }) };
 }
 

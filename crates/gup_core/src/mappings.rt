@@ -16,7 +16,15 @@ use gup_plain::{Answer, PlainEvent};
 use gup_space::Space;
 
 /// A mapping of the `n` pages from `page` on, which end below 2^35.
-pub fn map(space: &mut Space, frames: &Frames, actor: ActorNo, proc: ProcNo, page: PageNo, n: u16, rights: Rights) -> Said
+pub fn map(
+    space: &mut Space,
+    frames: &Frames,
+    actor: ActorNo,
+    proc: ProcNo,
+    page: PageNo,
+    n: u16,
+    rights: Rights,
+) -> Said
     requires { page + n ≤ 2 ^ 35 }
     ensures { IsTurnOf (change_of frames.now frames.now space.old space.new) proc
         (λ s. map_turn s actor proc page n rights) (whats_of result) }
@@ -45,7 +53,15 @@ fn mapped(actor: ActorNo, proc: ProcNo, page: PageNo, n: u16, rights: Rights) ->
 
 /// A protection of the `n` pages from `page` on, which end below 2^35: no entry of theirs is writable behind one that
 /// takes the right to write.
-pub fn protect(space: &mut Space, frames: &Frames, actor: ActorNo, proc: ProcNo, page: PageNo, n: u16, rights: Rights) -> Said
+pub fn protect(
+    space: &mut Space,
+    frames: &Frames,
+    actor: ActorNo,
+    proc: ProcNo,
+    page: PageNo,
+    n: u16,
+    rights: Rights,
+) -> Said
     requires quiet { IsQuiet (frames_of frames.now) (space_of space.old) }
     requires range { page + n ≤ 2 ^ 35 }
     ensures { IsTurnOf (change_of frames.now frames.now space.old space.new) proc
@@ -114,6 +130,12 @@ fn lower_page(space: &mut Space, page: PageNo)
     };
     if entry.writable {
         let writable = false;
-        space.set_entry(page, Some(Entry { frame: entry.frame, writable }));
+        space.set_entry(
+            page,
+            Some(Entry {
+                frame: entry.frame,
+                writable,
+            }),
+        );
     }
 }

@@ -19,7 +19,14 @@ use gup_script::Op;
 use gup_space::Space;
 
 /// Takes a turn of the operation, which has gone over so many pages.
-pub fn take(space: &mut Space, frames: &mut Frames, actor: ActorNo, proc: ProcNo, far: u16, op: &Op) -> Said
+pub fn take(
+    space: &mut Space,
+    frames: &mut Frames,
+    actor: ActorNo,
+    proc: ProcNo,
+    far: u16,
+    op: &Op,
+) -> Said
     requires quiet { IsQuiet (frames_of frames.old) (space_of space.old) }
     requires op { IsOp op.now }
     requires far { HasFar op.now far }
@@ -28,9 +35,23 @@ pub fn take(space: &mut Space, frames: &mut Frames, actor: ActorNo, proc: ProcNo
 {
     match *op {
         Op::Map { page, n, rights } => map(space, frames, actor, proc, page, n, rights),
-        Op::Unmap { page, n } => unmap(space, frames, actor, proc, page_behind(page, far), far + 1 == n),
+        Op::Unmap { page, n } => unmap(
+            space,
+            frames,
+            actor,
+            proc,
+            page_behind(page, far),
+            far + 1 == n,
+        ),
         Op::Protect { page, n, rights } => protect(space, frames, actor, proc, page, n, rights),
-        Op::Discard { page, n } => discard(space, frames, actor, proc, page_behind(page, far), far + 1 == n),
+        Op::Discard { page, n } => discard(
+            space,
+            frames,
+            actor,
+            proc,
+            page_behind(page, far),
+            far + 1 == n,
+        ),
         Op::Load { page, word } => load(space, frames, actor, proc, page, word),
         Op::Store { page, word, value } => store(space, frames, actor, proc, page, word, value),
         Op::Exit => exit(space, frames, actor, proc),
@@ -38,7 +59,14 @@ pub fn take(space: &mut Space, frames: &mut Frames, actor: ActorNo, proc: ProcNo
 }
 
 /// Takes a turn of an operation of this process among all.
-pub fn take_at(spaces: &mut Vec<Space>, frames: &mut Frames, actor: ActorNo, proc: ProcNo, far: u16, op: &Op) -> Said
+pub fn take_at(
+    spaces: &mut Vec<Space>,
+    frames: &mut Frames,
+    actor: ActorNo,
+    proc: ProcNo,
+    far: u16,
+    op: &Op,
+) -> Said
     requires there { proc < length spaces.old.items }
     requires quiet { (space : SpaceParts) → slice_get spaces.old.items proc ≡ Some space → IsQuiet (frames_of frames.old) (space_of space) }
     requires op { IsOp op.now }
@@ -49,5 +77,12 @@ pub fn take_at(spaces: &mut Vec<Space>, frames: &mut Frames, actor: ActorNo, pro
         → far ≡ far_in (Some op.now) k
         → IsTurnOf (change_of frames.old frames.new old new) proc (λ s. op_turn s actor proc k op.now) (whats_of result) }
 {
-    take(&mut spaces[proc.get() as usize], frames, actor, proc, far, op)
+    take(
+        &mut spaces[proc.get() as usize],
+        frames,
+        actor,
+        proc,
+        far,
+        op,
+    )
 }

@@ -19,7 +19,14 @@ use gup_space::Space;
 
 /// Takes the turn of an actor: idle where it has finished, without an event where its process isn't born, else that of
 /// its operation.
-pub fn take_turn(script: &Script, frames: &mut Frames, spaces: &mut Vec<Space>, seats: &mut Vec<Seat>, turns: &mut u32, actor: ActorNo) -> Turn
+pub fn take_turn(
+    script: &Script,
+    frames: &mut Frames,
+    spaces: &mut Vec<Space>,
+    seats: &mut Vec<Seat>,
+    turns: &mut u32,
+    actor: ActorNo,
+) -> Turn
     requires actor { actor < length script.now.actors }
     requires rest { IsAtRest (machine_of script.now frames.old spaces.old.items seats.old.items turns.old) }
     ensures spaces { length spaces.new.items ≡ length spaces.old.items }

@@ -15,7 +15,14 @@ use gup_space::Space;
 use gup_unmap::take_down;
 
 /// One page of an unmap: it is taken down where it is mapped. The last page's turn has the answer too.
-pub fn unmap(space: &mut Space, frames: &mut Frames, actor: ActorNo, proc: ProcNo, page: PageNo, last: bool) -> Said
+pub fn unmap(
+    space: &mut Space,
+    frames: &mut Frames,
+    actor: ActorNo,
+    proc: ProcNo,
+    page: PageNo,
+    last: bool,
+) -> Said
     requires { IsQuiet (frames_of frames.old) (space_of space.old) }
     ensures { IsTurnOf (change_of frames.old frames.new space.old space.new) proc
         (λ s. unmap_turn s actor proc page last) (whats_of result) }
@@ -26,7 +33,14 @@ pub fn unmap(space: &mut Space, frames: &mut Frames, actor: ActorNo, proc: ProcN
 }
 
 /// One page of a discard: it loses its contents where it is mapped. The last page's turn has the answer too.
-pub fn discard(space: &mut Space, frames: &mut Frames, actor: ActorNo, proc: ProcNo, page: PageNo, last: bool) -> Said
+pub fn discard(
+    space: &mut Space,
+    frames: &mut Frames,
+    actor: ActorNo,
+    proc: ProcNo,
+    page: PageNo,
+    last: bool,
+) -> Said
     requires { IsQuiet (frames_of frames.old) (space_of space.old) }
     ensures { IsTurnOf (change_of frames.old frames.new space.old space.new) proc
         (λ s. discard_turn s actor proc page last) (whats_of result) }

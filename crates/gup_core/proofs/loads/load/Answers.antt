@@ -1,12 +1,9 @@
-use Rattle.std.proofs.Common.{◌≡◌, Some, None, rules, sym, ap}
-use Rattle.gup_base.specs.declared.entry.Allowed.TheVariants.{Any}
+use Rattle.std.proofs.Common.{Some, None, rules, sym, ap}
 use Rattle.gup_plain.specs.declared.answer.Answer.TheVariants as answers
-use Rattle.gup_frames.specs.Frames.{frames_of, free_frame}
-use Rattle.gup_space.specs.Space.{space_of}
 use Rattle.gup_space.specs.Shows.{change_of}
 use Rattle.gup_core.specs.Said.{whats_of}
 use Rattle.gup_core.proofs.Leading.{notes_alike}
-use Rattle.gup_core.proofs.Loading.{loaded_whats, filled_whats, load_by_fault, is_mapped}
+use Rattle.gup_core.proofs.Loading.{load_by_fault, is_mapped}
 use Rattle.gup_core.proofs.loads.load.Goals as goal
 
 pub returns-in-Ok : goal.returns-in-Ok

@@ -1,9 +1,8 @@
-use Rattle.std.proofs.Common.{◌≡◌, Some, None, refl, sym, ap, ◌∙◌}
+use Rattle.std.proofs.Common.{sym, ap, ◌∙◌}
 use Rattle.gup_base.specs.declared.entry.Allowed.TheVariants.{Any}
 use Rattle.gup_frames.specs.Frames.{frames_of, free_frame}
 use Rattle.gup_space.specs.Space.{space_of}
 use Rattle.gup_space.specs.Shows.{change_of}
-use Rattle.gup_fault.specs.Refused.{frame_denial}
 use Rattle.gup_core.specs.Said.{whats_of}
 use Rattle.gup_core.proofs.Leading.{notes_alike}
 use Rattle.gup_core.proofs.Loading.{stored_whats, store_by_fill, store_refused, fill_keeps, err_denial, ok_denial}

@@ -1,4 +1,4 @@
-use Rattle.std.proofs.Common.{sym, ◌∙◌}
+use Rattle.std.proofs.Common.{sym}
 use Rattle.gup_space.specs.Space.{space_of}
 use Rattle.gup_core.proofs.Mapping.{lowered_entry}
 use Rattle.gup_core.proofs.mappings.lower_page.Goals as goal

@@ -1,10 +1,10 @@
-use Rattle.std.proofs.Common.{◌≡◌, ◌+◌, ◌<◌, ◌≤◌, [], ◌∷◌, length, slice_get, Some, None, true, false, sym, ap, ◌∙◌, subst, arith}
+use Rattle.std.proofs.Common.{◌+◌, [], ◌∷◌, slice_get, sym, ap, ◌∙◌, arith}
 use Rattle.gup_plain.specs.declared.note.What.TheVariants.{Wait}
 use Rattle.gup_plain.specs.declared.note.Waiting.TheVariants as waitings
 use Rattle.gup_follows.specs.Follows.{notes_of_turn}
-use Rattle.gup_follows.specs.Place.{ops_of, process_of, starts_born}
+use Rattle.gup_follows.specs.Place.{starts_born}
 use Rattle.gup_turns.proofs.Scripts.{op_is_op}
-use Rattle.gup_core.specs.Machine.{MachineValue, machine_of}
+use Rattle.gup_core.specs.Machine.{machine_of}
 use Rattle.gup_core.specs.Seats.{seat_behind}
 use Rattle.gup_core.proofs.Scripts.{process_there, few_answered}
 use Rattle.gup_core.proofs.Taking.{notes_taken, idles, waits, goes_at}

@@ -1,4 +1,4 @@
-use Rattle.std.proofs.Common.{is_some, ap, ◌∙◌}
+use Rattle.std.proofs.Common.{ap, ◌∙◌}
 use Rattle.gup_plain.specs.declared.event.PlainEvent.TheVariants as events
 use Rattle.gup_space.specs.Shows.{change_of}
 use Rattle.gup_core.specs.Said.{whats_of, passed_said}

@@ -3,7 +3,7 @@ use Rattle.std.proofs.Math.ListN.{length-replicate}
 use Rattle.gup_script.specs.Script.{ScriptValue}
 use Rattle.gup_frames.specs.Frames.{no_references}
 use Rattle.gup_turns.specs.Run.{run_start}
-use Rattle.gup_core.specs.Machine.{MachineValue, machine_of, Shows}
+use Rattle.gup_core.specs.Machine.{machine_of, Shows}
 use Rattle.gup_core.proofs.Starting.{shows_start, new_machine}
 use Rattle.gup_core.proofs.machine.Machine.new.Goals as goal
 

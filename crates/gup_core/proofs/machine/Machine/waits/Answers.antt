@@ -1,4 +1,4 @@
-use Rattle.std.proofs.Common.{◌≡◌, Some, slice_get, sym, ap, ◌∙◌}
+use Rattle.std.proofs.Common.{slice_get, sym, ap, ◌∙◌}
 use Rattle.gup_follows.specs.Place.{ops_of, process_of, starts_born}
 use Rattle.gup_core.specs.Machine.{MachineValue}
 use Rattle.gup_core.proofs.Taking.{waits_none_at}
