@@ -14,3 +14,6 @@ mod unmaps;
 
 pub use machine::Machine;
 pub use turn::Turn;
+
+#[cfg(test)]
+mod tests;

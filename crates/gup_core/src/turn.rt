@@ -1,10 +1,10 @@
 //! The notes of one turn.
-ghost use Rattle.std.specs.Prelude.{◌≡◌, [], ◌∷◌};
+ghost use Rattle.std.specs.Prelude.{◌≡◌, ◌≤◌, length, [], ◌∷◌};
 
 use gup_plain::Note;
 use std::marker::Model;
 
-/// The notes of a turn: one to three.
+/// The notes of a turn: one to three. Contracts see the list of them.
 #[derive(Debug, Drop)]
 pub struct Turn {
     notes: [Note; 3],
@@ -19,11 +19,12 @@ impl Model for Turn {
 
     ghost view = { λ t. take t.len t.notes };
 
-    ghost invariant = { λ t. t.len ≤ 3 };
+    ghost invariant = { λ t. (1 ≤ t.len) × (t.len ≤ 3) };
 }
 
 impl Turn {
-    pub fn one(note: Note) -> Self
+    /// A turn of one note.
+    pub(crate) fn one(note: Note) -> Self
         ensures { result ≡ note ∷ [] }
     {
         Turn {
@@ -32,7 +33,8 @@ impl Turn {
         }
     }
 
-    pub fn two(first: Note, second: Note) -> Self
+    /// A turn of two notes.
+    pub(crate) fn two(first: Note, second: Note) -> Self
         ensures { result ≡ first ∷ second ∷ [] }
     {
         Turn {
@@ -41,8 +43,11 @@ impl Turn {
         }
     }
 
+    /// The notes in order: at least one, and three at most.
     pub fn notes(&self) -> &[Note]
-        ensures { result.now ≡ self.now }
+        ensures notes { result.now ≡ self.now }
+        ensures some { 1 ≤ length self.now }
+        ensures few { length self.now ≤ 3 }
     {
         &self.notes[..self.len]
     }
