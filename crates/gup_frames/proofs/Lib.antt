@@ -2,3 +2,4 @@ pub mod Bits
 pub mod FrameWords
 pub mod Free
 pub mod Keeps
+pub mod There

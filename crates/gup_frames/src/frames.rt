@@ -1,5 +1,5 @@
 //! The frames of the machine.
-ghost use Rattle.std.specs.Prelude.{◌≡◌, ℕ, ◌+◌, ◌-◌, ◌<◌, ◌≤◌, ◌^◌, ◌⊎◌, if◌then◌else◌, IfOk, IfSome, MatchOption};
+ghost use Rattle.std.specs.Prelude.{◌≡◌, ℕ, ◌+◌, ◌-◌, ◌<◌, ◌≤◌, ◌^◌, ◌⊎◌, true, if◌then◌else◌, IfOk, IfSome, MatchOption};
 ghost use Rattle.gup_frames.specs.Frames.{frames_of, no_references, IsFrame, zone_of, free_frame, free_of, taken, with_references, without_references, with_mark, with_word, copied};
 
 use crate::bitmap::Bitmap;
@@ -124,6 +124,15 @@ impl Frames {
         ensures { result ≡ (frames_of self.now).word frame word }
     {
         words::read(&self.words, frame.get() as usize, word)
+    }
+
+    /// A law: a frame that has a reference is there, and so is one that is marked.
+    pub fn are_there(&self)
+        ensures held { (f : ℕ) → ((frames_of self.now).count f ≡ 0 → ⊥) → IsFrame (frames_of self.now) f }
+        ensures marked { (f : ℕ) → (frames_of self.now).mark f ≡ true → IsFrame (frames_of self.now) f }
+    {
+        let _counts = &self.counts;
+        let _marks = &self.marks;
     }
 
     /// How many frames of the zone are free.

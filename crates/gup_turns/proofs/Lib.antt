@@ -16,3 +16,4 @@ pub mod Owning
 pub mod Following
 pub mod FollowRuns
 pub mod Causes
+pub mod Reached

@@ -1,0 +1,10 @@
+pub mod Searching
+pub mod Leading
+pub mod Loading
+pub mod Unmapping
+pub mod Mapping
+pub mod Owning
+pub mod Scripts
+pub mod Resting
+pub mod Taking
+pub mod Starting

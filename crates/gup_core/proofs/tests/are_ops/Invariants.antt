@@ -1,0 +1,8 @@
+use Rattle.std.proofs.Common.{ℕ, ◌<◌, get_or}
+use Rattle.gup_script.specs.declared.op.Op.{Op}
+use Rattle.gup_script.specs.Valid.{IsOp}
+use Rattle.gup_core.proofs.tests.are_ops.Given as goal
+
+-- those so far are in range
+abbrev pub invariant-loop-op : goal.invariant-loop-op
+invariant-loop-op l = (k : ℕ) (x : Op) → k < l.op-index → IsOp (get_or l.ops k x)

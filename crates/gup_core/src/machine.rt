@@ -1,0 +1,154 @@
+//! The machine for many processes and actors.
+ghost use Rattle.std.specs.Prelude.{◌≡◌, ℕ, ◌<◌, length, slice_get, Some, All, IfOk};
+ghost use Rattle.gup_follows.specs.Place.{has_finished};
+ghost use Rattle.gup_frames.specs.Frames.{frames_of, free_of};
+ghost use Rattle.gup_space.specs.Space.{SpaceParts, space_of, no_space};
+ghost use Rattle.gup_turns.specs.Run.{RunState, waiting_in};
+ghost use Rattle.gup_core.specs.declared.seats.Seat.{Seat as SeatValue};
+ghost use Rattle.gup_core.specs.Machine.{Shows, TakesTurn, TakesTurns, IsNew};
+ghost use Rattle.gup_core.specs.Rest.{IsAtRest};
+
+use crate::seats::{self, Seat};
+use crate::turn::Turn;
+use crate::turns::{is_born, op_at, ops, process, seat_of, take_turn};
+use gup_base::{ActorNo, NoMemory, Zone};
+use gup_frames::Frames;
+use gup_plain::Waiting;
+use gup_script::Script;
+use gup_space::Space;
+use std::alloc::Global;
+use std::marker::Model;
+
+/// The machine of a script: the frames, the processes, and where each actor stands. It is between two turns of the
+/// core run.
+#[derive(Drop)]
+pub struct Machine {
+    script: Script,
+    frames: Frames,
+    spaces: Vec<Space>,
+    seats: Vec<Seat>,
+    turns: u32,
+}
+
+impl Model for Machine {
+    ghost use Rattle.gup_core.specs.Machine.{MachineValue, IsMachine};
+
+    ghost Value = { MachineValue };
+
+    ghost view = { λ m. record {
+      script = m.script;
+      frames = m.frames;
+      spaces = m.spaces.items;
+      seats = m.seats.items;
+      turns = m.turns;
+    } };
+
+    ghost invariant = { λ m. IsMachine (record {
+      script = m.script;
+      frames = m.frames;
+      spaces = m.spaces.items;
+      seats = m.seats.items;
+      turns = m.turns;
+    }) };
+}
+
+impl Machine {
+    /// A machine at the start of the script: all frames are free, and nothing is mapped. It has the memory for all that
+    /// comes: no other call takes any.
+    pub fn new(alloc: Global, script: &Script) -> Result<Machine, NoMemory>
+        ensures { IfOk result (IsNew script.now) }
+    {
+        let (movable, normal, _tables) = script.frames();
+        let spaces = empty_spaces(alloc, script.processes())?;
+        let seats = seats::first(alloc, script.actors())?;
+        let frames = Frames::new(alloc, movable, normal)?;
+        let script = script.copy()?;
+        Ok(Machine {
+            script,
+            frames,
+            spaces,
+            seats,
+            turns: 0,
+        })
+    }
+
+    /// Takes the actor's turn, and answers its notes: one to three. The turn of an actor that has finished is idle, and
+    /// one that waits says for what; neither changes anything. The number of the turn stays at 2^32 - 1 once it is
+    /// there.
+    pub fn turn(&mut self, actor: ActorNo) -> Turn
+        requires { actor < length self.old.script.actors }
+        ensures turn { TakesTurns self.old self.new actor result }
+        ensures script { self.new.script ≡ self.old.script }
+    {
+        self.rests();
+        take_turn(
+            &self.script,
+            &mut self.frames,
+            &mut self.spaces,
+            &mut self.seats,
+            &mut self.turns,
+            actor,
+        )
+    }
+
+    /// What the actor waits for before its next turn, if it waits: so far only that its process is born.
+    pub fn waits(&self, actor: ActorNo) -> Option<Waiting>
+        requires { actor < length self.now.script.actors }
+        ensures { (r : RunState) → Shows self.now r → result ≡ waiting_in self.now.script r actor }
+    {
+        self.rests();
+        let seat = self.seat(actor);
+        let Some(_op) = op_at(ops(&self.script, actor), seat.answered) else {
+            return None;
+        };
+        let proc = process(&self.script, actor);
+        if is_born(&self.script, proc) {
+            return None;
+        }
+        Some(Waiting::Process(proc))
+    }
+
+    /// Whether the actor has answered all its operations.
+    pub fn finished(&self, actor: ActorNo) -> bool
+        requires { actor < length self.now.script.actors }
+        ensures { (r : RunState) → Shows self.now r → result ≡ has_finished self.now.script actor (r.places actor) }
+    {
+        ops(&self.script, actor).len() <= self.seat(actor).answered as usize
+    }
+
+    /// How many frames of the zone are free.
+    pub fn free_frames(&self, zone: Zone) -> u32
+        ensures { result ≡ free_of (frames_of self.now.frames) zone }
+    {
+        self.frames.free(zone)
+    }
+
+    // Where the actor stands.
+    fn seat(&self, actor: ActorNo) -> Seat
+        requires { actor < length self.now.script.actors }
+        ensures { slice_get self.now.seats actor ≡ Some result }
+    {
+        seat_of(&self.seats, actor)
+    }
+
+    // What is true of a machine between two turns.
+    fn rests(&self)
+        ensures { IsAtRest self.now }
+    {
+        let _actors = self.script.actors();
+        self.frames.are_there();
+        gup_turns::reached_states_stand();
+    }
+}
+
+// So many processes without mappings.
+fn empty_spaces(alloc: Global, n: u8) -> Result<Vec<Space>, NoMemory>
+    ensures many { IfOk result (λ spaces. length spaces.items ≡ n) }
+    ensures empty { IfOk result (λ spaces. All (λ (space : SpaceParts). space_of space ≡ no_space) spaces.items) }
+{
+    let mut spaces = Vec::new(alloc);
+    for _p in 0..n {
+        spaces.push(Space::new(alloc)?)?;
+    }
+    Ok(spaces)
+}

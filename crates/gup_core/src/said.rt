@@ -1,0 +1,39 @@
+//! What a turn of an operation says.
+ghost use Rattle.std.specs.Prelude.{◌≡◌, is_some, None, Some};
+
+use gup_plain::{Answer, PlainEvent};
+
+/// What a turn of an operation says: the event that stands at it, if one does, and the answer, if the turn ends the
+/// operation.
+#[derive(Clone, Copy)]
+pub struct Said {
+    pub event: Option<PlainEvent>,
+    pub answer: Option<Answer>,
+}
+
+/// An answer alone: the operation has changed nothing.
+pub fn refused(answer: Answer) -> Said
+    ensures { result ≡ record { event = None; answer = Some answer } }
+{
+    Said {
+        event: None,
+        answer: Some(answer),
+    }
+}
+
+/// An event and an answer.
+pub fn done(event: PlainEvent, answer: Answer) -> Said
+    ensures { result ≡ record { event = Some event; answer = Some answer } }
+{
+    Said {
+        event: Some(event),
+        answer: Some(answer),
+    }
+}
+
+/// Whether the turn ends its operation.
+pub fn is_last(said: &Said) -> bool
+    ensures { result ≡ is_some said.now.answer }
+{
+    said.answer.is_some()
+}

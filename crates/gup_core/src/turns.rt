@@ -1,0 +1,138 @@
+//! A turn of an actor.
+ghost use Rattle.std.specs.Prelude.{◌≡◌, ℕ, ◌+◌, ◌-◌, ◌<◌, ◌^◌, [], ◌∷◌, List, length, slice_get, Some, Option};
+ghost use Rattle.gup_follows.specs.Follows.{notes_of_turn};
+ghost use Rattle.gup_follows.specs.Place.{ops_of, process_of, process_of_kind, starts_born};
+ghost use Rattle.gup_core.specs.declared.seats.Seat.{Seat as SeatValue};
+ghost use Rattle.gup_core.specs.Machine.{machine_of, counted, TakesTurns};
+ghost use Rattle.gup_core.specs.Rest.{IsAtRest};
+ghost use Rattle.gup_core.specs.Said.{whats_of};
+
+use crate::ops::take_at;
+use crate::said::{Said, is_last};
+use crate::seats::{self, Seat};
+use crate::turn::Turn;
+use gup_base::{ActorNo, ProcNo};
+use gup_frames::Frames;
+use gup_plain::{Note, Waiting, What};
+use gup_script::{Kind, Op, Script};
+use gup_space::Space;
+
+/// Takes the turn of an actor: idle where it has finished, without an event where its process isn't born, else that of
+/// its operation.
+pub fn take_turn(
+    script: &Script,
+    frames: &mut Frames,
+    spaces: &mut Vec<Space>,
+    seats: &mut Vec<Seat>,
+    turns: &mut u32,
+    actor: ActorNo,
+) -> Turn
+    requires actor { actor < length script.now.actors }
+    requires rest { IsAtRest (machine_of script.now frames.old spaces.old.items seats.old.items turns.old) }
+    ensures spaces { length spaces.new.items ≡ length spaces.old.items }
+    ensures seats { length seats.new.items ≡ length seats.old.items }
+    ensures turn { TakesTurns (machine_of script.now frames.old spaces.old.items seats.old.items turns.old)
+        (machine_of script.now frames.new spaces.new.items seats.new.items turns.new) actor result }
+{
+    let seat = seat_of(seats, actor);
+    let number = next_turn(*turns);
+    *turns = number;
+    let Some(op) = op_at(ops(script, actor), seat.answered) else {
+        return note(number, actor, seat.answered + 1, What::Idle);
+    };
+    let proc = process(script, actor);
+    if !is_born(script, proc) {
+        let waiting = Waiting::Process(proc);
+        return note(number, actor, seat.answered + 1, What::Wait(waiting));
+    }
+    let said = take_at(spaces, frames, actor, proc, seat.far, &op);
+    let next = seats::behind(&seat, &op, is_last(&said));
+    set_seat(seats, actor, &next);
+    notes(number, actor, seat.answered + 1, &said)
+}
+
+// The number of the turn behind so many. It stays at the last value of 32 bits.
+fn next_turn(turns: u32) -> u32
+    ensures { result ≡ counted turns }
+{
+    turns.saturating_add(1)
+}
+
+/// Where the actor stands.
+pub fn seat_of(seats: &Vec<Seat>, actor: ActorNo) -> Seat
+    requires { actor < length seats.now.items }
+    ensures { slice_get seats.now.items actor ≡ Some result }
+{
+    seats[actor.get() as usize]
+}
+
+fn set_seat(seats: &mut Vec<Seat>, actor: ActorNo, seat: &Seat)
+    requires { actor < length seats.old.items }
+    ensures many { length seats.new.items ≡ length seats.old.items }
+    ensures here { slice_get seats.new.items actor ≡ Some seat.now }
+    ensures others { (b : ℕ) → (b ≡ actor → ⊥) → slice_get seats.new.items b ≡ slice_get seats.old.items b }
+{
+    seats[actor.get() as usize] = *seat;
+}
+
+// A turn of one note.
+fn note(turn: u32, actor: ActorNo, op: u32, what: What) -> Turn
+    ensures { result ≡ notes_of_turn turn actor op (what ∷ []) }
+{
+    Turn::one(Note::new(turn, actor, op, what))
+}
+
+// The notes of a turn of an operation.
+fn notes(turn: u32, actor: ActorNo, op: u32, said: &Said) -> Turn
+    ensures { result ≡ notes_of_turn turn actor op (whats_of said.now) }
+{
+    match (said.event, said.answer) {
+        (None, None) => note(turn, actor, op, What::Silent),
+        (None, Some(answer)) => note(turn, actor, op, What::Done(answer)),
+        (Some(event), None) => note(turn, actor, op, What::Event(event)),
+        (Some(event), Some(answer)) => Turn::two(
+            Note::new(turn, actor, op, What::Event(event)),
+            Note::new(turn, actor, op, What::Done(answer)),
+        ),
+    }
+}
+
+/// The operation at this place.
+pub fn op_at(ops: &[Op], k: u32) -> Option<Op>
+    ensures { result ≡ slice_get ops.now k }
+{
+    ops.get(k as usize).copied()
+}
+
+/// The operations of an actor.
+pub fn ops(script: &Script, actor: ActorNo) -> &[Op]
+    requires { actor < length script.now.actors }
+    ensures { result.now ≡ ops_of script.now actor }
+{
+    script.ops(actor)
+}
+
+/// The process of a thread.
+pub fn process(script: &Script, actor: ActorNo) -> ProcNo
+    requires { actor < length script.now.actors }
+    ensures { result ≡ process_of script.now actor }
+{
+    process_named(script.kind(actor))
+}
+
+fn process_named(kind: Kind) -> ProcNo
+    ensures { result ≡ process_of_kind kind }
+{
+    match kind {
+        Kind::Thread(proc) => proc,
+        Kind::Device(_) | Kind::Mover => ProcNo::new(0).unwrap(),
+    }
+}
+
+/// Whether the process is born at the start.
+pub fn is_born(script: &Script, proc: ProcNo) -> bool
+    requires { proc < length script.now.processes }
+    ensures { result ≡ starts_born script.now proc }
+{
+    script.starts_born(proc)
+}
