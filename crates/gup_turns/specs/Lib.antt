@@ -1,3 +1,4 @@
 pub mod Turn
 pub mod Run
 pub mod Cause
+pub mod Reached

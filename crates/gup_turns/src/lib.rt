@@ -44,3 +44,12 @@ pub fn core_run_is_plain()
 pub fn no_frame_has_its_cause()
     ensures { (script : ScriptValue) (turns : List Turn) (end : RunState) → Runs script (run_start script) turns end → FindNoFrame script (run_start script) turns }
 {}
+
+/// What stands between two turns: it holds of each state that turns lead to from the start of a script, whichever
+/// actors take them.
+pub fn reached_states_stand()
+    ensures { (script : ScriptValue) (actors : List ℕ) → IsScript script → IsStanding script (turned script (run_start script) actors) }
+{
+    gup_laws::simulates();
+    gup_laws::starts_sound();
+}
