@@ -16,3 +16,6 @@ pub mod Owning
 pub mod Following
 pub mod FollowRuns
 pub mod Causes
+pub mod Sums
+pub mod Bounds
+pub mod Reached

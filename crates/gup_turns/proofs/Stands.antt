@@ -53,7 +53,7 @@ keeps_begun (waits op waiting) begun = begun
 keeps_begun (goes op whats birth turn) begun = λ _. birth
 
 -- the actor's place is changed, and no other
-at_each : (P : ℕ → Place → Type 0) (a : ℕ) (new : Place) (places : ℕ → Place) → P a new → ((b : ℕ) → P b (places b)) → (b : ℕ) → P b (if b == a then new else places b)
+pub at_each : (P : ℕ → Place → Type 0) (a : ℕ) (new : Place) (places : ℕ → Place) → P a new → ((b : ℕ) → P b (places b)) → (b : ℕ) → P b (if b == a then new else places b)
 at_each P a new places here there b = go (b == a) refl
   where
     go : (c : Bool) → (b == a) ≡ c → P b (if c then new else places b)

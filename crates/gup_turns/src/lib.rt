@@ -1,7 +1,7 @@
 //! The turns of the core machine and the core run of a script, as definitions, and the laws of the core run.
 #![tactic(auto)]
 
-ghost use Rattle.std.specs.Prelude.{◌≡◌, List};
+ghost use Rattle.std.specs.Prelude.{◌≡◌, ℕ, List};
 ghost use Rattle.gup_plain.specs.Note.{NoteValue};
 ghost use Rattle.gup_script.specs.Script.{ScriptValue};
 ghost use Rattle.gup_script.specs.Valid.{IsScript};
@@ -10,6 +10,7 @@ ghost use Rattle.gup_follows.specs.Follows.{Follows};
 ghost use Rattle.gup_follows.specs.Order.{Turn, InOrder};
 ghost use Rattle.gup_turns.specs.Run.{RunState, Runs, run_start, IsCoreRun};
 ghost use Rattle.gup_turns.specs.Cause.{FindNoFrame};
+ghost use Rattle.gup_turns.specs.Reached.{turned, IsStanding};
 
 /// A script has one core run.
 pub fn one_core_run()
