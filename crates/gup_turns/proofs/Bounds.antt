@@ -20,8 +20,8 @@ use Rattle.gup_events.specs.State.{CoreState}
 use Rattle.gup_events.specs.Event.{CoreEvent, happens, protect_pages, lower_entry, drop_entry, discard_entry}
 use Rattle.gup_events.specs.Invariant.{run}
 use Rattle.gup_follows.specs.Place.{Place, place_behind}
-use Rattle.gup_turns.specs.Cost.{sum_below, op_left, mapped_pages, IsAnswered, GoesOn, LosesPage, IsWithinBound}
-use Rattle.gup_turns.specs.Turn.{Taken, answers_with, free_frame, loads, loads_by_fill, loads_by_fault, load_turn, stores_behind, stores_by_fill, stores_by_upgrade, stores_by_fault, allows_store, frame_in, store_turn_by, store_turn, map_turn_by, done_if, silent_or_done, gives_back, unmap_turn_by, lowers_entry, lowers, lowers_for, protect_turn_by, discard_turn_by, lowest_page, exit_turn_by, op_turn, turn_at}
+use Rattle.gup_turns.specs.Cost.{op_left, mapped_pages, IsAnswered, LosesPage, IsWithinBound}
+use Rattle.gup_turns.specs.Turn.{Taken, answers_with, free_frame, loads, loads_by_fill, loads_by_fault, load_turn, stores_behind, stores_by_fill, stores_by_upgrade, stores_by_fault, allows_store, frame_in, store_turn_by, map_turn_by, done_if, silent_or_done, gives_back, unmap_turn_by, lowers_entry, lowers, lowers_for, protect_turn_by, discard_turn_by, lowest_page, exit_turn_by, op_turn, turn_at}
 use Rattle.gup_turns.proofs.Puts.{put_same, put_other, within_offset}
 use Rattle.gup_turns.proofs.Searches.{lowest_some, undenied_protect}
 use Rattle.gup_turns.proofs.Sums.{sum_le, sum_less, sum_spread}

@@ -19,3 +19,6 @@ pub mod Causes
 pub mod Sums
 pub mod Bounds
 pub mod Reached
+pub mod Spending
+pub mod Ends
+pub mod Answered

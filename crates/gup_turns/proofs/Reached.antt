@@ -1,5 +1,5 @@
 -- What is known of each state that turns lead to.
-use Rattle.std.proofs.Common.{◌≡◌, ℕ, ◌+◌, ◌≤◌, ◌<◌, Bool, true, false, if◌then◌else◌, List, [], ◌∷◌, length, Option, Some, None, IsSome, slice_get, refl, sym, ap, ◌∙◌, subst, arith}
+use Rattle.std.proofs.Common.{◌≡◌, ℕ, ◌≤◌, ◌<◌, if◌then◌else◌, List, [], ◌∷◌, length, Option, Some, None, IsSome, refl, ap, ◌∙◌, subst, arith}
 use Rattle.std.proofs.lemmas.Option.{slice_get_within}
 use Rattle.gup_base.specs.declared.entry.Entry.{Entry}
 use Rattle.gup_base.specs.declared.entry.Rights.{Rights}
@@ -7,7 +7,6 @@ use Rattle.gup_plain.specs.State.{PlainState, Birth, born, unborn}
 use Rattle.gup_plain.specs.declared.note.What.{What}
 use Rattle.gup_plain.specs.declared.note.Waiting.{Waiting}
 use Rattle.gup_script.specs.declared.op.Op.{Op}
-use Rattle.gup_script.specs.declared.op.Op.TheVariants.{Unmap, Discard}
 use Rattle.gup_script.specs.Script.{ScriptValue}
 use Rattle.gup_script.specs.Valid.{IsScript}
 use Rattle.gup_events.specs.State.{CoreState}

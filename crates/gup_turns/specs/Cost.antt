@@ -1,13 +1,13 @@
 -- How many turns a run has at most still to take, those aside that wait or are idle.
-use Rattle.std.specs.Prelude.{◌≡◌, ℕ, ◌+◌, ◌-◌, ◌*◌, ◌<◌, ◌⊎◌, false, is_some, IsSome, if◌then◌else◌, List, [], ◌∷◌, length, sum_by, Option, None, zero, suc}
+use Rattle.std.specs.Prelude.{◌≡◌, ℕ, ◌+◌, ◌-◌, ◌<◌, ◌⊎◌, false, is_some, IsSome, if◌then◌else◌, List, [], ◌∷◌, length, sum_by, Option, None, zero, suc}
 use Rattle.gup_base.specs.declared.entry.Rights.{Rights}
 use Rattle.gup_plain.specs.Event.{page_numbers}
 use Rattle.gup_plain.specs.Put.{put}
 use Rattle.gup_script.specs.declared.op.Op.{Op}
 use Rattle.gup_script.specs.declared.op.Op.TheVariants.{Map, Unmap, Protect, Discard, Load, Store, Exit}
 use Rattle.gup_script.specs.Script.{ScriptValue, Actor}
-use Rattle.gup_follows.specs.Place.{Place, ops_of}
-use Rattle.gup_turns.specs.Run.{RunState}
+use Rattle.gup_follows.specs.Place.{Place, ops_of, process_of}
+use Rattle.gup_turns.specs.Run.{RunState, run_after}
 
 -- f at the n numbers from 0 on, added up
 abbrev pub sum_below : ℕ → (ℕ → ℕ) → ℕ
@@ -81,3 +81,9 @@ IsWithinBound (Store page word value) place next before after = IsAnswered place
 IsWithinBound (Unmap page n) place next before after = IsAnswered place next ⊎ (GoesOn place next × (next.far < n))
 IsWithinBound (Discard page n) place next before after = IsAnswered place next ⊎ (GoesOn place next × (next.far < n))
 IsWithinBound Exit place next before after = IsAnswered place next ⊎ (GoesOn place next × LosesPage before after)
+
+-- the actor's next turn is within the bound of its operation
+abbrev pub IsBoundedTurn : ScriptValue → RunState → ℕ → Op → Type 0
+IsBoundedTurn script r a op =
+    IsWithinBound op (r.places a) ((run_after script r a).places a) (r.core.right (process_of script a))
+    ((run_after script r a).core.right (process_of script a))

@@ -1,10 +1,9 @@
 -- What is known of each state that turns lead to, whoever takes them.
-use Rattle.std.specs.Prelude.{◌≡◌, ℕ, ◌≤◌, ◌<◌, true, if◌then◌else◌, List, [], ◌∷◌, length, Option, Some, None, IsSome}
+use Rattle.std.specs.Prelude.{◌≡◌, ℕ, ◌≤◌, ◌<◌, true, if◌then◌else◌, List, [], ◌∷◌, length, Some, None, IsSome}
 use Rattle.gup_base.specs.declared.entry.Entry.{Entry}
-use Rattle.gup_plain.specs.State.{Birth, born, unborn}
+use Rattle.gup_plain.specs.State.{born, unborn}
 use Rattle.gup_script.specs.declared.op.Op.TheVariants.{Unmap, Discard}
 use Rattle.gup_script.specs.Script.{ScriptValue}
-use Rattle.gup_events.specs.State.{CoreState}
 use Rattle.gup_events.specs.Sound.{IsSound}
 use Rattle.gup_follows.specs.Place.{ops_of, present_op, starts_born}
 use Rattle.gup_turns.specs.Run.{RunState, run_after}

@@ -1,5 +1,4 @@
 -- By induction over the turns.
-use Rattle.std.proofs.Common.{refl}
 use Rattle.gup_turns.specs.Run.{run_start}
 use Rattle.gup_turns.proofs.Reached.{reaches, starts_reached}
 use Rattle.gup_turns.proofs.reached_states_stand.Goals as goal
