@@ -1,5 +1,5 @@
 -- The machine, and the states of the core run that it shows.
-use Rattle.std.specs.Prelude.{◌≡◌, ℕ, ◌+◌, ◌-◌, ◌^◌, ◌<◌, if◌then◌else◌, List, [], ◌∷◌, Option, Some, None, length, min, slice_get}
+use Rattle.std.specs.Prelude.{◌≡◌, ℕ, ◌+◌, ◌-◌, ◌^◌, if◌then◌else◌, List, Option, Some, None, length, min, slice_get}
 use Rattle.gup_plain.specs.Note.{NoteValue}
 use Rattle.gup_plain.specs.State.{born, unborn}
 use Rattle.gup_script.specs.declared.op.Op.{Op}
@@ -7,7 +7,7 @@ use Rattle.gup_script.specs.declared.op.Op.TheVariants.{Map, Unmap, Protect, Dis
 use Rattle.gup_script.specs.Script.{ScriptValue}
 use Rattle.gup_follows.specs.Place.{Place, present_op, starts_born}
 use Rattle.gup_follows.specs.Follows.{notes_of_turn}
-use Rattle.gup_frames.specs.Frames.{FramesParts, frames_of}
+use Rattle.gup_frames.specs.Frames.{FrameLists, frames_of}
 use Rattle.gup_space.specs.Space.{SpaceParts, space_of}
 use Rattle.gup_space.specs.Shows.{ShowsFrames, ShowsSpace}
 use Rattle.gup_turns.specs.Run.{RunState, run_start, run_after, taken_in}
@@ -21,7 +21,7 @@ pub record Seat : Type 0 where
 -- A machine: its script, the frames, the processes, the actors' seats, and how many turns are over.
 pub record MachineValue : Type 0 where
   pub script : ScriptValue
-  pub frames : FramesParts
+  pub frames : FrameLists
   pub spaces : List SpaceParts
   pub seats : List Seat
   pub turns : ℕ
@@ -67,7 +67,7 @@ pub record IsMachine (m : MachineValue) : Type 0 where
   pub reached : (actors : List ℕ) × Shows m (turned m.script (run_start m.script) actors)
 
 -- a machine that has taken no turn
-pub record IsNew (script : ScriptValue) (m : MachineValue) : Type 0 where
-  pub script : m.script ≡ script
+pub record IsNew (given : ScriptValue) (m : MachineValue) : Type 0 where
+  pub script : m.script ≡ given
   pub turns : m.turns ≡ 0
-  pub shown : Shows m (run_start script)
+  pub shown : Shows m (run_start given)
