@@ -31,9 +31,18 @@ impl Model for Machine {
         turns = 0;
     } };
 
-    ghost invariant = { λ m. ⊥ };
+    ghost use Rattle.gup_core.specs.Stub.{IsNone};
+
+    ghost invariant = { λ m. IsNone (record {
+        script = m.script;
+        frames = record { movable = 0; normal = 0; counts = []; marks = []; words = [] };
+        spaces = [];
+        seats = [];
+        turns = 0;
+    }) };
 }
 
+#[tactic(auto, using(crate::specs::Stub::none_is))]
 impl Machine {
     /// A machine at the start of the script: all frames are free, and nothing is mapped.
     pub fn new(alloc: Global, script: &Script) -> Result<Machine, NoMemory>
