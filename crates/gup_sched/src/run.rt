@@ -27,8 +27,9 @@ pub struct Run {
 /// that of the script's core run, and the machine shows its end. Every run ends. The journal may want memory.
 pub fn run_all(alloc: Global, machine: Machine, script: &Script) -> Result<Run, NoMemory>
     requires { IsNew script.now machine }
-    ensures { IfOk result (λ run. (end : RunState) × IsCoreRun script.now run.journal.notes end
+    ensures core { IfOk result (λ run. (end : RunState) × IsCoreRun script.now run.journal.notes end
         × Shows run.machine end × SaysStuck run.stuck script.now end) }
+    ensures script { IfOk result (λ run. run.machine.script ≡ script.now) }
 {
     reached_states_stand();
     turns_are_spent();

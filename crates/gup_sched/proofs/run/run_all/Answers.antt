@@ -95,8 +95,11 @@ loop-actor-2-smaller c =
 stuck_at : (stuck : Bool) (m script : ScriptValue) (r : RunState) → m ≡ script → SaysStuck stuck m r → SaysStuck stuck script r
 stuck_at stuck m script r same says = subst (λ (s : ScriptValue). SaysStuck stuck s r) same says
 
-pub returns : goal.returns
-returns c =
+pub returns-clause-script : goal.returns-clause-script
+returns-clause-script c = c.loop-actor-2.invariant.1.1.underway.same
+
+pub returns-clause-core : goal.returns-clause-core
+returns-clause-core c =
     let script = c.args.script.now in
     let m = c.loop-actor-2.machine in
     let r : RunState = c.loop-actor-2.invariant.1.0 in
