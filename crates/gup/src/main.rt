@@ -1,8 +1,8 @@
 //! `gup`: how Linux pins a program's memory, as a verified model that runs.
 #![tactic(auto)]
 
-
-
+#[cfg(test)]
+mod tests;
 mod text;
 mod top;
 

@@ -137,8 +137,8 @@ pointed_first script m notes r w =
     let cheap = w.cheap in
     record { underway = w.underway; pointer = w.pointer; written = omega (arith, turns); cheap = omega (arith, turns, cheap) }
 
-few_turns : (script : ScriptValue) → IsScript script → HasCosts script → most script < 2 ^ 32 - 1
-few_turns script valid costs =
+few_in_all : (script : ScriptValue) → IsScript script → HasCosts script → most script < 2 ^ 32 - 1
+few_in_all script valid costs =
     let turns = valid.few_turns in
     let ops = valid.few_ops in
     let start = costs.start in
@@ -153,7 +153,7 @@ pointed_turn script valid costs m n notes told pointer r a is kept takes h =
     let less = costs.spent r a (standing script m notes r costs h.underway) goes in
     let cheap = h.cheap in
     let far = h.written in
-    let bound = few_turns script valid costs in
+    let bound = few_in_all script valid costs in
     let few : r.turns < 2 ^ 32 - 1 = omega (arith, cheap, bound) in
     let before : m.turns ≡ r.turns = let shown = h.underway.shown.turns in grind (arith, nat_tests) in
     let after : n.turns ≡ r.turns + 1 = let shown = (subst (λ (s : ScriptValue). Shows n (run_after s r a)) h.underway.same takes.shown).turns in grind (arith, nat_tests) in (
@@ -172,3 +172,10 @@ pointed_end script m notes pointer r none h =
     let written : written_in script r ≡ None = slice_get_past script.turns r.turns h.written in
     let found : pointed script r (length script.actors) r.pointer ≡ None = ap (λ (k : ℕ). pointed script r (length script.actors) k) h.pointer ∙ none in
     underway_end script m notes r (ap (next_by script r) written ∙ found) h.underway
+
+-- and the turns are few
+pub few_turns : (script : ScriptValue) (m : MachineValue) (notes : List NoteValue) (from : ℕ) (r : RunState) → HasCosts script → IsPointed script m notes from r → r.turns ≤ length script.turns + 1025 * operations script
+few_turns script m notes from r costs h =
+    let cheap = h.cheap in
+    let start = costs.start in
+    omega (arith, cheap, start)

@@ -15,9 +15,10 @@ ghost use Rattle.gup_turns.specs.Cause.{FindNoFrame, AreKnown, answered_in, Have
 ghost use Rattle.gup_turns.specs.Cost.{cost, operations, IsBoundedTurn};
 ghost use Rattle.gup_turns.specs.Reached.{turned, IsStanding};
 
-/// A script has one core run.
+/// A script has one core run, and that has one end.
 pub fn one_core_run()
-    ensures { (script : ScriptValue) (m n : List NoteValue) (c d : RunState) → IsCoreRun script m c → IsCoreRun script n d → m ≡ n }
+    ensures notes { (script : ScriptValue) (m n : List NoteValue) (c d : RunState) → IsCoreRun script m c → IsCoreRun script n d → m ≡ n }
+    ensures end { (script : ScriptValue) (m n : List NoteValue) (c d : RunState) → IsCoreRun script m c → IsCoreRun script n d → c ≡ d }
 {}
 
 /// The core run of a script follows it.

@@ -5,7 +5,7 @@ use Rattle.gup_script.specs.Script.{ScriptValue}
 use Rattle.gup_follows.specs.Order.{behind}
 use Rattle.gup_turns.specs.Run.{RunState, run_start, run_after, pointed}
 use Rattle.gup_sched.specs.Ran.{SaysStuck}
-use Rattle.gup_sched.proofs.Underway.{has_costs, IsWritten, written_first, written_turn, IsPointed, pointed_first, pointed_turn, pointed_end, most}
+use Rattle.gup_sched.proofs.Underway.{has_costs, IsWritten, written_first, written_turn, IsPointed, pointed_first, pointed_turn, pointed_end, few_turns, most}
 use Rattle.gup_sched.proofs.run.run_all.Goals as goal
 
 -- the written turns
@@ -104,5 +104,7 @@ returns-clause-core c =
     let m = c.loop-actor-2.machine in
     let r : RunState = c.loop-actor-2.invariant.1.0 in
     let h = c.loop-actor-2.invariant.1.1 in
+    let costs = has_costs script c.actors-actors.ensures.valid c.turns_are_spent.ensures.spent c.turns_are_spent.ensures.kept c.turns_are_spent.ensures.start c.reached_states_stand.ensures in
+    let turns = few_turns script m c.loop-actor-2.journal.notes c.loop-actor-2.pointer r costs h in
     let none = is_pointed script m.script r c.actors-actors.result c.loop-actor-2.pointer c.next_to_go.result None h.underway.same c.actors-actors.ensures.count (c.next_to_go.ensures.next r h.underway.shown) c.in_default.is in
-    (r, pointed_end script m c.loop-actor-2.journal.notes c.loop-actor-2.pointer r none h, h.underway.shown, stuck_at c.is_stuck.result m.script script r h.underway.same (c.is_stuck.ensures r h.underway.shown))
+    (r, pointed_end script m c.loop-actor-2.journal.notes c.loop-actor-2.pointer r none h, h.underway.shown, stuck_at c.is_stuck.result m.script script r h.underway.same (c.is_stuck.ensures r h.underway.shown), turns)

@@ -1,0 +1,386 @@
+ghost use Rattle.std.specs.Prelude.{None};
+
+use super::*;
+use crate::top::Report;
+use gup_io::{Failed, MemSink, MemSource, Sink, Source, SureSource};
+use gup_reader::{Reason, ScriptFault};
+use std::alloc::{AllocError, Global};
+use std::process::Abort;
+use std::test::Fail;
+
+/// The lines before the first operation.
+const HEAD: &str = "gup 1\nframes 8 8 64\nprocess p\nthread t p\n";
+
+/// The script of `examples/first.gup`, and its text.
+const FIRST: &str =
+    "gup 1\nframes 8 8 64\nprocess p\nthread t p\non t map 5 1 rw\non t load 5.0\non t store 5.0 7\non t load 5.0\non t unmap 5 1\non t load 5.0\n";
+
+const FIRST_TEXT: &str = "t 1 ok\nt 2 ok 0\nt 3 ok\nt 4 ok 7\nt 5 ok\nt 6 missing\n";
+
+/// Scripts, with the statuses and the texts of their runs.
+const RUNS: [(&str, u8, &str); 22] = [
+    // Nobody has anything to do.
+    ("gup 1\nframes 8 8 64\nprocess p\nthread t p\n", 0, ""),
+    ("gup 1\nframes 8 8 64\n", 0, ""),
+    ("gup 1\nframes 0 0 64\nchild c\nthread u c\ndevice d 8\nmover m\n", 0, ""),
+    // Lines that say nothing.
+    (
+        "\n# one page\ngup 1\n\nframes 8 8 64\nseed 7\nprocess p\n# and one thread\nthread t p\non t load 5.0\n\n",
+        0,
+        "t 1 missing\n",
+    ),
+    // The last page and its last word.
+    (
+        "gup 1\nframes 8 8 64\nprocess p\nchild c\nthread t p\nthread v p\nthread u c\ndevice d 8\nmover m\non t map 34359738367 1 rw\non t store 34359738367.511 18446744073709551615\non t load 34359738367.511\n",
+        0,
+        "t 1 ok\nt 2 ok\nt 3 ok 18446744073709551615\n",
+    ),
+    // No old bytes come back.
+    (
+        "gup 1\nframes 1 0 64\nprocess p\nthread t p\non t map 5 1 rw\non t store 5.3 7\non t load 5.3\non t unmap 5 1\non t load 5.3\non t map 5 1 rw\non t load 5.3\non t map 5 1 rw\n",
+        0,
+        "t 1 ok\nt 2 ok\nt 3 ok 7\nt 4 ok\nt 5 missing\nt 6 ok\nt 7 ok 0\nt 8 overlap\n",
+    ),
+    (
+        "gup 1\nframes 8 8 64\nprocess p\nthread t p\non t map 5 2 rw\non t store 5.0 7\non t store 6.0 8\non t discard 5 1\non t load 5.0\non t load 6.0\non t store 5.0 9\non t load 5.0\n",
+        0,
+        "t 1 ok\nt 2 ok\nt 3 ok\nt 4 ok\nt 5 ok 0\nt 6 ok 8\nt 7 ok\nt 8 ok 9\n",
+    ),
+    // Rights.
+    (
+        "gup 1\nframes 8 8 64\nprocess p\nthread t p\non t map 5 1 r\non t load 5.0\non t store 5.0 1\non t protect 5 1 rw\non t store 5.0 1\non t protect 5 1 r\non t store 5.0 2\non t load 5.0\non t protect 5 2 r\n",
+        0,
+        "t 1 ok\nt 2 ok 0\nt 3 forbidden\nt 4 ok\nt 5 ok\nt 6 ok\nt 7 forbidden\nt 8 ok 1\nt 9 missing\n",
+    ),
+    // An exit takes down all that is mapped, and the process goes on.
+    (
+        "gup 1\nframes 1 0 64\nprocess p\nthread t p\non t map 5 3 rw\non t store 6.0 4\non t exit\non t load 6.0\non t map 6 1 rw\non t load 6.0\n",
+        0,
+        "t 1 ok\nt 2 ok\nt 3 ok\nt 4 missing\nt 5 ok\nt 6 ok 0\n",
+    ),
+    // At most 1,024 pages.
+    (
+        "gup 1\nframes 8 8 64\nprocess p\nthread t p\non t map 0 1024 rw\non t map 2000 1 rw\non t unmap 1023 1\non t map 2000 1 rw\n",
+        0,
+        "t 1 ok\nt 2 full\nt 3 ok\nt 4 ok\n",
+    ),
+    // Want of frames, and of them alone.
+    (
+        "gup 1\nframes 0 0 64\nprocess p\nthread t p\non t map 5 1 rw\non t store 5.0 7\n",
+        0,
+        "t 1 ok\nt 2 noframe\n",
+    ),
+    (
+        "gup 1\nframes 1 1 64\nprocess p\nprocess q\nthread t p\nthread v q\non t map 5 2 rw\non t load 5.0\non t store 6.0 3\non v map 5 1 rw\non v load 5.0\non v load 6.0\n",
+        0,
+        "t 1 ok\nv 1 ok\nt 2 ok 0\nv 2 ok 0\nt 3 noframe\nv 3 missing\n",
+    ),
+    (
+        "gup 1\nframes 8 8 4\nprocess p\nthread t p\non t map 5 1 rw\non t load 5.0\n",
+        0,
+        "t 1 ok\nt 2 ok 0\n",
+    ),
+    // Two processes have memory of their own, two threads of one share theirs. The pointer goes round.
+    (
+        "gup 1\nframes 8 8 64\nprocess p\nprocess q\nthread t p\nthread v q\non t map 5 1 rw\non t store 5.0 7\non t load 5.0\non v map 5 1 rw\non v load 5.0\non v store 5.0 8\n",
+        0,
+        "t 1 ok\nv 1 ok\nt 2 ok\nv 2 ok 0\nt 3 ok 7\nv 3 ok\n",
+    ),
+    (
+        "gup 1\nframes 8 8 64\nprocess p\nthread t p\nthread v p\non t map 5 1 rw\non t store 5.0 7\non v map 5 1 rw\non v load 5.0\n",
+        0,
+        "t 1 ok\nv 1 overlap\nt 2 ok\nv 2 ok 7\n",
+    ),
+    // One page a turn: another thread comes between.
+    (
+        "gup 1\nframes 8 8 64\nprocess p\nthread t p\nthread v p\non t map 5 2 rw\non t unmap 5 2\non v load 6.0\non v load 5.0\non v load 6.0\n",
+        0,
+        "t 1 ok\nv 1 ok 0\nv 2 missing\nt 2 ok\nv 3 missing\n",
+    ),
+    // Written turns come first, and those of an actor that has finished are spent.
+    (
+        "gup 1\nframes 8 8 64\nprocess p\nthread t p\nthread v p\non t map 5 1 rw\non t store 5.0 7\non v load 5.0\nturns v t v t\n",
+        0,
+        "v 1 missing\nt 1 ok\nt 2 ok\n",
+    ),
+    (
+        "gup 1\nframes 8 8 64\nprocess p\nthread t p\nthread v p\non t map 5 1 rw\non t store 5.0 7\non v load 5.0\nturns t*2 v\n",
+        0,
+        "t 1 ok\nt 2 ok\nv 1 ok 7\n",
+    ),
+    // Nobody brings the child.
+    (
+        "gup 1\nframes 8 8 64\nprocess p\nchild c\nthread u c\non u load 5.0\n",
+        4,
+        "stuck u process c\n",
+    ),
+    (
+        "gup 1\nframes 8 8 64\nprocess p\nchild c\nchild d\nthread w d\nthread t p\nthread u c\nthread v c\non u load 5.0\non t load 5.0\non w exit\non t load 5.0\n",
+        4,
+        "t 1 missing\nt 2 missing\nstuck w process d\nstuck u process c\n",
+    ),
+    // A written turn of an actor that waits is spent.
+    (
+        "gup 1\nframes 8 8 64\nprocess p\nchild c\nthread u c\nthread t p\non u load 5.0\non t load 5.0\nturns u*3\n",
+        4,
+        "t 1 missing\nstuck u process c\n",
+    ),
+    ("gup 1\nframes 8 8 64\nchild c\nthread u c\non u exit\n", 4, "stuck u process c\n"),
+];
+
+/// Texts that are no script, with the line and the reason.
+const REFUSALS: [(&str, u32, Reason, &str); 7] = [
+    ("", 1, Reason::Short, "line 1: short\n"),
+    ("gup 1\n", 2, Reason::Short, "line 2: short\n"),
+    (
+        "gup 1\nframes 8 8 64\nprocess p",
+        3,
+        Reason::End,
+        "line 3: end\n",
+    ),
+    (
+        "gup 1\nframes 8 8 64\nprocess p\nthread t p\non t load 34359738368.0\n",
+        5,
+        Reason::Number,
+        "line 5: number\n",
+    ),
+    (
+        "gup 1\nframes 8 8 64\nprocess p\nthread t p\non t store 5.0 18446744073709551616\n",
+        5,
+        Reason::Number,
+        "line 5: number\n",
+    ),
+    (
+        "gup 1\nframes 8 8 64\nprocess p\nprocess q\nthread t r\n",
+        5,
+        Reason::Name,
+        "line 5: name\n",
+    ),
+    (
+        "gup 1\nframes 8 8 64\nprocess p\nthread t p\non t pin h 5 1 read\n",
+        5,
+        Reason::Later,
+        "line 5: later\n",
+    ),
+];
+
+/// Gives one byte a read, and fails at the read that has number `fails`, from 1.
+#[derive(Drop)]
+struct ByteSource {
+    bytes: Vec<u8>,
+    at: usize,
+    reads: u64,
+    fails: u64,
+    faults: u64,
+}
+
+impl Source for ByteSource {
+    ghost remaining = { λ _. None };
+
+    ghost faults = { λ s. s.faults };
+
+    fn read(&mut self, buf: &mut [u8]) -> Result<usize, Failed> {
+        self.reads = self.reads.saturating_add(1);
+        if self.reads == self.fails {
+            self.faults = self.faults.saturating_add(1);
+            return Err(Failed);
+        }
+        let Some(byte) = self.bytes.get(self.at).copied() else {
+            return Ok(0);
+        };
+        buf[0] = byte;
+        self.at += 1;
+        Ok(1)
+    }
+}
+
+/// Takes one byte a write, and fails at the write that has number `fails`, from 1, and where memory is wanted.
+#[derive(Drop)]
+struct ByteSink {
+    bytes: Vec<u8>,
+    writes: u64,
+    fails: u64,
+    faults: u64,
+}
+
+impl Sink for ByteSink {
+    ghost taken = { λ _. None };
+
+    ghost faults = { λ s. s.faults };
+
+    fn write(&mut self, piece: &[u8]) -> Result<usize, Failed> {
+        self.writes = self.writes.saturating_add(1);
+        if self.writes == self.fails || self.bytes.push(piece[0]).is_err() {
+            self.faults = self.faults.saturating_add(1);
+            return Err(Failed);
+        }
+        Ok(1)
+    }
+}
+
+fn owned(alloc: Global, words: &[&str]) -> Result<Vec<String>, AllocError> {
+    let mut owned = Vec::new(alloc);
+    for word in words {
+        owned.push(String::from_str(alloc, word)?)?;
+    }
+    Ok(owned)
+}
+
+/// The program on a source and a sink that never fail.
+fn expect(
+    rt: &impl Abort,
+    alloc: Global,
+    words: &[&str],
+    script: &str,
+    status: u8,
+    text: &str,
+) -> Result<Report, Fail> {
+    let words = owned(alloc, words)?;
+    let mut source = SureSource::new(script.as_bytes().to_vec(alloc)?);
+    let mut sink = MemSink::with_room(alloc, 20_000, Vec::new(alloc))?;
+    let report = gup(alloc, words.as_slice(), &mut source, &mut sink);
+    assert_eq!(rt; report.status, status, "{script}");
+    assert_eq!(rt; sink.bytes(), text.as_bytes(), "{script}");
+    Ok(report)
+}
+
+#[test]
+fn first_run(rt: HostRuntime) -> Result<(), Fail> {
+    let report = expect(&rt, rt.alloc(), &["run"], FIRST, 0, FIRST_TEXT)?;
+    assert_eq!(rt; report.journal.notes().len(), 11);
+    assert_eq!(rt; report.refusal, None);
+    Ok(())
+}
+
+#[test]
+fn words_that_are_no_command(rt: HostRuntime) -> Result<(), Fail> {
+    let words: [&[&str]; 6] = [
+        &[],
+        &["run", "slow"],
+        &["make", "01"],
+        &["--help"],
+        &["Run"],
+        &[""],
+    ];
+    for words in words {
+        let report = expect(&rt, rt.alloc(), words, FIRST, 2, "usage: gup COMMAND\n")?;
+        assert!(rt; report.journal.notes().is_empty());
+        assert_eq!(rt; report.refusal, None);
+    }
+    Ok(())
+}
+
+#[test]
+fn scripts(rt: HostRuntime) -> Result<(), Fail> {
+    for (script, status, text) in RUNS {
+        let report = expect(&rt, rt.alloc(), &["run"], script, status, text)?;
+        assert_eq!(rt; report.refusal, None, "{script}");
+    }
+    Ok(())
+}
+
+#[test]
+fn refusals(rt: HostRuntime) -> Result<(), Fail> {
+    for (script, line, reason, text) in REFUSALS {
+        let report = expect(&rt, rt.alloc(), &["run"], script, 3, text)?;
+        assert_eq!(rt;
+            report.refusal,
+            Some(ScriptFault { line, reason }),
+            "{script}"
+        );
+        assert!(rt; report.journal.notes().is_empty());
+    }
+    Ok(())
+}
+
+#[test]
+fn many_operations(rt: HostRuntime) -> Result<(), Fail> {
+    let mut script = String::from_str(rt.alloc(), HEAD)?;
+    let mut text = String::new(rt.alloc());
+    for k in 1..=1_100 {
+        script.push_str("on t load 5.0\n")?;
+        text.push_str(format!(in rt.alloc(); "t {k} missing\n")?.as_str())?;
+    }
+    expect(&rt, rt.alloc(), &["run"], script.as_str(), 0, text.as_str())?;
+    Ok(())
+}
+
+/// The status of the first run over sources and sinks in memory whose calls fail where the lists say, and that what
+/// is taken is this text.
+#[test]
+fn faults_in_memory(rt: HostRuntime) -> Result<(), Fail> {
+    let words = owned(rt.alloc(), &["run"])?;
+    for (read, write, room, status, text) in [
+        (1, 0, 99, 5, ""),
+        (2, 0, 99, 5, ""),
+        (3, 0, 99, 0, FIRST_TEXT),
+        (0, 1, 99, 6, ""),
+        (0, 0, 7, 6, "t 1 ok\n"),
+    ] {
+        let reads = [read].to_vec(rt.alloc())?;
+        let writes = [write].to_vec(rt.alloc())?;
+        let mut source = MemSource::new(FIRST.as_bytes().to_vec(rt.alloc())?, reads);
+        let mut sink = MemSink::with_room(rt.alloc(), room, writes)?;
+        let report = gup(rt.alloc(), words.as_slice(), &mut source, &mut sink);
+        assert_eq!(rt; report.status, status, "{read} {write} {room}");
+        assert_eq!(rt; sink.bytes(), text.as_bytes(), "{read} {write} {room}");
+        assert_eq!(rt; report.refusal, None);
+    }
+    Ok(())
+}
+
+/// The first run, byte by byte, with the read and the write of these numbers failing.
+fn expect_faults(
+    rt: &impl Abort,
+    alloc: Global,
+    read: u64,
+    write: u64,
+    status: u8,
+    text: &[u8],
+) -> Result<(), Fail> {
+    let words = owned(alloc, &["run"])?;
+    let mut source = ByteSource {
+        bytes: FIRST.as_bytes().to_vec(alloc)?,
+        at: 0,
+        reads: 0,
+        fails: read,
+        faults: 0,
+    };
+    let mut sink = ByteSink {
+        bytes: Vec::new(alloc),
+        writes: 0,
+        fails: write,
+        faults: 0,
+    };
+    let report = gup(alloc, words.as_slice(), &mut source, &mut sink);
+    assert_eq!(rt; report.status, status, "read {read}, write {write}");
+    assert_eq!(rt; sink.bytes.as_slice(), text, "read {read}, write {write}");
+    Ok(())
+}
+
+#[test]
+fn each_read_and_each_write_fails(rt: HostRuntime) -> Result<(), Fail> {
+    let text = FIRST_TEXT.as_bytes();
+    let reads = FIRST.len() as u64 + 1;
+    for read in 1..=reads {
+        expect_faults(&rt, rt.alloc(), read, 0, 5, &[])?;
+    }
+    expect_faults(&rt, rt.alloc(), reads + 1, 0, 0, text)?;
+    for taken in 0..text.len() {
+        expect_faults(&rt, rt.alloc(), 0, taken as u64 + 1, 6, &text[..taken])?;
+    }
+    expect_faults(&rt, rt.alloc(), 0, text.len() as u64 + 1, 0, text)
+}
+
+/// The same of a run that is stuck: its status gives way to that of a write that failed.
+#[test]
+fn a_stuck_run_that_is_not_written(rt: HostRuntime) -> Result<(), Fail> {
+    let words = owned(rt.alloc(), &["run"])?;
+    let stuck = "gup 1\nframes 8 8 64\nchild c\nthread u c\non u exit\n";
+    let mut source = SureSource::new(stuck.as_bytes().to_vec(rt.alloc())?);
+    let mut sink = MemSink::with_room(rt.alloc(), 5, Vec::new(rt.alloc()))?;
+    let report = gup(rt.alloc(), words.as_slice(), &mut source, &mut sink);
+    assert_eq!(rt; report.status, 6);
+    assert_eq!(rt; sink.bytes(), "stuck".as_bytes());
+    Ok(())
+}
