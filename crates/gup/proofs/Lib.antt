@@ -1,10 +1,3 @@
-pub mod Fronts
-pub mod Shown
-pub mod Mapped
-pub mod Scripts
-pub mod Turns
-pub mod Underway
 pub mod Told
-pub mod Free
 pub mod Causes
-pub mod FirstPaths
+pub mod Ended

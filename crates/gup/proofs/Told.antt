@@ -8,8 +8,6 @@ use Rattle.gup_script.specs.Script.{ScriptValue}
 use Rattle.gup_reader.specs.Grammar.{Accepts}
 use Rattle.gup_reader.specs.Fault.{HasFault}
 use Rattle.gup_reader.specs.declared.refusal.ScriptFault.{ScriptFault}
-use Rattle.gup_script.specs.OnePage.{IsOnePage}
-use Rattle.gup.specs.FirstPath.{Runs, IsRefused}
 use Rattle.gup_io.specs.Transfers.{Loses}
 use Rattle.gup.specs.Report.{OfScript, AreScript, IsScriptOf, IsRefusedFor}
 
@@ -22,11 +20,10 @@ whole n v bytes short is = by_test (leb n (length bytes)) refl
     by_test false few = let less = leb-false n (length bytes) few in is ∙ take_all n bytes (omega arith)
 
 -- the script that the bytes read are is the one that the told bytes are
-pub told_script : (told : Option (List ℕ)) (v : List ℕ) (s : ScriptValue) → IfSome told (λ bytes. v ≡ take 1048577 bytes) → Runs v s → IsScriptOf told s
+pub told_script : (told : Option (List ℕ)) (v : List ℕ) (s : ScriptValue) → IfSome told (λ bytes. v ≡ take 1048577 bytes) → Accepts v s → IsScriptOf told s
 told_script None v s read h = tt
 told_script (Some bytes) v s read h =
-    let P : List ℕ → Type 0 = λ b. Runs b s in
-    subst P (whole 1048577 v bytes (omega (arith, h.0.1)) read) h
+    subst (λ (b : List ℕ). Accepts b s) (whole 1048577 v bytes (omega (arith, h.1)) read) h
 
 -- bytes that are too many are so however far they are read
 told_fault : (bytes v : List ℕ) (fault : ScriptFault) → v ≡ take 1048577 bytes → HasFault v fault → HasFault bytes fault
@@ -38,27 +35,23 @@ told_fault bytes v fault read (inr h) =
     subst P (whole 1048577 v bytes (omega (arith, h.0)) read) (inr h)
 
 -- what the bytes read are refused for the told ones are
-pub told_refused : (told : Option (List ℕ)) (v : List ℕ) (fault : ScriptFault) → IfSome told (λ bytes. v ≡ take 1048577 bytes) → IsRefused v fault → IsRefusedFor told fault
+pub told_refused : (told : Option (List ℕ)) (v : List ℕ) (fault : ScriptFault) → IfSome told (λ bytes. v ≡ take 1048577 bytes) → HasFault v fault → IsRefusedFor told fault
 told_refused None v fault read refused = tt
-told_refused (Some bytes) v fault read (inl h) = inl (told_fault bytes v fault read h)
-told_refused (Some bytes) v fault read (inr h) =
-    let P : List ℕ → Type 0 = λ b. IsRefused b fault in
-    subst P (whole 1048577 v bytes (omega (arith, h.1.1)) read) (inr h)
+told_refused (Some bytes) v fault read has = told_fault bytes v fault read has
 
 -- what holds of the script that was read holds of the one that the told bytes are
 pub of_script : (told : Option (List ℕ)) (s : ScriptValue) (P : ScriptValue → Type 0) → ((text : List ℕ) (a b : ScriptValue) → Accepts text a → Accepts text b → a ≡ b) → IsScriptOf told s → P s → OfScript told P
 of_script None s P one read p = tt
-of_script (Some bytes) s P one read p = λ t h. subst P (one bytes s t read.0 h.0) p
+of_script (Some bytes) s P one read p = λ t h. subst P (one bytes s t read h) p
 
 pub are_script : (told : Option (List ℕ)) (s : ScriptValue) → IsScriptOf told s → AreScript told
 are_script None s read = tt
 are_script (Some bytes) s read = (s, read)
 
--- what is refused is none that the machine can run
-pub refused_none : (told : Option (List ℕ)) (fault : ScriptFault) → ((text : List ℕ) (a b : ScriptValue) → Accepts text a → Accepts text b → a ≡ b) → ((text : List ℕ) (script : ScriptValue) (f : ScriptFault) → Accepts text script → HasFault text f → ⊥) → IsRefusedFor told fault → OfScript told (λ script. ⊥)
-refused_none None fault one apart refused = tt
-refused_none (Some bytes) fault one apart (inl has) = λ s runs. apart bytes s fault runs.0 has
-refused_none (Some bytes) fault one apart (inr h) = λ s runs. h.2 (subst IsOnePage (one bytes s h.0 runs.0 h.1) runs.1)
+-- what is refused is no script
+pub refused_none : (told : Option (List ℕ)) (fault : ScriptFault) → ((text : List ℕ) (script : ScriptValue) (f : ScriptFault) → Accepts text script → HasFault text f → ⊥) → IsRefusedFor told fault → OfScript told (λ script. ⊥)
+refused_none None fault apart refused = tt
+refused_none (Some bytes) fault apart has = λ s spelt. apart bytes s fault spelt has
 
 -- told bytes lost their first ones, or all
 pub loses_first : (most : ℕ) (old new : Option (List ℕ)) → IfSome old (λ bytes. new ≡ Some (drop most bytes)) → Loses 0 most old new
@@ -74,7 +67,7 @@ loses_first most (Some bytes) new rest = by_test (leb most (length bytes)) refl
 -- the bytes of a script are read to their end
 pub read_all : (told new : Option (List ℕ)) (s : ScriptValue) → IsScriptOf told s → IfSome told (λ bytes. new ≡ Some (drop 1048577 bytes)) → IfSome told (λ bytes. new ≡ Some [])
 read_all None new s is rest = tt
-read_all (Some bytes) new s is rest = rest ∙ ap (λ (xs : List ℕ). Some xs) (drop_all 1048577 bytes (omega (arith, is.0.1)))
+read_all (Some bytes) new s is rest = rest ∙ ap (λ (xs : List ℕ). Some xs) (drop_all 1048577 bytes (omega (arith, is.1)))
 
 -- what holds at all holds of the script
 pub of_any : (told : Option (List ℕ)) (P : Type 0) → P → OfScript told (λ script. P)

@@ -1,17 +1,19 @@
--- The causes of refusals in a run of the first path.
-use Rattle.std.specs.Prelude.{◌≡◌, ℕ, ◌⊎◌, Bool, true, false, List, [], ◌∷◌, Option, Some, None, length, sum_by}
-use Rattle.std.specs.List.{AllByRecursion}
+-- The causes of refusals.
+use Rattle.std.specs.Prelude.{◌≡◌, ℕ, ◌⊎◌, Bool, true, false, List, [], ◌∷◌, Option, Some, None}
 use Rattle.gup_plain.specs.Note.{NoteValue}
 use Rattle.gup_plain.specs.State.{PlainState}
 use Rattle.gup_plain.specs.declared.answer.Answer.{Answer}
-use Rattle.gup_plain.specs.declared.answer.Answer.TheVariants.{Plain, Value, Pinned, Short, Words, Missing, Forbidden, Overlap}
+use Rattle.gup_plain.specs.declared.answer.Answer.TheVariants.{Plain, Value, Pinned, Short, Words, NoFrame}
 use Rattle.gup_plain.specs.declared.note.What.{What}
 use Rattle.gup_plain.specs.declared.note.What.TheVariants.{Silent, Idle, Wait, Event, Done}
 use Rattle.gup_script.specs.declared.op.Op.{Op}
-use Rattle.gup_script.specs.Script.{ScriptValue, Actor}
-use Rattle.gup_follows.specs.Place.{process_of, present_op}
+use Rattle.gup_script.specs.Script.{ScriptValue}
 use Rattle.gup_follows.specs.Denial.{denial}
+use Rattle.gup_follows.specs.Order.{Turn, journal_of}
+use Rattle.gup_follows.specs.Place.{first_place, process_of, present_op}
 use Rattle.gup_follows.specs.Plain.{Judged, judged_after, judged_first}
+use Rattle.gup_turns.specs.Cause.{FindNoFrame}
+use Rattle.gup_turns.specs.Run.{RunState, Runs, run_start}
 
 -- is it the answer of an operation that is not refused?
 abbrev pub is_ok : Answer → Bool
@@ -22,9 +24,9 @@ is_ok (Short got wanted cause) = true
 is_ok Words = true
 is_ok _ = false
 
--- A refusal has its cause: the plain state denies the operation so.
+-- A refusal has its cause: the plain state denies the operation so, or no frame is free.
 abbrev pub IsCausedAt : PlainState → ℕ → Option Op → What → Type 0
-IsCausedAt s p (Some op) (Done answer) = (is_ok answer ≡ true) ⊎ (denial s p op ≡ Some answer)
+IsCausedAt s p (Some op) (Done answer) = (is_ok answer ≡ true) ⊎ (denial s p op ≡ Some answer) ⊎ (answer ≡ NoFrame)
 IsCausedAt s p (Some op) Silent = Unit {0}
 IsCausedAt s p (Some op) Idle = Unit {0}
 IsCausedAt s p (Some op) (Wait waiting) = Unit {0}
@@ -38,30 +40,12 @@ AreCaused script j (note ∷ notes) =
     IsCausedAt j.plain (process_of script note.actor) (present_op script note.actor (j.places note.actor)) note.what
     × AreCaused script (judged_after j note) notes
 
--- Every refusal is the plain state's: neither want of frames nor anything else that the machine has and the plain
--- state hasn't.
+-- the answers for want of a frame, by the core run whose journal it is: where one comes, no frame is free
+abbrev pub LackFrames : ScriptValue → List NoteValue → Type 0
+LackFrames script notes =
+    (turns : List Turn) × (end : RunState) × (notes ≡ journal_of 1 (λ _. first_place) turns)
+    × Runs script (run_start script) turns end × FindNoFrame script (run_start script) turns
+
+-- Every refusal is the plain state's, or for want of a frame where none is free.
 abbrev pub HasCauses : ScriptValue → List NoteValue → Type 0
-HasCauses script notes = AreCaused script (judged_first script) notes
-
--- the answers that operations of the first path have
-abbrev pub IsKnownAnswer : Answer → Type 0
-IsKnownAnswer Plain = Unit {0}
-IsKnownAnswer (Value v) = Unit {0}
-IsKnownAnswer Missing = Unit {0}
-IsKnownAnswer Forbidden = Unit {0}
-IsKnownAnswer Overlap = Unit {0}
-IsKnownAnswer _ = ⊥
-
-abbrev pub IsKnown : What → Type 0
-IsKnown (Done answer) = IsKnownAnswer answer
-IsKnown Silent = Unit {0}
-IsKnown Idle = Unit {0}
-IsKnown (Wait waiting) = Unit {0}
-IsKnown (Event event) = Unit {0}
-
-abbrev pub AreKnown : List NoteValue → Type 0
-AreKnown notes = AllByRecursion (λ (note : NoteValue). IsKnown note.what) notes
-
--- how many operations a script has
-abbrev pub operations : ScriptValue → ℕ
-operations script = sum_by (λ (a : Actor). length a.ops) script.actors
+HasCauses script notes = AreCaused script (judged_first script) notes × LackFrames script notes

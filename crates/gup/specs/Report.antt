@@ -1,21 +1,24 @@
 -- What the top call is asked, and what it may answer.
-use Rattle.std.specs.Prelude.{◌≡◌, ℕ, ◌⊎◌, List, [], ◌∷◌, ◌++◌, codes, decimal, drop, length, Option, None, Some}
+use Rattle.std.specs.Prelude.{◌≡◌, ℕ, ◌⊎◌, Bool, false, List, [], ◌∷◌, ◌++◌, codes, decimal, drop, length, Option, None, Some}
 use Rattle.gup_plain.specs.Note.{NoteValue}
+use Rattle.gup_turns.specs.Cost.{operations}
 use Rattle.gup_turns.specs.Run.{RunState, IsCoreRun}
+use Rattle.gup_sched.specs.Ran.{SaysStuck}
+use Rattle.gup_lines.specs.Text.{outcomes_of}
 use Rattle.gup_io.specs.Faults.{HasCause}
 use Rattle.gup_follows.specs.Plain.{IsPlain}
 use Rattle.gup_follows.specs.Follows.{Follows}
 use Rattle.gup_follows.specs.Order.{InOrder}
 use Rattle.gup.specs.declared.top.Unread.{Unread}
 use Rattle.gup.specs.declared.top.Unread.TheVariants.{Failed, Fault, NoMemory}
-use Rattle.gup.specs.Cause.{HasCauses, operations}
-use Rattle.gup.specs.Text.{outcomes_of}
-use Rattle.gup.specs.Ran.{HaveFinished}
+use Rattle.gup.specs.Cause.{HasCauses}
+use Rattle.gup.specs.Stuck.{IsFinishedRun, IsStuckRun, AreWaiting, run_text}
+use Rattle.gup_reader.specs.Fault.{HasFault}
+use Rattle.gup_reader.specs.Grammar.{Accepts}
 use Rattle.gup_reader.specs.declared.refusal.Reason.{Reason}
 use Rattle.gup_reader.specs.declared.refusal.Reason.TheVariants as reasons
 use Rattle.gup_reader.specs.declared.refusal.ScriptFault.{ScriptFault}
 use Rattle.gup_script.specs.Script.{ScriptValue}
-use Rattle.gup.specs.FirstPath.{Runs, IsRefused}
 
 -- The one command so far: the word `run` alone.
 abbrev pub IsRun : List (List ℕ) → Type 0
@@ -23,7 +26,12 @@ IsRun words = words ≡ codes "run" ∷ []
 
 -- the statuses that the program has
 abbrev pub IsStatus : ℕ → Type 0
-IsStatus status = (status ≡ 0) ⊎ (status ≡ 2) ⊎ (status ≡ 3) ⊎ (status ≡ 5) ⊎ (status ≡ 6) ⊎ (status ≡ 7)
+IsStatus status =
+    (status ≡ 0) ⊎ (status ≡ 2) ⊎ (status ≡ 3) ⊎ (status ≡ 4) ⊎ (status ≡ 5) ⊎ (status ≡ 6) ⊎ (status ≡ 7)
+
+-- a script ran, to the end of all its actors or to where some are stuck, and its text was taken
+abbrev pub HasRun : ℕ → Type 0
+HasRun status = (status ≡ 0) ⊎ (status ≡ 4)
 
 -- what is written where the words are no command
 abbrev pub usage : List ℕ
@@ -52,26 +60,22 @@ refusal_text fault = codes "line " ++ decimal fault.line ++ codes ": " ++ reason
 -- Where the source tells its bytes, this holds of the script that they are, if they are one.
 abbrev pub OfScript : Option (List ℕ) → (ScriptValue → Type 0) → Type 0
 OfScript None P = Unit {0}
-OfScript (Some bytes) P = (script : ScriptValue) → Runs bytes script → P script
+OfScript (Some bytes) P = (script : ScriptValue) → Accepts bytes script → P script
 
 -- Where the source tells its bytes, they are a script.
 abbrev pub AreScript : Option (List ℕ) → Type 0
 AreScript None = Unit {0}
-AreScript (Some bytes) = (script : ScriptValue) × Runs bytes script
-
--- the journal is the script's core run, in which every actor has finished
-abbrev pub IsFinishedRun : ScriptValue → List NoteValue → Type 0
-IsFinishedRun script notes = (end : RunState) × IsCoreRun script notes end × HaveFinished script end
+AreScript (Some bytes) = (script : ScriptValue) × Accepts bytes script
 
 -- where the source tells its bytes, they are this script
 abbrev pub IsScriptOf : Option (List ℕ) → ScriptValue → Type 0
 IsScriptOf None script = Unit {0}
-IsScriptOf (Some bytes) script = Runs bytes script
+IsScriptOf (Some bytes) script = Accepts bytes script
 
--- Why a script is refused: where the source tells its bytes, they are, for this fault.
+-- Why a script is refused: where the source tells its bytes, they have this first fault.
 abbrev pub IsRefusedFor : Option (List ℕ) → ScriptFault → Type 0
 IsRefusedFor None fault = Unit {0}
-IsRefusedFor (Some bytes) fault = IsRefused bytes fault
+IsRefusedFor (Some bytes) fault = HasFault bytes fault
 
 -- why there is no script: a read failed, the bytes are none, or memory ran out
 abbrev pub IsUnreadFor : Option (List ℕ) → (faults faults_after : ℕ) → Unread → Type 0
@@ -79,14 +83,25 @@ IsUnreadFor told faults faults_after Failed = HasCause faults faults_after
 IsUnreadFor told faults faults_after (Fault fault) = IsRefusedFor told fault
 IsUnreadFor told faults faults_after NoMemory = Unit {0}
 
--- what is said of a run, of the script that was read
-pub record IsRunOf (script : ScriptValue) (notes : List NoteValue) : Type 0 where
+-- What is said of a run of the script that was read. At its end an actor has operations left and waits, or each has
+-- finished, and then each operation has one answer. The text is that of the run.
+pub record IsRunOf (script : ScriptValue) (stuck : Bool) (notes : List NoteValue) (text : List ℕ) : Type 0 where
   pub follows : Follows script notes
   pub in_order : InOrder script notes
   pub plain : IsPlain script notes
-  pub core : IsFinishedRun script notes
   pub causes : HasCauses script notes
-  pub lines : length (outcomes_of notes) ≡ operations script
+  pub end : RunState
+  pub core : IsCoreRun script notes end
+  pub ends : SaysStuck stuck script end
+  pub waits : AreWaiting script end
+  pub lines : stuck ≡ false → length (outcomes_of notes) ≡ operations script
+  pub text_is : text ≡ run_text script notes end
+
+-- which of the statuses a script has that is run without a fault, and what is so then
+abbrev pub IsEnd : ScriptValue → (status : ℕ) → List NoteValue → Type 0
+IsEnd script status notes =
+    ((status ≡ 0) × IsFinishedRun script notes × (length (outcomes_of notes) ≡ operations script))
+    ⊎ ((status ≡ 4) × IsStuckRun script notes) ⊎ (status ≡ 7)
 
 -- told bytes are read to their end, or so far that no script is that long
 abbrev pub IsReadThrough : Option (List ℕ) → Option (List ℕ) → Type 0

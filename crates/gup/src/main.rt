@@ -1,15 +1,10 @@
 //! `gup`: how Linux pins a program's memory, as a verified model that runs.
 #![tactic(auto)]
 
-mod answers;
-mod lines;
-mod machine;
-mod page;
-mod run;
 #[cfg(test)]
 mod tests;
+mod text;
 mod top;
-mod turn;
 
 use gup_io::{FromStd, ToStd};
 use std::env::Env;

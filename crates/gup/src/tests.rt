@@ -1,11 +1,9 @@
 ghost use Rattle.std.specs.Prelude.{None};
 
 use super::*;
-use crate::machine::Machine;
 use crate::top::Report;
-use gup_base::{ActorNo, Zone};
 use gup_io::{Failed, MemSink, MemSource, Sink, Source, SureSource};
-use gup_reader::{Reason, ScriptFault, read_script};
+use gup_reader::{Reason, ScriptFault};
 use std::alloc::{AllocError, Global};
 use std::process::Abort;
 use std::test::Fail;
@@ -19,30 +17,119 @@ const FIRST: &str =
 
 const FIRST_TEXT: &str = "t 1 ok\nt 2 ok 0\nt 3 ok\nt 4 ok 7\nt 5 ok\nt 6 missing\n";
 
-/// Scripts of the one page that the machine runs, with the texts of their runs.
-const RUNS: [(&str, &str); 6] = [
-    ("gup 1\nframes 8 8 64\nprocess p\nthread t p\n", ""),
-    ("gup 1\nframes 8 8 64\n", ""),
+/// Scripts, with the statuses and the texts of their runs.
+const RUNS: [(&str, u8, &str); 22] = [
+    // Nobody has anything to do.
+    ("gup 1\nframes 8 8 64\nprocess p\nthread t p\n", 0, ""),
+    ("gup 1\nframes 8 8 64\n", 0, ""),
+    ("gup 1\nframes 0 0 64\nchild c\nthread u c\ndevice d 8\nmover m\n", 0, ""),
+    // Lines that say nothing.
     (
         "\n# one page\ngup 1\n\nframes 8 8 64\nseed 7\nprocess p\n# and one thread\nthread t p\non t load 5.0\n\n",
+        0,
         "t 1 missing\n",
     ),
+    // The last page and its last word.
     (
-        "gup 1\nframes 8 8 64\nprocess p\nthread t p\non t map 34359738367 1 rw\non t store 34359738367.511 18446744073709551615\non t load 34359738367.511\n",
+        "gup 1\nframes 8 8 64\nprocess p\nchild c\nthread t p\nthread v p\nthread u c\ndevice d 8\nmover m\non t map 34359738367 1 rw\non t store 34359738367.511 18446744073709551615\non t load 34359738367.511\n",
+        0,
         "t 1 ok\nt 2 ok\nt 3 ok 18446744073709551615\n",
     ),
+    // No old bytes come back.
     (
         "gup 1\nframes 1 0 64\nprocess p\nthread t p\non t map 5 1 rw\non t store 5.3 7\non t load 5.3\non t unmap 5 1\non t load 5.3\non t map 5 1 rw\non t load 5.3\non t map 5 1 rw\n",
+        0,
         "t 1 ok\nt 2 ok\nt 3 ok 7\nt 4 ok\nt 5 missing\nt 6 ok\nt 7 ok 0\nt 8 overlap\n",
     ),
     (
-        "gup 1\nframes 0 1 64\nprocess p\nthread t p\non t unmap 5 1\non t store 5.0 1\n",
-        "t 1 ok\nt 2 missing\n",
+        "gup 1\nframes 8 8 64\nprocess p\nthread t p\non t map 5 2 rw\non t store 5.0 7\non t store 6.0 8\non t discard 5 1\non t load 5.0\non t load 6.0\non t store 5.0 9\non t load 5.0\n",
+        0,
+        "t 1 ok\nt 2 ok\nt 3 ok\nt 4 ok\nt 5 ok 0\nt 6 ok 8\nt 7 ok\nt 8 ok 9\n",
     ),
+    // Rights.
+    (
+        "gup 1\nframes 8 8 64\nprocess p\nthread t p\non t map 5 1 r\non t load 5.0\non t store 5.0 1\non t protect 5 1 rw\non t store 5.0 1\non t protect 5 1 r\non t store 5.0 2\non t load 5.0\non t protect 5 2 r\n",
+        0,
+        "t 1 ok\nt 2 ok 0\nt 3 forbidden\nt 4 ok\nt 5 ok\nt 6 ok\nt 7 forbidden\nt 8 ok 1\nt 9 missing\n",
+    ),
+    // An exit takes down all that is mapped, and the process goes on.
+    (
+        "gup 1\nframes 1 0 64\nprocess p\nthread t p\non t map 5 3 rw\non t store 6.0 4\non t exit\non t load 6.0\non t map 6 1 rw\non t load 6.0\n",
+        0,
+        "t 1 ok\nt 2 ok\nt 3 ok\nt 4 missing\nt 5 ok\nt 6 ok 0\n",
+    ),
+    // At most 1,024 pages.
+    (
+        "gup 1\nframes 8 8 64\nprocess p\nthread t p\non t map 0 1024 rw\non t map 2000 1 rw\non t unmap 1023 1\non t map 2000 1 rw\n",
+        0,
+        "t 1 ok\nt 2 full\nt 3 ok\nt 4 ok\n",
+    ),
+    // Want of frames, and of them alone.
+    (
+        "gup 1\nframes 0 0 64\nprocess p\nthread t p\non t map 5 1 rw\non t store 5.0 7\n",
+        0,
+        "t 1 ok\nt 2 noframe\n",
+    ),
+    (
+        "gup 1\nframes 1 1 64\nprocess p\nprocess q\nthread t p\nthread v q\non t map 5 2 rw\non t load 5.0\non t store 6.0 3\non v map 5 1 rw\non v load 5.0\non v load 6.0\n",
+        0,
+        "t 1 ok\nv 1 ok\nt 2 ok 0\nv 2 ok 0\nt 3 noframe\nv 3 missing\n",
+    ),
+    (
+        "gup 1\nframes 8 8 4\nprocess p\nthread t p\non t map 5 1 rw\non t load 5.0\n",
+        0,
+        "t 1 ok\nt 2 ok 0\n",
+    ),
+    // Two processes have memory of their own, two threads of one share theirs. The pointer goes round.
+    (
+        "gup 1\nframes 8 8 64\nprocess p\nprocess q\nthread t p\nthread v q\non t map 5 1 rw\non t store 5.0 7\non t load 5.0\non v map 5 1 rw\non v load 5.0\non v store 5.0 8\n",
+        0,
+        "t 1 ok\nv 1 ok\nt 2 ok\nv 2 ok 0\nt 3 ok 7\nv 3 ok\n",
+    ),
+    (
+        "gup 1\nframes 8 8 64\nprocess p\nthread t p\nthread v p\non t map 5 1 rw\non t store 5.0 7\non v map 5 1 rw\non v load 5.0\n",
+        0,
+        "t 1 ok\nv 1 overlap\nt 2 ok\nv 2 ok 7\n",
+    ),
+    // One page a turn: another thread comes between.
+    (
+        "gup 1\nframes 8 8 64\nprocess p\nthread t p\nthread v p\non t map 5 2 rw\non t unmap 5 2\non v load 6.0\non v load 5.0\non v load 6.0\n",
+        0,
+        "t 1 ok\nv 1 ok 0\nv 2 missing\nt 2 ok\nv 3 missing\n",
+    ),
+    // Written turns come first, and those of an actor that has finished are spent.
+    (
+        "gup 1\nframes 8 8 64\nprocess p\nthread t p\nthread v p\non t map 5 1 rw\non t store 5.0 7\non v load 5.0\nturns v t v t\n",
+        0,
+        "v 1 missing\nt 1 ok\nt 2 ok\n",
+    ),
+    (
+        "gup 1\nframes 8 8 64\nprocess p\nthread t p\nthread v p\non t map 5 1 rw\non t store 5.0 7\non v load 5.0\nturns t*2 v\n",
+        0,
+        "t 1 ok\nt 2 ok\nv 1 ok 7\n",
+    ),
+    // Nobody brings the child.
+    (
+        "gup 1\nframes 8 8 64\nprocess p\nchild c\nthread u c\non u load 5.0\n",
+        4,
+        "stuck u process c\n",
+    ),
+    (
+        "gup 1\nframes 8 8 64\nprocess p\nchild c\nchild d\nthread w d\nthread t p\nthread u c\nthread v c\non u load 5.0\non t load 5.0\non w exit\non t load 5.0\n",
+        4,
+        "t 1 missing\nt 2 missing\nstuck w process d\nstuck u process c\n",
+    ),
+    // A written turn of an actor that waits is spent.
+    (
+        "gup 1\nframes 8 8 64\nprocess p\nchild c\nthread u c\nthread t p\non u load 5.0\non t load 5.0\nturns u*3\n",
+        4,
+        "t 1 missing\nstuck u process c\n",
+    ),
+    ("gup 1\nframes 8 8 64\nchild c\nthread u c\non u exit\n", 4, "stuck u process c\n"),
 ];
 
-/// Texts that are refused, with the line and the reason: no script, or one that the machine can't run yet.
-const REFUSALS: [(&str, u32, Reason, &str); 15] = [
+/// Texts that are no script, with the line and the reason.
+const REFUSALS: [(&str, u32, Reason, &str); 7] = [
     ("", 1, Reason::Short, "line 1: short\n"),
     ("gup 1\n", 2, Reason::Short, "line 2: short\n"),
     (
@@ -70,55 +157,7 @@ const REFUSALS: [(&str, u32, Reason, &str); 15] = [
         "line 5: name\n",
     ),
     (
-        "gup 1\nframes 8 8 64\nprocess p\nprocess q\nthread t q\n",
-        4,
-        Reason::Later,
-        "line 4: later\n",
-    ),
-    (
-        "gup 1\nframes 8 8 64\nchild c\n",
-        3,
-        Reason::Later,
-        "line 3: later\n",
-    ),
-    (
-        "gup 1\nframes 8 8 64\nprocess p\nthread t p\nthread v p\n",
-        5,
-        Reason::Later,
-        "line 5: later\n",
-    ),
-    (
-        "gup 1\nframes 8 8 64\ndevice d 8\n",
-        3,
-        Reason::Later,
-        "line 3: later\n",
-    ),
-    (
-        "gup 1\nframes 0 0 64\n",
-        2,
-        Reason::Later,
-        "line 2: later\n",
-    ),
-    (
-        "gup 1\nframes 8 8 64\nprocess p\nthread t p\non t map 5 1 rw\non t load 6.0\non t load 5.0\n",
-        6,
-        Reason::Later,
-        "line 6: later\n",
-    ),
-    (
-        "gup 1\nframes 8 8 64\nprocess p\nthread t p\non t map 5 1 r\n",
-        5,
-        Reason::Later,
-        "line 5: later\n",
-    ),
-    (
-        "gup 1\nframes 8 8 64\nprocess p\nthread t p\non t exit\n",
-        5,
-        Reason::Later,
-        "line 5: later\n",
-    ),
-    (
-        "gup 1\nframes 8 8 64\nprocess p\nthread t p\nturns t*3\n",
+        "gup 1\nframes 8 8 64\nprocess p\nthread t p\non t pin h 5 1 read\n",
         5,
         Reason::Later,
         "line 5: later\n",
@@ -233,8 +272,8 @@ fn words_that_are_no_command(rt: HostRuntime) -> Result<(), Fail> {
 
 #[test]
 fn scripts(rt: HostRuntime) -> Result<(), Fail> {
-    for (script, text) in RUNS {
-        let report = expect(&rt, rt.alloc(), &["run"], script, 0, text)?;
+    for (script, status, text) in RUNS {
+        let report = expect(&rt, rt.alloc(), &["run"], script, status, text)?;
         assert_eq!(rt; report.refusal, None, "{script}");
     }
     Ok(())
@@ -333,22 +372,15 @@ fn each_read_and_each_write_fails(rt: HostRuntime) -> Result<(), Fail> {
     expect_faults(&rt, rt.alloc(), 0, text.len() as u64 + 1, 0, text)
 }
 
-// A machine by hand, and its first turn, which maps the page.
+/// The same of a run that is stuck: its status gives way to that of a write that failed.
 #[test]
-fn first_turn(rt: HostRuntime) -> Result<(), Fail> {
-    let script = read_script(rt.alloc(), FIRST.as_bytes())
-        .ok()
-        .ok_or("the text is a script")?;
-    if !script.is_one_page() || script.actors() != 1 {
-        return Err("the script is of one page and one actor".into());
-    }
-    let actor = ActorNo::new(0).ok_or("an actor")?;
-    let mut machine = Machine::new(rt.alloc(), &script)?;
-    assert_eq!(rt; machine.waits(actor), None);
-    assert!(rt; !machine.finished(actor));
-    let turn = machine.turn(actor);
-    assert_eq!(rt; turn.notes().len(), 2);
-    assert_eq!(rt; machine.free_frames(Zone::Movable), 8);
-    assert_eq!(rt; machine.free_frames(Zone::Normal), 8);
+fn a_stuck_run_that_is_not_written(rt: HostRuntime) -> Result<(), Fail> {
+    let words = owned(rt.alloc(), &["run"])?;
+    let stuck = "gup 1\nframes 8 8 64\nchild c\nthread u c\non u exit\n";
+    let mut source = SureSource::new(stuck.as_bytes().to_vec(rt.alloc())?);
+    let mut sink = MemSink::with_room(rt.alloc(), 5, Vec::new(rt.alloc()))?;
+    let report = gup(rt.alloc(), words.as_slice(), &mut source, &mut sink);
+    assert_eq!(rt; report.status, 6);
+    assert_eq!(rt; sink.bytes(), "stuck".as_bytes());
     Ok(())
 }

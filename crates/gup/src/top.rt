@@ -1,30 +1,31 @@
 //! The top call: what the program does, from its words and its bytes to its text.
-ghost use Rattle.std.specs.Prelude.{◌≡◌, ℕ, ◌⊎◌, List, [], None, Some, IsSome, IfSome, IfOk, OnOk, IfErr, Err, IsTrue, ◌↔◌, map, codes, string_bytes, length, take, ◌+◌};
+ghost use Rattle.std.specs.Prelude.{◌≡◌, ℕ, ◌⊎◌, List, [], None, Some, IsSome, IfSome, IfOk, OnOk, IfErr, Err, IsTrue, Bool, true, false, if◌then◌else◌, ◌↔◌, map, codes, string_bytes, length, take, ◌+◌};
 ghost use Rattle.std.specs.Io.KnownBytes.{Appends};
 ghost use Rattle.gup_io.specs.Transfers.{Loses, AppendsPart};
 ghost use Rattle.gup_io.specs.Faults.{HasCause};
 ghost use Rattle.gup_script.specs.Script.{ScriptValue};
-ghost use Rattle.gup_script.specs.OnePage.{IsOnePage};
 ghost use Rattle.gup_follows.specs.Plain.{IsPlain};
 ghost use Rattle.gup_follows.specs.Follows.{Follows};
 ghost use Rattle.gup_follows.specs.Order.{InOrder};
-ghost use Rattle.gup.specs.Cause.{HasCauses, operations};
-ghost use Rattle.gup.specs.Text.{text_of, outcomes_of};
-ghost use Rattle.gup.specs.FirstPath.{Runs, IsRefusalFor};
-ghost use Rattle.gup.specs.Report.{IsRun, IsStatus, OfScript, AreScript, IsFinishedRun, IsRunOf, IsScriptOf, IsUnreadFor, IsRefusedFor, IsReadThrough, IfFault, usage, refusal_text};
+ghost use Rattle.gup_turns.specs.Cost.{operations};
+ghost use Rattle.gup_turns.specs.Run.{RunState, IsCoreRun};
+ghost use Rattle.gup_lines.specs.Text.{text_of, outcomes_of};
+ghost use Rattle.gup.specs.Cause.{HasCauses};
+ghost use Rattle.gup.specs.Stuck.{IsFinishedRun, IsStuckRun, run_text};
+ghost use Rattle.gup.specs.Report.{IsRun, IsStatus, HasRun, OfScript, AreScript, IsRunOf, IsEnd, IsScriptOf, IsUnreadFor, IsRefusedFor, IsReadThrough, IfFault, usage, refusal_text};
 
-use crate::lines::{journal_text, refusal_line};
-use crate::machine::Machine;
-use crate::run::run_all;
+use crate::text::{journal_text, push_stuck_lines, refusal_line};
 use gup_base::NoMemory;
+use gup_core::Machine;
 use gup_io::{ReadToEnd, Sink, Source, read_up_to, write_all};
 use gup_plain::Journal;
-use gup_reader::{
-    ReadRefusal, Reason, ScriptFault, first_line_beyond, one_script, read_script,
-    scripts_have_no_fault,
-};
+use gup_reader::{ReadRefusal, ScriptFault, one_script, read_script, scripts_have_no_fault};
+use gup_sched::run_all;
 use gup_script::Script;
-use gup_turns::{core_run_follows, core_run_is_in_order, core_run_is_plain};
+use gup_turns::{
+    core_run_follows, core_run_is_in_order, core_run_is_known, core_run_is_plain,
+    finished_runs_answer_all, no_frame_has_its_cause, runs_end_at_waits,
+};
 use std::alloc::Global;
 
 /// The most bytes of a script, and one more: a longer text is refused without reading on.
@@ -82,7 +83,6 @@ enum Unread {
 // Reads the source to its end, or past the length of a script, and the script that its bytes are.
 fn read<S: Source>(alloc: Global, source: &mut S) -> Result<Script, Unread>
     ensures script { IfOk result (λ script. IsScriptOf (S.remaining source.old) script) }
-    ensures one_page { IfOk result (λ script. IsOnePage script) }
     ensures unread { IfErr result
         (λ why. IsUnreadFor (S.remaining source.old) (S.faults source.old) (S.faults source.new) why) }
     ensures reading { Loses 0 1048577 (S.remaining source.old) (S.remaining source.new) }
@@ -96,54 +96,42 @@ fn read<S: Source>(alloc: Global, source: &mut S) -> Result<Script, Unread>
         Err(ReadToEnd::Failed) => return Err(Unread::Failed),
         Err(ReadToEnd::NoMemory) => return Err(Unread::NoMemory),
     };
-    match runnable(alloc, text.as_slice()) {
+    match read_script(alloc, text.as_slice()) {
         Ok(script) => Ok(script),
         Err(ReadRefusal::Fault(fault)) => Err(Unread::Fault(fault)),
         Err(ReadRefusal::NoMemory) => Err(Unread::NoMemory),
     }
 }
 
-// The script that the bytes spell, where the machine can run it. Else it is refused as one that comes later, at the
-// first line that the machine lacks.
-fn runnable(alloc: Global, text: &[u8]) -> Result<Script, ReadRefusal>
-    ensures script { IfOk result (λ script. Runs text.now script) }
-    ensures refused { IfErr result (λ refusal. IsRefusalFor text.now refusal) }
-{
-    let script = read_script(alloc, text)?;
-    if script.is_one_page() {
-        return Ok(script);
-    }
-    match first_line_beyond(alloc, text) {
-        Ok(line) => Err(ReadRefusal::Fault(later(line))),
-        Err(_) => Err(ReadRefusal::NoMemory),
-    }
+// A script that has run: its journal, whether actors are stuck at its end, and its text.
+#[derive(Debug, Drop)]
+struct Told {
+    journal: Journal,
+    stuck: bool,
+    text: Vec<u8>,
 }
 
-fn later(line: u32) -> ScriptFault
-    ensures { result ≡ record { line = line; reason = Reason.Later } }
-{
-    ScriptFault {
-        line,
-        reason: Reason::Later,
-    }
-}
-
-// Runs the script: its journal, and the journal's text. Where there is no actor, there is nothing to run.
-fn run_script(alloc: Global, script: &Script) -> Result<(Journal, Vec<u8>), NoMemory>
-    requires { IsOnePage script.now }
-    ensures run { IfOk result (λ run. IsRunOf script.now run.0.notes) }
-    ensures text { IfOk result (λ run. run.1.items ≡ text_of script.now run.0.notes) }
+// Runs the script.
+fn run_script(alloc: Global, script: &Script) -> Result<Told, NoMemory>
+    ensures { IfOk result (λ told. IsRunOf script.now told.stuck told.journal.notes told.text.items) }
 {
     core_run_follows();
     core_run_is_in_order();
     core_run_is_plain();
-    if script.actors() == 0 {
-        return Ok((Journal::new(alloc), Vec::new(alloc)));
-    }
+    core_run_is_known();
+    no_frame_has_its_cause();
+    runs_end_at_waits();
+    finished_runs_answer_all();
+    let _actors = script.actors();
     let machine = Machine::new(alloc, script)?;
-    let run = run_all(alloc, machine, script)?;
-    let text = journal_text(alloc, script, &run.journal)?;
-    Ok((run.journal, text))
+    let ran = run_all(alloc, machine, script)?;
+    let mut text = journal_text(alloc, script, &ran.journal)?;
+    push_stuck_lines(script, &ran.machine, &mut text)?;
+    Ok(Told {
+        journal: ran.journal,
+        stuck: ran.stuck,
+        text,
+    })
 }
 
 // Refuses a script: writes its fault.
@@ -168,33 +156,40 @@ fn refuse<K: Sink>(alloc: Global, sink: &mut K, fault: ScriptFault) -> Report
     Report::unrun(alloc, status, Some(fault))
 }
 
-// Runs the script, and writes its answers.
+// Runs the script, and writes its answers and the actors that are stuck.
 fn run_and_write<K: Sink>(alloc: Global, sink: &mut K, script: &Script) -> Report
-    requires { IsOnePage script.now }
-    ensures statuses { (result.status ≡ 0) ⊎ (result.status ≡ 6) ⊎ (result.status ≡ 7) }
+    ensures statuses { HasRun result.status ⊎ (result.status ≡ 6) ⊎ (result.status ≡ 7) }
     ensures refusal { result.refusal ≡ None }
-    ensures run { (result.status ≡ 7 → ⊥) → IsRunOf script.now result.journal.notes }
-    ensures text { result.status ≡ 0
-        → Appends (K.taken sink.old) (K.taken sink.new) (text_of script.now result.journal.notes) }
-    ensures part { result.status ≡ 6
-        → AppendsPart (K.taken sink.old) (K.taken sink.new) (text_of script.now result.journal.notes) }
+    ensures finished { result.status ≡ 0 → (text : List ℕ) × IsRunOf script.now false result.journal.notes text
+        × Appends (K.taken sink.old) (K.taken sink.new) text }
+    ensures stuck { result.status ≡ 4 → (text : List ℕ) × IsRunOf script.now true result.journal.notes text
+        × Appends (K.taken sink.old) (K.taken sink.new) text }
+    ensures part { result.status ≡ 6 → (stuck : Bool) × (text : List ℕ)
+        × IsRunOf script.now stuck result.journal.notes text × AppendsPart (K.taken sink.old) (K.taken sink.new) text }
     ensures write_fault { result.status ≡ 6 → HasCause (K.faults sink.old) (K.faults sink.new) }
     ensures uncounted { (result.status ≡ 6 → ⊥) → K.faults sink.new ≡ K.faults sink.old }
     ensures unwritten { result.status ≡ 7 → sink.new ≡ sink.old }
     ensures unrun { result.status ≡ 7 → result.journal.notes ≡ [] }
 {
-    let Ok((journal, text)) = run_script(alloc, script) else {
+    let Ok(told) = run_script(alloc, script) else {
         return Report::unrun(alloc, 7, None);
     };
-    let status = if write_all(sink, text.as_slice()).is_ok() {
-        0
-    } else {
-        6
-    };
+    let written = write_all(sink, told.text.as_slice()).is_ok();
     Report {
-        status,
-        journal,
+        status: status_of(written, told.stuck),
+        journal: told.journal,
         refusal: None,
+    }
+}
+
+// The status of a script that has run.
+fn status_of(written: bool, stuck: bool) -> u8
+    ensures { result ≡ (if written then if stuck then 4 else 0 else 6) }
+{
+    match (written, stuck) {
+        (true, false) => 0,
+        (true, true) => 4,
+        (false, _) => 6,
     }
 }
 
@@ -217,10 +212,12 @@ fn show_usage<K: Sink>(alloc: Global, sink: &mut K) -> Report
 }
 
 /// What the program does. The words are those behind its name, and the one command so far is `run`: it reads a
-/// script from the source, to its end or past the length of a script, runs it, and writes a line for each answer.
+/// script from the source, to its end or past the length of a script, runs it, and writes a line for each answer, and
+/// behind these one for each actor that is stuck.
 ///
 /// The statuses: 0, the script ran and the sink took its whole text; 2, the words are no command; 3, the bytes are
-/// no script; 5, a read failed; 6, a write failed; 7, memory ran out.
+/// no script; 4, the same as 0, but that actors are stuck: they wait at the end of the run; 5, a read failed; 6, a
+/// write failed; 7, memory ran out.
 pub fn gup<S: Source, K: Sink>(
     alloc: Global,
     words: &[String],
@@ -229,32 +226,38 @@ pub fn gup<S: Source, K: Sink>(
 ) -> Report
     // The headline: where the source tells its bytes, they are a script, the journal follows it in its order and is
     // plain, what the sink took is the journal's text and nothing else, and the journal is the core run, in which
-    // every actor has finished.
-    ensures script { result.status ≡ 0 → AreScript (S.remaining source.old) }
-    ensures follows { result.status ≡ 0
+    // every actor has finished, or, at status 4, at whose end actors have operations left and wait for a process.
+    ensures script { HasRun result.status → AreScript (S.remaining source.old) }
+    ensures follows { HasRun result.status
         → OfScript (S.remaining source.old) (λ script. Follows script result.journal.notes) }
-    ensures in_order { result.status ≡ 0
+    ensures in_order { HasRun result.status
         → OfScript (S.remaining source.old) (λ script. InOrder script result.journal.notes) }
-    ensures plain { result.status ≡ 0
+    ensures plain { HasRun result.status
         → OfScript (S.remaining source.old) (λ script. IsPlain script result.journal.notes) }
     ensures text { result.status ≡ 0 → OfScript (S.remaining source.old)
         (λ script. Appends (K.taken sink.old) (K.taken sink.new) (text_of script result.journal.notes)) }
+    ensures stuck_text { result.status ≡ 4 → OfScript (S.remaining source.old)
+        (λ script. (end : RunState) × IsCoreRun script result.journal.notes end
+        × Appends (K.taken sink.old) (K.taken sink.new) (run_text script result.journal.notes end)) }
     ensures core { result.status ≡ 0
         → OfScript (S.remaining source.old) (λ script. IsFinishedRun script result.journal.notes) }
+    ensures stuck { result.status ≡ 4
+        → OfScript (S.remaining source.old) (λ script. IsStuckRun script result.journal.notes) }
 
-    // Each operation has one answer, and each refusal its cause in the plain state.
+    // Each operation has one answer, where all have finished, and each refusal its cause: the plain state denies the
+    // operation so, or no frame is free.
     ensures lines { result.status ≡ 0 → OfScript (S.remaining source.old)
         (λ script. length (outcomes_of result.journal.notes) ≡ operations script) }
-    ensures causes { result.status ≡ 0
+    ensures causes { HasRun result.status
         → OfScript (S.remaining source.old) (λ script. HasCauses script result.journal.notes) }
 
-    // Which statuses there are. Words that are a command and bytes that are a script give status 0, where neither
-    // the source nor the sink has failed, unless memory runs out.
+    // Which statuses there are. Words that are a command and bytes that are a script give status 0, where all actors
+    // finish, or 4, where some are stuck, where neither the source nor the sink has failed, unless memory runs out.
     ensures statuses { IsStatus result.status }
     ensures complete { IsRun (map string_bytes words.now)
         → (HasCause (S.faults source.old) (S.faults source.new) → ⊥)
         → (HasCause (K.faults sink.old) (K.faults sink.new) → ⊥)
-        → OfScript (S.remaining source.old) (λ script. (result.status ≡ 0) ⊎ (result.status ≡ 7)) }
+        → OfScript (S.remaining source.old) (λ script. IsEnd script result.status result.journal.notes) }
 
     // Status 2 comes exactly where the words are no command, unless the sink fails.
     ensures usage { result.status ≡ 2 → IsRun (map string_bytes words.now) → ⊥ }
@@ -278,7 +281,7 @@ pub fn gup<S: Source, K: Sink>(
         → IsReadThrough (S.remaining source.old) (S.remaining source.new) }
     ensures unwritten { (result.status ≡ 5) ⊎ (result.status ≡ 7) → sink.new ≡ sink.old }
 
-    // Status 6 comes exactly where a write failed, in place of 0, 2 and 3, and what was taken is a front of the text.
+    // Status 6 comes exactly where a write failed, in place of 0, 2, 3 and 4, and what was taken is a front of the text.
     ensures write_fault { result.status ≡ 6 → HasCause (K.faults sink.old) (K.faults sink.new) }
     ensures no_write_fault { (result.status ≡ 6 → ⊥) → K.faults sink.new ≡ K.faults sink.old }
     ensures usage_part { result.status ≡ 6 → (IsRun (map string_bytes words.now) → ⊥)
@@ -286,11 +289,11 @@ pub fn gup<S: Source, K: Sink>(
     ensures refusal_part { result.status ≡ 6 → IfSome result.refusal
         (λ fault. AppendsPart (K.taken sink.old) (K.taken sink.new) (refusal_text fault)) }
     ensures text_part { result.status ≡ 6 → IsRun (map string_bytes words.now) → OfScript (S.remaining source.old)
-        (λ script. IsRunOf script result.journal.notes
-        × AppendsPart (K.taken sink.old) (K.taken sink.new) (text_of script result.journal.notes)) }
+        (λ script. (stuck : Bool) × (text : List ℕ) × IsRunOf script stuck result.journal.notes text
+        × AppendsPart (K.taken sink.old) (K.taken sink.new) text) }
 
     // A refusal is there exactly where a script was refused, and a journal only where one ran.
-    ensures no_refusal { (result.status ≡ 0) ⊎ (result.status ≡ 2) ⊎ (result.status ≡ 5) → result.refusal ≡ None }
+    ensures no_refusal { HasRun result.status ⊎ (result.status ≡ 2) ⊎ (result.status ≡ 5) → result.refusal ≡ None }
     ensures refused_unrun { IfSome result.refusal (λ fault. result.journal.notes ≡ []) }
     ensures unrun { (result.status ≡ 2) ⊎ (result.status ≡ 3) ⊎ (result.status ≡ 5) ⊎ (result.status ≡ 7)
         → result.journal.notes ≡ [] }

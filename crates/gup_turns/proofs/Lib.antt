@@ -16,4 +16,9 @@ pub mod Owning
 pub mod Following
 pub mod FollowRuns
 pub mod Causes
+pub mod Sums
+pub mod Bounds
 pub mod Reached
+pub mod Spending
+pub mod Ends
+pub mod Answered

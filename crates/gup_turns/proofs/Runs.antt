@@ -25,6 +25,11 @@ one_run script (turn ∷ turns) (o ∷ others) r end last run other =
     let later = one_run script turns others (run_after script r turn.actor) end last run.2 (subst (λ (a : ℕ). Runs script (run_after script r a) others last) actor other.2) in
     ap (λ (t : Turn). t ∷ turns) same ∙ ap (λ (ts : List Turn). o ∷ ts) later
 
+-- and these turns have one end
+pub one_end : (script : ScriptValue) (turns : List Turn) (r end last : RunState) → Runs script r turns end → Runs script r turns last → end ≡ last
+one_end script [] r end last run other = sym run.1 ∙ other.1
+one_end script (turn ∷ turns) r end last run other = one_end script turns (run_after script r turn.actor) end last run.2 other.2
+
 -- what a run has led to, as the judge of plain journals sees it
 abbrev pub judged_of : RunState → Judged
 judged_of r = record { plain = plain_of r.core; places = r.places }

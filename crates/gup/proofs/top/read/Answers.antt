@@ -1,24 +1,25 @@
 use Rattle.std.proofs.Common.{List, ℕ, subst}
 use Rattle.gup_reader.specs.declared.refusal.ReadRefusal.{ReadRefusal}
-use Rattle.gup.specs.FirstPath.{Runs, IsRefused, IsRefusalFor}
+use Rattle.gup_reader.specs.Fault.{HasFault, IsRefusalOf}
+use Rattle.gup_reader.specs.Grammar.{Accepts}
 use Rattle.gup.proofs.Told.{told_script, told_refused, loses_first}
 use Rattle.gup.proofs.top.read.Goals as goal
 
-pub returns-in-Ok-runnable-clause-script : goal.returns-in-Ok-runnable-clause-script
-returns-in-Ok-runnable-clause-script g c =
-    let s = c.in-Ok-runnable.script in
-    let P : List ℕ → Type 0 = λ v. Runs v s in
-    told_script (g.S.Source.remaining c.args.source.now) c.in-Ok.text.items s c.in-Ok.ensures.bytes (subst P c.as_slice.ensures.value c.in-Ok-runnable.ensures.script)
+pub returns-in-Ok-read_script-clause-script : goal.returns-in-Ok-read_script-clause-script
+returns-in-Ok-read_script-clause-script g c =
+    let s = c.in-Ok-read_script.script in
+    let P : List ℕ → Type 0 = λ v. Accepts v s in
+    told_script (g.S.Source.remaining c.args.source.now) c.in-Ok.text.items s c.in-Ok.ensures.bytes (subst P c.as_slice.ensures.value c.in-Ok-read_script.ensures.script)
 
 pub returns-in-Err-Fault-clause-unread : goal.returns-in-Err-Fault-clause-unread
 returns-in-Err-Fault-clause-unread g c =
-    let P : ReadRefusal → Type 0 = λ r. IsRefusalFor c.as_slice.result.now r in
-    let Q : List ℕ → Type 0 = λ v. IsRefused v c.in-Err-Fault.fault in
+    let P : ReadRefusal → Type 0 = λ r. IsRefusalOf c.as_slice.result.now r in
+    let Q : List ℕ → Type 0 = λ v. HasFault v c.in-Err-Fault.fault in
     let refused = subst Q c.as_slice.ensures.value (subst P c.in-Err-Fault.field-0-is c.in-Err-Fault.ensures.refused) in
     told_refused (g.S.Source.remaining c.args.source.now) c.in-Ok.text.items c.in-Err-Fault.fault c.in-Ok.ensures.bytes refused
 
-pub returns-in-Ok-runnable-clause-reading : goal.returns-in-Ok-runnable-clause-reading
-returns-in-Ok-runnable-clause-reading g c = loses_first 1048577 (g.S.Source.remaining c.args.source.now) _ c.in-Ok.ensures.rest
+pub returns-in-Ok-read_script-clause-reading : goal.returns-in-Ok-read_script-clause-reading
+returns-in-Ok-read_script-clause-reading g c = loses_first 1048577 (g.S.Source.remaining c.args.source.now) _ c.in-Ok.ensures.rest
 
 pub returns-in-Err-Fault-clause-reading : goal.returns-in-Err-Fault-clause-reading
 returns-in-Err-Fault-clause-reading g c = loses_first 1048577 (g.S.Source.remaining c.args.source.now) _ c.in-Ok.ensures.rest

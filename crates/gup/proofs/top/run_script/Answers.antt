@@ -1,53 +1,51 @@
-use Rattle.std.proofs.Common.{◌≡◌, ◌≤◌, ℕ, List, [], length, subst, sym, ◌∙◌, arith}
+use Rattle.std.proofs.Common.{◌≡◌, ℕ, ◌++◌, Bool, true, false, List, ap, sym, subst, ◌∙◌, length}
 use Rattle.gup_plain.specs.Note.{NoteValue}
+use Rattle.gup_script.specs.Script.{ScriptValue}
 use Rattle.gup_follows.specs.Plain.{judged_first}
-use Rattle.gup_turns.specs.Run.{run_start}
-use Rattle.gup.specs.Report.{IsRunOf}
-use Rattle.gup.proofs.Causes.{caused}
-use Rattle.gup.proofs.FirstPaths.{first_path, nothing_runs, all_finished, no_operations}
+use Rattle.gup_turns.specs.Cause.{HaveFinished}
+use Rattle.gup_turns.specs.Run.{RunState}
+use Rattle.gup_sched.specs.Ran.{SaysStuck}
+use Rattle.gup_lines.specs.Text.{text_of}
+use Rattle.gup.specs.Stuck.{stuck_text}
+use Rattle.gup.proofs.Causes.{caused, outcomes_answered}
+use Rattle.gup.proofs.Ended.{all_wait}
 use Rattle.gup.proofs.top.run_script.Goals as goal
 
--- without an actor the journal is empty
-pub returns-then-actors-eq0-clause-run : goal.returns-then-actors-eq0-clause-run
-returns-then-actors-eq0-clause-run c =
+pub push_stuck_lines-requires-clause-same : goal.push_stuck_lines-requires-clause-same
+push_stuck_lines-requires-clause-same c = c.in_ok-ran.ensures.script
+
+pub push_stuck_lines-requires-clause-named : goal.push_stuck_lines-requires-clause-named
+push_stuck_lines-requires-clause-named c =
     let script = c.args.script.now in
-    let none : length script.actors ≡ 0 = sym c.actors.ensures.count ∙ c.if-actors-eq0.true in
-    let valid = c.actors.ensures.valid in
-    let run = nothing_runs script c.requires none in
-    let plain = c.core_run_is_plain.ensures script [] (run_start script) valid run in
-    let P : List NoteValue → Type 0 = λ notes. IsRunOf script notes in
-    subst P (sym c.new.ensures)
-    (record {
-      follows = c.core_run_follows.ensures script [] (run_start script) valid run;
-      in_order = c.core_run_is_in_order.ensures script [] (run_start script) valid run;
-      plain = plain;
-      core = (run_start script, run, all_finished script (run_start script) none);
-      causes = caused script (judged_first script) [] plain tt;
-      lines = no_operations script none;
-    })
+    let valid = c.actors-actors.ensures.valid in
+    let run = c.in_ok-ran.ensures.core in
+    (run.0, run.2, λ a waiting is. c.runs_end_at_waits.ensures.waits script run.1.0 run.0 valid run.1.2 a waiting is)
 
--- with one actor the script is of the first path
-one_actor : (n k : ℕ) → n ≡ k → (n ≡ 0 → ⊥) → k ≤ 1 → k ≡ 1
-one_actor n k is some few = omega (arith, is, some, few)
+finished : (stuck : Bool) (script : ScriptValue) (end : RunState) → SaysStuck stuck script end → stuck ≡ false → HaveFinished script end
+finished stuck script end says is = subst (λ (b : Bool). SaysStuck b script end) is says
 
-pub new-requires-2-clause-one_actor : goal.new-requires-2-clause-one_actor
-new-requires-2-clause-one_actor c = one_actor _ _ c.actors.ensures.count c.if-actors-eq0.false c.requires.one_actor
-
-pub run_all-requires-clause-form : goal.run_all-requires-clause-form
-run_all-requires-clause-form c =
-    first_path c.args.script.now c.actors.ensures.valid c.requires (one_actor _ _ c.actors.ensures.count c.if-actors-eq0.false c.requires.one_actor)
-
-pub returns-clause-run : goal.returns-clause-run
-returns-clause-run c =
+pub returns : goal.returns
+returns c =
     let script = c.args.script.now in
-    let valid = c.actors.ensures.valid in
-    let run = c.in_ok-run.ensures.core in
-    let plain = c.core_run_is_plain.ensures script _ run.0 valid run.1 in
+    let valid = c.actors-actors.ensures.valid in
+    let run = c.in_ok-ran.ensures.core in
+    let notes = c.in_ok-ran.ran.journal.notes in
+    let end : RunState = run.0 in
+    let core = run.1 in
+    let plain = c.core_run_is_plain.ensures script notes end valid core in
+    let known = c.core_run_is_known.ensures script notes end valid core in
+    let stays = c.runs_end_at_waits.ensures.ends script core.0 end core.2 in
+    let named = c.runs_end_at_waits.ensures.waits script core.0 end valid core.2 in
+    let outcomes = outcomes_answered notes in
     record {
-      follows = c.core_run_follows.ensures script _ run.0 valid run.1;
-      in_order = c.core_run_is_in_order.ensures script _ run.0 valid run.1;
+      follows = c.core_run_follows.ensures script notes end valid core;
+      in_order = c.core_run_is_in_order.ensures script notes end valid core;
       plain = plain;
-      core = run;
-      causes = caused script (judged_first script) _ plain c.in_ok-run.ensures.known;
-      lines = c.in_ok-run.ensures.lines;
+      causes = (caused script (judged_first script) notes plain known, (core.0, end, core.1, core.2, c.no_frame_has_its_cause.ensures script core.0 end core.2));
+      end = end;
+      core = core;
+      ends = run.3;
+      waits = all_wait script end stays named;
+      lines = λ is. outcomes ∙ c.finished_runs_answer_all.ensures script notes end valid core (finished c.in_ok-ran.ran.stuck script end run.3 is);
+      text_is = c.in_ok-push_stuck_lines.ensures end run.2 ∙ ap (λ (l : List ℕ). l ++ stuck_text script end) c.in_ok-text.ensures;
     }

@@ -1,0 +1,83 @@
+-- The end of a run: who waits, and the lines of those.
+use Rattle.std.proofs.Common.{◌≡◌, ℕ, ◌+◌, ◌<◌, ◌≤◌, Bool, true, false, List, [], ◌∷◌, ◌++◌, Option, Some, None, slice_get, length, nat_le, inl, inr, refl, sym, ap, subst, ◌∙◌, zero, suc, arith, append-nil}
+use Rattle.std.proofs.lemmas.Bool.{leb-true, leb-false}
+use Rattle.std.proofs.lemmas.Option.{slice_get_past, slice_get_within}
+use Rattle.gup_plain.specs.Note.{NoteValue}
+use Rattle.gup_plain.specs.declared.note.Waiting.{Waiting}
+use Rattle.gup_plain.specs.declared.note.Waiting.TheVariants as waitings
+use Rattle.gup_script.specs.declared.op.Op.{Op}
+use Rattle.gup_script.specs.Script.{ScriptValue}
+use Rattle.gup_follows.specs.Place.{has_finished, ops_of, process_of}
+use Rattle.gup_turns.specs.Cause.{HaveFinished, WaitsForProcess}
+use Rattle.gup_turns.specs.Run.{RunState, op_in, waiting_with, waiting_in, is_ready, can_go, IsCoreRun}
+use Rattle.gup_lines.specs.Text.{NamesProcess, text_of}
+use Rattle.gup.specs.Report.{HasRun, IsRunOf, IsEnd}
+use Rattle.gup.specs.Stuck.{IsFinishedRun, IsStuckRun, AreWaiting, stuck_of, stuck_lines, stuck_text, run_text}
+
+-- an actor that has finished has no operation left, and one that hasn't has one
+
+op_of_finished : (script : ScriptValue) (end : RunState) (a : ℕ) → has_finished script a (end.places a) ≡ true → op_in script end a ≡ None
+op_of_finished script end a is =
+    slice_get_past (ops_of script a) (end.places a).answered (leb-true (length (ops_of script a)) (end.places a).answered is)
+
+unready_waits : (script : ScriptValue) (end : RunState) (a : ℕ) (o : Option Op) (w : Option Waiting) → op_in script end a ≡ o → waiting_in script end a ≡ w → has_finished script a (end.places a) ≡ false → is_ready o w ≡ false → (waiting : Waiting) × (waiting_in script end a ≡ Some waiting)
+unready_waits script end a None w is waits left stays =
+    let less = leb-false (length (ops_of script a)) (end.places a).answered left in
+    absurd (none_there (ops_of script a) (end.places a).answered less is)
+  where
+    none_there : (ops : List Op) (k : ℕ) → k < length ops → slice_get ops k ≡ None → ⊥
+    none_there [] k less none = omega arith
+    none_there (op ∷ ops) zero less none = cc none
+    none_there (op ∷ ops) (suc k) less none = none_there ops k (omega arith) none
+unready_waits script end a (Some op) (Some waiting) is waits left stays = (waiting, waits)
+unready_waits script end a (Some op) None is waits left stays = absurd (cc stays)
+
+pub all_wait : (script : ScriptValue) (end : RunState) → ((a : ℕ) → a < length script.actors → can_go script end a ≡ false) → ((a : ℕ) (w : Waiting) → waiting_in script end a ≡ Some w → WaitsForProcess script w) → AreWaiting script end
+all_wait script end stays named a below left =
+    let found = unready_waits script end a (op_in script end a) (waiting_in script end a) refl refl left (stays a below) in
+    (found.0, found.1, named a found.0 found.1)
+
+-- lines
+
+pub names_process : (script : ScriptValue) (w : Waiting) → WaitsForProcess script w → NamesProcess script w
+names_process script w waits = subst (λ (x : Waiting). NamesProcess script x) (sym waits.2) waits.1
+
+-- where all have finished there are none
+none_stuck : (script : ScriptValue) (end : RunState) (n : ℕ) → n ≤ length script.actors → HaveFinished script end → stuck_lines script end n ≡ []
+none_stuck script end zero most finished = refl
+none_stuck script end (suc n) most finished =
+    let before = none_stuck script end n (omega arith) finished in
+    let done : op_in script end n ≡ None = op_of_finished script end n (finished n (omega arith)) in
+    let waits : waiting_in script end n ≡ None = ap (waiting_with end.core n (process_of script n)) done in
+    ap (λ (l : List ℕ). l ++ stuck_of script n (waiting_in script end n)) before ∙ ap (stuck_of script n) waits
+
+pub finished_text : (script : ScriptValue) (notes : List NoteValue) (end : RunState) → HaveFinished script end → run_text script notes end ≡ text_of script notes
+finished_text script notes end finished =
+    ap (λ (l : List ℕ). text_of script notes ++ l) (none_stuck script end (length script.actors) (omega arith) finished) ∙ append-nil (text_of script notes)
+
+-- what is so of a script that has run is so whether actors are stuck or not
+abbrev pub IsToldRun : ScriptValue → List NoteValue → (stuck : Bool) → (List ℕ → Type 0) → Type 0
+IsToldRun script notes stuck IsWritten = (text : List ℕ) × IsRunOf script stuck notes text × IsWritten text
+
+pub ran : (script : ScriptValue) (notes : List NoteValue) (status : ℕ) (IsWritten : List ℕ → Type 0) (P : Type 0) → (status ≡ 0 → IsToldRun script notes false IsWritten) → (status ≡ 4 → IsToldRun script notes true IsWritten) → ((stuck : Bool) (text : List ℕ) → IsRunOf script stuck notes text → P) → HasRun status → P
+ran script notes status IsWritten P finished stuck each (inl zero_is) = let told = finished zero_is in each false told.0 told.1
+ran script notes status IsWritten P finished stuck each (inr four_is) = let told = stuck four_is in each true told.0 told.1
+
+pub finished_written : (script : ScriptValue) (notes : List NoteValue) (IsWritten : List ℕ → Type 0) → IsToldRun script notes false IsWritten → IsWritten (text_of script notes)
+finished_written script notes IsWritten told = subst IsWritten (told.1.text_is ∙ finished_text script notes told.1.end told.1.ends) told.2
+
+pub stuck_written : (script : ScriptValue) (notes : List NoteValue) (IsWritten : List ℕ → Type 0) → IsToldRun script notes true IsWritten → (end : RunState) × IsCoreRun script notes end × IsWritten (run_text script notes end)
+stuck_written script notes IsWritten told = (told.1.end, told.1.core, subst IsWritten told.1.text_is told.2)
+
+pub finished_run : (script : ScriptValue) (notes : List NoteValue) (IsWritten : List ℕ → Type 0) → IsToldRun script notes false IsWritten → IsFinishedRun script notes
+finished_run script notes IsWritten told = (told.1.end, told.1.core, told.1.ends)
+
+pub stuck_run : (script : ScriptValue) (notes : List NoteValue) (IsWritten : List ℕ → Type 0) → IsToldRun script notes true IsWritten → IsStuckRun script notes
+stuck_run script notes IsWritten told = (told.1.end, told.1.core, told.1.ends, told.1.waits)
+
+-- the end of a run, by its status
+pub ended : (script : ScriptValue) (notes : List NoteValue) (status : ℕ) (IsWritten : List ℕ → Type 0) → (status ≡ 0 → IsToldRun script notes false IsWritten) → (status ≡ 4 → IsToldRun script notes true IsWritten) → HasRun status → IsEnd script status notes
+ended script notes status IsWritten finished stuck (inl zero_is) =
+    let told = finished zero_is in
+    inl (zero_is, finished_run script notes IsWritten told, told.1.lines refl)
+ended script notes status IsWritten finished stuck (inr four_is) = inr (inl (four_is, stuck_run script notes IsWritten (stuck four_is)))

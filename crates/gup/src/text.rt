@@ -1,0 +1,105 @@
+//! The texts that the program writes: that of a run, and that of a refusal.
+ghost use Rattle.std.specs.Prelude.{◌≡◌, ℕ, ◌≤◌, ◌++◌, length, Some, decimal, IfOk, OnOk};
+ghost use Rattle.std.specs.List.{flat_map};
+ghost use Rattle.gup_plain.specs.declared.note.Waiting.{Waiting as WaitingValue};
+ghost use Rattle.gup_turns.specs.Cause.{WaitsForProcess};
+ghost use Rattle.gup_turns.specs.Run.{RunState, waiting_in};
+ghost use Rattle.gup_core.specs.Machine.{Shows};
+ghost use Rattle.gup_lines.specs.Text.{line_of, text_of, NamesProcess};
+ghost use Rattle.gup.specs.Report.{reason_text, refusal_text};
+ghost use Rattle.gup.specs.Stuck.{stuck_of, stuck_text};
+
+use gup_base::{ActorNo, NoMemory};
+use gup_core::Machine;
+use gup_lines::{Outcome, outcomes, push_line, push_stuck};
+use gup_plain::{Journal, Waiting};
+use gup_reader::{Reason, ScriptFault};
+use gup_script::Script;
+use itoa::Buffer;
+use std::alloc::Global;
+
+/// The text of a journal: a line for each answer, in order.
+pub fn journal_text(alloc: Global, script: &Script, journal: &Journal) -> Result<Vec<u8>, NoMemory>
+    ensures { IfOk result (λ text. text.items ≡ text_of script.now journal.now.notes) }
+{
+    let outcomes = outcomes(alloc, script, journal)?;
+    lines_of(alloc, script, outcomes.all())
+}
+
+fn lines_of(alloc: Global, script: &Script, outcomes: &[Outcome]) -> Result<Vec<u8>, NoMemory>
+    ensures { IfOk result (λ text. text.items ≡ flat_map (line_of script.now) outcomes.now) }
+{
+    let mut text = Vec::new(alloc);
+    for o in outcomes {
+        push_line(script, o, &mut text)?;
+    }
+    Ok(text)
+}
+
+/// Appends a line for each actor that waits, in declared order, with what it waits for. The machine shows a state in
+/// which that is always a process.
+pub fn push_stuck_lines(script: &Script, machine: &Machine, text: &mut Vec<u8>) -> Result<(), NoMemory>
+    requires same { machine.now.script ≡ script.now }
+    requires named { (r : RunState) × Shows machine.now r
+        × ((a : ℕ) (waiting : WaitingValue) → waiting_in script.now r a ≡ Some waiting → WaitsForProcess script.now waiting) }
+    ensures { OnOk result ((r : RunState) → Shows machine.now r → text.new.items ≡ text.old.items ++ stuck_text script.now r) }
+{
+    for k in 0..script.actors() {
+        let actor = ActorNo::new(u64::from(k)).unwrap();
+        push_stuck_line(script, actor, machine.waits(actor), text)?;
+    }
+    Ok(())
+}
+
+// The line of an actor, if it waits.
+fn push_stuck_line(script: &Script, actor: ActorNo, waiting: Option<Waiting>, text: &mut Vec<u8>) -> Result<(), NoMemory>
+    requires { (w : WaitingValue) → waiting ≡ Some w → NamesProcess script.now w }
+    ensures { OnOk result (text.new.items ≡ text.old.items ++ stuck_of script.now actor waiting) }
+{
+    match waiting {
+        Some(waiting) => push_stuck(script, actor, waiting, text),
+        None => Ok(()),
+    }
+}
+
+fn push_text(text: &mut Vec<u8>, piece: &str) -> Result<(), NoMemory>
+    ensures { OnOk result (text.new.items ≡ text.old.items ++ piece.now) }
+{
+    text.extend_from_slice(piece.as_bytes())?;
+    Ok(())
+}
+
+/// The line of a refused script: `line n: reason`.
+pub fn refusal_line(alloc: Global, fault: ScriptFault) -> Result<Vec<u8>, NoMemory>
+    ensures { IfOk result (λ text. text.items ≡ refusal_text fault) }
+{
+    let mut text = Vec::new(alloc);
+    let mut number = Buffer::new();
+    push_text(&mut text, "line ")?;
+    push_text(&mut text, number.format(u64::from(fault.line)))?;
+    push_text(&mut text, ": ")?;
+    push_text(&mut text, reason_name(fault.reason))?;
+    push_text(&mut text, "\n")?;
+    Ok(text)
+}
+
+fn reason_name(reason: Reason) -> &'static str
+    ensures { result.now ≡ reason_text reason }
+{
+    match reason {
+        Reason::Long => "long",
+        Reason::Byte => "byte",
+        Reason::End => "end",
+        Reason::Space => "space",
+        Reason::Head => "head",
+        Reason::Frames => "frames",
+        Reason::Word => "word",
+        Reason::Shape => "shape",
+        Reason::Number => "number",
+        Reason::Name => "name",
+        Reason::Twice => "twice",
+        Reason::Limit => "limit",
+        Reason::Later => "later",
+        Reason::Short => "short",
+    }
+}

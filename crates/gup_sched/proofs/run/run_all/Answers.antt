@@ -1,0 +1,110 @@
+use Rattle.std.proofs.Common.{◌≡◌, ℕ, ◌+◌, ◌-◌, ◌<◌, ◌≤◌, Bool, List, Option, Some, None, slice_get, length, refl, sym, ap, subst, ◌∙◌, arith}
+use Rattle.std.proofs.lemmas.Option.{slice_get_read}
+use Rattle.gup_plain.specs.Note.{NoteValue}
+use Rattle.gup_script.specs.Script.{ScriptValue}
+use Rattle.gup_follows.specs.Order.{behind}
+use Rattle.gup_turns.specs.Run.{RunState, run_start, run_after, pointed}
+use Rattle.gup_sched.specs.Ran.{SaysStuck}
+use Rattle.gup_sched.proofs.Underway.{has_costs, IsWritten, written_first, written_turn, IsPointed, pointed_first, pointed_turn, pointed_end, few_turns, most}
+use Rattle.gup_sched.proofs.run.run_all.Goals as goal
+
+-- the written turns
+
+pub loop-actor-init : goal.loop-actor-init
+loop-actor-init c =
+    let script = c.args.script.now in
+    let first = written_first script c.args.machine c.requires in
+    (run_start script, subst (λ (ns : List NoteValue). IsWritten script c.args.machine ns 0 (run_start script)) (sym c.new-journal.ensures) first)
+
+-- the actor of the turn
+is_written : (items turns : List ℕ) (k a : ℕ) → items ≡ turns → k < length items → slice_get items k ≡ Some a → (slice_get turns k ≡ Some a) × (k < length turns)
+is_written items turns k a same less is = (subst (λ (xs : List ℕ). slice_get xs k ≡ Some a) same is, subst (λ (xs : List ℕ). k < length xs) same less)
+
+pub loop-actor-preserved : goal.loop-actor-preserved
+loop-actor-preserved c =
+    let script = c.args.script.now in
+    let valid = c.actors-actors.ensures.valid in
+    let costs = has_costs script valid c.turns_are_spent.ensures.spent c.turns_are_spent.ensures.kept c.turns_are_spent.ensures.start c.reached_states_stand.ensures in
+    let r : RunState = c.loop-actor.invariant.0 in
+    let w = c.loop-actor.invariant.1 in
+    let items = c.turns-actor-items.result.now in
+    let k = c.loop-actor.actor-index in
+    let a = c.actor-item.result in
+    let there = is_written items script.turns k a c.turns-actor-items.ensures c.loop-actor-test.true (slice_get_read items (length items) k a refl c.loop-actor-test.true c.actor-item.is) in
+    let taken = c.in_ok-take_turn.ensures.turn r w.underway.shown in
+    let after = written_turn script valid costs c.loop-actor.machine c.take_turn.new.machine c.loop-actor.journal.notes taken.0 k r a there.0 there.1 c.in_ok-take_turn.ensures.script taken.2 w in
+    (run_after script r a, subst (λ (ns : List NoteValue). IsWritten script c.take_turn.new.machine ns (k + 1) (run_after script r a)) (sym taken.1) after)
+
+-- behind them
+
+-- all of them are over
+all_over : (items turns : List ℕ) (k : ℕ) → items ≡ turns → length items ≤ k → k ≤ length items → k ≡ length turns
+all_over items turns k same least most = let lengths = ap (λ (xs : List ℕ). length xs) same in omega (arith, lengths, least, most)
+
+pub loop-actor-2-init : goal.loop-actor-2-init
+loop-actor-2-init c =
+    let script = c.args.script.now in
+    let m = c.loop-actor.machine in
+    let notes = c.loop-actor.journal.notes in
+    let r : RunState = c.loop-actor.invariant.0 in
+    let over = all_over c.turns-actor-items.result.now script.turns c.loop-actor.actor-index c.turns-actor-items.ensures c.loop-actor-test.false c.loop-actor.auto.actor-index-end in
+    let first = pointed_first script m notes r (subst (λ (k : ℕ). IsWritten script m notes k r) over c.loop-actor.invariant.1) in
+    let zero = c.actor_no-pointer.ensures in
+    (λ some. omega (arith, some, zero), (r, subst (λ (k : ℕ). IsPointed script m notes k r) (sym zero) first))
+
+-- whom the pointer gives the turn
+is_pointed : (script other : ScriptValue) (r : RunState) (actors from : ℕ) (found o : Option ℕ) → other ≡ script → actors ≡ length script.actors → found ≡ pointed other r actors from → found ≡ o → pointed script r (length script.actors) from ≡ o
+is_pointed script other r actors from found o same all is was =
+    sym (ap (λ (n : ℕ). pointed script r n from) all) ∙ sym (ap (λ (s : ScriptValue). pointed s r actors from) same) ∙ sym is ∙ was
+
+fewer : (most before after : ℕ) → before < after → after ≤ most → most - after < most - before
+fewer most before after less within = omega arith
+
+pub loop-actor-2-preserved : goal.loop-actor-2-preserved
+loop-actor-2-preserved c =
+    let script = c.args.script.now in
+    let valid = c.actors-actors.ensures.valid in
+    let costs = has_costs script valid c.turns_are_spent.ensures.spent c.turns_are_spent.ensures.kept c.turns_are_spent.ensures.start c.reached_states_stand.ensures in
+    let r : RunState = c.loop-actor-2.invariant.1.0 in
+    let h = c.loop-actor-2.invariant.1.1 in
+    let a = c.in-Some.actor in
+    let n = c.take_turn-in-Some.new.machine in
+    let found = is_pointed script c.loop-actor-2.machine.script r c.actors-actors.result c.loop-actor-2.pointer c.next_to_go.result (Some a) h.underway.same c.actors-actors.ensures.count (c.next_to_go.ensures.next r h.underway.shown) c.in-Some.is in
+    let taken = c.in_ok-take_turn-2.ensures.turn r h.underway.shown in
+    let after = pointed_turn script valid costs c.loop-actor-2.machine n c.loop-actor-2.journal.notes taken.0 c.loop-actor-2.pointer r a found c.in_ok-take_turn-2.ensures.script taken.2 h in
+    let notes = subst (λ (ns : List NoteValue). IsPointed script n ns (behind (length script.actors) a) (run_after script r a)) (sym taken.1) after.0 in
+    let next : behind (length script.actors) a ≡ c.behind-pointer.result = ap (λ (k : ℕ). behind k a) (sym c.actors-actors.ensures.count) ∙ sym c.behind-pointer.ensures.next in
+    ((λ some. c.behind-pointer.ensures.below), (run_after script r a, subst (λ (k : ℕ). IsPointed script n c.take_turn-in-Some.new.journal.notes k (run_after script r a)) next notes))
+
+pub loop-actor-2-smaller : goal.loop-actor-2-smaller
+loop-actor-2-smaller c =
+    let script = c.args.script.now in
+    let valid = c.actors-actors.ensures.valid in
+    let costs = has_costs script valid c.turns_are_spent.ensures.spent c.turns_are_spent.ensures.kept c.turns_are_spent.ensures.start c.reached_states_stand.ensures in
+    let r : RunState = c.loop-actor-2.invariant.1.0 in
+    let h = c.loop-actor-2.invariant.1.1 in
+    let a = c.in-Some.actor in
+    let n = c.take_turn-in-Some.new.machine in
+    let found = is_pointed script c.loop-actor-2.machine.script r c.actors-actors.result c.loop-actor-2.pointer c.next_to_go.result (Some a) h.underway.same c.actors-actors.ensures.count (c.next_to_go.ensures.next r h.underway.shown) c.in-Some.is in
+    let taken = c.in_ok-take_turn-2.ensures.turn r h.underway.shown in
+    let after = pointed_turn script valid costs c.loop-actor-2.machine n c.loop-actor-2.journal.notes taken.0 c.loop-actor-2.pointer r a found c.in_ok-take_turn-2.ensures.script taken.2 h in
+    fewer (most script) c.loop-actor-2.machine.turns n.turns after.1 after.2
+
+-- the end
+
+stuck_at : (stuck : Bool) (m script : ScriptValue) (r : RunState) → m ≡ script → SaysStuck stuck m r → SaysStuck stuck script r
+stuck_at stuck m script r same says = subst (λ (s : ScriptValue). SaysStuck stuck s r) same says
+
+pub returns-clause-script : goal.returns-clause-script
+returns-clause-script c = c.loop-actor-2.invariant.1.1.underway.same
+
+pub returns-clause-core : goal.returns-clause-core
+returns-clause-core c =
+    let script = c.args.script.now in
+    let m = c.loop-actor-2.machine in
+    let r : RunState = c.loop-actor-2.invariant.1.0 in
+    let h = c.loop-actor-2.invariant.1.1 in
+    let costs = has_costs script c.actors-actors.ensures.valid c.turns_are_spent.ensures.spent c.turns_are_spent.ensures.kept c.turns_are_spent.ensures.start c.reached_states_stand.ensures in
+    let turns = few_turns script m c.loop-actor-2.journal.notes c.loop-actor-2.pointer r costs h in
+    let none = is_pointed script m.script r c.actors-actors.result c.loop-actor-2.pointer c.next_to_go.result None h.underway.same c.actors-actors.ensures.count (c.next_to_go.ensures.next r h.underway.shown) c.in_default.is in
+    (r, pointed_end script m c.loop-actor-2.journal.notes c.loop-actor-2.pointer r none h, h.underway.shown, stuck_at c.is_stuck.result m.script script r h.underway.same (c.is_stuck.ensures r h.underway.shown), turns)

@@ -1,0 +1,17 @@
+use Rattle.std.proofs.Common.{◌<◌, ◌-◌}
+use Rattle.gup_turns.specs.Run.{RunState}
+use Rattle.gup_sched.proofs.Underway.{IsWritten, IsPointed, most}
+use Rattle.gup_sched.proofs.run.run_all.Given as goal
+
+-- so many written turns are over
+abbrev pub invariant-loop-actor : goal.invariant-loop-actor
+invariant-loop-actor l = (r : RunState) × IsWritten l.script l.machine l.journal.notes l.actor-index r
+
+-- the written turns are over, and the pointer is at an actor, if there is one
+abbrev pub invariant-loop-actor-2 : goal.invariant-loop-actor-2
+invariant-loop-actor-2 l =
+    (0 < l.actors → l.pointer < l.actors) × ((r : RunState) × IsPointed l.script l.machine l.journal.notes l.pointer r)
+
+-- the turns that are left at most
+abbrev pub decreases-loop-actor-2 : goal.decreases-loop-actor-2
+decreases-loop-actor-2 l = most l.script - l.machine.turns

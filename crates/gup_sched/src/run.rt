@@ -1,0 +1,76 @@
+//! The run of a machine.
+ghost use Rattle.std.specs.Prelude.{◌≡◌, ℕ, ◌+◌, ◌*◌, ◌<◌, ◌≤◌, ◌++◌, List, length, IfOk, OnOk};
+ghost use Rattle.gup_plain.specs.Note.{NoteValue};
+ghost use Rattle.gup_turns.specs.Cost.{operations};
+ghost use Rattle.gup_turns.specs.Run.{RunState, IsCoreRun};
+ghost use Rattle.gup_core.specs.Machine.{Shows, TakesTurn, IsNew};
+ghost use Rattle.gup_sched.specs.Ran.{SaysStuck};
+
+use crate::order::{actor_no, behind, is_stuck, next_to_go};
+use gup_base::{ActorNo, NoMemory};
+use gup_core::{Machine, Turn};
+use gup_plain::Journal;
+use gup_script::Script;
+use gup_turns::{reached_states_stand, turns_are_spent};
+use std::alloc::Global;
+
+/// What a run leaves: its journal, whether it is stuck, which it is where an actor has operations left, and the
+/// machine as it is then.
+#[derive(Drop)]
+pub struct Run {
+    pub journal: Journal,
+    pub stuck: bool,
+    pub machine: Machine,
+}
+
+/// Runs the machine to the end of the script: first the written turns, then those that the pointer gives, the first
+/// actor at or behind it, in a circle, that has operations left and doesn't wait, until there is none. The journal is
+/// that of the script's core run, and the machine shows its end. Every run ends: behind its written turns it has at
+/// most 1,025 turns for each operation of the script. The journal may want memory.
+pub fn run_all(alloc: Global, machine: Machine, script: &Script) -> Result<Run, NoMemory>
+    requires { IsNew script.now machine }
+    ensures core { IfOk result (λ run. (end : RunState) × IsCoreRun script.now run.journal.notes end
+        × Shows run.machine end × SaysStuck run.stuck script.now end
+        × (end.turns ≤ length script.now.turns + 1025 * operations script.now)) }
+    ensures script { IfOk result (λ run. run.machine.script ≡ script.now) }
+{
+    reached_states_stand();
+    turns_are_spent();
+    let mut machine = machine;
+    let mut journal = Journal::new(alloc);
+    let actors = script.actors();
+    for actor in script.turns() {
+        take_turn(&mut machine, &mut journal, *actor)?;
+    }
+    let mut pointer = actor_no(0);
+    while let Some(actor) = next_to_go(&machine, actors, pointer) {
+        take_turn(&mut machine, &mut journal, actor)?;
+        pointer = behind(actors, actor);
+    }
+    Ok(Run {
+        journal,
+        stuck: is_stuck(&machine, actors),
+        machine,
+    })
+}
+
+// Takes the actor's turn, and puts its notes on at the end.
+fn take_turn(machine: &mut Machine, journal: &mut Journal, actor: ActorNo) -> Result<(), NoMemory>
+    requires { actor < length machine.old.script.actors }
+    ensures turn { OnOk result ((r : RunState) → Shows machine.old r → (told : List NoteValue)
+        × (journal.new.notes ≡ journal.old.notes ++ told) × TakesTurn machine.old machine.new actor r told) }
+    ensures script { OnOk result (machine.new.script ≡ machine.old.script) }
+{
+    let turn = machine.turn(actor);
+    push_turn(journal, &turn)
+}
+
+// Puts the notes of a turn on at the end.
+fn push_turn(journal: &mut Journal, turn: &Turn) -> Result<(), NoMemory>
+    ensures { OnOk result (journal.new.notes ≡ journal.old.notes ++ turn.now) }
+{
+    for note in turn.notes() {
+        journal.push(*note)?;
+    }
+    Ok(())
+}
