@@ -24,21 +24,21 @@ impl Model for Machine {
     ghost Value = { MachineValue };
 
     ghost view = { λ m. record {
-        script = m.script;
-        frames = record { movable = 0; normal = 0; counts = []; marks = []; words = [] };
-        spaces = [];
-        seats = [];
-        turns = 0;
+      script = m.script;
+      frames = record { movable = 0; normal = 0; counts = []; marks = []; words = [] };
+      spaces = [];
+      seats = [];
+      turns = 0;
     } };
 
     ghost use Rattle.gup_core.specs.Stub.{IsNone};
 
     ghost invariant = { λ m. IsNone (record {
-        script = m.script;
-        frames = record { movable = 0; normal = 0; counts = []; marks = []; words = [] };
-        spaces = [];
-        seats = [];
-        turns = 0;
+      script = m.script;
+      frames = record { movable = 0; normal = 0; counts = []; marks = []; words = [] };
+      spaces = [];
+      seats = [];
+      turns = 0;
     }) };
 }
 
