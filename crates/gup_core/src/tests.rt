@@ -316,13 +316,33 @@ fn loads_and_stores_fault(rt: HostRuntime) -> Result<(), Fail> {
     turn(&rt, &mut machine, 0, &[mapped(0, 5, 2, Rights::R), DONE]);
     turn(&rt, &mut machine, 0, &[What::Done(Answer::Forbidden)]);
     assert_eq!(rt; machine.free_frames(Zone::Movable), 1);
-    turn(&rt, &mut machine, 0, &[loaded(0, 5, 1, 0), What::Done(Answer::Value(0))]);
+    turn(
+        &rt,
+        &mut machine,
+        0,
+        &[loaded(0, 5, 1, 0), What::Done(Answer::Value(0))],
+    );
     assert_eq!(rt; machine.free_frames(Zone::Movable), 0);
     assert_eq!(rt; machine.free_frames(Zone::Normal), 1);
-    turn(&rt, &mut machine, 0, &[protected(0, 5, 2, Rights::RW), DONE]);
+    turn(
+        &rt,
+        &mut machine,
+        0,
+        &[protected(0, 5, 2, Rights::RW), DONE],
+    );
     turn(&rt, &mut machine, 0, &[stored(0, 5, 1, 9), DONE]);
-    turn(&rt, &mut machine, 0, &[loaded(0, 5, 1, 9), What::Done(Answer::Value(9))]);
-    turn(&rt, &mut machine, 0, &[loaded(0, 5, 0, 0), What::Done(Answer::Value(0))]);
+    turn(
+        &rt,
+        &mut machine,
+        0,
+        &[loaded(0, 5, 1, 9), What::Done(Answer::Value(9))],
+    );
+    turn(
+        &rt,
+        &mut machine,
+        0,
+        &[loaded(0, 5, 0, 0), What::Done(Answer::Value(0))],
+    );
     assert!(rt; machine.finished(actor(0)));
     turn(&rt, &mut machine, 0, &[What::Idle]);
     Ok(())
@@ -348,7 +368,12 @@ fn protections_lower_entries(rt: HostRuntime) -> Result<(), Fail> {
     turn(&rt, &mut machine, 0, &[What::Done(Answer::Missing)]);
     turn(&rt, &mut machine, 0, &[protected(0, 5, 2, Rights::R), DONE]);
     turn(&rt, &mut machine, 0, &[What::Done(Answer::Forbidden)]);
-    turn(&rt, &mut machine, 0, &[loaded(0, 5, 511, 9), What::Done(Answer::Value(9))]);
+    turn(
+        &rt,
+        &mut machine,
+        0,
+        &[loaded(0, 5, 511, 9), What::Done(Answer::Value(9))],
+    );
     Ok(())
 }
 
@@ -370,14 +395,24 @@ fn frames_run_out_and_come_back(rt: HostRuntime) -> Result<(), Fail> {
     let mut machine = machine(alloc, ops, Vec::new(alloc), Vec::new(alloc))?;
     turn(&rt, &mut machine, 0, &[mapped(0, 5, 3, Rights::RW), DONE]);
     turn(&rt, &mut machine, 0, &[stored(0, 5, 1, 9), DONE]);
-    turn(&rt, &mut machine, 0, &[loaded(0, 6, 0, 0), What::Done(Answer::Value(0))]);
+    turn(
+        &rt,
+        &mut machine,
+        0,
+        &[loaded(0, 6, 0, 0), What::Done(Answer::Value(0))],
+    );
     turn(&rt, &mut machine, 0, &[What::Done(Answer::NoFrame)]);
     turn(&rt, &mut machine, 0, &[What::Done(Answer::NoFrame)]);
     turn(&rt, &mut machine, 0, &[discarded(0, 5)]);
     turn(&rt, &mut machine, 0, &[discarded(0, 6), DONE]);
     assert_eq!(rt; machine.free_frames(Zone::Movable), 1);
     assert_eq!(rt; machine.free_frames(Zone::Normal), 1);
-    turn(&rt, &mut machine, 0, &[loaded(0, 5, 1, 0), What::Done(Answer::Value(0))]);
+    turn(
+        &rt,
+        &mut machine,
+        0,
+        &[loaded(0, 5, 1, 0), What::Done(Answer::Value(0))],
+    );
     Ok(())
 }
 
@@ -432,8 +467,18 @@ fn processes_are_apart(rt: HostRuntime) -> Result<(), Fail> {
     turn(&rt, &mut machine, 2, &[What::Wait(third_process())]);
     turn(&rt, &mut machine, 1, &[What::Done(Answer::Missing)]);
     turn(&rt, &mut machine, 1, &[mapped(1, 5, 1, Rights::RW), DONE]);
-    turn(&rt, &mut machine, 1, &[loaded(1, 5, 0, 0), What::Done(Answer::Value(0))]);
-    turn(&rt, &mut machine, 0, &[loaded(0, 5, 0, 1), What::Done(Answer::Value(1))]);
+    turn(
+        &rt,
+        &mut machine,
+        1,
+        &[loaded(1, 5, 0, 0), What::Done(Answer::Value(0))],
+    );
+    turn(
+        &rt,
+        &mut machine,
+        0,
+        &[loaded(0, 5, 0, 1), What::Done(Answer::Value(1))],
+    );
     assert!(rt; !machine.finished(actor(2)));
     Ok(())
 }
