@@ -22,7 +22,11 @@ const RUNS: [(&str, u8, &str); 22] = [
     // Nobody has anything to do.
     ("gup 1\nframes 8 8 64\nprocess p\nthread t p\n", 0, ""),
     ("gup 1\nframes 8 8 64\n", 0, ""),
-    ("gup 1\nframes 0 0 64\nchild c\nthread u c\ndevice d 8\nmover m\n", 0, ""),
+    (
+        "gup 1\nframes 0 0 64\nchild c\nthread u c\ndevice d 8\nmover m\n",
+        0,
+        "",
+    ),
     // Lines that say nothing.
     (
         "\n# one page\ngup 1\n\nframes 8 8 64\nseed 7\nprocess p\n# and one thread\nthread t p\non t load 5.0\n\n",
@@ -125,7 +129,11 @@ const RUNS: [(&str, u8, &str); 22] = [
         4,
         "t 1 missing\nstuck u process c\n",
     ),
-    ("gup 1\nframes 8 8 64\nchild c\nthread u c\non u exit\n", 4, "stuck u process c\n"),
+    (
+        "gup 1\nframes 8 8 64\nchild c\nthread u c\non u exit\n",
+        4,
+        "stuck u process c\n",
+    ),
 ];
 
 /// Texts that are no script, with the line and the reason.

@@ -38,7 +38,11 @@ fn lines_of(alloc: Global, script: &Script, outcomes: &[Outcome]) -> Result<Vec<
 
 /// Appends a line for each actor that waits, in declared order, with what it waits for. The machine shows a state in
 /// which that is always a process.
-pub fn push_stuck_lines(script: &Script, machine: &Machine, text: &mut Vec<u8>) -> Result<(), NoMemory>
+pub fn push_stuck_lines(
+    script: &Script,
+    machine: &Machine,
+    text: &mut Vec<u8>,
+) -> Result<(), NoMemory>
     requires same { machine.now.script ≡ script.now }
     requires named { (r : RunState) × Shows machine.now r
         × ((a : ℕ) (waiting : WaitingValue) → waiting_in script.now r a ≡ Some waiting → WaitsForProcess script.now waiting) }
@@ -52,7 +56,12 @@ pub fn push_stuck_lines(script: &Script, machine: &Machine, text: &mut Vec<u8>) 
 }
 
 // The line of an actor, if it waits.
-fn push_stuck_line(script: &Script, actor: ActorNo, waiting: Option<Waiting>, text: &mut Vec<u8>) -> Result<(), NoMemory>
+fn push_stuck_line(
+    script: &Script,
+    actor: ActorNo,
+    waiting: Option<Waiting>,
+    text: &mut Vec<u8>,
+) -> Result<(), NoMemory>
     requires { (w : WaitingValue) → waiting ≡ Some w → NamesProcess script.now w }
     ensures { OnOk result (text.new.items ≡ text.old.items ++ stuck_of script.now actor waiting) }
 {
