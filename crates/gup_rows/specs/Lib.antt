@@ -1,0 +1,11 @@
+pub mod Row
+pub mod RowLemmas
+pub mod Job
+pub mod Grid
+pub mod Objects
+pub mod Sheets
+pub mod Stores
+pub mod Lists
+pub mod Procs
+pub mod Handles
+pub mod Clearing
