@@ -9,3 +9,4 @@ pub mod Lists
 pub mod Procs
 pub mod Handles
 pub mod Clearing
+pub mod Mirrors

@@ -13,3 +13,4 @@ pub mod stores;
 pub mod handles;
 pub mod procs;
 pub mod clearing;
+pub mod mirrors;

@@ -4,6 +4,7 @@ ghost use Rattle.gup_rows.specs.Lists.{IsOneOf};
 
 use gup_base::{FrameNo, NoMemory, PageNo};
 use std::alloc::Global;
+use std::marker::Model;
 
 /// The pages once more.
 pub fn same_pages(alloc: Global, pages: &[PageNo]) -> Result<Vec<PageNo>, NoMemory>
@@ -63,4 +64,34 @@ pub fn are_same_frames(frames: &[FrameNo], others: &[FrameNo]) -> bool
     ensures { IsTrue result ↔ (frames.now ≡ others.now) }
 {
     frames == others
+}
+
+/// Frames in a row. Contracts see the list of them.
+#[derive(Drop)]
+pub struct Frames {
+    items: Vec<FrameNo>,
+}
+
+impl Model for Frames {
+    ghost use Rattle.std.specs.Prelude.{ℕ, List};
+
+    ghost Value = { List ℕ };
+
+    ghost view = { λ f. f.items.items };
+}
+
+impl Frames {
+    /// These frames.
+    pub fn new(items: Vec<FrameNo>) -> Frames
+        ensures { result ≡ items.items }
+    {
+        Frames { items }
+    }
+
+    /// The frames.
+    pub fn as_slice(&self) -> &[FrameNo]
+        ensures { result.now ≡ self.now }
+    {
+        self.items.as_slice()
+    }
 }

@@ -149,3 +149,44 @@ pub fn for_long(taken: &[Taken]) -> bool
         [first, ..] => first.long(),
     }
 }
+
+/// Pages that are taken, in order. Contracts see the list of them.
+#[derive(Drop)]
+pub struct TakenList {
+    items: Vec<Taken>,
+}
+
+impl Model for TakenList {
+    ghost use Rattle.std.specs.Prelude.{List};
+    ghost use Rattle.gup_events.specs.State.{Taken as TakenValue};
+
+    ghost Value = { List TakenValue };
+
+    ghost view = { λ t. t.items.items };
+}
+
+impl TakenList {
+    /// These pages.
+    pub fn new(items: Vec<Taken>) -> TakenList
+        ensures { result ≡ items.items }
+    {
+        TakenList { items }
+    }
+
+    /// The pages.
+    pub fn as_slice(&self) -> &[Taken]
+        ensures { result.now ≡ self.now }
+    {
+        self.items.as_slice()
+    }
+}
+
+/// Whether there is one.
+pub fn has_one(taken: &[Taken]) -> bool
+    ensures { IsTrue result ↔ (taken.now ≡ [] → ⊥) }
+{
+    match taken {
+        [] => false,
+        [_, ..] => true,
+    }
+}
