@@ -2,6 +2,7 @@
 use Rattle.std.proofs.Common.{◌≡◌, ℕ, Bool, true, false, cond, not, if◌then◌else◌, List, [], ◌∷◌, Option, Some, None, refl, sym, ◌∙◌, ap, arith}
 use Rattle.std.proofs.Math.Path.{fun_ext}
 use Rattle.std.proofs.lemmas.Bool.Decides.{nat_tests}
+use Rattle.std.proofs.lemmas.Map.Entries.{lookup-filter-keys}
 use Rattle.std.specs.BTreeMap.{BTreeMap, get, is_at}
 use Rattle.std.specs.List.{filter}
 use Rattle.std.specs.Map.{lookup}
@@ -14,28 +15,11 @@ use Rattle.gup_rows.specs.Clearing.{outside}
 abbrev pub is_kept : (first n : ℕ) → ℕ × List ℕ → Bool
 is_kept first n e = outside first n e.0
 
-pushed : (b : Bool) (k : ℕ) (e : ℕ × List ℕ) (es : List (ℕ × List ℕ)) → lookup (is_at (nat_cmp k)) (cond b (e ∷ es) es) ≡ cond b (cond (is_eq (nat_cmp k e.0)) (Some e.1) (lookup (is_at (nat_cmp k)) es)) (lookup (is_at (nat_cmp k)) es)
-pushed true k e es = refl
-pushed false k e es = refl
-
-step : (pe same pk : Bool) (x rest rest' : Option (List ℕ)) → (same ≡ true → pe ≡ pk) → rest ≡ cond pk rest' None → cond pe (cond same x rest) rest ≡ cond pk (cond same x rest') None
-step true true pk x rest rest' alike later = rw (← alike refl) refl
-step true false pk x rest rest' alike later = later
-step false true pk x rest rest' alike later = later ∙ rw (← alike refl) refl
-step false false pk x rest rest' alike later = later
-
-alike-key : (first n k j : ℕ) → is_eq (nat_cmp k j) ≡ true → outside first n j ≡ outside first n k
+alike-key : (first n k j : ℕ) → is_at (nat_cmp k) j ≡ true → outside first n j ≡ outside first n k
 alike-key first n k j h = grind (arith, nat_tests)
 
 left : (first n k : ℕ) (es : List (ℕ × List ℕ)) → lookup (is_at (nat_cmp k)) (filter (is_kept first n) es) ≡ cond (outside first n k) (lookup (is_at (nat_cmp k)) es) None
-left first n k [] = both (outside first n k)
-  where
-    both : (b : Bool) → ◌≡◌ {A = Option (List ℕ)} None (cond b None None)
-    both true = refl
-    both false = refl
-left first n k (e ∷ es) =
-    pushed (is_kept first n e) k e (filter (is_kept first n) es)
-    ∙ step (is_kept first n e) (is_eq (nat_cmp k e.0)) (outside first n k) (Some e.1) (lookup (is_at (nat_cmp k)) (filter (is_kept first n) es)) (lookup (is_at (nat_cmp k)) es) (alike-key first n k e.0) (left first n k es)
+left first n k es = lookup-filter-keys (is_at (nat_cmp k)) (λ o. outside first n o) (outside first n k) (λ j. alike-key first n k j) es
 
 read : (b : Bool) (o : Option (List ℕ)) → option_map_or word_of (cond (not b) o None) (λ _. 0) ≡ (if b then (λ _. 0) else option_map_or word_of o (λ _. 0))
 read true o = refl

@@ -175,10 +175,10 @@ impl Job {
 }
 
 /// Whether a fork that is there may find that no frame is left.
-pub fn may_fail(step: ForkStep) -> bool
-    ensures { IsTrue result ↔ MayFail (step_of step) }
+pub fn may_fail(step: &ForkStep) -> bool
+    ensures { IsTrue result ↔ MayFail (step_of step.now) }
 {
-    match step {
+    match *step {
         ForkStep::Failing => false,
         _ => true,
     }

@@ -4,6 +4,7 @@ ghost use Rattle.std.specs.BTreeMap.{get};
 ghost use Rattle.std.specs.Ordering.{nat_cmp};
 ghost use Rattle.gup_plain.specs.Put.{put, put2, spread};
 ghost use Rattle.gup_plain.specs.State.{named_or_zero};
+ghost use Rattle.gup_rows.specs.Grid.{found};
 ghost use Rattle.gup_rows.specs.Objects.{objects_in, numbers, object_of};
 
 use crate::grid::{Grid, nth};
@@ -71,12 +72,13 @@ impl Objects {
         Ok(row)
     }
 
-    /// A row with an object of its own for each of these pages: that of page q is `objects` + q.
-    pub fn own(&self, pages: &BTreeMap<PageNo, Rights>, objects: u64) -> Result<Row, NoMemory>
+    /// A row with an object of its own for each page that has rights: that of page q is `objects` + q.
+    pub fn own(&self, right: &Grid<Rights>, p: ProcNo, objects: u64) -> Result<Row, NoMemory>
         requires { objects + 2 ^ 35 < 2 ^ 64 }
-        ensures { IfOk result (λ row. numbers row ≡ (λ page. named_or_zero (get nat_cmp pages.now page) (objects + page))) }
+        ensures { IfOk result (λ row. numbers row ≡ (λ page. named_or_zero (found right.now p page) (objects + page))) }
     {
-        let row = pages
+        let row = right
+            .row(p)
             .iter()
             .map(|(page, _)| (*page, objects + page.get()))
             .collect(self.alloc)?;

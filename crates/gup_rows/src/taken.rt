@@ -190,3 +190,13 @@ pub fn has_one(taken: &[Taken]) -> bool
         [_, ..] => true,
     }
 }
+
+/// Whether there is none.
+pub fn has_none(taken: &[Taken]) -> bool
+    ensures { IsTrue result ↔ (taken.now ≡ []) }
+{
+    match taken {
+        [] => true,
+        [_, ..] => false,
+    }
+}

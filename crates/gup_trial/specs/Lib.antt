@@ -1,0 +1,5 @@
+pub mod State
+pub mod Tried
+pub mod Unpinned
+pub mod Failed
+pub mod Protected
