@@ -12,3 +12,6 @@ mod trial;
 
 pub use refused::Refused;
 pub use trial::Trial;
+
+#[cfg(test)]
+mod tests;

@@ -8,7 +8,7 @@ ghost use Rattle.gup_base.specs.declared.entry.Rights.TheVariants.{RW};
 ghost use Rattle.gup_parts.specs.Contents.{content_of};
 ghost use Rattle.gup_plain.specs.Put.{put};
 ghost use Rattle.gup_rows.specs.Grid.{found};
-ghost use Rattle.gup_trial.specs.Protected.{MayProtect};
+ghost use Rattle.gup_trial.specs.Protected.{MayProtect, CanProtect};
 
 use crate::refused::{Refused, entry_to, frame_of, is_entry, is_same, need, sum};
 use crate::trial::Trial;
@@ -68,6 +68,7 @@ impl Trial {
     }
 
     // Whether the page can get these rights.
+    #[tactic(auto, unfolding(crate::specs::Protected::MayProtect))]
     fn is_protectable(&self, p: ProcNo, page: PageNo, rights: Rights) -> bool
         ensures { IsTrue result ↔ MayProtect (state_of self.now) p page rights }
     {
@@ -80,7 +81,7 @@ impl Trial {
         self.is_unmirrored(p, page)
     }
 
-    // Whether the pages can get these rights.
+    // Whether each of the pages can get these rights.
     fn are_protectable(&self, p: ProcNo, page: PageNo, n: u16, rights: Rights) -> bool
         requires { page + n ≤ 2 ^ 35 }
         ensures { IsTrue result ↔ ((k : ℕ) → k < n → MayProtect (state_of self.now) p (page + k) rights) }
@@ -91,6 +92,14 @@ impl Trial {
             }
         }
         true
+    }
+
+    // Whether the pages can get these rights.
+    fn can_protect(&self, p: ProcNo, page: PageNo, n: u16, rights: Rights) -> bool
+        requires { page + n ≤ 2 ^ 35 }
+        ensures { IsTrue result ↔ CanProtect (state_of self.now) p page n rights }
+    {
+        self.are_protectable(p, page, n, rights)
     }
 
     /// The pages get their rights and a fresh object each, untouched.
@@ -161,7 +170,7 @@ impl Trial {
         if page.get() + u64::from(n) > PAGE_NUMBERS {
             return Err(Refused::NoMemory);
         }
-        need(self.are_protectable(p, page, n, rights))?;
+        need(self.can_protect(p, page, n, rights))?;
         let row = self.right.with_range(p, page, n, rights)?;
         self.right.put(p, row);
         Ok(())

@@ -87,7 +87,8 @@ impl Trial {
         let object = Objects::new(alloc)?;
         let handle = Handles::new(alloc)?;
         let contents = Contents::new(alloc);
-        let no_frames = Frames::new(Vec::new(alloc));
+        let frames = Vec::new(alloc);
+        let no_frames = Frames::new(frames);
         let pinned = Row::new(alloc, no_frames)?;
         let for_long = Row::new(alloc, false)?;
         let got = Row::new(alloc, None)?;
@@ -96,7 +97,8 @@ impl Trial {
         let job = Row::new(alloc, no_job)?;
         let prepared = Row::new(alloc, None)?;
         let owed = Row::new(alloc, None)?;
-        let no_pages = TakenList::new(Vec::new(alloc));
+        let pages_taken = Vec::new(alloc);
+        let no_pages = TakenList::new(pages_taken);
         let taken = Row::new(alloc, no_pages)?;
         let store = Stores::new(alloc)?;
         Ok(Trial {
