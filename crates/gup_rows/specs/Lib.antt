@@ -1,6 +1,5 @@
 pub mod Row
 pub mod RowLemmas
-pub mod Job
 pub mod Grid
 pub mod Objects
 pub mod Sheets

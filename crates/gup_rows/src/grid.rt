@@ -6,7 +6,6 @@ ghost use Rattle.gup_plain.specs.Put.{put, put2, spread};
 ghost use Rattle.gup_rows.specs.Grid.{found};
 ghost use Rattle.gup_rows.specs.Lists.{IsOneOf};
 
-use crate::lists::has_page;
 use crate::row::Row;
 use gup_base::{NoMemory, PageNo, ProcNo};
 use std::alloc::Global;
@@ -19,12 +18,20 @@ pub struct Grid<V> {
     alloc: Global,
 }
 
-// The page that is `k` behind the first.
-pub(crate) fn nth(first: PageNo, k: u16) -> PageNo
+/// The page that is `k` behind the first.
+pub fn nth(first: PageNo, k: u16) -> PageNo
     requires { first + k < 2 ^ 35 }
     ensures { result ≡ first + k }
 {
     PageNo::new(first.get() + u64::from(k)).unwrap()
+}
+
+/// Whether the page is one of these.
+#[tactic(auto, unfolding(crate::specs::Lists::IsOneOf))]
+pub fn has_page(pages: &[PageNo], page: PageNo) -> bool
+    ensures { IsTrue result ↔ IsOneOf pages.now page }
+{
+    pages.contains(&page)
 }
 
 // Whether each page that has a value is one of these.

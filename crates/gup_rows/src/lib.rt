@@ -1,11 +1,7 @@
-//! What the executable core machine keeps its state in: rows, grids and lists, each read as a function of numbers, and
-//! what an actor is in the middle of.
+//! What the executable core machine keeps its state in: rows and grids, each read as a function of numbers.
 #![tactic(auto)]
 
-pub mod job;
 pub mod row;
-pub mod lists;
-pub mod taken;
 pub mod grid;
 pub mod objects;
 pub mod sheets;

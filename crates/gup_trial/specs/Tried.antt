@@ -2,8 +2,8 @@
 use Rattle.std.specs.Prelude.{◌≡◌, Result, MatchResult}
 use Rattle.gup_events.specs.Event.{CoreEvent, Can, happens}
 use Rattle.gup_events.specs.State.{CoreState}
-use Rattle.gup_trial.specs.declared.refused.Refused.{Refused}
-use Rattle.gup_trial.specs.declared.refused.Refused.TheVariants.{Cannot, NoMemory}
+use Rattle.gup_jobs.specs.declared.refused.Refused.{Refused}
+use Rattle.gup_jobs.specs.declared.refused.Refused.TheVariants.{Cannot, NoMemory}
 
 -- where the event is refused as one that can't happen, it can't
 abbrev pub IsRight : Refused → CoreState → CoreEvent → Type 0

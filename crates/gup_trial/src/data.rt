@@ -2,29 +2,12 @@
 ghost use Rattle.gup_events.specs.Event as core;
 ghost use Rattle.gup_trial.specs.State.{state_of};
 ghost use Rattle.gup_trial.specs.Tried.{Tried};
-ghost use Rattle.std.specs.Prelude.{◌≡◌, ◌/◌, ◌%◌, ◌↔◌, Some, IsTrue, slice_get};
 
-use crate::refused::{Refused, entry_to, has_frame, is_entry, is_frame, need};
 use crate::trial::Trial;
+use gup_jobs::needs::{entry_to, has_frame, is_entry, is_frame, is_pinned, need, word_at};
+use gup_jobs::refused::Refused;
 use gup_base::{ActorNo, FrameNo, HandleNo, MirrorNo, PageNo, ProcNo, WordNo};
 use gup_parts::mirror::Mirror;
-
-// The word of its page that has this index in a row of pages.
-fn word_at(index: u32) -> WordNo
-    ensures { result ≡ index % 512 }
-{
-    WordNo::new(u64::from(index) % 512).unwrap()
-}
-
-// Whether the frame is that of the word with this index.
-fn is_pinned(frames: &[FrameNo], index: u32, f: FrameNo) -> bool
-    ensures { IsTrue result ↔ (slice_get frames.now (index / 512) ≡ Some f) }
-{
-    match frames.get(index as usize / 512) {
-        None => false,
-        Some(frame) => *frame == f,
-    }
-}
 
 
 impl Trial {

@@ -3,10 +3,11 @@ ghost use Rattle.gup_events.specs.Event as core;
 ghost use Rattle.gup_trial.specs.State.{state_of};
 ghost use Rattle.gup_trial.specs.Tried.{Tried};
 
-use crate::refused::{Refused, allows, entry_to, give_back, is_entry, is_frame, may_write, need};
 use crate::trial::Trial;
+use gup_jobs::needs::{allows, entry_to, give_back, is_entry, is_frame, may_write, need};
+use gup_jobs::refused::Refused;
 use gup_base::{ActorNo, FrameNo, PageNo, ProcNo};
-use gup_rows::job::Job;
+use gup_jobs::job::Job;
 
 impl Trial {
     /// The actor takes a free frame, zeroed, to prepare it.

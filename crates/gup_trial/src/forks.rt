@@ -2,53 +2,20 @@
 ghost use Rattle.gup_events.specs.Event as core;
 ghost use Rattle.gup_trial.specs.State.{state_of};
 ghost use Rattle.gup_trial.specs.Tried.{Tried};
-ghost use Rattle.std.specs.Prelude.{◌≡◌, ◌↔◌, Bool, if◌then◌else◌, None, Option, ℕ, IsTrue};
-ghost use Rattle.gup_events.specs.State.{between, counted, lowered, cleared, copying, failing};
-ghost use Rattle.gup_events.specs.Event.{copies_page, is_writable};
-ghost use Rattle.gup_rows.specs.Job.{step_of};
-ghost use Rattle.gup_trial.specs.Failed.{table_after};
+ghost use Rattle.std.specs.Prelude.{◌≡◌};
+ghost use Rattle.gup_events.specs.Event.{copies_page};
+ghost use Rattle.gup_jobs.specs.Job.{step_of};
 
-use crate::refused::{
-    Refused, entry_to, give_back, is_entry, is_frame, is_right, need, sum,
-};
 use crate::trial::Trial;
+use gup_rows::grid::has_page;
+use gup_jobs::needs::{after_failure, entry_to, first_step, give_back, is_entry, is_frame, is_right, is_writable, need, sum};
+use gup_jobs::refused::Refused;
 use gup_base::{ActorNo, Entry, FrameNo, PageNo, ProcNo, Rights, WordNo};
 use gup_parts::space::PAGE_NUMBERS;
 use gup_rows::clearing::clear;
-use gup_rows::job::{ForkStep, Job, may_fail};
-use gup_rows::lists::{has_page, same_pages, with_page};
-use gup_rows::taken::has_none;
-
-// Where a fork goes on that has read a page's count.
-fn first_step(copies: bool, page: PageNo) -> ForkStep
-    ensures { step_of result ≡ (if copies then copying page 0 else counted page) }
-{
-    if copies {
-        ForkStep::Copying(page, 0)
-    } else {
-        ForkStep::Sharing(page)
-    }
-}
-
-// Who has the table lock when a fork fails there: a fork in the middle of a page lets it go.
-fn after_failure(step: &ForkStep, holder: Option<ActorNo>) -> Option<ActorNo>
-    ensures { result ≡ table_after (step_of step.now) holder }
-{
-    match *step {
-        ForkStep::Between => holder,
-        _ => None,
-    }
-}
-
-// Whether rights are those to write.
-fn is_writable(rights: Rights) -> bool
-    ensures { result ≡ is_writable rights }
-{
-    match rights {
-        Rights::R => false,
-        Rights::RW => true,
-    }
-}
+use gup_jobs::job::{ForkStep, Job, may_fail};
+use gup_jobs::lists::{same_pages, with_page};
+use gup_jobs::taken::has_none;
 
 
 impl Trial {

@@ -7,10 +7,9 @@ mod forks;
 mod mappings;
 mod moves;
 mod pins;
-mod refused;
 mod trial;
 
-pub use refused::Refused;
+pub use gup_jobs::refused::Refused;
 pub use trial::Trial;
 
 #[cfg(test)]

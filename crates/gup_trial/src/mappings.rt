@@ -2,55 +2,17 @@
 ghost use Rattle.gup_events.specs.Event as core;
 ghost use Rattle.gup_trial.specs.State.{state_of};
 ghost use Rattle.gup_trial.specs.Tried.{Tried};
-ghost use Rattle.std.specs.Prelude.{◌≡◌, ℕ, ◌+◌, ◌<◌, ◌≤◌, ◌^◌, ◌↔◌, true, Some, None, IsTrue};
-ghost use Rattle.gup_base.specs.declared.entry.Entry.{Entry as EntryValue};
-ghost use Rattle.gup_base.specs.declared.entry.Rights.TheVariants.{RW};
-ghost use Rattle.gup_parts.specs.Contents.{content_of};
-ghost use Rattle.gup_plain.specs.Put.{put};
+ghost use Rattle.std.specs.Prelude.{◌≡◌, ℕ, ◌+◌, ◌<◌, ◌≤◌, ◌^◌, ◌↔◌, None, IsTrue};
 ghost use Rattle.gup_rows.specs.Grid.{found};
 ghost use Rattle.gup_trial.specs.Protected.{MayProtect, CanProtect};
 
-use crate::refused::{Refused, entry_to, frame_of, is_entry, is_same, need, sum};
 use crate::trial::Trial;
+use gup_rows::grid::nth;
+use gup_jobs::needs::{clear_one, entry_to, frame_of, is_entry, is_same, keeps_right, need, sum};
+use gup_jobs::refused::Refused;
 use gup_base::{ActorNo, Entry, FrameNo, PageNo, ProcNo, Rights};
-use gup_parts::contents::Contents;
 use gup_parts::space::PAGE_NUMBERS;
 use gup_rows::clearing::clear;
-
-// The page that is `k` behind the first.
-fn nth(first: PageNo, k: u16) -> PageNo
-    requires { first + k < 2 ^ 35 }
-    ensures { result ≡ first + k }
-{
-    PageNo::new(first.get() + u64::from(k)).unwrap()
-}
-
-// Makes all words of the object 0.
-fn clear_one(contents: &mut Contents, object: u64)
-    requires { object + 1 < 2 ^ 64 }
-    ensures content { content_of contents.new ≡ put object (λ _. 0) (content_of contents.old) }
-    ensures made { contents.new.made ≡ contents.old.made }
-{
-    clear(contents, object, 1);
-}
-
-// Whether no entry is there, or the rights are those that a writable one wants.
-fn keeps_right(found: Option<Entry>, rights: Rights) -> bool
-    ensures { IsTrue result ↔ ((e : EntryValue) → found ≡ Some e → e.writable ≡ true → rights ≡ RW) }
-{
-    match found {
-        None => true,
-        Some(entry) => {
-            if !entry.writable {
-                return true;
-            }
-            match rights {
-                Rights::R => false,
-                Rights::RW => true,
-            }
-        }
-    }
-}
 
 
 impl Trial {

@@ -3,36 +3,15 @@ ghost use Rattle.gup_events.specs.Event as core;
 ghost use Rattle.gup_trial.specs.State.{state_of};
 ghost use Rattle.gup_trial.specs.Tried.{Tried};
 ghost use Rattle.std.specs.Prelude.{◌≡◌, ◌↔◌, IsTrue};
-ghost use Rattle.gup_events.specs.Event.{counted_as};
-ghost use Rattle.gup_events.specs.State.{moving, unread};
-ghost use Rattle.gup_rows.specs.Job.{count_of};
+ghost use Rattle.gup_events.specs.State.{moving};
+ghost use Rattle.gup_jobs.specs.Job.{count_of};
 ghost use Rattle.gup_rows.specs.Row.{at};
 
-use crate::refused::{Refused, entry_to, is_entry, is_frame, need};
 use crate::trial::Trial;
+use gup_jobs::needs::{counted_as, entry_to, is_entry, is_frame, is_read, need};
+use gup_jobs::refused::Refused;
 use gup_base::{ActorNo, Entry, FrameNo, PageNo, ProcNo};
-use gup_rows::job::{Counted, Job};
-
-// What a mover makes of the count that it read.
-fn counted_as(count: u64) -> Counted
-    ensures { count_of result ≡ counted_as count }
-{
-    if count == 1 {
-        Counted::One
-    } else {
-        Counted::More
-    }
-}
-
-// Whether the count has been read.
-fn is_read(count: Counted) -> bool
-    ensures { IsTrue result ↔ (count_of count ≡ unread → ⊥) }
-{
-    match count {
-        Counted::Unread => false,
-        Counted::One | Counted::More => true,
-    }
-}
+use gup_jobs::job::{Counted, Job};
 
 
 impl Trial {

@@ -2,46 +2,15 @@
 ghost use Rattle.gup_events.specs.Event as core;
 ghost use Rattle.gup_trial.specs.State.{state_of};
 ghost use Rattle.gup_trial.specs.Tried.{Tried};
-ghost use Rattle.std.specs.Prelude.{◌≡◌, ◌↔◌, Some, IsTrue, true, [], ◌∷◌};
-ghost use Rattle.gup_plain.specs.Event.{IsHeldBy};
-ghost use Rattle.gup_plain.specs.Put.{put};
-ghost use Rattle.gup_plain.specs.State.{gone};
-ghost use Rattle.gup_rows.specs.Handles.{handles_in};
-ghost use Rattle.gup_trial.specs.Unpinned.{after_unpin};
 
-use crate::refused::{Refused, entry_to, give_back, implies, is_entry, need, sum};
 use crate::trial::Trial;
+use gup_jobs::needs::{end_pin, entry_to, give_back, implies, is_entry, is_got, need, sum};
+use gup_jobs::refused::Refused;
 use gup_base::{ActorNo, Entry, FrameNo, HandleNo, PageNo, ProcNo};
-use gup_rows::handles::Handles;
-use gup_rows::lists::{Frames, ends_with, same_frames};
-use gup_rows::taken::{
+use gup_jobs::lists::{Frames, ends_with, same_frames};
+use gup_jobs::taken::{
     Taken, TakenList, are_alike, for_long, frames, has_one, is_untaken, objects, with_one_more, writes,
 };
-
-// The handle, of whose pages these are left, is gone where none is.
-fn end_pin(handles: &mut Handles, h: HandleNo, a: ActorNo, left: &[FrameNo])
-    requires { IsHeldBy (handles_in handles.old h) a }
-    ensures { handles_in handles.new ≡ put h (after_unpin left.now (handles_in handles.old h)) (handles_in handles.old) }
-{
-    if let [] = left {
-        handles.let_go(h, a);
-    }
-}
-
-// Whether the reference is the actor's, to this frame.
-fn is_got(found: Option<(ActorNo, FrameNo)>, a: ActorNo, f: FrameNo) -> bool
-    ensures { IsTrue result ↔ (found ≡ Some (a, f)) }
-{
-    match found {
-        None => false,
-        Some((actor, frame)) => {
-            if actor != a {
-                return false;
-            }
-            frame == f
-        }
-    }
-}
 
 
 impl Trial {

@@ -10,7 +10,8 @@ pub returns : goal.returns
 returns c =
     let old = c.args.self.now in
     let N : CoreState = state_of old in
-    let R = found old.right in (
-      (c.is_born.ensures.0 c.in_ok-need.ensures, (c.is_unlocked.ensures.0 c.in_ok-need-2.ensures, c.can_protect.ensures.0 c.in_ok-need-3.ensures)),
+    let R = found old.right in
+    let can = c.can_protect.ensures.0 c.in_ok-need-3.ensures in (
+      (c.is_born.ensures.0 c.in_ok-need.ensures, c.is_unlocked.ensures.0 c.in_ok-need-2.ensures, can.0, can.1, can.2),
       ap (λ (x : ℕ → ℕ → Option Rights). record N { right = x }) (c.put.ensures ∙ ap (λ (f : ℕ → Option Rights). put c.args.p f R) c.in_ok-row.ensures),
     )

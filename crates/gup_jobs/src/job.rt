@@ -2,7 +2,7 @@
 ghost use Rattle.std.specs.Prelude.{◌≡◌, ◌↔◌, IsTrue};
 ghost use Rattle.gup_events.specs.State.{idle, marking, moving, forking};
 ghost use Rattle.gup_events.specs.Event.{MayPrepare, MayFail};
-ghost use Rattle.gup_rows.specs.Job.{job_of, step_of, count_of};
+ghost use Rattle.gup_jobs.specs.Job.{job_of, step_of, count_of};
 
 use crate::lists;
 use gup_base::{Entry, FrameNo, PageNo, ProcNo};
@@ -61,7 +61,7 @@ impl Model for Job {
 
     ghost Value = { JobValue };
 
-    ghost use Rattle.gup_rows.specs.Job.{job_of};
+    ghost use Rattle.gup_jobs.specs.Job.{job_of};
 
     ghost view = { λ j. job_of j.stage };
 }

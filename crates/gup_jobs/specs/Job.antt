@@ -1,11 +1,11 @@
 -- What an actor is in the middle of, as the program keeps it.
 use Rattle.gup_events.specs.State.{Job, idle, marking, moving, forking, Counted, unread, one, more, ForkStep, between, counted, lowered, cleared, copying, failing}
-use Rattle.gup_rows.specs.declared.job.Counted.{Counted as Count}
-use Rattle.gup_rows.specs.declared.job.Counted.TheVariants as counts
-use Rattle.gup_rows.specs.declared.job.ForkStep.{ForkStep as Step}
-use Rattle.gup_rows.specs.declared.job.ForkStep.TheVariants as steps
-use Rattle.gup_rows.specs.declared.job.Stage.{Stage}
-use Rattle.gup_rows.specs.declared.job.Stage.TheVariants as stages
+use Rattle.gup_jobs.specs.declared.job.Counted.{Counted as Count}
+use Rattle.gup_jobs.specs.declared.job.Counted.TheVariants as counts
+use Rattle.gup_jobs.specs.declared.job.ForkStep.{ForkStep as Step}
+use Rattle.gup_jobs.specs.declared.job.ForkStep.TheVariants as steps
+use Rattle.gup_jobs.specs.declared.job.Stage.{Stage}
+use Rattle.gup_jobs.specs.declared.job.Stage.TheVariants as stages
 
 abbrev pub count_of : Count → Counted
 count_of counts.Unread = unread

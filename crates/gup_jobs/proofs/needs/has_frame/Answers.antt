@@ -2,7 +2,7 @@ use Rattle.std.proofs.Common.{◌≡◌, ℕ, Bool, true, Some, IsTrue, sym, ◌
 use Rattle.std.proofs.lemmas.Bool.Decides.{nat_tests}
 use Rattle.gup_base.specs.declared.entry.Entry.{Entry}
 use Rattle.gup_events.specs.Event.{entry_of}
-use Rattle.gup_trial.proofs.refused.has_frame.Goals as goal
+use Rattle.gup_jobs.proofs.needs.has_frame.Goals as goal
 
 pub returns-in-Some : goal.returns-in-Some
 returns-in-Some c =

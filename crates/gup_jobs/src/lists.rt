@@ -1,6 +1,5 @@
 //! Lists of pages and of frames.
 ghost use Rattle.std.specs.Prelude.{◌≡◌, ◌↔◌, IsTrue, IfOk, [], ◌∷◌, ◌++◌};
-ghost use Rattle.gup_rows.specs.Lists.{IsOneOf};
 
 use gup_base::{FrameNo, NoMemory, PageNo};
 use std::alloc::Global;
@@ -20,14 +19,6 @@ pub fn with_page(alloc: Global, page: PageNo, pages: &[PageNo]) -> Result<Vec<Pa
     let mut all = same_pages(alloc, pages)?;
     all.insert(0, page)?;
     Ok(all)
-}
-
-/// Whether the page is one of these.
-#[tactic(auto, unfolding(crate::specs::Lists::IsOneOf))]
-pub fn has_page(pages: &[PageNo], page: PageNo) -> bool
-    ensures { IsTrue result ↔ IsOneOf pages.now page }
-{
-    pages.contains(&page)
 }
 
 /// The frames once more.
