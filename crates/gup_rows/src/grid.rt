@@ -87,7 +87,11 @@ impl<V: Copy + Drop> Grid<V> {
     pub fn copy_of(&self, p: ProcNo) -> Result<BTreeMap<PageNo, V>, NoMemory>
         ensures { IfOk result (λ row. get nat_cmp row ≡ found self.now p) }
     {
-        let row = self.row(p).iter().map(|(page, v)| (*page, *v)).collect(self.alloc)?;
+        let row = self
+            .row(p)
+            .iter()
+            .map(|(page, v)| (*page, *v))
+            .collect(self.alloc)?;
         Ok(row)
     }
 
@@ -153,4 +157,3 @@ impl<V: Copy + Drop> Grid<V> {
         self.rows.put(p, BTreeMap::new(self.alloc));
     }
 }
-

@@ -54,13 +54,7 @@ impl Objects {
     }
 
     /// The row of the process, but with the objects from `object` on at the `n` pages from `first` on.
-    pub fn with_range(
-        &self,
-        p: ProcNo,
-        first: PageNo,
-        n: u16,
-        object: u64,
-    ) -> Result<Row, NoMemory>
+    pub fn with_range(&self, p: ProcNo, first: PageNo, n: u16, object: u64) -> Result<Row, NoMemory>
         requires below { first + n ≤ 2 ^ 35 }
         requires objects { object + n < 2 ^ 64 }
         ensures { IfOk result (λ row. numbers row ≡ spread first n (λ page. object + (page - first)) (objects_in self.now p)) }

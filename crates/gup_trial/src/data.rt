@@ -4,11 +4,10 @@ ghost use Rattle.gup_trial.specs.State.{state_of};
 ghost use Rattle.gup_trial.specs.Tried.{Tried};
 
 use crate::trial::Trial;
+use gup_base::{ActorNo, FrameNo, HandleNo, MirrorNo, PageNo, ProcNo, WordNo};
 use gup_jobs::needs::{entry_to, has_frame, is_entry, is_frame, is_pinned, need, word_at};
 use gup_jobs::refused::Refused;
-use gup_base::{ActorNo, FrameNo, HandleNo, MirrorNo, PageNo, ProcNo, WordNo};
 use gup_parts::mirror::Mirror;
-
 
 impl Trial {
     /// One word of the entry's frame is read.

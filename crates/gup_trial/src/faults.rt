@@ -4,10 +4,10 @@ ghost use Rattle.gup_trial.specs.State.{state_of};
 ghost use Rattle.gup_trial.specs.Tried.{Tried};
 
 use crate::trial::Trial;
-use gup_jobs::needs::{allows, entry_to, give_back, is_entry, is_frame, may_write, need};
-use gup_jobs::refused::Refused;
 use gup_base::{ActorNo, FrameNo, PageNo, ProcNo};
 use gup_jobs::job::Job;
+use gup_jobs::needs::{allows, entry_to, give_back, is_entry, is_frame, may_write, need};
+use gup_jobs::refused::Refused;
 
 impl Trial {
     /// The actor takes a free frame, zeroed, to prepare it.
@@ -131,7 +131,8 @@ impl Trial {
         let object = self.object.get(p, page);
         let words = self.word.copy_of(old)?;
         let row = self.entry.with(p, page, entry_to(new, writable))?;
-        self.entry.put_at(p, page, Some(entry_to(new, writable)), row);
+        self.entry
+            .put_at(p, page, Some(entry_to(new, writable)), row);
         self.mark.put(new, true);
         self.own.put(new, Some(object));
         self.word.put(new, words);

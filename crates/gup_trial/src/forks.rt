@@ -7,16 +7,18 @@ ghost use Rattle.gup_events.specs.Event.{copies_page};
 ghost use Rattle.gup_jobs.specs.Job.{step_of};
 
 use crate::trial::Trial;
-use gup_rows::grid::has_page;
-use gup_jobs::needs::{after_failure, entry_to, first_step, give_back, is_entry, is_frame, is_right, is_writable, need, sum};
-use gup_jobs::refused::Refused;
 use gup_base::{ActorNo, Entry, FrameNo, PageNo, ProcNo, Rights, WordNo};
-use gup_parts::space::PAGE_NUMBERS;
-use gup_rows::clearing::clear;
 use gup_jobs::job::{ForkStep, Job, may_fail};
 use gup_jobs::lists::{same_pages, with_page};
+use gup_jobs::needs::{
+    after_failure, entry_to, first_step, give_back, is_entry, is_frame, is_right, is_writable,
+    need, sum,
+};
+use gup_jobs::refused::Refused;
 use gup_jobs::taken::has_none;
-
+use gup_parts::space::PAGE_NUMBERS;
+use gup_rows::clearing::clear;
+use gup_rows::grid::has_page;
 
 impl Trial {
     // Whether a fork copies the page with this frame.
@@ -78,7 +80,8 @@ impl Trial {
         need(copies == self.copies_page(p, entry.frame))?;
         let done = same_pages(self.alloc, done)?;
         self.table.put(p, Some(a));
-        self.job.put(a, Job::forking(p, c, done, first_step(copies, page)));
+        self.job
+            .put(a, Job::forking(p, c, done, first_step(copies, page)));
         Ok(())
     }
 
@@ -95,13 +98,18 @@ impl Trial {
     ) -> Result<(), Refused>
         ensures { Tried (state_of self.old) (state_of self.new) (core.share_entry a p c done.now page f writable) result }
     {
-        need(self.job.get(a).is_forking(p, c, done, ForkStep::Sharing(page)))?;
+        need(
+            self.job
+                .get(a)
+                .is_forking(p, c, done, ForkStep::Sharing(page)),
+        )?;
         need(is_entry(self.entry.get(p, page), &entry_to(f, writable)))?;
         need(self.is_unmirrored(p, page))?;
         let done = same_pages(self.alloc, done)?;
         let row = self.entry.with(p, page, entry_to(f, false))?;
         self.entry.put_at(p, page, Some(entry_to(f, false)), row);
-        self.job.put(a, Job::forking(p, c, done, ForkStep::Lowered(page)));
+        self.job
+            .put(a, Job::forking(p, c, done, ForkStep::Lowered(page)));
         Ok(())
     }
 
@@ -118,12 +126,17 @@ impl Trial {
     ) -> Result<(), Refused>
         ensures { Tried (state_of self.old) (state_of self.new) (core.share_mark a p c done.now page f writable) result }
     {
-        need(self.job.get(a).is_forking(p, c, done, ForkStep::Lowered(page)))?;
+        need(
+            self.job
+                .get(a)
+                .is_forking(p, c, done, ForkStep::Lowered(page)),
+        )?;
         need(is_entry(self.entry.get(p, page), &entry_to(f, writable)))?;
         let done = same_pages(self.alloc, done)?;
         self.mark.put(f, false);
         self.own.put(f, None);
-        self.job.put(a, Job::forking(p, c, done, ForkStep::Cleared(page)));
+        self.job
+            .put(a, Job::forking(p, c, done, ForkStep::Cleared(page)));
         Ok(())
     }
 
@@ -140,7 +153,11 @@ impl Trial {
     ) -> Result<(), Refused>
         ensures { Tried (state_of self.old) (state_of self.new) (core.share_child a p c done.now page f writable) result }
     {
-        need(self.job.get(a).is_forking(p, c, done, ForkStep::Cleared(page)))?;
+        need(
+            self.job
+                .get(a)
+                .is_forking(p, c, done, ForkStep::Cleared(page)),
+        )?;
         need(is_entry(self.entry.get(p, page), &entry_to(f, writable)))?;
         let count = sum(*self.count.get(f), 1)?;
         let done = with_page(self.alloc, page, done)?;
@@ -172,7 +189,11 @@ impl Trial {
         ensures { Tried (state_of self.old) (state_of self.new) (core.copy_word a p c done.now page word to entry) result }
     {
         let n = word.get() as u16;
-        need(self.job.get(a).is_forking(p, c, done, ForkStep::Copying(page, n)))?;
+        need(
+            self.job
+                .get(a)
+                .is_forking(p, c, done, ForkStep::Copying(page, n)),
+        )?;
         need(is_frame(*self.prepared.get(a), to))?;
         need(is_entry(self.entry.get(p, page), &entry))?;
         let done = same_pages(self.alloc, done)?;
@@ -202,13 +223,18 @@ impl Trial {
     ) -> Result<(), Refused>
         ensures { Tried (state_of self.old) (state_of self.new) (core.place_child a p c done.now page to rights) result }
     {
-        need(self.job.get(a).is_forking(p, c, done, ForkStep::Copying(page, 512)))?;
+        need(
+            self.job
+                .get(a)
+                .is_forking(p, c, done, ForkStep::Copying(page, 512)),
+        )?;
         need(is_frame(*self.prepared.get(a), to))?;
         need(is_right(self.right.get(c, page), rights))?;
         let done = with_page(self.alloc, page, done)?;
         let object = self.object.get(c, page);
         let row = self.entry.with(c, page, entry_to(to, is_writable(rights)))?;
-        self.entry.put_at(c, page, Some(entry_to(to, is_writable(rights))), row);
+        self.entry
+            .put_at(c, page, Some(entry_to(to, is_writable(rights))), row);
         self.mark.put(to, true);
         self.own.put(to, Some(object));
         self.prepared.put(a, None);
@@ -305,7 +331,13 @@ impl Trial {
         need(self.job.get(a).is_forking(p, c, done, ForkStep::Failing))?;
         need(is_entry(self.entry.get(c, page), &entry))?;
         let row = self.entry.without(c, page)?;
-        give_back(&mut self.count, &mut self.mark, &mut self.own, entry.frame, 1);
+        give_back(
+            &mut self.count,
+            &mut self.mark,
+            &mut self.own,
+            entry.frame,
+            1,
+        );
         self.entry.put_at(c, page, None, row);
         Ok(())
     }

@@ -7,13 +7,12 @@ ghost use Rattle.gup_rows.specs.Grid.{found};
 ghost use Rattle.gup_trial.specs.Protected.{MayProtect, CanProtect};
 
 use crate::trial::Trial;
-use gup_rows::grid::nth;
+use gup_base::{ActorNo, Entry, FrameNo, PageNo, ProcNo, Rights};
 use gup_jobs::needs::{clear_one, entry_to, frame_of, is_entry, is_same, keeps_right, need, sum};
 use gup_jobs::refused::Refused;
-use gup_base::{ActorNo, Entry, FrameNo, PageNo, ProcNo, Rights};
 use gup_parts::space::PAGE_NUMBERS;
 use gup_rows::clearing::clear;
-
+use gup_rows::grid::nth;
 
 impl Trial {
     // Whether none of the pages has rights.

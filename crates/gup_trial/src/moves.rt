@@ -8,11 +8,10 @@ ghost use Rattle.gup_jobs.specs.Job.{count_of};
 ghost use Rattle.gup_rows.specs.Row.{at};
 
 use crate::trial::Trial;
-use gup_jobs::needs::{counted_as, entry_to, is_entry, is_frame, is_read, need};
-use gup_jobs::refused::Refused;
 use gup_base::{ActorNo, Entry, FrameNo, PageNo, ProcNo};
 use gup_jobs::job::{Counted, Job};
-
+use gup_jobs::needs::{counted_as, entry_to, is_entry, is_frame, is_read, need};
+use gup_jobs::refused::Refused;
 
 impl Trial {
     // Whether the actor moves the page, and has read this of its frame's count.
@@ -42,7 +41,8 @@ impl Trial {
         let row = self.entry.without(p, page)?;
         self.entry.put_at(p, page, None, row);
         self.table.put(p, Some(a));
-        self.job.put(a, Job::moving(p, page, entry, Counted::Unread));
+        self.job
+            .put(a, Job::moving(p, page, entry, Counted::Unread));
         Ok(())
     }
 
@@ -59,7 +59,8 @@ impl Trial {
     {
         need(self.is_moving(a, p, page, &entry, Counted::Unread))?;
         need(count == *self.count.get(entry.frame))?;
-        self.job.put(a, Job::moving(p, page, entry, counted_as(count)));
+        self.job
+            .put(a, Job::moving(p, page, entry, counted_as(count)));
         Ok(())
     }
 
@@ -80,7 +81,8 @@ impl Trial {
         let old = entry.frame;
         let words = self.word.copy_of(old)?;
         let row = self.entry.with(p, page, entry_to(f, entry.writable))?;
-        self.entry.put_at(p, page, Some(entry_to(f, entry.writable)), row);
+        self.entry
+            .put_at(p, page, Some(entry_to(f, entry.writable)), row);
         let marked = *self.mark.get(old);
         let owned = *self.own.get(old);
         self.mark.put(f, marked);
@@ -108,8 +110,11 @@ impl Trial {
         need(self.is_moving(a, p, page, &entry, count))?;
         need(is_read(count))?;
         need(self.prepared.get(a).is_none())?;
-        let row = self.entry.with(p, page, entry_to(entry.frame, entry.writable))?;
-        self.entry.put_at(p, page, Some(entry_to(entry.frame, entry.writable)), row);
+        let row = self
+            .entry
+            .with(p, page, entry_to(entry.frame, entry.writable))?;
+        self.entry
+            .put_at(p, page, Some(entry_to(entry.frame, entry.writable)), row);
         self.table.put(p, None);
         self.job.put(a, Job::idle());
         Ok(())

@@ -4,14 +4,14 @@ ghost use Rattle.gup_trial.specs.State.{state_of};
 ghost use Rattle.gup_trial.specs.Tried.{Tried};
 
 use crate::trial::Trial;
-use gup_jobs::needs::{end_pin, entry_to, give_back, implies, is_entry, is_got, need, sum};
-use gup_jobs::refused::Refused;
 use gup_base::{ActorNo, Entry, FrameNo, HandleNo, PageNo, ProcNo};
 use gup_jobs::lists::{Frames, ends_with, same_frames};
+use gup_jobs::needs::{end_pin, entry_to, give_back, implies, is_entry, is_got, need, sum};
+use gup_jobs::refused::Refused;
 use gup_jobs::taken::{
-    Taken, TakenList, are_alike, for_long, frames, has_one, is_untaken, objects, with_one_more, writes,
+    Taken, TakenList, are_alike, for_long, frames, has_one, is_untaken, objects, with_one_more,
+    writes,
 };
-
 
 impl Trial {
     /// The process has pinned, from now on.

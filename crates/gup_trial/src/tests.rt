@@ -1,5 +1,7 @@
 use super::*;
-use gup_base::{ActorNo, Entry, FrameNo, HandleNo, MirrorNo, NoMemory, PageNo, ProcNo, Rights, WordNo};
+use gup_base::{
+    ActorNo, Entry, FrameNo, HandleNo, MirrorNo, NoMemory, PageNo, ProcNo, Rights, WordNo,
+};
 use gup_jobs::job::{Counted, ForkStep, Stage};
 use gup_jobs::lists::{same_frames, same_pages};
 use gup_rows::grid::has_page;
@@ -127,7 +129,9 @@ impl Run {
             self.tell(4, tried);
         } else if kind == 5 {
             let right = self.has_right(p, g);
-            let tried = self.trial.break_entry(a, p, g, f, prepared, writable, right);
+            let tried = self
+                .trial
+                .break_entry(a, p, g, f, prepared, writable, right);
             self.tell(5, tried);
         } else {
             let owed = kept(*self.trial.owed.get(a));
@@ -140,11 +144,15 @@ impl Run {
         let (f, writable) = self.entry_at(p, g);
         let write = self.roll(2) == 0;
         let long = self.roll(2) == 0;
-        let tried = self.trial.pin_page(a, p, g, entry(f, writable), write, long);
+        let tried = self
+            .trial
+            .pin_page(a, p, g, entry(f, writable), write, long);
         let refused = long && tried.is_err();
         self.tell(8, tried);
         if refused {
-            let tried = self.trial.pin_page(a, p, g, entry(f, writable), write, false);
+            let tried = self
+                .trial
+                .pin_page(a, p, g, entry(f, writable), write, false);
             if tried.is_ok() {
                 self.long_refused = self.long_refused.saturating_add(1);
             }
@@ -285,7 +293,9 @@ impl Run {
             }
             Counted::One if n == 2 => {
                 let prepared = kept(*self.trial.prepared.get(a));
-                let tried = self.trial.place_frame(a, p, g, prepared, entry(f, writable));
+                let tried = self
+                    .trial
+                    .place_frame(a, p, g, prepared, entry(f, writable));
                 self.tell(17, tried);
             }
             Counted::One | Counted::More => {
@@ -311,7 +321,9 @@ impl Run {
             Some(found) => {
                 let (f, writable) = (found.frame, found.writable);
                 for copies in [false, true] {
-                    let tried = self.trial.count_page(a, p, c, done, g, entry(f, writable), copies);
+                    let tried = self
+                        .trial
+                        .count_page(a, p, c, done, g, entry(f, writable), copies);
                     self.tell(20, tried);
                 }
             }
@@ -366,7 +378,9 @@ impl Run {
         let (f, writable) = self.entry_at(p, g);
         for k in n..512 {
             let w = word(u64::from(k));
-            let tried = self.trial.copy_word(a, p, c, done, g, w, to, entry(f, writable));
+            let tried = self
+                .trial
+                .copy_word(a, p, c, done, g, w, to, entry(f, writable));
             self.tell(24, tried);
         }
     }
@@ -554,22 +568,35 @@ impl Run {
         }
     }
 
+    // Who is to be tried next: half of the time the same actor as before.
+    fn next_actor(&mut self, by: u64) -> u64 {
+        let other = self.roll(10);
+        if other < 5 { by } else { other }
+    }
+
+    // One try by this actor.
+    fn step(&mut self, n: u64) -> Result<(), NoMemory> {
+        if self.roll(3) == 0 {
+            return self.go_on(actor(n));
+        }
+        let p = self.one_alive(n);
+        let g = page(self.roll(3));
+        self.try_one(actor(n), p, g)
+    }
+
+    // The actor that is tried half of the time from now on: mostly the same as before.
+    fn next_by(&mut self, by: u64) -> u64 {
+        let other = self.roll(80);
+        if other < 5 { other } else { by }
+    }
+
     // So many tries, half of them by one actor for a while.
     fn go(&mut self, tries: u32) -> Result<(), NoMemory> {
         let mut by = 0;
         for _k in 0..tries {
-            if self.roll(16) == 0 {
-                by = self.roll(5);
-            }
-            let other = self.roll(10);
-            let n = if other < 5 { by } else { other };
-            let p = self.one_alive(n);
-            let g = page(self.roll(3));
-            if self.roll(3) == 0 {
-                self.go_on(actor(n))?;
-            } else {
-                self.try_one(actor(n), p, g)?;
-            }
+            by = self.next_by(by);
+            let n = self.next_actor(by);
+            self.step(n)?;
         }
         Ok(())
     }

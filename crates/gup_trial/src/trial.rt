@@ -7,18 +7,18 @@ ghost use Rattle.gup_rows.specs.Procs.{births, copies};
 ghost use Rattle.gup_trial.specs.State.{state_of};
 
 use gup_base::{ActorNo, Entry, FrameNo, NoMemory, PageNo, ProcNo, Rights};
+use gup_jobs::job::Job;
+use gup_jobs::lists::Frames;
+use gup_jobs::taken::TakenList;
 use gup_parts::contents::Contents;
 use gup_rows::grid::Grid;
 use gup_rows::handles::Handles;
-use gup_jobs::job::Job;
-use gup_jobs::lists::Frames;
 use gup_rows::mirrors::Mirrors;
 use gup_rows::objects::Objects;
 use gup_rows::procs::Procs;
 use gup_rows::row::Row;
 use gup_rows::sheets::Sheets;
 use gup_rows::stores::Stores;
-use gup_jobs::taken::TakenList;
 use std::alloc::Global;
 
 /// A state of the core machine, with 16 processes, 81 actors, 1,024 handles and as many got references, and 64 mirror
