@@ -69,8 +69,8 @@ impl Pin {
         self.write = write;
     }
 
-    // Whether the actor holds the handle.
-    fn is_held_by(&self, actor: ActorNo) -> bool
+    /// Whether the actor holds the handle.
+    pub fn is_held_by(&self, actor: ActorNo) -> bool
         ensures { IsTrue result ↔ IsHeldBy self.now actor }
     {
         match self.stage {
@@ -79,8 +79,8 @@ impl Pin {
         }
     }
 
-    // Whether the handle is given to the actor.
-    fn is_given_to(&self, actor: ActorNo) -> bool
+    /// Whether the handle is given to the actor.
+    pub fn is_given_to(&self, actor: ActorNo) -> bool
         ensures { IsTrue result ↔ IsGivenTo self.now actor }
     {
         match self.stage {
@@ -132,6 +132,19 @@ impl Pin {
             return None;
         }
         self.objects.get(index as usize / 512).copied()
+    }
+
+    /// The object of the word with this index among those of the handle's pages, and 0 where there is no such word.
+    pub fn object_at(&self, index: u32) -> u64
+        ensures { result ≡ object_at self.now index }
+    {
+        match self.stage {
+            Stage::Held(_) | Stage::Given(_) => match self.objects.get(index as usize / 512) {
+                Some(object) => *object,
+                None => 0,
+            },
+            Stage::Unmade | Stage::Gone => 0,
+        }
     }
 
     /// Whether the handle's pin is one to write.

@@ -1,0 +1,4 @@
+pub mod GridLemmas
+pub mod ObjectLemmas
+pub mod ProcLemmas
+pub mod ClearingLemmas

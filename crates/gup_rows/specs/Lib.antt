@@ -1,0 +1,11 @@
+pub mod Row
+pub mod RowLemmas
+pub mod Grid
+pub mod Objects
+pub mod Sheets
+pub mod Stores
+pub mod Lists
+pub mod Procs
+pub mod Handles
+pub mod Clearing
+pub mod Mirrors
