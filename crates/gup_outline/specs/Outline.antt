@@ -1,11 +1,12 @@
 -- What the lines so far have made: the script up to here, its names, and what counts and comes once.
-use Rattle.std.specs.Prelude.{ℕ, ◌+◌, ◌*◌, ◌/◌, ◌%◌, ◌^◌, Bool, true, false, not, List, [], ◌∷◌, ◌++◌, length, count_by, slice_get, Option, Some, None, zero, suc}
+use Rattle.std.specs.Prelude.{ℕ, ◌+◌, ◌*◌, ◌/◌, ◌%◌, ◌^◌, ◌==◌, Bool, true, false, not, List, [], ◌∷◌, ◌++◌, length, count_by, slice_get, Option, Some, None, zero, suc}
 use Rattle.std.specs.List.{list_any}
 use Rattle.gup_names.specs.Names.{Entry, declared}
 use Rattle.gup_names.specs.declared.names.Named.TheVariants as named
 use Rattle.gup_script.specs.declared.op.Kind.{Kind}
 use Rattle.gup_script.specs.declared.op.Kind.TheVariants.{Thread, Device, Mover}
 use Rattle.gup_script.specs.declared.op.Op.{Op}
+use Rattle.gup_script.specs.declared.op.Op.TheVariants.{Map, Unmap, Protect, Discard, Load, Store, Fork, Exit}
 use Rattle.gup_script.specs.Script.{ScriptValue, Process, Actor, FrameCounts}
 
 pub record Outline : Type 0 where
@@ -94,6 +95,20 @@ is_child_at (Some process) = not process.born
 
 abbrev pub is_child : Outline → ℕ → Bool
 is_child st p = is_child_at (slice_get st.script.processes p)
+
+-- a child that an earlier `fork` line brings
+abbrev pub forks_child : ℕ → Op → Bool
+forks_child p (Fork child) = child == p
+forks_child p (Map page n rights) = false
+forks_child p (Unmap page n) = false
+forks_child p (Protect page n rights) = false
+forks_child p (Discard page n) = false
+forks_child p (Load page word) = false
+forks_child p (Store page word value) = false
+forks_child p Exit = false
+
+abbrev pub is_forked : Outline → ℕ → Bool
+is_forked st p = list_any (λ (a : Actor). list_any (forks_child p) a.ops) st.script.actors
 
 -- an actor to which a handle can be given: a thread or a device
 abbrev pub is_receiver_at : Option Actor → Bool

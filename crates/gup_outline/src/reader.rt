@@ -1,9 +1,9 @@
 //! What the lines of a script so far have made, and how each adds to it.
 ghost use Rattle.std.specs.Prelude.{◌≡◌, ◌↔◌, ◌<◌, ◌≤◌, ◌+◌, true, false, nat_lt, length, replicate, option_map, OnOk, IsTrue};
+ghost use Rattle.std.specs.List.{list_any};
 ghost use Rattle.gup_names.specs.Names.{find, is_unused};
 ghost use Rattle.gup_script.specs.Script.{actor_at, process_at};
-ghost use Rattle.gup_outline.specs.Outline.{frame_counts, empty_outline, with_process, with_actor, with_operation, with_turns, with_seed, draws, is_thread, is_device, is_mover, how_many, has_mover, is_child, is_receiver};
-ghost use Rattle.gup_script.specs.OnePage.{IsOnePage};
+ghost use Rattle.gup_outline.specs.Outline.{frame_counts, empty_outline, with_process, with_actor, with_operation, with_turns, with_seed, draws, is_thread, is_device, is_mover, how_many, has_mover, is_child, forks_child, is_forked, is_receiver};
 ghost use Rattle.gup_outline.specs.Room.{HasRoomFor};
 ghost use Rattle.gup_outline.specs.Named.{process_of, actor_of, is_pin_name, is_got_name, is_mirror_of, may_mirror};
 
@@ -39,6 +39,14 @@ impl Model for Reader {
     ghost use Rattle.gup_outline.specs.ReaderViews.{IsWithinLimits};
 
     ghost invariant = { IsWithinLimits };
+}
+
+// Whether one of the operations is a fork that brings this process.
+fn forks(ops: &[Op], p: ProcNo) -> bool
+    ensures { result ≡ list_any (forks_child p) ops.now }
+{
+    ops.iter()
+        .any(|op| matches!(op, Op::Fork { child } if *child == p))
 }
 
 impl Reader {
@@ -174,6 +182,16 @@ impl Reader {
         }
     }
 
+    /// Whether an earlier `fork` line brings the process: a look at all operations, of which a script has few forks.
+    pub fn is_forked(&self, p: ProcNo) -> bool
+        ensures { result ≡ is_forked self.now p }
+    {
+        self.contents
+            .actors
+            .iter()
+            .any(|actor| forks(actor.ops.as_slice(), p))
+    }
+
     /// Whether a handle can be given to the actor: a thread or a device.
     pub fn is_receiver(&self, actor: ActorNo) -> bool
         ensures { result ≡ is_receiver self.now actor }
@@ -243,13 +261,6 @@ impl Reader {
         ensures { result ≡ self.now.seeded }
     {
         self.seeded
-    }
-
-    /// Whether the lines have made a script of one page.
-    pub fn is_one_page(&self) -> bool
-        ensures { IsTrue result ↔ IsOnePage self.now.script }
-    {
-        self.contents.is_one_page()
     }
 
     /// One more process.

@@ -12,7 +12,7 @@ use Rattle.gup_script.specs.declared.op.Op.{Op}
 use Rattle.gup_script.specs.declared.op.Op.TheVariants as ops
 use Rattle.gup_script.specs.Script.{ScriptValue, FrameCounts, actor_at}
 use Rattle.gup_reader.specs.Said.{Word, Said, a_process, a_child, a_thread, a_device, a_mover, a_seed, some_turns, random_turns, said_words, Action, maps, unmaps, protects, discards, loads, stores, exits, pins, gets, puts, forks, unpins, takes, gives, transfers, transfers_parts, mirrors, looks, moves, action_words, IsShaped, op_words_of}
-use Rattle.gup_outline.specs.Outline.{Outline, empty_outline, with_process, with_actor, with_operation, with_turns, with_seed, is_thread, is_device, how_many, has_mover, is_child, is_receiver, draws}
+use Rattle.gup_outline.specs.Outline.{Outline, empty_outline, with_process, with_actor, with_operation, with_turns, with_seed, is_thread, is_device, how_many, has_mover, is_child, is_forked, is_receiver, draws}
 use Rattle.gup_script.specs.Limits.{most_processes, most_threads, most_devices, most_operations, most_turns, most_slots, most_frames, most_tables}
 
 -- 1. Numbers: those that a line has are spelled right and in range
@@ -105,7 +105,7 @@ ActionNames st a (looks mirror word) = IsMirrorOf st a mirror
 ActionNames st a (moves process page zone) = (p : ℕ) × NamesProcess st process p
 ActionNames st a action = Unit {0}
 
--- 3. Once: what a line declares is not declared yet
+-- 3. Once: what a line declares is not declared yet, and a child is brought by one fork
 
 abbrev pub SaidOnce : Outline → Said → Type 0
 SaidOnce st (a_process name) = IsUnused st name
@@ -119,6 +119,7 @@ SaidOnce st said = Unit {0}
 abbrev pub ActionOnce : Outline → Action → Type 0
 ActionOnce st (pins fast handle first count write long) = IsUnused st handle
 ActionOnce st (gets handle page) = IsUnused st handle
+ActionOnce st (forks child) = (p : ℕ) × NamesProcess st child p × (is_forked st p ≡ false)
 ActionOnce st action = Unit {0}
 
 -- 4. Limits: there are not too many of what the line adds
@@ -147,17 +148,18 @@ ActionLimits st = st.operations < most_operations
 
 -- The operation that an action is. Those that none is said of come later: a line with one is right, and refused for
 -- that alone.
-abbrev pub Means : Action → Op → Type 0
-Means (maps first count rights) op = (page n : ℕ) × IsRange 1024 first count page n × (op ≡ ops.Map page n rights)
-Means (unmaps first count) op = (page n : ℕ) × IsRange 1024 first count page n × (op ≡ ops.Unmap page n)
-Means (protects first count rights) op =
+abbrev pub Means : Outline → Action → Op → Type 0
+Means st (maps first count rights) op = (page n : ℕ) × IsRange 1024 first count page n × (op ≡ ops.Map page n rights)
+Means st (unmaps first count) op = (page n : ℕ) × IsRange 1024 first count page n × (op ≡ ops.Unmap page n)
+Means st (protects first count rights) op =
     (page n : ℕ) × IsRange 1024 first count page n × (op ≡ ops.Protect page n rights)
-Means (discards first count) op = (page n : ℕ) × IsRange 1024 first count page n × (op ≡ ops.Discard page n)
-Means (loads address) op = (page w : ℕ) × IsAddress address page w × (op ≡ ops.Load page w)
-Means (stores address value) op =
+Means st (discards first count) op = (page n : ℕ) × IsRange 1024 first count page n × (op ≡ ops.Discard page n)
+Means st (loads address) op = (page w : ℕ) × IsAddress address page w × (op ≡ ops.Load page w)
+Means st (stores address value) op =
     (page w v : ℕ) × IsAddress address page w × IsNumber value v × (op ≡ ops.Store page w v)
-Means exits op = op ≡ ops.Exit
-Means action op = ⊥
+Means st (forks child) op = (p : ℕ) × NamesProcess st child p × (op ≡ ops.Fork p)
+Means st exits op = op ≡ ops.Exit
+Means st action op = ⊥
 
 -- is the action an operation that is built?
 abbrev pub IsBuilt : Action → Type 0
@@ -167,6 +169,7 @@ IsBuilt (protects first count rights) = Unit {0}
 IsBuilt (discards first count) = Unit {0}
 IsBuilt (loads address) = Unit {0}
 IsBuilt (stores address value) = Unit {0}
+IsBuilt (forks child) = Unit {0}
 IsBuilt exits = Unit {0}
 IsBuilt action = ⊥
 
@@ -191,7 +194,7 @@ Declares st said next =
 abbrev pub Does : Outline → (actor : ℕ) → Action → Outline → Type 0
 Does st a action next =
     IsShaped action × ActionNumbers action × ActionNames st a action × ActionOnce st action × ActionLimits st
-    × ((op : Op) × Means action op × (next ≡ with_operation a op st))
+    × ((op : Op) × Means st action op × (next ≡ with_operation a op st))
 
 -- is the operation with this word one of the actor's kind?
 abbrev pub IsOpOf : Outline → (actor : ℕ) → Word → Type 0

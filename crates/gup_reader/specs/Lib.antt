@@ -2,6 +2,5 @@ pub mod Said
 pub mod Grammar
 pub mod Fault
 pub mod Reading
-pub mod Beyond
 pub mod Steps
 pub mod StageViews

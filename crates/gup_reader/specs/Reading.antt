@@ -16,7 +16,7 @@ use Rattle.gup_reader.specs.declared.refusal.Reason.TheVariants as reasons
 use Rattle.gup_reader.specs.declared.refusal.ScriptFault.{ScriptFault}
 use Rattle.gup_script.specs.Script.{Actor, FrameCounts, actor_at}
 use Rattle.gup_reader.specs.Grammar.{Stage, before_head, before_frames, open_at, most_bytes}
-use Rattle.gup_outline.specs.Outline.{Outline, frame_counts, empty_outline, with_process, with_actor, with_operation, with_turns, with_seed, is_thread, is_device, how_many, has_mover, is_child, is_receiver, draws}
+use Rattle.gup_outline.specs.Outline.{Outline, frame_counts, empty_outline, with_process, with_actor, with_operation, with_turns, with_seed, is_thread, is_device, how_many, has_mover, is_child, is_forked, is_receiver, draws}
 use Rattle.gup_outline.specs.Named.{process_of, actor_of, is_pin_name, is_got_name, is_mirror_of, may_mirror}
 use Rattle.gup_script.specs.Limits.{most_processes, most_threads, most_devices, most_operations, most_turns, most_slots, most_frames, most_tables}
 
@@ -129,7 +129,8 @@ unfoldable pub fork_in : Outline → List (List ℕ) → Result (Option Op) Reas
 fork_in st (child ∷ []) = do
   p ← need reasons.Name (process_of (find st.names child))
   _ ← check reasons.Name (is_child st p)
-  Ok None
+  _ ← check reasons.Twice (not (is_forked st p))
+  Ok (Some (ops.Fork p))
 fork_in st _ = Err reasons.Shape
 
 -- `unpin` and `take`

@@ -1,7 +1,6 @@
 //! The reader of a script's text, the grammar, and what the grammar promises.
 #![tactic(auto)]
 
-mod beyond;
 mod declarations;
 mod law;
 mod operations;
@@ -10,7 +9,6 @@ mod refusal;
 mod stage;
 mod turns;
 
-pub use beyond::first_line_beyond;
 pub use law::{one_fault, one_script, script_or_fault, scripts_have_no_fault};
 pub use read::read_script;
 pub use refusal::{ReadRefusal, Reason, ScriptFault};

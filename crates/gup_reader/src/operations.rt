@@ -179,7 +179,8 @@ fn fork_op(reader: &Reader, fields: &[&str]) -> Result<Option<Op>, Reason>
     };
     let child = reader.process(child).ok_or(Reason::Name)?;
     check(reader.is_child(child), Reason::Name)?;
-    Ok(None)
+    check(!reader.is_forked(child), Reason::Twice)?;
+    Ok(Some(Op::Fork { child }))
 }
 
 /// `unpin` and `take`.

@@ -1,5 +1,5 @@
 -- What a script says, as contracts see it: the value of a `Script`.
-use Rattle.std.specs.Prelude.{ℕ, Bool, List, Option, slice_get}
+use Rattle.std.specs.Prelude.{ℕ, Bool, List, [], Option, None, Some, slice_get}
 use Rattle.gup_script.specs.declared.op.Op.{Op}
 use Rattle.gup_script.specs.declared.op.Kind.{Kind}
 
@@ -38,3 +38,11 @@ process_at s p = slice_get s.processes p
 
 abbrev pub actor_at : ScriptValue → ℕ → Option Actor
 actor_at s a = slice_get s.actors a
+
+-- the operations of an actor, in order
+abbrev pub ops_in : Option Actor → List Op
+ops_in None = []
+ops_in (Some actor) = actor.ops
+
+abbrev pub ops_of : ScriptValue → ℕ → List Op
+ops_of s a = ops_in (actor_at s a)

@@ -1,7 +1,6 @@
 //! What a script says: its frames, processes, actors with their operations, written turns and seed.
 #![tactic(auto)]
 
-mod one_page;
 mod op;
 mod script;
 

@@ -37,6 +37,10 @@ pub enum Op {
         word: WordNo,
         value: u64,
     },
+    /// `fork C`: brings a child process, which gets the mappings and shares the frames of this one (`fork`).
+    Fork {
+        child: ProcNo,
+    },
     /// `exit`: takes down all that the process has mapped.
     Exit,
 }
