@@ -1,6 +1,6 @@
 -- A journal follows its script where each actor's notes are those of its operations in order, and the notes of one
 -- operation have one of the shapes of its kind.
-use Rattle.std.specs.Prelude.{◌≡◌, ℕ, ◌+◌, ◌==◌, ◌&&◌, ◌⊎◌, Bool, true, false, IsTrue, List, [], ◌∷◌, ◌++◌, map, filter, zero, suc}
+use Rattle.std.specs.Prelude.{◌≡◌, ℕ, ◌+◌, ◌≤◌, ◌==◌, ◌&&◌, ◌⊎◌, Bool, true, false, IsTrue, List, [], ◌∷◌, ◌++◌, map, filter, zero, suc}
 use Rattle.gup_plain.specs.Note.{NoteValue}
 use Rattle.gup_plain.specs.declared.answer.Answer.{Answer}
 use Rattle.gup_plain.specs.declared.answer.Answer.TheVariants as answers
@@ -9,7 +9,7 @@ use Rattle.gup_plain.specs.declared.event.PlainEvent.TheVariants as events
 use Rattle.gup_plain.specs.declared.note.What.{What}
 use Rattle.gup_plain.specs.declared.note.What.TheVariants.{Silent, Idle, Wait, Event, Done}
 use Rattle.gup_script.specs.declared.op.Op.{Op}
-use Rattle.gup_script.specs.declared.op.Op.TheVariants.{Map, Unmap, Protect, Discard, Load, Store, Exit}
+use Rattle.gup_script.specs.declared.op.Op.TheVariants.{Map, Unmap, Protect, Discard, Load, Store, Fork, Exit}
 use Rattle.gup_script.specs.Script.{ScriptValue}
 use Rattle.gup_follows.specs.Place.{process_of, ops_of}
 
@@ -39,6 +39,8 @@ refuses (Store page word value) answers.NoFrame = true
 refuses (Map page n rights) answers.Overlap = true
 refuses (Map page n rights) answers.Full = true
 refuses (Protect page n rights) answers.Missing = true
+-- a fork of a failed process has a shape of its own
+refuses (Fork child) answers.Unborn = false
 refuses op answers.Unborn = true
 refuses op answer = false
 
@@ -70,6 +72,27 @@ TakesDownWhole who (suc pages) notes =
     (page : ℕ) × (front rest : List NoteValue) × (notes ≡ front ++ rest)
     × IsTurn who front (Event (events.Unmap who.actor who.proc page) ∷ []) × TakesDownWhole who pages rest
 
+-- a page of a fork: it is passed in one turn, or counted in one and shared in the next
+abbrev pub ForksPage : Who → (child page : ℕ) → List NoteValue → Type 0
+ForksPage who child page notes =
+    IsTurn who notes (Event (events.ForkPage who.proc child page) ∷ [])
+    ⊎ ((front rest : List NoteValue) × (notes ≡ front ++ rest) × IsTurn who front (Silent ∷ [])
+    × IsTurn who rest (Event (events.ForkPage who.proc child page) ∷ []))
+
+-- so many pages of a fork, in rising order from this one on, and then its end
+abbrev pub ForksPages : Who → (child from pages : ℕ) → List NoteValue → Type 0
+ForksPages who child from zero notes =
+    IsTurn who notes (Event (events.ForkEnd who.proc child) ∷ Done answers.Plain ∷ [])
+ForksPages who child from (suc pages) notes =
+    (page : ℕ) × (from ≤ page) × (front rest : List NoteValue) × (notes ≡ front ++ rest)
+    × ForksPage who child page front × ForksPages who child (page + 1) pages rest
+
+-- a fork: its beginning, its pages, its end
+abbrev pub Forks : Who → (child : ℕ) → List NoteValue → Type 0
+Forks who child notes =
+    (pages : ℕ) × (front rest : List NoteValue) × (notes ≡ front ++ rest)
+    × IsTurn who front (Event (events.ForkBegin who.proc child) ∷ []) × ForksPages who child 0 pages rest
+
 -- the shapes of an operation's notes
 abbrev pub Shape : Who → Op → List NoteValue → Type 0
 Shape who (Load page word) notes =
@@ -88,6 +111,8 @@ Shape who (Unmap page n) notes =
     TakesDownAll who (events.Unmap who.actor who.proc) page n notes ⊎ IsRefused who (Unmap page n) notes
 Shape who (Discard page n) notes =
     TakesDownAll who (events.Discard who.actor who.proc) page n notes ⊎ IsRefused who (Discard page n) notes
+Shape who (Fork child) notes =
+    Forks who child notes ⊎ IsTurn who notes (Event (events.ForkFail child) ∷ Done answers.Unborn ∷ [])
 Shape who Exit notes = ((pages : ℕ) × TakesDownWhole who pages notes) ⊎ IsRefused who Exit notes
 
 -- the notes are those of some of the operations, from the first on, each in one of its shapes

@@ -1,6 +1,6 @@
 -- A journal is in its script's order where its turns are first the written ones and then those that the pointer
 -- gives, to the end.
-use Rattle.std.specs.Prelude.{◌≡◌, ℕ, ◌+◌, ◌≤◌, ◌<◌, ◌==◌, Bool, true, false, if◌then◌else◌, List, [], ◌∷◌, ◌++◌, length, Option, Some, None, slice_get, zero, suc}
+use Rattle.std.specs.Prelude.{◌≡◌, ℕ, ◌+◌, ◌≤◌, ◌<◌, ◌⊎◌, ◌==◌, Bool, true, false, if◌then◌else◌, List, [], ◌∷◌, ◌++◌, length, Option, Some, None, slice_get, zero, suc}
 use Rattle.gup_plain.specs.Note.{NoteValue}
 use Rattle.gup_plain.specs.Put.{put}
 use Rattle.gup_plain.specs.State.{PlainState, Birth, unborn, growing, born, failed, start}
@@ -8,8 +8,10 @@ use Rattle.gup_plain.specs.declared.note.What.{What}
 use Rattle.gup_plain.specs.declared.note.What.TheVariants.{Idle, Wait}
 use Rattle.gup_plain.specs.declared.note.Waiting.{Waiting}
 use Rattle.gup_plain.specs.declared.note.Waiting.TheVariants as waitings
+use Rattle.gup_script.specs.declared.op.Op.{Op}
+use Rattle.gup_script.specs.declared.op.Op.TheVariants.{Map, Unmap, Protect, Discard, Load, Store, Fork, Exit}
 use Rattle.gup_script.specs.Script.{ScriptValue}
-use Rattle.gup_follows.specs.Place.{Place, first_place, place_behind, process_of, has_finished, starts_born}
+use Rattle.gup_follows.specs.Place.{Place, first_place, place_behind, process_of, present_op, has_finished, starts_born}
 use Rattle.gup_follows.specs.Plain.{plain_after}
 use Rattle.gup_follows.specs.Follows.{is_of_operation, notes_of_turn}
 
@@ -49,6 +51,24 @@ waiting_of script o a = waiting_at (process_of script a) (o.plain.birth (process
 abbrev pub finished_in : ScriptValue → Ordered → ℕ → Bool
 finished_in script o a = has_finished script a (o.places a)
 
+-- the operations that keep a lock of their process between two turns
+abbrev pub KeepsLock : Option Op → Type 0
+KeepsLock None = ⊥
+KeepsLock (Some (Fork child)) = Unit {0}
+KeepsLock (Some (Map page n rights)) = ⊥
+KeepsLock (Some (Unmap page n)) = ⊥
+KeepsLock (Some (Protect page n rights)) = ⊥
+KeepsLock (Some (Discard page n)) = ⊥
+KeepsLock (Some (Load page word)) = ⊥
+KeepsLock (Some (Store page word value)) = ⊥
+KeepsLock (Some Exit) = ⊥
+
+-- another actor b of the same process is in the middle of such an operation, so that a may wait for it
+abbrev pub MayHold : ScriptValue → Ordered → (a b : ℕ) → Type 0
+MayHold script o a b =
+    (a ≡ b → ⊥) × (process_of script b ≡ process_of script a) × (0 < (o.places b).far)
+    × KeepsLock (present_op script b (o.places b))
+
 -- one to three notes of the present operation
 abbrev pub AreOfOperation : List What → Type 0
 AreOfOperation [] = Unit {0}
@@ -59,10 +79,11 @@ Moves whats = (1 ≤ length whats) × (length whats ≤ 3) × AreOfOperation wha
 
 -- A written turn of an actor that has finished is idle, one of an actor that waits says so, and any other moves
 -- the actor on.
-abbrev pub IsWrittenTurn : (finished : Bool) → Option Waiting → List What → Type 0
-IsWrittenTurn true waiting whats = whats ≡ Idle ∷ []
-IsWrittenTurn false (Some waiting) whats = whats ≡ Wait waiting ∷ []
-IsWrittenTurn false None whats = Moves whats
+abbrev pub IsWrittenTurn : (finished : Bool) → Option Waiting → (holder : ℕ → Type 0) → List What → Type 0
+IsWrittenTurn true waiting holder whats = whats ≡ Idle ∷ []
+IsWrittenTurn false (Some waiting) holder whats = whats ≡ Wait waiting ∷ []
+IsWrittenTurn false None holder whats =
+    Moves whats ⊎ ((b : ℕ) × holder b × (whats ≡ Wait (waitings.Holder b) ∷ []))
 
 -- the actor behind this one, in a circle
 abbrev pub behind : (actors a : ℕ) → ℕ
@@ -72,14 +93,18 @@ abbrev pub behind_by : (actors steps a : ℕ) → ℕ
 behind_by actors zero a = a
 behind_by actors (suc steps) a = behind_by actors steps (behind actors a)
 
--- the actor can take no turn: it has finished, or it waits
-abbrev pub IsPassedOver : (finished : Bool) → Option Waiting → Type 0
-IsPassedOver true waiting = Unit {0}
-IsPassedOver false (Some waiting) = Unit {0}
-IsPassedOver false None = ⊥
+-- the actor has finished, or waits for its process
+abbrev pub IsOverAt : (finished : Bool) → Option Waiting → Type 0
+IsOverAt true waiting = Unit {0}
+IsOverAt false (Some waiting) = Unit {0}
+IsOverAt false None = ⊥
 
+abbrev pub IsOver : ScriptValue → Ordered → ℕ → Type 0
+IsOver script o a = IsOverAt (finished_in script o a) (waiting_of script o a)
+
+-- the actor can take no turn: so it is, or it waits for another that may hold a lock of its process
 abbrev pub IsPassed : ScriptValue → Ordered → ℕ → Type 0
-IsPassed script o a = IsPassedOver (finished_in script o a) (waiting_of script o a)
+IsPassed script o a = IsOver script o a ⊎ ((b : ℕ) × MayHold script o a b)
 
 -- The pointer gives the turn to this actor: it passes those before it, in a circle, and the actor neither has
 -- finished nor waits.
@@ -96,7 +121,7 @@ pub record IsPointedTurn (script : ScriptValue) (o : Ordered) (turn : Turn) : Ty
 abbrev pub IsNextTurn : ScriptValue → Ordered → Option ℕ → Turn → Type 0
 IsNextTurn script o (Some written) turn =
     (turn.actor ≡ written)
-    × IsWrittenTurn (finished_in script o turn.actor) (waiting_of script o turn.actor) turn.whats
+    × IsWrittenTurn (finished_in script o turn.actor) (waiting_of script o turn.actor) (MayHold script o turn.actor) turn.whats
 IsNextTurn script o None turn = IsPointedTurn script o turn
 
 -- a pointed turn leaves the pointer behind its actor
@@ -121,10 +146,10 @@ ordered_after script o turn =
     }
 
 -- The turns are the next ones, each behind those before it, up to where none is left: the written turns are over,
--- and each actor has finished or waits.
+-- and each actor has finished or waits for its process.
 abbrev pub AreInOrder : ScriptValue → Ordered → List Turn → Type 0
 AreInOrder script o [] =
-    (written_turn script o ≡ None) × ((a : ℕ) → a < length script.actors → IsPassed script o a)
+    (written_turn script o ≡ None) × ((a : ℕ) → a < length script.actors → IsOver script o a)
 AreInOrder script o (turn ∷ turns) =
     IsNextTurn script o (written_turn script o) turn × AreInOrder script (ordered_after script o turn) turns
 

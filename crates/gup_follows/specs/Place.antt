@@ -5,6 +5,7 @@ use Rattle.gup_plain.specs.declared.note.What.TheVariants.{Silent, Idle, Wait, E
 use Rattle.gup_script.specs.declared.op.Kind.{Kind}
 use Rattle.gup_script.specs.declared.op.Kind.TheVariants.{Thread, Device, Mover}
 use Rattle.gup_script.specs.declared.op.Op.{Op}
+pub use Rattle.gup_script.specs.Script.{ops_in, ops_of}
 use Rattle.gup_script.specs.Script.{ScriptValue, Process, Actor, actor_at}
 
 -- how many operations the actor has answered, how many notes the present one has, and whether one is an event
@@ -40,14 +41,7 @@ process_in (Some actor) = process_of_kind actor.kind
 abbrev pub process_of : ScriptValue → ℕ → ℕ
 process_of script a = process_in (actor_at script a)
 
--- the operations of an actor, and the one behind those that it has answered
-abbrev pub ops_in : Option Actor → List Op
-ops_in None = []
-ops_in (Some actor) = actor.ops
-
-abbrev pub ops_of : ScriptValue → ℕ → List Op
-ops_of script a = ops_in (actor_at script a)
-
+-- the operation of an actor behind those that it has answered
 abbrev pub present_op : ScriptValue → ℕ → Place → Option Op
 present_op script a place = slice_get (ops_of script a) place.answered
 

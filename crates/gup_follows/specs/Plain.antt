@@ -1,17 +1,18 @@
 -- A journal is plain where its events, from the script's start on, each can happen in the plain state, and where
 -- the plain state's denials stand exactly where it gives them.
-use Rattle.std.specs.Prelude.{◌≡◌, ℕ, ◌+◌, ◌<◌, Bool, true, false, List, [], ◌∷◌, Option, Some, None}
+use Rattle.std.specs.Prelude.{◌≡◌, ℕ, ◌+◌, ◌<◌, ◌⊎◌, Bool, true, false, List, [], ◌∷◌, Option, Some, None}
 use Rattle.gup_plain.specs.Note.{NoteValue}
 use Rattle.gup_plain.specs.Put.{put}
 use Rattle.gup_plain.specs.State.{PlainState, Birth, unborn, growing, born, failed, start}
 use Rattle.gup_plain.specs.Event.{CanHappen, happened}
 use Rattle.gup_plain.specs.declared.answer.Answer.{Answer}
+use Rattle.gup_plain.specs.declared.answer.Answer.TheVariants as answers
 use Rattle.gup_plain.specs.declared.event.PlainEvent.{PlainEvent}
 use Rattle.gup_plain.specs.declared.event.PlainEvent.TheVariants as events
 use Rattle.gup_plain.specs.declared.note.What.{What}
 use Rattle.gup_plain.specs.declared.note.What.TheVariants.{Silent, Idle, Wait, Event, Done}
 use Rattle.gup_script.specs.declared.op.Op.{Op}
-use Rattle.gup_script.specs.declared.op.Op.TheVariants.{Map, Unmap, Protect, Discard, Load, Store, Exit}
+use Rattle.gup_script.specs.declared.op.Op.TheVariants.{Map, Unmap, Protect, Discard, Load, Store, Fork, Exit}
 use Rattle.gup_script.specs.Script.{ScriptValue}
 use Rattle.gup_follows.specs.Place.{Place, first_place, place_after, process_of, present_op, starts_born}
 use Rattle.gup_plain.specs.Denial.{is_denial}
@@ -38,6 +39,7 @@ Passes s p (Map page n rights) far = Unit {0}
 Passes s p (Protect page n rights) far = Unit {0}
 Passes s p (Load page word) far = Unit {0}
 Passes s p (Store page word value) far = Unit {0}
+Passes s p (Fork child) far = Unit {0}
 Passes s p Exit far = (page : ℕ) → s.right p page ≡ None
 
 -- an exit takes down the lowest page that is named
@@ -49,6 +51,7 @@ TakesLowest s p (Map page n rights) e = Unit {0}
 TakesLowest s p (Protect page n rights) e = Unit {0}
 TakesLowest s p (Load page word) e = Unit {0}
 TakesLowest s p (Store page word value) e = Unit {0}
+TakesLowest s p (Fork child) e = Unit {0}
 
 -- An answer without an event is the denial, if the plain state gives one, and else no denial.
 abbrev pub IsAnswerOf : Option Answer → Answer → Type 0
@@ -65,12 +68,26 @@ abbrev pub IsUndeniedAt : (had : Bool) → Option Answer → Type 0
 IsUndeniedAt true denied = Unit {0}
 IsUndeniedAt false denied = denied ≡ None
 
+-- A fork is judged at its answer, whatever it had before: nothing denies it but that its process failed, and that stays.
+abbrev pub judged_before : Op → (had : Bool) → Bool
+judged_before (Fork child) had = false
+judged_before op had = had
+
+-- the fork of a failed process makes its child failed
+abbrev pub FailsChild : Op → PlainEvent → Type 0
+FailsChild (Fork child) (events.ForkFail c) = c ≡ child
+FailsChild op e = ⊥
+
+-- the event may stand where this denies its operation, or nothing does
+abbrev pub MayStand : (had : Bool) → Option Answer → Op → PlainEvent → Type 0
+MayStand had denied op e = IsUndeniedAt had denied ⊎ ((denied ≡ Some answers.Unborn) × FailsChild op e)
+
 -- the note of an actor of process p, at this place of its operation, is right in the plain state
 abbrev pub IsRightOf : PlainState → ℕ → Place → Op → What → Type 0
 IsRightOf s p place op Silent = Passes s p op place.far
-IsRightOf s p place op (Event e) = CanHappen s e × IsUndeniedAt place.had (denial s p op) × TakesLowest s p op e
+IsRightOf s p place op (Event e) = CanHappen s e × MayStand place.had (denial s p op) op e × TakesLowest s p op e
 IsRightOf s p place op (Done answer) =
-    IsSettled (s.birth p) × IsAnswerAfter place.had (denial s p op) answer × Passes s p op place.far
+    IsSettled (s.birth p) × IsAnswerAfter (judged_before op place.had) (denial s p op) answer × Passes s p op place.far
 IsRightOf s p place op Idle = Unit {0}
 IsRightOf s p place op (Wait waiting) = Unit {0}
 

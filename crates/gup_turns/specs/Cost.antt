@@ -1,18 +1,28 @@
 -- How many turns a run has at most still to take, those aside that wait or are idle.
-use Rattle.std.specs.Prelude.{◌≡◌, ℕ, ◌+◌, ◌-◌, ◌<◌, ◌⊎◌, false, is_some, IsSome, if◌then◌else◌, List, [], ◌∷◌, length, sum_by, Option, None, zero, suc}
+use Rattle.std.specs.Prelude.{◌≡◌, ℕ, ◌+◌, ◌-◌, ◌*◌, ◌<◌, ◌⊎◌, ◌&&◌, nat_le, false, is_some, IsSome, if◌then◌else◌, List, [], ◌∷◌, length, sum_by, Option, None, zero, suc}
 use Rattle.gup_base.specs.declared.entry.Rights.{Rights}
-use Rattle.gup_plain.specs.Event.{page_numbers}
+use Rattle.gup_plain.specs.Event.{most_pages, page_numbers}
 use Rattle.gup_plain.specs.Put.{put}
 use Rattle.gup_script.specs.declared.op.Op.{Op}
-use Rattle.gup_script.specs.declared.op.Op.TheVariants.{Map, Unmap, Protect, Discard, Load, Store, Exit}
+use Rattle.gup_script.specs.declared.op.Op.TheVariants.{Map, Unmap, Protect, Discard, Load, Store, Fork, Exit}
 use Rattle.gup_script.specs.Script.{ScriptValue, Actor}
 use Rattle.gup_follows.specs.Place.{Place, ops_of, process_of}
+use Rattle.gup_events.specs.State.{CoreState}
+use Rattle.gup_turns.specs.Pages.{sum_below, mapped_pages, pages_from}
 use Rattle.gup_turns.specs.Run.{RunState, run_after}
+use Rattle.gup_turns.specs.Reached.{ForkPlace, unbegun, from_page, at_page, fork_place}
 
--- f at the n numbers from 0 on, added up
-abbrev pub sum_below : ℕ → (ℕ → ℕ) → ℕ
-sum_below zero f = 0
-sum_below (suc n) f = f 0 + sum_below n (λ k. f (suc k))
+-- the turns that a fork has at most still to take: two a page of the child, and its end
+abbrev pub fork_turns : (right : ℕ → Option Rights) → ForkPlace → ℕ
+fork_turns right unbegun = 2 * most_pages + 2
+fork_turns right (from_page page) = 2 * pages_from right page + 1
+fork_turns right (at_page page) = 2 * pages_from right (page + 1) + 2
+
+-- those, with what the child's pages may cost an exit
+abbrev pub fork_left : (right : ℕ → Option Rights) → ForkPlace → ℕ
+fork_left right unbegun = fork_turns right unbegun + most_pages
+fork_left right (from_page page) = fork_turns right (from_page page)
+fork_left right (at_page page) = fork_turns right (at_page page)
 
 -- the turns of an operation, with those that the pages which it maps may cost an exit
 abbrev pub op_cost : Op → ℕ
@@ -22,35 +32,33 @@ op_cost (Discard page n) = n
 op_cost (Protect page n rights) = 1
 op_cost (Load page word) = 1
 op_cost (Store page word value) = 1
+op_cost (Fork child) = 3 * most_pages + 2
 op_cost Exit = 1
 
--- the same of one that has gone over so many pages
-abbrev pub op_left : Op → (far : ℕ) → ℕ
-op_left (Map page n rights) far = n + 1
-op_left (Unmap page n) far = n - far
-op_left (Discard page n) far = n - far
-op_left (Protect page n rights) far = 1
-op_left (Load page word) far = 1
-op_left (Store page word value) far = 1
-op_left Exit far = 1
+-- the same of one that actor a is in the middle of, of which so many turns are over
+abbrev pub op_left : CoreState → (a : ℕ) → Op → (far : ℕ) → ℕ
+op_left s a (Map page n rights) far = n + 1
+op_left s a (Unmap page n) far = n - far
+op_left s a (Discard page n) far = n - far
+op_left s a (Protect page n rights) far = 1
+op_left s a (Load page word) far = 1
+op_left s a (Store page word value) far = 1
+op_left s a (Fork child) far = fork_left (s.right child) (fork_place (s.job a))
+op_left s a Exit far = 1
 
 -- of the operations behind those that are answered
-abbrev pub left_cost : List Op → (answered far : ℕ) → ℕ
-left_cost [] answered far = 0
-left_cost (op ∷ ops) zero far = op_left op far + sum_by op_cost ops
-left_cost (op ∷ ops) (suc answered) far = left_cost ops answered far
+abbrev pub left_cost : CoreState → (a : ℕ) → List Op → (answered far : ℕ) → ℕ
+left_cost s a [] answered far = 0
+left_cost s a (op ∷ ops) zero far = op_left s a op far + sum_by op_cost ops
+left_cost s a (op ∷ ops) (suc answered) far = left_cost s a ops answered far
 
-abbrev pub actor_cost : ScriptValue → (a : ℕ) → Place → ℕ
-actor_cost script a place = left_cost (ops_of script a) place.answered place.far
-
--- how many pages of a process are mapped
-abbrev pub mapped_pages : (ℕ → Option Rights) → ℕ
-mapped_pages right = sum_below page_numbers (λ page. if is_some (right page) then 1 else 0)
+abbrev pub actor_cost : ScriptValue → RunState → (a : ℕ) → ℕ
+actor_cost script r a = left_cost r.core a (ops_of script a) (r.places a).answered (r.places a).far
 
 -- The cost of a state of the core run: that of what each actor has left, and the mapped pages of all processes.
 unfoldable pub cost : ScriptValue → RunState → ℕ
 cost script r =
-    sum_below (length script.actors) (λ a. actor_cost script a (r.places a))
+    sum_below (length script.actors) (actor_cost script r)
     + sum_below (length script.processes) (λ p. mapped_pages (r.core.right p))
 
 -- how many operations a script has
@@ -72,18 +80,24 @@ abbrev pub LosesPage : (before after : ℕ → Option Rights) → Type 0
 LosesPage before after = (page : ℕ) × (page < page_numbers) × IsSome (before page) × (after ≡ put page None before)
 
 -- A mapping, a protection, a load and a store are answered in one turn, what goes over n pages in the n-th at the
--- latest; each turn of an exit but the one that answers it takes a page of its process.
-abbrev pub IsWithinBound : Op → (place next : Place) → (before after : ℕ → Option Rights) → Type 0
-IsWithinBound (Map page n rights) place next before after = IsAnswered place next
-IsWithinBound (Protect page n rights) place next before after = IsAnswered place next
-IsWithinBound (Load page word) place next before after = IsAnswered place next
-IsWithinBound (Store page word value) place next before after = IsAnswered place next
-IsWithinBound (Unmap page n) place next before after = IsAnswered place next ⊎ (GoesOn place next × (next.far < n))
-IsWithinBound (Discard page n) place next before after = IsAnswered place next ⊎ (GoesOn place next × (next.far < n))
-IsWithinBound Exit place next before after = IsAnswered place next ⊎ (GoesOn place next × LosesPage before after)
+-- latest; each turn of an exit but the one that answers it takes a page of its process; each of a fork takes of its turns.
+abbrev pub IsWithinBound : Op → (a p : ℕ) → (place next : Place) → (before after : CoreState) → Type 0
+IsWithinBound (Map page n rights) a p place next before after = IsAnswered place next
+IsWithinBound (Protect page n rights) a p place next before after = IsAnswered place next
+IsWithinBound (Load page word) a p place next before after = IsAnswered place next
+IsWithinBound (Store page word value) a p place next before after = IsAnswered place next
+IsWithinBound (Unmap page n) a p place next before after =
+    IsAnswered place next ⊎ (GoesOn place next × (next.far < n))
+IsWithinBound (Discard page n) a p place next before after =
+    IsAnswered place next ⊎ (GoesOn place next × (next.far < n))
+IsWithinBound (Fork child) a p place next before after =
+    IsAnswered place next
+    ⊎ (GoesOn place next
+    × (fork_turns (after.right child) (fork_place (after.job a)) < fork_turns (before.right child) (fork_place (before.job a))))
+IsWithinBound Exit a p place next before after =
+    IsAnswered place next ⊎ (GoesOn place next × LosesPage (before.right p) (after.right p))
 
 -- the actor's next turn is within the bound of its operation
 abbrev pub IsBoundedTurn : ScriptValue → RunState → ℕ → Op → Type 0
 IsBoundedTurn script r a op =
-    IsWithinBound op (r.places a) ((run_after script r a).places a) (r.core.right (process_of script a))
-    ((run_after script r a).core.right (process_of script a))
+    IsWithinBound op a (process_of script a) (r.places a) ((run_after script r a).places a) r.core (run_after script r a).core

@@ -1,5 +1,6 @@
 pub mod Turn
 pub mod Run
 pub mod Cause
+pub mod Pages
 pub mod Reached
 pub mod Cost

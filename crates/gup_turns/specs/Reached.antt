@@ -1,29 +1,97 @@
 -- What is known of each state that turns lead to, whoever takes them.
-use Rattle.std.specs.Prelude.{◌≡◌, ℕ, ◌≤◌, ◌<◌, true, if◌then◌else◌, List, [], ◌∷◌, length, Some, None, IsSome}
+use Rattle.std.specs.Prelude.{◌≡◌, ℕ, ◌+◌, ◌*◌, ◌≤◌, ◌<◌, false, List, [], ◌∷◌, length, Contains, Option, Some, None, IsSome}
 use Rattle.gup_base.specs.declared.entry.Entry.{Entry}
-use Rattle.gup_plain.specs.State.{born, unborn}
-use Rattle.gup_script.specs.declared.op.Op.TheVariants.{Unmap, Discard}
+use Rattle.gup_plain.specs.Event.{page_numbers}
+use Rattle.gup_plain.specs.State.{unborn, growing, failed}
+use Rattle.gup_script.specs.declared.op.Op.{Op}
+use Rattle.gup_script.specs.declared.op.Op.TheVariants.{Map, Unmap, Protect, Discard, Load, Store, Fork, Exit}
 use Rattle.gup_script.specs.Script.{ScriptValue}
+use Rattle.gup_events.specs.State.{CoreState, Job, idle, marking, moving, forking, walking, ForkStep, between, counted, lowered, cleared, copying, failing}
 use Rattle.gup_events.specs.Sound.{IsSound}
-use Rattle.gup_follows.specs.Place.{ops_of, present_op, starts_born}
+use Rattle.gup_follows.specs.Place.{ops_of, present_op, process_of}
+use Rattle.gup_turns.specs.Pages.{mapped_pages}
 use Rattle.gup_turns.specs.Run.{RunState, run_after}
+use Rattle.gup_turns.specs.Turn.{first_behind}
 
 -- the state behind turns of these actors
 abbrev pub turned : ScriptValue → RunState → List ℕ → RunState
 turned script r [] = r
 turned script r (a ∷ actors) = turned script (run_after script r a) actors
 
--- The core state is sound, no process was born or failed, nobody holds a lock between two turns, each entry is of a
--- mapped page and its frame has a reference and is marked, an operation that goes over pages stands at one of them, and
--- no actor has answered more operations than it has.
+-- Where a fork stands between two turns: it has not begun, it looks for its next page from this one on, or it has
+-- counted this page.
+pub data ForkPlace : Type 0 where
+  unbegun : ForkPlace
+  from_page : (page : ℕ) → ForkPlace
+  at_page : (page : ℕ) → ForkPlace
+
+abbrev pub fork_place : Job → ForkPlace
+fork_place (forking p c done between) = from_page (first_behind done)
+fork_place (forking p c done (counted page)) = at_page page
+fork_place (forking p c done (lowered page)) = unbegun
+fork_place (forking p c done (cleared page)) = unbegun
+fork_place (forking p c done (copying page n)) = unbegun
+fork_place (forking p c done failing) = unbegun
+fork_place idle = unbegun
+fork_place (marking p page f) = unbegun
+fork_place (moving p page e count) = unbegun
+fork_place (walking p write long sequence step) = unbegun
+
+-- Actor a is in the middle of a fork of process p into this child: it holds the structure lock; the child's pages below
+-- the place where it looks for the next one are done, and those from there on have no entry.
+pub record IsForking (s : CoreState) (a p child q c : ℕ) (done : List ℕ) : Type 0 where
+  pub parent : q ≡ p
+  pub into : c ≡ child
+  pub birth : s.birth child ≡ growing p
+  pub locked : s.structure p ≡ Some a
+  pub below : (page : ℕ) → Contains done page → page < first_behind done
+  pub done_all : (page : ℕ) → page < first_behind done → IsSome (s.right child page) → Contains done page
+  pub fresh : (page : ℕ) → first_behind done ≤ page → s.entry child page ≡ None
+
+-- it has counted this page, and keeps the table lock until the page is done
+pub record HasCounted (s : CoreState) (a p child : ℕ) (done : List ℕ) (page : ℕ) : Type 0 where
+  pub above : first_behind done ≤ page
+  pub locked : s.table p ≡ Some a
+  pub entry : IsSome (s.entry p page)
+  pub mapped : IsSome (s.right child page)
+
+-- where a fork of process p stands between two turns, by the job of its actor
+abbrev pub StandsFork : CoreState → (a p child : ℕ) → Job → Type 0
+StandsFork s a p child idle = s.birth child ≡ unborn
+StandsFork s a p child (forking q c done between) = IsForking s a p child q c done
+StandsFork s a p child (forking q c done (counted page)) =
+    IsForking s a p child q c done × HasCounted s a p child done page
+StandsFork s a p child (forking q c done step) = ⊥
+StandsFork s a p child job = ⊥
+
+-- an actor that has no fork to do, or none at present, is in the middle of nothing
+abbrev pub IsNoFork : Option Op → Type 0
+IsNoFork None = Unit {0}
+IsNoFork (Some (Map page n rights)) = Unit {0}
+IsNoFork (Some (Unmap page n)) = Unit {0}
+IsNoFork (Some (Protect page n rights)) = Unit {0}
+IsNoFork (Some (Discard page n)) = Unit {0}
+IsNoFork (Some (Load page word)) = Unit {0}
+IsNoFork (Some (Store page word value)) = Unit {0}
+IsNoFork (Some (Fork child)) = ⊥
+IsNoFork (Some Exit) = Unit {0}
+
+-- The core state is sound. No process has failed or pinned, and those that are born or growing are declared. Each entry
+-- is of a mapped page, and its frame has a reference. No actor but one that forks is in the middle of anything, an
+-- operation that goes over pages stands at one of them, and no actor has answered more operations than it has. Counts
+-- and sequences stay small.
 pub record IsStanding (script : ScriptValue) (r : RunState) : Type 0 where
   pub sound : IsSound r.core
-  pub births : (p : ℕ) → r.core.birth p ≡ (if starts_born script p then born else unborn)
-  pub structure : (p : ℕ) → r.core.structure p ≡ None
-  pub table : (p : ℕ) → r.core.table p ≡ None
+  pub unfailed : (p : ℕ) → r.core.birth p ≡ failed → ⊥
+  pub unpinned : (p : ℕ) → r.core.has_pinned p ≡ false
+  pub declared : (p : ℕ) → (r.core.birth p ≡ unborn → ⊥) → p < length script.processes
   pub mapped : (p page : ℕ) (e : Entry) → r.core.entry p page ≡ Some e → IsSome (r.core.right p page)
   pub counted : (p page : ℕ) (e : Entry) → r.core.entry p page ≡ Some e → r.core.count e.frame ≡ 0 → ⊥
-  pub marked : (p page : ℕ) (e : Entry) → r.core.entry p page ≡ Some e → r.core.mark e.frame ≡ true
+  pub few_pages : (p : ℕ) → mapped_pages (r.core.right p) ≤ 1024
+  pub few_counts : (f : ℕ) → r.core.count f ≤ 16 * page_numbers
+  pub few_forks : (p : ℕ) → r.core.sequence p ≤ 32
+  pub idle_jobs : (a : ℕ) → IsNoFork (present_op script a (r.places a)) → r.core.job a ≡ idle
+  pub forks : (a child : ℕ) → present_op script a (r.places a) ≡ Some (Fork child) → StandsFork r.core a (process_of script a) child (r.core.job a)
   pub unmaps : (a page n : ℕ) → present_op script a (r.places a) ≡ Some (Unmap page n) → (r.places a).far < n
   pub discards : (a page n : ℕ) → present_op script a (r.places a) ≡ Some (Discard page n) → (r.places a).far < n
   pub answered : (a : ℕ) → (r.places a).answered ≤ length (ops_of script a)
