@@ -11,8 +11,6 @@ use Rattle.gup_events.specs.Invariant.{CanTell, AllCan, run}
 use Rattle.gup_events.specs.Sound.{IsSound, Simulates}
 use Rattle.gup_laws.specs.Law.{with_told, all_told}
 use Rattle.gup_follows.specs.Order.{plain_behind}
-use Rattle.gup_turns.proofs.Keeping.{keeps_unshared, keeps_births}
-use Rattle.gup_turns.proofs.Unshared.{IsUnshared, AreTurnEvents}
 
 -- the law of simulation
 abbrev pub Law : Type 0
@@ -73,13 +71,3 @@ plain_behind-through s (Silent ∷ whats) = plain_behind-through s whats
 plain_behind-through s (Idle ∷ whats) = plain_behind-through s whats
 plain_behind-through s (Wait waiting ∷ whats) = plain_behind-through s whats
 plain_behind-through s (Done answer ∷ whats) = plain_behind-through s whats
-
--- what the events of turns leave as it is, one after another
-
-pub stay_unshared : (s : CoreState) (es : List CoreEvent) → AreTurnEvents es → IsUnshared s → AllCan s es → IsUnshared (run s es)
-stay_unshared s [] kinds unshared can = unshared
-stay_unshared s (e ∷ es) kinds unshared can = stay_unshared (happens s e) es kinds.1 (keeps_unshared s kinds.0 unshared can.0) can.1
-
-pub births_stay : (s : CoreState) (es : List CoreEvent) → AreTurnEvents es → (run s es).birth ≡ s.birth
-births_stay s [] kinds = refl
-births_stay s (e ∷ es) kinds = births_stay (happens s e) es kinds.1 ∙ keeps_births s kinds.0

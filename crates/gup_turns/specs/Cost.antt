@@ -1,5 +1,5 @@
 -- How many turns a run has at most still to take, those aside that wait or are idle.
-use Rattle.std.specs.Prelude.{◌≡◌, ℕ, ◌+◌, ◌-◌, ◌*◌, ◌<◌, ◌⊎◌, ◌&&◌, nat_le, false, is_some, IsSome, if◌then◌else◌, List, [], ◌∷◌, length, sum_by, Option, None, zero, suc}
+use Rattle.std.specs.Prelude.{◌≡◌, ℕ, ◌+◌, ◌-◌, ◌*◌, ◌<◌, ◌⊎◌, false, IsSome, List, [], ◌∷◌, length, sum_by, Option, None, zero, suc}
 use Rattle.gup_base.specs.declared.entry.Rights.{Rights}
 use Rattle.gup_plain.specs.Event.{most_pages, page_numbers}
 use Rattle.gup_plain.specs.Put.{put}
