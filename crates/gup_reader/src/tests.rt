@@ -329,7 +329,6 @@ fn expect_whole(rt: &impl Abort, script: &Script) -> Result<(), Fail> {
     for (turn, number) in script.turns().iter().zip(turns) {
         assert_eq!(rt; turn.get(), number);
     }
-    assert!(rt; !script.is_one_page());
     Ok(())
 }
 
@@ -341,51 +340,4 @@ fn whole_script(rt: HostRuntime) -> Result<(), Fail> {
     expect_whole(&rt, &script)?;
     let copy = script.copy()?;
     expect_whole(&rt, &copy)
-}
-
-/// What stands behind the head of a script of one page, and the first line that makes it another.
-const PAGES: [(&str, Option<u32>); 13] = [
-    ("", None),
-    ("process p\nthread t p\n", None),
-    (
-        "process p\nthread t p\non t map 5 1 rw\non t store 5.0 7\non t load 5.1\non t unmap 5 1\n",
-        None,
-    ),
-    ("process p\nprocess q\nthread t p\n", Some(4)),
-    ("child p\n", Some(3)),
-    ("device d 1\n", Some(3)),
-    ("process p\nthread t p\nthread u p\n", Some(5)),
-    ("process p\nthread t p\n#\nturns t\nturns t\n", Some(6)),
-    ("process p\nthread t p\non t exit\n", Some(5)),
-    ("process p\nthread t p\non t map 5 1 r\n", Some(5)),
-    ("process p\nthread t p\non t map 5 2 rw\n", Some(5)),
-    ("process p\nthread t p\non t protect 5 1 rw\n", Some(5)),
-    (
-        "process p\nthread t p\non t load 5.0\non t load 6.0\n",
-        Some(6),
-    ),
-];
-
-/// The first line that makes the script in the text another than one of one page.
-fn line_beyond(alloc: Global, text: &[u8]) -> Result<Option<u32>, Fail> {
-    let Ok(script) = read_script(alloc, text) else {
-        return Err("no script")?;
-    };
-    if script.is_one_page() {
-        return Ok(None);
-    }
-    Ok(Some(first_line_beyond(alloc, text)?))
-}
-
-#[test]
-fn one_page(rt: HostRuntime) -> Result<(), Fail> {
-    for (lines, expected) in PAGES {
-        let text = format!(in rt.alloc(); "gup 1\nframes 0 1 0\n{lines}")?;
-        assert_eq!(rt;
-            line_beyond(rt.alloc(), text.as_bytes())?,
-            expected,
-            "{lines}"
-        );
-    }
-    Ok(())
 }
