@@ -123,7 +123,6 @@ const LINES: [(&str, u32, Reason); 120] = [
     ("on t pin h 0 16 write long\n", 8, Reason::Later),
     ("on t pinfast h 34359738366 2 read\n", 8, Reason::Later),
     ("on t get g 0\n", 8, Reason::Later),
-    ("on t fork c\n", 8, Reason::Later),
     ("on d mirror s c 0\n", 8, Reason::Later),
     ("on m move c 0 movable\n", 8, Reason::Later),
     (
