@@ -34,7 +34,7 @@ counted test (a ∷ actors) =
     ∙ ap (λ n. cond (test a.kind) 1 0 + n) (counted test actors)
     ∙ sym (fields_cons test a actors)
 
-pub any_found : (test : Kind → Bool) (actors : List Fields) → list_any (λ (a : Actor). test a.kind) (map actor_value actors) ≡ list_any (λ (a : Fields). test a.kind) actors
+pub any_found : (test : Actor → Bool) (actors : List Fields) → list_any test (map actor_value actors) ≡ list_any (λ (a : Fields). test (actor_value a)) actors
 any_found test [] = refl
 any_found test (a ∷ actors) = rw (any_found test actors) refl
 

@@ -41,7 +41,7 @@ impl Model for Reader {
     ghost invariant = { IsWithinLimits };
 }
 
-// Whether one of the operations is a fork that brings this process.
+/// Whether one of the operations is a fork that brings this process.
 fn forks(ops: &[Op], p: ProcNo) -> bool
     ensures { result ≡ list_any (forks_child p) ops.now }
 {

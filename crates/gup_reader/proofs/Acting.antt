@@ -9,7 +9,7 @@ use Rattle.gup_script.specs.declared.op.Op.{Op}
 use Rattle.gup_reader.specs.declared.refusal.Reason.{Reason}
 use Rattle.gup_reader.specs.declared.refusal.Reason.TheVariants as reasons
 use Rattle.gup_text.specs.Spelling.{IsRange, IsAddress}
-use Rattle.gup_reader.specs.Said.{Word, Action, maps, unmaps, protects, discards, loads, stores, exits, IsShaped}
+use Rattle.gup_reader.specs.Said.{Word, Action, maps, unmaps, protects, discards, loads, stores, forks, exits, IsShaped}
 use Rattle.gup_outline.specs.Outline.{Outline, with_operation}
 use Rattle.gup_script.specs.Limits.{most_operations}
 use Rattle.gup_reader.specs.Grammar.{ActionNumbers, ActionNames, ActionOnce, ActionLimits, Means, IsBuilt, Does}
@@ -20,15 +20,16 @@ use Rattle.gup_reader.proofs.Judged.{Ends, built, later, Judged}
 
 -- ---- what an action means
 
-means_built : (action : Action) (op : Op) → Means action op → IsBuilt action
-means_built (maps first count rights) op h = tt
-means_built (unmaps first count) op h = tt
-means_built (protects first count rights) op h = tt
-means_built (discards first count) op h = tt
-means_built (loads address) op h = tt
-means_built (stores address value) op h = tt
-means_built exits op h = tt
-means_built _ op h = absurd h
+means_built : (st : Outline) (action : Action) (op : Op) → Means st action op → IsBuilt action
+means_built st (maps first count rights) op h = tt
+means_built st (unmaps first count) op h = tt
+means_built st (protects first count rights) op h = tt
+means_built st (discards first count) op h = tt
+means_built st (loads address) op h = tt
+means_built st (stores address value) op h = tt
+means_built st (forks child) op h = tt
+means_built st exits op h = tt
+means_built st _ op h = absurd h
 
 -- a word, or two, say one pair of numbers at most
 one_pair : (o : Option (ℕ × ℕ)) (a b c d : ℕ) → o ≡ Some (a, b) → o ≡ Some (c, d) → (a ≡ c) × (b ≡ d)
@@ -43,22 +44,23 @@ one_range first count page n other m h g =
 one_address : (word : Word) (page w other v : ℕ) → IsAddress word page w → IsAddress word other v → (page ≡ other) × (w ≡ v)
 one_address word page w other v h g = one_pair (address_in word) page w other v (address_read word page w h) (address_read word other v g)
 
-means_one : (action : Action) (x y : Op) → Means action x → Means action y → x ≡ y
-means_one (maps first count rights) x y h g = let same = one_range first count h.0 h.1 g.0 g.1 h.2 g.2 in cc (h.3, g.3)
-means_one (unmaps first count) x y h g = let same = one_range first count h.0 h.1 g.0 g.1 h.2 g.2 in cc (h.3, g.3)
-means_one (protects first count rights) x y h g = let same = one_range first count h.0 h.1 g.0 g.1 h.2 g.2 in cc (h.3, g.3)
-means_one (discards first count) x y h g = let same = one_range first count h.0 h.1 g.0 g.1 h.2 g.2 in cc (h.3, g.3)
-means_one (loads address) x y h g = let same = one_address address h.0 h.1 g.0 g.1 h.2 g.2 in cc (h.3, g.3)
-means_one (stores address value) x y h g =
+means_one : (st : Outline) (action : Action) (x y : Op) → Means st action x → Means st action y → x ≡ y
+means_one st (maps first count rights) x y h g = let same = one_range first count h.0 h.1 g.0 g.1 h.2 g.2 in cc (h.3, g.3)
+means_one st (unmaps first count) x y h g = let same = one_range first count h.0 h.1 g.0 g.1 h.2 g.2 in cc (h.3, g.3)
+means_one st (protects first count rights) x y h g = let same = one_range first count h.0 h.1 g.0 g.1 h.2 g.2 in cc (h.3, g.3)
+means_one st (discards first count) x y h g = let same = one_range first count h.0 h.1 g.0 g.1 h.2 g.2 in cc (h.3, g.3)
+means_one st (loads address) x y h g = let same = one_address address h.0 h.1 g.0 g.1 h.2 g.2 in cc (h.3, g.3)
+means_one st (stores address value) x y h g =
     let same = one_address address h.0 h.1 g.0 g.1 h.3 g.3 in
     cc (h.5, g.5, number_read value h.2 h.4, number_read value g.2 g.4)
-means_one exits x y h g = h ∙ sym g
-means_one _ x y h g = absurd h
+means_one st (forks child) x y h g = cc (h.1, h.2, g.1, g.2)
+means_one st exits x y h g = h ∙ sym g
+means_one st _ x y h g = absurd h
 
 -- ---- an action of an actor, with all its tests
 
 abbrev Done : Outline → (actor : ℕ) → Action → Result Outline Reason → Type 0
-Done st a action result = (op : Op) × Means action op × (result ≡ Ok (with_operation a op st))
+Done st a action result = (op : Op) × Means st action op × (result ≡ Ok (with_operation a op st))
 
 abbrev Limited : Outline → (actor : ℕ) → Action → Result Outline Reason → Type 0
 Limited st a action = Tried reasons.Limit (ActionLimits st) (Tried reasons.Later (IsBuilt action) (Done st a action))
@@ -74,10 +76,10 @@ Acts st a action =
 abbrev pub placed : Outline → (actor : ℕ) → Option Op → Result Outline Reason
 placed st a op = check reasons.Limit (nat_lt st.operations most_operations) >>= λ _. need reasons.Later op >>= λ o. Ok (with_operation a o st)
 
-ended : (st : Outline) (a : ℕ) (action : Action) (result : Result (Option Op) Reason) → Ends action result → Limited st a action (result >>= placed st a)
+ended : (st : Outline) (a : ℕ) (action : Action) (result : Result (Option Op) Reason) → Ends st action result → Limited st a action (result >>= placed st a)
 ended st a action result (built op given means) =
     subst (λ (r : Result (Option Op) Reason). Limited st a action (r >>= placed st a)) (sym given)
-    (checked _ (Decides-ltb st.operations most_operations) (λ l. goes (means_built action op means) (op, means, refl)))
+    (checked _ (Decides-ltb st.operations most_operations) (λ l. goes (means_built st action op means) (op, means, refl)))
 ended st a action result (later given unbuilt) =
     subst (λ (r : Result (Option Op) Reason). Limited st a action (r >>= placed st a)) (sym given)
     (checked _ (Decides-ltb st.operations most_operations) (λ l. stops refl unbuilt))
@@ -109,8 +111,8 @@ acts_read st a action result next t h =
     let limits = tried_pass once h.3 in
     let all = tried_pass limits h.4 in
     let does = h.5 in
-    let done = tried_pass all (means_built action does.0 does.1) in
-    let one = means_one action done.0 does.0 done.1 does.1 in
+    let done = tried_pass all (means_built st action does.0 does.1) in
+    let one = means_one st action done.0 does.0 done.1 does.1 in
     done.2 ∙ ap (λ (op : Op). Ok (with_operation a op st)) one ∙ ap (λ (s : Outline). Ok s) (sym does.2)
 
 pub acts_err : (st : Outline) (a : ℕ) (action : Action) (result : Result Outline Reason) (q : Reason) → Acts st a action result → result ≡ Err q → ActionFault st a action q

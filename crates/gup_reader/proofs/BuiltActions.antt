@@ -7,12 +7,12 @@ use Rattle.gup_base.specs.declared.entry.Rights.TheVariants.{R, RW}
 use Rattle.gup_text.specs.Text.{range_in}
 use Rattle.gup_script.specs.declared.op.Op.TheVariants as ops
 use Rattle.gup_reader.specs.declared.refusal.Reason.TheVariants as reasons
-use Rattle.gup_reader.specs.Said.{Word, maps, unmaps, protects, discards, loads, stores, exits, rights_word}
+use Rattle.gup_reader.specs.Said.{Word, maps, unmaps, protects, discards, loads, stores, forks, exits, rights_word}
 use Rattle.gup_outline.specs.Outline.{Outline}
-use Rattle.gup_reader.specs.Reading.{◌>>=◌, need, rights_in, map_in, unmap_in, protect_in, discard_in, load_in, store_in, exit_in}
-use Rattle.gup_reader.proofs.Chains.{goes, both, same_word}
+use Rattle.gup_reader.specs.Reading.{◌>>=◌, need, rights_in, map_in, unmap_in, protect_in, discard_in, load_in, store_in, fork_in, exit_in}
+use Rattle.gup_reader.proofs.Chains.{goes, checked, both, same_word}
 use Rattle.gup_reader.proofs.ActionWords.{said_with}
-use Rattle.gup_reader.proofs.Judged.{built, Told, number_step, address_step, range_step}
+use Rattle.gup_reader.proofs.Judged.{built, Told, number_step, address_step, range_step, child_step, unforked_Decides}
 
 -- ---- rights
 
@@ -64,7 +64,7 @@ discard_told st a (first ∷ count ∷ []) =
     inl (discards first count, refl, goes tt (range_step 1024 first count _ (λ page n h. goes tt (goes tt (built (ops.Discard page n) refl (page, n, h, refl))))))
 discard_told st a _ = inr (refl, refl)
 
--- ---- load, store, exit
+-- ---- load, store, fork, exit
 
 pub load_told : (st : Outline) (a : ℕ) (fields : List Word) → Told st a (codes "load" ∷ fields) (load_in fields)
 unfolding load_in
@@ -81,6 +81,16 @@ store_told st a (address ∷ value ∷ []) =
       goes tt (both (address_step address _ (λ page w h. number_step value _ (λ v g. goes tt (goes tt (built (ops.Store page w v) refl (page, w, v, h, g, refl))))))),
     )
 store_told st a _ = inr (refl, refl)
+
+pub fork_told : (st : Outline) (a : ℕ) (fields : List Word) → Told st a (codes "fork" ∷ fields) (fork_in st fields)
+unfolding fork_in
+fork_told st a (child ∷ []) =
+    inl (
+      forks child,
+      refl,
+      goes tt (goes tt (child_step st child _ (λ p h. checked _ (unforked_Decides st child p h) (λ u. built (ops.Fork p) refl (p, h, refl))))),
+    )
+fork_told st a _ = inr (refl, refl)
 
 pub exit_told : (st : Outline) (a : ℕ) (fields : List Word) → Told st a (codes "exit" ∷ fields) (exit_in fields)
 unfolding exit_in

@@ -56,10 +56,10 @@ step_on number stage line [] some = absurd (some refl)
 step_on number stage line (next ∷ lines) some = refl
 
 -- what is found from a line on: what is found behind it, or its fault
-pub line_step : (number : ℕ) (stage : Stage) (line rest : List ℕ) → lines_in number stage (line ∷ parts 10 rest) ≡ behind number (line_in stage line) (λ after. lines_in (number + 1) after (parts 10 rest))
+line_step : (number : ℕ) (stage : Stage) (line rest : List ℕ) → lines_in number stage (line ∷ parts 10 rest) ≡ behind number (line_in stage line) (λ after. lines_in (number + 1) after (parts 10 rest))
 line_step number stage line rest = step_on number stage line (parts 10 rest) (some_parts rest)
 
-pub line_right : (number : ℕ) (stage after : Stage) (line rest : List ℕ) → line_in stage line ≡ Ok after → lines_in number stage (line ∷ parts 10 rest) ≡ lines_in (number + 1) after (parts 10 rest)
+line_right : (number : ℕ) (stage after : Stage) (line rest : List ℕ) → line_in stage line ≡ Ok after → lines_in number stage (line ∷ parts 10 rest) ≡ lines_in (number + 1) after (parts 10 rest)
 line_right number stage after line rest e = line_step number stage line rest ∙ rw e refl
 
 pub line_wrong : (number : ℕ) (stage : Stage) (line rest : List ℕ) (t : Trouble) → IsTrouble (line_in stage line) t → IsRefusal (lines_in number stage (line ∷ parts 10 rest)) (refusal_at number t)

@@ -1,6 +1,6 @@
 -- What an `on` line's action comes to: its tests in their order, and then an operation, or none where its kind comes
 -- later. For each form that a test has in the reader, the condition in the grammar that it tests.
-use Rattle.std.proofs.Common.{◌≡◌, ℕ, ◌^◌, ◌<◌, Bool, true, false, List, Option, Some, None, Result, Ok, Err, refl, ap, ◌⊎◌, inl, inr}
+use Rattle.std.proofs.Common.{◌≡◌, ℕ, ◌^◌, ◌<◌, Bool, true, false, not, List, Option, Some, None, Result, Ok, Err, refl, ap, ◌⊎◌, inl, inr}
 use Rattle.std.specs.Bool.{Decides}
 use Rattle.std.proofs.lemmas.Bool.Decides.{Decides-eqb}
 use Rattle.gup_text.specs.Text.{number_in, count_in, index_in, page_in, word_no_in, address_in, range_in, is_name}
@@ -15,7 +15,7 @@ use Rattle.gup_script.specs.declared.op.Op.{Op}
 use Rattle.gup_reader.specs.declared.refusal.Reason.{Reason}
 use Rattle.gup_reader.specs.declared.refusal.Reason.TheVariants as reasons
 use Rattle.gup_reader.specs.Said.{Word, Action, action_words, IsShaped}
-use Rattle.gup_outline.specs.Outline.{Outline, is_child, is_receiver}
+use Rattle.gup_outline.specs.Outline.{Outline, is_child, is_forked, is_receiver}
 use Rattle.gup_reader.specs.Grammar.{ActionNumbers, ActionNames, ActionOnce, Means, IsBuilt, NamesProcess, NamesActor}
 use Rattle.gup_reader.specs.Reading.{◌>>=◌, check, need}
 use Rattle.gup_outline.specs.Named.{process_of, actor_of, is_pin_name, is_got_name, is_mirror_of, may_mirror}
@@ -24,16 +24,16 @@ use Rattle.gup_reader.proofs.ActionWords.{action_in}
 
 -- ---- what an action comes to
 
-pub data Ends (action : Action) (result : Result (Option Op) Reason) : Type 0 where
-  built : (op : Op) → (given : result ≡ Ok (Some op)) → (means : Means action op) → Ends action result
-  later : (given : result ≡ Ok None) → (unbuilt : IsBuilt action → ⊥) → Ends action result
+pub data Ends (st : Outline) (action : Action) (result : Result (Option Op) Reason) : Type 0 where
+  built : (op : Op) → (given : result ≡ Ok (Some op)) → (means : Means st action op) → Ends st action result
+  later : (given : result ≡ Ok None) → (unbuilt : IsBuilt action → ⊥) → Ends st action result
 
 abbrev pub Judged : Outline → (actor : ℕ) → Action → Result (Option Op) Reason → Type 0
 Judged st a action =
     Tried reasons.Shape (IsShaped action)
     (Tried reasons.Number (ActionNumbers action)
     (Tried reasons.Name (ActionNames st a action)
-    (Tried reasons.Twice (ActionOnce st action) (Ends action))))
+    (Tried reasons.Twice (ActionOnce st action) (Ends st action))))
 
 -- what words come to: they say an action, or none
 abbrev pub Told : Outline → (actor : ℕ) → List Word → Result (Option Op) Reason → Type 0
@@ -102,20 +102,27 @@ actor_found (Some (named.Actor b)) a e = cc
 actor_found _ a e = absurd cc
 
 -- something named, that has to pass a test
-named_and_tested : {B : Type 0} {behind : Result B Reason → Type 0} (o : Option ℕ) (Fits : ℕ → Type 0) (test : ℕ → Bool) (f : Unit → Result B Reason) → ((n : ℕ) → o ≡ Some n → Fits n) → ((n : ℕ) → Fits n → o ≡ Some n) → behind (f tt) → Tried reasons.Name ((n : ℕ) × Fits n × (test n ≡ true)) behind (need reasons.Name o >>= λ n. check reasons.Name (test n) >>= f)
+named_and_tested : {B : Type 0} {behind : Result B Reason → Type 0} (o : Option ℕ) (Fits : ℕ → Type 0) (test : ℕ → Bool) (f : ℕ → Unit → Result B Reason) → ((n : ℕ) → o ≡ Some n → Fits n) → ((n : ℕ) → Fits n → o ≡ Some n) → ((n : ℕ) → Fits n → behind (f n tt)) → Tried reasons.Name ((n : ℕ) × Fits n × (test n ≡ true)) behind (need reasons.Name o >>= λ n. check reasons.Name (test n) >>= f n)
 named_and_tested None Fits test f found read next = stops refl (λ h. absurd (cc (read h.0 h.1)))
 named_and_tested {behind = behind} (Some n) Fits test f found read next = tested (test n) refl where
-  tested : (b : Bool) → test n ≡ b → Tried reasons.Name ((m : ℕ) × Fits m × (test m ≡ true)) behind (check reasons.Name b >>= f)
-  tested true e = goes (n, found n refl, e) next
+  tested : (b : Bool) → test n ≡ b → Tried reasons.Name ((m : ℕ) × Fits m × (test m ≡ true)) behind (check reasons.Name b >>= f n)
+  tested true e = goes (n, found n refl, e) (next n (found n refl))
   tested false e = stops refl (λ h. let one : n ≡ h.0 = cc (read h.0 h.1) in absurd (cc (one, e, h.2)))
 
-pub child_step : {B : Type 0} (st : Outline) (word : Word) (f : Unit → Result B Reason) {behind : Result B Reason → Type 0} → behind (f tt) → Tried reasons.Name ((p : ℕ) × NamesProcess st word p × (is_child st p ≡ true)) behind (need reasons.Name (process_of (find st.names word)) >>= λ p. check reasons.Name (is_child st p) >>= f)
+pub child_step : {B : Type 0} (st : Outline) (word : Word) (f : ℕ → Unit → Result B Reason) {behind : Result B Reason → Type 0} → ((p : ℕ) → NamesProcess st word p → behind (f p tt)) → Tried reasons.Name ((p : ℕ) × NamesProcess st word p × (is_child st p ≡ true)) behind (need reasons.Name (process_of (find st.names word)) >>= λ p. check reasons.Name (is_child st p) >>= f p)
 child_step st word f next =
     named_and_tested (process_of (find st.names word)) (NamesProcess st word) (is_child st) f (process_found (find st.names word)) (λ p h. ap process_of h) next
 
+-- a child that no fork brings so far
+pub unforked_Decides : (st : Outline) (word : Word) (p : ℕ) → NamesProcess st word p → Decides (not (is_forked st p)) ((q : ℕ) × NamesProcess st word q × (is_forked st q ≡ false))
+unforked_Decides st word p named = way (is_forked st p) refl where
+  way : (b : Bool) → is_forked st p ≡ b → Decides (not b) ((q : ℕ) × NamesProcess st word q × (is_forked st q ≡ false))
+  way true e = (λ t. absurd cc, λ h. let one : p ≡ h.0 = cc (named, h.1) in absurd (cc (one, e, h.2)))
+  way false e = (λ t. (p, named, e), λ h. refl)
+
 pub receiver_step : {B : Type 0} (st : Outline) (word : Word) (f : Unit → Result B Reason) {behind : Result B Reason → Type 0} → behind (f tt) → Tried reasons.Name ((a : ℕ) × NamesActor st word a × (is_receiver st a ≡ true)) behind (need reasons.Name (actor_of (find st.names word)) >>= λ a. check reasons.Name (is_receiver st a) >>= f)
 receiver_step st word f next =
-    named_and_tested (actor_of (find st.names word)) (NamesActor st word) (is_receiver st) f (actor_found (find st.names word)) (λ a h. ap actor_of h) next
+    named_and_tested (actor_of (find st.names word)) (NamesActor st word) (is_receiver st) (λ a. f) (actor_found (find st.names word)) (λ a h. ap actor_of h) (λ a h. next)
 
 pub pin_Decides : (o : Option Named) → Decides (is_pin_name o) ((h : ℕ) × (o ≡ Some (named.Pin h)))
 pin_Decides (Some (named.Pin q)) = (λ e. (q, refl), λ h. refl)

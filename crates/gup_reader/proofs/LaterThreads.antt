@@ -1,15 +1,15 @@
--- What the words of a thread's operations that come later come to: pins, references, forks.
+-- What the words of a thread's operations that come later come to: pins and references.
 use Rattle.std.proofs.Common.{◌≡◌, ℕ, Bool, true, false, cond, List, [], ◌∷◌, Option, Some, None, Err, refl, arith, sym, ap, subst, ◌∙◌, inl, inr}
 use Rattle.std.specs.Prelude.{codes}
 use Rattle.std.specs.Str.{bytes_eq}
 use Rattle.gup_names.specs.Names.{find}
 use Rattle.gup_reader.specs.declared.refusal.Reason.TheVariants as reasons
-use Rattle.gup_reader.specs.Said.{Word, pins, gets, puts, forks, unpins, takes, gives, pin_word, write_word}
+use Rattle.gup_reader.specs.Said.{Word, pins, gets, puts, unpins, takes, gives, pin_word, write_word}
 use Rattle.gup_outline.specs.Outline.{Outline}
-use Rattle.gup_reader.specs.Reading.{◌>>=◌, check, is_way, pin_of, pin_in, get_in, put_in, fork_in, handle_in, give_in}
+use Rattle.gup_reader.specs.Reading.{◌>>=◌, check, is_way, pin_of, pin_in, get_in, put_in, handle_in, give_in}
 use Rattle.gup_reader.proofs.Chains.{goes, checked, both, same_word, unused_Decides}
 use Rattle.gup_reader.proofs.ActionWords.{said_with, way_in, action_in}
-use Rattle.gup_reader.proofs.Judged.{later, Judged, Told, range_step, page_step, name_Decides, child_step, receiver_step, pin_Decides, got_Decides}
+use Rattle.gup_reader.proofs.Judged.{later, Judged, Told, range_step, page_step, name_Decides, receiver_step, pin_Decides, got_Decides}
 
 -- ---- pins
 
@@ -88,13 +88,6 @@ unfolding put_in
 put_told st a (handle ∷ []) =
     inl (puts handle, refl, goes tt (goes tt (checked _ (got_Decides (find st.names handle)) (λ g. goes tt (later refl (λ b. b))))))
 put_told st a _ = inr (refl, refl)
-
--- ---- forks: a child process, by its name
-
-pub fork_told : (st : Outline) (a : ℕ) (fields : List Word) → Told st a (codes "fork" ∷ fields) (fork_in st fields)
-unfolding fork_in
-fork_told st a (child ∷ []) = inl (forks child, refl, goes tt (goes tt (child_step st child _ (goes tt (later refl (λ b. b))))))
-fork_told st a _ = inr (refl, refl)
 
 -- ---- unpin, take, give
 

@@ -20,6 +20,7 @@ pub mod OpChoices
 pub mod Acting
 pub mod On
 pub mod Lists
+pub mod Forking
 pub mod Standing
 pub mod Operating
 pub mod Validity
@@ -27,4 +28,3 @@ pub mod Parts
 pub mod Turners
 pub mod Cuts
 pub mod Answers
-pub mod Further

@@ -35,6 +35,14 @@ pub neither : (a b : Bool) → (a || b) ≡ false → (a ≡ false) × (b ≡ fa
 neither true b f = absurd cc
 neither false b f = (refl, f)
 
+-- no element passes the test
+pub none_passes : {X : Type 0} (p : X → Bool) (xs : List X) (k : ℕ) (x : X) → list_any p xs ≡ false → slice_get xs k ≡ Some x → p x ≡ false
+none_passes p [] k x none e = absurd cc
+none_passes p (y ∷ xs) zero x none e =
+    let same : y ≡ x = cc in
+    subst (λ z. p z ≡ false) same (neither (p y) (list_any p xs) none).0
+none_passes p (y ∷ xs) (suc k) x none e = none_passes p xs k x (neither (p y) (list_any p xs) none).1 e
+
 pub none_count : {X : Type 0} (p : X → Bool) (xs : List X) → list_any p xs ≡ false → count_by p xs ≡ 0
 none_count p [] e = refl
 none_count p (x ∷ xs) e =

@@ -10,7 +10,7 @@ use Rattle.gup_text.specs.Spelling.{IsName, turn_word, address}
 use Rattle.gup_names.specs.Names.{Entry, find, declared}
 use Rattle.gup_names.specs.declared.names.Named.{Named}
 use Rattle.gup_outline.specs.Outline.{Outline}
-use Rattle.gup_reader.specs.Said.{Word, Said, a_process, a_child, a_thread, a_device, a_mover, a_seed, some_turns, random_turns, said_words, Action, maps, unmaps, protects, discards, loads, stores, exits, action_words, rights_word}
+use Rattle.gup_reader.specs.Said.{Word, Said, a_process, a_child, a_thread, a_device, a_mover, a_seed, some_turns, random_turns, said_words, Action, maps, unmaps, protects, discards, loads, stores, forks, exits, action_words, rights_word}
 use Rattle.gup_reader.specs.Grammar.{TurnsAnActor, Declares, Does, IsNext, IsSaid, IsRight, Stage, before_head, before_frames, open_at}
 use Rattle.gup_reader.specs.Fault.{AreSpaced}
 use Rattle.gup_reader.proofs.Verdicts.{given}
@@ -106,19 +106,20 @@ some_address page w e = way (decimal page) e where
   way [] f = cc
   way (c ∷ cs) f = cc
 
-spaced_action : (st next : Outline) (a : ℕ) (action : Action) → Does st a action next → AreSpaced (action_words action)
-spaced_action st next a (maps first count rights) d = let n = d.1 in (λ e. cc, (some_decimal first n.0 n.2.0 (omega (arith, n.2.4)), (some_decimal count n.1 n.2.1 (omega (arith, n.2.3)), (some_rights rights, tt))))
-spaced_action st next a (unmaps first count) d = let n = d.1 in (λ e. cc, (some_decimal first n.0 n.2.0 (omega (arith, n.2.4)), (some_decimal count n.1 n.2.1 (omega (arith, n.2.3)), tt)))
-spaced_action st next a (protects first count rights) d = let n = d.1 in (λ e. cc, (some_decimal first n.0 n.2.0 (omega (arith, n.2.4)), (some_decimal count n.1 n.2.1 (omega (arith, n.2.3)), (some_rights rights, tt))))
-spaced_action st next a (discards first count) d = let n = d.1 in (λ e. cc, (some_decimal first n.0 n.2.0 (omega (arith, n.2.4)), (some_decimal count n.1 n.2.1 (omega (arith, n.2.3)), tt)))
-spaced_action st next a (loads at) d = let n = d.1 in (λ e. cc, (λ e. some_address n.0 n.1 (sym n.2.0 ∙ e), tt))
-spaced_action st next a (stores at value) d = let n = d.1.0 in let v = d.1.1 in (λ e. cc, (λ e. some_address n.0 n.1 (sym n.2.0 ∙ e), (some_decimal value v.0 v.1.0 v.1.1, tt)))
-spaced_action st next a exits d = (λ e. cc, tt)
-spaced_action st next a action d = absurd d.5.1
+spaced_action : (st next : Outline) (a : ℕ) (action : Action) → AreNamed st → Does st a action next → AreSpaced (action_words action)
+spaced_action st next a (maps first count rights) h d = let n = d.1 in (λ e. cc, (some_decimal first n.0 n.2.0 (omega (arith, n.2.4)), (some_decimal count n.1 n.2.1 (omega (arith, n.2.3)), (some_rights rights, tt))))
+spaced_action st next a (unmaps first count) h d = let n = d.1 in (λ e. cc, (some_decimal first n.0 n.2.0 (omega (arith, n.2.4)), (some_decimal count n.1 n.2.1 (omega (arith, n.2.3)), tt)))
+spaced_action st next a (protects first count rights) h d = let n = d.1 in (λ e. cc, (some_decimal first n.0 n.2.0 (omega (arith, n.2.4)), (some_decimal count n.1 n.2.1 (omega (arith, n.2.3)), (some_rights rights, tt))))
+spaced_action st next a (discards first count) h d = let n = d.1 in (λ e. cc, (some_decimal first n.0 n.2.0 (omega (arith, n.2.4)), (some_decimal count n.1 n.2.1 (omega (arith, n.2.3)), tt)))
+spaced_action st next a (loads at) h d = let n = d.1 in (λ e. cc, (λ e. some_address n.0 n.1 (sym n.2.0 ∙ e), tt))
+spaced_action st next a (stores at value) h d = let n = d.1.0 in let v = d.1.1 in (λ e. cc, (λ e. some_address n.0 n.1 (sym n.2.0 ∙ e), (some_decimal value v.0 v.1.0 v.1.1, tt)))
+spaced_action st next a (forks child) h d = (λ e. cc, (found_name st child _ h d.2.1, tt))
+spaced_action st next a exits h d = (λ e. cc, tt)
+spaced_action st next a action h d = absurd d.5.1
 
 spaced_next : (st next : Outline) (words : List Word) → AreNamed st → IsNext st words next → AreSpaced words
 spaced_next st next words h (inl s) = subst AreSpaced (sym s.1) (spaced_said st next s.0 h s.2)
-spaced_next st next words h (inr o) = subst AreSpaced (sym o.3) (λ e. cc, (found_name st o.0 _ h o.4, spaced_action st next o.1 o.2 o.6))
+spaced_next st next words h (inr o) = subst AreSpaced (sym o.3) (λ e. cc, (found_name st o.0 _ h o.4, spaced_action st next o.1 o.2 h o.6))
 
 pub spaced : (stage next : Stage) (words : List Word) → AreNamedAt stage → IsSaid stage words next → AreSpaced words
 spaced before_head next words h s = subst AreSpaced (sym s.0) (λ e. cc, (λ e. cc, tt))

@@ -15,9 +15,10 @@ use Rattle.gup_outline.specs.Outline.{Outline, empty_outline, with_process, with
 use Rattle.gup_script.specs.Limits.{most_operations, most_turns}
 use Rattle.gup_reader.specs.Said.{Word}
 use Rattle.gup_reader.specs.Grammar.{NamesProcess, NamesActor, AreFrameCounts}
-use Rattle.gup_script.specs.Valid.{IsOp, KindFits, OpsFit}
+use Rattle.gup_script.specs.Valid.{IsOp, KindFits, OpsFit, BringsChild}
 use Rattle.gup_reader.proofs.Verdicts.{given, same_given}
 use Rattle.gup_reader.proofs.Lists.{each_append, each_like}
+use Rattle.gup_reader.proofs.Forking.{AreOnce, children_stay, actor_once}
 
 pub record Stands (st : Outline) : Type 0 where
   pub processes_in : (word : Word) (p : ℕ) → NamesProcess st word p → p < length st.script.processes
@@ -31,6 +32,8 @@ pub record Stands (st : Outline) : Type 0 where
   pub kinds : AllByRecursion (λ (a : Actor). KindFits st.script a.kind) st.script.actors
   pub ops : AllByRecursion (λ (a : Actor). All IsOp a.ops) st.script.actors
   pub ops_fit : AllByRecursion (λ (a : Actor). OpsFit a.kind (length a.ops)) st.script.actors
+  pub children : AllByRecursion (λ (a : Actor). All (BringsChild st.script) a.ops) st.script.actors
+  pub forks_once : AreOnce st.script.actors
   pub counted : sum_by (λ (a : Actor). length a.ops) st.script.actors ≡ st.operations
   pub few_ops : st.operations ≤ most_operations
   pub turns : AllByRecursion (λ a. a < length st.script.actors) st.script.turns
@@ -49,6 +52,8 @@ stands_empty counts h = record {
   kinds = tt;
   ops = tt;
   ops_fit = tt;
+  children = tt;
+  forks_once = λ a b j k child e f. absurd cc;
   counted = refl;
   few_ops = omega arith;
   turns = tt;
@@ -110,6 +115,8 @@ stands_process st name born h few =
       kinds = each_like (λ (a : Actor). KindFits st.script a.kind) (λ a. KindFits next.script a.kind) st.script.actors (λ a. kind_fits st.script next.script (omega arith) a.kind) h.kinds;
       ops = h.ops;
       ops_fit = h.ops_fit;
+      children = children_stay st.script next.script (process ∷ []) refl st.script.actors h.children;
+      forks_once = h.forks_once;
       counted = h.counted;
       few_ops = h.few_ops;
       turns = h.turns;
@@ -147,6 +154,8 @@ stands_actor st name kind h fits threads devices movers =
       kinds = each_append (λ (a : Actor). KindFits st.script a.kind) actors (actor ∷ []) h.kinds (fits, tt);
       ops = each_append (λ (a : Actor). All IsOp a.ops) actors (actor ∷ []) h.ops (All-nil IsOp, tt);
       ops_fit = each_append (λ (a : Actor). OpsFit a.kind (length a.ops)) actors (actor ∷ []) h.ops_fit (no_ops kind, tt);
+      children = each_append (λ (a : Actor). All (BringsChild st.script) a.ops) actors (actor ∷ []) h.children (All-nil (BringsChild st.script), tt);
+      forks_once = actor_once actors actor refl h.forks_once;
       counted = let sum = sum_by_push (λ (a : Actor). length a.ops) actors actor in let old = h.counted in omega arith;
       few_ops = h.few_ops;
       turns = each_like (λ a. a < length actors) (λ a. a < length next.script.actors) st.script.turns (λ a lt. omega arith) h.turns;
@@ -168,6 +177,8 @@ stands_seed st seed h = record {
   kinds = h.kinds;
   ops = h.ops;
   ops_fit = h.ops_fit;
+  children = h.children;
+  forks_once = h.forks_once;
   counted = h.counted;
   few_ops = h.few_ops;
   turns = h.turns;
@@ -187,6 +198,8 @@ stands_turns st turns h of_actors few = record {
   kinds = h.kinds;
   ops = h.ops;
   ops_fit = h.ops_fit;
+  children = h.children;
+  forks_once = h.forks_once;
   counted = h.counted;
   few_ops = h.few_ops;
   turns = each_append (λ a. a < length st.script.actors) st.script.turns turns h.turns of_actors;

@@ -13,7 +13,7 @@ use Rattle.gup_outline.specs.Outline.{Outline, is_thread, is_device, is_mover, d
 use Rattle.gup_reader.specs.Said.{Word, Said, a_process, a_child, a_thread, a_device, a_mover, a_seed, some_turns, random_turns}
 use Rattle.gup_reader.specs.Grammar.{AreTurns, Declares, IsNext, IsSaid, Stage, before_head, before_frames, open_at, IsRight, AreRight, Accepts}
 use Rattle.gup_reader.specs.Reading.{reading}
-use Rattle.gup_script.specs.Valid.{IsOp, KindFits, OpsFit, IsScript}
+use Rattle.gup_script.specs.Valid.{IsOp, KindFits, OpsFit, BringsChild, IsScript}
 use Rattle.gup_reader.proofs.Declaring.{one_found}
 use Rattle.gup_reader.proofs.Turning.{turns_are}
 use Rattle.gup_reader.proofs.Lists.{each_append, each_replicate, counts_add, none_count}
@@ -127,6 +127,8 @@ stands_script st h =
       kinds = All-from_recursion (λ (a : Actor). KindFits st.script a.kind) actors h.kinds;
       ops = All-from_recursion (λ (a : Actor). All IsOp a.ops) actors h.ops;
       ops_fit = All-from_recursion (λ (a : Actor). OpsFit a.kind (length a.ops)) actors h.ops_fit;
+      children = All-from_recursion (λ (a : Actor). All (BringsChild st.script) a.ops) actors h.children;
+      forks_once = h.forks_once;
       few_ops = let counted = h.counted in let few = h.few_ops in omega arith;
       turns = All-from_recursion (λ a. a < length actors) st.script.turns h.turns;
       few_turns = h.few_turns;

@@ -18,7 +18,7 @@ use std::alloc::Global;
 const MAX_BYTES: usize = 1_048_576;
 
 /// The line that the bytes begin with, and what stands behind its line feed; `None` where there is no line feed.
-pub fn cut_line(text: &[u8]) -> Option<(&[u8], &[u8])>
+fn cut_line(text: &[u8]) -> Option<(&[u8], &[u8])>
     ensures { IsCut text.now result }
 {
     let end = text.iter().position(|&b| b == b'\n')?;

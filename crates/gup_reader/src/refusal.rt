@@ -26,7 +26,7 @@ pub enum Reason {
     Number,
     /// A name that isn't spelled right, isn't declared, or is of another kind than its place needs.
     Name,
-    /// A name that is declared already, or a second `seed` or `mover`.
+    /// A name that is declared already, a second `seed` or `mover`, or a second `fork` of a child.
     Twice,
     /// The line passes one of the counts that a script is held to.
     Limit,

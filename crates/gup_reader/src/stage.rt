@@ -1,6 +1,5 @@
 //! How far a text is read: nothing, the head, or the `frames` line and all that stands behind it.
-ghost use Rattle.std.specs.Prelude.{◌≡◌, ◌↔◌, Ok, Err, map, IsTrue, MatchResult};
-ghost use Rattle.gup_reader.specs.Beyond.{IsOnePageAt};
+ghost use Rattle.std.specs.Prelude.{◌≡◌, Ok, Err, map, MatchResult};
 ghost use Rattle.gup_outline.specs.Outline.{frame_counts};
 ghost use Rattle.gup_reader.specs.Reading.{counts_in, frames_in, is_head, words_in, line_in};
 
@@ -86,16 +85,6 @@ impl Stage {
                 next_line(&mut reader, words)?;
                 Ok(Stage::Open(reader))
             }
-        }
-    }
-
-    /// Whether what is read so far is of a script of one page, as far as it is of one.
-    pub fn is_one_page(&self) -> bool
-        ensures { IsTrue result ↔ IsOnePageAt (stage_value self.now) }
-    {
-        match self {
-            Stage::Open(reader) => reader.is_one_page(),
-            Stage::BeforeHead | Stage::BeforeFrames => true,
         }
     }
 

@@ -10,7 +10,7 @@ const DECLARED: &str =
     "gup 1\nframes 8 8 64\nprocess p\nchild c\nthread t p\ndevice d 64\nmover m\n";
 
 /// What stands behind the seven lines, and its first fault. Where a line has a second fault, the first goes before it.
-const LINES: [(&str, u32, Reason); 120] = [
+const LINES: [(&str, u32, Reason); 129] = [
     ("process q\t\n", 8, Reason::Byte),
     ("# \u{e9}\n", 8, Reason::Byte),
     (" \u{7f}wrong\n", 8, Reason::Byte),
@@ -26,6 +26,7 @@ const LINES: [(&str, u32, Reason); 120] = [
     ("on t out h 0 0 1\n", 8, Reason::Word),
     ("on t move p 0\n", 8, Reason::Word),
     ("on d map 0 1 rw\n", 8, Reason::Word),
+    ("on d fork c\n", 8, Reason::Word),
     ("on d exit 1\n", 8, Reason::Word),
     ("on m load 0.0\n", 8, Reason::Word),
     ("process\n", 8, Reason::Shape),
@@ -47,6 +48,8 @@ const LINES: [(&str, u32, Reason); 120] = [
     ("on t discard 0 1 rw\n", 8, Reason::Shape),
     ("on t store 0.0\n", 8, Reason::Shape),
     ("on t exit now\n", 8, Reason::Shape),
+    ("on t fork\n", 8, Reason::Shape),
+    ("on t fork c p\n", 8, Reason::Shape),
     ("on t pin 9 01 17 rw\n", 8, Reason::Shape),
     ("on t pin h 0 1 read lang\n", 8, Reason::Shape),
     ("on t pinfast h 0 1\n", 8, Reason::Shape),
@@ -94,6 +97,8 @@ const LINES: [(&str, u32, Reason); 120] = [
     ("on t put t\n", 8, Reason::Name),
     ("on t fork p\n", 8, Reason::Name),
     ("on t fork t\n", 8, Reason::Name),
+    ("on t fork e\nchild e\n", 8, Reason::Name),
+    ("on t fork c\non t fork p\n", 9, Reason::Name),
     ("on t unpin h\n", 8, Reason::Name),
     ("on d take p\n", 8, Reason::Name),
     ("on t give h d\n", 8, Reason::Name),
@@ -115,15 +120,26 @@ const LINES: [(&str, u32, Reason); 120] = [
     ("seed 1\nseed 1\n", 9, Reason::Twice),
     ("on t pinfast t 0 1 write long\n", 8, Reason::Twice),
     ("on t get p 0\n", 8, Reason::Twice),
+    ("on t fork c\non t fork c\n", 9, Reason::Twice),
+    (
+        "thread u c\non t exit\non t fork c\non u fork c\n",
+        11,
+        Reason::Twice,
+    ),
+    (
+        "child e\non t fork e\non t fork c\non t fork e\n",
+        11,
+        Reason::Twice,
+    ),
     ("turns t*1000000\nturns d\n", 9, Reason::Limit),
     ("turns t*500000 d*500000 m\n", 8, Reason::Limit),
     ("random 1 1000001\n", 8, Reason::Limit),
     ("turns t\nrandom 1 1000000\n", 9, Reason::Limit),
     ("random 1 18446744073709551615\n", 8, Reason::Limit),
+    ("on t pin h 1 1 read\n", 8, Reason::Later),
     ("on t pin h 0 16 write long\n", 8, Reason::Later),
     ("on t pinfast h 34359738366 2 read\n", 8, Reason::Later),
     ("on t get g 0\n", 8, Reason::Later),
-    ("on t fork c\n", 8, Reason::Later),
     ("on d mirror s c 0\n", 8, Reason::Later),
     ("on m move c 0 movable\n", 8, Reason::Later),
     (
@@ -137,6 +153,7 @@ const LINES: [(&str, u32, Reason); 120] = [
     ("thread u q\nprocess q\n", 8, Reason::Name),
     ("on t exit\non t exi\n", 9, Reason::Word),
     ("on t load 0.0\non t load 0.0x\n", 9, Reason::Number),
+    ("on t fork c\nthread u c\nwrong\n", 10, Reason::Word),
     ("turns t d*2 m*\n", 8, Reason::Number),
     ("random 1 1\nrandom 1\n", 9, Reason::Shape),
 ];
@@ -173,9 +190,9 @@ const TEXTS: [(&str, u32, Reason); 24] = [
     ("gup 1\nframes 8 8 64\nturns t\n", 3, Reason::Name),
 ];
 
-/// Two processes, four actors, five operations, written and drawn turns, and a seed.
+/// Two processes, four actors, six operations, a fork among them, written and drawn turns, and a seed.
 const WHOLE: &str =
-    "# all\ngup 1\n\nframes 512 512 8192\nrandom 3 0\nprocess p\nchild c\nthread t p\ndevice d 4096\nthread u c\nmover m\nseed 18446744073709551615\non t map 5 1024 r\non u discard 0 3\non t protect 34359738367 1 rw\non t store 5.511 7\non t exit\nturns t u*3 d m*2\nrandom 7 6\nturns d\n";
+    "# all\ngup 1\n\nframes 512 512 8192\nrandom 3 0\nprocess p\nchild c\nthread t p\ndevice d 4096\nthread u c\nmover m\nseed 18446744073709551615\non t map 5 1024 r\non u discard 0 3\non t protect 34359738367 1 rw\non t fork c\non t store 5.511 7\non t exit\nturns t u*3 d m*2\nrandom 7 6\nturns d\n";
 
 /// The fault for which the text is refused.
 fn fault(alloc: Global, text: &[u8]) -> Result<ScriptFault, Fail> {
@@ -290,7 +307,7 @@ fn expect_whole(rt: &impl Abort, script: &Script) -> Result<(), Fail> {
         assert_eq!(rt; script.starts_born(process), born);
     }
     let actors = [
-        (0, "t", Kind::Thread(p), 4),
+        (0, "t", Kind::Thread(p), 5),
         (1, "d", Kind::Device(4_096), 0),
         (2, "u", Kind::Thread(c), 1),
         (3, "m", Kind::Mover, 0),
@@ -316,6 +333,7 @@ fn expect_whole(rt: &impl Abort, script: &Script) -> Result<(), Fail> {
             n: 1,
             rights: Rights::RW,
         },
+        Op::Fork { child: c },
         Op::Store {
             page,
             word,
@@ -329,7 +347,6 @@ fn expect_whole(rt: &impl Abort, script: &Script) -> Result<(), Fail> {
     for (turn, number) in script.turns().iter().zip(turns) {
         assert_eq!(rt; turn.get(), number);
     }
-    assert!(rt; !script.is_one_page());
     Ok(())
 }
 
@@ -341,51 +358,4 @@ fn whole_script(rt: HostRuntime) -> Result<(), Fail> {
     expect_whole(&rt, &script)?;
     let copy = script.copy()?;
     expect_whole(&rt, &copy)
-}
-
-/// What stands behind the head of a script of one page, and the first line that makes it another.
-const PAGES: [(&str, Option<u32>); 13] = [
-    ("", None),
-    ("process p\nthread t p\n", None),
-    (
-        "process p\nthread t p\non t map 5 1 rw\non t store 5.0 7\non t load 5.1\non t unmap 5 1\n",
-        None,
-    ),
-    ("process p\nprocess q\nthread t p\n", Some(4)),
-    ("child p\n", Some(3)),
-    ("device d 1\n", Some(3)),
-    ("process p\nthread t p\nthread u p\n", Some(5)),
-    ("process p\nthread t p\n#\nturns t\nturns t\n", Some(6)),
-    ("process p\nthread t p\non t exit\n", Some(5)),
-    ("process p\nthread t p\non t map 5 1 r\n", Some(5)),
-    ("process p\nthread t p\non t map 5 2 rw\n", Some(5)),
-    ("process p\nthread t p\non t protect 5 1 rw\n", Some(5)),
-    (
-        "process p\nthread t p\non t load 5.0\non t load 6.0\n",
-        Some(6),
-    ),
-];
-
-/// The first line that makes the script in the text another than one of one page.
-fn line_beyond(alloc: Global, text: &[u8]) -> Result<Option<u32>, Fail> {
-    let Ok(script) = read_script(alloc, text) else {
-        return Err("no script")?;
-    };
-    if script.is_one_page() {
-        return Ok(None);
-    }
-    Ok(Some(first_line_beyond(alloc, text)?))
-}
-
-#[test]
-fn one_page(rt: HostRuntime) -> Result<(), Fail> {
-    for (lines, expected) in PAGES {
-        let text = format!(in rt.alloc(); "gup 1\nframes 0 1 0\n{lines}")?;
-        assert_eq!(rt;
-            line_beyond(rt.alloc(), text.as_bytes())?,
-            expected,
-            "{lines}"
-        );
-    }
-    Ok(())
 }
