@@ -12,7 +12,7 @@ use Rattle.gup_script.specs.Script.{ScriptValue}
 use Rattle.gup_follows.specs.Place.{Place, process_of, present_op}
 use Rattle.gup_plain.specs.Denial.{is_denial}
 use Rattle.gup_follows.specs.Denial.{denial}
-use Rattle.gup_follows.specs.Plain.{Judged, judged_after, IsAnswerOf, IsAnswerAfter, IsRightAt, ArePlain}
+use Rattle.gup_follows.specs.Plain.{Judged, judged_after, judged_before, IsAnswerOf, IsAnswerAfter, IsRightAt, ArePlain}
 use Rattle.gup_turns.specs.Cause.{IsKnownAnswer, IsKnown, AreKnown, answers_in, answered_in}
 use Rattle.gup_lines.specs.Text.{outcomes_of}
 use Rattle.gup.specs.Cause.{is_ok, IsCausedAt, AreCaused}
@@ -47,7 +47,7 @@ by_place false d a known is = by_denial d a known is
 
 caused_at : (s : PlainState) (p : ℕ) (place : Place) (op : Option Op) (what : What) → IsKnown what → IsRightAt s p place op what → IsCausedAt s p op what
 caused_at s p place None what known right = tt
-caused_at s p place (Some op) (Done answer) known right = by_place place.had (denial s p op) answer known right.1
+caused_at s p place (Some op) (Done answer) known right = by_place (judged_before op place.had) (denial s p op) answer known right.1
 caused_at s p place (Some op) Silent known right = tt
 caused_at s p place (Some op) Idle known right = tt
 caused_at s p place (Some op) (Wait waiting) known right = tt
