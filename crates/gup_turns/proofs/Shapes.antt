@@ -11,7 +11,7 @@ use Rattle.gup_plain.specs.declared.note.What.TheVariants.{Silent, Idle, Wait, E
 use Rattle.gup_plain.specs.declared.note.Waiting.{Waiting}
 use Rattle.gup_script.specs.declared.op.Op.{Op}
 use Rattle.gup_script.specs.declared.op.Op.TheVariants.{Map, Unmap, Protect, Discard, Load, Store, Fork, Exit}
-use Rattle.gup_events.specs.State.{CoreState, Job, idle, marking, moving, forking, walking}
+use Rattle.gup_events.specs.State.{CoreState, Job, idle, forking}
 use Rattle.gup_events.specs.Invariant.{AllCan, run}
 use Rattle.gup_laws.specs.Law.{all_told}
 use Rattle.gup_follows.specs.Denial.{op_denial}

@@ -4,3 +4,4 @@ pub mod Cause
 pub mod Pages
 pub mod Reached
 pub mod Cost
+pub mod ScriptLemmas

@@ -48,9 +48,10 @@ pub record IsForking (s : CoreState) (a p child q c : ℕ) (done : List ℕ) : T
   pub done_all : (page : ℕ) → page < first_behind done → IsSome (s.right child page) → Contains done page
   pub fresh : (page : ℕ) → first_behind done ≤ page → s.entry child page ≡ None
 
--- it has counted this page, and keeps the table lock until the page is done
+-- it has counted this page, the lowest mapped one that is not done, and keeps the table lock until the page is done
 pub record HasCounted (s : CoreState) (a p child : ℕ) (done : List ℕ) (page : ℕ) : Type 0 where
   pub above : first_behind done ≤ page
+  pub lowest : (g : ℕ) → first_behind done ≤ g → g < page → s.right child g ≡ None
   pub locked : s.table p ≡ Some a
   pub entry : IsSome (s.entry p page)
   pub mapped : IsSome (s.right child page)

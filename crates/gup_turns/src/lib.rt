@@ -1,2 +1,97 @@
 //! The turns of the core machine and the core run of a script, as definitions, and the laws of the core run.
 #![tactic(auto)]
+
+ghost use Rattle.std.specs.Prelude.{◌≡◌, ℕ, ◌<◌, ◌≤◌, ◌*◌, true, false, List, length, None, Some};
+ghost use Rattle.gup_plain.specs.Note.{NoteValue};
+ghost use Rattle.gup_plain.specs.declared.note.Waiting.{Waiting};
+ghost use Rattle.gup_script.specs.declared.op.Op.{Op};
+ghost use Rattle.gup_script.specs.Script.{ScriptValue};
+ghost use Rattle.gup_script.specs.Valid.{IsScript};
+ghost use Rattle.gup_follows.specs.Plain.{IsPlain};
+ghost use Rattle.gup_follows.specs.Follows.{Follows};
+ghost use Rattle.gup_follows.specs.Order.{Turn, InOrder};
+ghost use Rattle.gup_turns.specs.Run.{RunState, Runs, run_start, run_after, op_in, waiting_in, can_go, IsCoreRun};
+ghost use Rattle.gup_turns.specs.Cause.{FindNoFrame, AreKnown, answered_in, HaveFinished, WaitsForProcess};
+ghost use Rattle.gup_turns.specs.Cost.{cost, operations, IsBoundedTurn};
+ghost use Rattle.gup_turns.specs.Reached.{turned, IsStanding};
+
+/// A script has one core run, and that has one end.
+pub fn one_core_run()
+    ensures notes { (script : ScriptValue) (m n : List NoteValue) (c d : RunState) → IsCoreRun script m c → IsCoreRun script n d → m ≡ n }
+    ensures end { (script : ScriptValue) (m n : List NoteValue) (c d : RunState) → IsCoreRun script m c → IsCoreRun script n d → c ≡ d }
+{}
+
+/// The core run of a script follows it.
+pub fn core_run_follows()
+    ensures { (script : ScriptValue) (notes : List NoteValue) (end : RunState) → IsScript script → IsCoreRun script notes end → Follows script notes }
+{
+    gup_laws::simulates();
+    gup_laws::starts_sound();
+}
+
+/// The core run of a script is in the script's order.
+pub fn core_run_is_in_order()
+    ensures { (script : ScriptValue) (notes : List NoteValue) (end : RunState) → IsScript script → IsCoreRun script notes end → InOrder script notes }
+{
+    gup_laws::simulates();
+    gup_laws::starts_sound();
+}
+
+/// The core run of a script is plain.
+pub fn core_run_is_plain()
+    ensures { (script : ScriptValue) (notes : List NoteValue) (end : RunState) → IsScript script → IsCoreRun script notes end → IsPlain script notes }
+{
+    gup_laws::simulates();
+    gup_laws::starts_sound();
+}
+
+/// In the core run of a script, an operation is refused for want of a frame only where none is free.
+pub fn no_frame_has_its_cause()
+    ensures { (script : ScriptValue) (turns : List Turn) (end : RunState) → Runs script (run_start script) turns end → FindNoFrame script (run_start script) turns }
+{}
+
+/// What stands between two turns: it holds of each state that turns lead to from the start of a script, whichever
+/// actors take them.
+pub fn reached_states_stand()
+    ensures { (script : ScriptValue) (actors : List ℕ) → IsScript script → IsStanding script (turned script (run_start script) actors) }
+{
+    gup_laws::simulates();
+    gup_laws::starts_sound();
+}
+
+/// The turn of an actor that can go takes of the cost, and that of one that waits or has finished leaves it. At the
+/// start the cost is at most 3,074 for each operation of the script. So a run ends.
+pub fn turns_are_spent()
+    ensures spent { (script : ScriptValue) (r : RunState) (a : ℕ) → IsScript script → IsStanding script r → can_go script r a ≡ true → cost script (run_after script r a) < cost script r }
+    ensures kept { (script : ScriptValue) (r : RunState) (a : ℕ) → can_go script r a ≡ false → cost script (run_after script r a) ≡ cost script r }
+    ensures start { (script : ScriptValue) → IsScript script → cost script (run_start script) ≤ 3074 * operations script }
+{}
+
+/// How many turns an operation has at most: a mapping, a protection, a load and a store one, what goes over n pages n,
+/// a fork 2,050; each turn of an exit but the one that answers it takes a page of its process.
+pub fn turns_are_bounded()
+    ensures { (script : ScriptValue) (r : RunState) (a : ℕ) (op : Op) → IsScript script → IsStanding script r → op_in script r a ≡ Some op → waiting_in script r a ≡ None → IsBoundedTurn script r a op }
+{}
+
+/// At the end of a run each actor has finished or waits, and whoever waits, waits for a process of the script.
+pub fn runs_end_at_waits()
+    ensures ends { (script : ScriptValue) (turns : List Turn) (end : RunState) → Runs script (run_start script) turns end → (a : ℕ) → a < length script.actors → can_go script end a ≡ false }
+    ensures waits { (script : ScriptValue) (turns : List Turn) (end : RunState) → IsScript script → Runs script (run_start script) turns end → (a : ℕ) (waiting : Waiting) → waiting_in script end a ≡ Some waiting → WaitsForProcess script waiting }
+{
+    reached_states_stand();
+}
+
+/// The answers that the core run of a script has.
+pub fn core_run_is_known()
+    ensures { (script : ScriptValue) (notes : List NoteValue) (end : RunState) → IsScript script → IsCoreRun script notes end → AreKnown notes }
+{
+    gup_laws::simulates();
+    gup_laws::starts_sound();
+}
+
+/// Where each actor has finished at the end of the core run, it has one answer for each operation of the script.
+pub fn finished_runs_answer_all()
+    ensures { (script : ScriptValue) (notes : List NoteValue) (end : RunState) → IsScript script → IsCoreRun script notes end → HaveFinished script end → answered_in notes ≡ operations script }
+{
+    reached_states_stand();
+}

@@ -1,0 +1,208 @@
+-- The end of a run: nobody can go, and who waits, waits for a process.
+use Rattle.std.proofs.Common.{◌≡◌, ℕ, ◌<◌, ◌==◌, Bool, true, false, if◌then◌else◌, is_some, List, [], ◌∷◌, length, Option, Some, None, inl, inr, refl, sym, ap, subst, ◌∙◌, arith}
+use Rattle.std.specs.Prelude.{◌⊎◌}
+use Rattle.std.proofs.lemmas.Bool.Decides.{nat_tests}
+use Rattle.gup_plain.specs.State.{Birth, born, unborn, growing, failed}
+use Rattle.gup_plain.specs.declared.note.Waiting.{Waiting}
+use Rattle.gup_plain.specs.declared.note.Waiting.TheVariants as waitings
+use Rattle.gup_script.specs.declared.op.Op.{Op}
+use Rattle.gup_script.specs.declared.op.Op.TheVariants.{Map, Unmap, Protect, Discard, Load, Store, Fork, Exit}
+use Rattle.gup_script.specs.Script.{ScriptValue}
+use Rattle.gup_script.specs.Valid.{IsScript}
+use Rattle.gup_events.specs.State.{CoreState, Job, idle, marking, moving, forking, walking, ForkStep, between, counted, lowered, cleared, copying, failing}
+use Rattle.gup_events.specs.Sound.{Forking, forking_of, keeps_table, keeps_structure}
+use Rattle.gup_follows.specs.Order.{Turn}
+use Rattle.gup_follows.specs.Place.{process_of}
+use Rattle.gup_turns.specs.Cause.{WaitsForProcess}
+use Rattle.gup_turns.specs.Reached.{IsStanding, IsNoFork, StandsFork, turned}
+use Rattle.gup_turns.specs.Run.{RunState, Runs, run_after, op_in, waiting_with, waiting_in, is_ready, can_go}
+use Rattle.gup_turns.specs.Turn.{Locks, next_page, fork_locks, locks_needed, held_by_other, waits_for_lock, first_waiting, waits_for_locks, waits_at, waiting_for}
+use Rattle.gup_turns.proofs.Pointer.{PointerFits, none_can_go, pointer_fits}
+use Rattle.gup_turns.proofs.Puts.{some_same}
+use Rattle.gup_turns.specs.ScriptLemmas.{has_ops_declared}
+use Rattle.gup_turns.proofs.Spending.{has_process}
+
+pub end_turns : (script : ScriptValue) (turns : List Turn) (r end : RunState) → PointerFits script r → Runs script r turns end → (a : ℕ) → a < length script.actors → can_go script end a ≡ false
+end_turns script [] r end fits run a below =
+    subst (λ (s : RunState). can_go script s a ≡ false) run.1 ((none_can_go script r fits run.0).1 a below)
+end_turns script (turn ∷ turns) r end fits run a below =
+    end_turns script turns (run_after script r turn.actor) end (λ some. pointer_fits script r turn.actor fits run.0 some) run.2 a below
+
+-- the state at the end is one that turns lead to
+pub end_turned : (script : ScriptValue) (turns : List Turn) (r end : RunState) → Runs script r turns end → (actors : List ℕ) × (turned script r actors ≡ end)
+end_turned script [] r end run = ([], run.1)
+end_turned script (turn ∷ turns) r end run =
+    let rest = end_turned script turns (run_after script r turn.actor) end run.2 in
+    (turn.actor ∷ rest.0, rest.1)
+
+same_waiting : {x y : Waiting} → Some x ≡ Some y → x ≡ y
+same_waiting is = cc
+
+-- whoever waits for a lock, waits for the actor that holds it
+abbrev IsHolder : (structure table : Option ℕ) → (b : ℕ) → Type 0
+IsHolder structure table b = (structure ≡ Some b) ⊎ (table ≡ Some b)
+
+held_waits : (a : ℕ) (holder : Option ℕ) (w : Waiting) → held_by_other a holder ≡ Some w → (b : ℕ) × (holder ≡ Some b)
+held_waits a None w is = absurd (cc is)
+held_waits a (Some b) w is = (b, refl)
+
+lock_waits : (needed : Bool) (a : ℕ) (holder : Option ℕ) (w : Waiting) → waits_for_lock needed a holder ≡ Some w → (b : ℕ) × (holder ≡ Some b)
+lock_waits true a holder w is = held_waits a holder w is
+lock_waits false a holder w is = absurd (cc is)
+
+locks_wait : (locks : Locks) (a : ℕ) (structure table : Option ℕ) (w : Waiting) → waits_for_locks locks a structure table ≡ Some w → (b : ℕ) × IsHolder structure table b
+locks_wait locks a structure table w is = go (waits_for_lock locks.structure a structure) refl is
+  where
+    go : (first : Option Waiting) → waits_for_lock locks.structure a structure ≡ first → first_waiting first (waits_for_lock locks.table a table) ≡ Some w → (b : ℕ) × IsHolder structure table b
+    go None none second =
+        let holds = lock_waits locks.table a table w second in
+        (holds.0, inr holds.1)
+    go (Some v) first same =
+        let holds = lock_waits locks.structure a structure v first in
+        (holds.0, inl holds.1)
+
+-- a lock that its own holder needs, is not waited for
+held_by_self : (a : ℕ) → held_by_other a (Some a) ≡ None
+held_by_self a = go (a == a) refl
+  where
+    go : (b : Bool) → (a == a) ≡ b → (if b then None else Some (waitings.Holder a)) ≡ None
+    go true is = refl
+    go false is = absurd (let no : ⊥ = grind (arith, nat_tests) in no)
+
+-- a fork in the middle of a process keeps its structure lock
+fork_keeps : (s : CoreState) (b p child q : ℕ) (job : Job) → StandsFork s b p child job → keeps_table job ≡ Some q → keeps_structure job ≡ Some q
+fork_keeps s b p child q idle stands keeps = absurd (cc keeps)
+fork_keeps s b p child q (marking k page f) stands keeps = absurd stands
+fork_keeps s b p child q (moving k page e count) stands keeps = absurd stands
+fork_keeps s b p child q (walking k write long sequence step) stands keeps = absurd stands
+fork_keeps s b p child q (forking k c done between) stands keeps = absurd (cc keeps)
+fork_keeps s b p child q (forking k c done (counted page)) stands keeps = keeps
+fork_keeps s b p child q (forking k c done (lowered page)) stands keeps = keeps
+fork_keeps s b p child q (forking k c done (cleared page)) stands keeps = keeps
+fork_keeps s b p child q (forking k c done (copying page n)) stands keeps = keeps
+fork_keeps s b p child q (forking k c done failing) stands keeps = absurd (cc keeps)
+
+fork_kept : (s : CoreState) (b q : ℕ) (job : Job) → ((k : Forking) → forking_of job ≡ Some k → s.structure k.proc ≡ Some b) → keeps_structure job ≡ Some q → s.structure q ≡ Some b
+fork_kept s b q idle locked keeps = absurd (cc keeps)
+fork_kept s b q (marking k page f) locked keeps = absurd (cc keeps)
+fork_kept s b q (moving k page e count) locked keeps = absurd (cc keeps)
+fork_kept s b q (walking k write long sequence step) locked keeps = absurd (cc keeps)
+fork_kept s b q (forking k c done step) locked keeps =
+    subst (λ (n : ℕ). s.structure n ≡ Some b) (some_same keeps) (locked (record { proc = k; child = c; done = done; step = step }) refl)
+
+module _ (script : ScriptValue) (r : RunState) (h : IsStanding script r) where
+  -- an actor that keeps a lock forks
+  keeper_forks : (b p : ℕ) → (keeps_structure (r.core.job b) ≡ Some p) ⊎ (keeps_table (r.core.job b) ≡ Some p) → (child : ℕ) × (op_in script r b ≡ Some (Fork child))
+  keeper_forks b p keeps = go (op_in script r b) refl
+    where
+      idle_keeps : r.core.job b ≡ idle → (keeps_structure (r.core.job b) ≡ Some p) ⊎ (keeps_table (r.core.job b) ≡ Some p) → ⊥
+      idle_keeps rests (inl structure) = cc (sym (ap keeps_structure rests) ∙ structure)
+      idle_keeps rests (inr table) = cc (sym (ap keeps_table rests) ∙ table)
+
+      no_fork : (o : Option Op) → op_in script r b ≡ o → IsNoFork o → ⊥
+      no_fork o is none = idle_keeps (h.idle_jobs b (subst IsNoFork (sym is) none)) keeps
+
+      go : (o : Option Op) → op_in script r b ≡ o → (child : ℕ) × (op_in script r b ≡ Some (Fork child))
+      go None is = absurd (no_fork None is tt)
+      go (Some (Map page n rights)) is = absurd (no_fork (Some (Map page n rights)) is tt)
+      go (Some (Unmap page n)) is = absurd (no_fork (Some (Unmap page n)) is tt)
+      go (Some (Protect page n rights)) is = absurd (no_fork (Some (Protect page n rights)) is tt)
+      go (Some (Discard page n)) is = absurd (no_fork (Some (Discard page n)) is tt)
+      go (Some (Load page word)) is = absurd (no_fork (Some (Load page word)) is tt)
+      go (Some (Store page word value)) is = absurd (no_fork (Some (Store page word value)) is tt)
+      go (Some (Fork child)) is = (child, is)
+      go (Some Exit) is = absurd (no_fork (Some Exit) is tt)
+
+  -- whoever holds a table lock holds the structure lock too
+  holds_both : (p d : ℕ) → r.core.table p ≡ Some d → r.core.structure p ≡ Some d
+  holds_both p d locked =
+      let keeps : keeps_table (r.core.job d) ≡ Some p = h.sound.1.table_held p d locked in
+      let forks = keeper_forks d p (inr keeps) in
+      let both = fork_keeps r.core d (process_of script d) forks.0 p (r.core.job d) (h.forks d forks.0 forks.1) keeps in
+      fork_kept r.core d p (r.core.job d) (λ k is. h.sound.1.forks_structure d k (h.sound.1.forks_are d ∙ is)) both
+
+  -- so the table lock of a process is free for whoever holds its structure lock
+  table_own : (b p : ℕ) → r.core.structure p ≡ Some b → (o : Option ℕ) → r.core.table p ≡ o → held_by_other b o ≡ None
+  table_own b p locked None free = refl
+  table_own b p locked (Some d) table =
+      let one : d ≡ b = some_same (sym (holds_both p d table) ∙ locked) in
+      subst (λ (k : ℕ). held_by_other b (Some k) ≡ None) (sym one) (held_by_self b)
+
+  table_unwaited : (b p : ℕ) (needed : Bool) → r.core.structure p ≡ Some b → waits_for_lock needed b (r.core.table p) ≡ None
+  table_unwaited b p true locked = table_own b p locked (r.core.table p) refl
+  table_unwaited b p false locked = refl
+
+  -- a fork in the middle waits for nobody
+  middle_goes : (b child : ℕ) (job : Job) → r.core.job b ≡ job → StandsFork r.core b (process_of script b) child job → (job ≡ idle → ⊥) → waiting_for r.core b (process_of script b) (Fork child) ≡ None
+  middle_goes b child job is stands busy = go job is stands busy
+    where
+      p : ℕ
+      p = process_of script b
+
+      is_born : (q c : ℕ) (done : List ℕ) (step : ForkStep) → r.core.job b ≡ forking q c done step → q ≡ p → r.core.birth p ≡ born
+      is_born q c done step is own =
+          let k : Forking = record { proc = q; child = c; done = done; step = step } in
+          subst (λ (n : ℕ). r.core.birth n ≡ born) own (h.sound.1.fork_parent b k (h.sound.1.forks_are b ∙ ap forking_of is))
+
+      -- it waits for no lock, so for nothing
+      unlocked : r.core.birth p ≡ born → waits_for_locks (fork_locks (r.core.right child) (r.core.job b)) b (r.core.structure p) (r.core.table p) ≡ None → waiting_for r.core b p (Fork child) ≡ None
+      unlocked birth free =
+          ap (λ (x : Birth). waits_at x p (waits_for_locks (fork_locks (r.core.right child) (r.core.job b)) b (r.core.structure p) (r.core.table p))) birth ∙ free
+
+      go : (j : Job) → r.core.job b ≡ j → StandsFork r.core b p child j → (j ≡ idle → ⊥) → waiting_for r.core b p (Fork child) ≡ None
+      go idle is stands busy = absurd (busy refl)
+      go (marking q page f) is stands busy = absurd stands
+      go (moving q page e count) is stands busy = absurd stands
+      go (walking q write long sequence step) is stands busy = absurd stands
+      go (forking q c done between) is stands busy =
+          unlocked (is_born q c done between is stands.parent)
+          (ap (λ (j : Job). waits_for_locks (fork_locks (r.core.right child) j) b (r.core.structure p) (r.core.table p)) is ∙ table_unwaited b p (is_some (next_page (r.core.right child) done)) stands.locked)
+      go (forking q c done (counted page)) is stands busy =
+          unlocked (is_born q c done (counted page) is stands.0.parent)
+          (ap (λ (j : Job). waits_for_locks (fork_locks (r.core.right child) j) b (r.core.structure p) (r.core.table p)) is)
+      go (forking q c done (lowered page)) is stands busy = absurd stands
+      go (forking q c done (cleared page)) is stands busy = absurd stands
+      go (forking q c done (copying page n)) is stands busy = absurd stands
+      go (forking q c done failing) is stands busy = absurd stands
+
+  -- whoever keeps a lock can go
+  keeper_goes : (b p : ℕ) → (keeps_structure (r.core.job b) ≡ Some p) ⊎ (keeps_table (r.core.job b) ≡ Some p) → (b < length script.actors) × (can_go script r b ≡ true)
+  keeper_goes b p keeps =
+      let forks = keeper_forks b p keeps in
+      let op : Op = Fork forks.0 in
+      let free = middle_goes b forks.0 (r.core.job b) refl (h.forks b forks.0 forks.1) (busy keeps) in
+      let waiting : waiting_in script r b ≡ None = ap (waiting_with r.core b (process_of script b)) forks.1 ∙ free in
+      let ready : can_go script r b ≡ true = ap (λ (o : Option Op). is_ready o (waiting_in script r b)) forks.1 ∙ ap (is_ready (Some op)) waiting in
+      (has_ops_declared script b (r.places b).answered op forks.1, ready)
+    where
+      busy : (keeps_structure (r.core.job b) ≡ Some p) ⊎ (keeps_table (r.core.job b) ≡ Some p) → r.core.job b ≡ idle → ⊥
+      busy (inl structure) rests = cc (sym (ap keeps_structure rests) ∙ structure)
+      busy (inr table) rests = cc (sym (ap keeps_table rests) ∙ table)
+
+  holder_goes : (p b : ℕ) → IsHolder (r.core.structure p) (r.core.table p) b → (b < length script.actors) × (can_go script r b ≡ true)
+  holder_goes p b (inl structure) = keeper_goes b p (inl (h.sound.1.structure_held p b structure))
+  holder_goes p b (inr table) = keeper_goes b p (inr (h.sound.1.table_held p b table))
+
+  -- where nobody can go, nobody waits for a lock
+  no_lock_waits : ((a : ℕ) → a < length script.actors → can_go script r a ≡ false) → (a p : ℕ) (locks : Locks) (w : Waiting) → waits_for_locks locks a (r.core.structure p) (r.core.table p) ≡ Some w → ⊥
+  no_lock_waits stuck a p locks w waits =
+      let holds = locks_wait locks a (r.core.structure p) (r.core.table p) w waits in
+      let goes = holder_goes p holds.0 holds.1 in
+      cc (sym (stuck holds.0 goes.0) ∙ goes.1)
+
+  waits_by : ((a : ℕ) → a < length script.actors → can_go script r a ≡ false) → IsScript script → (a : ℕ) (o : Option Op) (w : Waiting) → op_in script r a ≡ o → waiting_with r.core a (process_of script a) o ≡ Some w → WaitsForProcess script w
+  waits_by stuck valid a None w is waits = absurd (cc waits)
+  waits_by stuck valid a (Some op) w is waits = (p, has_process script valid a (r.places a).answered op is, go (r.core.birth p) waits)
+    where
+      p : ℕ
+      p = process_of script a
+
+      go : (b : Birth) → waits_at b p (waits_for_locks (locks_needed r.core a p op) a (r.core.structure p) (r.core.table p)) ≡ Some w → w ≡ waitings.Process p
+      go unborn waits = sym (same_waiting waits)
+      go (growing parent) waits = sym (same_waiting waits)
+      go failed waits = absurd (cc waits)
+      go born waits = absurd (no_lock_waits stuck a p (locks_needed r.core a p op) w waits)
+
+-- where nobody can go, whoever waits, waits for a process of the script
+pub waits_for_process : (script : ScriptValue) → IsScript script → (r : RunState) → IsStanding script r → ((a : ℕ) → a < length script.actors → can_go script r a ≡ false) → (a : ℕ) (w : Waiting) → waiting_in script r a ≡ Some w → WaitsForProcess script w
+waits_for_process script valid r h stuck a w waits = waits_by script r h stuck valid a (op_in script r a) w refl waits

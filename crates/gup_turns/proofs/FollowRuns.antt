@@ -1,0 +1,76 @@
+-- A run follows its script, by induction over its turns.
+use Rattle.std.proofs.Common.{◌≡◌, ℕ, ◌+◌, ◌<◌, ◌==◌, ◌++◌, Bool, true, false, List, [], ◌∷◌, length, Option, Some, None, inl, refl, sym, ap, ◌∙◌, subst, subst₂, eqb-true, eq-eqb, is_none, if◌then◌else◌, arith}
+use Rattle.std.proofs.lemmas.Bool.Decides.{nat_tests}
+use Rattle.gup_script.specs.Valid.{IsScript}
+use Rattle.gup_plain.specs.Note.{NoteValue}
+use Rattle.gup_plain.specs.declared.note.Waiting.{Waiting}
+use Rattle.gup_events.specs.State.{Job}
+use Rattle.gup_script.specs.Script.{ScriptValue}
+use Rattle.gup_script.specs.declared.op.Op.{Op}
+use Rattle.gup_follows.specs.Follows.{own_notes, notes_of_turn}
+use Rattle.gup_follows.specs.Order.{Turn, journal_of, waiting_at, waiting_of, finished_in, IsOverAt}
+use Rattle.gup_follows.specs.Place.{Place, place_behind, process_of, ops_of}
+use Rattle.gup_turns.specs.Reached.{ForkPlace, fork_place}
+use Rattle.gup_turns.specs.Run.{RunState, Runs, run_after, op_in, taken_in, can_go}
+use Rattle.gup_turns.proofs.Following.{LeftAt, Left, ops_split, ops_over, turn_left, other_left}
+use Rattle.gup_turns.proofs.Ordering.{ordered_of, is_over, finished_is}
+use Rattle.gup_turns.proofs.Owning.{own_append}
+use Rattle.gup_turns.proofs.Pointer.{PointerFits, none_can_go, pointer_fits}
+use Rattle.gup_turns.specs.ScriptLemmas.{has_ops_declared}
+use Rattle.gup_turns.proofs.Stands.{stands_on}
+use Rattle.gup_turns.proofs.Steps.{Stands, taken, jobs_stay}
+use Rattle.gup_turns.proofs.Through.{Law}
+
+-- what is left of an actor of the script
+abbrev pub LeftOf : ScriptValue → ℕ → Place → ForkPlace → List NoteValue → Type 0
+LeftOf script a place at notes = LeftAt a (process_of script a) (ops_of script a) place at notes
+
+-- an actor that has an operation of a born process has neither finished nor waits for its process
+not_over : (finished : Bool) (seen : Option Waiting) → finished ≡ false → seen ≡ None → IsOverAt finished seen → ⊥
+not_over finished seen left none over = subst₂ IsOverAt left none over
+
+-- so at the end no actor is in the middle of an operation
+end_left : (script : ScriptValue) → IsScript script → (r : RunState) → Stands script r → ((a : ℕ) → a < length script.actors → can_go script r a ≡ false) → (a : ℕ) (op : Option Op) → op_in script r a ≡ op → (at : ForkPlace) → LeftOf script a (r.places a) at []
+end_left script valid r h stopped a None is at =
+    let place = r.places a in
+    subst (λ (os : List Op). Left a (process_of script a) (place.answered + 1) os place.far at []) (sym (ops_over (ops_of script a) place.answered is)) refl
+end_left script valid r h stopped a (Some op) is at =
+    let place = r.places a in
+    let p = process_of script a in
+    let over = is_over script valid r h stopped a (stopped a (has_ops_declared script a place.answered op is)) in
+    let unfinished : finished_in script (ordered_of r) a ≡ false = finished_is (ops_of script a) place.answered ∙ ap is_none is in
+    let unbegun : 0 < place.far → ⊥ =
+    λ far. not_over (finished_in script (ordered_of r) a) (waiting_of script (ordered_of r) a) unfinished (ap (waiting_at p) (h.begun a far)) over in
+    let first : place.far ≡ 0 = omega arith in
+    subst (λ (os : List Op). Left a p (place.answered + 1) os place.far at []) (sym (ops_split (ops_of script a) place.answered op is)) (inl (first, refl))
+
+-- where a fork of an actor stands
+abbrev stands_at : RunState → ℕ → ForkPlace
+stands_at r a = fork_place (r.core.job a)
+
+-- what a turn of actor b does to what is left of actor a
+turn_of_any : (script : ScriptValue) (valid : IsScript script) (r : RunState) (h : Stands script r) (b t a : ℕ) (later : List NoteValue) (own : Bool) → (a == b) ≡ own → LeftOf script a (if own then place_behind (r.places b) (taken_in script r b).whats else r.places a) (stands_at (run_after script r b) a) later → LeftOf script a (r.places a) (stands_at r a) (own_notes a (notes_of_turn t b ((r.places b).answered + 1) (taken_in script r b).whats) ++ later)
+turn_of_any script valid r h b t a later true e left =
+    let same : a ≡ b = eqb-true a b e in
+    let whats = (taken_in script r b).whats in
+    let behind = place_behind (r.places b) whats in
+    let here : LeftOf script b behind (stands_at (run_after script r b) b) later = subst (λ (k : ℕ). LeftOf script k behind (stands_at (run_after script r b) k) later) same left in
+    let before = turn_left b (process_of script b) t (r.places b) (ops_of script b) later (taken script valid r h b).shape refl here in
+    subst (λ (k : ℕ). LeftOf script k (r.places k) (stands_at r k) (own_notes k (notes_of_turn t b ((r.places b).answered + 1) whats) ++ later)) (sym same) before
+turn_of_any script valid r h b t a later false e left =
+    let apart : a ≡ b → ⊥ = λ same. let yes = eq-eqb a b same in cc in
+    let stays = jobs_stay script valid r h b a apart in
+    let here : LeftOf script a (r.places a) (stands_at r a) later = subst (λ (job : Job). LeftOf script a (r.places a) (fork_place job) later) stays left in
+    other_left a (process_of script a) b t ((r.places b).answered + 1) (r.places a) (stands_at r a) (ops_of script a) (taken_in script r b).whats later (grind (arith, nat_tests)) here
+
+pub follows_run : Law → (script : ScriptValue) → IsScript script → (turns : List Turn) (number : ℕ) (r end : RunState) → Stands script r → PointerFits script r → Runs script r turns end → (a : ℕ) → LeftOf script a (r.places a) (stands_at r a) (own_notes a (journal_of number r.places turns))
+follows_run law script valid [] number r end h fits run a = end_left script valid r h (none_can_go script r fits run.0).1 a (op_in script r a) refl (stands_at r a)
+follows_run law script valid (turn ∷ turns) number r end h fits run a =
+    let b = turn.actor in
+    let next = run_after script r b in
+    let rest = journal_of (number + 1) next.places turns in
+    let now = notes_of_turn number b ((r.places b).answered + 1) (taken_in script r b).whats in
+    let later = follows_run law script valid turns (number + 1) next end (stands_on law script valid r h b) (pointer_fits script r b fits run.0) run.2 a in
+    let both = turn_of_any script valid r h b number a (own_notes a rest) (a == b) refl later in
+    let whole : LeftOf script a (r.places a) (stands_at r a) (own_notes a (now ++ rest)) = subst (LeftOf script a (r.places a) (stands_at r a)) (sym (own_append a now rest)) both in
+    subst (λ (t : Turn). LeftOf script a (r.places a) (stands_at r a) (own_notes a (journal_of number r.places (t ∷ turns)))) (sym run.1) whole

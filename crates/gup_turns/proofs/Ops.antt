@@ -1,0 +1,424 @@
+-- The turns of single operations can be done, have their shapes, and lead where the next turn can go on.
+use Rattle.std.proofs.Common.{◌≡◌, ℕ, ◌+◌, ◌<◌, ◌≤◌, ◌^◌, ◌==◌, Bool, true, false, IsTrue, IsSome, is_some, is_none, not, if◌then◌else◌, List, [], ◌∷◌, ◌++◌, Option, Some, None, Ok, inl, inr, refl, ap, sym, subst, ◌∙◌, eq-or-lt_of_le, zero, suc, arith}
+use Rattle.std.proofs.lemmas.Bool.Decides.{nat_tests}
+use Rattle.std.specs.Option.{option_map}
+use Rattle.gup_base.specs.declared.entry.Entry.{Entry}
+use Rattle.gup_base.specs.declared.entry.Rights.{Rights}
+use Rattle.gup_base.specs.declared.entry.Rights.TheVariants.{R, RW}
+use Rattle.gup_plain.specs.Put.{put, put2}
+use Rattle.gup_plain.specs.State.{failed}
+use Rattle.gup_plain.specs.Event.{page_numbers, words}
+use Rattle.gup_plain.specs.declared.answer.Answer.{Answer}
+use Rattle.gup_plain.specs.declared.answer.Answer.TheVariants as answers
+use Rattle.gup_plain.specs.declared.event.PlainEvent.{PlainEvent}
+use Rattle.gup_plain.specs.declared.event.PlainEvent.TheVariants as events
+use Rattle.gup_plain.specs.declared.note.What.TheVariants.{Silent, Event, Done}
+use Rattle.gup_plain.specs.Denial.{any_mapped, any_unmapped, map_denial, protect_denial, load_denial, store_denial}
+use Rattle.gup_script.specs.Valid.{IsOp}
+use Rattle.gup_script.specs.declared.op.Op.{Op}
+use Rattle.gup_script.specs.declared.op.Op.TheVariants.{Map, Unmap, Protect, Discard, Load, Store, Exit}
+use Rattle.gup_events.specs.State.{CoreState, Job, idle, plain_of}
+use Rattle.gup_events.specs.Event.{CoreEvent, AreUnlocked, happens, entry_of, take_frame, fill, lower_entry, protect_pages, drop_entry, discard_entry, load, store, upgrade, break_entry, put_entry}
+use Rattle.gup_events.specs.Fault.{marks, fills_writable, breaks, makes_writable, read_fault, write_fault, gives_back}
+use Rattle.gup_events.specs.Invariant.{AllCan, run}
+use Rattle.gup_laws.specs.Law.{all_told}
+use Rattle.gup_follows.specs.Denial.{op_denial}
+use Rattle.gup_follows.specs.Place.{Place}
+use Rattle.gup_follows.specs.Follows.{refuses}
+use Rattle.gup_follows.specs.Plain.{IsAnswerOf, Passes}
+use Rattle.gup_turns.specs.Reached.{unbegun}
+use Rattle.gup_turns.specs.Turn.{Taken, answers_with, free_frame, loads, loads_after, load_turn, stores, stores_after, store_fault_by, allows_store, frame_in, map_turn_by, done_if, silent_or_done, unmap_turn_by, lowers_entry, lowers, lowers_for, protect_turn_by, discard_turn_by, lowest_page, exit_turn_by, op_turn, waits_for_locks, locks_needed, both_if}
+use Rattle.gup_turns.proofs.Calm.{AreTurnEvents, putting, mapping, lowering, protecting, dropping, discarding, loading, storing}
+use Rattle.gup_turns.proofs.Faults.{IsReady, entry_there, writable_there, no_mirror, needs_none, filled, filled_writable, upgraded, marked_upgraded, broken}
+use Rattle.gup_turns.proofs.Puts.{put_same, put2_same, some_same, none_of}
+use Rattle.gup_turns.proofs.Searches.{lowest_some, lowest_none, none_below, undenied_map, denied_map, undenied_protect, denied_protect}
+use Rattle.gup_turns.proofs.Shapes.{AtFirst, FitsOp, TurnOf, refused, mapped, protected, loaded, stored, took, took_last, passed, passed_last, took_lowest, took_all, GoesOver, unmaps, discards, AtRest, IsDone, child_of}
+use Rattle.gup_turns.proofs.Through.{events_of}
+use Rattle.gup_turns.proofs.Turned.{IsOpen, FitsNext, IsTurned, shape_idle, both_free, kinds_behind, run_behind, can_behind, told_behind}
+
+-- where the range of an operation ends
+all_below : (page n : ℕ) → page + n ≤ 2 ^ 35 → page + n ≤ page_numbers
+unfolding page_numbers
+all_below page n ends = ends
+
+module _ (s : CoreState) (a p : ℕ) (place : Place) (h : IsOpen s a p) (job : s.job a ≡ idle) where
+  -- what is asked of the next turn of an operation that is answered here
+  done_turn : (op : Op) (turn : Taken) → IsDone s a p p turn → (child_of p (Some op) ≡ p) → (run s turn.events).job a ≡ idle → TurnOf (plain_of s) a p place op unbegun turn.whats unbegun → FitsNext (run s turn.events) a p (Some op) place turn.whats → IsTurned s a p place op turn
+  done_turn op turn done same behind shape next =
+      record {
+        done = subst (λ (c : ℕ). IsDone s a p c turn) (sym same) done;
+        shape = shape_idle s (run s turn.events) a p place op turn.whats job behind shape;
+        next = next;
+      }
+
+  -- an operation is answered without an event
+  answered : (op : Op) (answer : Answer) → child_of p (Some op) ≡ p → AtFirst place → IsTrue (refuses op answer) → IsAnswerOf (op_denial (plain_of s) p op) answer → Passes (plain_of s) p op place.far → IsTurned s a p place op (answers_with answer)
+  answered op answer same first refusal right passes =
+      done_turn op (answers_with answer) (record { kinds = tt; can = tt; rest = h.rest; told = refl }) same job
+      (refused op answer first refusal right passes) job
+
+  -- an entry of a born process is of a mapped page, and a writable one of a page that may be written
+
+  named_load : (page : ℕ) (e : Entry) → s.entry p page ≡ Some e → (rights : Option Rights) → s.right p page ≡ rights → load_denial rights ≡ None
+  named_load page e is None right =
+      let lost : s.birth p ≡ failed = h.sound.1.entry_mapped p page e (h.sound.1.whole_entry p page e is) right in
+      absurd (let lives = h.birth in cc)
+  named_load page e is (Some rights) right = refl
+
+  named_store : (page : ℕ) (e : Entry) → s.entry p page ≡ Some e → e.writable ≡ true → (rights : Option Rights) → s.right p page ≡ rights → store_denial rights ≡ None
+  named_store page e is may None right =
+      let lost : s.birth p ≡ failed = h.sound.1.entry_mapped p page e (h.sound.1.whole_entry p page e is) right in
+      absurd (let lives = h.birth in cc)
+  named_store page e is may (Some R) right = absurd (h.sound.1.entry_allowed p page e (h.sound.1.whole_entry p page e is) may right)
+  named_store page e is may (Some RW) right = refl
+
+  -- load, behind the events of a fault
+
+  load_ready : (page word : ℕ) (before : List CoreEvent) → word < words → AtFirst place → op_denial (plain_of s) p (Load page word) ≡ None → IsReady s a p before → IsSome ((run s before).entry p page) → IsTurned s a p place (Load page word) (loads s before a p page word)
+  load_ready page word before within first undenied ready there =
+      let t : CoreState = run s before in
+      let f : ℕ = frame_in (t.entry p page) in
+      let last = load a p page word f (t.word f word) ∷ [] in
+      let same : run s (before ++ last) ≡ t = run_behind s before last in
+      done_turn (Load page word) (loads s before a p page word)
+      (record {
+        kinds = kinds_behind a p p before last ready.kinds (loading page word f (t.word f word), tt);
+        can = can_behind s before last ready.can ((ready.birth, (allows_store (t.entry p page), entry_there (t.entry p page) there), within, refl), tt);
+        rest = subst AtRest (sym same) ready.rest;
+        told = told_behind before last ready.told;
+      })
+      refl (ap (λ (u : CoreState). u.job a) same ∙ ready.job)
+      (loaded page word (t.word f word) first undenied)
+      (ap (λ (u : CoreState). u.job a) same ∙ ready.job)
+
+  load_fills : (page word : ℕ) (rights : Option Rights) (free : Option ℕ) → AreUnlocked s p → word < words → AtFirst place → s.right p page ≡ rights → free_frame s ≡ free → s.entry p page ≡ None → IsTurned s a p place (Load page word) (loads_after s (read_fault a p page rights None free) a p page word)
+  load_fills page word None free unlocked within first is found none = answered (Load page word) answers.Missing refl first refl (rw is refl) tt
+  load_fills page word (Some rights) None unlocked within first is found none = answered (Load page word) answers.NoFrame refl first refl (rw is refl) tt
+  load_fills page word (Some rights) (Some f) unlocked within first is found none =
+      let before = take_frame a f ∷ fill a p page f ∷ [] in
+      load_ready page word before within first (rw is refl) (filled s a p h job unlocked page f found (rw is refl) none)
+      (rw (put2_same p page (Some (entry_of f false)) s.entry) refl)
+
+  load_by : (page word : ℕ) (entry : Option Entry) → waits_for_locks (both_if (is_none entry)) a (s.structure p) (s.table p) ≡ None → word < words → AtFirst place → s.entry p page ≡ entry → IsTurned s a p place (Load page word) (load_turn s a p page word entry)
+  load_by page word (Some e) free within first is =
+      load_ready page word [] within first (named_load page e is (s.right p page) refl) (needs_none s a p h job) (rw is refl)
+  load_by page word None free within first is =
+      load_fills page word (s.right p page) (free_frame s) (both_free s a p h.sound job free) within first refl refl is
+
+  -- store, behind the events of a fault
+
+  store_ready : (page word value : ℕ) (before : List CoreEvent) → word < words → AtFirst place → op_denial (plain_of s) p (Store page word value) ≡ None → IsReady s a p before → allows_store ((run s before).entry p page) ≡ true → IsTurned s a p place (Store page word value) (stores s before a p page word value)
+  store_ready page word value before within first undenied ready may =
+      let t : CoreState = run s before in
+      let f : ℕ = frame_in (t.entry p page) in
+      let last = store a p page word f value ∷ [] in
+      let same : run s (before ++ last) ≡ happens t (store a p page word f value) = run_behind s before last in
+      done_turn (Store page word value) (stores s before a p page word value)
+      (record {
+        kinds = kinds_behind a p p before last ready.kinds (storing page word f value, tt);
+        can = can_behind s before last ready.can ((ready.birth, writable_there (t.entry p page) may, within), tt);
+        rest = subst AtRest (sym same) (record { prepared = ready.rest.prepared; owed = ready.rest.owed });
+        told = told_behind before last ready.told;
+      })
+      refl (ap (λ (u : CoreState). u.job a) same ∙ ready.job)
+      (stored page word value first undenied)
+      (ap (λ (u : CoreState). u.job a) same ∙ ready.job)
+
+  store_fills : (page word value : ℕ) (free : Option ℕ) → AreUnlocked s p → word < words → AtFirst place → s.right p page ≡ Some RW → free_frame s ≡ free → s.entry p page ≡ None → IsTurned s a p place (Store page word value) (stores_after s (fills_writable a p page free) a p page word value)
+  store_fills page word value None unlocked within first is found none = answered (Store page word value) answers.NoFrame refl first refl (rw is refl) tt
+  store_fills page word value (Some f) unlocked within first is found none =
+      let before = take_frame a f ∷ fill a p page f ∷ upgrade a p page f ∷ [] in
+      store_ready page word value before within first (rw is refl) (filled_writable s a p h job unlocked page f found is none)
+      (rw (put2_same p page (Some (entry_of f true)) (put2 p page (Some (entry_of f false)) s.entry)) refl)
+
+  -- an unmarked frame: with one reference it is marked, else copied
+  store_unshares : (page word value : ℕ) (e : Entry) (once : Bool) (free : Option ℕ) → AreUnlocked s p → word < words → AtFirst place → s.right p page ≡ Some RW → free_frame s ≡ free → s.entry p page ≡ Some e → e.writable ≡ false → s.mark e.frame ≡ false → (s.count e.frame == 1) ≡ once → IsTurned s a p place (Store page word value) (stores_after s (if once then Ok (marks a p page e ++ upgrade a p page e.frame ∷ []) else breaks a p page e true free) a p page word value)
+  store_unshares page word value e true free unlocked within first is found here barred unmarked count =
+      let before = marks a p page e ++ upgrade a p page e.frame ∷ [] in
+      store_ready page word value before within first (rw is refl)
+      (marked_upgraded s a p h job unlocked page e is here barred unmarked (grind (arith, nat_tests)))
+      (rw (put2_same p page (Some (entry_of e.frame true)) s.entry) refl)
+  store_unshares page word value e false None unlocked within first is found here barred unmarked count = answered (Store page word value) answers.NoFrame refl first refl (rw is refl) tt
+  store_unshares page word value e false (Some f) unlocked within first is found here barred unmarked count =
+      let before = take_frame a f ∷ break_entry a p page e.frame f e.writable true ∷ put_entry a e.frame ∷ [] in
+      store_ready page word value before within first (rw is refl) (broken s a p h job unlocked page e f found is here unmarked)
+      (rw (put2_same p page (Some (entry_of f true)) s.entry) refl)
+
+  store_read_only : (page word value : ℕ) (e : Entry) (marked : Bool) → AreUnlocked s p → word < words → AtFirst place → s.right p page ≡ Some RW → s.entry p page ≡ Some e → e.writable ≡ false → s.mark e.frame ≡ marked → IsTurned s a p place (Store page word value) (stores_after s (makes_writable a p page e marked (s.count e.frame) (free_frame s)) a p page word value)
+  store_read_only page word value e true unlocked within first is here barred marked =
+      store_ready page word value (upgrade a p page e.frame ∷ []) within first (rw is refl) (upgraded s a p h job unlocked page e is here barred marked)
+      (rw (put2_same p page (Some (entry_of e.frame true)) s.entry) refl)
+  store_read_only page word value e false unlocked within first is here barred unmarked =
+      store_unshares page word value e (s.count e.frame == 1) (free_frame s) unlocked within first is refl here barred unmarked refl
+
+  -- the fault doesn't find a writable entry
+  store_entry : (page word value : ℕ) (e : Entry) (writable : Bool) → AreUnlocked s p → word < words → AtFirst place → s.right p page ≡ Some RW → s.entry p page ≡ Some e → e.writable ≡ writable → writable ≡ false → IsTurned s a p place (Store page word value) (stores_after s (if writable then Ok [] else makes_writable a p page e (s.mark e.frame) (s.count e.frame) (free_frame s)) a p page word value)
+  store_entry page word value e true unlocked within first is here may barred = absurd (cc barred)
+  store_entry page word value e false unlocked within first is here may barred = store_read_only page word value e (s.mark e.frame) unlocked within first is here may refl
+
+  store_faults : (page word value : ℕ) (rights : Option Rights) (entry : Option Entry) → AreUnlocked s p → word < words → AtFirst place → s.right p page ≡ rights → s.entry p page ≡ entry → allows_store entry ≡ false → IsTurned s a p place (Store page word value) (stores_after s (write_fault a p page rights entry s.mark s.count (free_frame s)) a p page word value)
+  store_faults page word value None entry unlocked within first is here barred = answered (Store page word value) answers.Missing refl first refl (rw is refl) tt
+  store_faults page word value (Some R) entry unlocked within first is here barred = answered (Store page word value) answers.Forbidden refl first refl (rw is refl) tt
+  store_faults page word value (Some RW) None unlocked within first is here barred = store_fills page word value (free_frame s) unlocked within first is refl here
+  store_faults page word value (Some RW) (Some e) unlocked within first is here barred = store_entry page word value e e.writable unlocked within first is here refl barred
+
+  store_by : (page word value : ℕ) (entry : Option Entry) (allowed : Bool) → waits_for_locks (both_if (not allowed)) a (s.structure p) (s.table p) ≡ None → word < words → AtFirst place → s.entry p page ≡ entry → allows_store entry ≡ allowed → IsTurned s a p place (Store page word value) (stores_after s (store_fault_by allowed s a p page entry) a p page word value)
+  store_by page word value None true free within first here allowed = absurd (cc allowed)
+  store_by page word value (Some e) true free within first here allowed =
+      store_ready page word value [] within first (named_store page e here allowed (s.right p page) refl) (needs_none s a p h job)
+      (rw here allowed)
+  store_by page word value entry false free within first here barred =
+      store_faults page word value (s.right p page) entry (both_free s a p h.sound job free) within first refl here barred
+
+  -- The other operations need both locks, which are free.
+  module _ (unlocked : AreUnlocked s p) where
+    -- map
+
+    map_by : (page n : ℕ) (rights : Rights) (denied : Option Answer) → AtFirst place → IsOp (Map page n rights) → map_denial (any_mapped (s.right p) page n) (s.pages p) n ≡ denied → IsTurned s a p place (Map page n rights) (map_turn_by denied a p page n rights)
+    map_by page n rights (Some answer) first fits is =
+        answered (Map page n rights) answer refl first (denied_map page n rights (any_mapped (s.right p) page n) (s.pages p) answer is) (rw is refl) tt
+    map_by page n rights None first fits is =
+        let free = undenied_map (any_mapped (s.right p) page n) (s.pages p) n is in
+        let unmapped = none_below n (λ k. is_some (s.right p (page + k))) free.0 in
+        done_turn (Map page n rights) (map_turn_by None a p page n rights)
+        (record {
+          kinds = (mapping page n rights, tt);
+          can = ((h.birth, unlocked, all_below page n fits.2, (λ k below. none_of (s.right p (page + k)) (unmapped k below)), free.1), tt);
+          rest = record { prepared = h.rest.prepared; owed = h.rest.owed };
+          told = refl;
+        })
+        refl job (mapped page n rights first is) job
+
+    -- protect
+
+    -- a turn can be done, and the actor is in the middle of nothing behind it
+    abbrev IsDoneIdle : CoreState → Taken → Type 0
+    IsDoneIdle t turn = IsDone t a p p turn × ((run t turn.events).job a ≡ idle)
+
+    -- the state with these entries in place of its own
+    abbrev with_entries : (ℕ → ℕ → Option Entry) → CoreState
+    with_entries entries = record s { entry = entries }
+
+    -- a protection behind these events
+    abbrev protects : (page n : ℕ) → Rights → List CoreEvent → Taken
+    protects page n rights before =
+        record {
+          events = before ++ protect_pages a p page n rights ∷ [];
+          whats = Event (events.Protect a p page n rights) ∷ Done answers.Plain ∷ [];
+        }
+
+    -- where each writable entry of the range has a page that may be written afterwards
+    protect_last : (entries : ℕ → ℕ → Option Entry) (page n : ℕ) (rights : Rights) → ((k : ℕ) → k < n → IsSome (s.right p (page + k))) → ((k : ℕ) (e : Entry) → k < n → entries p (page + k) ≡ Some e → e.writable ≡ true → rights ≡ RW) → IsDoneIdle (with_entries entries) (protects page n rights [])
+    protect_last entries page n rights named allowed = (
+      record {
+        kinds = (protecting page n rights, tt);
+        can = ((h.birth, unlocked, named, allowed, (λ k less. no_mirror s a p h job (page + k))), tt);
+        rest = record { prepared = h.rest.prepared; owed = h.rest.owed };
+        told = refl;
+      },
+      job,
+    )
+
+    -- one entry more is lowered in front
+    lower_one : (entries : ℕ → ℕ → Option Entry) (page n g f : ℕ) (before : List CoreEvent) → entries p g ≡ Some (entry_of f true) → IsDoneIdle (with_entries (put2 p g (Some (entry_of f false)) entries)) (protects page n R before) → IsDoneIdle (with_entries entries) (protects page n R (lower_entry a p g f ∷ before))
+    lower_one entries page n g f before is done =
+        (record { kinds = (lowering g f, done.0.kinds); can = ((h.birth, unlocked, is, no_mirror s a p h job g), done.0.can); rest = done.0.rest; told = done.0.told }, done.1)
+
+    -- no entry of the pages from this one up to g is writable; from g on they are those of the state
+    abbrev AreLowered : (ℕ → ℕ → Option Entry) → (page g : ℕ) → Type 0
+    AreLowered entries page g = (k : ℕ) (e : Entry) → page ≤ k → k < g → entries p k ≡ Some e → e.writable ≡ false
+
+    abbrev AreUnchanged : (ℕ → ℕ → Option Entry) → (g : ℕ) → Type 0
+    AreUnchanged entries g = (k : ℕ) → g ≤ k → entries p k ≡ s.entry p k
+
+    -- what is done behind page g with any entries that are lowered up to there
+    abbrev IsDoneBehind : (page n g : ℕ) → List CoreEvent → Type 0
+    IsDoneBehind page n g before =
+        (entries : ℕ → ℕ → Option Entry) → AreLowered entries page (g + 1) → AreUnchanged entries (g + 1) → IsDoneIdle (with_entries entries) (protects page n R before)
+
+    lowered_on : (entries : ℕ → ℕ → Option Entry) (page g : ℕ) → AreLowered entries page g → ((e : Entry) → entries p g ≡ Some e → e.writable ≡ false) → AreLowered entries page (g + 1)
+    lowered_on entries page g lowered here k e least less is =
+        let near : k ≤ g = omega arith in
+        elim (eq-or-lt_of_le near) [ inl same ↦ here e (ap (entries p) (sym same) ∙ is) | inr below ↦ lowered k e least below is ]
+
+    -- one page: its entry is writable, or not, or there is none
+    lower_by : (entries : ℕ → ℕ → Option Entry) (page n g : ℕ) (before : List CoreEvent) (e : Entry) (writable : Bool) → s.entry p g ≡ Some e → e.writable ≡ writable → AreLowered entries page g → AreUnchanged entries g → IsDoneBehind page n g before → IsDoneIdle (with_entries entries) (protects page n R ((if writable then lower_entry a p g e.frame ∷ [] else []) ++ before))
+    lower_by entries page n g before e true is may lowered same later =
+        let there : entries p g ≡ Some (entry_of e.frame true) = same g (omega arith) ∙ is ∙ ap (λ (b : Bool). Some (entry_of e.frame b)) may in
+        let behind = put2 p g (Some (entry_of e.frame false)) entries in
+        let put_lowered : AreLowered behind page (g + 1) = λ k d. grind (arith, nat_tests, lowered k d) in
+        let put_unchanged : AreUnchanged behind (g + 1) = λ k. grind (arith, nat_tests, same k) in
+        lower_one entries page n g e.frame before there (later behind put_lowered put_unchanged)
+    lower_by entries page n g before e false is may lowered same later =
+        later entries
+        (lowered_on entries page g lowered (λ d there. let entry : Some d ≡ Some e = sym there ∙ same g (omega arith) ∙ is in ap (λ (x : Entry). x.writable) (some_same entry) ∙ may))
+        (λ k least. same k (omega arith))
+
+    lower_page : (entries : ℕ → ℕ → Option Entry) (page n g : ℕ) (before : List CoreEvent) (entry : Option Entry) → s.entry p g ≡ entry → AreLowered entries page g → AreUnchanged entries g → IsDoneBehind page n g before → IsDoneIdle (with_entries entries) (protects page n R (lowers_entry a p g entry ++ before))
+    lower_page entries page n g before None is lowered same later =
+        later entries
+        (lowered_on entries page g lowered (λ d there. absurd (let entry : Some d ≡ None = sym there ∙ same g (omega arith) ∙ is in cc entry)))
+        (λ k least. same k (omega arith))
+    lower_page entries page n g before (Some e) is lowered same later = lower_by entries page n g before e e.writable is refl lowered same later
+
+    -- the j pages of the range from g on
+    lower_pages : (page n g j : ℕ) → ((k : ℕ) → k < n → IsSome (s.right p (page + k))) → g + j ≡ page + n → (entries : ℕ → ℕ → Option Entry) → AreLowered entries page g → AreUnchanged entries g → IsDoneIdle (with_entries entries) (protects page n R (lowers (s.entry p) a p g j))
+    lower_pages page n g zero named ends entries lowered same =
+        protect_last entries page n R named (λ k e less is may. absurd (let barred = lowered (page + k) e (omega arith) (omega arith) is in cc (sym may ∙ barred)))
+    lower_pages page n g (suc j) named ends entries lowered same =
+        lower_page entries page n g (lowers (s.entry p) a p (g + 1) j) (s.entry p g) refl lowered same (lower_pages page n (g + 1) j named (omega arith))
+
+    protect_done : (page n : ℕ) (rights : Rights) → ((k : ℕ) → k < n → IsSome (s.right p (page + k))) → IsDoneIdle s (protects page n rights (lowers_for rights (s.entry p) a p page n))
+    protect_done page n R named = lower_pages page n page n named refl s.entry (λ k e least less. absurd (omega arith)) (λ k least. refl)
+    protect_done page n RW named = protect_last s.entry page n RW named (λ k e less is may. refl)
+
+    protect_by : (page n : ℕ) (rights : Rights) (denied : Option Answer) → AtFirst place → protect_denial (any_unmapped (s.right p) page n) ≡ denied → IsTurned s a p place (Protect page n rights) (protect_turn_by denied s a p page n rights)
+    protect_by page n rights (Some answer) first is =
+        answered (Protect page n rights) answer refl first (denied_protect page n rights (any_unmapped (s.right p) page n) answer is) (rw is refl) tt
+    protect_by page n rights None first is =
+        let done = protect_done page n rights (undenied_protect (s.right p) page n is) in
+        done_turn (Protect page n rights) (protect_turn_by None s a p page n rights) done.0 refl done.1 (protected page n rights first is) done.1
+
+    -- unmap, discard and exit
+
+    -- the reference of the entry that an event took out is given back
+    given_back : (t : CoreState) (entry : Option Entry) → t.prepared ≡ s.prepared → t.owed ≡ put a (option_map (λ (e : Entry). e.frame) entry) s.owed → AllCan t (gives_back a entry) × AtRest (run t (gives_back a entry)) × ((run t (gives_back a entry)).job ≡ t.job)
+    given_back t None prepared owed = (
+      tt,
+      record {
+        prepared = λ b. ap (λ (f : ℕ → Option ℕ). f b) prepared ∙ h.rest.prepared b;
+        owed = λ b. ap (λ (f : ℕ → Option ℕ). f b) owed ∙ grind (arith, nat_tests, h.rest.owed b);
+      },
+      refl,
+    )
+    given_back t (Some e) prepared owed = (
+      (ap (λ (f : ℕ → Option ℕ). f a) owed ∙ put_same a (Some e.frame) s.owed, tt),
+      record {
+        prepared = λ b. ap (λ (f : ℕ → Option ℕ). f b) prepared ∙ h.rest.prepared b;
+        owed = λ b. let was : t.owed b ≡ put a (Some e.frame) s.owed b = ap (λ (f : ℕ → Option ℕ). f b) owed in grind (arith, nat_tests, was, h.rest.owed b);
+      },
+      refl,
+    )
+
+    gives_events : (entry : Option Entry) → AreTurnEvents a p p (gives_back a entry)
+    gives_events None = tt
+    gives_events (Some e) = (putting e.frame, tt)
+
+    -- neither what is given back nor the answer tells an event
+    tells_alone : (e : PlainEvent) (entry : Option Entry) (last : Bool) → e ∷ all_told (gives_back a entry) ≡ e ∷ events_of (done_if last)
+    tells_alone e None true = refl
+    tells_alone e None false = refl
+    tells_alone e (Some d) true = refl
+    tells_alone e (Some d) false = refl
+
+    -- a page that an event takes down, or whose contents it discards
+    abbrev takes : CoreEvent → PlainEvent → Option Entry → (last : Bool) → Taken
+    takes first e entry last = record { events = first ∷ gives_back a entry; whats = Event e ∷ done_if last }
+
+    unmap_done : (page : ℕ) (entry : Option Entry) (last : Bool) → IsSome (s.right p page) → s.entry p page ≡ entry → IsDoneIdle s (takes (drop_entry a p page entry) (events.Unmap a p page) entry last)
+    unmap_done page entry last named here =
+        let back = given_back (happens s (drop_entry a p page entry)) entry refl refl in (
+          record {
+            kinds = (dropping page entry, gives_events entry);
+            can = ((h.birth, unlocked, job, named, here, h.rest.owed a, no_mirror s a p h job page), back.0);
+            rest = back.1;
+            told = tells_alone (events.Unmap a p page) entry last;
+          },
+          ap (λ (f : ℕ → Job). f a) back.2 ∙ job,
+        )
+
+    discard_done : (page : ℕ) (entry : Option Entry) (last : Bool) → IsSome (s.right p page) → s.entry p page ≡ entry → IsDoneIdle s (takes (discard_entry a p page entry) (events.Discard a p page) entry last)
+    discard_done page entry last named here =
+        let back = given_back (happens s (discard_entry a p page entry)) entry refl refl in (
+          record {
+            kinds = (discarding page entry, gives_events entry);
+            can = ((h.birth, unlocked, job, named, here, h.rest.owed a, no_mirror s a p h job page), back.0);
+            rest = back.1;
+            told = tells_alone (events.Discard a p page) entry last;
+          },
+          ap (λ (f : ℕ → Job). f a) back.2 ∙ job,
+        )
+
+    -- an operation that goes over n pages brings no child, and stands at one of them
+    over_alone : {op : Op} {page n : ℕ} {event : ℕ → PlainEvent} → GoesOver a p op page n event → child_of p (Some op) ≡ p
+    over_alone (unmaps page n) = refl
+    over_alone (discards page n) = refl
+
+    over_fits : {op : Op} {page n : ℕ} {event : ℕ → PlainEvent} → GoesOver a p op page n event → (t : CoreState) (next : Place) → t.job a ≡ idle → next.far < n → FitsOp t a p op next
+    over_fits (unmaps page n) t next behind far = (behind, far)
+    over_fits (discards page n) t next behind far = (behind, far)
+
+    -- a turn of an operation that goes over pages: the page has its event, or is passed
+    takes_page : (op : Op) (page n : ℕ) (event : ℕ → PlainEvent) (es : List CoreEvent) (last : Bool) → GoesOver a p op page n event → place.far < n → (place.far + 1 == n) ≡ last → IsDoneIdle s (record { events = es; whats = Event (event (page + place.far)) ∷ done_if last }) → IsTurned s a p place op (record { events = es; whats = Event (event (page + place.far)) ∷ done_if last })
+    takes_page op page n event es true over far test done =
+        done_turn op (record { events = es; whats = Event (event (page + place.far)) ∷ Done answers.Plain ∷ [] }) done.0 (over_alone over) done.1
+        (took_last op page n event over (grind (arith, nat_tests))) done.1
+    takes_page op page n event es false over far test done =
+        let more : place.far + 1 < n = grind (arith, nat_tests) in
+        done_turn op (record { events = es; whats = Event (event (page + place.far)) ∷ [] }) done.0 (over_alone over) done.1
+        (took op page n event over more) (over_fits over (run s es) (record place { far = place.far + 1; had = true }) done.1 more)
+
+    passes_page : (op : Op) (page n : ℕ) (event : ℕ → PlainEvent) (last : Bool) → GoesOver a p op page n event → place.far < n → (place.far + 1 == n) ≡ last → s.right p (page + place.far) ≡ None → IsTurned s a p place op (record { events = []; whats = silent_or_done last })
+    passes_page op page n event true over far test none =
+        done_turn op (record { events = []; whats = Done answers.Plain ∷ [] }) (record { kinds = tt; can = tt; rest = h.rest; told = refl }) (over_alone over) job
+        (passed_last op page n event over (grind (arith, nat_tests)) none) job
+    passes_page op page n event false over far test none =
+        let more : place.far + 1 < n = grind (arith, nat_tests) in
+        done_turn op (record { events = []; whats = Silent ∷ [] }) (record { kinds = tt; can = tt; rest = h.rest; told = refl }) (over_alone over) job
+        (passed op page n event over more none) (over_fits over s (record place { far = place.far + 1 }) job more)
+
+    unmap_by : (page n : ℕ) (rights : Option Rights) (entry : Option Entry) (last : Bool) → place.far < n → (place.far + 1 == n) ≡ last → s.right p (page + place.far) ≡ rights → s.entry p (page + place.far) ≡ entry → IsTurned s a p place (Unmap page n) (unmap_turn_by rights a p (page + place.far) entry last)
+    unmap_by page n None entry last far test is here = passes_page (Unmap page n) page n (events.Unmap a p) last (unmaps page n) far test is
+    unmap_by page n (Some rights) entry last far test is here =
+        takes_page (Unmap page n) page n (events.Unmap a p) (drop_entry a p (page + place.far) entry ∷ gives_back a entry) last (unmaps page n) far test
+        (unmap_done (page + place.far) entry last (rw is refl) here)
+
+    discard_by : (page n : ℕ) (rights : Option Rights) (entry : Option Entry) (last : Bool) → place.far < n → (place.far + 1 == n) ≡ last → s.right p (page + place.far) ≡ rights → s.entry p (page + place.far) ≡ entry → IsTurned s a p place (Discard page n) (discard_turn_by rights a p (page + place.far) entry last)
+    discard_by page n None entry last far test is here = passes_page (Discard page n) page n (events.Discard a p) last (discards page n) far test is
+    discard_by page n (Some rights) entry last far test is here =
+        takes_page (Discard page n) page n (events.Discard a p) (discard_entry a p (page + place.far) entry ∷ gives_back a entry) last (discards page n) far test
+        (discard_done (page + place.far) entry last (rw is refl) here)
+
+    -- where no page is found, none is mapped
+    none_mapped : lowest_page (s.right p) ≡ None → (g : ℕ) (rights : Option Rights) → s.right p g ≡ rights → s.right p g ≡ None
+    none_mapped is g None there = there
+    none_mapped is g (Some rights) there =
+        let below = h.sound.1.right_numbered p g rights there in
+        none_of (s.right p g) (lowest_none 0 page_numbers (λ page. is_some (s.right p page)) is g (omega arith) (omega arith))
+
+    exit_by : (found : Option ℕ) → lowest_page (s.right p) ≡ found → IsTurned s a p place Exit (exit_turn_by s a p found)
+    exit_by None is =
+        done_turn Exit (answers_with answers.Plain) (record { kinds = tt; can = tt; rest = h.rest; told = refl }) refl job
+        (took_all (λ g. none_mapped is g (s.right p g) refl)) job
+    exit_by (Some page) is =
+        let found = lowest_some 0 page_numbers page (λ g. is_some (s.right p g)) is in
+        let done = unmap_done page (s.entry p page) false found.passes refl in
+        done_turn Exit (exit_turn_by s a p (Some page)) done.0 refl done.1
+        (took_lowest page (λ g less. none_of (s.right p g) (found.others g (omega arith) less))) done.1
+
+-- every operation but a fork
+module _ (s : CoreState) (a p : ℕ) (place : Place) (h : IsOpen s a p) where
+  -- the actor waits for none of the locks that this operation needs
+  abbrev IsFree : Op → Type 0
+  IsFree op = waits_for_locks (locks_needed s a p op) a (s.structure p) (s.table p) ≡ None
+
+  pub map_turned : (page n : ℕ) (rights : Rights) → IsOp (Map page n rights) → FitsOp s a p (Map page n rights) place → IsFree (Map page n rights) → IsTurned s a p place (Map page n rights) (op_turn s a p place.far (Map page n rights))
+  map_turned page n rights range fits free = map_by s a p place h fits.0 (both_free s a p h.sound fits.0 free) page n rights (map_denial (any_mapped (s.right p) page n) (s.pages p) n) fits.1 range refl
+
+  pub unmap_turned : (page n : ℕ) → FitsOp s a p (Unmap page n) place → IsFree (Unmap page n) → IsTurned s a p place (Unmap page n) (op_turn s a p place.far (Unmap page n))
+  unmap_turned page n fits free = unmap_by s a p place h fits.0 (both_free s a p h.sound fits.0 free) page n (s.right p (page + place.far)) (s.entry p (page + place.far)) (place.far + 1 == n) fits.1 refl refl refl
+
+  pub load_turned : (page word : ℕ) → IsOp (Load page word) → FitsOp s a p (Load page word) place → IsFree (Load page word) → IsTurned s a p place (Load page word) (op_turn s a p place.far (Load page word))
+  load_turned page word range fits free = load_by s a p place h fits.0 page word (s.entry p page) free range.1 fits.1 refl
+
+  pub store_turned : (page word value : ℕ) → IsOp (Store page word value) → FitsOp s a p (Store page word value) place → IsFree (Store page word value) → IsTurned s a p place (Store page word value) (op_turn s a p place.far (Store page word value))
+  store_turned page word value range fits free = store_by s a p place h fits.0 page word value (s.entry p page) (allows_store (s.entry p page)) free range.1 fits.1 refl refl
+
+  pub protect_turned : (page n : ℕ) (rights : Rights) → FitsOp s a p (Protect page n rights) place → IsFree (Protect page n rights) → IsTurned s a p place (Protect page n rights) (op_turn s a p place.far (Protect page n rights))
+  protect_turned page n rights fits free = protect_by s a p place h fits.0 (both_free s a p h.sound fits.0 free) page n rights (protect_denial (any_unmapped (s.right p) page n)) fits.1 refl
+
+  pub discard_turned : (page n : ℕ) → FitsOp s a p (Discard page n) place → IsFree (Discard page n) → IsTurned s a p place (Discard page n) (op_turn s a p place.far (Discard page n))
+  discard_turned page n fits free = discard_by s a p place h fits.0 (both_free s a p h.sound fits.0 free) page n (s.right p (page + place.far)) (s.entry p (page + place.far)) (place.far + 1 == n) fits.1 refl refl refl
+
+  pub exit_turned : FitsOp s a p Exit place → IsFree Exit → IsTurned s a p place Exit (op_turn s a p place.far Exit)
+  exit_turned fits free = exit_by s a p place h fits (both_free s a p h.sound fits free) (lowest_page (s.right p)) refl

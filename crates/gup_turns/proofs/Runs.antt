@@ -1,0 +1,49 @@
+-- Facts of whole runs, by induction over their turns.
+use Rattle.std.proofs.Common.{◌≡◌, ℕ, ◌+◌, List, [], ◌∷◌, refl, sym, ap, ◌∙◌, subst}
+use Rattle.gup_script.specs.Valid.{IsScript}
+use Rattle.gup_plain.specs.State.{PlainState}
+use Rattle.gup_script.specs.Script.{ScriptValue}
+use Rattle.gup_events.specs.State.{plain_of}
+use Rattle.gup_follows.specs.Order.{Turn, journal_of}
+use Rattle.gup_follows.specs.Place.{ops_of}
+use Rattle.gup_follows.specs.Plain.{Judged, ArePlain}
+use Rattle.gup_turns.specs.Run.{RunState, Runs, turn_in, run_after, taken_in}
+use Rattle.gup_turns.proofs.Puts.{some_same}
+use Rattle.gup_turns.proofs.Rightness.{turn_right, plain_append}
+use Rattle.gup_turns.proofs.Stands.{stands_on, same_plain, plain_can}
+use Rattle.gup_turns.proofs.Steps.{Stands, taken}
+use Rattle.gup_turns.proofs.Through.{Law}
+
+-- from one state there is one run
+pub one_run : (script : ScriptValue) (turns others : List Turn) (r end last : RunState) → Runs script r turns end → Runs script r others last → turns ≡ others
+one_run script [] [] r end last run other = refl
+one_run script [] (turn ∷ turns) r end last run other = absurd (cc (run.0, other.0))
+one_run script (turn ∷ turns) [] r end last run other = absurd (cc (run.0, other.0))
+one_run script (turn ∷ turns) (o ∷ others) r end last run other =
+    let actor : o.actor ≡ turn.actor = some_same (sym other.0 ∙ run.0) in
+    let same : turn ≡ o = run.1 ∙ ap (turn_in script r) (sym actor) ∙ sym other.1 in
+    let later = one_run script turns others (run_after script r turn.actor) end last run.2 (subst (λ (a : ℕ). Runs script (run_after script r a) others last) actor other.2) in
+    ap (λ (t : Turn). t ∷ turns) same ∙ ap (λ (ts : List Turn). o ∷ ts) later
+
+-- and these turns have one end
+pub one_end : (script : ScriptValue) (turns : List Turn) (r end last : RunState) → Runs script r turns end → Runs script r turns last → end ≡ last
+one_end script [] r end last run other = sym run.1 ∙ other.1
+one_end script (turn ∷ turns) r end last run other = one_end script turns (run_after script r turn.actor) end last run.2 other.2
+
+-- what a run has led to, as the judge of plain journals sees it
+abbrev pub judged_of : RunState → Judged
+judged_of r = record { plain = plain_of r.core; places = r.places }
+
+-- the journal of a run is plain
+pub plain_run : Law → (script : ScriptValue) → IsScript script → (turns : List Turn) (number : ℕ) (r end : RunState) → Stands script r → Runs script r turns end → ArePlain script (judged_of r) (journal_of number r.places turns)
+plain_run law script valid [] number r end h run = tt
+plain_run law script valid (turn ∷ turns) number r end h run =
+    let a = turn.actor in
+    let here = taken script valid r h a in
+    let whats = (taken_in script r a).whats in
+    let right = turn_right (ops_of script a) here.shape refl (plain_can law script valid r h a) in
+    let next = run_after script r a in
+    let later = plain_run law script valid turns (number + 1) next end (stands_on law script valid r h a) run.2 in
+    let after = subst (λ (s : PlainState). ArePlain script (record { plain = s; places = next.places }) (journal_of (number + 1) next.places turns)) (same_plain law script valid r h a) later in
+    let both = plain_append script number a ((r.places a).answered + 1) whats (journal_of (number + 1) next.places turns) (judged_of r) right after in
+    subst (λ (t : Turn). ArePlain script (judged_of r) (journal_of number r.places (t ∷ turns))) (sym run.1) both

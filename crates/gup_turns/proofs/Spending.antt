@@ -1,0 +1,293 @@
+-- A turn of an actor that can go takes of the cost, and any other leaves it.
+use Rattle.std.proofs.Common.{◌≡◌, ℕ, ◌+◌, ◌*◌, ◌<◌, ◌≤◌, ◌==◌, true, false, List, [], ◌∷◌, length, All, Option, Some, None, slice_get, get_or, inl, inr, refl, ap, sym, subst, ◌∙◌, zero, suc, arith, add-one}
+use Rattle.std.specs.Prelude.{sum_by}
+use Rattle.std.proofs.lemmas.List.Sums.{sum_by-cons, sum_by-le}
+use Rattle.std.proofs.lemmas.Option.{slice_get_within}
+use Rattle.gup_base.specs.declared.entry.Rights.{Rights}
+use Rattle.gup_plain.specs.Put.{put}
+use Rattle.gup_plain.specs.State.{Birth, unborn, growing, born, failed}
+use Rattle.gup_plain.specs.declared.note.Waiting.{Waiting}
+use Rattle.gup_script.specs.declared.op.Kind.{Kind}
+use Rattle.gup_script.specs.declared.op.Kind.TheVariants.{Thread, Device, Mover}
+use Rattle.gup_script.specs.declared.op.Op.{Op}
+use Rattle.gup_script.specs.declared.op.Op.TheVariants.{Map, Unmap, Protect, Discard, Load, Store, Fork, Exit}
+use Rattle.gup_script.specs.Script.{ScriptValue, Process, Actor, actor_at}
+use Rattle.gup_script.specs.Valid.{IsScript, IsOp, KindFits, OpsFit, IsChild, BringsChild}
+use Rattle.gup_events.specs.State.{CoreState, Job, idle, marking, moving, forking, walking, between, counted, lowered, cleared, copying, failing}
+use Rattle.gup_events.specs.Event.{CoreEvent}
+use Rattle.gup_events.specs.Invariant.{run}
+use Rattle.gup_follows.specs.Place.{Place, place_behind, process_of, process_in, process_of_kind, ops_of, ops_in}
+use Rattle.gup_turns.specs.Cost.{fork_left, op_cost, op_left, left_cost, actor_cost, cost, operations, IsBoundedTurn, IsWithinBound}
+use Rattle.gup_turns.specs.Pages.{sum_below, mapped_pages}
+use Rattle.gup_turns.specs.Reached.{IsStanding, IsNoFork, StandsFork, fork_place}
+use Rattle.gup_turns.specs.Run.{RunState, run_start, run_after, op_in, waiting_in, waiting_with, taken_by, taken_in, is_ready, can_go}
+use Rattle.gup_turns.specs.Turn.{waits_at, waits_for_locks, locks_needed}
+use Rattle.gup_turns.proofs.Bounds.{TakesCost}
+use Rattle.gup_turns.proofs.ForkBounds.{IsSpent, StandsAt, turn_spent}
+use Rattle.gup_turns.proofs.Mapped.{mapped_none}
+use Rattle.gup_turns.proofs.Puts.{put_same, put_other, put_own}
+use Rattle.gup_turns.specs.ScriptLemmas.{all_at, has_ops_declared}
+use Rattle.gup_turns.proofs.Shapes.{child_of}
+use Rattle.gup_turns.proofs.Sums.{sum_at, sum_same, sum_zero, sum_of_list}
+
+-- what an actor has left
+
+-- that of the operations from this one on, none of which has begun
+abbrev cost_from : List Op → (k : ℕ) → ℕ
+cost_from [] k = 0
+cost_from (op ∷ ops) zero = sum_by op_cost (op ∷ ops)
+cost_from (op ∷ ops) (suc k) = cost_from ops k
+
+cost_first : (ops : List Op) → cost_from ops 0 ≡ sum_by op_cost ops
+cost_first [] = refl
+cost_first (op ∷ ops) = refl
+
+-- an idle actor stands at the first turn of its operation
+left_op : (s : CoreState) (a : ℕ) → s.job a ≡ idle → (op : Op) → op_left s a op 0 ≡ op_cost op
+left_op s a rests (Map page n rights) = refl
+left_op s a rests (Unmap page n) = omega arith
+left_op s a rests (Protect page n rights) = refl
+left_op s a rests (Discard page n) = omega arith
+left_op s a rests (Load page word) = refl
+left_op s a rests (Store page word value) = refl
+left_op s a rests (Fork child) = ap (λ (j : Job). fork_left (s.right child) (fork_place j)) rests
+left_op s a rests Exit = refl
+
+left_idle : (s : CoreState) (a : ℕ) → s.job a ≡ idle → (ops : List Op) (k : ℕ) → left_cost s a ops k 0 ≡ cost_from ops k
+left_idle s a rests [] k = refl
+left_idle s a rests (op ∷ ops) zero =
+    let all = sum_by-cons op_cost op ops in
+    let here = left_op s a rests op in
+    omega (arith, all, here)
+left_idle s a rests (op ∷ ops) (suc k) = left_idle s a rests ops k
+
+-- that of the present operation, and of those behind it
+left_suc : (s : CoreState) (a : ℕ) (ops : List Op) (k : ℕ) (op : Op) (far : ℕ) → slice_get ops k ≡ Some op → left_cost s a ops k far ≡ op_left s a op far + cost_from ops (suc k)
+left_suc s a [] k op far is = absurd (cc is)
+left_suc s a (o ∷ ops) zero op far is =
+    let same : o ≡ op = cc is in
+    ap (λ (x : Op). op_left s a x far + sum_by op_cost ops) same ∙ ap (λ (n : ℕ). op_left s a op far + n) (sym (cost_first ops))
+left_suc s a (o ∷ ops) (suc k) op far is = left_suc s a ops k op far is
+
+left_at : (s : CoreState) (a : ℕ) (ops : List Op) (k : ℕ) (op : Op) (far : ℕ) → slice_get ops k ≡ Some op → left_cost s a ops k far ≡ op_left s a op far + cost_from ops (k + 1)
+left_at s a ops k op far is = rw add-one (left_suc s a ops k op far is)
+
+-- what a turn takes of the cost is taken of its actor's and of one process's
+actor_takes : (s t : CoreState) (a : ℕ) (ops : List Op) (op : Op) (place next : Place) (before after : ℕ) → slice_get ops place.answered ≡ Some op → TakesCost s t a op place next before after → left_cost t a ops next.answered next.far + after < left_cost s a ops place.answered place.far + before
+actor_takes s t a ops op place next before after is (inl answered) =
+    let now = left_at s a ops place.answered op place.far is in
+    let then : left_cost t a ops next.answered next.far ≡ left_cost t a ops (place.answered + 1) 0 = ap (λ (q : Place). left_cost t a ops q.answered q.far) answered.0 in
+    let rest = left_idle t a answered.1 ops (place.answered + 1) in
+    omega (arith, now, then, rest, answered.2)
+actor_takes s t a ops op place next before after is (inr on) =
+    let now = left_at s a ops place.answered op place.far is in
+    let same : left_cost t a ops next.answered next.far ≡ left_cost t a ops place.answered next.far = ap (λ (k : ℕ). left_cost t a ops k next.far) on.0 in
+    let then = left_at t a ops place.answered op next.far is in
+    omega (arith, now, same, then, on.1)
+
+-- an actor has as much left, if its present operation has
+left_same : (s t : CoreState) (a : ℕ) (ops : List Op) (k far : ℕ) → ((op : Op) → slice_get ops k ≡ Some op → op_left t a op far ≡ op_left s a op far) → left_cost t a ops k far ≡ left_cost s a ops k far
+left_same s t a [] k far same = refl
+left_same s t a (op ∷ ops) zero far same = ap (λ (n : ℕ). n + sum_by op_cost ops) (same op refl)
+left_same s t a (op ∷ ops) (suc k) far same = left_same s t a ops k far same
+
+-- a fork's turns stay, if its actor's job does, and the rights of the child that grows
+fork_stays : (s t : CoreState) (a p child : ℕ) (job : Job) → StandsFork s a p child job → s.job a ≡ job → t.job a ≡ s.job a → (s.birth child ≡ growing p → t.right child ≡ s.right child) → fork_left (t.right child) (fork_place (t.job a)) ≡ fork_left (s.right child) (fork_place (s.job a))
+fork_stays s t a p child job stands is same rights =
+    ap (λ (j : Job). fork_left (t.right child) (fork_place j)) (same ∙ is) ∙ go job stands ∙ sym (ap (λ (j : Job). fork_left (s.right child) (fork_place j)) is)
+  where
+    go : (j : Job) → StandsFork s a p child j → fork_left (t.right child) (fork_place j) ≡ fork_left (s.right child) (fork_place j)
+    go idle stands = refl
+    go (marking q page f) stands = absurd stands
+    go (moving q page e count) stands = absurd stands
+    go (walking q write long sequence step) stands = absurd stands
+    go (forking q c done between) stands = ap (λ (f : ℕ → Option Rights). fork_left f (fork_place (forking q c done between))) (rights stands.birth)
+    go (forking q c done (counted page)) stands = ap (λ (f : ℕ → Option Rights). fork_left f (fork_place (forking q c done (counted page)))) (rights stands.0.birth)
+    go (forking q c done (lowered page)) stands = absurd stands
+    go (forking q c done (cleared page)) stands = absurd stands
+    go (forking q c done (copying page n)) stands = absurd stands
+    go (forking q c done failing) stands = absurd stands
+
+-- the operation of another actor has as much left
+op_stays : (script : ScriptValue) (r : RunState) → IsStanding script r → (t : CoreState) (b : ℕ) → t.job b ≡ r.core.job b → ((q parent : ℕ) → r.core.birth q ≡ growing parent → t.right q ≡ r.core.right q) → (op : Op) → op_in script r b ≡ Some op → op_left t b op (r.places b).far ≡ op_left r.core b op (r.places b).far
+op_stays script r h t b job grown (Map page n rights) is = refl
+op_stays script r h t b job grown (Unmap page n) is = refl
+op_stays script r h t b job grown (Protect page n rights) is = refl
+op_stays script r h t b job grown (Discard page n) is = refl
+op_stays script r h t b job grown (Load page word) is = refl
+op_stays script r h t b job grown (Store page word value) is = refl
+op_stays script r h t b job grown (Fork child) is =
+    fork_stays r.core t b (process_of script b) child (r.core.job b) (h.forks b child is) refl job (grown child (process_of script b))
+op_stays script r h t b job grown Exit is = refl
+
+-- the process of an actor that has an operation is declared
+process_declared : (script : ScriptValue) → IsScript script → (a k : ℕ) (op : Op) (actor : Option Actor) → actor_at script a ≡ actor → slice_get (ops_in actor) k ≡ Some op → process_in actor < length script.processes
+process_declared script valid a k op None is there = absurd (cc there)
+process_declared script valid a k op (Some actor) is there =
+    of_kind actor.kind (all_at (λ (x : Actor). KindFits script x.kind) script.actors a actor valid.kinds is)
+    (all_at (λ (x : Actor). OpsFit x.kind (length x.ops)) script.actors a actor valid.ops_fit is)
+  where
+    some : k < length actor.ops
+    some = slice_get_within actor.ops k op there
+
+    of_kind : (kind : Kind) → KindFits script kind → OpsFit kind (length actor.ops) → process_of_kind kind < length script.processes
+    of_kind (Thread p) fits few = fits
+    of_kind (Device slots) fits few = absurd (let more = some in omega arith)
+    of_kind Mover fits few = absurd (let more = some in omega arith)
+
+pub has_process : (script : ScriptValue) → IsScript script → (a k : ℕ) (op : Op) → slice_get (ops_of script a) k ≡ Some op → process_of script a < length script.processes
+has_process script valid a k op there = process_declared script valid a k op (actor_at script a) refl there
+
+-- and so is the child that it brings
+child_declared : (script : ScriptValue) (child : ℕ) (process : Option Process) → slice_get script.processes child ≡ process → IsChild process → child < length script.processes
+child_declared script child None is brings = absurd brings
+child_declared script child (Some process) is brings = slice_get_within script.processes child process is
+
+brings_child : (script : ScriptValue) → IsScript script → (a k : ℕ) (op : Op) (actor : Option Actor) → actor_at script a ≡ actor → slice_get (ops_in actor) k ≡ Some op → BringsChild script op
+brings_child script valid a k op None is there = absurd (cc there)
+brings_child script valid a k op (Some actor) is there =
+    all_at (BringsChild script) actor.ops k op (all_at (λ (x : Actor). All (BringsChild script) x.ops) script.actors a actor valid.children is) there
+
+pub has_child : (script : ScriptValue) → IsScript script → (a k : ℕ) (op : Op) → slice_get (ops_of script a) k ≡ Some op → child_of (process_of script a) (Some op) < length script.processes
+has_child script valid a k (Map page n rights) there = has_process script valid a k (Map page n rights) there
+has_child script valid a k (Unmap page n) there = has_process script valid a k (Unmap page n) there
+has_child script valid a k (Protect page n rights) there = has_process script valid a k (Protect page n rights) there
+has_child script valid a k (Discard page n) there = has_process script valid a k (Discard page n) there
+has_child script valid a k (Load page word) there = has_process script valid a k (Load page word) there
+has_child script valid a k (Store page word value) there = has_process script valid a k (Store page word value) there
+has_child script valid a k (Fork child) there = child_declared script child (slice_get script.processes child) refl (brings_child script valid a k (Fork child) (actor_at script a) refl there)
+has_child script valid a k Exit there = has_process script valid a k Exit there
+
+-- the turn of an actor that can go
+
+-- where an operation stands
+stands_at : (script : ScriptValue) (r : RunState) → IsStanding script r → (a : ℕ) (op : Op) → op_in script r a ≡ Some op → StandsAt r.core a (process_of script a) (r.places a) op
+stands_at script r h a op is = go op is
+  where
+    rests : (op : Op) → IsNoFork (Some op) → op_in script r a ≡ Some op → r.core.job a ≡ idle
+    rests op none is = h.idle_jobs a (subst IsNoFork (sym is) none)
+
+    go : (op : Op) → op_in script r a ≡ Some op → StandsAt r.core a (process_of script a) (r.places a) op
+    go (Map page n rights) is = (rests (Map page n rights) tt is, tt)
+    go (Unmap page n) is = (rests (Unmap page n) tt is, h.unmaps a page n is)
+    go (Protect page n rights) is = (rests (Protect page n rights) tt is, tt)
+    go (Discard page n) is = (rests (Discard page n) tt is, h.discards a page n is)
+    go (Load page word) is = (rests (Load page word) tt is, tt)
+    go (Store page word value) is = (rests (Store page word value) tt is, tt)
+    go (Fork child) is = h.forks a child is
+    go Exit is = (rests Exit tt is, tt)
+
+-- an actor whose process hasn't failed goes on only once that is born
+born_of : (b : Birth) (p : ℕ) (locks : Option Waiting) → waits_at b p locks ≡ None → (b ≡ failed → ⊥) → b ≡ born
+born_of unborn p locks free unfailed = absurd (cc free)
+born_of (growing parent) p locks free unfailed = absurd (cc free)
+born_of born p locks free unfailed = refl
+born_of failed p locks free unfailed = absurd (unfailed refl)
+
+pub spent_turn : (script : ScriptValue) (r : RunState) → IsStanding script r → (a : ℕ) (op : Op) → op_in script r a ≡ Some op → waiting_in script r a ≡ None → IsSpent r.core a (process_of script a) (r.places a) op (taken_in script r a)
+spent_turn script r h a op is free =
+    let p : ℕ = process_of script a in
+    let P : Option Op → Option Waiting → Type 0 = λ o w. IsSpent r.core a p (r.places a) op (taken_by r.core a p (r.places a).far o w) in
+    let unwaiting : waiting_with r.core a p (Some op) ≡ None = subst (λ (o : Option Op). waiting_with r.core a p o ≡ None) is free in
+    let birth = born_of (r.core.birth p) p (waits_for_locks (locks_needed r.core a p op) a (r.core.structure p) (r.core.table p)) unwaiting (h.unfailed p) in
+    let spent : P (Some op) None = turn_spent r.core a p (r.places a) op birth (h.unpinned p) (h.few_pages p) (stands_at script r h a op is) in
+    subst (λ (w : Option Waiting). P (op_in script r a) w) (sym free) (subst (λ (o : Option Op). P o None) (sym is) spent)
+
+-- the place of the actor behind its turn
+abbrev pub next_place : ScriptValue → RunState → ℕ → Place
+next_place script r a = place_behind (r.places a) (taken_in script r a).whats
+
+-- in all
+spent_by : (script : ScriptValue) → IsScript script → (r : RunState) → IsStanding script r → (a : ℕ) (op : Op) → op_in script r a ≡ Some op → waiting_in script r a ≡ None → cost script (run_after script r a) < cost script r
+unfolding cost
+spent_by script valid r h a op is free =
+    let p : ℕ = process_of script a in
+    let q : ℕ = child_of p (Some op) in
+    let t : CoreState = run r.core (taken_in script r a).events in
+    let after : RunState = run_after script r a in
+    let next : Place = next_place script r a in
+    let spent = spent_turn script r h a op is free in
+    let less = actor_takes r.core t a (ops_of script a) op (r.places a) next (mapped_pages (r.core.right q)) (mapped_pages (t.right q)) is spent.takes in
+    let there : a < length script.actors = has_ops_declared script a (r.places a).answered op is in
+    let named : q < length script.processes = has_child script valid a (r.places a).answered op is in
+    let other : (b : ℕ) → (b == a) ≡ false → actor_cost script after b ≡ actor_cost script r b =
+    λ b apart.
+    ap (λ (place : Place). left_cost t b (ops_of script b) place.answered place.far) (put_other a b next r.places apart)
+    ∙ left_same r.core t b (ops_of script b) (r.places b).answered (r.places b).far (op_stays script r h t b (spent.jobs b apart) spent.grown) in
+    let here : actor_cost script after a ≡ left_cost t a (ops_of script a) next.answered next.far = ap (λ (place : Place). left_cost t a (ops_of script a) place.answered place.far) (put_same a next r.places) in
+    let actors = sum_at (length script.actors) (actor_cost script after) (actor_cost script r) a there other in
+    let pages = sum_at (length script.processes) (λ k. mapped_pages (t.right k)) (λ k. mapped_pages (r.core.right k)) q named (λ k apart. ap mapped_pages (spent.others k apart)) in
+    omega (arith, less, here, actors, pages)
+
+pub spent_turns : (script : ScriptValue) → IsScript script → (r : RunState) → IsStanding script r → (a : ℕ) → can_go script r a ≡ true → cost script (run_after script r a) < cost script r
+spent_turns script valid r h a goes = by_parts (op_in script r a) (waiting_in script r a) refl refl goes
+  where
+    by_parts : (o : Option Op) (w : Option Waiting) → op_in script r a ≡ o → waiting_in script r a ≡ w → is_ready o w ≡ true → cost script (run_after script r a) < cost script r
+    by_parts None w is free ready = absurd (cc ready)
+    by_parts (Some op) (Some waiting) is free ready = absurd (cc ready)
+    by_parts (Some op) None is free ready = spent_by script valid r h a op is free
+
+-- an actor that can't go does nothing
+
+abbrev pub IsIdleBy : ScriptValue → RunState → ℕ → Option Op → Option Waiting → Type 0
+IsIdleBy script r a op waiting =
+    ((taken_by r.core a (process_of script a) (r.places a).far op waiting).events ≡ [])
+    × (place_behind (r.places a) (taken_by r.core a (process_of script a) (r.places a).far op waiting).whats ≡ r.places a)
+
+idle_by : (script : ScriptValue) (r : RunState) (a : ℕ) (op : Option Op) (waiting : Option Waiting) → is_ready op waiting ≡ false → IsIdleBy script r a op waiting
+idle_by script r a None waiting stays = (refl, refl)
+idle_by script r a (Some op) (Some waiting) stays = (refl, refl)
+idle_by script r a (Some op) None stays = absurd (cc stays)
+
+pub kept_cost : (script : ScriptValue) (r : RunState) (a : ℕ) → can_go script r a ≡ false → cost script (run_after script r a) ≡ cost script r
+unfolding cost
+kept_cost script r a stays =
+    let rests = idle_by script r a (op_in script r a) (waiting_in script r a) stays in
+    let after : RunState = run_after script r a in
+    let places : after.places ≡ r.places = ap (λ (q : Place). put a q r.places) rests.1 ∙ put_own a r.places in
+    let core : after.core ≡ r.core = ap (λ (es : List CoreEvent). run r.core es) rests.0 in
+    let all : (ℕ → Place) → CoreState → ℕ = λ f s. sum_below (length script.actors) (λ b. left_cost s b (ops_of script b) (f b).answered (f b).far) in
+    let actors : all after.places after.core ≡ all r.places r.core = ap (λ (f : ℕ → Place). all f after.core) places ∙ ap (all r.places) core in
+    let pages = ap (λ (s : CoreState). sum_below (length script.processes) (λ p. mapped_pages (s.right p))) core in
+    omega (arith, actors, pages)
+
+-- at the start
+
+most_of : (op : Op) → IsOp op → op_cost op ≤ 3074
+most_of (Map page n rights) range = let few = range.1 in omega arith
+most_of (Unmap page n) range = let few = range.1 in omega arith
+most_of (Protect page n rights) range = omega arith
+most_of (Discard page n) range = let few = range.1 in omega arith
+most_of (Load page word) range = omega arith
+most_of (Store page word value) range = omega arith
+most_of (Fork child) range = omega arith
+most_of Exit range = omega arith
+
+most_of_all : (actors : List Actor) → All (λ (a : Actor). All IsOp a.ops) actors → sum_by (λ (a : Actor). sum_by op_cost a.ops) actors ≤ 3074 * sum_by (λ (a : Actor). length a.ops) actors
+most_of_all [] range = omega arith
+most_of_all (actor ∷ actors) range =
+    let first : All IsOp actor.ops = range 0 actor (omega arith) in
+    let here = sum_by-le op_cost 3074 actor.ops (λ k d less. most_of (get_or actor.ops k d) (first k d less)) in
+    let rest = most_of_all actors (λ k d less. range (suc k) d (omega arith)) in
+    let costs = sum_by-cons (λ (a : Actor). sum_by op_cost a.ops) actor actors in
+    let counts = sum_by-cons (λ (a : Actor). length a.ops) actor actors in
+    omega (arith, here, rest, costs, counts)
+
+pub first_cost : (script : ScriptValue) → IsScript script → cost script (run_start script) ≤ 3074 * operations script
+unfolding cost
+first_cost script valid =
+    let s : CoreState = (run_start script).core in
+    let each : (b : ℕ) → b < length script.actors → actor_cost script (run_start script) b ≡ sum_by op_cost (ops_of script b) =
+    λ b less. left_idle s b refl (ops_of script b) 0 ∙ cost_first (ops_of script b) in
+    let same = sum_same (length script.actors) (actor_cost script (run_start script)) (λ b. sum_by op_cost (ops_of script b)) each in
+    let actors = sum_of_list script.actors (λ (o : Option Actor). sum_by op_cost (ops_in o)) in
+    let most = most_of_all script.actors valid.ops in
+    let pages = sum_zero (length script.processes) (λ p. mapped_pages (s.right p)) (λ p. mapped_none (s.right p) (λ k. refl)) in
+    omega (arith, same, actors, most, pages)
+
+-- the bounds on an operation's own turns
+pub bounded_turn : (script : ScriptValue) (r : RunState) → IsStanding script r → (a : ℕ) (op : Op) → op_in script r a ≡ Some op → waiting_in script r a ≡ None → IsBoundedTurn script r a op
+bounded_turn script r h a op is free =
+    let spent = spent_turn script r h a op is free in
+    let here : (run_after script r a).places a ≡ next_place script r a = put_same a (next_place script r a) r.places in
+    subst (λ (q : Place). IsWithinBound op a (process_of script a) (r.places a) q r.core (run_after script r a).core) (sym here) spent.bound

@@ -1,0 +1,99 @@
+-- What is shown of the turn of each operation, and what it needs.
+use Rattle.std.proofs.Common.{◌≡◌, ℕ, ◌==◌, if◌then◌else◌, eqb-true, Bool, true, false, List, [], ◌∷◌, ◌++◌, Option, Some, None, refl, ap, sym, subst}
+use Rattle.gup_plain.specs.State.{born}
+use Rattle.gup_plain.specs.declared.event.PlainEvent.{PlainEvent}
+use Rattle.gup_plain.specs.declared.note.What.{What}
+use Rattle.gup_plain.specs.declared.note.What.TheVariants.{Silent, Idle, Wait, Event, Done}
+use Rattle.gup_plain.specs.declared.note.Waiting.{Waiting}
+use Rattle.gup_plain.specs.declared.note.Waiting.TheVariants as waitings
+use Rattle.gup_script.specs.declared.op.Op.{Op}
+use Rattle.gup_events.specs.State.{CoreState, idle, plain_of}
+use Rattle.gup_events.specs.Event.{CoreEvent, AreUnlocked, happens, told}
+use Rattle.gup_events.specs.Invariant.{AllCan, run}
+use Rattle.gup_events.specs.Sound.{IsSound, keeps_table, keeps_structure}
+use Rattle.gup_laws.specs.Law.{with_told, all_told}
+use Rattle.gup_follows.specs.Place.{Place, place_after}
+use Rattle.gup_turns.specs.Reached.{ForkPlace, unbegun, fork_place}
+use Rattle.gup_turns.specs.Turn.{Taken, held_by_other, waits_for_locks, first_waiting, both_locks}
+use Rattle.gup_turns.proofs.Calm.{IsCalm, AreTurnEvents}
+use Rattle.gup_turns.proofs.Shapes.{FitsAt, TurnOf, AtRest, IsDone, child_of}
+
+-- A state between two turns, in which process p is born.
+pub record IsOpen (s : CoreState) (a p : ℕ) : Type 0 where
+  pub sound : IsSound s
+  pub calm : IsCalm s
+  pub rest : AtRest s
+  pub birth : s.birth p ≡ born
+
+-- Behind notes with an answer the actor is in the middle of nothing; behind others it stands where its operation can.
+abbrev pub FitsNext : CoreState → (a p : ℕ) → Option Op → Place → List What → Type 0
+FitsNext t a p op place [] = FitsAt t a p op place
+FitsNext t a p op place (Done answer ∷ whats) = t.job a ≡ idle
+FitsNext t a p op place (Event e ∷ whats) = FitsNext t a p op (place_after place (Event e)) whats
+FitsNext t a p op place (Silent ∷ whats) = FitsNext t a p op (place_after place Silent) whats
+FitsNext t a p op place (Idle ∷ whats) = FitsNext t a p op place whats
+FitsNext t a p op place (Wait waiting ∷ whats) = FitsNext t a p op place whats
+
+-- the turn can be done, it has its shape, and the actor stands right behind it
+pub record IsTurned (s : CoreState) (a p : ℕ) (place : Place) (op : Op) (turn : Taken) : Type 0 where
+  pub done : IsDone s a p (child_of p (Some op)) turn
+  pub shape : TurnOf (plain_of s) a p place op (fork_place (s.job a)) turn.whats (fork_place ((run s turn.events).job a))
+  pub next : FitsNext (run s turn.events) a p (Some op) place turn.whats
+
+-- where the actor is in the middle of nothing before and behind, the turn is none of a fork that has begun
+pub shape_idle : (s t : CoreState) (a p : ℕ) (place : Place) (op : Op) (whats : List What) → s.job a ≡ idle → t.job a ≡ idle → TurnOf (plain_of s) a p place op unbegun whats unbegun → TurnOf (plain_of s) a p place op (fork_place (s.job a)) whats (fork_place (t.job a))
+shape_idle s t a p place op whats before behind shape =
+    subst (λ (from : ForkPlace). TurnOf (plain_of s) a p place op from whats (fork_place (t.job a))) (sym (ap fork_place before))
+    (subst (λ (to : ForkPlace). TurnOf (plain_of s) a p place op unbegun whats to) (sym (ap fork_place behind)) shape)
+
+-- locks
+
+-- a needed lock that keeps nobody waiting is free, or the actor's own
+free_or_own : (a : ℕ) (holder : Option ℕ) → held_by_other a holder ≡ None → (holder ≡ Some a → ⊥) → holder ≡ None
+free_or_own a None free own = refl
+free_or_own a (Some b) free own = absurd (own (own_lock (a == b) refl free))
+  where
+    own_lock : (same : Bool) → (a == b) ≡ same → (if same then None else Some (waitings.Holder b)) ≡ None → Some b ≡ Some a
+    own_lock true e now = ap (λ (k : ℕ). Some k) (sym (eqb-true a b e))
+    own_lock false e now = absurd (cc now)
+
+-- an actor that keeps no table lock finds it free
+pub table_free : (s : CoreState) (a p : ℕ) → IsSound s → keeps_table (s.job a) ≡ None → held_by_other a (s.table p) ≡ None → s.table p ≡ None
+table_free s a p sound keeps free =
+    free_or_own a (s.table p) free (λ own. let held : keeps_table (s.job a) ≡ Some p = sound.1.table_held p a own in cc)
+
+structure_free : (s : CoreState) (a p : ℕ) → IsSound s → keeps_structure (s.job a) ≡ None → held_by_other a (s.structure p) ≡ None → s.structure p ≡ None
+structure_free s a p sound keeps free =
+    free_or_own a (s.structure p) free (λ own. let held : keeps_structure (s.job a) ≡ Some p = sound.1.structure_held p a own in cc)
+
+both_waits : (first second : Option Waiting) → first_waiting first second ≡ None → (first ≡ None) × (second ≡ None)
+both_waits None second is = (refl, is)
+both_waits (Some waiting) second is = absurd (cc is)
+
+-- where an actor that is in the middle of nothing needs both locks and doesn't wait, both are free
+pub both_free : (s : CoreState) (a p : ℕ) → IsSound s → s.job a ≡ idle → waits_for_locks both_locks a (s.structure p) (s.table p) ≡ None → AreUnlocked s p
+both_free s a p sound job free =
+    let waits = both_waits (held_by_other a (s.structure p)) (held_by_other a (s.table p)) free in
+    (structure_free s a p sound (ap keeps_structure job) waits.0, table_free s a p sound (ap keeps_table job) waits.1)
+
+-- events one after another
+
+pub kinds_behind : (a p c : ℕ) (before es : List CoreEvent) → AreTurnEvents a p c before → AreTurnEvents a p c es → AreTurnEvents a p c (before ++ es)
+kinds_behind a p c [] es kinds more = more
+kinds_behind a p c (e ∷ before) es kinds more = (kinds.0, kinds_behind a p c before es kinds.1 more)
+
+pub run_behind : (s : CoreState) (before es : List CoreEvent) → run s (before ++ es) ≡ run (run s before) es
+run_behind s [] es = refl
+run_behind s (e ∷ before) es = run_behind (happens s e) before es
+
+pub can_behind : (s : CoreState) (before es : List CoreEvent) → AllCan s before → AllCan (run s before) es → AllCan s (before ++ es)
+can_behind s [] es can more = more
+can_behind s (e ∷ before) es can more = (can.0, can_behind (happens s e) before es can.1 more)
+
+pub told_behind : (before es : List CoreEvent) → all_told before ≡ [] → all_told (before ++ es) ≡ all_told es
+told_behind [] es none = refl
+told_behind (e ∷ before) es none = go (told e) refl none (told_behind before es)
+  where
+    go : (t : Option PlainEvent) → told e ≡ t → with_told t (all_told before) ≡ [] → (all_told before ≡ [] → all_told (before ++ es) ≡ all_told es) → with_told (told e) (all_told (before ++ es)) ≡ all_told es
+    go None is now later = rw is (later now)
+    go (Some x) is now later = absurd (cc now)

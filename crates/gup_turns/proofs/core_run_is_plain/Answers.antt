@@ -1,0 +1,13 @@
+-- By induction over the turns of the run.
+use Rattle.std.proofs.Common.{sym, subst}
+use Rattle.gup_follows.specs.Plain.{IsPlain}
+use Rattle.gup_turns.specs.Run.{run_start}
+use Rattle.gup_turns.proofs.Runs.{plain_run}
+use Rattle.gup_turns.proofs.Stands.{stands_first}
+use Rattle.gup_turns.proofs.core_run_is_plain.Goals as goal
+
+pub returns : goal.returns
+returns c script notes end valid run =
+    let h = stands_first c.starts_sound.ensures script valid in
+    let plain = plain_run c.simulates.ensures script valid run.0 1 (run_start script) end h run.2 in
+    subst (IsPlain script) (sym run.1) plain
