@@ -1,6 +1,7 @@
 ghost use Rattle.std.specs.Prelude.{None};
 
 use super::*;
+use crate::examples::EXAMPLES;
 use crate::top::Report;
 use gup_io::{Failed, MemSink, MemSource, Sink, Source, SureSource};
 use gup_reader::{Reason, ScriptFault};
@@ -18,7 +19,7 @@ const FIRST: &str =
 const FIRST_TEXT: &str = "t 1 ok\nt 2 ok 0\nt 3 ok\nt 4 ok 7\nt 5 ok\nt 6 missing\n";
 
 /// Scripts, with the statuses and the texts of their runs.
-const RUNS: [(&str, u8, &str); 22] = [
+const RUNS: [(&str, u8, &str); 27] = [
     // Nobody has anything to do.
     ("gup 1\nframes 8 8 64\nprocess p\nthread t p\n", 0, ""),
     ("gup 1\nframes 8 8 64\n", 0, ""),
@@ -133,6 +134,36 @@ const RUNS: [(&str, u8, &str); 22] = [
         "gup 1\nframes 8 8 64\nchild c\nthread u c\non u exit\n",
         4,
         "stuck u process c\n",
+    ),
+    // A fork isolates: each sees what it wrote itself, or what was there at the fork. Its child may fork too.
+    (
+        "gup 1\nframes 8 8 64\nprocess p\nchild c\nchild e\nthread t p\nthread u c\nthread w e\non t map 5 2 rw\non t store 5.0 7\non t fork c\non t store 5.0 8\non t load 5.0\non u load 6.0\non u fork e\non u store 5.0 9\non w load 5.0\non w store 6.511 1\non w load 6.511\non t load 6.511\nturns t*9 u*7\n",
+        0,
+        "t 1 ok\nt 2 ok\nt 3 ok\nt 4 ok\nt 5 ok 8\nu 1 ok 0\nu 2 ok\nu 3 ok\nw 1 ok 7\nt 6 ok 0\nw 2 ok\nw 3 ok 1\n",
+    ),
+    // Sixteen processes share one frame, and none is left for the last one's write.
+    (
+        "gup 1\nframes 1 0 64\nprocess p\nchild c1\nchild c2\nchild c3\nchild c4\nchild c5\nchild c6\nchild c7\nchild c8\nchild c9\nchild c10\nchild c11\nchild c12\nchild c13\nchild c14\nchild c15\nthread t0 p\nthread t1 c1\nthread t2 c2\nthread t3 c3\nthread t4 c4\nthread t5 c5\nthread t6 c6\nthread t7 c7\nthread t8 c8\nthread t9 c9\nthread t10 c10\nthread t11 c11\nthread t12 c12\nthread t13 c13\nthread t14 c14\nthread t15 c15\non t0 map 5 1 rw\non t0 store 5.0 7\non t0 fork c1\non t1 fork c2\non t2 fork c3\non t3 fork c4\non t4 fork c5\non t5 fork c6\non t6 fork c7\non t7 fork c8\non t8 fork c9\non t9 fork c10\non t10 fork c11\non t11 fork c12\non t12 fork c13\non t13 fork c14\non t14 fork c15\non t15 load 5.0\non t15 store 5.0 8\n",
+        0,
+        "t0 1 ok\nt0 2 ok\nt0 3 ok\nt1 1 ok\nt2 1 ok\nt3 1 ok\nt4 1 ok\nt5 1 ok\nt6 1 ok\nt7 1 ok\nt8 1 ok\nt9 1 ok\nt10 1 ok\nt11 1 ok\nt12 1 ok\nt13 1 ok\nt14 1 ok\nt15 1 ok 7\nt15 2 noframe\n",
+    ),
+    // A fork waits for nothing but the locks of its own process: two threads fork one after another.
+    (
+        "gup 1\nframes 8 8 64\nprocess p\nchild c\nchild e\nthread t p\nthread v p\nthread u c\nthread w e\non t map 5 1 rw\non t store 5.0 7\non t fork c\non v fork e\non u load 5.0\non w load 5.0\nturns t*4 v*3\n",
+        0,
+        "t 1 ok\nt 2 ok\nt 3 ok\nu 1 ok 7\nv 1 ok\nw 1 ok 7\n",
+    ),
+    // While it forks, a thread may write where its entry allows it, and waits where not.
+    (
+        "gup 1\nframes 8 8 64\nprocess p\nchild c\nthread t p\nthread v p\non t map 5 1 rw\non t store 5.0 7\non t fork c\non v store 5.0 8\non v map 6 1 r\non v load 5.0\nturns t*3 v*3 t v*2 t\n",
+        0,
+        "t 1 ok\nt 2 ok\nv 1 ok\nt 3 ok\nv 2 ok\nv 3 ok 8\n",
+    ),
+    // A process that was brought by a fork takes down its own pages alone.
+    (
+        "gup 1\nframes 2 0 64\nprocess p\nchild c\nthread t p\nthread u c\non t map 5 2 rw\non t store 5.0 7\non t store 6.0 8\non t fork c\non u exit\non u load 5.0\non t load 5.0\non t store 6.0 9\non t load 6.0\nturns t*9 u*4\n",
+        0,
+        "t 1 ok\nt 2 ok\nt 3 ok\nt 4 ok\nu 1 ok\nu 2 missing\nt 5 ok 7\nt 6 ok\nt 7 ok 9\n",
     ),
 ];
 
@@ -281,6 +312,15 @@ fn words_that_are_no_command(rt: HostRuntime) -> Result<(), Fail> {
 #[test]
 fn scripts(rt: HostRuntime) -> Result<(), Fail> {
     for (script, status, text) in RUNS {
+        let report = expect(&rt, rt.alloc(), &["run"], script, status, text)?;
+        assert_eq!(rt; report.refusal, None, "{script}");
+    }
+    Ok(())
+}
+
+#[test]
+fn examples(rt: HostRuntime) -> Result<(), Fail> {
+    for (script, status, text) in EXAMPLES {
         let report = expect(&rt, rt.alloc(), &["run"], script, status, text)?;
         assert_eq!(rt; report.refusal, None, "{script}");
     }
