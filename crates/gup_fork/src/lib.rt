@@ -2,16 +2,16 @@
 //! `copy_page_range`, for private anonymous memory).
 #![tactic(auto)]
 
-ghost use Rattle.std.specs.Prelude.{◌≡◌, ℕ, ◌+◌, ◌<◌, ◌^◌, ◌↔◌, [], ◌∷◌, List, Some, None, IsSome};
+ghost use Rattle.std.specs.Prelude.{◌≡◌, ℕ, ◌+◌, ◌<◌, ◌^◌, nat_le, false, [], ◌∷◌, List, Some, None, IsSome};
 ghost use Rattle.gup_base.specs.declared.entry.Entry.{Entry as EntryValue};
 ghost use Rattle.gup_base.specs.declared.entry.Zone.{Zone as ZoneValue};
-ghost use Rattle.gup_frames.specs.Frames.{frames_of, free_of};
-ghost use Rattle.gup_events.specs.Event.{begin_fork, end_fork};
-ghost use Rattle.gup_space.specs.Space.{space_of, HasRoom};
+ghost use Rattle.gup_frames.specs.Frames.{FrameLists, frames_of, free_of};
+ghost use Rattle.gup_events.specs.Event.{bias, begin_fork, end_fork, entry_of};
+ghost use Rattle.gup_space.specs.Space.{SpaceParts, space_of, HasRoom};
 ghost use Rattle.gup_space.specs.Counted.{IsCounted};
 ghost use Rattle.gup_fork.specs.Forks.{fork_change_of, with_structure, with_table, AreForkEvents, with_maps_of, copies_frame, shares, shared, with_shared};
 
-use gup_base::{Entry, PageNo};
+use gup_base::{Entry, FrameNo, PageNo};
 use gup_frames::Frames;
 use gup_space::Space;
 
@@ -30,6 +30,13 @@ pub fn begin(parent: &mut Space, child: &mut Space)
     parent.raise();
 }
 
+// Whether a frame with so many references may be pinned: a pin weighs 1,024 of them (Linux's `folio_maybe_dma_pinned`).
+fn maybe_pinned(count: u64) -> bool
+    ensures { result ≡ nat_le bias count }
+{
+    count >= 1_024
+}
+
 /// Whether the fork copies the page, which has an entry, instead of sharing it: its frame is exclusive and may be pinned,
 /// and the process has ever pinned (Linux's `folio_needs_cow_for_dma`).
 pub fn copies(parent: &Space, frames: &Frames, page: PageNo) -> bool
@@ -42,6 +49,16 @@ pub fn copies(parent: &Space, frames: &Frames, page: PageNo) -> bool
         return false;
     };
     frames.mark(entry.frame) && parent.has_pinned() && maybe_pinned(frames.count(entry.frame))
+}
+
+// The read-only entry of the frame.
+fn read_only(frame: FrameNo) -> Entry
+    ensures { result ≡ entry_of frame false }
+{
+    Entry {
+        frame,
+        writable: false,
+    }
 }
 
 /// Shares the page, which has an entry and of which the child has none: the parent's entry becomes read-only, the frame's
@@ -70,14 +87,11 @@ pub fn share(parent: &mut Space, child: &mut Space, frames: &mut Frames, page: P
     let Some(entry) = parent.entry(page) else {
         return;
     };
-    let read_only = Entry {
-        frame: entry.frame,
-        writable: false,
-    };
-    parent.set_entry(page, Some(read_only));
-    frames.set_mark(entry.frame, false);
-    frames.grab(entry.frame, 1);
-    child.set_entry(page, Some(read_only));
+    let frame = entry.frame;
+    parent.set_entry(page, Some(read_only(frame)));
+    frames.set_mark(frame, false);
+    frames.grab(frame, 1);
+    child.set_entry(page, Some(read_only(frame)));
 }
 
 /// The end of a fork: the parent's sequence gets even again. Who forked frees the parent's structure lock with it.
@@ -90,6 +104,3 @@ pub fn end(parent: &mut Space)
 {
     parent.raise();
 }
-
-#[cfg(test)]
-mod tests;
