@@ -104,3 +104,6 @@ pub fn end(parent: &mut Space)
 {
     parent.raise();
 }
+
+#[cfg(test)]
+mod tests;
