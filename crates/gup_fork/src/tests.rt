@@ -1,4 +1,5 @@
-ghost use Rattle.std.specs.Prelude.{IsSome, ◌<◌, ◌^◌};
+ghost use Rattle.std.specs.Prelude.{◌≡◌, ◌<◌, ◌^◌, Some, None, IsSome};
+ghost use Rattle.gup_base.specs.declared.entry.Entry.{Entry as EntryValue};
 ghost use Rattle.gup_frames.specs.Frames.{frames_of, IsFrame};
 ghost use Rattle.gup_space.specs.Space.{space_of, HasRoom};
 ghost use Rattle.gup_space.specs.Counted.{IsCounted};

@@ -144,6 +144,9 @@ fn values_are_copied(rt: HostRuntime) -> Result<(), Fail> {
     from.set(page, 7_u64);
     table.set(other, 8);
     table.copy_from(&from);
-    assert_eq!(rt; (table.get(page), table.get(other), table.len()), (Some(7), None, 1));
+    assert_eq!(rt;
+        (table.get(page), table.get(other), table.len()),
+        (Some(7), None, 1)
+    );
     Ok(())
 }
