@@ -1,0 +1,5 @@
+pub mod Searching
+pub mod Leading
+pub mod Loading
+pub mod Unmapping
+pub mod Mapping
