@@ -3,3 +3,4 @@ pub mod Leading
 pub mod Loading
 pub mod Unmapping
 pub mod Mapping
+pub mod Forking

@@ -65,7 +65,7 @@ discarded c a p page last unlocked made s frames space =
 -- ---- exit
 
 -- the lowest of n numbers from the first on that passes, where those before it don't
-found_at : (first n f : ℕ) (test : ℕ → Bool) → first ≤ f → f < first + n → test f ≡ true → ((k : ℕ) → first ≤ k → k < f → test k ≡ false) → lowest first n test ≡ Some f
+pub found_at : (first n f : ℕ) (test : ℕ → Bool) → first ≤ f → f < first + n → test f ≡ true → ((k : ℕ) → first ≤ k → k < f → test k ≡ false) → lowest first n test ≡ Some f
 found_at first zero f test from below passes others = absurd (omega arith)
 found_at first (suc n) f test from below passes others =
     go (test first) refl (λ more. found_at (first + 1) n f test more (omega arith) passes (λ k least less. others k (omega arith) less))
@@ -82,12 +82,12 @@ found_at first (suc n) f test from below passes others =
     go true is later = ap (λ (k : ℕ). Some k) (here (eq-or-lt_of_le from) is)
     go false is later = later (further (eq-or-lt_of_le from) is)
 
-none_found : (first n : ℕ) (test : ℕ → Bool) → ((k : ℕ) → first ≤ k → test k ≡ false) → lowest first n test ≡ None
+pub none_found : (first n : ℕ) (test : ℕ → Bool) → ((k : ℕ) → first ≤ k → test k ≡ false) → lowest first n test ≡ None
 none_found first zero test others = refl
 none_found first (suc n) test others =
     ap (λ b. cond b (Some first) (lowest (first + 1) n test)) (others first (omega arith)) ∙ none_found (first + 1) n test (λ k least. others k (omega arith))
 
-unmapped_is : (rights : Option Rights) → rights ≡ None → is_some rights ≡ false
+pub unmapped_is : (rights : Option Rights) → rights ≡ None → is_some rights ≡ false
 unmapped_is rights none = ap is_some none
 
 lowest_is : (right : ℕ → Option Rights) (page : ℕ) → page < page_numbers → IsNextPage right 0 page → lowest_page right ≡ Some page
