@@ -1,5 +1,5 @@
 -- What a turn of a fork makes of frames, the parent and the child is the turn table's.
-use Rattle.std.proofs.Common.{◌≡◌, ℕ, ◌+◌, ◌-◌, ◌<◌, ◌≤◌, ◌==◌, ◌&&◌, Bool, true, false, List, [], ◌∷◌, Option, Some, None, IsSome, is_some, zero, suc, refl, ap, sym, subst, ◌∙◌, arith}
+use Rattle.std.proofs.Common.{◌≡◌, ℕ, ◌+◌, ◌-◌, ◌^◌, ◌<◌, ◌≤◌, ◌==◌, ◌&&◌, Bool, true, false, not, MatchOption, List, [], ◌∷◌, Option, Some, None, IsSome, is_some, zero, suc, refl, ap, sym, subst, ◌∙◌, arith}
 use Rattle.std.specs.Prelude.{nat_le}
 use Rattle.std.proofs.lemmas.Bool.Decides.{nat_tests}
 use Rattle.gup_base.specs.declared.entry.Entry.{Entry}
@@ -18,11 +18,13 @@ use Rattle.gup_fork.specs.Forks.{ForkChange, AreForkEvents, copies_frame, shares
 use Rattle.gup_fork.specs.ForkAfter.{counting, passing}
 use Rattle.gup_fork.specs.ForkLemmas.{are_fork_events}
 use Rattle.gup_events.specs.State.{CoreState, Job, idle, marking, moving, forking, walking, between, counted, lowered, cleared, copying, failing}
-use Rattle.gup_events.specs.Event.{bias, begin_fork, count_page, pass_page, end_fork, copies_page}
+use Rattle.gup_events.specs.Event.{CoreEvent, bias, begin_fork, count_page, pass_page, end_fork, copies_page}
 use Rattle.gup_turns.specs.Turn.{Taken, first_behind, next_page, next_turn, page_turn, share_turn, fork_turn}
 use Rattle.gup_turns.specs.Reached.{ForkPlace, unbegun, from_page, at_page, fork_place, StandsFork}
 use Rattle.gup_ops.specs.Forked.{LeadsFork, IsForkTurn}
+use Rattle.gup_maps.specs.Maps.{IsNextPage, IsLastPage}
 use Rattle.gup_ops.proofs.Searching.{lowest_same}
+use Rattle.gup_ops.proofs.Unmapping.{found_at, none_found, unmapped_is, below_numbers}
 
 abbrev pub change : (F F' : FramesValue) (P P' C C' : SpaceValue) → ForkChange
 change F F' P P' C C' =
@@ -46,8 +48,8 @@ begun k a p c made s apart frames parent child = go (s.job a)
         record {
           says = refl;
           frames = behind.0;
-          parent = behind.1.0;
-          child = behind.1.1;
+          parent = behind.1;
+          child = behind.2;
           place = ap fork_place (put_here a (forking p c [] between) s.job);
           birth = put_here c (growing p) s.birth;
         }
@@ -85,8 +87,8 @@ ended k a p c from made none s apart frames parent child = go (s.job a)
         (record {
           says = refl;
           frames = behind.0;
-          parent = behind.1.0;
-          child = behind.1.1;
+          parent = behind.1;
+          child = behind.2;
           place = ap fork_place (put_here a idle s.job);
           birth = put_here c born s.birth;
         })
@@ -118,8 +120,8 @@ passed F P C a p c from page found empty s apart frames parent child = go (s.job
         (record {
           says = refl;
           frames = behind.0;
-          parent = behind.1.0;
-          child = behind.1.1;
+          parent = behind.1;
+          child = behind.2;
           place = ap fork_place (put_here a (forking p c (page ∷ done) between) s.job);
           birth = stands.birth;
         })
@@ -146,7 +148,7 @@ copies_alike F P p f s frames parent =
     ∙ ap (λ (b : Bool). F.mark f && (b && nat_le bias (s.count f))) parent.has_pinned
     ∙ ap (λ (n : ℕ). F.mark f && (P.has_pinned && nat_le bias n)) (frames.count f)
 
-pub page_counted : (F : FramesValue) (P P' C : SpaceValue) (a p c from page : ℕ) (e : Entry) → lowest from (page_numbers - from) (λ g. is_some (C.right g)) ≡ Some page → P.entry page ≡ Some e → copies_frame F P e.frame ≡ false → P' ≡ record P { table = Some a } → IsForkTurn (change F F P P' C C) a p c (from_page from) (at_page page) (Silent ∷ [])
+page_counted : (F : FramesValue) (P P' C : SpaceValue) (a p c from page : ℕ) (e : Entry) → lowest from (page_numbers - from) (λ g. is_some (C.right g)) ≡ Some page → P.entry page ≡ Some e → copies_frame F P e.frame ≡ false → P' ≡ record P { table = Some a } → IsForkTurn (change F F P P' C C) a p c (from_page from) (at_page page) (Silent ∷ [])
 page_counted F P P' C a p c from page e found entry shared locked s apart frames parent child = go (s.job a)
   where
     go : (job : Job) → StandsFork s a p c job → fork_place job ≡ from_page from → LeadsFork (change F F P P' C C) a p c s (fork_turn s a p c job) (at_page page) (Silent ∷ [])
@@ -160,8 +162,8 @@ page_counted F P P' C a p c from page e found entry shared locked s apart frames
         (record {
           says = refl;
           frames = behind.0;
-          parent = behind.1.0;
-          child = behind.1.1;
+          parent = behind.1;
+          child = behind.2;
           place = ap fork_place (put_here a (forking p c done (counted page)) s.job);
           birth = stands.birth;
         })
@@ -177,7 +179,7 @@ page_counted F P P' C a p c from page e found entry shared locked s apart frames
 
 -- ---- the share of a page
 
-pub page_shared : (k : ForkChange) (a p c page : ℕ) (e : Entry) → k.old_parent.entry page ≡ Some e → ((done : List ℕ) → AreForkEvents k (λ q d. shares a q d done page e)) → IsForkTurn k a p c (at_page page) (from_page (page + 1)) (Event (events.ForkPage p c page) ∷ [])
+page_shared : (k : ForkChange) (a p c page : ℕ) (e : Entry) → k.old_parent.entry page ≡ Some e → ((done : List ℕ) → AreForkEvents k (λ q d. shares a q d done page e)) → IsForkTurn k a p c (at_page page) (from_page (page + 1)) (Event (events.ForkPage p c page) ∷ [])
 page_shared k a p c page e entry made s apart frames parent child = go (s.job a)
   where
     same_page : (m n : ℕ) → at_page m ≡ at_page n → m ≡ n
@@ -192,8 +194,8 @@ page_shared k a p c page e entry made s apart frames parent child = go (s.job a)
         (record {
           says = refl;
           frames = behind.0;
-          parent = behind.1.0;
-          child = behind.1.1;
+          parent = behind.1;
+          child = behind.2;
           place = ap fork_place (put_here a (forking p c (page ∷ done) between) (put a (forking p c done (cleared page)) (put a (forking p c done (lowered page)) s.job)));
           birth = stands.0.birth;
         })
@@ -206,3 +208,64 @@ page_shared k a p c page e entry made s apart frames parent child = go (s.job a)
     go (marking q g f) stands place = absurd stands
     go (moving q g e count) stands place = absurd stands
     go (walking q write long sequence step) stands place = absurd stands
+
+-- ---- the child's next page
+
+pub next_found : (C : SpaceValue) (from : ℕ) (found : Option ℕ) → ((g : ℕ) (rights : Rights) → C.right g ≡ Some rights → g < page_numbers) → MatchOption found (IsLastPage C.right from) (IsNextPage C.right from) → found ≡ lowest from (page_numbers - from) (λ g. is_some (C.right g))
+next_found C from None numbered last =
+    sym (none_found from (page_numbers - from) (λ g. is_some (C.right g)) (λ g above. unmapped_is (C.right g) (last g above)))
+next_found C from (Some page) numbered next =
+    let below : page < page_numbers = below_numbers C page numbered next.mapped in
+    let above : from ≤ page = next.above in
+    sym (found_at from (page_numbers - from) page (λ g. is_some (C.right g)) above (omega arith) next.mapped (λ g least less. unmapped_is (C.right g) (next.least g least less)))
+
+-- no page has a number from 2^35 on
+pub none_past : (from : ℕ) (test : ℕ → Bool) → 2 ^ 35 ≤ from → None ≡ lowest from (page_numbers - from) test
+unfolding page_numbers
+none_past from test past = let none : 2 ^ 35 - from ≡ 0 = omega arith in rw none refl
+
+-- ---- what the code has at hand
+
+-- the same turn with other notes
+pub notes_alike : (k : ForkChange) (a p c : ℕ) (old new : ForkPlace) (whats other : List What) → other ≡ whats → IsForkTurn k a p c old new whats → IsForkTurn k a p c old new other
+notes_alike k a p c old new whats other same h s apart frames parent child stands place =
+    subst (λ (ws : List What). LeadsFork k a p c s (fork_turn s a p c (s.job a)) new ws) (sym same) (h s apart frames parent child stands place)
+
+-- the same events, with the parent in other words
+pub other_parent : (F F' : FramesValue) (P P' P'' C C' : SpaceValue) (events : (p c : ℕ) → List CoreEvent) → P'' ≡ P' → AreForkEvents (change F F' P P' C C') events → AreForkEvents (change F F' P P'' C C') events
+other_parent F F' P P' P'' C C' events same h =
+    subst (λ (x : SpaceValue). AreForkEvents (change F F' P x C C') events) (sym same) h
+
+-- nothing is copied of a process that has never pinned
+unpinned_shares : (F : FramesValue) (P : SpaceValue) (f : ℕ) → P.has_pinned ≡ false → copies_frame F P f ≡ false
+unpinned_shares F P f never =
+    ap (λ (b : Bool). F.mark f && (b && nat_le bias (F.count f))) never ∙ and_false (F.mark f)
+  where
+    and_false : (b : Bool) → (b && false) ≡ false
+    and_false true = refl
+    and_false false = refl
+
+pub not_copied : (F : FramesValue) (P : SpaceValue) (page : ℕ) (copied : Bool) → P.has_pinned ≡ false → IsSome (P.entry page) → ((e : Entry) → P.entry page ≡ Some e → copied ≡ copies_frame F P e.frame) → copied ≡ false
+not_copied F P page copied never some is = go (P.entry page) refl some
+  where
+    go : (entry : Option Entry) → P.entry page ≡ entry → IsSome entry → copied ≡ false
+    go None entry some = absurd (cc)
+    go (Some e) entry some = is e entry ∙ unpinned_shares F P e.frame never
+
+pub count_turned : (F : FramesValue) (P P' C : SpaceValue) (a p c from page : ℕ) → lowest from (page_numbers - from) (λ g. is_some (C.right g)) ≡ Some page → IsSome (P.entry page) → P.has_pinned ≡ false → P' ≡ record P { table = Some a } → IsForkTurn (change F F P P' C C) a p c (from_page from) (at_page page) (Silent ∷ [])
+count_turned F P P' C a p c from page found some never locked = go (P.entry page) refl some
+  where
+    go : (entry : Option Entry) → P.entry page ≡ entry → IsSome entry → IsForkTurn (change F F P P' C C) a p c (from_page from) (at_page page) (Silent ∷ [])
+    go None entry some = absurd (cc)
+    go (Some e) entry some = page_counted F P P' C a p c from page e found entry (unpinned_shares F P e.frame never) locked
+
+pub share_turned : (k : ForkChange) (a p c page : ℕ) → IsSome (k.old_parent.entry page) → ((done : List ℕ) (e : Entry) → k.old_parent.entry page ≡ Some e → AreForkEvents k (λ q d. shares a q d done page e)) → IsForkTurn k a p c (at_page page) (from_page (page + 1)) (Event (events.ForkPage p c page) ∷ [])
+share_turned k a p c page some made = go (k.old_parent.entry page) refl some
+  where
+    go : (entry : Option Entry) → k.old_parent.entry page ≡ entry → IsSome entry → IsForkTurn k a p c (at_page page) (from_page (page + 1)) (Event (events.ForkPage p c page) ∷ [])
+    go None entry some = absurd (cc)
+    go (Some e) entry some = page_shared k a p c page e entry (λ done. made done e entry)
+
+pub no_entry : (found entry : Option Entry) (none : Bool) → is_some found ≡ not none → none ≡ true → found ≡ entry → entry ≡ None
+no_entry None entry none test is same = sym same
+no_entry (Some e) entry none test is same = absurd (cc)

@@ -35,13 +35,13 @@ IsReadyAt (at_page page) parent child =
     IsSome (parent.entry page) × IsSome (child.right page) × (child.entry page ≡ None)
 
 -- From this state the turn of a fork leads to frames, a parent and a child as they are behind the change, and says this.
-pub record LeadsFork (k : ForkChange) (a p child : ℕ) (s : CoreState) (turn : Taken) (new : ForkPlace) (whats : List What) : Type 0 where
+pub record LeadsFork (k : ForkChange) (a p c : ℕ) (s : CoreState) (turn : Taken) (new : ForkPlace) (whats : List What) : Type 0 where
   pub says : turn.whats ≡ whats
   pub frames : ShowsFrames k.new_frames (run s turn.events)
   pub parent : ShowsSpace p k.new_parent (run s turn.events)
-  pub child : ShowsSpace child k.new_child (run s turn.events)
+  pub child : ShowsSpace c k.new_child (run s turn.events)
   pub place : fork_place ((run s turn.events).job a) ≡ new
-  pub birth : (run s turn.events).birth child ≡ (if is_answered whats then born else growing p)
+  pub birth : (run s turn.events).birth c ≡ (if is_answered whats then born else growing p)
 
 -- So it is in whatever state they stand as two processes, where the fork stands at this place.
 abbrev pub IsForkTurn : ForkChange → (a p child : ℕ) → (old new : ForkPlace) → List What → Type 0

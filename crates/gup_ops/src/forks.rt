@@ -1,5 +1,5 @@
 //! Forks: their beginning, and then page by page.
-ghost use Rattle.std.specs.Prelude.{◌≡◌, ℕ, ◌-◌, ◌<◌, ◌^◌, false, is_some, Some, None};
+ghost use Rattle.std.specs.Prelude.{◌≡◌, ℕ, ◌-◌, ◌<◌, ◌^◌, false, is_some, Some, None, IsSome};
 ghost use Rattle.gup_base.specs.declared.entry.Rights.{Rights as RightsValue};
 ghost use Rattle.gup_plain.specs.Event.{page_numbers};
 ghost use Rattle.gup_plain.specs.Put.{lowest};
@@ -103,7 +103,19 @@ fn next_turn(
     if parent.entry(page).is_none() {
         return (page_done(proc, child_no, page), ForkPlace::From(page.get() + 1));
     }
-    // No process has pinned, so the page is shared.
+    count_turn(parent, frames, actor, page)
+}
+
+// The page's count is read, and the table lock taken. No process has pinned, so the page is to be shared.
+fn count_turn(parent: &mut Space, frames: &Frames, actor: ActorNo, page: PageNo) -> (Said, ForkPlace)
+    requires parent { IsTidy (frames_of frames.now) (space_of parent.old) }
+    requires unpinned { (space_of parent.old).has_pinned ≡ false }
+    requires entry { IsSome ((space_of parent.old).entry page) }
+    ensures { (p c from : ℕ) (child : SpaceParts)
+        → lowest from (page_numbers - from) (λ g. is_some ((space_of child).right g)) ≡ Some page
+        → IsForkTurn (fork_change_of frames.now frames.now parent.old parent.new child child) actor p c
+            (from_page from) (place_of result.1) (whats_of result.0) }
+{
     let copied = copies(parent, frames, page);
     prove!(!copied);
     parent.set_table(Some(actor));
