@@ -1,5 +1,5 @@
 -- What a step of a fork does to frames, to the parent and to its child.
-use Rattle.std.specs.Prelude.{◌≡◌, ℕ, ◌+◌, ◌&&◌, nat_le, Bool, false, List, [], ◌∷◌, Option, Some, None}
+use Rattle.std.specs.Prelude.{◌≡◌, ℕ, ◌&&◌, nat_le, Bool, false, List, [], ◌∷◌, Option, Some}
 use Rattle.gup_base.specs.declared.entry.Entry.{Entry}
 use Rattle.gup_frames.specs.Frames.{FramesValue, FrameLists, frames_of, with_mark, with_references}
 use Rattle.gup_space.specs.Shows.{ShowsFrames, ShowsSpace}

@@ -16,8 +16,8 @@ use gup_frames::Frames;
 use gup_space::Space;
 
 /// The beginning of a fork: the parent's sequence gets odd, which tells lockless walks that its pages are being shared
-/// (Linux's `write_protect_seq`; that there is one pair of rises for the whole fork is this project's own, Linux has one
-/// for each area), and the child gets the parent's mappings. Who forks takes the parent's structure lock with it.
+/// (Linux's `write_protect_seq`; that there is one pair of rises for the whole fork is this project's own, Linux has
+/// one for each area), and the child gets the parent's mappings. Who forks takes the parent's structure lock with it.
 pub fn begin(parent: &mut Space, child: &mut Space)
     requires { (space_of parent.old).sequence < 2 ^ 40 }
     ensures parent { space_of parent.new ≡ record (space_of parent.old) { sequence = (space_of parent.old).sequence + 1 } }
@@ -37,8 +37,8 @@ fn maybe_pinned(count: u64) -> bool
     count >= 1_024
 }
 
-/// Whether the fork copies the page, which has an entry, instead of sharing it: its frame is exclusive and may be pinned,
-/// and the process has ever pinned (Linux's `folio_needs_cow_for_dma`).
+/// Whether the fork copies the page, which has an entry, instead of sharing it: its frame is exclusive and may be
+/// pinned, and the process has ever pinned (Linux's `folio_needs_cow_for_dma`).
 pub fn copies(parent: &Space, frames: &Frames, page: PageNo) -> bool
     requires entry { IsSome ((space_of parent.now).entry page) }
     requires counted { IsCounted (frames_of frames.now) (space_of parent.now) page }
@@ -61,14 +61,15 @@ fn read_only(frame: FrameNo) -> Entry
     }
 }
 
-/// Shares the page, which has an entry and of which the child has none: the parent's entry becomes read-only, the frame's
-/// mark goes, and the child gets a read-only entry of the same frame, which has one reference more
-/// (`__copy_present_ptes`; the order is this project's own, Linux raises the count first). No frame is taken, and no word
-/// changes. Whoever counted the page frees the table lock with it.
+/// Shares the page, which has an entry and of which the child has none: the parent's entry becomes read-only, the
+/// frame's mark goes, and the child gets a read-only entry of the same frame, which has one reference more
+/// (`__copy_present_ptes`; the order is this project's own, Linux raises the count first). No frame is taken, and no
+/// word changes. Whoever counted the page frees the table lock with it.
 pub fn share(parent: &mut Space, child: &mut Space, frames: &mut Frames, page: PageNo)
     requires entry { IsSome ((space_of parent.old).entry page) }
     requires counted { IsCounted (frames_of frames.old) (space_of parent.old) page }
-    requires few { (e : EntryValue) → (space_of parent.old).entry page ≡ Some e → (frames_of frames.old).count e.frame < 2 ^ 40 }
+    requires few { (e : EntryValue) → (space_of parent.old).entry page ≡ Some e
+        → (frames_of frames.old).count e.frame < 2 ^ 40 }
     requires mapped { IsSome ((space_of child.old).right page) }
     requires absent { (space_of child.old).entry page ≡ None }
     requires room { HasRoom (space_of child.old) page }

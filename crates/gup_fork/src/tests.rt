@@ -22,7 +22,8 @@ fn expect_frame(rt: &impl Abort, frames: &Frames, frame: FrameNo)
 fn expect_entry(rt: &impl Abort, parent: &Space, frames: &Frames, page: PageNo)
     ensures entry { IsSome ((space_of parent.now).entry page) }
     ensures counted { IsCounted (frames_of frames.now) (space_of parent.now) page }
-    ensures few { (e : EntryValue) → (space_of parent.now).entry page ≡ Some e → (frames_of frames.now).count e.frame < 2 ^ 40 }
+    ensures few { (e : EntryValue) → (space_of parent.now).entry page ≡ Some e
+        → (frames_of frames.now).count e.frame < 2 ^ 40 }
 {
     let Some(entry) = parent.entry(page) else {
         panic!(rt; "the page has no entry");

@@ -49,8 +49,8 @@ pub fn fork(
     requires sequence { (space_of parent.old).sequence < 2 ^ 40 }
     requires few { (f : ℕ) → (frames_of frames.old).count f < 2 ^ 40 }
     requires place { IsReadyAt (place_of place) (space_of parent.old) (space_of child.old) }
-    ensures { IsForkTurn (fork_change_of frames.old frames.new parent.old parent.new child.old child.new) actor proc child_no
-        (place_of place) (place_of result.1) (whats_of result.0) }
+    ensures { IsForkTurn (fork_change_of frames.old frames.new parent.old parent.new child.old child.new)
+        actor proc child_no (place_of place) (place_of result.1) (whats_of result.0) }
 {
     match place {
         ForkPlace::Unbegun => first_turn(parent, child, actor, proc, child_no),
@@ -68,7 +68,8 @@ fn first_turn(
     child_no: ProcNo,
 ) -> (Said, ForkPlace)
     requires { (space_of parent.old).sequence < 2 ^ 40 }
-    ensures { (frames : FrameLists) → IsForkTurn (fork_change_of frames frames parent.old parent.new child.old child.new)
+    ensures { (frames : FrameLists)
+        → IsForkTurn (fork_change_of frames frames parent.old parent.new child.old child.new)
         actor proc child_no unbegun (place_of result.1) (whats_of result.0) }
 {
     begin(parent, child);
@@ -94,27 +95,35 @@ fn next_turn(
     requires child { IsTidy (frames_of frames.now) (space_of child.now) }
     requires unpinned { (space_of parent.old).has_pinned ≡ false }
     requires sequence { (space_of parent.old).sequence < 2 ^ 40 }
-    ensures { IsForkTurn (fork_change_of frames.now frames.now parent.old parent.new child.now child.now) actor proc child_no
-        (from_page from) (place_of result.1) (whats_of result.0) }
+    ensures { IsForkTurn (fork_change_of frames.now frames.now parent.old parent.new child.now child.now)
+        actor proc child_no (from_page from) (place_of result.1) (whats_of result.0) }
 {
     let Some(page) = next_page(child, from) else {
         return last_turn(parent, proc, child_no);
     };
     if parent.entry(page).is_none() {
-        return (page_done(proc, child_no, page), ForkPlace::From(page.get() + 1));
+        return (
+            page_done(proc, child_no, page),
+            ForkPlace::From(page.get() + 1),
+        );
     }
     count_turn(parent, frames, actor, page)
 }
 
 // The page's count is read, and the table lock taken. No process has pinned, so the page is to be shared.
-fn count_turn(parent: &mut Space, frames: &Frames, actor: ActorNo, page: PageNo) -> (Said, ForkPlace)
+fn count_turn(
+    parent: &mut Space,
+    frames: &Frames,
+    actor: ActorNo,
+    page: PageNo,
+) -> (Said, ForkPlace)
     requires parent { IsTidy (frames_of frames.now) (space_of parent.old) }
     requires unpinned { (space_of parent.old).has_pinned ≡ false }
     requires entry { IsSome ((space_of parent.old).entry page) }
     ensures { (p c from : ℕ) (child : SpaceParts)
         → lowest from (page_numbers - from) (λ g. is_some ((space_of child).right g)) ≡ Some page
         → IsForkTurn (fork_change_of frames.now frames.now parent.old parent.new child child) actor p c
-            (from_page from) (place_of result.1) (whats_of result.0) }
+        (from_page from) (place_of result.1) (whats_of result.0) }
 {
     let copied = copies(parent, frames, page);
     prove!(!copied);
@@ -139,7 +148,7 @@ fn last_turn(parent: &mut Space, proc: ProcNo, child_no: ProcNo) -> (Said, ForkP
     ensures { (a from : ℕ) (frames : FrameLists) (child : SpaceParts)
         → lowest from (page_numbers - from) (λ page. is_some ((space_of child).right page)) ≡ None
         → IsForkTurn (fork_change_of frames frames parent.old parent.new child child) a proc child_no
-            (from_page from) (place_of result.1) (whats_of result.0) }
+        (from_page from) (place_of result.1) (whats_of result.0) }
 {
     end(parent);
     parent.set_structure(None);
@@ -163,13 +172,16 @@ fn share_turn(
     requires child { IsTidy (frames_of frames.old) (space_of child.old) }
     requires few { (f : ℕ) → (frames_of frames.old).count f < 2 ^ 40 }
     requires ready { IsReadyAt (at_page page) (space_of parent.old) (space_of child.old) }
-    ensures { (a : ℕ) → IsForkTurn (fork_change_of frames.old frames.new parent.old parent.new child.old child.new) a proc child_no
-        (at_page page) (place_of result.1) (whats_of result.0) }
+    ensures { (a : ℕ) → IsForkTurn (fork_change_of frames.old frames.new parent.old parent.new child.old child.new)
+        a proc child_no (at_page page) (place_of result.1) (whats_of result.0) }
 {
     child.has_room(page);
     share(parent, child, frames, page);
     parent.set_table(None);
-    (page_done(proc, child_no, page), ForkPlace::From(page.get() + 1))
+    (
+        page_done(proc, child_no, page),
+        ForkPlace::From(page.get() + 1),
+    )
 }
 
 // The page is done: the child has what the parent has there.

@@ -1,4 +1,4 @@
-use Rattle.std.proofs.Common.{◌+◌, None, ap}
+use Rattle.std.proofs.Common.{◌+◌, ap}
 use Rattle.gup_frames.specs.Frames.{frames_of}
 use Rattle.gup_space.specs.Space.{space_of}
 use Rattle.gup_fork.specs.Forks.{fork_change_of, shares}
