@@ -70,6 +70,14 @@ impl Maps {
         Ok(Maps { rights })
     }
 
+    /// Makes these the mappings of another process (of Linux's `dup_mmap`, which copies the areas of a parent to its
+    /// child). What was mapped before goes, and no memory is taken.
+    pub fn copy_from(&mut self, from: &Maps)
+        ensures { maps_of self.new ≡ maps_of from.now }
+    {
+        self.rights.copy_from(&from.rights);
+    }
+
     /// How many pages are mapped, at most 1,024.
     pub fn len(&self) -> u16
         ensures len { result ≡ (maps_of self.now).pages }

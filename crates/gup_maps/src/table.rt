@@ -116,6 +116,14 @@ impl<V: Copy> Table<V> {
         Ok(Table { rows })
     }
 
+    /// Gives exactly the pages of this other table its values. Those that were there go, and no memory is taken.
+    pub fn copy_from(&mut self, from: &Table<V>)
+        ensures { self.new ≡ from.now }
+    {
+        self.rows.clear();
+        self.rows.extend_from_slice(from.rows.as_slice()).unwrap();
+    }
+
     /// How many pages have a value.
     pub fn len(&self) -> u16
         ensures len { result ≡ length self.now }

@@ -102,3 +102,51 @@ fn values_are_kept_by_page(rt: HostRuntime) -> Result<(), Fail> {
     assert_eq!(rt; table.len(), 0);
     Ok(())
 }
+
+// Maps one page, and answers whether that worked.
+fn map_one(maps: &mut Maps, number: u64, rights: Rights) -> bool {
+    let Some(page) = PageNo::new(number) else {
+        return false;
+    };
+    maps.map(page, 1, rights).is_ok()
+}
+
+// The rights of both pages, and how many are mapped.
+fn rights_of(
+    maps: &Maps,
+    first: u64,
+    second: u64,
+) -> Option<(Option<Rights>, Option<Rights>, u16)> {
+    let first = maps.rights_at(PageNo::new(first)?);
+    let second = maps.rights_at(PageNo::new(second)?);
+    Some((first, second, maps.len()))
+}
+
+#[test]
+fn mappings_are_copied(rt: HostRuntime) -> Result<(), Fail> {
+    let mut from = Maps::new(rt.alloc()).or(Err("memory"))?;
+    let mut maps = Maps::new(rt.alloc()).or(Err("memory"))?;
+    assert!(rt; map_one(&mut from, 5, Rights::RW));
+    assert!(rt; map_one(&mut maps, 4, Rights::R));
+    maps.copy_from(&from);
+    assert_eq!(rt; rights_of(&maps, 4, 5), Some((None, Some(Rights::RW), 1)));
+    assert!(rt; map_one(&mut maps, 4, Rights::R));
+    assert_eq!(rt; rights_of(&from, 4, 5), Some((None, Some(Rights::RW), 1)));
+    Ok(())
+}
+
+#[test]
+fn values_are_copied(rt: HostRuntime) -> Result<(), Fail> {
+    let mut from = Table::new(rt.alloc()).or(Err("memory"))?;
+    let mut table = Table::new(rt.alloc()).or(Err("memory"))?;
+    let page = PageNo::new(3).ok_or("a page")?;
+    let other = PageNo::new(34_359_738_367).ok_or("a page")?;
+    from.set(page, 7_u64);
+    table.set(other, 8);
+    table.copy_from(&from);
+    assert_eq!(rt;
+        (table.get(page), table.get(other), table.len()),
+        (Some(7), None, 1)
+    );
+    Ok(())
+}

@@ -128,6 +128,13 @@ impl Space {
         self.maps.map(page, n, rights)
     }
 
+    /// Gives the process the mappings of its parent, in place of its own (of Linux's `dup_mmap`). Its entries stay.
+    pub fn copy_maps(&mut self, parent: &Space)
+        ensures { space_of self.new ≡ record (space_of self.old) { right = (space_of parent.now).right; pages = (space_of parent.now).pages } }
+    {
+        self.maps.copy_from(&parent.maps);
+    }
+
     /// Unmaps the page, and answers whether it was mapped. Its entry stays, if it has one.
     pub fn unmap_page(&mut self, page: PageNo) -> bool
         ensures was { result ≡ is_some ((space_of self.old).right page) }

@@ -74,6 +74,20 @@ fn pages_are_protected_and_unmapped(rt: HostRuntime) -> Result<(), Fail> {
     Ok(())
 }
 
+#[test]
+fn mappings_are_a_parents(rt: HostRuntime) -> Result<(), Fail> {
+    let mut parent = Space::new(rt.alloc()).or(Err("memory"))?;
+    let mut child = Space::new(rt.alloc()).or(Err("memory"))?;
+    let page = PageNo::new(10).ok_or("a page")?;
+    assert_eq!(rt; map(&rt, &mut parent, 10, 2), Some((Ok(()), 2)));
+    assert_eq!(rt; map(&rt, &mut child, 3, 5), Some((Ok(()), 5)));
+    child.copy_maps(&parent);
+    assert_eq!(rt; unmap(&mut child, page), (true, 1));
+    assert_eq!(rt; mapping(&child, page), (None, Some(11)));
+    assert_eq!(rt; mapping(&parent, page), (Some(Rights::R), Some(10)));
+    Ok(())
+}
+
 // Gives the page an entry that is writable or not, or none, and answers whether the one that it has then is, and how
 // many pages have one.
 fn set(

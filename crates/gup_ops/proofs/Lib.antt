@@ -1,0 +1,6 @@
+pub mod Searching
+pub mod Leading
+pub mod Loading
+pub mod Unmapping
+pub mod Mapping
+pub mod Forking

@@ -1,0 +1,5 @@
+pub mod Said
+pub mod Tidy
+pub mod Far
+pub mod Lowered
+pub mod Forked

@@ -1,0 +1,28 @@
+-- What is true of frames and a process between two turns, and which turns need the table lock.
+use Rattle.std.specs.Prelude.{◌≡◌, ℕ, ◌<◌, Bool, true, not, Some, IsSome, is_none}
+use Rattle.gup_base.specs.declared.entry.Entry.{Entry}
+use Rattle.gup_base.specs.declared.entry.Rights.{Rights}
+use Rattle.gup_plain.specs.Event.{page_numbers}
+use Rattle.gup_script.specs.declared.op.Op.{Op}
+use Rattle.gup_script.specs.declared.op.Op.TheVariants.{Map, Unmap, Protect, Discard, Load, Store, Fork, Exit}
+use Rattle.gup_frames.specs.Frames.{FramesValue, IsFrame}
+use Rattle.gup_space.specs.Space.{SpaceValue}
+use Rattle.gup_turns.specs.Turn.{allows_store}
+
+-- Each entry is of a mapped page, and its frame is there and has a reference.
+pub record IsTidy (frames : FramesValue) (space : SpaceValue) : Type 0 where
+  pub numbered : (page : ℕ) (rights : Rights) → space.right page ≡ Some rights → page < page_numbers
+  pub mapped : (page : ℕ) (e : Entry) → space.entry page ≡ Some e → IsSome (space.right page)
+  pub there : (page : ℕ) (e : Entry) → space.entry page ≡ Some e → IsFrame frames e.frame
+  pub counted : (page : ℕ) (e : Entry) → space.entry page ≡ Some e → frames.count e.frame ≡ 0 → ⊥
+
+-- A load or a store needs the table lock where its entry doesn't allow it, and every other operation needs it.
+abbrev pub needs_table : SpaceValue → Op → Bool
+needs_table space (Map page n rights) = true
+needs_table space (Unmap page n) = true
+needs_table space (Protect page n rights) = true
+needs_table space (Discard page n) = true
+needs_table space (Load page word) = is_none (space.entry page)
+needs_table space (Store page word value) = not (allows_store (space.entry page))
+needs_table space (Fork child) = true
+needs_table space Exit = true
