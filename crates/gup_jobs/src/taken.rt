@@ -50,19 +50,22 @@ impl Taken {
         }
     }
 
-    fn page(&self) -> PageNo
+    /// The page.
+    pub fn page(&self) -> PageNo
         ensures { result ≡ self.now.page }
     {
         self.page
     }
 
-    fn frame(&self) -> FrameNo
+    /// Its frame.
+    pub fn frame(&self) -> FrameNo
         ensures { result ≡ self.now.frame }
     {
         self.frame
     }
 
-    fn object(&self) -> u64
+    /// The object that it names.
+    pub fn object(&self) -> u64
         ensures { result ≡ self.now.object }
     {
         self.object

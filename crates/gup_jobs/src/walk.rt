@@ -1,7 +1,7 @@
 //! Where a lockless walk is, and where it goes on.
 ghost use Rattle.std.specs.Prelude.{◌≡◌, ◌==◌, ◌||◌, ◌↔◌, if◌then◌else◌, IsTrue};
 ghost use Rattle.gup_events.specs.Event.{MayRest, is_odd, step_left};
-ghost use Rattle.gup_events.specs.State.{ready, refused, over};
+ghost use Rattle.gup_events.specs.State.{ready, read, grabbed, rechecked, refused, over};
 ghost use Rattle.gup_jobs.specs.Job.{walk_of};
 
 use crate::taken::Taken;
@@ -30,6 +30,27 @@ pub enum WalkStep {
     Dropping,
     /// It is to leave.
     Over,
+}
+
+/// Where a walk is that has read the page's entry, and goes on with it.
+pub fn after_reading(page: PageNo, entry: &Entry) -> WalkStep
+    ensures { walk_of result ≡ read page entry.now }
+{
+    WalkStep::Read(page, *entry)
+}
+
+/// Where a walk is that has grabbed the entry's frame.
+pub fn after_grab(page: PageNo, entry: &Entry) -> WalkStep
+    ensures { walk_of result ≡ grabbed page entry.now }
+{
+    WalkStep::Grabbed(page, *entry)
+}
+
+/// Where a walk is that has found the entry once more.
+pub fn after_recheck(page: PageNo, entry: &Entry) -> WalkStep
+    ensures { walk_of result ≡ rechecked page entry.now }
+{
+    WalkStep::Rechecked(page, *entry)
 }
 
 /// Where a walk is that has read this sequence.
