@@ -46,15 +46,7 @@ pub fn read_sequence(
 ) -> Result<(), Refused>
     ensures { Tried (state_of trial.old) (state_of trial.new) (core.read_sequence a p write long sequence) result }
 {
-    need(is_walking(
-        trial,
-        a,
-        p,
-        write,
-        long,
-        0,
-        &WalkStep::Entered,
-    ))?;
+    need(is_walking(trial, a, p, write, long, 0, &WalkStep::Entered))?;
     need(sequence == *trial.sequence.get(p))?;
     let step = after_sequence(sequence);
     trial
@@ -98,25 +90,9 @@ pub fn drop_grab(
 ) -> Result<(), Refused>
     ensures { Tried (state_of trial.old) (state_of trial.new) (core.drop_grab a p write long sequence f) result }
 {
-    need(is_walking(
-        trial,
-        a,
-        p,
-        write,
-        long,
-        sequence,
-        &WalkStep::Differed(f),
-    ))?;
-    give_back(
-        &mut trial.count,
-        &mut trial.mark,
-        &mut trial.own,
-        f,
-        1024,
-    );
-    trial
-        .job
-        .put(a, Job::walking(p, write, long, sequence, WalkStep::Stopped));
+    need(is_walking(trial, a, p, write, long, sequence, &WalkStep::Differed(f)))?;
+    give_back(&mut trial.count, &mut trial.mark, &mut trial.own, f, 1024);
+    trial.job.put(a, Job::walking(p, write, long, sequence, WalkStep::Stopped));
     Ok(())
 }
 
@@ -133,15 +109,7 @@ pub fn drop_last(
 ) -> Result<(), Refused>
     ensures { Tried (state_of trial.old) (state_of trial.new) (core.drop_last a p write long sequence left.now last) result }
 {
-    need(is_walking(
-        trial,
-        a,
-        p,
-        write,
-        long,
-        sequence,
-        &WalkStep::Refused,
-    ))?;
+    need(is_walking(trial, a, p, write, long, sequence, &WalkStep::Refused))?;
     need(ends_with(trial.taken.get(a).as_slice(), left, &last))?;
     let pages = same(trial.alloc, left)?;
     give_back(
@@ -152,9 +120,7 @@ pub fn drop_last(
         1024,
     );
     trial.taken.put(a, TakenList::new(pages));
-    trial
-        .job
-        .put(a, Job::walking(p, write, long, sequence, WalkStep::Stopped));
+    trial.job.put(a, Job::walking(p, write, long, sequence, WalkStep::Stopped));
     Ok(())
 }
 
@@ -171,15 +137,7 @@ pub fn drop_first(
 ) -> Result<(), Refused>
     ensures { Tried (state_of trial.old) (state_of trial.new) (core.drop_first a p write long sequence first left.now) result }
 {
-    need(is_walking(
-        trial,
-        a,
-        p,
-        write,
-        long,
-        sequence,
-        &WalkStep::Dropping,
-    ))?;
+    need(is_walking(trial, a, p, write, long, sequence, &WalkStep::Dropping))?;
     need(begins_with(trial.taken.get(a).as_slice(), &first, left))?;
     let pages = same(trial.alloc, left)?;
     give_back(
@@ -208,15 +166,7 @@ pub fn leave_walk(
 ) -> Result<(), Refused>
     ensures { Tried (state_of trial.old) (state_of trial.new) (core.leave_walk a p write long sequence) result }
 {
-    need(is_walking(
-        trial,
-        a,
-        p,
-        write,
-        long,
-        sequence,
-        &WalkStep::Over,
-    ))?;
+    need(is_walking(trial, a, p, write, long, sequence, &WalkStep::Over))?;
     let walks = trial.walks.get(p).saturating_sub(1);
     trial.walks.put(p, walks);
     trial.job.put(a, Job::idle());

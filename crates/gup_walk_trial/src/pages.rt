@@ -25,15 +25,7 @@ pub fn read_entry(
 ) -> Result<(), Refused>
     ensures { Tried (state_of trial.old) (state_of trial.new) (core.read_entry a p write long sequence page was) result }
 {
-    need(is_walking(
-        trial,
-        a,
-        p,
-        write,
-        long,
-        sequence,
-        &WalkStep::Ready,
-    ))?;
+    need(is_walking(trial, a, p, write, long, sequence, &WalkStep::Ready))?;
     need(is_same(trial.entry.get(p, page), &was))?;
     need(is_untaken(trial.taken.get(a).as_slice(), page))?;
     let step = after_entry(trial, write, long, page, &was);
@@ -97,9 +89,7 @@ pub fn miss_frame(
         sequence,
         &after_reading(page, &entry),
     ))?;
-    trial
-        .job
-        .put(a, Job::walking(p, write, long, sequence, WalkStep::Stopped));
+    trial.job.put(a, Job::walking(p, write, long, sequence, WalkStep::Stopped));
     Ok(())
 }
 
