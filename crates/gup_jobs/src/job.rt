@@ -1,10 +1,11 @@
 //! What an actor is in the middle of.
 ghost use Rattle.std.specs.Prelude.{◌≡◌, ◌↔◌, IsTrue};
-ghost use Rattle.gup_events.specs.State.{idle, marking, moving, forking};
+ghost use Rattle.gup_events.specs.State.{idle, marking, moving, forking, walking};
 ghost use Rattle.gup_events.specs.Event.{MayPrepare, MayFail};
-ghost use Rattle.gup_jobs.specs.Job.{job_of, step_of, count_of};
+ghost use Rattle.gup_jobs.specs.Job.{job_of, step_of, count_of, walk_of};
 
 use crate::lists;
+use crate::walk::WalkStep;
 use gup_base::{Entry, FrameNo, PageNo, ProcNo};
 use std::marker::Model;
 
@@ -36,8 +37,7 @@ pub enum ForkStep {
     Failing,
 }
 
-/// The kinds of what an actor may be in the middle of. A lockless walk is none of them yet: it would be one more
-/// variant, with the walk's process, flags, sequence number and step.
+/// The kinds of what an actor may be in the middle of.
 #[derive(Debug, Drop)]
 pub enum Stage {
     /// Nothing.
@@ -48,6 +48,19 @@ pub enum Stage {
     Moving(ProcNo, PageNo, Entry, Counted),
     /// It forks the first process into the second. These pages are done, the last one first.
     Forking(ProcNo, ProcNo, Vec<PageNo>, ForkStep),
+    /// It pins pages of the process by a lockless walk.
+    Walking {
+        /// Whose pages.
+        proc: ProcNo,
+        /// Whether they are pinned to be written.
+        write: bool,
+        /// Whether they are pinned for long.
+        long: bool,
+        /// The sequence that the walk has read.
+        sequence: u64,
+        /// Where the walk is.
+        step: WalkStep,
+    },
 }
 
 /// What an actor is in the middle of.
@@ -98,6 +111,21 @@ impl Job {
     {
         Job {
             stage: Stage::Forking(p, c, done, step),
+        }
+    }
+
+    /// Walking over pages of `p`, and there.
+    pub fn walking(p: ProcNo, write: bool, long: bool, sequence: u64, step: WalkStep) -> Job
+        ensures { result ≡ walking p write long sequence (walk_of step) }
+    {
+        Job {
+            stage: Stage::Walking {
+                proc: p,
+                write,
+                long,
+                sequence,
+                step,
+            },
         }
     }
 
@@ -156,6 +184,43 @@ impl Job {
                     return false;
                 }
                 *at == step
+            }
+            _ => false,
+        }
+    }
+
+    /// Whether it walks over pages of `p`, for pins of this kind, has read this sequence, and is there.
+    pub fn is_walking(
+        &self,
+        p: ProcNo,
+        write: bool,
+        long: bool,
+        sequence: u64,
+        step: &WalkStep,
+    ) -> bool
+        ensures { IsTrue result ↔ (self.now ≡ walking p write long sequence (walk_of step.now)) }
+    {
+        match &self.stage {
+            Stage::Walking {
+                proc,
+                write: writes,
+                long: stays,
+                sequence: read,
+                step: at,
+            } => {
+                if *proc != p {
+                    return false;
+                }
+                if *writes != write {
+                    return false;
+                }
+                if *stays != long {
+                    return false;
+                }
+                if *read != sequence {
+                    return false;
+                }
+                *at == *step
             }
             _ => false,
         }

@@ -6,3 +6,4 @@ pub mod lists;
 pub mod needs;
 pub mod refused;
 pub mod taken;
+pub mod walk;

@@ -8,7 +8,7 @@ use std::alloc::Global;
 use std::marker::Model;
 
 /// A page that a running pin has taken, and its process.
-#[derive(Clone, Copy, Debug)]
+#[derive(Clone, Copy, Debug, PartialEq, Eq)]
 pub struct Taken {
     proc: ProcNo,
     page: PageNo,
@@ -50,19 +50,22 @@ impl Taken {
         }
     }
 
-    fn page(&self) -> PageNo
+    /// The page.
+    pub fn page(&self) -> PageNo
         ensures { result ≡ self.now.page }
     {
         self.page
     }
 
-    fn frame(&self) -> FrameNo
+    /// Its frame.
+    pub fn frame(&self) -> FrameNo
         ensures { result ≡ self.now.frame }
     {
         self.frame
     }
 
-    fn object(&self) -> u64
+    /// The object that it names.
+    pub fn object(&self) -> u64
         ensures { result ≡ self.now.object }
     {
         self.object
@@ -101,7 +104,8 @@ pub fn are_alike(taken: &[Taken], write: bool, long: bool) -> bool
     taken.iter().all(|t| t.is_for(write, long))
 }
 
-fn same(alloc: Global, taken: &[Taken]) -> Result<Vec<Taken>, NoMemory>
+/// The pages once more.
+pub fn same(alloc: Global, taken: &[Taken]) -> Result<Vec<Taken>, NoMemory>
     ensures { IfOk result (λ same. same.items ≡ taken.now) }
 {
     Ok(taken.iter().copied().collect(alloc)?)
@@ -198,5 +202,42 @@ pub fn has_none(taken: &[Taken]) -> bool
     match taken {
         [] => true,
         [_, ..] => false,
+    }
+}
+
+/// Whether these are the same pages in the same order.
+pub fn are_same(taken: &[Taken], others: &[Taken]) -> bool
+    ensures { IsTrue result ↔ (taken.now ≡ others.now) }
+{
+    taken == others
+}
+
+/// Whether the pages taken are those to the left, and then the last.
+pub fn ends_with(taken: &[Taken], left: &[Taken], last: &Taken) -> bool
+    ensures { IsTrue result ↔ (taken.now ≡ left.now ++ last.now ∷ []) }
+{
+    match taken.split_last() {
+        None => false,
+        Some((page, others)) => {
+            if !are_same(others, left) {
+                return false;
+            }
+            *page == *last
+        }
+    }
+}
+
+/// Whether the pages taken are the first, and then those that are left.
+pub fn begins_with(taken: &[Taken], first: &Taken, left: &[Taken]) -> bool
+    ensures { IsTrue result ↔ (taken.now ≡ first.now ∷ left.now) }
+{
+    match taken.split_first() {
+        None => false,
+        Some((page, others)) => {
+            if !are_same(others, left) {
+                return false;
+            }
+            *page == *first
+        }
     }
 }

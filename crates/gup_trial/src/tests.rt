@@ -254,6 +254,7 @@ impl Run {
                 let done = same_pages(self.alloc, done.as_slice())?;
                 Ok(Plan::Fork(*p, *c, done, *step))
             }
+            Stage::Walking { .. } => Ok(Plan::Nothing),
         }
     }
 

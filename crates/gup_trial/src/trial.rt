@@ -141,7 +141,7 @@ impl Trial {
     }
 
     /// Whether the actor is in the middle of nothing, and keeps no frame.
-    pub(crate) fn is_idle(&self, a: ActorNo) -> bool
+    pub fn is_idle(&self, a: ActorNo) -> bool
         ensures { IsTrue result ↔ IsIdle (state_of self.now) a }
     {
         self.job.get(a).is_idle() && self.prepared.get(a).is_none()
