@@ -1,5 +1,5 @@
 //! One handle.
-ghost use Rattle.std.specs.Prelude.{◌≡◌, ℕ, ◌<◌, ◌↔◌, IsTrue, IsSome, IfSome, OnSome, IfNone, if◌then◌else◌};
+ghost use Rattle.std.specs.Prelude.{◌≡◌, ℕ, ◌<◌, ◌↔◌, IsTrue, IsSome, IfSome, OnSome, IfNone, MatchOption, if◌then◌else◌};
 ghost use Rattle.arrayvec.specs.ArrayVec.{array_vec_len};
 ghost use Rattle.gup_handles.specs.Handles.{unmade, held, got, IsPinOf, IsHeldBy, IsGivenTo, given_to, taken_by, without_last, HasLast};
 
@@ -68,21 +68,42 @@ impl Handle {
         self.stage = Stage::Got(actor, frame);
     }
 
+    // Whether the actor holds a pin by it.
+    fn is_pin_of(&self, actor: ActorNo) -> bool
+        ensures { IsTrue result ↔ IsPinOf self.now actor }
+    {
+        match self.stage {
+            Stage::Held(by) => by == actor,
+            Stage::Unmade | Stage::Given(_) | Stage::Got(_, _) | Stage::Gone => false,
+        }
+    }
+
+    // The frame of which the actor holds a reference by it.
+    fn reference_of(&self, actor: ActorNo) -> Option<FrameNo>
+        ensures { MatchOption result (IsHeldBy self.now actor → IsPinOf self.now actor) (λ frame. self.now ≡ got actor frame) }
+    {
+        match self.stage {
+            Stage::Got(by, frame) => {
+                if by == actor {
+                    Some(frame)
+                } else {
+                    None
+                }
+            }
+            Stage::Unmade | Stage::Held(_) | Stage::Given(_) | Stage::Gone => None,
+        }
+    }
+
     /// Gives the pin to an actor, if this one holds it, and says whether it does.
     pub(crate) fn give(&mut self, actor: ActorNo, to: ActorNo) -> bool
         ensures held { IsTrue result ↔ IsPinOf self.old actor }
         ensures given { self.new ≡ (if result then given_to to self.old else self.old) }
     {
-        match self.stage {
-            Stage::Held(by) => {
-                let holds = by == actor;
-                if holds {
-                    self.stage = Stage::Given(to);
-                }
-                holds
-            }
-            Stage::Unmade | Stage::Given(_) | Stage::Got(_, _) | Stage::Gone => false,
+        let holds = self.is_pin_of(actor);
+        if holds {
+            self.stage = Stage::Given(to);
         }
+        holds
     }
 
     /// Whether the pin is given to the actor.
@@ -114,26 +135,18 @@ impl Handle {
         ensures dropped { OnSome result (self.new ≡ without_last self.old) }
         ensures still { IfNone result (self.new ≡ self.old) }
     {
-        match self.stage {
-            Stage::Held(by) => {
-                if by != actor {
-                    return None;
-                }
-                let last = self.frames.pop().unwrap();
-                if self.frames.is_empty() {
-                    self.stage = Stage::Gone;
-                }
-                Some(last)
-            }
-            Stage::Got(by, frame) => {
-                if by != actor {
-                    return None;
-                }
+        if self.is_pin_of(actor) {
+            let last = self.frames.pop().unwrap();
+            if self.frames.is_empty() {
                 self.stage = Stage::Gone;
-                Some(frame)
             }
-            Stage::Unmade | Stage::Given(_) | Stage::Gone => None,
+            return Some(last);
         }
+        let Some(frame) = self.reference_of(actor) else {
+            return None;
+        };
+        self.stage = Stage::Gone;
+        Some(frame)
     }
 
     /// The frames of the pages and whether they may be written, if the actor holds the pin.
@@ -141,15 +154,10 @@ impl Handle {
         ensures held { IsSome result ↔ IsPinOf self.now actor }
         ensures pages { IfSome result (λ pages. self.now ≡ held actor pages.0.now pages.1) }
     {
-        match self.stage {
-            Stage::Held(by) => {
-                if by == actor {
-                    Some((self.frames.as_slice(), self.write))
-                } else {
-                    None
-                }
-            }
-            Stage::Unmade | Stage::Given(_) | Stage::Got(_, _) | Stage::Gone => None,
+        if self.is_pin_of(actor) {
+            Some((self.frames.as_slice(), self.write))
+        } else {
+            None
         }
     }
 }

@@ -97,7 +97,10 @@ impl Handles {
         ensures err { OnErr result (self.new ≡ self.old) }
     {
         let handle = &mut self.handles[h.get() as usize];
-        if handle.give(actor, to) { Ok(()) } else { Err(NotHeld) }
+        if !handle.give(actor, to) {
+            return Err(NotHeld);
+        }
+        Ok(())
     }
 
     /// Whether the handle is given to the actor.

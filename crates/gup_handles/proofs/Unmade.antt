@@ -1,0 +1,15 @@
+-- Lists of unmade handles.
+use Rattle.std.proofs.Common.{◌≡◌, ℕ, zero, suc, List, [], ◌∷◌, ◌++◌, get_or, refl, ap}
+use Rattle.std.proofs.Math.Path.{fun_ext}
+use Rattle.gup_handles.specs.Handles.{HandleValue, unmade, handles_of}
+
+one_more : (handles : List HandleValue) (h : ℕ) → get_or handles h unmade ≡ unmade → get_or (handles ++ unmade ∷ []) h unmade ≡ unmade
+one_more [] zero is = refl
+one_more [] (suc h) is = refl
+one_more (x ∷ handles) zero is = is
+one_more (x ∷ handles) (suc h) is = one_more handles h is
+
+-- one more unmade handle at the end
+pub still_unmade : (handles : List HandleValue) (x : HandleValue) → x ≡ unmade → handles_of handles ≡ (λ _. unmade) → handles_of (handles ++ x ∷ []) ≡ (λ _. unmade)
+still_unmade handles x is so_far =
+    rw is (fun_ext (λ h. one_more handles h (ap (λ f. f h) so_far)))
