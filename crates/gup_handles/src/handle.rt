@@ -83,13 +83,7 @@ impl Handle {
         ensures { MatchOption result (IsHeldBy self.now actor → IsPinOf self.now actor) (λ frame. self.now ≡ got actor frame) }
     {
         match self.stage {
-            Stage::Got(by, frame) => {
-                if by == actor {
-                    Some(frame)
-                } else {
-                    None
-                }
-            }
+            Stage::Got(by, frame) => { if by == actor { Some(frame) } else { None } }
             Stage::Unmade | Stage::Held(_) | Stage::Given(_) | Stage::Gone => None,
         }
     }
