@@ -45,8 +45,9 @@ impl PageNo {
     }
 }
 
-/// The number of a frame, below 16,384: it takes 14 bits of a packed entry.
-#[derive(Clone, Copy, Debug, PartialEq, Eq, PartialOrd, Ord)]
+/// The number of a frame, below 16,384: it takes 14 bits of a packed entry. The default is 0, which stands in the unused
+/// places of short lists.
+#[derive(Clone, Copy, Debug, Default, PartialEq, Eq, PartialOrd, Ord)]
 pub struct FrameNo {
     number: u16,
 }

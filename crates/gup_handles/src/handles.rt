@@ -1,0 +1,156 @@
+//! All handles.
+ghost use Rattle.std.specs.Prelude.{◌≡◌, ℕ, Bool, ◌<◌, ◌↔◌, IsTrue, IsOk, IfOk, OnOk, OnErr, if◌then◌else◌};
+ghost use Rattle.std.specs.Bool.{OnTrue};
+ghost use Rattle.arrayvec.specs.ArrayVec.{array_vec_len};
+ghost use Rattle.gup_plain.specs.Put.{put};
+ghost use Rattle.gup_events.specs.State.{CoreState};
+ghost use Rattle.gup_events.specs.Event.{happens, make_handle, give_handle, take_handle, get_reference, frames_of, writes_taken};
+ghost use Rattle.gup_handles.specs.Handles.{handles_of, unmade, held, got, IsPinOf, IsHeldBy, IsGivenTo, given_to, taken_by, without_last, HasLast};
+ghost use Rattle.gup_handles.specs.Shows.{ShowsHandles, IsEvent, drops};
+
+use crate::handle::Handle;
+use arrayvec::ArrayVec;
+use gup_base::{ActorNo, FrameNo, HandleNo, NoMemory};
+use std::alloc::Global;
+use std::error::Error;
+use std::fmt;
+use std::marker::Model;
+
+// How many handles a number can name.
+const HANDLES: u16 = 1024;
+
+/// The actor doesn't hold the handle (this project's own: Linux's pins have no names and no holders, and whoever gives
+/// back what isn't pinned makes the counts wrong).
+#[derive(Clone, Copy, Debug, PartialEq, Eq)]
+pub struct NotHeld;
+
+impl fmt::Display for NotHeld {
+    fn fmt<W: fmt::Write>(&self, f: &mut fmt::Formatter<W>) -> fmt::Result {
+        f.write_str("the handle isn't held")
+    }
+}
+
+impl Error for NotHeld {}
+
+/// The handles, each the name of a pin (`pin_user_pages`) or of one got reference (`get_user_pages`). Each is made at
+/// most once, and none is made again once it is gone. They are this project's own: in Linux a caller keeps the pages
+/// that it pinned in an array.
+#[derive(Drop)]
+pub struct Handles {
+    handles: Vec<Handle>,
+}
+
+impl Model for Handles {
+    ghost use Rattle.std.specs.Prelude.{◌≡◌, List, vec_len};
+    ghost use Rattle.gup_handles.specs.Handles.{HandleValue};
+
+    ghost Value = { List HandleValue };
+
+    ghost view = { λ a. a.handles.items };
+
+    ghost invariant = { λ a. vec_len a.handles ≡ 1024 };
+}
+
+impl Handles {
+    /// The 1,024 handles, all unmade, and the memory for all that they will be: no other call takes any. Each call takes
+    /// a time that doesn't grow with anything.
+    pub fn new(alloc: Global) -> Result<Handles, NoMemory>
+        ensures { IfOk result (λ handles. handles_of handles ≡ (λ _. unmade)) }
+    {
+        let mut handles = Vec::new(alloc);
+        for _h in 0..HANDLES {
+            handles.push(Handle::unmade())?;
+        }
+        Ok(Handles { handles })
+    }
+
+    /// The actor holds a pin of these frames by the handle, at least one, in the order of its pages.
+    pub fn hold(&mut self, h: HandleNo, actor: ActorNo, frames: &ArrayVec<FrameNo, 16>, write: bool)
+        requires unmade { handles_of self.old h ≡ unmade }
+        requires some { 0 < array_vec_len frames.now }
+        ensures held { handles_of self.new ≡ put h (held actor frames.now.items write) (handles_of self.old) }
+        ensures event { (s : CoreState) → frames_of (s.taken actor) ≡ frames.now.items → writes_taken (s.taken actor) ≡ write
+            → ShowsHandles (handles_of self.old) s → ShowsHandles (handles_of self.new) (happens s (make_handle actor h)) }
+    {
+        let handle = &mut self.handles[h.get() as usize];
+        handle.hold(actor, frames, write);
+    }
+
+    /// The actor holds a reference of the frame by the handle.
+    pub fn hold_got(&mut self, h: HandleNo, actor: ActorNo, frame: FrameNo)
+        requires { handles_of self.old h ≡ unmade }
+        ensures got { handles_of self.new ≡ put h (got actor frame) (handles_of self.old) }
+        ensures event { (p page : ℕ) (writable : Bool)
+            → IsEvent (handles_of self.old) (handles_of self.new) (get_reference actor p page frame h writable) }
+    {
+        let handle = &mut self.handles[h.get() as usize];
+        handle.hold_got(actor, frame);
+    }
+
+    /// Gives the actor's pin to another, or to itself. Nobody holds it until it is taken.
+    ///
+    /// `NotHeld` comes exactly where the actor doesn't hold a pin by the handle, and then nothing changes.
+    pub fn give(&mut self, h: HandleNo, actor: ActorNo, to: ActorNo) -> Result<(), NotHeld>
+        ensures held { IsOk result ↔ IsPinOf (handles_of self.old h) actor }
+        ensures given { OnOk result (handles_of self.new ≡ put h (given_to to (handles_of self.old h)) (handles_of self.old)) }
+        ensures event { OnOk result (IsEvent (handles_of self.old) (handles_of self.new) (give_handle actor h to)) }
+        ensures err { OnErr result (self.new ≡ self.old) }
+    {
+        let handle = &mut self.handles[h.get() as usize];
+        if !handle.give(actor, to) {
+            return Err(NotHeld);
+        }
+        Ok(())
+    }
+
+    /// Whether the handle is given to the actor.
+    pub fn given(&self, h: HandleNo, actor: ActorNo) -> bool
+        ensures { IsTrue result ↔ IsGivenTo (handles_of self.now h) actor }
+    {
+        self.handles[h.get() as usize].is_given_to(actor)
+    }
+
+    /// The actor takes the pin that is given to it, and holds it then. Answers whether it is given to it; else nothing
+    /// changes.
+    pub fn take(&mut self, h: HandleNo, actor: ActorNo) -> bool
+        ensures given { IsTrue result ↔ IsGivenTo (handles_of self.old h) actor }
+        ensures taken { handles_of self.new
+            ≡ (if result then put h (taken_by actor (handles_of self.old h)) (handles_of self.old) else handles_of self.old) }
+        ensures event { OnTrue result (IsEvent (handles_of self.old) (handles_of self.new) (take_handle actor h)) }
+    {
+        let handle = &mut self.handles[h.get() as usize];
+        handle.take(actor)
+    }
+
+    /// The actor's pin loses the last of the pages that it still has, whose frame is answered, and is gone with the last
+    /// of all. (Linux's `unpin_user_pages` goes from the first page up.) A got reference is gone at once.
+    ///
+    /// `NotHeld` comes exactly where the actor holds neither by the handle, and then nothing changes.
+    pub fn drop_last(&mut self, h: HandleNo, actor: ActorNo) -> Result<FrameNo, NotHeld>
+        ensures held { IsOk result ↔ IsHeldBy (handles_of self.old h) actor }
+        ensures last { IfOk result (HasLast (handles_of self.old h)) }
+        ensures dropped { OnOk result (handles_of self.new ≡ put h (without_last (handles_of self.old h)) (handles_of self.old)) }
+        ensures event { IfOk result
+            (λ frame. IsEvent (handles_of self.old) (handles_of self.new) (drops actor h frame (handles_of self.old h))) }
+        ensures err { OnErr result (self.new ≡ self.old) }
+    {
+        let handle = &mut self.handles[h.get() as usize];
+        match handle.drop_last(actor) {
+            Some(frame) => Ok(frame),
+            None => Err(NotHeld),
+        }
+    }
+
+    /// The frames of the pages that the actor's pin still has, in order, and whether the pin may write them.
+    ///
+    /// `NotHeld` comes exactly where the actor doesn't hold a pin by the handle.
+    pub fn pages(&self, h: HandleNo, actor: ActorNo) -> Result<(&[FrameNo], bool), NotHeld>
+        ensures held { IsOk result ↔ IsPinOf (handles_of self.now h) actor }
+        ensures pages { IfOk result (λ pages. handles_of self.now h ≡ held actor pages.0.now pages.1) }
+    {
+        match self.handles[h.get() as usize].pages(actor) {
+            Some(pages) => Ok(pages),
+            None => Err(NotHeld),
+        }
+    }
+}

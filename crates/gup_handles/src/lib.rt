@@ -1,0 +1,10 @@
+//! Pins and got references, each by the actor that holds it.
+#![tactic(auto)]
+
+mod handle;
+mod handles;
+
+pub use handles::{Handles, NotHeld};
+
+#[cfg(test)]
+mod tests;

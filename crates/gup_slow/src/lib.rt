@@ -1,0 +1,42 @@
+//! Slow pins: a page that a fault has made ready is pinned under the lock of the page tables (of Linux's
+//! `follow_page_pte`).
+#![tactic(auto)]
+
+ghost use Rattle.std.specs.Prelude.{◌≡◌, ℕ, true, Some};
+ghost use Rattle.gup_frames.specs.Frames.{frames_of, with_references};
+ghost use Rattle.gup_events.specs.Invariant.{frame_of};
+ghost use Rattle.gup_space.specs.Space.{space_of};
+ghost use Rattle.gup_space.specs.Shows.{change_of, AreEvents};
+ghost use Rattle.gup_slow.specs.Pins.{IsReady, pins};
+
+use gup_base::{FrameNo, PageNo, Want, Zone};
+use gup_frames::Frames;
+use gup_space::Space;
+
+// What a pin adds to the count of its frame (`GUP_PIN_COUNTING_BIAS`).
+const BIAS: u64 = 1024;
+
+/// Pins the page, which a fault has made ready, and answers its frame: the process has pinned from now on
+/// (`MMF_HAS_PINNED`), and the frame's count gets the weight of a pin (Linux's `try_grab_folio` in `follow_page_pte`,
+/// `mm/gup.c`). Linux sets the flag once for a whole call, before the first page; here each page sets it (this
+/// project's own), which nothing tells from that.
+pub fn pin_page(space: &mut Space, frames: &mut Frames, page: PageNo, want: Want) -> FrameNo
+    requires { IsReady (frames_of frames.old) (space_of space.old) page want }
+    ensures frame { frame_of ((space_of space.old).entry page) ≡ Some result }
+    ensures space { space_of space.new ≡ record (space_of space.old) { has_pinned = true } }
+    ensures frames { frames_of frames.new ≡ with_references result 1024 (frames_of frames.old) }
+    ensures events { AreEvents (change_of frames.old frames.new space.old space.new)
+        (λ a p. pins a p page ((space_of space.old).entry page) want) }
+{
+    let entry = space.entry(page).unwrap();
+    let frame = entry.frame;
+    prove!(frames.mark(frame));
+    prove!(entry.writable || !want.write);
+    prove!(frames.zone(frame) == Zone::Normal || !want.long);
+    space.set_pinned();
+    frames.grab(frame, BIAS);
+    frame
+}
+
+#[cfg(test)]
+mod tests;
