@@ -1,10 +1,7 @@
-pub mod Searching
-pub mod Leading
-pub mod Loading
-pub mod Unmapping
-pub mod Mapping
 pub mod Owning
 pub mod Scripts
+pub mod Parting
+pub mod Waiting
 pub mod Resting
 pub mod Taking
 pub mod Starting

@@ -1,126 +1,249 @@
--- The events of a turn are of frames and of the turn's own process, and bear no process.
-use Rattle.std.proofs.Common.{◌≡◌, ℕ, ◌+◌, Bool, true, false, cond, List, [], ◌∷◌, ◌++◌, Option, Some, None, zero, suc, refl, ◌∙◌}
+-- The events of a turn of one process are of frames and of that process. They bear no process, and leave forks where they
+-- are.
+use Rattle.std.proofs.Common.{◌≡◌, ℕ, ◌+◌, ◌==◌, Bool, true, false, cond, List, [], ◌∷◌, ◌++◌, Option, Some, None, Ok, Err, zero, suc, refl, sym, ap, ◌∙◌, eqb-true, if◌then◌else◌}
 use Rattle.gup_base.specs.declared.entry.Entry.{Entry}
 use Rattle.gup_base.specs.declared.entry.Rights.{Rights}
 use Rattle.gup_base.specs.declared.entry.Rights.TheVariants.{R, RW}
 use Rattle.gup_plain.specs.Denial.{any_mapped, any_unmapped, map_denial, protect_denial}
+use Rattle.gup_plain.specs.Put.{put}
 use Rattle.gup_plain.specs.declared.answer.Answer.{Answer}
 use Rattle.gup_script.specs.declared.op.Op.{Op}
-use Rattle.gup_script.specs.declared.op.Op.TheVariants.{Map, Unmap, Protect, Discard, Load, Store, Exit}
+use Rattle.gup_script.specs.declared.op.Op.TheVariants.{Map, Unmap, Protect, Discard, Load, Store, Fork, Exit}
 use Rattle.gup_space.specs.After.{IsOf, AreOf, taking, filling, counting, marking_it, upgrading, breaking, putting, dropping, discarding, mapping, lowering, protecting, loading, storing}
-use Rattle.gup_events.specs.State.{CoreState}
-use Rattle.gup_events.specs.Event.{CoreEvent, happens, take_frame, fill, upgrade, lower_entry, protect_pages}
+use Rattle.gup_fork.specs.ForkAfter.{AreOfFork, beginning, counting as counting_it, lowering as lowering_it, unmarking, giving, passing, ending}
+use Rattle.gup_events.specs.State.{CoreState, Job, idle, marking, moving, forking, walking, ForkStep, between, counted, lowered, cleared, copying, failing}
+use Rattle.gup_events.specs.Event.{CoreEvent, happens, take_frame, fill, count_one, set_mark, upgrade, break_entry, put_entry, drop_entry, discard_entry, map_pages, lower_entry, protect_pages, load, store}
+use Rattle.gup_events.specs.Fault.{Fault, events_of, fills, fills_writable, breaks, marks, read_fault, makes_writable, write_fault, gives_back}
 use Rattle.gup_events.specs.Invariant.{run}
-use Rattle.gup_turns.specs.Turn.{op_turn, load_turn, loads_by_fault, loads_by_fill, store_turn_by, stores_by_fault, stores_by_fill, stores_by_upgrade, stores_behind, allows_store, frame_in, free_frame, map_turn_by, unmap_turn_by, gives_back, lowers_entry, lowers, lowers_for, protect_turn_by, discard_turn_by, exit_turn_by, lowest_page}
+use Rattle.gup_turns.specs.Turn.{op_turn, load_fault, loads_after, store_fault_by, stores_after, allows_store, free_frame, map_turn_by, unmap_turn_by, lowers_entry, lowers, lowers_for, protect_turn_by, discard_turn_by, exit_turn_by, lowest_page, page_turn, next_page, next_turn, fork_step_turn, fork_turn}
+use Rattle.gup_turns.specs.Reached.{fork_place, unbegun, IsNoFork}
+
+-- an event of a turn of actor a over process p
+pub data IsOwn (a p : ℕ) : CoreEvent → Type 0 where
+  takes : (f : ℕ) → IsOwn a p (take_frame a f)
+  fills_it : (page f : ℕ) → IsOwn a p (fill a p page f)
+  counts : (page f : ℕ) (writable : Bool) → IsOwn a p (count_one a p page f writable)
+  marks_it : (page f : ℕ) → IsOwn a p (set_mark a p page f)
+  upgrades : (page f : ℕ) → IsOwn a p (upgrade a p page f)
+  breaks_it : (page old new : ℕ) (was writable : Bool) → IsOwn a p (break_entry a p page old new was writable)
+  puts : (f : ℕ) → IsOwn a p (put_entry a f)
+  drops : (page : ℕ) (was : Option Entry) → IsOwn a p (drop_entry a p page was)
+  discards_it : (page : ℕ) (was : Option Entry) → IsOwn a p (discard_entry a p page was)
+  maps : (page n : ℕ) (rights : Rights) → IsOwn a p (map_pages a p page n rights)
+  lowers_it : (page f : ℕ) → IsOwn a p (lower_entry a p page f)
+  protects : (page n : ℕ) (rights : Rights) → IsOwn a p (protect_pages a p page n rights)
+  loads_it : (page word f value : ℕ) → IsOwn a p (load a p page word f value)
+  stores_it : (page word f value : ℕ) → IsOwn a p (store a p page word f value)
+
+abbrev pub AreOwn : (a p : ℕ) → List CoreEvent → Type 0
+AreOwn a p [] = Unit {0}
+AreOwn a p (e ∷ es) = IsOwn a p e × AreOwn a p es
+
+is_of : (a p : ℕ) {e : CoreEvent} → IsOwn a p e → IsOf p e
+is_of a p (takes f) = taking a f
+is_of a p (fills_it page f) = filling a page f
+is_of a p (counts page f writable) = counting a page f writable
+is_of a p (marks_it page f) = marking_it a page f
+is_of a p (upgrades page f) = upgrading a page f
+is_of a p (breaks_it page old new was writable) = breaking a page old new was writable
+is_of a p (puts f) = putting a f
+is_of a p (drops page was) = dropping a page was
+is_of a p (discards_it page was) = discarding a page was
+is_of a p (maps page n rights) = mapping a page n rights
+is_of a p (lowers_it page f) = lowering a page f
+is_of a p (protects page n rights) = protecting a page n rights
+is_of a p (loads_it page word f value) = loading a page word f value
+is_of a p (stores_it page word f value) = storing a page word f value
+
+pub are_of : (a p : ℕ) (es : List CoreEvent) → AreOwn a p es → AreOf p es
+are_of a p [] own = tt
+are_of a p (e ∷ es) own = (is_of a p own.0, are_of a p es own.1)
+
+-- ---- the turns
+
+both : (a p : ℕ) (es fs : List CoreEvent) → AreOwn a p es → AreOwn a p fs → AreOwn a p (es ++ fs)
+both a p [] fs first second = second
+both a p (e ∷ es) fs first second = (first.0, both a p es fs first.1 second)
 
 -- an entry that went, and what is given back
-given_back : (a p : ℕ) (entry : Option Entry) → AreOf p (gives_back a entry)
+given_back : (a p : ℕ) (entry : Option Entry) → AreOwn a p (gives_back a entry)
 given_back a p None = tt
-given_back a p (Some e) = (putting a e.frame, tt)
+given_back a p (Some e) = (puts e.frame, tt)
 
-both : (p : ℕ) (es fs : List CoreEvent) → AreOf p es → AreOf p fs → AreOf p (es ++ fs)
-both p [] fs first second = second
-both p (e ∷ es) fs first second = (first.0, both p es fs first.1 second)
+fills_own : (a p page : ℕ) (free : Option ℕ) → AreOwn a p (events_of (fills a p page free))
+fills_own a p page None = tt
+fills_own a p page (Some f) = (takes f, (fills_it page f, tt))
 
-load_fills : (a p page word : ℕ) (free : Option ℕ) → AreOf p (loads_by_fill a p page word free).events
-load_fills a p page word None = tt
-load_fills a p page word (Some f) = (taking a f, (filling a page f, (loading a page word f 0, tt)))
+fills_writable_own : (a p page : ℕ) (free : Option ℕ) → AreOwn a p (events_of (fills_writable a p page free))
+fills_writable_own a p page None = tt
+fills_writable_own a p page (Some f) = (takes f, (fills_it page f, (upgrades page f, tt)))
 
-load_faults : (a p page word : ℕ) (rights : Option Rights) (free : Option ℕ) → AreOf p (loads_by_fault a p page word rights free).events
-load_faults a p page word None free = tt
-load_faults a p page word (Some rights) free = load_fills a p page word free
+breaks_own : (a p page : ℕ) (e : Entry) (writable : Bool) (free : Option ℕ) → AreOwn a p (events_of (breaks a p page e writable free))
+breaks_own a p page e writable None = tt
+breaks_own a p page e writable (Some f) = (takes f, (breaks_it page e.frame f e.writable writable, (puts e.frame, tt)))
 
-load_is : (s : CoreState) (a p page word : ℕ) (entry : Option Entry) → AreOf p (load_turn s a p page word entry).events
-load_is s a p page word None = load_faults a p page word (s.right p page) (free_frame s)
-load_is s a p page word (Some e) = (loading a page word e.frame (s.word e.frame word), tt)
-
-store_behind : (a p page word f value : ℕ) (es : List CoreEvent) → AreOf p es → AreOf p (stores_behind es a p page word f value).events
-store_behind a p page word f value [] of = (storing a page word f value, tt)
-store_behind a p page word f value (e ∷ es) of = (of.0, store_behind a p page word f value es of.1)
-
-store_fills : (a p page word value : ℕ) (free : Option ℕ) → AreOf p (stores_by_fill a p page word value free).events
-store_fills a p page word value None = tt
-store_fills a p page word value (Some f) =
-    store_behind a p page word f value (take_frame a f ∷ fill a p page f ∷ upgrade a p page f ∷ []) (taking a f, (filling a page f, (upgrading a page f, tt)))
-
-store_upgrades : (marked : Bool) (a p page word f value : ℕ) → AreOf p (stores_by_upgrade marked a p page word f value).events
-store_upgrades true a p page word f value = store_behind a p page word f value (upgrade a p page f ∷ []) (upgrading a page f, tt)
-store_upgrades false a p page word f value = store_behind a p page word f value [] tt
-
-store_faults : (s : CoreState) (a p page word value : ℕ) (rights : Option Rights) (entry : Option Entry) → AreOf p (stores_by_fault s a p page word value rights entry).events
-store_faults s a p page word value None entry = tt
-store_faults s a p page word value (Some R) entry = tt
-store_faults s a p page word value (Some RW) None = store_fills a p page word value (free_frame s)
-store_faults s a p page word value (Some RW) (Some e) = store_upgrades (s.mark e.frame) a p page word e.frame value
-
-store_is : (allowed : Bool) (s : CoreState) (a p page word value : ℕ) (entry : Option Entry) → AreOf p (store_turn_by allowed s a p page word value entry).events
-store_is true s a p page word value entry = store_behind a p page word (frame_in entry) value [] tt
-store_is false s a p page word value entry = store_faults s a p page word value (s.right p page) entry
-
-map_is : (denied : Option Answer) (a p page n : ℕ) (rights : Rights) → AreOf p (map_turn_by denied a p page n rights).events
-map_is (Some denied) a p page n rights = tt
-map_is None a p page n rights = (mapping a page n rights, tt)
-
-unmap_is : (rights : Option Rights) (a p page : ℕ) (entry : Option Entry) (last : Bool) → AreOf p (unmap_turn_by rights a p page entry last).events
-unmap_is None a p page entry last = tt
-unmap_is (Some rights) a p page entry last = (dropping a page entry, given_back a p entry)
-
-discard_is : (rights : Option Rights) (a p page : ℕ) (entry : Option Entry) (last : Bool) → AreOf p (discard_turn_by rights a p page entry last).events
-discard_is None a p page entry last = tt
-discard_is (Some rights) a p page entry last = (discarding a page entry, given_back a p entry)
-
-lower_is : (a p page : ℕ) (entry : Option Entry) → AreOf p (lowers_entry a p page entry)
-lower_is a p page None = tt
-lower_is a p page (Some e) = go e.writable
+makes_writable_own : (a p page : ℕ) (e : Entry) (mark : Bool) (count : ℕ) (free : Option ℕ) → AreOwn a p (events_of (makes_writable a p page e mark count free))
+makes_writable_own a p page e true count free = (upgrades page e.frame, tt)
+makes_writable_own a p page e false count free = by_count (count == 1)
   where
-    go : (writable : Bool) → AreOf p (cond writable (lower_entry a p page e.frame ∷ []) [])
-    go true = (lowering a page e.frame, tt)
+    by_count : (alone : Bool) → AreOwn a p (events_of (if alone then Ok (marks a p page e ++ upgrade a p page e.frame ∷ []) else breaks a p page e true free))
+    by_count true = (counts page e.frame e.writable, (marks_it page e.frame, (upgrades page e.frame, tt)))
+    by_count false = breaks_own a p page e true free
+
+read_fault_own : (a p page : ℕ) (right : Option Rights) (entry : Option Entry) (free : Option ℕ) → AreOwn a p (events_of (read_fault a p page right entry free))
+read_fault_own a p page None entry free = tt
+read_fault_own a p page (Some rights) None free = fills_own a p page free
+read_fault_own a p page (Some rights) (Some e) free = tt
+
+write_fault_own : (a p page : ℕ) (right : Option Rights) (entry : Option Entry) (mark : ℕ → Bool) (count : ℕ → ℕ) (free : Option ℕ) → AreOwn a p (events_of (write_fault a p page right entry mark count free))
+write_fault_own a p page None entry mark count free = tt
+write_fault_own a p page (Some R) entry mark count free = tt
+write_fault_own a p page (Some RW) None mark count free = fills_writable_own a p page free
+write_fault_own a p page (Some RW) (Some e) mark count free = by_entry e.writable
+  where
+    by_entry : (writable : Bool) → AreOwn a p (events_of (if writable then Ok [] else makes_writable a p page e (mark e.frame) (count e.frame) free))
+    by_entry true = tt
+    by_entry false = makes_writable_own a p page e (mark e.frame) (count e.frame) free
+
+load_fault_own : (s : CoreState) (a p page : ℕ) (entry : Option Entry) → AreOwn a p (events_of (load_fault s a p page entry))
+load_fault_own s a p page None = read_fault_own a p page (s.right p page) None (free_frame s)
+load_fault_own s a p page (Some e) = tt
+
+store_fault_own : (allowed : Bool) (s : CoreState) (a p page : ℕ) (entry : Option Entry) → AreOwn a p (events_of (store_fault_by allowed s a p page entry))
+store_fault_own true s a p page entry = tt
+store_fault_own false s a p page entry = write_fault_own a p page (s.right p page) entry s.mark s.count (free_frame s)
+
+load_own : (s : CoreState) (fault : Fault) (a p page word : ℕ) → AreOwn a p (events_of fault) → AreOwn a p (loads_after s fault a p page word).events
+load_own s (Err answer) a p page word own = tt
+load_own s (Ok before) a p page word own = both a p before (load a p page word _ _ ∷ []) own (loads_it page word _ _, tt)
+
+store_own : (s : CoreState) (fault : Fault) (a p page word value : ℕ) → AreOwn a p (events_of fault) → AreOwn a p (stores_after s fault a p page word value).events
+store_own s (Err answer) a p page word value own = tt
+store_own s (Ok before) a p page word value own = both a p before (store a p page word _ value ∷ []) own (stores_it page word _ value, tt)
+
+map_own : (denied : Option Answer) (a p page n : ℕ) (rights : Rights) → AreOwn a p (map_turn_by denied a p page n rights).events
+map_own (Some denied) a p page n rights = tt
+map_own None a p page n rights = (maps page n rights, tt)
+
+unmap_own : (rights : Option Rights) (a p page : ℕ) (entry : Option Entry) (last : Bool) → AreOwn a p (unmap_turn_by rights a p page entry last).events
+unmap_own None a p page entry last = tt
+unmap_own (Some rights) a p page entry last = (drops page entry, given_back a p entry)
+
+discard_own : (rights : Option Rights) (a p page : ℕ) (entry : Option Entry) (last : Bool) → AreOwn a p (discard_turn_by rights a p page entry last).events
+discard_own None a p page entry last = tt
+discard_own (Some rights) a p page entry last = (discards_it page entry, given_back a p entry)
+
+lower_own : (a p page : ℕ) (entry : Option Entry) → AreOwn a p (lowers_entry a p page entry)
+lower_own a p page None = tt
+lower_own a p page (Some e) = go e.writable
+  where
+    go : (writable : Bool) → AreOwn a p (cond writable (lower_entry a p page e.frame ∷ []) [])
+    go true = (lowers_it page e.frame, tt)
     go false = tt
 
-lowers_are : (entry : ℕ → Option Entry) (a p page n : ℕ) → AreOf p (lowers entry a p page n)
-lowers_are entry a p page zero = tt
-lowers_are entry a p page (suc n) =
-    both p (lowers_entry a p page (entry page)) (lowers entry a p (page + 1) n) (lower_is a p page (entry page)) (lowers_are entry a p (page + 1) n)
+lowers_own : (entry : ℕ → Option Entry) (a p page n : ℕ) → AreOwn a p (lowers entry a p page n)
+lowers_own entry a p page zero = tt
+lowers_own entry a p page (suc n) =
+    both a p (lowers_entry a p page (entry page)) (lowers entry a p (page + 1) n) (lower_own a p page (entry page)) (lowers_own entry a p (page + 1) n)
 
-lowers_are_for : (rights : Rights) (entry : ℕ → Option Entry) (a p page n : ℕ) → AreOf p (lowers_for rights entry a p page n)
-lowers_are_for R entry a p page n = lowers_are entry a p page n
-lowers_are_for RW entry a p page n = tt
+lowers_for_own : (rights : Rights) (entry : ℕ → Option Entry) (a p page n : ℕ) → AreOwn a p (lowers_for rights entry a p page n)
+lowers_for_own R entry a p page n = lowers_own entry a p page n
+lowers_for_own RW entry a p page n = tt
 
-protect_is : (denied : Option Answer) (s : CoreState) (a p page n : ℕ) (rights : Rights) → AreOf p (protect_turn_by denied s a p page n rights).events
-protect_is (Some denied) s a p page n rights = tt
-protect_is None s a p page n rights =
-    both p (lowers_for rights (s.entry p) a p page n) (protect_pages a p page n rights ∷ []) (lowers_are_for rights (s.entry p) a p page n) (protecting a page n rights, tt)
+protect_own : (denied : Option Answer) (s : CoreState) (a p page n : ℕ) (rights : Rights) → AreOwn a p (protect_turn_by denied s a p page n rights).events
+protect_own (Some denied) s a p page n rights = tt
+protect_own None s a p page n rights =
+    both a p (lowers_for rights (s.entry p) a p page n) (protect_pages a p page n rights ∷ []) (lowers_for_own rights (s.entry p) a p page n) (protects page n rights, tt)
 
-exit_is : (s : CoreState) (a p : ℕ) (lowest : Option ℕ) → AreOf p (exit_turn_by s a p lowest).events
-exit_is s a p None = tt
-exit_is s a p (Some page) = (dropping a page (s.entry p page), given_back a p (s.entry p page))
+exit_own : (s : CoreState) (a p : ℕ) (lowest : Option ℕ) → AreOwn a p (exit_turn_by s a p lowest).events
+exit_own s a p None = tt
+exit_own s a p (Some page) = (drops page (s.entry p page), given_back a p (s.entry p page))
 
-pub turn_is_own : (s : CoreState) (a p far : ℕ) (op : Op) → AreOf p (op_turn s a p far op).events
-turn_is_own s a p far (Map page n rights) = map_is (map_denial (any_mapped (s.right p) page n) (s.pages p) n) a p page n rights
-turn_is_own s a p far (Unmap page n) = unmap_is (s.right p (page + far)) a p (page + far) (s.entry p (page + far)) _
-turn_is_own s a p far (Protect page n rights) = protect_is (protect_denial (any_unmapped (s.right p) page n)) s a p page n rights
-turn_is_own s a p far (Discard page n) = discard_is (s.right p (page + far)) a p (page + far) (s.entry p (page + far)) _
-turn_is_own s a p far (Load page word) = load_is s a p page word (s.entry p page)
-turn_is_own s a p far (Store page word value) = store_is (allows_store (s.entry p page)) s a p page word value (s.entry p page)
-turn_is_own s a p far Exit = exit_is s a p (lowest_page (s.right p))
+pub turn_is_own : (s : CoreState) (a p far : ℕ) (op : Op) → IsNoFork (Some op) → AreOwn a p (op_turn s a p far op).events
+turn_is_own s a p far (Map page n rights) single = map_own (map_denial (any_mapped (s.right p) page n) (s.pages p) n) a p page n rights
+turn_is_own s a p far (Unmap page n) single = unmap_own (s.right p (page + far)) a p (page + far) (s.entry p (page + far)) _
+turn_is_own s a p far (Protect page n rights) single = protect_own (protect_denial (any_unmapped (s.right p) page n)) s a p page n rights
+turn_is_own s a p far (Discard page n) single = discard_own (s.right p (page + far)) a p (page + far) (s.entry p (page + far)) _
+turn_is_own s a p far (Load page word) single =
+    load_own s (load_fault s a p page (s.entry p page)) a p page word (load_fault_own s a p page (s.entry p page))
+turn_is_own s a p far (Store page word value) single =
+    store_own s (store_fault_by (allows_store (s.entry p page)) s a p page (s.entry p page)) a p page word value
+    (store_fault_own (allows_store (s.entry p page)) s a p page (s.entry p page))
+turn_is_own s a p far (Fork child) single = absurd single
+turn_is_own s a p far Exit single = exit_own s a p (lowest_page (s.right p))
 
--- no such event changes what is born
-birth_stays : (p : ℕ) (s : CoreState) {e : CoreEvent} → IsOf p e → (happens s e).birth ≡ s.birth
-birth_stays p s (taking a f) = refl
-birth_stays p s (filling a page f) = refl
-birth_stays p s (counting a page f writable) = refl
-birth_stays p s (marking_it a page f) = refl
-birth_stays p s (upgrading a page f) = refl
-birth_stays p s (breaking a page old new was writable) = refl
-birth_stays p s (putting a f) = refl
-birth_stays p s (dropping a page was) = refl
-birth_stays p s (discarding a page was) = refl
-birth_stays p s (mapping a page n rights) = refl
-birth_stays p s (lowering a page f) = refl
-birth_stays p s (protecting a page n rights) = refl
-birth_stays p s (loading a page word f value) = refl
-birth_stays p s (storing a page word f value) = refl
+-- ---- births and forks
 
-pub births_stay : (p : ℕ) (s : CoreState) (es : List CoreEvent) → AreOf p es → (run s es).birth ≡ s.birth
-births_stay p s [] of = refl
-births_stay p s (e ∷ es) of = births_stay p (happens s e) es of.1 ∙ birth_stays p s of.0
+birth_stays : (a p : ℕ) (s : CoreState) {e : CoreEvent} → IsOwn a p e → (happens s e).birth ≡ s.birth
+birth_stays a p s (takes f) = refl
+birth_stays a p s (fills_it page f) = refl
+birth_stays a p s (counts page f writable) = refl
+birth_stays a p s (marks_it page f) = refl
+birth_stays a p s (upgrades page f) = refl
+birth_stays a p s (breaks_it page old new was writable) = refl
+birth_stays a p s (puts f) = refl
+birth_stays a p s (drops page was) = refl
+birth_stays a p s (discards_it page was) = refl
+birth_stays a p s (maps page n rights) = refl
+birth_stays a p s (lowers_it page f) = refl
+birth_stays a p s (protects page n rights) = refl
+birth_stays a p s (loads_it page word f value) = refl
+birth_stays a p s (stores_it page word f value) = refl
+
+pub births_stay : (a p : ℕ) (s : CoreState) (es : List CoreEvent) → AreOwn a p es → (run s es).birth ≡ s.birth
+births_stay a p s [] own = refl
+births_stay a p s (e ∷ es) own = births_stay a p (happens s e) es own.1 ∙ birth_stays a p s own.0
+
+-- a job that is no fork, in the place of one that is none
+job_put : (a b : ℕ) (job : Job) (jobs : ℕ → Job) → fork_place job ≡ unbegun → fork_place (jobs a) ≡ unbegun → fork_place (put a job jobs b) ≡ fork_place (jobs b)
+job_put a b job jobs new old = go (b == a) refl
+  where
+    go : (here : Bool) → (b == a) ≡ here → fork_place (cond here job (jobs b)) ≡ fork_place (jobs b)
+    go true is = new ∙ sym old ∙ ap (λ k. fork_place (jobs k)) (sym (eqb-true b a is))
+    go false is = refl
+
+fork_stays : (a p b : ℕ) (s : CoreState) {e : CoreEvent} → IsOwn a p e → fork_place (s.job a) ≡ unbegun → fork_place ((happens s e).job b) ≡ fork_place (s.job b)
+fork_stays a p b s (takes f) none = refl
+fork_stays a p b s (fills_it page f) none = refl
+fork_stays a p b s (counts page f writable) none = job_put a b (marking p page f) s.job refl none
+fork_stays a p b s (marks_it page f) none = job_put a b idle s.job refl none
+fork_stays a p b s (upgrades page f) none = refl
+fork_stays a p b s (breaks_it page old new was writable) none = refl
+fork_stays a p b s (puts f) none = refl
+fork_stays a p b s (drops page was) none = refl
+fork_stays a p b s (discards_it page was) none = refl
+fork_stays a p b s (maps page n rights) none = refl
+fork_stays a p b s (lowers_it page f) none = refl
+fork_stays a p b s (protects page n rights) none = refl
+fork_stays a p b s (loads_it page word f value) none = refl
+fork_stays a p b s (stores_it page word f value) none = refl
+
+pub forks_stay : (a p b : ℕ) (s : CoreState) (es : List CoreEvent) → AreOwn a p es → fork_place (s.job a) ≡ unbegun → fork_place ((run s es).job b) ≡ fork_place (s.job b)
+forks_stay a p b s [] own none = refl
+forks_stay a p b s (e ∷ es) own none =
+    forks_stay a p b (happens s e) es own.1 (fork_stays a p a s own.0 none ∙ none) ∙ fork_stays a p b s own.0 none
+
+-- ---- the turns of a fork
+
+page_turn_own : (s : CoreState) (a p c : ℕ) (done : List ℕ) (page : ℕ) (entry : Option Entry) → AreOfFork a p c (page_turn s a p c done page entry).events
+page_turn_own s a p c done page None = (passing done page, tt)
+page_turn_own s a p c done page (Some e) = (counting_it done page e _, tt)
+
+next_turn_own : (s : CoreState) (a p c : ℕ) (done : List ℕ) (next : Option ℕ) → AreOfFork a p c (next_turn s a p c done next).events
+next_turn_own s a p c done None = (ending done, tt)
+next_turn_own s a p c done (Some page) = page_turn_own s a p c done page (s.entry p page)
+
+step_own : (s : CoreState) (a p c : ℕ) (done : List ℕ) (step : ForkStep) → AreOfFork a p c (fork_step_turn s a p c done step).events
+step_own s a p c done between = next_turn_own s a p c done (next_page (s.right c) done)
+step_own s a p c done (counted page) = (lowering_it done page _ _, (unmarking done page _ false, (giving done page _ false, tt)))
+step_own s a p c done (lowered page) = tt
+step_own s a p c done (cleared page) = tt
+step_own s a p c done (copying page n) = tt
+step_own s a p c done failing = tt
+
+pub fork_is_own : (s : CoreState) (a p c : ℕ) (job : Job) → AreOfFork a p c (fork_turn s a p c job).events
+fork_is_own s a p c (forking q d done step) = step_own s a p c done step
+fork_is_own s a p c idle = (beginning, tt)
+fork_is_own s a p c (marking q page f) = tt
+fork_is_own s a p c (moving q page e count) = tt
+fork_is_own s a p c (walking q write long sequence step) = tt

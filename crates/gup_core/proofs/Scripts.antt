@@ -1,16 +1,17 @@
 -- What is true of the actors of a script.
-use Rattle.std.proofs.Common.{◌≡◌, ℕ, Bool, ◌<◌, ◌≤◌, Option, Some, None, List, [], ◌∷◌, length, slice_get, sum_by, zero, suc, refl, sym, ap, ◌∙◌, inl, inr, arith}
+use Rattle.std.proofs.Common.{◌≡◌, ℕ, Bool, ◌<◌, ◌≤◌, Option, Some, None, List, [], ◌∷◌, length, slice_get, All, sum_by, zero, suc, refl, sym, ap, ◌∙◌, inl, inr, arith}
 use Rattle.std.proofs.lemmas.Option.{slice_get_cases, slice_get_within}
 use Rattle.std.proofs.lemmas.List.Sums.{sum_by-cons}
 use Rattle.gup_script.specs.declared.op.Kind.{Kind}
 use Rattle.gup_script.specs.declared.op.Kind.TheVariants.{Thread, Device, Mover}
 use Rattle.gup_script.specs.declared.op.Op.{Op}
-use Rattle.gup_script.specs.declared.op.Op.TheVariants.{Map, Unmap, Protect, Discard, Load, Store, Exit}
+use Rattle.gup_script.specs.declared.op.Op.TheVariants.{Map, Unmap, Protect, Discard, Load, Store, Fork, Exit}
 use Rattle.gup_script.specs.Script.{ScriptValue, Process, Actor, actor_at, process_at}
-use Rattle.gup_script.specs.Valid.{IsScript, IsOp, KindFits, OpsFit}
+use Rattle.gup_script.specs.Valid.{IsScript, IsOp, IsChild, BringsChild, KindFits, OpsFit}
 use Rattle.gup_follows.specs.Place.{ops_in, ops_of, process_in, process_of, process_of_kind, is_born, starts_born}
-use Rattle.gup_turns.proofs.Scripts.{all_at}
-use Rattle.gup_core.specs.Seats.{HasFar, far_behind}
+use Rattle.gup_turns.specs.ScriptLemmas.{all_at}
+use Rattle.gup_ops.specs.Far.{HasFar}
+use Rattle.gup_core.specs.Seats.{far_behind}
 
 -- what is said of each declared actor holds of what the script has
 pub ops_found : (script : ScriptValue) (a : ℕ) (ops : List Op) → a < length script.actors → ((x : Actor) → actor_at script a ≡ Some x → ops ≡ x.ops) → ops ≡ ops_of script a
@@ -42,6 +43,20 @@ process_there script valid a k op is = go (actor_at script a) refl is
         kind_there script actor.kind actor.ops k op
         (all_at (λ (x : Actor). KindFits script x.kind) script.actors a actor valid.kinds at)
         (all_at (λ (x : Actor). OpsFit x.kind (length x.ops)) script.actors a actor valid.ops_fit at) is
+
+-- the child that a fork brings is declared
+child_declared : (script : ScriptValue) (child : ℕ) (found : Option Process) → process_at script child ≡ found → IsChild found → child < length script.processes
+child_declared script child None is unborn = absurd unborn
+child_declared script child (Some process) is unborn = slice_get_within script.processes child process is
+
+pub child_there : (script : ScriptValue) → IsScript script → (a k child : ℕ) → slice_get (ops_of script a) k ≡ Some (Fork child) → child < length script.processes
+child_there script valid a k child is = go (actor_at script a) refl is
+  where
+    go : (actor : Option Actor) → actor_at script a ≡ actor → slice_get (ops_in actor) k ≡ Some (Fork child) → child < length script.processes
+    go None at is = absurd (cc)
+    go (Some actor) at is =
+        child_declared script child (process_at script child) refl
+        (all_at (BringsChild script) actor.ops k (Fork child) (all_at (λ (x : Actor). All (BringsChild script) x.ops) script.actors a actor valid.children at) is)
 
 -- no actor has more operations than all have together
 one_of_sum : (xs : List Actor) (k : ℕ) (x : Actor) → slice_get xs k ≡ Some x → length x.ops ≤ sum_by (λ (a : Actor). length a.ops) xs
@@ -77,6 +92,7 @@ far_below (Map page n rights) far is has = omega arith
 far_below (Protect page n rights) far is has = omega arith
 far_below (Load page word) far is has = omega arith
 far_below (Store page word value) far is has = omega arith
+far_below (Fork child) far is has = omega arith
 far_below Exit far is has = omega arith
 
 -- so the number of an operation fits

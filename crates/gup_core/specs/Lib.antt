@@ -1,6 +1,5 @@
-pub mod Said
-pub mod Quiet
-pub mod Lowered
 pub mod Seats
+pub mod Locks
 pub mod Machine
+pub mod Goes
 pub mod Rest

@@ -1,40 +1,66 @@
 -- The machine, and the states of the core run that it shows.
-use Rattle.std.specs.Prelude.{◌≡◌, ℕ, ◌+◌, ◌-◌, ◌^◌, if◌then◌else◌, List, Some, length, min, slice_get}
+use Rattle.std.specs.Prelude.{◌≡◌, ℕ, ◌+◌, ◌-◌, ◌^◌, List, Some, length, min, slice_get}
 use Rattle.gup_plain.specs.Note.{NoteValue}
-use Rattle.gup_plain.specs.State.{born, unborn}
+use Rattle.gup_plain.specs.State.{Birth, born, unborn, growing}
 use Rattle.gup_script.specs.Script.{ScriptValue}
-use Rattle.gup_follows.specs.Place.{present_op, starts_born}
+use Rattle.gup_follows.specs.Place.{present_op}
 use Rattle.gup_follows.specs.Follows.{notes_of_turn}
 use Rattle.gup_frames.specs.Frames.{FrameLists, frames_of}
 use Rattle.gup_space.specs.Space.{SpaceParts, space_of}
 use Rattle.gup_space.specs.Shows.{ShowsFrames, ShowsSpace}
+use Rattle.gup_events.specs.State.{CoreState}
 use Rattle.gup_turns.specs.Run.{RunState, run_start, run_after, taken_in}
-use Rattle.gup_turns.specs.Reached.{turned}
+use Rattle.gup_turns.specs.Reached.{turned, fork_place}
+use Rattle.gup_ops.specs.Forked.{place_of}
+use Rattle.gup_core.specs.declared.births.Birth.{Birth as KeptBirth}
+use Rattle.gup_core.specs.declared.births.Birth.TheVariants.{Unborn, Growing, Born}
 use Rattle.gup_core.specs.declared.seats.Seat.{Seat}
 use Rattle.gup_core.specs.Seats.{IsSeat}
 
--- A machine: its script, the frames, the processes, the actors' seats, and how many turns are over.
+-- A machine: its script, the frames, the processes and whether they are born, the actors' seats, and how many turns are
+-- over.
 pub record MachineValue : Type 0 where
   pub script : ScriptValue
   pub frames : FrameLists
   pub spaces : List SpaceParts
+  pub births : List KeptBirth
   pub seats : List Seat
   pub turns : ℕ
 
-abbrev pub machine_of : ScriptValue → FrameLists → List SpaceParts → List Seat → (turns : ℕ) → MachineValue
-machine_of script frames spaces seats turns =
-    record { script = script; frames = frames; spaces = spaces; seats = seats; turns = turns }
+abbrev pub machine_of : ScriptValue → FrameLists → List SpaceParts → List KeptBirth → List Seat → (turns : ℕ) → MachineValue
+machine_of script frames spaces births seats turns =
+    record { script = script; frames = frames; spaces = spaces; births = births; seats = seats; turns = turns }
 
 -- the number of a turn stays at the last value of 32 bits
 abbrev pub counted : ℕ → ℕ
 counted turns = min (turns + 1) (2 ^ 32 - 1)
 
+-- the state has these processes
+abbrev pub ShowsSpaces : List SpaceParts → CoreState → Type 0
+ShowsSpaces spaces s = (p : ℕ) (space : SpaceParts) → slice_get spaces p ≡ Some space → ShowsSpace p (space_of space) s
+
+-- a process is born so
+abbrev pub IsBirth : KeptBirth → Birth → Type 0
+IsBirth Unborn birth = birth ≡ unborn
+IsBirth Growing birth = (parent : ℕ) × (birth ≡ growing parent)
+IsBirth Born birth = birth ≡ born
+
+-- and all are
+abbrev pub ShowsBirths : List KeptBirth → CoreState → Type 0
+ShowsBirths births s = (p : ℕ) (birth : KeptBirth) → slice_get births p ≡ Some birth → IsBirth birth (s.birth p)
+
+-- turns have led to the state from the start
+abbrev pub IsReached : ScriptValue → RunState → Type 0
+IsReached script r = (actors : List ℕ) × (r ≡ turned script (run_start script) actors)
+
 -- The state of the core run is the machine's.
 pub record Shows (m : MachineValue) (r : RunState) : Type 0 where
+  pub reached : IsReached m.script r
   pub frames : ShowsFrames (frames_of m.frames) r.core
-  pub spaces : (p : ℕ) (space : SpaceParts) → slice_get m.spaces p ≡ Some space → ShowsSpace p (space_of space) r.core
-  pub births : (p : ℕ) → r.core.birth p ≡ (if starts_born m.script p then born else unborn)
+  pub spaces : ShowsSpaces m.spaces r.core
+  pub births : ShowsBirths m.births r.core
   pub seats : (a : ℕ) (seat : Seat) → slice_get m.seats a ≡ Some seat → IsSeat (present_op m.script a (r.places a)) (r.places a) seat
+  pub forks : (a : ℕ) (seat : Seat) → slice_get m.seats a ≡ Some seat → place_of seat.fork ≡ fork_place (r.core.job a)
   pub turns : m.turns ≡ min r.turns (2 ^ 32 - 1)
 
 -- A turn of the machine is the actor's turn of the core run from r: the notes are its, and the machine shows the
@@ -47,12 +73,12 @@ pub record TakesTurn (old new : MachineValue) (actor : ℕ) (r : RunState) (note
 abbrev pub TakesTurns : (old new : MachineValue) → (actor : ℕ) → List NoteValue → Type 0
 TakesTurns old new actor notes = (r : RunState) → Shows old r → TakesTurn old new actor r notes
 
--- What a machine is between two turns: it has a space for each process and a seat for each actor, and shows a state
--- that turns led to from the start.
+-- What a machine is between two turns: it has a space for each process and a seat for each actor, and shows a state.
 pub record IsMachine (m : MachineValue) : Type 0 where
   pub spaces : length m.spaces ≡ length m.script.processes
+  pub births : length m.births ≡ length m.script.processes
   pub seats : length m.seats ≡ length m.script.actors
-  pub reached : (actors : List ℕ) × Shows m (turned m.script (run_start m.script) actors)
+  pub shown : (r : RunState) × Shows m r
 
 -- a machine that has taken no turn
 pub record IsNew (given : ScriptValue) (m : MachineValue) : Type 0 where

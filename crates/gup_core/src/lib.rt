@@ -2,15 +2,13 @@
 //! take no more memory than they had at the start.
 #![tactic(auto)]
 
-mod loads;
+mod births;
+mod locks;
 mod machine;
-mod mappings;
-mod ops;
-mod said;
 mod seats;
+mod takes;
 mod turn;
 mod turns;
-mod unmaps;
 
 pub use machine::Machine;
 pub use turn::Turn;

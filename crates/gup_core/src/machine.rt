@@ -8,9 +8,11 @@ ghost use Rattle.gup_core.specs.declared.seats.Seat.{Seat as SeatValue};
 ghost use Rattle.gup_core.specs.Machine.{Shows, TakesTurn, TakesTurns, IsNew};
 ghost use Rattle.gup_core.specs.Rest.{IsAtRest};
 
-use crate::seats::{self, Seat};
+use crate::births::{self, Birth};
+use crate::locks::waits_for;
+use crate::seats::{self, Seat, seat_of};
 use crate::turn::Turn;
-use crate::turns::{is_born, op_at, ops, process, seat_of, take_turn};
+use crate::turns::{op_at, ops, process, take_turn};
 use gup_base::{ActorNo, NoMemory, Zone};
 use gup_frames::Frames;
 use gup_plain::Waiting;
@@ -26,6 +28,7 @@ pub struct Machine {
     script: Script,
     frames: Frames,
     spaces: Vec<Space>,
+    births: Vec<Birth>,
     seats: Vec<Seat>,
     turns: u32,
 }
@@ -39,6 +42,7 @@ impl Model for Machine {
       script = m.script;
       frames = m.frames;
       spaces = m.spaces.items;
+      births = m.births.items;
       seats = m.seats.items;
       turns = m.turns;
     } };
@@ -47,6 +51,7 @@ impl Model for Machine {
       script = m.script;
       frames = m.frames;
       spaces = m.spaces.items;
+      births = m.births.items;
       seats = m.seats.items;
       turns = m.turns;
     }) };
@@ -60,6 +65,7 @@ impl Machine {
     {
         let (movable, normal, _tables) = script.frames();
         let spaces = empty_spaces(alloc, script.processes())?;
+        let births = births::first(alloc, script)?;
         let seats = seats::first(alloc, script.actors())?;
         let frames = Frames::new(alloc, movable, normal)?;
         let script = script.copy()?;
@@ -67,6 +73,7 @@ impl Machine {
             script,
             frames,
             spaces,
+            births,
             seats,
             turns: 0,
         })
@@ -85,27 +92,27 @@ impl Machine {
             &self.script,
             &mut self.frames,
             &mut self.spaces,
+            &mut self.births,
             &mut self.seats,
             &mut self.turns,
             actor,
         )
     }
 
-    /// What the actor waits for before its next turn, if it waits: so far only that its process is born.
+    /// What the actor waits for before its next turn, if it waits: first that its process is born, then for the holder of
+    /// a lock of its process that the turn needs, first of the structure lock, then of the table lock.
     pub fn waits(&self, actor: ActorNo) -> Option<Waiting>
         requires { actor < length self.now.script.actors }
         ensures { (r : RunState) → Shows self.now r → result ≡ waiting_in self.now.script r actor }
     {
         self.rests();
+        gup_turns::reached_states_stand();
         let seat = self.seat(actor);
-        let Some(_op) = op_at(ops(&self.script, actor), seat.answered) else {
+        let Some(op) = op_at(ops(&self.script, actor), seat.answered) else {
             return None;
         };
         let proc = process(&self.script, actor);
-        if is_born(&self.script, proc) {
-            return None;
-        }
-        Some(Waiting::Process(proc))
+        waits_for(&self.spaces, &self.births, actor, proc, seat.fork, &op)
     }
 
     /// Whether the actor has answered all its operations.

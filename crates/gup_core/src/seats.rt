@@ -1,17 +1,21 @@
 //! Where each actor stands.
-ghost use Rattle.std.specs.Prelude.{◌≡◌, ◌+◌, ◌<◌, ◌^◌, IfOk};
+ghost use Rattle.std.specs.Prelude.{◌≡◌, ℕ, ◌+◌, ◌<◌, ◌^◌, length, slice_get, Some, IfOk};
 ghost use Rattle.gup_script.specs.Valid.{IsOp};
-ghost use Rattle.gup_core.specs.Seats.{HasFar, seat_behind, far_behind, first_seats};
+ghost use Rattle.gup_ops.specs.Far.{HasFar};
+ghost use Rattle.gup_core.specs.Seats.{seat_behind, far_behind, first_seats};
 
-use gup_base::NoMemory;
+use gup_base::{ActorNo, NoMemory};
+use gup_ops::ForkPlace;
 use gup_script::Op;
 use std::alloc::Global;
 
-/// Where an actor stands: how many operations it has answered, and over how many pages the present one has gone.
+/// Where an actor stands: how many operations it has answered, over how many pages the present one has gone, and where
+/// its fork stands, if it is in the middle of one.
 #[derive(Clone, Copy, Debug)]
 pub struct Seat {
     pub answered: u32,
     pub far: u16,
+    pub fork: ForkPlace,
 }
 
 /// So many actors before their first operation.
@@ -21,27 +25,49 @@ pub fn first(alloc: Global, actors: u8) -> Result<Vec<Seat>, NoMemory>
     let seat = Seat {
         answered: 0,
         far: 0,
+        fork: ForkPlace::Unbegun,
     };
     let seats = vec![in alloc; seat; actors as usize]?;
     Ok(seats)
 }
 
-/// Behind a turn of its present operation an actor stands at the next page, or at the next operation.
-pub fn behind(seat: &Seat, op: &Op, answered: bool) -> Seat
+/// Where the actor stands.
+pub fn seat_of(seats: &Vec<Seat>, actor: ActorNo) -> Seat
+    requires { actor < length seats.now.items }
+    ensures { slice_get seats.now.items actor ≡ Some result }
+{
+    seats[actor.get() as usize]
+}
+
+/// From now on the actor stands there.
+pub fn set_seat(seats: &mut Vec<Seat>, actor: ActorNo, seat: &Seat)
+    requires { actor < length seats.old.items }
+    ensures many { length seats.new.items ≡ length seats.old.items }
+    ensures here { slice_get seats.new.items actor ≡ Some seat.now }
+    ensures others { (b : ℕ) → (b ≡ actor → ⊥) → slice_get seats.new.items b ≡ slice_get seats.old.items b }
+{
+    seats[actor.get() as usize] = *seat;
+}
+
+/// Behind a turn of its present operation an actor stands at the next page, or at the next operation, and its fork
+/// there.
+pub fn behind(seat: &Seat, op: &Op, answered: bool, fork: ForkPlace) -> Seat
     requires few { seat.now.answered + 1 < 2 ^ 32 }
     requires op { IsOp op.now }
     requires far { HasFar op.now seat.now.far }
-    ensures { result ≡ seat_behind seat.now op.now answered }
+    ensures { result ≡ seat_behind seat.now op.now answered fork }
 {
     if answered {
         return Seat {
             answered: seat.answered + 1,
             far: 0,
+            fork,
         };
     }
     Seat {
         answered: seat.answered,
         far: far_of(op, seat.far),
+        fork,
     }
 }
 
@@ -53,6 +79,7 @@ fn far_of(op: &Op, far: u16) -> u16
 {
     match op {
         Op::Unmap { .. } | Op::Discard { .. } => far + 1,
-        Op::Map { .. } | Op::Protect { .. } | Op::Load { .. } | Op::Store { .. } | Op::Exit => 0,
+        Op::Map { .. } | Op::Protect { .. } | Op::Load { .. } | Op::Store { .. } => 0,
+        Op::Fork { .. } | Op::Exit => 0,
     }
 }

@@ -1,39 +1,44 @@
 //! A turn of an actor.
 ghost use Rattle.std.specs.Prelude.{◌≡◌, ℕ, ◌+◌, ◌-◌, ◌<◌, ◌^◌, [], ◌∷◌, List, length, slice_get, Some, Option};
 ghost use Rattle.gup_follows.specs.Follows.{notes_of_turn};
-ghost use Rattle.gup_follows.specs.Place.{ops_of, process_of, process_of_kind, starts_born};
+ghost use Rattle.gup_follows.specs.Place.{ops_of, process_of, process_of_kind};
+ghost use Rattle.gup_ops.specs.Said.{whats_of};
 ghost use Rattle.gup_core.specs.declared.seats.Seat.{Seat as SeatValue};
-ghost use Rattle.gup_core.specs.Machine.{machine_of, counted, TakesTurns};
+ghost use Rattle.gup_core.specs.Machine.{machine_of, counted, IsMachine, TakesTurns};
 ghost use Rattle.gup_core.specs.Rest.{IsAtRest};
-ghost use Rattle.gup_core.specs.Said.{whats_of};
 
-use crate::ops::take_at;
-use crate::said::{Said, is_last};
-use crate::seats::{self, Seat};
+use crate::births::Birth;
+use crate::locks::waits_for;
+use crate::seats::{self, Seat, seat_of, set_seat};
+use crate::takes::take_op;
 use crate::turn::Turn;
 use gup_base::{ActorNo, ProcNo};
 use gup_frames::Frames;
-use gup_plain::{Note, Waiting, What};
+use gup_ops::{Said, is_last};
+use gup_plain::{Note, What};
 use gup_script::{Kind, Op, Script};
 use gup_space::Space;
 
-/// Takes the turn of an actor: idle where it has finished, without an event where its process isn't born, else that of
-/// its operation.
+/// Takes the turn of an actor: idle where it has finished, without an event where it waits, else that of its operation.
 pub fn take_turn(
     script: &Script,
     frames: &mut Frames,
     spaces: &mut Vec<Space>,
+    births: &mut Vec<Birth>,
     seats: &mut Vec<Seat>,
     turns: &mut u32,
     actor: ActorNo,
 ) -> Turn
     requires actor { actor < length script.now.actors }
-    requires rest { IsAtRest (machine_of script.now frames.old spaces.old.items seats.old.items turns.old) }
+    requires machine { IsMachine (machine_of script.now frames.old spaces.old.items births.old.items seats.old.items turns.old) }
+    requires rest { IsAtRest (machine_of script.now frames.old spaces.old.items births.old.items seats.old.items turns.old) }
     ensures spaces { length spaces.new.items ≡ length spaces.old.items }
+    ensures births { length births.new.items ≡ length births.old.items }
     ensures seats { length seats.new.items ≡ length seats.old.items }
-    ensures turn { TakesTurns (machine_of script.now frames.old spaces.old.items seats.old.items turns.old)
-        (machine_of script.now frames.new spaces.new.items seats.new.items turns.new) actor result }
+    ensures turn { TakesTurns (machine_of script.now frames.old spaces.old.items births.old.items seats.old.items turns.old)
+        (machine_of script.now frames.new spaces.new.items births.new.items seats.new.items turns.new) actor result }
 {
+    gup_turns::reached_states_stand();
     let seat = seat_of(seats, actor);
     let number = next_turn(*turns);
     *turns = number;
@@ -41,12 +46,11 @@ pub fn take_turn(
         return note(number, actor, seat.answered + 1, What::Idle);
     };
     let proc = process(script, actor);
-    if !is_born(script, proc) {
-        let waiting = Waiting::Process(proc);
+    if let Some(waiting) = waits_for(spaces, births, actor, proc, seat.fork, &op) {
         return note(number, actor, seat.answered + 1, What::Wait(waiting));
     }
-    let said = take_at(spaces, frames, actor, proc, seat.far, &op);
-    let next = seats::behind(&seat, &op, is_last(&said));
+    let (said, fork) = take_op(frames, spaces, births, actor, proc, &seat, &op);
+    let next = seats::behind(&seat, &op, is_last(&said), fork);
     set_seat(seats, actor, &next);
     notes(number, actor, seat.answered + 1, &said)
 }
@@ -56,23 +60,6 @@ fn next_turn(turns: u32) -> u32
     ensures { result ≡ counted turns }
 {
     turns.saturating_add(1)
-}
-
-/// Where the actor stands.
-pub fn seat_of(seats: &Vec<Seat>, actor: ActorNo) -> Seat
-    requires { actor < length seats.now.items }
-    ensures { slice_get seats.now.items actor ≡ Some result }
-{
-    seats[actor.get() as usize]
-}
-
-fn set_seat(seats: &mut Vec<Seat>, actor: ActorNo, seat: &Seat)
-    requires { actor < length seats.old.items }
-    ensures many { length seats.new.items ≡ length seats.old.items }
-    ensures here { slice_get seats.new.items actor ≡ Some seat.now }
-    ensures others { (b : ℕ) → (b ≡ actor → ⊥) → slice_get seats.new.items b ≡ slice_get seats.old.items b }
-{
-    seats[actor.get() as usize] = *seat;
 }
 
 // A turn of one note.
@@ -127,12 +114,4 @@ fn process_named(kind: Kind) -> ProcNo
         Kind::Thread(proc) => proc,
         Kind::Device(_) | Kind::Mover => ProcNo::new(0).unwrap(),
     }
-}
-
-/// Whether the process is born at the start.
-pub fn is_born(script: &Script, proc: ProcNo) -> bool
-    requires { proc < length script.now.processes }
-    ensures { result ≡ starts_born script.now proc }
-{
-    script.starts_born(proc)
 }

@@ -9,9 +9,13 @@ use Rattle.gup_frames.specs.Frames.{FramesValue, IsFrame}
 use Rattle.gup_space.specs.Space.{SpaceValue}
 use Rattle.gup_turns.specs.Turn.{allows_store}
 
+-- each mapped page has the number of one
+abbrev pub AreNumbered : SpaceValue → Type 0
+AreNumbered space = (page : ℕ) (rights : Rights) → space.right page ≡ Some rights → page < page_numbers
+
 -- Each entry is of a mapped page, and its frame is there and has a reference.
 pub record IsTidy (frames : FramesValue) (space : SpaceValue) : Type 0 where
-  pub numbered : (page : ℕ) (rights : Rights) → space.right page ≡ Some rights → page < page_numbers
+  pub numbered : AreNumbered space
   pub mapped : (page : ℕ) (e : Entry) → space.entry page ≡ Some e → IsSome (space.right page)
   pub there : (page : ℕ) (e : Entry) → space.entry page ≡ Some e → IsFrame frames e.frame
   pub counted : (page : ℕ) (e : Entry) → space.entry page ≡ Some e → frames.count e.frame ≡ 0 → ⊥

@@ -131,8 +131,8 @@ fn count_turn(
     (silent(), ForkPlace::At(page))
 }
 
-// The child's lowest mapped page at or above this number.
-fn next_page(child: &Space, from: u64) -> Option<PageNo>
+/// The child's lowest mapped page at or above this number, the next one of a fork that stands there.
+pub fn next_page(child: &Space, from: u64) -> Option<PageNo>
     requires { (page : ℕ) (rights : RightsValue) → (space_of child.now).right page ≡ Some rights → page < page_numbers }
     ensures { result ≡ lowest from (page_numbers - from) (λ page. is_some ((space_of child.now).right page)) }
 {

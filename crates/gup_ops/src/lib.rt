@@ -8,7 +8,7 @@ mod ops;
 mod said;
 mod unmaps;
 
-pub use forks::{ForkPlace, fork};
+pub use forks::{ForkPlace, fork, next_page};
 pub use loads::allows_store;
 pub use ops::{needs_table, take};
 pub use said::{Said, is_last};

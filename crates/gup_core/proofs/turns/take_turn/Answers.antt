@@ -1,81 +1,102 @@
-use Rattle.std.proofs.Common.{◌+◌, [], ◌∷◌, slice_get, sym, ap, ◌∙◌, arith}
-use Rattle.gup_plain.specs.declared.note.What.TheVariants.{Wait}
-use Rattle.gup_plain.specs.declared.note.Waiting.TheVariants as waitings
-use Rattle.gup_follows.specs.Follows.{notes_of_turn}
-use Rattle.gup_follows.specs.Place.{starts_born}
-use Rattle.gup_turns.proofs.Scripts.{op_is_op}
+use Rattle.std.proofs.Common.{Some, None, slice_get, sym, ap, ◌∙◌, arith}
+use Rattle.gup_turns.specs.ScriptLemmas.{op_is_op}
 use Rattle.gup_core.specs.Machine.{machine_of}
 use Rattle.gup_core.specs.Seats.{seat_behind}
-use Rattle.gup_core.proofs.Scripts.{process_there, few_answered}
-use Rattle.gup_core.proofs.Taking.{notes_taken, idles, waits, goes_at}
+use Rattle.gup_core.proofs.Taking.{notes_taken, idles, waits, waiting_is, goes, is_ready, child_within, process_within, few, IsWaiting}
 use Rattle.gup_core.proofs.turns.take_turn.Goals as goal
 
 pub overflow_add-seat : goal.overflow_add-seat
 overflow_add-seat c =
-    let few = few_answered c.args.script.now c.requires.rest.valid c.args.actor c.seat_of-seat.result.answered (c.requires.rest.answered c.args.actor c.seat_of-seat.result c.seat_of-seat.ensures) in
+    let a = c.args in
+    let m = machine_of a.script.now a.frames.now a.spaces.now.items a.births.now.items a.seats.now.items a.turns.now in
+    let below = few m a.actor c.seat_of-seat.result c.requires.rest c.seat_of-seat.ensures in
     omega arith
 
 pub returns-in_default-clause-turn : goal.returns-in_default-clause-turn
 returns-in_default-clause-turn c =
     let a = c.args in
-    let m = machine_of a.script.now a.frames.now a.spaces.now.items a.seats.now.items a.turns.now in
-    notes_taken m (machine_of a.script.now a.frames.now a.spaces.now.items a.seats.now.items c.next_turn-number.result) a.actor _ _ c.note.ensures
+    let m = machine_of a.script.now a.frames.now a.spaces.now.items a.births.now.items a.seats.now.items a.turns.now in
+    notes_taken m (machine_of a.script.now a.frames.now a.spaces.now.items a.births.now.items a.seats.now.items c.next_turn-number.result) a.actor _ _ c.note.ensures
     (idles m a.actor c.seat_of-seat.result c.next_turn-number.result c.seat_of-seat.ensures (sym (c.in_default.ensures ∙ ap (λ ops. slice_get ops c.seat_of-seat.result.answered) c.ops.ensures)) c.next_turn-number.ensures)
 
-pub is_born-requires : goal.is_born-requires
-is_born-requires c =
+pub waits_for-requires-clause-there : goal.waits_for-requires-clause-there
+waits_for-requires-clause-there c =
     let a = c.args in
-    let op = c.in-Some.ensures ∙ ap (λ ops. slice_get ops c.seat_of-seat.result.answered) c.ops.ensures in
-    let there = process_there a.script.now c.requires.rest.valid a.actor c.seat_of-seat.result.answered c.in-Some.op (sym op) in
-    omega (arith, c.process-proc.ensures)
+    let m = machine_of a.script.now a.frames.now a.spaces.now.items a.births.now.items a.seats.now.items a.turns.now in
+    let op = sym (c.in-Some.ensures ∙ ap (λ ops. slice_get ops c.seat_of-seat.result.answered) c.ops.ensures) in
+    (process_within m a.actor c.process-proc.result c.seat_of-seat.result c.in-Some.op c.requires.rest c.process-proc.ensures op).0
 
-pub overflow_add-seat-then-not-is_born : goal.overflow_add-seat-then-not-is_born
-overflow_add-seat-then-not-is_born c =
-    let few = few_answered c.args.script.now c.requires.rest.valid c.args.actor c.seat_of-seat.result.answered (c.requires.rest.answered c.args.actor c.seat_of-seat.result c.seat_of-seat.ensures) in
+pub waits_for-requires-clause-declared : goal.waits_for-requires-clause-declared
+waits_for-requires-clause-declared c =
+    let a = c.args in
+    let m = machine_of a.script.now a.frames.now a.spaces.now.items a.births.now.items a.seats.now.items a.turns.now in
+    let op = sym (c.in-Some.ensures ∙ ap (λ ops. slice_get ops c.seat_of-seat.result.answered) c.ops.ensures) in
+    (process_within m a.actor c.process-proc.result c.seat_of-seat.result c.in-Some.op c.requires.rest c.process-proc.ensures op).1
+
+pub waits_for-requires-clause-child : goal.waits_for-requires-clause-child
+waits_for-requires-clause-child c child same =
+    let a = c.args in
+    let m = machine_of a.script.now a.frames.now a.spaces.now.items a.births.now.items a.seats.now.items a.turns.now in
+    let op = sym (c.in-Some.ensures ∙ ap (λ ops. slice_get ops c.seat_of-seat.result.answered) c.ops.ensures) in
+    child_within m a.actor child c.seat_of-seat.result c.in-Some.op c.requires.rest op same
+
+pub overflow_add-seat-in-Some-waits_for : goal.overflow_add-seat-in-Some-waits_for
+overflow_add-seat-in-Some-waits_for c =
+    let a = c.args in
+    let m = machine_of a.script.now a.frames.now a.spaces.now.items a.births.now.items a.seats.now.items a.turns.now in
+    let below = few m a.actor c.seat_of-seat.result c.requires.rest c.seat_of-seat.ensures in
     omega arith
 
-pub returns-then-not-is_born-clause-turn : goal.returns-then-not-is_born-clause-turn
-returns-then-not-is_born-clause-turn c =
+pub returns-in-Some-waits_for-clause-turn : goal.returns-in-Some-waits_for-clause-turn
+returns-in-Some-waits_for-clause-turn c =
     let a = c.args in
-    let m = machine_of a.script.now a.frames.now a.spaces.now.items a.seats.now.items a.turns.now in
-    let op = c.in-Some.ensures ∙ ap (λ ops. slice_get ops c.seat_of-seat.result.answered) c.ops.ensures in
-    notes_taken m (machine_of a.script.now a.frames.now a.spaces.now.items a.seats.now.items c.next_turn-number.result) a.actor _ _
-    (c.note-then-not-is_born.ensures ∙ ap (λ p. notes_of_turn c.next_turn-number.result a.actor (c.seat_of-seat.result.answered + 1) (Wait (waitings.Process p) ∷ [])) c.process-proc.ensures)
-    (waits m a.actor c.seat_of-seat.result c.in-Some.op c.next_turn-number.result c.seat_of-seat.ensures (sym op)
-    (sym (c.is_born.ensures ∙ ap (starts_born a.script.now) c.process-proc.ensures) ∙ c.if-not-is_born.true) c.next_turn-number.ensures)
+    let m = machine_of a.script.now a.frames.now a.spaces.now.items a.births.now.items a.seats.now.items a.turns.now in
+    let op = sym (c.in-Some.ensures ∙ ap (λ ops. slice_get ops c.seat_of-seat.result.answered) c.ops.ensures) in
+    let waiting = c.in-Some-waits_for.waiting in
+    let known : IsWaiting m a.actor c.process-proc.result c.seat_of-seat.result c.in-Some.op (Some waiting) =
+    λ s spaces births place at. sym c.in-Some-waits_for.is ∙ c.waits_for.ensures s spaces births place at in
+    notes_taken m (machine_of a.script.now a.frames.now a.spaces.now.items a.births.now.items a.seats.now.items c.next_turn-number.result) a.actor _ _ c.note-in-Some-waits_for.ensures
+    (waits m a.actor c.seat_of-seat.result c.in-Some.op c.next_turn-number.result waiting c.seat_of-seat.ensures op c.next_turn-number.ensures
+    (waiting_is m a.actor c.process-proc.result c.seat_of-seat.result c.in-Some.op (Some waiting) c.reached_states_stand.ensures c.requires.rest c.process-proc.ensures c.seat_of-seat.ensures op known))
 
-pub take_at-said-requires-clause-there : goal.take_at-said-requires-clause-there
-take_at-said-requires-clause-there c =
+pub take_op-requires : goal.take_op-requires
+take_op-requires c =
     let a = c.args in
-    let op = c.in-Some.ensures ∙ ap (λ ops. slice_get ops c.seat_of-seat.result.answered) c.ops.ensures in
-    let there = process_there a.script.now c.requires.rest.valid a.actor c.seat_of-seat.result.answered c.in-Some.op (sym op) in
-    omega (arith, c.process-proc.ensures, c.requires.rest.spaces)
-
-pub take_at-said-requires-clause-op : goal.take_at-said-requires-clause-op
-take_at-said-requires-clause-op c =
-    let a = c.args in
-    let op = c.in-Some.ensures ∙ ap (λ ops. slice_get ops c.seat_of-seat.result.answered) c.ops.ensures in
-    op_is_op a.script.now c.requires.rest.valid a.actor c.seat_of-seat.result.answered c.in-Some.op (sym op)
+    let m = machine_of a.script.now a.frames.now a.spaces.now.items a.births.now.items a.seats.now.items a.turns.now in
+    let op = sym (c.in-Some.ensures ∙ ap (λ ops. slice_get ops c.seat_of-seat.result.answered) c.ops.ensures) in
+    let known : IsWaiting m a.actor c.process-proc.result c.seat_of-seat.result c.in-Some.op None =
+    λ s spaces births place at. sym c.in_default-waits_for.is ∙ c.waits_for.ensures s spaces births place at in
+    is_ready m a.actor c.process-proc.result c.seat_of-seat.result c.in-Some.op c.reached_states_stand.ensures c.requires.machine c.requires.rest c.process-proc.ensures c.seat_of-seat.ensures op known
 
 pub behind-next-requires-clause-few : goal.behind-next-requires-clause-few
 behind-next-requires-clause-few c =
-    let few = few_answered c.args.script.now c.requires.rest.valid c.args.actor c.seat_of-seat.result.answered (c.requires.rest.answered c.args.actor c.seat_of-seat.result c.seat_of-seat.ensures) in
-    omega arith
+    let a = c.args in
+    let m = machine_of a.script.now a.frames.now a.spaces.now.items a.births.now.items a.seats.now.items a.turns.now in
+    few m a.actor c.seat_of-seat.result c.requires.rest c.seat_of-seat.ensures
+
+pub behind-next-requires-clause-op : goal.behind-next-requires-clause-op
+behind-next-requires-clause-op c =
+    let a = c.args in
+    let op = sym (c.in-Some.ensures ∙ ap (λ ops. slice_get ops c.seat_of-seat.result.answered) c.ops.ensures) in
+    op_is_op a.script.now c.requires.rest.valid a.actor c.seat_of-seat.result.answered c.in-Some.op op
 
 pub overflow_add-seat-2 : goal.overflow_add-seat-2
 overflow_add-seat-2 c =
-    let few = few_answered c.args.script.now c.requires.rest.valid c.args.actor c.seat_of-seat.result.answered (c.requires.rest.answered c.args.actor c.seat_of-seat.result c.seat_of-seat.ensures) in
+    let a = c.args in
+    let m = machine_of a.script.now a.frames.now a.spaces.now.items a.births.now.items a.seats.now.items a.turns.now in
+    let below = few m a.actor c.seat_of-seat.result c.requires.rest c.seat_of-seat.ensures in
     omega arith
 
 pub returns-clause-turn : goal.returns-clause-turn
 returns-clause-turn c =
     let a = c.args in
-    let m = machine_of a.script.now a.frames.now a.spaces.now.items a.seats.now.items a.turns.now in
-    let op = c.in-Some.ensures ∙ ap (λ ops. slice_get ops c.seat_of-seat.result.answered) c.ops.ensures in
-    let there = process_there a.script.now c.requires.rest.valid a.actor c.seat_of-seat.result.answered c.in-Some.op (sym op) in
-    notes_taken m (machine_of a.script.now c.take_at-said.new.frames c.take_at-said.new.spaces.items c.set_seat.new.seats.items c.next_turn-number.result) a.actor _ _ c.notes.ensures
-    (goes_at m a.actor c.process-proc.result c.seat_of-seat.result c.behind-next.result c.in-Some.op c.take_at-said.new.frames c.take_at-said.new.spaces.items c.set_seat.new.seats.items c.next_turn-number.result c.take_at-said.result
-    c.requires.rest c.process-proc.ensures (omega (arith, c.process-proc.ensures, c.requires.rest.spaces)) c.take_at-said.ensures.many
-    c.seat_of-seat.ensures (sym op) (sym c.is_born.ensures ∙ c.if-not-is_born.false) c.next_turn-number.ensures
-    c.take_at-said.ensures.others (c.behind-next.ensures ∙ ap (λ b. seat_behind c.seat_of-seat.result c.in-Some.op b) c.is_last.ensures) c.set_seat.ensures.here c.set_seat.ensures.others
-    c.take_at-said.ensures.turn)
+    let m = machine_of a.script.now a.frames.now a.spaces.now.items a.births.now.items a.seats.now.items a.turns.now in
+    let op = sym (c.in-Some.ensures ∙ ap (λ ops. slice_get ops c.seat_of-seat.result.answered) c.ops.ensures) in
+    let known : IsWaiting m a.actor c.process-proc.result c.seat_of-seat.result c.in-Some.op None =
+    λ s spaces births place at. sym c.in_default-waits_for.is ∙ c.waits_for.ensures s spaces births place at in
+    notes_taken m (machine_of a.script.now c.take_op.new.frames c.take_op.new.spaces.items c.take_op.new.births.items c.set_seat.new.seats.items c.next_turn-number.result) a.actor _ _ c.notes.ensures
+    (goes m a.actor c.process-proc.result c.seat_of-seat.result c.behind-next.result c.in-Some.op c.take_op.new.frames c.take_op.new.spaces.items c.take_op.new.births.items c.set_seat.new.seats.items c.next_turn-number.result c.take_op.result.0 c.take_op.result.1
+    c.reached_states_stand.ensures c.requires.rest c.process-proc.ensures c.seat_of-seat.ensures op c.next_turn-number.ensures
+    (waiting_is m a.actor c.process-proc.result c.seat_of-seat.result c.in-Some.op None c.reached_states_stand.ensures c.requires.rest c.process-proc.ensures c.seat_of-seat.ensures op known)
+    (c.behind-next.ensures ∙ ap (λ b. seat_behind c.seat_of-seat.result c.in-Some.op b c.take_op.result.1) c.is_last.ensures)
+    c.set_seat.ensures.here c.set_seat.ensures.others c.take_op.ensures.turn)

@@ -4,23 +4,24 @@ use Rattle.gup_script.specs.Script.{ScriptValue}
 use Rattle.gup_frames.specs.Frames.{no_references}
 use Rattle.gup_turns.specs.Run.{run_start}
 use Rattle.gup_core.specs.Machine.{machine_of, Shows}
-use Rattle.gup_core.proofs.Starting.{shows_start, new_machine}
+use Rattle.gup_core.proofs.Starting.{no_turn, shows_start, new_machine}
 use Rattle.gup_core.proofs.machine.Machine.new.Goals as goal
 
 -- what was made shows the start of the script
-starts : (c : goal.In_ok-script) → Shows (machine_of c.args.script.now c.in_ok-frames.frames c.in_ok-spaces.spaces.items c.in_ok-seats.seats.items 0) (run_start c.args.script.now)
+starts : (c : goal.In_ok-script) → Shows (machine_of c.args.script.now c.in_ok-frames.frames c.in_ok-spaces.spaces.items c.in_ok-births.births.items c.in_ok-seats.seats.items 0) (run_start c.args.script.now)
 starts c =
-    shows_start c.args.script.now c.in_ok-frames.frames c.in_ok-spaces.spaces.items c.in_ok-seats.seats.items c.actors.result
+    shows_start c.args.script.now c.in_ok-frames.frames c.in_ok-spaces.spaces.items c.in_ok-births.births.items c.in_ok-seats.seats.items c.actors.result
     (c.in_ok-frames.ensures ∙ ap (λ (t : ℕ × ℕ × ℕ). no_references t.0 t.1) c.frames-movable.ensures.counts)
-    c.in_ok-spaces.ensures.empty c.in_ok-seats.ensures
+    c.in_ok-spaces.ensures.empty c.in_ok-births.ensures.many c.in_ok-births.ensures.births c.in_ok-seats.ensures
 
 pub invariant_of-result : goal.invariant_of-result
 invariant_of-result c =
     let same = sym c.in_ok-script.ensures.equal in
-    new_machine c.in_ok-script.script c.in_ok-frames.frames c.in_ok-spaces.spaces.items c.in_ok-seats.seats.items
+    new_machine c.in_ok-script.script c.in_ok-frames.frames c.in_ok-spaces.spaces.items c.in_ok-births.births.items c.in_ok-seats.seats.items
     (c.in_ok-spaces.ensures.many ∙ c.processes.ensures ∙ ap (λ (s : ScriptValue). length s.processes) same)
-    (ap length c.in_ok-seats.ensures ∙ length-replicate c.actors.result (record { answered = 0; far = 0 }) ∙ c.actors.ensures.count ∙ ap (λ (s : ScriptValue). length s.actors) same)
-    (subst (λ (s : ScriptValue). Shows (machine_of s c.in_ok-frames.frames c.in_ok-spaces.spaces.items c.in_ok-seats.seats.items 0) (run_start s)) same (starts c))
+    (c.in_ok-births.ensures.many ∙ ap (λ (s : ScriptValue). length s.processes) same)
+    (ap length c.in_ok-seats.ensures ∙ length-replicate c.actors.result no_turn ∙ c.actors.ensures.count ∙ ap (λ (s : ScriptValue). length s.actors) same)
+    (subst (λ (s : ScriptValue). Shows (machine_of s c.in_ok-frames.frames c.in_ok-spaces.spaces.items c.in_ok-births.births.items c.in_ok-seats.seats.items 0) (run_start s)) same (starts c))
 
 pub returns : goal.returns
 returns c =
@@ -28,5 +29,6 @@ returns c =
     record {
       script = c.in_ok-script.ensures.equal;
       turns = refl;
-      shown = subst (λ (s : ScriptValue). Shows (machine_of s c.in_ok-frames.frames c.in_ok-spaces.spaces.items c.in_ok-seats.seats.items 0) (run_start c.args.script.now)) same (starts c);
+      shown =
+          subst (λ (s : ScriptValue). Shows (machine_of s c.in_ok-frames.frames c.in_ok-spaces.spaces.items c.in_ok-births.births.items c.in_ok-seats.seats.items 0) (run_start c.args.script.now)) same (starts c);
     }

@@ -1,13 +1,17 @@
-use Rattle.std.proofs.Common.{slice_get, sym, ap, ◌∙◌}
-use Rattle.gup_follows.specs.Place.{ops_of, process_of, starts_born}
-use Rattle.gup_core.specs.Machine.{MachineValue}
-use Rattle.gup_core.proofs.Taking.{waits_none_at}
+use Rattle.std.proofs.Common.{◌≡◌, Some, slice_get, sym, ap, ◌∙◌, subst}
+use Rattle.gup_turns.specs.Run.{RunState, waiting_in}
+use Rattle.gup_core.specs.Machine.{MachineValue, Shows, machine_of}
+use Rattle.gup_core.specs.Rest.{IsAtRest}
+use Rattle.gup_core.proofs.Taking.{waiting_is}
 use Rattle.gup_core.proofs.machine.Machine.waits.Goals as goal
 
-pub returns-then-is_born : goal.returns-then-is_born
-returns-then-is_born c =
-    let m = c.args.self.now in
+pub returns : goal.returns
+returns c =
+    let i = c.self.inside in
     let a = c.args.actor in
-    let op = c.in-Some.ensures ∙ ap (λ ops. slice_get ops c.seat-seat.result.answered) (c.ops.ensures ∙ ap (λ (m : MachineValue). ops_of m.script a) c.self.view_is) in
-    waits_none_at m a c.seat-seat.result c.in-Some._op c.rests.ensures c.seat-seat.ensures (sym op)
-    (ap (λ (m : MachineValue). starts_born m.script (process_of m.script a)) (sym c.self.view_is) ∙ ap (starts_born c.self.inside.script) (sym c.process-proc.ensures) ∙ sym c.is_born.ensures ∙ c.if-is_born.true)
+    let m = machine_of i.script i.frames i.spaces.items i.births.items i.seats.items i.turns in
+    let rest = subst (λ (x : MachineValue). IsAtRest x) (sym c.self.view_is) c.rests.ensures in
+    let here = subst (λ (x : MachineValue). slice_get x.seats a ≡ Some c.seat-seat.result) (sym c.self.view_is) c.seat-seat.ensures in
+    let op = sym (sym c.in-Some.is ∙ c.op_at.ensures ∙ ap (λ ops. slice_get ops c.seat-seat.result.answered) c.ops.ensures) in
+    subst (λ (x : MachineValue). (r : RunState) → Shows x r → c.waits_for.result ≡ waiting_in x.script r a) c.self.view_is
+    (waiting_is m a c.process-proc.result c.seat-seat.result c.in-Some.op c.waits_for.result c.reached_states_stand.ensures rest c.process-proc.ensures here op c.waits_for.ensures)

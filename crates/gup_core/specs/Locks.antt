@@ -1,0 +1,31 @@
+-- Which locks a turn needs, by what the machine keeps.
+use Rattle.std.specs.Prelude.{ℕ, ◌-◌, false, Option, Some, None, is_some}
+use Rattle.gup_base.specs.declared.entry.Rights.{Rights}
+use Rattle.gup_plain.specs.Event.{page_numbers}
+use Rattle.gup_plain.specs.Put.{lowest}
+use Rattle.gup_script.specs.declared.op.Op.{Op}
+use Rattle.gup_script.specs.declared.op.Op.TheVariants.{Map, Unmap, Protect, Discard, Load, Store, Fork, Exit}
+use Rattle.gup_turns.specs.Turn.{Locks, both_locks, no_lock}
+use Rattle.gup_turns.specs.Reached.{ForkPlace, unbegun, from_page, at_page}
+use Rattle.gup_core.specs.declared.locks.Locks.{Locks as KeptLocks}
+
+abbrev pub locks_of : KeptLocks → Locks
+locks_of locks = record { structure = locks.structure; table = locks.table }
+
+-- those of a fork, by the rights of its child and by where it stands
+abbrev pub fork_needs : (right : ℕ → Option Rights) → ForkPlace → Locks
+fork_needs right unbegun = both_locks
+fork_needs right (from_page page) =
+    record { structure = false; table = is_some (lowest page (page_numbers - page) (λ g. is_some (right g))) }
+fork_needs right (at_page page) = no_lock
+
+-- the child that the operation brings, if it is a fork
+abbrev pub child_in : Op → Option ℕ
+child_in (Map page n rights) = None
+child_in (Unmap page n) = None
+child_in (Protect page n rights) = None
+child_in (Discard page n) = None
+child_in (Load page word) = None
+child_in (Store page word value) = None
+child_in (Fork child) = Some child
+child_in Exit = None

@@ -1,0 +1,161 @@
+//! What actors wait for: processes to be born, and locks that others hold.
+ghost use Rattle.std.specs.Prelude.{◌≡◌, ℕ, ◌<◌, length, slice_get, Some};
+ghost use Rattle.gup_script.specs.declared.op.Op.TheVariants.{Fork};
+ghost use Rattle.gup_events.specs.State.{CoreState};
+ghost use Rattle.gup_space.specs.Space.{SpaceParts, space_of};
+ghost use Rattle.gup_turns.specs.Turn.{waits_for_lock as lock_waited, waits_for_locks as locks_waited, held_by_other as other_holding, locks_needed as needed, waiting_for};
+ghost use Rattle.gup_turns.specs.Reached.{fork_place};
+ghost use Rattle.gup_ops.specs.Forked.{place_of};
+ghost use Rattle.gup_ops.specs.Tidy.{AreNumbered};
+ghost use Rattle.gup_core.specs.Locks.{locks_of, fork_needs, child_in};
+ghost use Rattle.gup_core.specs.Machine.{ShowsSpaces, ShowsBirths};
+ghost use Rattle.gup_core.specs.Goes.{StandsAt};
+
+use crate::births::{Birth, birth_of};
+use gup_base::{ActorNo, ProcNo};
+use gup_ops::{ForkPlace, needs_table, next_page};
+use gup_plain::Waiting;
+use gup_script::Op;
+use gup_space::Space;
+
+/// Which locks of its process a turn needs.
+#[derive(Clone, Copy, Debug)]
+pub struct Locks {
+    pub structure: bool,
+    pub table: bool,
+}
+
+/// What the actor waits for before its next turn, if it waits: first that its process is born, then for the holder of
+/// the structure lock, then for that of the table lock.
+pub fn waits_for(
+    spaces: &Vec<Space>,
+    births: &Vec<Birth>,
+    actor: ActorNo,
+    proc: ProcNo,
+    place: ForkPlace,
+    op: &Op,
+) -> Option<Waiting>
+    requires there { proc < length spaces.now.items }
+    requires declared { proc < length births.now.items }
+    requires child { (child : ℕ) → op.now ≡ Fork child → child < length spaces.now.items }
+    requires numbered { (p : ℕ) (space : SpaceParts) → slice_get spaces.now.items p ≡ Some space → AreNumbered (space_of space) }
+    ensures { (s : CoreState) → ShowsSpaces spaces.now.items s → ShowsBirths births.now.items s
+        → place_of place ≡ fork_place (s.job actor) → StandsAt s actor proc op.now
+        → result ≡ waiting_for s actor proc op.now }
+{
+    match birth_of(births, proc) {
+        Birth::Born => waits_for_holders(spaces, actor, proc, place, op),
+        Birth::Unborn | Birth::Growing => Some(Waiting::Process(proc)),
+    }
+}
+
+// The actor of a born process waits for the holder of a lock that its next turn needs.
+fn waits_for_holders(
+    spaces: &Vec<Space>,
+    actor: ActorNo,
+    proc: ProcNo,
+    place: ForkPlace,
+    op: &Op,
+) -> Option<Waiting>
+    requires there { proc < length spaces.now.items }
+    requires child { (child : ℕ) → op.now ≡ Fork child → child < length spaces.now.items }
+    requires numbered { (p : ℕ) (space : SpaceParts) → slice_get spaces.now.items p ≡ Some space → AreNumbered (space_of space) }
+    ensures { (s : CoreState) → ShowsSpaces spaces.now.items s → place_of place ≡ fork_place (s.job actor) → StandsAt s actor proc op.now
+        → result ≡ locks_waited (needed s actor proc op.now) actor (s.structure proc) (s.table proc) }
+{
+    let locks = locks_needed(spaces, proc, place, op);
+    let space = space_at(spaces, proc);
+    waits_for_locks(&locks, actor, space.structure(), space.table())
+}
+
+fn space_at(spaces: &Vec<Space>, proc: ProcNo) -> &Space
+    requires { proc < length spaces.now.items }
+    ensures { slice_get spaces.now.items proc ≡ Some result.now }
+{
+    &spaces[proc.get() as usize]
+}
+
+/// The child that the operation brings, if it is a fork.
+pub fn child_of(op: &Op) -> Option<ProcNo>
+    ensures { result ≡ child_in op.now }
+{
+    match *op {
+        Op::Fork { child } => Some(child),
+        Op::Map { .. } | Op::Unmap { .. } | Op::Protect { .. } | Op::Discard { .. } => None,
+        Op::Load { .. } | Op::Store { .. } | Op::Exit => None,
+    }
+}
+
+// Which locks of its process the operation's next turn needs.
+fn locks_needed(spaces: &Vec<Space>, proc: ProcNo, place: ForkPlace, op: &Op) -> Locks
+    requires there { proc < length spaces.now.items }
+    requires child { (child : ℕ) → op.now ≡ Fork child → child < length spaces.now.items }
+    requires numbered { (p : ℕ) (space : SpaceParts) → slice_get spaces.now.items p ≡ Some space → AreNumbered (space_of space) }
+    ensures { (s : CoreState) (a : ℕ) → ShowsSpaces spaces.now.items s → place_of place ≡ fork_place (s.job a)
+        → StandsAt s a proc op.now → locks_of result ≡ needed s a proc op.now }
+{
+    if let Some(child) = child_of(op) {
+        return fork_locks(space_at(spaces, child), place);
+    }
+    let needed = needs_table(space_at(spaces, proc), op);
+    Locks {
+        structure: needed,
+        table: needed,
+    }
+}
+
+// A fork needs both locks at its beginning, and the table lock for the first turn of each page. Its end needs none.
+fn fork_locks(child: &Space, place: ForkPlace) -> Locks
+    requires numbered { AreNumbered (space_of child.now) }
+    ensures { locks_of result ≡ fork_needs (space_of child.now).right (place_of place) }
+{
+    match place {
+        ForkPlace::Unbegun => Locks {
+            structure: true,
+            table: true,
+        },
+        ForkPlace::From(from) => Locks {
+            structure: false,
+            table: next_page(child, from).is_some(),
+        },
+        ForkPlace::At(_) => Locks {
+            structure: false,
+            table: false,
+        },
+    }
+}
+
+// The actor waits for the holder of a lock that it needs, first of the structure lock.
+fn waits_for_locks(
+    locks: &Locks,
+    actor: ActorNo,
+    structure: Option<ActorNo>,
+    table: Option<ActorNo>,
+) -> Option<Waiting>
+    ensures { result ≡ locks_waited (locks_of locks.now) actor structure table }
+{
+    if let Some(waiting) = waits_for_lock(locks.structure, actor, structure) {
+        return Some(waiting);
+    }
+    waits_for_lock(locks.table, actor, table)
+}
+
+// The actor waits for another one that holds a lock which it needs.
+fn waits_for_lock(needed: bool, actor: ActorNo, holder: Option<ActorNo>) -> Option<Waiting>
+    ensures { result ≡ lock_waited needed actor holder }
+{
+    if needed {
+        held_by_other(actor, holder)
+    } else {
+        None
+    }
+}
+
+fn held_by_other(actor: ActorNo, holder: Option<ActorNo>) -> Option<Waiting>
+    ensures { result ≡ other_holding actor holder }
+{
+    match holder {
+        Some(other) if other != actor => Some(Waiting::Holder(other)),
+        _ => None,
+    }
+}

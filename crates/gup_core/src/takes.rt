@@ -1,0 +1,163 @@
+//! A turn of an operation among all processes.
+ghost use Rattle.std.specs.Prelude.{◌≡◌, ℕ, ◌<◌, ◌^◌, true, false, length, slice_get, Some, None, if◌then◌else◌};
+ghost use Rattle.gup_script.specs.declared.op.Op.TheVariants.{Fork};
+ghost use Rattle.gup_script.specs.Valid.{IsOp};
+ghost use Rattle.gup_frames.specs.Frames.{frames_of};
+ghost use Rattle.gup_space.specs.Space.{SpaceParts, space_of};
+ghost use Rattle.gup_space.specs.Shows.{change_of};
+ghost use Rattle.gup_fork.specs.Forks.{fork_change_of};
+ghost use Rattle.gup_turns.specs.Turn.{op_turn};
+ghost use Rattle.gup_turns.specs.Reached.{IsNoFork};
+ghost use Rattle.gup_ops.specs.Far.{HasFar, far_in};
+ghost use Rattle.gup_ops.specs.Forked.{place_of, IsReadyAt, IsForkTurn};
+ghost use Rattle.gup_ops.specs.Said.{whats_of, IsTurnOf};
+ghost use Rattle.gup_ops.specs.Tidy.{IsTidy, needs_table};
+ghost use Rattle.gup_core.specs.declared.births.Birth.TheVariants.{Growing, Born};
+ghost use Rattle.gup_core.specs.Goes.{IsTurnOfAll, IsReady, IsForkReady};
+
+use crate::births::{Birth, set_birth};
+use crate::locks::child_of;
+use crate::seats::Seat;
+use gup_base::{ActorNo, ProcNo};
+use gup_frames::Frames;
+use gup_ops::{ForkPlace, Said, fork, is_last, take};
+use gup_script::Op;
+use gup_space::Space;
+
+/// Takes a turn of the operation, and answers what it says and where the actor's fork stands then.
+pub fn take_op(
+    frames: &mut Frames,
+    spaces: &mut Vec<Space>,
+    births: &mut Vec<Birth>,
+    actor: ActorNo,
+    proc: ProcNo,
+    seat: &Seat,
+    op: &Op,
+) -> (Said, ForkPlace)
+    requires { IsReady (frames_of frames.old) spaces.old.items births.old.items proc op.now seat.now }
+    ensures spaces { length spaces.new.items ≡ length spaces.old.items }
+    ensures births { length births.new.items ≡ length births.old.items }
+    ensures turn { IsTurnOfAll frames.old frames.new spaces.old.items spaces.new.items births.old.items births.new.items
+        actor proc seat.now.far op.now seat.now.fork (whats_of result.0) result.1 }
+{
+    let Some(child) = child_of(op) else {
+        let said = take_alone(spaces, frames, actor, proc, seat.far, op);
+        return (said, seat.fork);
+    };
+    take_fork(frames, spaces, births, actor, proc, child, seat.fork)
+}
+
+// Takes a turn of an operation of one process.
+fn take_alone(
+    spaces: &mut Vec<Space>,
+    frames: &mut Frames,
+    actor: ActorNo,
+    proc: ProcNo,
+    far: u16,
+    op: &Op,
+) -> Said
+    requires there { proc < length spaces.old.items }
+    requires tidy { (space : SpaceParts) → slice_get spaces.old.items proc ≡ Some space → IsTidy (frames_of frames.old) (space_of space) }
+    requires table { (space : SpaceParts) → slice_get spaces.old.items proc ≡ Some space
+        → needs_table (space_of space) op.now ≡ true → (space_of space).table ≡ None }
+    requires op { IsOp op.now }
+    requires far { HasFar op.now far }
+    requires single { IsNoFork (Some op.now) }
+    ensures many { length spaces.new.items ≡ length spaces.old.items }
+    ensures others { (q : ℕ) → (q ≡ proc → ⊥) → slice_get spaces.new.items q ≡ slice_get spaces.old.items q }
+    ensures turn { (old new : SpaceParts) (k : ℕ) → slice_get spaces.old.items proc ≡ Some old → slice_get spaces.new.items proc ≡ Some new
+        → far ≡ far_in (Some op.now) k
+        → IsTurnOf (change_of frames.old frames.new old new) proc (λ s. op_turn s actor proc k op.now) (whats_of result) }
+{
+    take(
+        &mut spaces[proc.get() as usize],
+        frames,
+        actor,
+        proc,
+        far,
+        op,
+    )
+}
+
+// Takes a turn of a fork of the process into this child, which grows from the first turn on, and is born with the last.
+fn take_fork(
+    frames: &mut Frames,
+    spaces: &mut Vec<Space>,
+    births: &mut Vec<Birth>,
+    actor: ActorNo,
+    proc: ProcNo,
+    child: ProcNo,
+    place: ForkPlace,
+) -> (Said, ForkPlace)
+    requires there { proc < length spaces.old.items }
+    requires tidy { (p : ℕ) (space : SpaceParts) → slice_get spaces.old.items p ≡ Some space → IsTidy (frames_of frames.old) (space_of space) }
+    requires fork { IsForkReady (frames_of frames.old) spaces.old.items births.old.items proc child place }
+    ensures spaces { length spaces.new.items ≡ length spaces.old.items }
+    ensures births { length births.new.items ≡ length births.old.items }
+    ensures turn { (far : ℕ) → IsTurnOfAll frames.old frames.new spaces.old.items spaces.new.items births.old.items births.new.items
+        actor proc far (Fork child) place (whats_of result.0) result.1 }
+{
+    let (said, next) = fork_two(frames, spaces, actor, proc, child, place);
+    set_birth(births, child, birth_behind(is_last(&said)));
+    (said, next)
+}
+
+// What the child of a fork is behind a turn of it: born with the last one.
+fn birth_behind(last: bool) -> Birth
+    ensures { result ≡ (if last then Born else Growing) }
+{
+    if last { Birth::Born } else { Birth::Growing }
+}
+
+// Takes a turn of a fork over two of the processes.
+fn fork_two(
+    frames: &mut Frames,
+    spaces: &mut [Space],
+    actor: ActorNo,
+    proc: ProcNo,
+    child: ProcNo,
+    place: ForkPlace,
+) -> (Said, ForkPlace)
+    requires apart { proc ≡ child → ⊥ }
+    requires parent { proc < length spaces.old }
+    requires child { child < length spaces.old }
+    requires tidy { (p : ℕ) (space : SpaceParts) → slice_get spaces.old p ≡ Some space → IsTidy (frames_of frames.old) (space_of space) }
+    requires unpinned { (p : ℕ) (space : SpaceParts) → slice_get spaces.old p ≡ Some space → (space_of space).has_pinned ≡ false }
+    requires few_forks { (p : ℕ) (space : SpaceParts) → slice_get spaces.old p ≡ Some space → (space_of space).sequence < 2 ^ 40 }
+    requires few_counts { (f : ℕ) → (frames_of frames.old).count f < 2 ^ 40 }
+    requires place { (parent kid : SpaceParts) → slice_get spaces.old proc ≡ Some parent → slice_get spaces.old child ≡ Some kid
+        → IsReadyAt (place_of place) (space_of parent) (space_of kid) }
+    ensures many { length spaces.new ≡ length spaces.old }
+    ensures others { (q : ℕ) → (q ≡ proc → ⊥) → (q ≡ child → ⊥) → slice_get spaces.new q ≡ slice_get spaces.old q }
+    ensures turn { (old_parent new_parent old_child new_child : SpaceParts)
+        → slice_get spaces.old proc ≡ Some old_parent → slice_get spaces.new proc ≡ Some new_parent
+        → slice_get spaces.old child ≡ Some old_child → slice_get spaces.new child ≡ Some new_child
+        → IsForkTurn (fork_change_of frames.old frames.new old_parent new_parent old_child new_child)
+        actor proc child (place_of place) (place_of result.1) (whats_of result.0) }
+{
+    let parent_at = proc.get() as usize;
+    let child_at = child.get() as usize;
+    if parent_at < child_at {
+        let (low, high) = spaces.split_at_mut(child_at);
+        fork(
+            &mut low[parent_at],
+            &mut high[0],
+            frames,
+            actor,
+            proc,
+            child,
+            place,
+        )
+    } else {
+        let (low, high) = spaces.split_at_mut(parent_at);
+        fork(
+            &mut high[0],
+            &mut low[child_at],
+            frames,
+            actor,
+            proc,
+            child,
+            place,
+        )
+    }
+}
