@@ -17,7 +17,7 @@ use Rattle.gup_ops.specs.Forked.{place_of, IsReadyAt}
 use Rattle.gup_ops.specs.Tidy.{IsTidy, needs_table}
 use Rattle.gup_core.specs.declared.births.Birth.{Birth}
 use Rattle.gup_core.specs.declared.seats.Seat.{Seat}
-use Rattle.gup_core.specs.Machine.{ShowsSpaces, ShowsBirths}
+use Rattle.gup_core.specs.Machine.{EachSpace, ShowsSpaces, ShowsBirths}
 
 -- The actor of process p stands before a turn of this operation: it is in the middle of nothing but, where the operation
 -- is one, a fork.
@@ -49,15 +49,15 @@ pub record IsForkReady (frames : FramesValue) (spaces : List SpaceParts) (births
   pub there : child < length spaces
   pub declared : child < length births
   pub few_counts : (f : ℕ) → frames.count f < 2 ^ 40
-  pub few_forks : (q : ℕ) (space : SpaceParts) → slice_get spaces q ≡ Some space → (space_of space).sequence < 2 ^ 40
-  pub unpinned : (q : ℕ) (space : SpaceParts) → slice_get spaces q ≡ Some space → (space_of space).has_pinned ≡ false
+  pub few_forks : EachSpace (λ space. space.sequence < 2 ^ 40) spaces
+  pub unpinned : EachSpace (λ space. space.has_pinned ≡ false) spaces
   pub stands : (parent kid : SpaceParts) → slice_get spaces p ≡ Some parent → slice_get spaces child ≡ Some kid → IsReadyAt (place_of fork) (space_of parent) (space_of kid)
 
 -- What a turn of an operation of process p needs: its numbers are in range, each process is tidy, and nobody holds a lock
 -- that it needs.
 pub record IsReady (frames : FramesValue) (spaces : List SpaceParts) (births : List Birth) (p : ℕ) (op : Op) (seat : Seat) : Type 0 where
   pub there : p < length spaces
-  pub tidy : (q : ℕ) (space : SpaceParts) → slice_get spaces q ≡ Some space → IsTidy frames (space_of space)
+  pub tidy : EachSpace (IsTidy frames) spaces
   pub table : (space : SpaceParts) → slice_get spaces p ≡ Some space → IsNoFork (Some op) → needs_table (space_of space) op ≡ true → (space_of space).table ≡ None
   pub in_range : IsOp op
   pub far : HasFar op seat.far

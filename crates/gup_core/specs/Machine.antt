@@ -6,7 +6,7 @@ use Rattle.gup_script.specs.Script.{ScriptValue}
 use Rattle.gup_follows.specs.Place.{present_op}
 use Rattle.gup_follows.specs.Follows.{notes_of_turn}
 use Rattle.gup_frames.specs.Frames.{FrameLists, frames_of}
-use Rattle.gup_space.specs.Space.{SpaceParts, space_of}
+use Rattle.gup_space.specs.Space.{SpaceValue, SpaceParts, space_of}
 use Rattle.gup_space.specs.Shows.{ShowsFrames, ShowsSpace}
 use Rattle.gup_events.specs.State.{CoreState}
 use Rattle.gup_turns.specs.Run.{RunState, run_start, run_after, taken_in}
@@ -35,6 +35,10 @@ machine_of script frames spaces births seats turns =
 abbrev pub counted : ℕ → ℕ
 counted turns = min (turns + 1) (2 ^ 32 - 1)
 
+-- this holds of each process
+abbrev pub EachSpace : (SpaceValue → Type 0) → List SpaceParts → Type 0
+EachSpace P spaces = (p : ℕ) (space : SpaceParts) → slice_get spaces p ≡ Some space → P (space_of space)
+
 -- the state has these processes
 abbrev pub ShowsSpaces : List SpaceParts → CoreState → Type 0
 ShowsSpaces spaces s = (p : ℕ) (space : SpaceParts) → slice_get spaces p ≡ Some space → ShowsSpace p (space_of space) s
@@ -53,7 +57,7 @@ ShowsBirths births s = (p : ℕ) (birth : KeptBirth) → slice_get births p ≡ 
 abbrev pub IsReached : ScriptValue → RunState → Type 0
 IsReached script r = (actors : List ℕ) × (r ≡ turned script (run_start script) actors)
 
--- The state of the core run is the machine's.
+-- Turns lead to this state of the core run, and it is as the machine has it.
 pub record Shows (m : MachineValue) (r : RunState) : Type 0 where
   pub reached : IsReached m.script r
   pub frames : ShowsFrames (frames_of m.frames) r.core

@@ -12,7 +12,7 @@ use Rattle.gup_ops.specs.Far.{HasFar}
 use Rattle.gup_ops.specs.Forked.{place_of, IsReadyAt}
 use Rattle.gup_ops.specs.Tidy.{IsTidy}
 use Rattle.gup_core.specs.declared.seats.Seat.{Seat}
-use Rattle.gup_core.specs.Machine.{MachineValue}
+use Rattle.gup_core.specs.Machine.{MachineValue, EachSpace}
 
 -- the operation that an actor of this seat does
 abbrev pub op_of_seat : MachineValue → (a : ℕ) → Seat → Option Op
@@ -30,9 +30,9 @@ pub record IsAtRest (m : MachineValue) : Type 0 where
   pub spaces : length m.spaces ≡ length m.script.processes
   pub births : length m.births ≡ length m.script.processes
   pub seats : length m.seats ≡ length m.script.actors
-  pub tidy : (p : ℕ) (space : SpaceParts) → slice_get m.spaces p ≡ Some space → IsTidy (frames_of m.frames) (space_of space)
-  pub unpinned : (p : ℕ) (space : SpaceParts) → slice_get m.spaces p ≡ Some space → (space_of space).has_pinned ≡ false
-  pub few_forks : (p : ℕ) (space : SpaceParts) → slice_get m.spaces p ≡ Some space → (space_of space).sequence ≤ 32
+  pub tidy : EachSpace (IsTidy (frames_of m.frames)) m.spaces
+  pub unpinned : EachSpace (λ space. space.has_pinned ≡ false) m.spaces
+  pub few_forks : EachSpace (λ space. space.sequence ≤ 32) m.spaces
   pub few_counts : (f : ℕ) → (frames_of m.frames).count f ≤ 16 * page_numbers
   pub unlocked : (p a : ℕ) (space : SpaceParts) (seat : Seat) → slice_get m.spaces p ≡ Some space → slice_get m.seats a ≡ Some seat → IsNoFork (op_of_seat m a seat) → HoldsNoLock (space_of space) a
   pub forks : (a child : ℕ) (seat : Seat) (parent kid : SpaceParts) → slice_get m.seats a ≡ Some seat → op_of_seat m a seat ≡ Some (Fork child) → slice_get m.spaces (process_of m.script a) ≡ Some parent → slice_get m.spaces child ≡ Some kid → IsReadyAt (place_of seat.fork) (space_of parent) (space_of kid)

@@ -2,13 +2,14 @@
 ghost use Rattle.std.specs.Prelude.{◌≡◌, ℕ, ◌<◌, length, slice_get, Some};
 ghost use Rattle.gup_script.specs.declared.op.Op.TheVariants.{Fork};
 ghost use Rattle.gup_events.specs.State.{CoreState};
-ghost use Rattle.gup_space.specs.Space.{SpaceParts, space_of};
-ghost use Rattle.gup_turns.specs.Turn.{waits_for_lock as lock_waited, waits_for_locks as locks_waited, held_by_other as other_holding, locks_needed as needed, waiting_for};
+ghost use Rattle.gup_space.specs.Space.{space_of};
+ghost use Rattle.gup_turns.specs.Turn.{waits_for_lock as lock_waited, waits_for_locks as locks_waited};
+ghost use Rattle.gup_turns.specs.Turn.{held_by_other as other_holding, locks_needed as needed, waiting_for};
 ghost use Rattle.gup_turns.specs.Reached.{fork_place};
 ghost use Rattle.gup_ops.specs.Forked.{place_of};
 ghost use Rattle.gup_ops.specs.Tidy.{AreNumbered};
 ghost use Rattle.gup_core.specs.Locks.{locks_of, fork_needs, child_in};
-ghost use Rattle.gup_core.specs.Machine.{ShowsSpaces, ShowsBirths};
+ghost use Rattle.gup_core.specs.Machine.{EachSpace, ShowsSpaces, ShowsBirths};
 ghost use Rattle.gup_core.specs.Goes.{StandsAt};
 
 use crate::births::{Birth, birth_of};
@@ -38,7 +39,7 @@ pub fn waits_for(
     requires there { proc < length spaces.now.items }
     requires declared { proc < length births.now.items }
     requires child { (child : ℕ) → op.now ≡ Fork child → child < length spaces.now.items }
-    requires numbered { (p : ℕ) (space : SpaceParts) → slice_get spaces.now.items p ≡ Some space → AreNumbered (space_of space) }
+    requires numbered { EachSpace AreNumbered spaces.now.items }
     ensures { (s : CoreState) → ShowsSpaces spaces.now.items s → ShowsBirths births.now.items s
         → place_of place ≡ fork_place (s.job actor) → StandsAt s actor proc op.now
         → result ≡ waiting_for s actor proc op.now }
@@ -59,8 +60,9 @@ fn waits_for_holders(
 ) -> Option<Waiting>
     requires there { proc < length spaces.now.items }
     requires child { (child : ℕ) → op.now ≡ Fork child → child < length spaces.now.items }
-    requires numbered { (p : ℕ) (space : SpaceParts) → slice_get spaces.now.items p ≡ Some space → AreNumbered (space_of space) }
-    ensures { (s : CoreState) → ShowsSpaces spaces.now.items s → place_of place ≡ fork_place (s.job actor) → StandsAt s actor proc op.now
+    requires numbered { EachSpace AreNumbered spaces.now.items }
+    ensures { (s : CoreState) → ShowsSpaces spaces.now.items s
+        → place_of place ≡ fork_place (s.job actor) → StandsAt s actor proc op.now
         → result ≡ locks_waited (needed s actor proc op.now) actor (s.structure proc) (s.table proc) }
 {
     let locks = locks_needed(spaces, proc, place, op);
@@ -90,7 +92,7 @@ pub fn child_of(op: &Op) -> Option<ProcNo>
 fn locks_needed(spaces: &Vec<Space>, proc: ProcNo, place: ForkPlace, op: &Op) -> Locks
     requires there { proc < length spaces.now.items }
     requires child { (child : ℕ) → op.now ≡ Fork child → child < length spaces.now.items }
-    requires numbered { (p : ℕ) (space : SpaceParts) → slice_get spaces.now.items p ≡ Some space → AreNumbered (space_of space) }
+    requires numbered { EachSpace AreNumbered spaces.now.items }
     ensures { (s : CoreState) (a : ℕ) → ShowsSpaces spaces.now.items s → place_of place ≡ fork_place (s.job a)
         → StandsAt s a proc op.now → locks_of result ≡ needed s a proc op.now }
 {

@@ -4,8 +4,7 @@ ghost use Rattle.gup_follows.specs.Place.{has_finished};
 ghost use Rattle.gup_frames.specs.Frames.{frames_of, free_of};
 ghost use Rattle.gup_space.specs.Space.{SpaceParts, space_of, no_space};
 ghost use Rattle.gup_turns.specs.Run.{RunState, waiting_in};
-ghost use Rattle.gup_core.specs.declared.seats.Seat.{Seat as SeatValue};
-ghost use Rattle.gup_core.specs.Machine.{Shows, TakesTurn, TakesTurns, IsNew};
+ghost use Rattle.gup_core.specs.Machine.{Shows, TakesTurns, IsNew};
 ghost use Rattle.gup_core.specs.Rest.{IsAtRest};
 
 use crate::births::{self, Birth};
@@ -99,8 +98,8 @@ impl Machine {
         )
     }
 
-    /// What the actor waits for before its next turn, if it waits: first that its process is born, then for the holder of
-    /// a lock of its process that the turn needs, first of the structure lock, then of the table lock.
+    /// What the actor waits for before its next turn, if it waits: that its process is born, or else for another actor
+    /// that holds a lock of the process which the turn needs, first the structure lock, then the table lock.
     pub fn waits(&self, actor: ActorNo) -> Option<Waiting>
         requires { actor < length self.now.script.actors }
         ensures { (r : RunState) → Shows self.now r → result ≡ waiting_in self.now.script r actor }

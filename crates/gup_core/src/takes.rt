@@ -13,6 +13,7 @@ ghost use Rattle.gup_ops.specs.Forked.{place_of, IsReadyAt, IsForkTurn};
 ghost use Rattle.gup_ops.specs.Said.{whats_of, IsTurnOf};
 ghost use Rattle.gup_ops.specs.Tidy.{IsTidy, needs_table};
 ghost use Rattle.gup_core.specs.declared.births.Birth.TheVariants.{Growing, Born};
+ghost use Rattle.gup_core.specs.Machine.{EachSpace};
 ghost use Rattle.gup_core.specs.Goes.{IsTurnOfAll, IsReady, IsForkReady};
 
 use crate::births::{Birth, set_birth};
@@ -57,7 +58,7 @@ fn take_alone(
     op: &Op,
 ) -> Said
     requires there { proc < length spaces.old.items }
-    requires tidy { (space : SpaceParts) → slice_get spaces.old.items proc ≡ Some space → IsTidy (frames_of frames.old) (space_of space) }
+    requires tidy { EachSpace (IsTidy (frames_of frames.old)) spaces.old.items }
     requires table { (space : SpaceParts) → slice_get spaces.old.items proc ≡ Some space
         → needs_table (space_of space) op.now ≡ true → (space_of space).table ≡ None }
     requires op { IsOp op.now }
@@ -65,9 +66,11 @@ fn take_alone(
     requires single { IsNoFork (Some op.now) }
     ensures many { length spaces.new.items ≡ length spaces.old.items }
     ensures others { (q : ℕ) → (q ≡ proc → ⊥) → slice_get spaces.new.items q ≡ slice_get spaces.old.items q }
-    ensures turn { (old new : SpaceParts) (k : ℕ) → slice_get spaces.old.items proc ≡ Some old → slice_get spaces.new.items proc ≡ Some new
+    ensures turn { (old new : SpaceParts) (k : ℕ)
+        → slice_get spaces.old.items proc ≡ Some old → slice_get spaces.new.items proc ≡ Some new
         → far ≡ far_in (Some op.now) k
-        → IsTurnOf (change_of frames.old frames.new old new) proc (λ s. op_turn s actor proc k op.now) (whats_of result) }
+        → IsTurnOf (change_of frames.old frames.new old new) proc
+        (λ s. op_turn s actor proc k op.now) (whats_of result) }
 {
     take(
         &mut spaces[proc.get() as usize],
@@ -90,11 +93,12 @@ fn take_fork(
     place: ForkPlace,
 ) -> (Said, ForkPlace)
     requires there { proc < length spaces.old.items }
-    requires tidy { (p : ℕ) (space : SpaceParts) → slice_get spaces.old.items p ≡ Some space → IsTidy (frames_of frames.old) (space_of space) }
+    requires tidy { EachSpace (IsTidy (frames_of frames.old)) spaces.old.items }
     requires fork { IsForkReady (frames_of frames.old) spaces.old.items births.old.items proc child place }
     ensures spaces { length spaces.new.items ≡ length spaces.old.items }
     ensures births { length births.new.items ≡ length births.old.items }
-    ensures turn { (far : ℕ) → IsTurnOfAll frames.old frames.new spaces.old.items spaces.new.items births.old.items births.new.items
+    ensures turn { (far : ℕ)
+        → IsTurnOfAll frames.old frames.new spaces.old.items spaces.new.items births.old.items births.new.items
         actor proc far (Fork child) place (whats_of result.0) result.1 }
 {
     let (said, next) = fork_two(frames, spaces, actor, proc, child, place);
@@ -121,11 +125,12 @@ fn fork_two(
     requires apart { proc ≡ child → ⊥ }
     requires parent { proc < length spaces.old }
     requires child { child < length spaces.old }
-    requires tidy { (p : ℕ) (space : SpaceParts) → slice_get spaces.old p ≡ Some space → IsTidy (frames_of frames.old) (space_of space) }
-    requires unpinned { (p : ℕ) (space : SpaceParts) → slice_get spaces.old p ≡ Some space → (space_of space).has_pinned ≡ false }
-    requires few_forks { (p : ℕ) (space : SpaceParts) → slice_get spaces.old p ≡ Some space → (space_of space).sequence < 2 ^ 40 }
+    requires tidy { EachSpace (IsTidy (frames_of frames.old)) spaces.old }
+    requires unpinned { EachSpace (λ space. space.has_pinned ≡ false) spaces.old }
+    requires few_forks { EachSpace (λ space. space.sequence < 2 ^ 40) spaces.old }
     requires few_counts { (f : ℕ) → (frames_of frames.old).count f < 2 ^ 40 }
-    requires place { (parent kid : SpaceParts) → slice_get spaces.old proc ≡ Some parent → slice_get spaces.old child ≡ Some kid
+    requires place { (parent kid : SpaceParts)
+        → slice_get spaces.old proc ≡ Some parent → slice_get spaces.old child ≡ Some kid
         → IsReadyAt (place_of place) (space_of parent) (space_of kid) }
     ensures many { length spaces.new ≡ length spaces.old }
     ensures others { (q : ℕ) → (q ≡ proc → ⊥) → (q ≡ child → ⊥) → slice_get spaces.new q ≡ slice_get spaces.old q }

@@ -1,5 +1,6 @@
-ghost use Rattle.std.specs.Prelude.{◌≡◌, ◌<◌, ◌≤◌, ◌+◌, ◌^◌, IsTrue, All, length, IfOk};
+ghost use Rattle.std.specs.Prelude.{◌≡◌, ◌<◌, ◌^◌, IsTrue, All, None, length, IfOk};
 ghost use Rattle.gup_script.specs.Valid.{IsOp, IsPages};
+ghost use Rattle.gup_core.specs.Locks.{child_in};
 
 use super::*;
 use gup_base::{ActorNo, NoMemory, PageNo, ProcNo, Rights, WordNo, Zone};
@@ -9,9 +10,10 @@ use std::alloc::Global;
 use std::process::Abort;
 use std::test::Fail;
 
-// Whether the numbers of the operation are in range.
+// Whether the numbers of the operation are in range, and it is no fork.
 fn is_op(op: &Op) -> bool
-    ensures { IsTrue result → IsOp op.now }
+    ensures range { IsTrue result → IsOp op.now }
+    ensures single { IsTrue result → child_in op.now ≡ None }
 {
     match op {
         Op::Map { page, n, .. } => are_pages(*page, *n),
@@ -20,6 +22,7 @@ fn is_op(op: &Op) -> bool
         Op::Discard { page, n } => are_pages(*page, *n),
         Op::Load { page, word } => is_word(*page, *word),
         Op::Store { page, word, value } => is_word(*page, *word) && is_value(*value),
+        Op::Fork { .. } => false,
         Op::Exit => true,
     }
 }
@@ -44,7 +47,8 @@ fn is_value(value: u64) -> bool
 }
 
 fn are_ops(ops: &[Op]) -> bool
-    ensures { IsTrue result → All IsOp ops.now }
+    ensures range { IsTrue result → All IsOp ops.now }
+    ensures single { IsTrue result → All (λ op. child_in op ≡ None) ops.now }
 {
     for op in ops {
         if !is_op(op) {
@@ -67,17 +71,19 @@ fn thread(alloc: Global, proc: u64, ops: Vec<Op>) -> Result<Actor, Fail>
     })
 }
 
-fn process(alloc: Global, born: bool) -> Result<Process, Fail> {
+fn process(alloc: Global, born: bool) -> Result<Process, Fail>
+    ensures { IfOk result (λ process. process.born ≡ born) }
+{
     Ok(Process {
         name: "p".to_string(alloc)?,
         born,
     })
 }
 
-// A script of three processes, of which the last is unborn, and of a thread of each. It has a movable frame and a
-// normal one.
+// A script of three processes, of which the last is unborn, and of a thread of each. A fourth actor of process 0 forks
+// into the last process. There are a movable frame and a normal one.
 fn script(alloc: Global, first: Vec<Op>, second: Vec<Op>, third: Vec<Op>) -> Result<Script, Fail>
-    ensures { IfOk result (λ script. length script.actors ≡ 3) }
+    ensures { IfOk result (λ script. length script.actors ≡ 4) }
 {
     if !are_ops(&first) || !are_ops(&second) || !are_ops(&third) {
         return Err("an operation".into());
@@ -89,10 +95,12 @@ fn script(alloc: Global, first: Vec<Op>, second: Vec<Op>, third: Vec<Op>) -> Res
     processes.push(process(alloc, true)?)?;
     processes.push(process(alloc, true)?)?;
     processes.push(process(alloc, false)?)?;
+    let fork = Vec::from_array(alloc, [Op::Fork { child: proc(2) }])?;
     let mut actors = Vec::new(alloc);
     actors.push(thread(alloc, 0, first)?)?;
     actors.push(thread(alloc, 1, second)?)?;
     actors.push(thread(alloc, 2, third)?)?;
+    actors.push(thread(alloc, 0, fork)?)?;
     Ok(Script::new(Contents {
         movable: 1,
         normal: 1,
@@ -117,7 +125,7 @@ fn word(number: u64) -> WordNo
 }
 
 fn actor(number: u64) -> ActorNo
-    requires { number < 3 }
+    requires { number < 4 }
     ensures { result ≡ number }
 {
     ActorNo::new(number).unwrap()
@@ -125,11 +133,14 @@ fn actor(number: u64) -> ActorNo
 
 fn proc(number: u64) -> ProcNo
     requires { number < 3 }
+    ensures { result ≡ number }
 {
     ProcNo::new(number).unwrap()
 }
 
 const DONE: What = What::Done(Answer::Plain);
+
+const MISSING: What = What::Done(Answer::Missing);
 
 // What the notes of process `p`'s thread, of the same number, say.
 
@@ -137,23 +148,11 @@ fn mapped(p: u64, first: u64, n: u16, rights: Rights) -> What
     requires p { p < 3 }
     requires first { first < 2 ^ 35 }
 {
+    let (actor, proc, page) = (actor(p), proc(p), page(first));
     What::Event(PlainEvent::Map {
-        actor: actor(p),
-        proc: proc(p),
-        page: page(first),
-        n,
-        rights,
-    })
-}
-
-fn protected(p: u64, first: u64, n: u16, rights: Rights) -> What
-    requires p { p < 3 }
-    requires first { first < 2 ^ 35 }
-{
-    What::Event(PlainEvent::Protect {
-        actor: actor(p),
-        proc: proc(p),
-        page: page(first),
+        actor,
+        proc,
+        page,
         n,
         rights,
     })
@@ -163,116 +162,106 @@ fn unmapped(p: u64, at: u64) -> What
     requires p { p < 3 }
     requires at { at < 2 ^ 35 }
 {
-    What::Event(PlainEvent::Unmap {
-        actor: actor(p),
-        proc: proc(p),
-        page: page(at),
-    })
+    let (actor, proc, page) = (actor(p), proc(p), page(at));
+    What::Event(PlainEvent::Unmap { actor, proc, page })
 }
 
-fn discarded(p: u64, at: u64) -> What
+fn loaded(p: u64, at: u64, value: u64) -> [What; 2]
     requires p { p < 3 }
     requires at { at < 2 ^ 35 }
 {
-    What::Event(PlainEvent::Discard {
-        actor: actor(p),
-        proc: proc(p),
-        page: page(at),
-    })
-}
-
-fn loaded(p: u64, at: u64, w: u64, value: u64) -> What
-    requires p { p < 3 }
-    requires at { at < 2 ^ 35 }
-    requires w { w < 512 }
-{
-    What::Event(PlainEvent::Load {
-        actor: actor(p),
-        proc: proc(p),
-        page: page(at),
-        word: word(w),
+    let (actor, proc, page, word) = (actor(p), proc(p), page(at), word(0));
+    let event = PlainEvent::Load {
+        actor,
+        proc,
+        page,
+        word,
         value,
+    };
+    [What::Event(event), What::Done(Answer::Value(value))]
+}
+
+fn stored(p: u64, at: u64, value: u64) -> [What; 2]
+    requires p { p < 3 }
+    requires at { at < 2 ^ 35 }
+{
+    let (actor, proc, page, word) = (actor(p), proc(p), page(at), word(0));
+    let event = PlainEvent::Store {
+        actor,
+        proc,
+        page,
+        word,
+        value,
+    };
+    [What::Event(event), DONE]
+}
+
+// The fork's beginning, a page of it, and its end.
+
+fn begun() -> What {
+    let (parent, child) = (proc(0), proc(2));
+    What::Event(PlainEvent::ForkBegin { parent, child })
+}
+
+fn ended() -> What {
+    let (parent, child) = (proc(0), proc(2));
+    What::Event(PlainEvent::ForkEnd { parent, child })
+}
+
+fn forked(at: u64) -> What
+    requires { at < 2 ^ 35 }
+{
+    let (parent, child, page) = (proc(0), proc(2), page(at));
+    What::Event(PlainEvent::ForkPage {
+        parent,
+        child,
+        page,
     })
 }
 
-fn stored(p: u64, at: u64, w: u64, value: u64) -> What
-    requires p { p < 3 }
-    requires at { at < 2 ^ 35 }
-    requires w { w < 512 }
-{
-    What::Event(PlainEvent::Store {
-        actor: actor(p),
-        proc: proc(p),
-        page: page(at),
-        word: word(w),
-        value,
-    })
+// Who holds the locks of process 0 while it forks, and the child that isn't born.
+
+fn holder() -> Waiting {
+    Waiting::Holder(actor(3))
+}
+
+fn unborn() -> Waiting {
+    Waiting::Process(proc(2))
 }
 
 fn map(first: u64, n: u16, rights: Rights) -> Op
     requires { first < 2 ^ 35 }
 {
-    Op::Map {
-        page: page(first),
-        n,
-        rights,
-    }
-}
-
-fn protect(first: u64, n: u16, rights: Rights) -> Op
-    requires { first < 2 ^ 35 }
-{
-    Op::Protect {
-        page: page(first),
-        n,
-        rights,
-    }
+    let page = page(first);
+    Op::Map { page, n, rights }
 }
 
 fn unmap(first: u64, n: u16) -> Op
     requires { first < 2 ^ 35 }
 {
-    Op::Unmap {
-        page: page(first),
-        n,
-    }
+    let page = page(first);
+    Op::Unmap { page, n }
 }
 
-fn discard(first: u64, n: u16) -> Op
-    requires { first < 2 ^ 35 }
+fn load(at: u64) -> Op
+    requires { at < 2 ^ 35 }
 {
-    Op::Discard {
-        page: page(first),
-        n,
-    }
+    let (page, word) = (page(at), word(0));
+    Op::Load { page, word }
 }
 
-fn load(at: u64, w: u64) -> Op
-    requires at { at < 2 ^ 35 }
-    requires w { w < 512 }
+fn store(at: u64, value: u64) -> Op
+    requires { at < 2 ^ 35 }
 {
-    Op::Load {
-        page: page(at),
-        word: word(w),
-    }
-}
-
-fn store(at: u64, w: u64, value: u64) -> Op
-    requires at { at < 2 ^ 35 }
-    requires w { w < 512 }
-{
-    Op::Store {
-        page: page(at),
-        word: word(w),
-        value,
-    }
+    let (page, word) = (page(at), word(0));
+    Op::Store { page, word, value }
 }
 
 // Takes a turn of the actor, whose notes must say this and no more.
 fn turn(rt: &impl Abort, machine: &mut Machine, number: u64, wanted: &[What])
-    requires number { number < 3 }
-    requires actors { length machine.old.script.actors ≡ 3 }
-    ensures { length machine.new.script.actors ≡ 3 }
+    requires number { number < 4 }
+    requires actors { length machine.old.script.actors ≡ 4 }
+    ensures { length machine.new.script.actors ≡ 4 }
 {
     let turn = machine.turn(actor(number));
     let notes = turn.notes();
@@ -284,7 +273,7 @@ fn turn(rt: &impl Abort, machine: &mut Machine, number: u64, wanted: &[What])
 }
 
 fn machine(alloc: Global, first: Vec<Op>, second: Vec<Op>, third: Vec<Op>) -> Result<Machine, Fail>
-    ensures { IfOk result (λ machine. length machine.script.actors ≡ 3) }
+    ensures { IfOk result (λ machine. length machine.script.actors ≡ 4) }
 {
     let script = script(alloc, first, second, third)?;
     match Machine::new(alloc, &script) {
@@ -294,191 +283,90 @@ fn machine(alloc: Global, first: Vec<Op>, second: Vec<Op>, third: Vec<Op>) -> Re
 }
 
 #[test]
-fn loads_and_stores_fault(rt: HostRuntime) -> Result<(), Fail> {
+fn frames_run_out_and_come_back(rt: HostRuntime) -> Result<(), Fail> {
     let alloc = rt.alloc();
-    let ops = Vec::from_array(
-        alloc,
-        [
-            load(5, 0),
-            store(5, 0, 7),
-            map(5, 2, Rights::R),
-            store(5, 1, 9),
-            load(5, 1),
-            protect(5, 2, Rights::RW),
-            store(5, 1, 9),
-            load(5, 1),
-            load(5, 0),
-        ],
-    )?;
+    let range = [
+        load(5),
+        map(5, 3, Rights::RW),
+        store(5, 9),
+        load(6),
+        load(7),
+        unmap(4, 2),
+        load(7),
+        Op::Exit,
+    ];
+    let ops = Vec::from_array(alloc, range)?;
     let mut machine = machine(alloc, ops, Vec::new(alloc), Vec::new(alloc))?;
-    turn(&rt, &mut machine, 0, &[What::Done(Answer::Missing)]);
-    turn(&rt, &mut machine, 0, &[What::Done(Answer::Missing)]);
-    turn(&rt, &mut machine, 0, &[mapped(0, 5, 2, Rights::R), DONE]);
-    turn(&rt, &mut machine, 0, &[What::Done(Answer::Forbidden)]);
-    assert_eq!(rt; machine.free_frames(Zone::Movable), 1);
-    turn(
-        &rt,
-        &mut machine,
-        0,
-        &[loaded(0, 5, 1, 0), What::Done(Answer::Value(0))],
-    );
+    turn(&rt, &mut machine, 0, &[MISSING]);
+    turn(&rt, &mut machine, 0, &[mapped(0, 5, 3, Rights::RW), DONE]);
+    turn(&rt, &mut machine, 0, &stored(0, 5, 9));
     assert_eq!(rt; machine.free_frames(Zone::Movable), 0);
     assert_eq!(rt; machine.free_frames(Zone::Normal), 1);
-    turn(
-        &rt,
-        &mut machine,
-        0,
-        &[protected(0, 5, 2, Rights::RW), DONE],
-    );
-    turn(&rt, &mut machine, 0, &[stored(0, 5, 1, 9), DONE]);
-    turn(
-        &rt,
-        &mut machine,
-        0,
-        &[loaded(0, 5, 1, 9), What::Done(Answer::Value(9))],
-    );
-    turn(
-        &rt,
-        &mut machine,
-        0,
-        &[loaded(0, 5, 0, 0), What::Done(Answer::Value(0))],
-    );
+    turn(&rt, &mut machine, 0, &loaded(0, 6, 0));
+    turn(&rt, &mut machine, 0, &[What::Done(Answer::NoFrame)]);
+    turn(&rt, &mut machine, 0, &[What::Silent]);
+    turn(&rt, &mut machine, 0, &[unmapped(0, 5), DONE]);
+    assert_eq!(rt; machine.free_frames(Zone::Movable), 1);
+    turn(&rt, &mut machine, 0, &loaded(0, 7, 0));
+    turn(&rt, &mut machine, 0, &[unmapped(0, 6)]);
+    turn(&rt, &mut machine, 0, &[unmapped(0, 7)]);
+    assert!(rt; !machine.finished(actor(0)));
+    turn(&rt, &mut machine, 0, &[DONE]);
     assert!(rt; machine.finished(actor(0)));
     turn(&rt, &mut machine, 0, &[What::Idle]);
     Ok(())
 }
 
 #[test]
-fn protections_lower_entries(rt: HostRuntime) -> Result<(), Fail> {
-    let alloc = rt.alloc();
-    let ops = Vec::from_array(
-        alloc,
-        [
-            map(5, 2, Rights::RW),
-            store(5, 511, 9),
-            protect(5, 3, Rights::R),
-            protect(5, 2, Rights::R),
-            store(5, 511, 1),
-            load(5, 511),
-        ],
-    )?;
-    let mut machine = machine(alloc, ops, Vec::new(alloc), Vec::new(alloc))?;
-    turn(&rt, &mut machine, 0, &[mapped(0, 5, 2, Rights::RW), DONE]);
-    turn(&rt, &mut machine, 0, &[stored(0, 5, 511, 9), DONE]);
-    turn(&rt, &mut machine, 0, &[What::Done(Answer::Missing)]);
-    turn(&rt, &mut machine, 0, &[protected(0, 5, 2, Rights::R), DONE]);
-    turn(&rt, &mut machine, 0, &[What::Done(Answer::Forbidden)]);
-    turn(
-        &rt,
-        &mut machine,
-        0,
-        &[loaded(0, 5, 511, 9), What::Done(Answer::Value(9))],
-    );
-    Ok(())
-}
-
-#[test]
-fn frames_run_out_and_come_back(rt: HostRuntime) -> Result<(), Fail> {
-    let alloc = rt.alloc();
-    let ops = Vec::from_array(
-        alloc,
-        [
-            map(5, 3, Rights::RW),
-            store(5, 1, 9),
-            load(6, 0),
-            load(7, 0),
-            store(7, 0, 1),
-            discard(5, 2),
-            load(5, 1),
-        ],
-    )?;
-    let mut machine = machine(alloc, ops, Vec::new(alloc), Vec::new(alloc))?;
-    turn(&rt, &mut machine, 0, &[mapped(0, 5, 3, Rights::RW), DONE]);
-    turn(&rt, &mut machine, 0, &[stored(0, 5, 1, 9), DONE]);
-    turn(
-        &rt,
-        &mut machine,
-        0,
-        &[loaded(0, 6, 0, 0), What::Done(Answer::Value(0))],
-    );
-    turn(&rt, &mut machine, 0, &[What::Done(Answer::NoFrame)]);
-    turn(&rt, &mut machine, 0, &[What::Done(Answer::NoFrame)]);
-    turn(&rt, &mut machine, 0, &[discarded(0, 5)]);
-    turn(&rt, &mut machine, 0, &[discarded(0, 6), DONE]);
-    assert_eq!(rt; machine.free_frames(Zone::Movable), 1);
-    assert_eq!(rt; machine.free_frames(Zone::Normal), 1);
-    turn(
-        &rt,
-        &mut machine,
-        0,
-        &[loaded(0, 5, 1, 0), What::Done(Answer::Value(0))],
-    );
-    Ok(())
-}
-
-#[test]
-fn mappings_come_and_go(rt: HostRuntime) -> Result<(), Fail> {
-    let alloc = rt.alloc();
-    let ops = Vec::from_array(
-        alloc,
-        [
-            map(5, 2, Rights::R),
-            map(6, 2, Rights::RW),
-            map(2_000, 1_023, Rights::RW),
-            unmap(4, 4),
-            map(100, 1, Rights::R),
-            map(3, 1, Rights::R),
-            Op::Exit,
-        ],
-    )?;
-    let mut machine = machine(alloc, ops, Vec::new(alloc), Vec::new(alloc))?;
-    turn(&rt, &mut machine, 0, &[mapped(0, 5, 2, Rights::R), DONE]);
-    turn(&rt, &mut machine, 0, &[What::Done(Answer::Overlap)]);
-    turn(&rt, &mut machine, 0, &[What::Done(Answer::Full)]);
-    turn(&rt, &mut machine, 0, &[What::Silent]);
-    turn(&rt, &mut machine, 0, &[unmapped(0, 5)]);
-    turn(&rt, &mut machine, 0, &[unmapped(0, 6)]);
-    turn(&rt, &mut machine, 0, &[DONE]);
-    turn(&rt, &mut machine, 0, &[mapped(0, 100, 1, Rights::R), DONE]);
-    turn(&rt, &mut machine, 0, &[mapped(0, 3, 1, Rights::R), DONE]);
-    turn(&rt, &mut machine, 0, &[unmapped(0, 3)]);
-    turn(&rt, &mut machine, 0, &[unmapped(0, 100)]);
-    assert!(rt; !machine.finished(actor(0)));
-    turn(&rt, &mut machine, 0, &[DONE]);
-    assert!(rt; machine.finished(actor(0)));
-    Ok(())
-}
-
-fn third_process() -> Waiting {
-    Waiting::Process(proc(2))
-}
-
-#[test]
 fn processes_are_apart(rt: HostRuntime) -> Result<(), Fail> {
     let alloc = rt.alloc();
-    let first = Vec::from_array(alloc, [map(5, 1, Rights::RW), store(5, 0, 1), load(5, 0)])?;
-    let second = Vec::from_array(alloc, [store(5, 0, 2), map(5, 1, Rights::RW), load(5, 0)])?;
-    let third = Vec::from_array(alloc, [Op::Exit])?;
-    let mut machine = machine(alloc, first, second, third)?;
-    assert_eq!(rt; machine.waits(actor(0)), None);
-    assert_eq!(rt; machine.waits(actor(2)), Some(third_process()));
+    let first = Vec::from_array(alloc, [map(5, 1, Rights::RW), store(5, 1), load(5)])?;
+    let second = Vec::from_array(alloc, [store(5, 2), map(5, 1, Rights::RW), load(5)])?;
+    let mut machine = machine(alloc, first, second, Vec::new(alloc))?;
     turn(&rt, &mut machine, 0, &[mapped(0, 5, 1, Rights::RW), DONE]);
-    turn(&rt, &mut machine, 0, &[stored(0, 5, 0, 1), DONE]);
-    turn(&rt, &mut machine, 2, &[What::Wait(third_process())]);
-    turn(&rt, &mut machine, 1, &[What::Done(Answer::Missing)]);
+    turn(&rt, &mut machine, 0, &stored(0, 5, 1));
+    turn(&rt, &mut machine, 1, &[MISSING]);
     turn(&rt, &mut machine, 1, &[mapped(1, 5, 1, Rights::RW), DONE]);
-    turn(
-        &rt,
-        &mut machine,
-        1,
-        &[loaded(1, 5, 0, 0), What::Done(Answer::Value(0))],
-    );
-    turn(
-        &rt,
-        &mut machine,
-        0,
-        &[loaded(0, 5, 0, 1), What::Done(Answer::Value(1))],
-    );
-    assert!(rt; !machine.finished(actor(2)));
+    turn(&rt, &mut machine, 1, &loaded(1, 5, 0));
+    turn(&rt, &mut machine, 0, &loaded(0, 5, 1));
+    Ok(())
+}
+
+// While the fork goes on, what needs a lock waits for it, and the child's thread for the child. A write behind it gets
+// a frame of its own.
+#[test]
+fn forks_share_pages(rt: HostRuntime) -> Result<(), Fail> {
+    let alloc = rt.alloc();
+    let range = [
+        map(5, 2, Rights::RW),
+        store(5, 1),
+        load(5),
+        load(6),
+        store(5, 2),
+    ];
+    let first = Vec::from_array(alloc, range)?;
+    let third = Vec::from_array(alloc, [load(5), store(5, 3)])?;
+    let mut machine = machine(alloc, first, Vec::new(alloc), third)?;
+    turn(&rt, &mut machine, 0, &[mapped(0, 5, 2, Rights::RW), DONE]);
+    turn(&rt, &mut machine, 0, &stored(0, 5, 1));
+    assert_eq!(rt; machine.waits(actor(3)), None);
+    turn(&rt, &mut machine, 3, &[begun()]);
+    assert_eq!(rt; machine.waits(actor(0)), None);
+    turn(&rt, &mut machine, 0, &loaded(0, 5, 1));
+    assert_eq!(rt; machine.waits(actor(0)), Some(holder()));
+    turn(&rt, &mut machine, 0, &[What::Wait(holder())]);
+    assert_eq!(rt; machine.waits(actor(2)), Some(unborn()));
+    turn(&rt, &mut machine, 2, &[What::Wait(unborn())]);
+    turn(&rt, &mut machine, 3, &[What::Silent]);
+    turn(&rt, &mut machine, 3, &[forked(5)]);
+    turn(&rt, &mut machine, 3, &[forked(6)]);
+    turn(&rt, &mut machine, 3, &[ended(), DONE]);
+    assert!(rt; machine.finished(actor(3)));
+    turn(&rt, &mut machine, 2, &loaded(2, 5, 1));
+    assert_eq!(rt; machine.free_frames(Zone::Normal), 1);
+    turn(&rt, &mut machine, 2, &stored(2, 5, 3));
+    assert_eq!(rt; machine.free_frames(Zone::Normal), 0);
+    turn(&rt, &mut machine, 0, &[What::Done(Answer::NoFrame)]);
+    turn(&rt, &mut machine, 0, &stored(0, 5, 2));
     Ok(())
 }

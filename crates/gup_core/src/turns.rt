@@ -1,9 +1,8 @@
 //! A turn of an actor.
-ghost use Rattle.std.specs.Prelude.{◌≡◌, ℕ, ◌+◌, ◌-◌, ◌<◌, ◌^◌, [], ◌∷◌, List, length, slice_get, Some, Option};
+ghost use Rattle.std.specs.Prelude.{◌≡◌, ◌+◌, ◌-◌, ◌<◌, [], ◌∷◌, length, slice_get, Some, Option};
 ghost use Rattle.gup_follows.specs.Follows.{notes_of_turn};
 ghost use Rattle.gup_follows.specs.Place.{ops_of, process_of, process_of_kind};
 ghost use Rattle.gup_ops.specs.Said.{whats_of};
-ghost use Rattle.gup_core.specs.declared.seats.Seat.{Seat as SeatValue};
 ghost use Rattle.gup_core.specs.Machine.{machine_of, counted, IsMachine, TakesTurns};
 ghost use Rattle.gup_core.specs.Rest.{IsAtRest};
 
@@ -30,12 +29,15 @@ pub fn take_turn(
     actor: ActorNo,
 ) -> Turn
     requires actor { actor < length script.now.actors }
-    requires machine { IsMachine (machine_of script.now frames.old spaces.old.items births.old.items seats.old.items turns.old) }
-    requires rest { IsAtRest (machine_of script.now frames.old spaces.old.items births.old.items seats.old.items turns.old) }
+    requires machine { IsMachine
+        (machine_of script.now frames.old spaces.old.items births.old.items seats.old.items turns.old) }
+    requires rest { IsAtRest
+        (machine_of script.now frames.old spaces.old.items births.old.items seats.old.items turns.old) }
     ensures spaces { length spaces.new.items ≡ length spaces.old.items }
     ensures births { length births.new.items ≡ length births.old.items }
     ensures seats { length seats.new.items ≡ length seats.old.items }
-    ensures turn { TakesTurns (machine_of script.now frames.old spaces.old.items births.old.items seats.old.items turns.old)
+    ensures turn { TakesTurns
+        (machine_of script.now frames.old spaces.old.items births.old.items seats.old.items turns.old)
         (machine_of script.now frames.new spaces.new.items births.new.items seats.new.items turns.new) actor result }
 {
     gup_turns::reached_states_stand();

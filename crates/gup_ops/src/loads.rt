@@ -1,5 +1,5 @@
 //! Loads and stores.
-ghost use Rattle.std.specs.Prelude.{◌≡◌, ℕ, true, not, is_none, Some, None};
+ghost use Rattle.std.specs.Prelude.{◌≡◌, true, not, is_none, Some, None};
 ghost use Rattle.gup_frames.specs.Frames.{frames_of, IsFrame, with_word};
 ghost use Rattle.gup_space.specs.Space.{space_of};
 ghost use Rattle.gup_space.specs.Shows.{change_of};
@@ -53,7 +53,8 @@ fn load_through(
     word: WordNo,
 ) -> Said
     requires { HasEntry ((space_of space.now).entry page) (λ e. IsFrame (frames_of frames.now) e.frame) }
-    ensures { result ≡ loaded_said actor proc page word (page_word (frames_of frames.now) ((space_of space.now).entry page) word) }
+    ensures { result ≡ loaded_said actor proc page word
+        (page_word (frames_of frames.now) ((space_of space.now).entry page) word) }
 {
     let Some(entry) = space.entry(page) else {
         return refused(Answer::Missing);
@@ -108,7 +109,8 @@ fn store_through(
     value: u64,
 ) -> Said
     requires { HasEntry ((space_of space.now).entry page) (λ e. IsFrame (frames_of frames.old) e.frame) }
-    ensures frames { frames_of frames.new ≡ with_word (frame_in ((space_of space.now).entry page)) word value (frames_of frames.old) }
+    ensures frames { frames_of frames.new
+        ≡ with_word (frame_in ((space_of space.now).entry page)) word value (frames_of frames.old) }
     ensures said { result ≡ stored_said actor proc page word value }
 {
     let Some(entry) = space.entry(page) else {

@@ -1,5 +1,5 @@
 //! Mappings and protections: the whole range in one turn.
-ghost use Rattle.std.specs.Prelude.{◌≡◌, ℕ, ◌+◌, ◌≤◌, ◌<◌, ◌^◌};
+ghost use Rattle.std.specs.Prelude.{◌≡◌, ◌+◌, ◌≤◌, ◌<◌, ◌^◌};
 ghost use Rattle.gup_frames.specs.Frames.{frames_of};
 ghost use Rattle.gup_space.specs.Space.{space_of, AreMapped};
 ghost use Rattle.gup_space.specs.Shows.{change_of};
@@ -77,7 +77,8 @@ pub fn protect(
 
 // The protection's event and answer.
 fn protected(actor: ActorNo, proc: ProcNo, page: PageNo, n: u16, rights: Rights) -> Said
-    ensures { result ≡ record { event = Some (PlainEvent.Protect actor proc page n rights); answer = Some Answer.Plain } }
+    ensures { result
+        ≡ record { event = Some (PlainEvent.Protect actor proc page n rights); answer = Some Answer.Plain } }
 {
     let event = PlainEvent::Protect {
         actor,

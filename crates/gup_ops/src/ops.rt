@@ -20,8 +20,8 @@ use gup_plain::Answer;
 use gup_script::Op;
 use gup_space::Space;
 
-/// Takes a turn of the operation, which is no fork and has gone over so many pages. Nobody holds the table lock that the
-/// turn needs.
+/// Takes a turn of the operation, which is no fork and has gone over so many pages. Nobody holds the table lock, if the
+/// turn needs it.
 pub fn take(
     space: &mut Space,
     frames: &mut Frames,
@@ -36,7 +36,8 @@ pub fn take(
     requires far { HasFar op.now far }
     requires single { IsNoFork (Some op.now) }
     ensures { (k : ℕ) → far ≡ far_in (Some op.now) k
-        → IsTurnOf (change_of frames.old frames.new space.old space.new) proc (λ s. op_turn s actor proc k op.now) (whats_of result) }
+        → IsTurnOf (change_of frames.old frames.new space.old space.new) proc
+        (λ s. op_turn s actor proc k op.now) (whats_of result) }
 {
     match *op {
         Op::Map { page, n, rights } => map(space, frames, actor, proc, page, n, rights),
