@@ -30,15 +30,24 @@ impl<V> Model for Rows<V> {
     ghost invariant = { λ r. HasRoom r.start (vec_len r.items) (vec_capacity r.items) };
 }
 
-// Moves all from this place on down to the front. Those before it go.
-fn move_down<V: Copy>(items: &mut Vec<(PageNo, V)>, start: usize)
-    requires { start ≤ vec_len items.old }
-    ensures items { items.new.items ≡ drop start items.old.items }
-    ensures room { vec_capacity items.new ≡ vec_capacity items.old }
+// Makes room for `n` more rows behind the last, and answers where the first then stands. It moves the rows down to the
+// front only where there is none.
+fn make_room<V: Copy>(items: &mut Vec<(PageNo, V)>, start: usize, n: u16) -> usize
+    requires within { start ≤ vec_len items.old }
+    requires few { vec_len items.old ≤ 1024 }
+    requires room { length (drop start items.old.items) + n ≤ 1024 }
+    ensures rows { drop result items.new.items ≡ drop start items.old.items }
+    ensures within { result ≤ vec_len items.new }
+    ensures room { vec_len items.new + n ≤ 1024 }
+    ensures capacity { vec_capacity items.new ≡ vec_capacity items.old }
 {
-    let left = items.len() - start;
+    let len = items.len();
+    if len + usize::from(n) <= MOST {
+        return start;
+    }
     items.copy_within(start.., 0);
-    items.truncate(left);
+    items.truncate(len - start);
+    0
 }
 
 // Puts the rows of the `n` pages from `page` on at this place.
@@ -47,6 +56,7 @@ fn insert_run<V: Copy>(rows: &mut Vec<(PageNo, V)>, place: usize, page: PageNo, 
     requires room { vec_len rows.old + n ≤ vec_capacity rows.old }
     requires below { page + n ≤ 2 ^ 35 }
     ensures rows { rows.new.items ≡ take place rows.old.items ++ (run page n value ++ drop place rows.old.items) }
+    ensures len { vec_len rows.new ≡ vec_len rows.old + n }
     ensures room { vec_capacity rows.old ≤ vec_capacity rows.new }
 {
     for k in 0..n {
@@ -93,12 +103,8 @@ impl<V: Copy> Rows<V> {
         requires below { page + n ≤ 2 ^ 35 }
         ensures rows { self.new ≡ take place self.old ++ (run page n value ++ drop place self.old) }
     {
-        if self.items.len() + usize::from(n) > MOST {
-            move_down(&mut self.items, self.start);
-            self.start = 0;
-        }
-        let place = self.start + place;
-        insert_run(&mut self.items, place, page, n, value);
+        self.start = make_room(&mut self.items, self.start, n);
+        insert_run(&mut self.items, self.start + place, page, n, value);
     }
 
     /// Gives the `n` rows from this place on this value.
@@ -109,8 +115,9 @@ impl<V: Copy> Rows<V> {
         ensures at { (page : ℕ) → IsRun (pages_of self.old) page n place
             → at self.new ≡ spread page n (λ _. Some value) (at self.old) }
     {
+        let first = self.start + place;
         for k in 0..n {
-            self.items[self.start + place + usize::from(k)].1 = value;
+            self.items[first + usize::from(k)].1 = value;
         }
     }
 

@@ -30,7 +30,7 @@ returns-then-has_row-clause-len g c =
     let there = rw c.as_slice-rows.ensures.value at c.if-has_row.ensures in
     let inside : c.place_of-place.result < length (pages_of rows) = there.0 in
     let found = is_somewhere rows c.self.invariant.ordered c.place_of-place.result c.args.page (omega arith) there.1 in
-    let same : length c.fill.new.rows ≡ length rows = length-same rows c.self.invariant.ordered c.fill.new.rows c.fill.ensures.pages in
+    let same : length c.fill.new.self ≡ length rows = length-same rows c.self.invariant.ordered c.fill.new.self c.fill.ensures.pages in
     rw (← c.self.view_is, found) (omega arith)
 
 pub returns-else-has_row-clause-at : goal.returns-else-has_row-clause-at
