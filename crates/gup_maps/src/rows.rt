@@ -80,7 +80,9 @@ impl<V: Copy> Rows<V> {
         ensures { self.new ≡ from.now }
     {
         self.items.clear();
-        self.items.extend_from_slice(&from.items[from.start..]).unwrap();
+        self.items
+            .extend_from_slice(&from.items[from.start..])
+            .unwrap();
         self.start = 0;
     }
 

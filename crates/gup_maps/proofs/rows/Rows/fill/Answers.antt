@@ -1,7 +1,5 @@
-use Rattle.std.proofs.Common.{◌≡◌, ◌+◌, ◌-◌, ◌<◌, drop, set, get_or, length, Some, sym, ap, refl, ◌∙◌, arith, length-drop}
+use Rattle.std.proofs.Common.{◌≡◌, ◌+◌, ◌-◌, ◌<◌, drop, set, get_or, length, arith, length-drop}
 use Rattle.std.proofs.lemmas.List.{get_or-drop, drop-set-add}
-use Rattle.gup_plain.specs.Put.{spread}
-use Rattle.gup_maps.specs.Table.{at, pages_of}
 use Rattle.gup_maps.proofs.Values.{at-filled, pages-filled}
 use Rattle.gup_maps.proofs.rows.Rows.fill.Goals as goal
 
@@ -18,7 +16,7 @@ loop-k-preserved g c =
     let ordered = rw (← c.self.view_is) at c.requires.ordered in
     let inside : i < length rows = omega (arith, few, length-drop start c.self.inside.items.items) in
     let there : start + i ≡ start + c.args.place + c.from.result = omega arith in
-    let read : row ≡ get_or rows i row = c.index_mut.ensures.value ∙ sym (get_or-drop start items i row ∙ ap (λ j. get_or items j row) there) in
+    let read : row ≡ get_or rows i row = rw (get_or-drop start items i row, there) c.index_mut.ensures.value in
     let made : drop start (set items (start + c.args.place + c.from.result) (row.0, c.args.value)) ≡ set rows i (row.0, c.args.value) =
     rw (← there) (drop-set-add start items i (row.0, c.args.value)) in
     record {

@@ -1,4 +1,4 @@
-use Rattle.std.proofs.Common.{◌≡◌, ℕ, Some, ◌≤◌, ◌+◌, drop, vec_len, vec_capacity}
+use Rattle.std.proofs.Common.{◌≡◌, ℕ, Some, ◌≤◌, drop, vec_len, vec_capacity}
 use Rattle.gup_plain.specs.Put.{spread}
 use Rattle.gup_maps.specs.Table.{at, pages_of, IsRun}
 use Rattle.gup_maps.proofs.rows.Rows.fill.Given as goal

@@ -1,4 +1,4 @@
-use Rattle.std.proofs.Common.{◌≤◌, ◌+◌, length, ◌∙◌, arith, length-drop}
+use Rattle.std.proofs.Common.{◌≤◌, ◌+◌, length, arith, length-drop}
 use Rattle.gup_maps.specs.Table.{run}
 use Rattle.gup_maps.proofs.Shifted.{drop-insert}
 use Rattle.gup_maps.proofs.rows.Rows.insert_run.Goals as goal

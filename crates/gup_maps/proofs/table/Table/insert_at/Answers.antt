@@ -1,4 +1,3 @@
-use Rattle.std.proofs.Common.{arith}
 use Rattle.gup_maps.proofs.Values.{at-insert}
 use Rattle.gup_maps.proofs.Ranges.{kept-insert, length-inserted}
 use Rattle.gup_maps.proofs.table.Table.insert_at.Goals as goal
