@@ -1,8 +1,8 @@
 //! Values at pages.
-ghost use Rattle.std.specs.Prelude.{◌≡◌, ℕ, ◌+◌, ◌<◌, ◌≤◌, ◌^◌, ◌↔◌, ◌++◌, nat_lt, if◌then◌else◌, true, false, not, is_some, take, drop, length, vec_len, vec_capacity, None, Some, IfOk, IsSome, MatchOption};
+ghost use Rattle.std.specs.Prelude.{◌≡◌, ℕ, ◌+◌, ◌<◌, ◌≤◌, ◌^◌, ◌↔◌, nat_lt, if◌then◌else◌, true, false, not, is_some, length, None, Some, IfOk, IsSome, MatchOption};
 ghost use Rattle.std.specs.Bool.{MatchBool, OnTrue, OnFalse};
 ghost use Rattle.gup_plain.specs.Put.{put, spread};
-ghost use Rattle.gup_maps.specs.Table.{at, pages_of, any_present, any_absent, run, IsNextPage, IsLastPage, IsOrdered, IsPlace, IsThere, IsGap, IsRun};
+ghost use Rattle.gup_maps.specs.Table.{at, pages_of, any_present, any_absent, IsNextPage, IsLastPage, IsOrdered, IsPlace, IsThere, IsGap, IsRun};
 
 use crate::rows::Rows;
 use gup_base::{NoMemory, PageNo};
