@@ -1,3 +1,4 @@
 pub mod Places
-pub mod Rows
+pub mod Values
 pub mod Ranges
+pub mod Shifted

@@ -6,7 +6,7 @@ use Rattle.std.proofs.lemmas.Bool.{cases_lt, cases_eq, cases_Bool, false≢true,
 use Rattle.gup_plain.specs.Denial.{any_below}
 use Rattle.gup_maps.specs.Table.{at, pages_of, any_present, any_absent, IsOrdered, IsPlace, IsThere, IsGap, IsRun, IsNextPage, IsKept, run}
 use Rattle.gup_maps.proofs.Places.{rises, place_more, run_from_last, ordered-remove, ordered-insert}
-use Rattle.gup_maps.proofs.Rows.{length-pages, at_none, nowhere, is_somewhere, pages-remove, pages-insert, length-run, page-run}
+use Rattle.gup_maps.proofs.Values.{length-pages, at_none, nowhere, is_somewhere, pages-remove, pages-insert, length-run, page-run}
 
 pub any_below_none : (n : ℕ) (test : ℕ → Bool) → ((k : ℕ) → k < n → test k ≡ false) → any_below n test ≡ false
 any_below_none zero test none = refl
@@ -144,18 +144,17 @@ module _ {V : Type 0} (rows : List (ℕ × V)) (ordered : IsOrdered (pages_of ro
 
   -- ---- the rows stay as a table keeps them
 
-  pub kept-remove : (capacity page i : ℕ) → IsKept rows capacity → IsPlace (pages_of rows) page i → IsThere (pages_of rows) page i → IsKept (remove rows i) capacity
-  kept-remove capacity page i kept place there =
+  pub kept-remove : (page i : ℕ) → IsKept rows → IsPlace (pages_of rows) page i → IsThere (pages_of rows) page i → IsKept (remove rows i)
+  kept-remove page i kept place there =
       let len : length (pages_of rows) ≡ length rows = length-pages rows in
       let inside : i < length (pages_of rows) = there.0 in
       record {
         ordered = rw (pages-remove rows i) (ordered-remove (pages_of rows) ordered i inside);
         few = let less : length (remove rows i) + 1 ≡ length rows = length-remove rows i (omega arith) in let few : length rows ≤ 1024 = kept.few in omega arith;
-        room = kept.room;
       }
 
-  pub kept-insert : (capacity page n i : ℕ) (value : V) → IsGap (pages_of rows) page n i → length rows + n ≤ 1024 → 1024 ≤ capacity → IsKept (take i rows ++ (run page n value ++ drop i rows)) capacity
-  kept-insert capacity page n i value gap few room =
+  pub kept-insert : (page n i : ℕ) (value : V) → IsGap (pages_of rows) page n i → length rows + n ≤ 1024 → IsKept (take i rows ++ (run page n value ++ drop i rows))
+  kept-insert page n i value gap few =
       let len : length (pages_of rows) ≡ length rows = length-pages rows in
       let len_run : length (run page n value) ≡ n = length-run page n value in
       let inside : i ≤ length (pages_of rows) = gap.stands.within in
@@ -164,7 +163,6 @@ module _ {V : Type 0} (rows : List (ℕ × V)) (ordered : IsOrdered (pages_of ro
             rw (pages-insert rows (run page n value) i)
             (ordered-insert (pages_of rows) (pages_of (run page n value)) page n i ordered gap (length-pages (run page n value) ∙ len_run) (page-run page n value));
         few = simp (length-append, length-take, length-drop) (omega arith);
-        room = room;
       }
 
   pub length-inserted : (page n i : ℕ) (value : V) → i ≤ length (pages_of rows) → length (take i rows ++ (run page n value ++ drop i rows)) ≡ length rows + n

@@ -52,10 +52,15 @@ pub record IsRun (pages : List ℕ) (page n place : ℕ) : Type 0 where
   pub within : place + n ≤ length pages
   pub each : (k : ℕ) → k < n → slice_index pages (place + k) ≡ page + k
 
--- what a table keeps of its rows: their order, and room for 1,024
-pub record IsKept {V : Type 0} (rows : List (ℕ × V)) (capacity : ℕ) : Type 0 where
+-- what a table keeps of its rows: their order, and that they are few
+pub record IsKept {V : Type 0} (rows : List (ℕ × V)) : Type 0 where
   pub ordered : IsOrdered (pages_of rows)
   pub few : length rows ≤ 1024
+
+-- the first row is among the items or behind all, and there is room for 1,024 items and no need of more
+pub record HasRoom (start items capacity : ℕ) : Type 0 where
+  pub within : start ≤ items
+  pub few : items ≤ 1024
   pub room : 1024 ≤ capacity
 
 -- the rows of n pages from this one on, with one value

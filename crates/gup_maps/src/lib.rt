@@ -2,6 +2,7 @@
 #![tactic(auto)]
 
 mod maps;
+mod rows;
 mod table;
 
 pub use maps::{Hole, MapRefusal, Maps};

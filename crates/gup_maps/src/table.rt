@@ -1,31 +1,29 @@
 //! Values at pages.
-ghost use Rattle.std.specs.Prelude.{◌≡◌, ℕ, ◌+◌, ◌<◌, ◌≤◌, ◌^◌, ◌↔◌, ◌++◌, nat_lt, if◌then◌else◌, true, false, not, is_some, take, drop, length, vec_len, vec_capacity, None, Some, IfOk, IsSome, MatchOption};
+ghost use Rattle.std.specs.Prelude.{◌≡◌, ℕ, ◌+◌, ◌<◌, ◌≤◌, ◌^◌, ◌↔◌, nat_lt, if◌then◌else◌, true, false, not, is_some, length, None, Some, IfOk, IsSome, MatchOption};
 ghost use Rattle.std.specs.Bool.{MatchBool, OnTrue, OnFalse};
 ghost use Rattle.gup_plain.specs.Put.{put, spread};
-ghost use Rattle.gup_maps.specs.Table.{at, pages_of, any_present, any_absent, run, IsNextPage, IsLastPage, IsOrdered, IsPlace, IsThere, IsGap, IsRun};
+ghost use Rattle.gup_maps.specs.Table.{at, pages_of, any_present, any_absent, IsNextPage, IsLastPage, IsOrdered, IsPlace, IsThere, IsGap, IsRun};
 
+use crate::rows::Rows;
 use gup_base::{NoMemory, PageNo};
 use std::alloc::Global;
 use std::marker::Model;
 
-// How many pages have a value at most.
-const MOST: usize = 1024;
-
 /// A value at some of the pages, at most 1,024 of them.
 #[derive(Drop)]
 pub struct Table<V> {
-    rows: Vec<(PageNo, V)>,
+    rows: Rows<V>,
 }
 
 impl<V> Model for Table<V> {
-    ghost use Rattle.std.specs.Prelude.{ℕ, List, vec_capacity};
+    ghost use Rattle.std.specs.Prelude.{ℕ, List};
     ghost use Rattle.gup_maps.specs.Table.{IsKept};
 
     ghost Value = { List (ℕ × V) };
 
-    ghost view = { λ t. t.rows.items };
+    ghost view = { λ t. t.rows };
 
-    ghost invariant = { λ t. IsKept t.rows.items (vec_capacity t.rows) };
+    ghost invariant = { λ t. IsKept t.rows };
 }
 
 // 1 where the page is below the other, and else 0, without a branch.
@@ -77,42 +75,13 @@ fn has_run<V>(rows: &[(PageNo, V)], place: usize, page: PageNo, n: u16) -> bool
     rows[place + (count - 1)].0.get() == page.get() + u64::from(n - 1)
 }
 
-// Puts the rows of the `n` pages from `page` on at this place.
-fn insert_run<V: Copy>(rows: &mut Vec<(PageNo, V)>, place: usize, page: PageNo, n: u16, value: V)
-    requires place { place ≤ vec_len rows.old }
-    requires room { vec_len rows.old + n ≤ vec_capacity rows.old }
-    requires below { page + n ≤ 2 ^ 35 }
-    ensures rows { rows.new.items ≡ take place rows.old.items ++ (run page n value ++ drop place rows.old.items) }
-    ensures room { vec_capacity rows.old ≤ vec_capacity rows.new }
-{
-    for k in 0..n {
-        let next = PageNo::new(page.get() + u64::from(k)).unwrap();
-        rows.push((next, value)).unwrap();
-    }
-    rows[place..].rotate_right(usize::from(n));
-}
-
-// Gives the `n` rows from this place on this value.
-fn fill<V: Copy>(rows: &mut Vec<(PageNo, V)>, place: usize, n: u16, value: V)
-    requires ordered { IsOrdered (pages_of rows.old.items) }
-    requires within { place + n ≤ vec_len rows.old }
-    ensures pages { pages_of rows.new.items ≡ pages_of rows.old.items }
-    ensures at { (page : ℕ) → IsRun (pages_of rows.old.items) page n place
-        → at rows.new.items ≡ spread page n (λ _. Some value) (at rows.old.items) }
-    ensures room { vec_capacity rows.old ≤ vec_capacity rows.new }
-{
-    for k in 0..n {
-        rows[place + usize::from(k)].1 = value;
-    }
-}
-
 impl<V: Copy> Table<V> {
     /// A table without values, and with the memory for all that it will have.
     pub fn new(alloc: Global) -> Result<Table<V>, NoMemory>
         ensures at { IfOk result (λ table. at table ≡ (λ _. None)) }
         ensures len { IfOk result (λ table. length table ≡ 0) }
     {
-        let rows = Vec::with_capacity(alloc, MOST)?;
+        let rows = Rows::new(alloc)?;
         Ok(Table { rows })
     }
 
@@ -120,8 +89,7 @@ impl<V: Copy> Table<V> {
     pub fn copy_from(&mut self, from: &Table<V>)
         ensures { self.new ≡ from.now }
     {
-        self.rows.clear();
-        self.rows.extend_from_slice(from.rows.as_slice()).unwrap();
+        self.rows.copy_from(&from.rows);
     }
 
     /// How many pages have a value.
@@ -174,9 +142,9 @@ impl<V: Copy> Table<V> {
         let rows = self.rows.as_slice();
         let place = place_of(rows, page);
         if has_row(rows, place, page) {
-            fill(&mut self.rows, place, 1, value);
+            self.rows.fill(place, 1, value);
         } else {
-            insert_run(&mut self.rows, place, page, 1, value);
+            self.rows.insert_run(place, page, 1, value);
         }
     }
 
@@ -229,7 +197,7 @@ impl<V: Copy> Table<V> {
         ensures at { at self.new ≡ spread page n (λ _. Some value) (at self.old) }
         ensures len { length self.new ≡ length self.old + n }
     {
-        insert_run(&mut self.rows, place, page, n, value);
+        self.rows.insert_run(place, page, n, value);
     }
 
     /// Gives `n` pages from `page` on this value, where each of them has one, and answers whether. Else nothing
@@ -245,7 +213,7 @@ impl<V: Copy> Table<V> {
         if !has_run(rows, place, page, n) {
             return false;
         }
-        fill(&mut self.rows, place, n, value);
+        self.rows.fill(place, n, value);
         true
     }
 }

@@ -150,3 +150,89 @@ fn values_are_copied(rt: HostRuntime) -> Result<(), Fail> {
     );
     Ok(())
 }
+
+// Gives each page a value of its own, where there is room, and answers whether it has it then.
+fn set_each(table: &mut Table<u64>, from: u16, to: u16) -> bool {
+    for k in from..to {
+        let Some(page) = PageNo::new(5_000 + u64::from(k)) else {
+            return false;
+        };
+        if table.len() >= 1_024 {
+            return false;
+        }
+        table.set(page, u64::from(k));
+        if table.get(page) != Some(u64::from(k)) {
+            return false;
+        }
+    }
+    true
+}
+
+// Takes out the lowest values, and answers whether they are those of these pages.
+fn take_each(table: &mut Table<u64>, from: u16, to: u16) -> bool {
+    let Some(zero) = PageNo::new(0) else {
+        return false;
+    };
+    for k in from..to {
+        let Some(page) = table.next(zero) else {
+            return false;
+        };
+        if page.get() != 5_000 + u64::from(k) || table.remove(page) != Some(u64::from(k)) {
+            return false;
+        }
+    }
+    true
+}
+
+#[test]
+fn lowest_values_are_taken_out(rt: HostRuntime) -> Result<(), Fail> {
+    let mut table = Table::new(rt.alloc()).or(Err("memory"))?;
+    assert!(rt; set_each(&mut table, 1_000, 2_024));
+    assert!(rt; !set_each(&mut table, 0, 1));
+    assert!(rt; take_each(&mut table, 1_000, 2_000));
+    assert!(rt; set_each(&mut table, 2_024, 2_524));
+    assert!(rt; set_each(&mut table, 1_500, 2_000));
+    assert_eq!(rt; table.len(), 1_024);
+    assert!(rt; take_each(&mut table, 1_500, 2_524));
+    assert_eq!(rt; table.len(), 0);
+    assert!(rt; set_each(&mut table, 7, 8));
+    assert!(rt; take_each(&mut table, 7, 8));
+    Ok(())
+}
+
+// Unmaps the lowest pages, and answers whether they are these, with these rights.
+fn unmap_each(maps: &mut Maps, from: u16, to: u16, rights: Rights) -> bool {
+    let Some(zero) = PageNo::new(0) else {
+        return false;
+    };
+    for number in from..to {
+        let Some(page) = maps.next_page(zero) else {
+            return false;
+        };
+        let same = page.get() == u64::from(number) && maps.rights_at(page) == Some(rights);
+        if !same || !maps.unmap_page(page) {
+            return false;
+        }
+    }
+    true
+}
+
+// Maps these pages, and answers how many are mapped then.
+fn map_range(maps: &mut Maps, from: u16, n: u16, rights: Rights) -> Option<u16> {
+    maps.map(PageNo::new(u64::from(from))?, n, rights).ok()?;
+    Some(maps.len())
+}
+
+#[test]
+fn lowest_pages_are_unmapped(rt: HostRuntime) -> Result<(), Fail> {
+    let mut maps = Maps::new(rt.alloc()).or(Err("memory"))?;
+    assert_eq!(rt; map_range(&mut maps, 5_000, 1_024, Rights::R), Some(1_024));
+    assert!(rt; unmap_each(&mut maps, 5_000, 6_000, Rights::R));
+    assert_eq!(rt; map_range(&mut maps, 6_024, 600, Rights::RW), Some(624));
+    assert_eq!(rt; map_range(&mut maps, 5_600, 400, Rights::RW), Some(1_024));
+    assert!(rt; unmap_each(&mut maps, 5_600, 6_000, Rights::RW));
+    assert!(rt; unmap_each(&mut maps, 6_000, 6_024, Rights::R));
+    assert!(rt; unmap_each(&mut maps, 6_024, 6_624, Rights::RW));
+    assert_eq!(rt; maps.len(), 0);
+    Ok(())
+}

@@ -1,7 +1,7 @@
 use Rattle.std.proofs.Common.{◌≡◌, ℕ, ◌<◌, Bool, true, false, MatchBool, eqb, List, None, length, get_or, sym, arith}
 use Rattle.std.proofs.lemmas.Bool.{le-ltb, eqb-true, eqb-false}
 use Rattle.gup_maps.specs.Table.{at, pages_of, IsThere, IsOrdered, IsPlace}
-use Rattle.gup_maps.proofs.Rows.{page_of, length-pages, nowhere}
+use Rattle.gup_maps.proofs.Values.{page_of, length-pages, nowhere}
 use Rattle.gup_maps.proofs.table.has_row.Goals as goal
 
 by_page : {V : Type 0} (rows : List (ℕ × V)) (page place : ℕ) (is : Bool) → IsOrdered (pages_of rows) → IsPlace (pages_of rows) page place → place < length rows → is ≡ eqb (get_or (pages_of rows) place 0) page → MatchBool is (IsThere (pages_of rows) page place) (at rows page ≡ None)

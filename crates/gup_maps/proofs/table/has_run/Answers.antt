@@ -1,6 +1,6 @@
 use Rattle.std.proofs.Common.{◌≡◌, ◌+◌, ◌-◌, ◌<◌, ◌≤◌, length, get_or, eqb, refl, ◌∙◌, sym, arith}
 use Rattle.gup_maps.specs.Table.{pages_of}
-use Rattle.gup_maps.proofs.Rows.{page_of, length-pages}
+use Rattle.gup_maps.proofs.Values.{page_of, length-pages}
 use Rattle.gup_maps.proofs.Ranges.{run_or_absent, run_by_last}
 use Rattle.gup_maps.proofs.table.has_run.Goals as goal
 

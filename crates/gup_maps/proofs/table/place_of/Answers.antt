@@ -3,7 +3,7 @@ use Rattle.std.proofs.lemmas.Bool.{cases_lt}
 use Rattle.std.proofs.lemmas.Bool.Decides.{nat_tests}
 use Rattle.gup_maps.specs.Table.{pages_of}
 use Rattle.gup_maps.proofs.Places.{low_before, low_behind}
-use Rattle.gup_maps.proofs.Rows.{page_of, length-pages}
+use Rattle.gup_maps.proofs.Values.{page_of, length-pages}
 use Rattle.gup_maps.proofs.table.place_of.Goals as goal
 
 pub loop-size-preserved : goal.loop-size-preserved

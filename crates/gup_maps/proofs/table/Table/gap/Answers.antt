@@ -1,13 +1,13 @@
 use Rattle.std.proofs.Common.{◌≡◌, ◌+◌, ◌<◌, ◌≤◌, get_or, length, sym, ◌∙◌, arith}
 use Rattle.gup_maps.specs.Table.{pages_of, IsGap}
-use Rattle.gup_maps.proofs.Rows.{page_of, length-pages}
+use Rattle.gup_maps.proofs.Values.{page_of, length-pages}
 use Rattle.gup_maps.proofs.Ranges.{present_at, gap_from_next, gap_absent}
 use Rattle.gup_maps.proofs.table.Table.gap.Goals as goal
 use Rattle.gup_maps.proofs.table.Table.gap.Goals.{else-place-rows-via-then-place-rows+else-get-from, else-place-rows-via-else-place-rows}
 
 pub returns-then-get-from : goal.returns-then-get-from
 returns-then-get-from g c =
-    let rows = c.self.inside.rows.items in
+    let rows = c.self.inside.rows in
     let i = c.place_of-place.result in
     let len : length (pages_of rows) ≡ length rows = length-pages rows in
     let place = rw c.as_slice-rows.ensures.value at c.place_of-place.ensures in
@@ -20,7 +20,7 @@ returns-then-get-from g c =
 
 pub returns-else-place-rows : goal.returns-else-place-rows
 returns-else-place-rows g c =
-    let rows = c.self.inside.rows.items in
+    let rows = c.self.inside.rows in
     let i = c.place_of-place.result in
     let place = rw c.as_slice-rows.ensures.value at c.place_of-place.ensures in
     let next : i < length rows → c.args.page + c.args.n ≤ get_or (pages_of rows) i 0 =

@@ -1,6 +1,6 @@
 use Rattle.std.proofs.Common.{◌≡◌, ◌+◌, ◌≤◌, ◌++◌, vec_len, vec_capacity}
 use Rattle.gup_maps.specs.Table.{run}
-use Rattle.gup_maps.proofs.table.insert_run.Given as goal
+use Rattle.gup_maps.proofs.rows.insert_run.Given as goal
 
 abbrev pub invariant-loop-k : goal.invariant-loop-k
 invariant-loop-k g l = record {

@@ -1,7 +1,7 @@
 use Rattle.std.proofs.Common.{◌≡◌, ◌++◌, ◌∙◌, arith}
 use Rattle.gup_maps.specs.Table.{run}
-use Rattle.gup_maps.proofs.Rows.{turned, length-run}
-use Rattle.gup_maps.proofs.table.insert_run.Goals as goal
+use Rattle.gup_maps.proofs.Values.{turned, length-run}
+use Rattle.gup_maps.proofs.rows.insert_run.Goals as goal
 
 pub returns-clause-rows : goal.returns-clause-rows
 returns-clause-rows g c =
