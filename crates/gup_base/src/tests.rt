@@ -51,6 +51,7 @@ fn numbers_end_at_their_bounds(rt: HostRuntime) {
         assert_eq!(rt; last, Some(want), "the last {kind}");
         assert!(rt; behind, "behind the last {kind}");
     }
+    assert_eq!(rt; FrameNo::default().get(), 0);
 }
 
 /// Words as x86-64 lays them out: the number of the frame, the right to write, and the word.

@@ -1,5 +1,5 @@
 -- Pins and got references by their holders, and what each call makes of them.
-use Rattle.std.specs.Prelude.{◌≡◌, ℕ, ◌-◌, Bool, List, [], ◌∷◌, ◌++◌, length, take, slice_get, slice_index_or, Option, Some, None}
+use Rattle.std.specs.Prelude.{◌≡◌, ℕ, ◌-◌, Bool, List, [], ◌∷◌, ◌++◌, length, take, slice_index_or}
 
 -- A pin is held by an actor or given to one, with the frames of the pages that it still has, in order, and whether it may
 -- write them. A got reference is one of a frame.

@@ -25,10 +25,7 @@ ShowsHandles handles s = (h : ℕ) → IsShown (handles h) (s.handle h) (s.pinne
 abbrev pub IsEvent : (old new : HandlesValue) → CoreEvent → Type 0
 IsEvent old new e = (s : CoreState) → ShowsHandles old s → ShowsHandles new (happens s e)
 
--- The actor gives the frame of the handle's last page back, or that of the reference.
+-- the actor gives back the frame of the last page of its pin, or that of its reference
 abbrev pub drops : (actor h frame : ℕ) → HandleValue → CoreEvent
 drops actor h frame (held by frames write) = unpin_page actor h frame (but_last frames)
-drops actor h frame (got by f) = put_reference actor frame h
-drops actor h frame unmade = put_reference actor frame h
-drops actor h frame (given to frames write) = put_reference actor frame h
-drops actor h frame gone = put_reference actor frame h
+drops actor h frame handle = put_reference actor frame h

@@ -18,8 +18,8 @@ const BIAS: u64 = 1024;
 
 /// Pins the page, which a fault has made ready, and answers its frame: the process has pinned from now on
 /// (`MMF_HAS_PINNED`), and the frame's count gets the weight of a pin (Linux's `try_grab_folio` in `follow_page_pte`,
-/// `mm/gup.c`). Linux sets the flag once for a whole call, before the first page; here each page sets it (this
-/// project's own), which nothing tells from that.
+/// `mm/gup.c`). Linux sets the flag at the beginning of a call, also where that then fails; a page that sets it again
+/// changes nothing.
 pub fn pin_page(space: &mut Space, frames: &mut Frames, page: PageNo, want: Want) -> FrameNo
     requires { IsReady (frames_of frames.old) (space_of space.old) page want }
     ensures frame { frame_of ((space_of space.old).entry page) ≡ Some result }
@@ -30,6 +30,7 @@ pub fn pin_page(space: &mut Space, frames: &mut Frames, page: PageNo, want: Want
 {
     let entry = space.entry(page).unwrap();
     let frame = entry.frame;
+    // Linux looks for this here (`gup_must_unshare`, `can_follow_write_pte`, `folio_is_longterm_pinnable`).
     prove!(frames.mark(frame));
     prove!(entry.writable || !want.write);
     prove!(frames.zone(frame) == Zone::Normal || !want.long);
