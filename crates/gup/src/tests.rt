@@ -139,7 +139,7 @@ const RUNS: [(&str, u8, &str); 27] = [
     (
         "gup 1\nframes 8 8 64\nprocess p\nchild c\nchild e\nthread t p\nthread u c\nthread w e\non t map 5 2 rw\non t store 5.0 7\non t fork c\non t store 5.0 8\non t load 5.0\non u load 6.0\non u fork e\non u store 5.0 9\non w load 5.0\non w store 6.511 1\non w load 6.511\non t load 6.511\nturns t*9 u*7\n",
         0,
-        "t 1 ok\nt 2 ok\nt 3 ok\nt 4 ok\nt 5 ok 8\nu 1 ok 0\nu 2 ok\nu 3 ok\nw 1 ok 7\nt 6 ok 0\nw 2 ok\nw 3 ok 1\n",
+        "t 1 ok\nt 2 ok\nt 3 ok\nt 4 ok\nt 5 ok 8\nu 1 ok 0\nu 2 ok\nt 6 ok 0\nu 3 ok\nw 1 ok 7\nw 2 ok\nw 3 ok 1\n",
     ),
     // Sixteen processes share one frame, and none is left for the last one's write.
     (
