@@ -11,7 +11,7 @@ use std::alloc::Global;
 use std::test::Fail;
 
 // A step of the walk.
-#[derive(Clone, Copy, Debug, PartialEq, Eq)]
+#[derive(Clone, Copy)]
 enum Step {
     Enter { write: bool, long: bool },
     Sequence,
@@ -32,7 +32,7 @@ enum Step {
 }
 
 // What another actor does, in the process of the walk or in another one.
-#[derive(Clone, Copy, Debug, PartialEq, Eq)]
+#[derive(Clone, Copy)]
 enum Act {
     Map(u64),
     Take(u64),
@@ -311,11 +311,11 @@ impl Run {
         }
     }
 
-    // Takes the steps, up to the first that is refused: it is answered.
-    fn walk(&mut self, steps: &[Step]) -> Option<Step> {
-        for step in steps {
+    // Takes the steps, up to the first that is refused: its place is answered.
+    fn walk(&mut self, steps: &[Step]) -> Option<usize> {
+        for (k, step) in steps.iter().enumerate() {
             if self.take_step(step).is_err() {
-                return Some(*step);
+                return Some(k);
             }
         }
         None
@@ -390,11 +390,11 @@ impl Run {
         }
     }
 
-    // Another actor of the process does all this, up to the first that is refused: it is answered.
-    fn act(&mut self, p: u64, acts: &[Act]) -> Option<Act> {
-        for act in acts {
+    // Another actor of the process does all this, up to the first that is refused: its place is answered.
+    fn act(&mut self, p: u64, acts: &[Act]) -> Option<usize> {
+        for (k, act) in acts.iter().enumerate() {
             if self.do_one(p, act).is_err() {
-                return Some(*act);
+                return Some(k);
             }
         }
         None
@@ -479,7 +479,7 @@ fn an_undisturbed_walk_ends_in_a_handle(rt: HostRuntime) -> Result<(), Fail> {
         None
     );
     assert_eq!(rt; run.taken(), [Some((0, 2, 0)), Some((1, 3, 1))]);
-    assert_eq!(rt; run.walk(&[Step::Entry(1)]), Some(Step::Entry(1)));
+    assert_eq!(rt; run.walk(&[Step::Entry(1)]), Some(0));
     assert_eq!(rt; run.walk(&[Step::Again, Step::Leave, Step::Handle]), None);
     assert_eq!(rt; run.counts(), [0, 0, 1025, 1025]);
     assert_eq!(rt; run.taken(), [None, None]);
@@ -493,7 +493,7 @@ fn a_walk_is_over_at_an_odd_sequence(rt: HostRuntime) -> Result<(), Fail> {
     let mut run = one_page(rt.alloc(), 2)?;
     assert_eq!(rt; run.act(0, &[Act::Begin]), None);
     assert_eq!(rt; run.walk(&[READ, Step::Sequence]), None);
-    assert_eq!(rt; run.walk(&[Step::Entry(0)]), Some(Step::Entry(0)));
+    assert_eq!(rt; run.walk(&[Step::Entry(0)]), Some(0));
     assert_eq!(rt; run.walk(&[Step::Leave]), None);
     assert_eq!(rt; run.counts(), [0, 0, 1, 0]);
     assert_eq!(rt; run.taken(), [None, None]);
@@ -503,7 +503,7 @@ fn a_walk_is_over_at_an_odd_sequence(rt: HostRuntime) -> Result<(), Fail> {
 // A walk that stops at the page, and keeps nothing.
 fn stops(run: &mut Run, kind: Step, n: u64) -> bool {
     run.walk(&[kind, Step::Sequence, Step::Entry(n)]).is_none()
-        && run.walk(&[Step::Grab]) == Some(Step::Grab)
+        && run.walk(&[Step::Grab]) == Some(0)
         && run.walk(&[Step::AgainStopped, Step::Leave]).is_none()
         && run.counts() == [1, 0, 0, 0]
         && run.taken() == [None, None]
@@ -537,7 +537,7 @@ fn a_free_frame_is_not_grabbed(rt: HostRuntime) -> Result<(), Fail> {
     let mut run = one_page(rt.alloc(), 2)?;
     assert_eq!(rt; run.walk(&[READ, Step::Sequence, Step::Entry(0)]), None);
     assert_eq!(rt; run.act(0, &[Act::Unmap(0), Act::Put(2)]), None);
-    assert_eq!(rt; run.walk(&[Step::Grab]), Some(Step::Grab));
+    assert_eq!(rt; run.walk(&[Step::Grab]), Some(0));
     assert_eq!(rt;
         run.walk(&[Step::Miss, Step::AgainStopped, Step::Leave]),
         None
@@ -557,7 +557,7 @@ fn a_grab_is_dropped_where_the_entry_is_another(rt: HostRuntime) -> Result<(), F
     );
     assert_eq!(rt; run.act(0, &[Act::Unmap(0), Act::Put(2)]), None);
     assert_eq!(rt; run.counts(), [0, 0, 1024, 0]);
-    assert_eq!(rt; run.walk(&[Step::Same]), Some(Step::Same));
+    assert_eq!(rt; run.walk(&[Step::Same]), Some(0));
     assert_eq!(rt; run.walk(&[Step::Other, Step::DropGrab]), None);
     assert_eq!(rt; run.counts(), [0, 0, 0, 0]);
     assert_eq!(rt; run.walk(&[Step::AgainStopped, Step::Leave]), None);
@@ -589,7 +589,7 @@ fn an_unmarked_frame_is_dropped(rt: HostRuntime) -> Result<(), Fail> {
     assert_eq!(rt; run.counts(), [0, 0, 1026, 0]);
     assert_eq!(rt; run.taken(), [Some((0, 2, 0)), None]);
     assert_eq!(rt; run.walk(&[Step::Mark]), None);
-    assert_eq!(rt; run.walk(&[Step::Again]), Some(Step::Again));
+    assert_eq!(rt; run.walk(&[Step::Again]), Some(0));
     assert_eq!(rt;
         run.walk(&[Step::DropLast, Step::AgainStopped, Step::Leave]),
         None
@@ -627,11 +627,11 @@ fn a_fork_makes_a_walk_drop_all(rt: HostRuntime) -> Result<(), Fail> {
     assert_eq!(rt; run.counts(), [0, 0, 1026, 1025]);
     assert_eq!(rt; run.taken(), [Some((1, 3, 1)), Some((0, 2, 0))]);
     assert_eq!(rt; run.walk(&[Step::Again]), None);
-    assert_eq!(rt; run.walk(&[Step::Leave]), Some(Step::Leave));
+    assert_eq!(rt; run.walk(&[Step::Leave]), Some(0));
     assert_eq!(rt; run.walk(&[Step::DropFirst]), None);
     assert_eq!(rt; run.counts(), [0, 0, 1026, 1]);
     assert_eq!(rt; run.taken(), [Some((0, 2, 0)), None]);
-    assert_eq!(rt; run.walk(&[Step::Leave]), Some(Step::Leave));
+    assert_eq!(rt; run.walk(&[Step::Leave]), Some(0));
     assert_eq!(rt; run.walk(&[Step::DropFirst, Step::Leave]), None);
     assert_eq!(rt; run.counts(), [0, 0, 2, 1]);
     assert_eq!(rt; run.taken(), [None, None]);
@@ -645,12 +645,9 @@ fn a_mover_meets_a_grab(rt: HostRuntime) -> Result<(), Fail> {
     assert_eq!(rt; run.walk(&[READ, Step::Sequence, Step::Entry(0)]), None);
     assert_eq!(rt; run.act(0, &[Act::Clear(0, 2)]), None);
     assert_eq!(rt; run.walk(&[Step::Grab]), None);
-    assert_eq!(rt;
-        run.act(0, &[Act::Count(0, 2, 1)]),
-        Some(Act::Count(0, 2, 1))
-    );
+    assert_eq!(rt; run.act(0, &[Act::Count(0, 2, 1)]), Some(0));
     assert_eq!(rt; run.act(0, &[Act::Count(0, 2, 1025)]), None);
-    assert_eq!(rt; run.act(0, &[Act::Take(3)]), Some(Act::Take(3)));
+    assert_eq!(rt; run.act(0, &[Act::Take(3)]), Some(0));
     assert_eq!(rt; run.act(0, &[Act::Restore(0, 2)]), None);
     assert_eq!(rt;
         run.walk(&[Step::Same, Step::Mark, Step::Again, Step::Leave]),
@@ -673,7 +670,7 @@ fn a_walk_meets_a_moved_page(rt: HostRuntime) -> Result<(), Fail> {
     assert_eq!(rt; run.walk(&[Step::Grab]), None);
     assert_eq!(rt; run.act(0, &[Act::Place(0, 2, 3), Act::Put(2)]), None);
     assert_eq!(rt; run.counts(), [0, 0, 1024, 1]);
-    assert_eq!(rt; run.walk(&[Step::Same]), Some(Step::Same));
+    assert_eq!(rt; run.walk(&[Step::Same]), Some(0));
     assert_eq!(rt;
         run.walk(&[Step::Other, Step::DropGrab, Step::AgainStopped, Step::Leave]),
         None
@@ -710,7 +707,7 @@ fn a_frame_that_was_taken_again_is_dropped(rt: HostRuntime) -> Result<(), Fail> 
     );
     assert_eq!(rt; run.walk(&[Step::Grab]), None);
     assert_eq!(rt; run.counts(), [0, 0, 1025, 0]);
-    assert_eq!(rt; run.walk(&[Step::Same]), Some(Step::Same));
+    assert_eq!(rt; run.walk(&[Step::Same]), Some(0));
     assert_eq!(rt;
         run.walk(&[Step::Other, Step::DropGrab, Step::AgainStopped, Step::Leave]),
         None
