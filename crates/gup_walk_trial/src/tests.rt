@@ -55,6 +55,25 @@ enum Act {
     EndShared(u64),
 }
 
+// A line of a test: what is done, and what is so then.
+enum Line<'a> {
+    // The walker takes these steps, or can't take this one.
+    Walk(&'a [Step]),
+    Stays(Step),
+    // Another actor of its process does this, or can't.
+    Act(&'a [Act]),
+    Denied(Act),
+    // An actor of the second process does this.
+    Second(&'a [Act]),
+    // The count of each frame.
+    Counts([u64; 4]),
+    // The page, frame and object of what the walk has taken.
+    Taken([Option<(u64, u64, u64)>; 2]),
+    Marked(u64),
+    // The handle is the walker's.
+    Held,
+}
+
 // A machine, and what the walker knows.
 #[derive(Drop)]
 struct Run {
@@ -422,6 +441,31 @@ impl Run {
     fn taken(&self) -> [Option<(u64, u64, u64)>; 2] {
         [self.taken_at(0), self.taken_at(1)]
     }
+
+    // Does the line, or looks whether it is so.
+    fn is_right(&mut self, line: &Line) -> bool {
+        match line {
+            Line::Walk(steps) => self.walk(steps).is_none(),
+            Line::Stays(step) => self.take_step(step).is_err(),
+            Line::Act(acts) => self.act(0, acts).is_none(),
+            Line::Denied(act) => self.do_one(0, act).is_err(),
+            Line::Second(acts) => self.act(1, acts).is_none(),
+            Line::Counts(counts) => self.counts() == *counts,
+            Line::Taken(taken) => self.taken() == *taken,
+            Line::Marked(f) => *self.trial.mark.get(frame(*f)),
+            Line::Held => self.trial.handle.is_held_by(handle(), walker()),
+        }
+    }
+
+    // The place of the first line that isn't right.
+    fn first_wrong(&mut self, lines: &[Line]) -> Option<usize> {
+        for (k, line) in lines.iter().enumerate() {
+            if !self.is_right(line) {
+                return Some(k);
+            }
+        }
+        None
+    }
 }
 
 const READ: Step = Step::Enter {
@@ -452,38 +496,31 @@ fn one_page(alloc: Global, f: u64) -> Result<Run, Fail> {
 #[test]
 fn an_undisturbed_walk_ends_in_a_handle(rt: HostRuntime) -> Result<(), Fail> {
     let mut run = one_page(rt.alloc(), 2)?;
-    assert_eq!(rt;
-        run.act(
-            0,
-            &[
-                Act::Map(1),
-                Act::Take(3),
-                Act::Fill(1, 3),
-                Act::Upgrade(1, 3)
-            ]
-        ),
-        None
-    );
-    let first = [
-        READ,
-        Step::Sequence,
-        Step::Entry(0),
-        Step::Grab,
-        Step::Same,
-        Step::Mark,
-    ];
-    assert_eq!(rt; run.walk(&first), None);
-    assert_eq!(rt; run.counts(), [0, 0, 1025, 1]);
-    assert_eq!(rt;
-        run.walk(&[Step::Entry(1), Step::Grab, Step::Same, Step::Mark]),
-        None
-    );
-    assert_eq!(rt; run.taken(), [Some((0, 2, 0)), Some((1, 3, 1))]);
-    assert_eq!(rt; run.walk(&[Step::Entry(1)]), Some(0));
-    assert_eq!(rt; run.walk(&[Step::Again, Step::Leave, Step::Handle]), None);
-    assert_eq!(rt; run.counts(), [0, 0, 1025, 1025]);
-    assert_eq!(rt; run.taken(), [None, None]);
-    assert!(rt; run.trial.handle.is_held_by(handle(), walker()));
+    let wrong = run.first_wrong(&[
+        Line::Act(&[
+            Act::Map(1),
+            Act::Take(3),
+            Act::Fill(1, 3),
+            Act::Upgrade(1, 3),
+        ]),
+        Line::Walk(&[
+            READ,
+            Step::Sequence,
+            Step::Entry(0),
+            Step::Grab,
+            Step::Same,
+            Step::Mark,
+        ]),
+        Line::Counts([0, 0, 1025, 1]),
+        Line::Walk(&[Step::Entry(1), Step::Grab, Step::Same, Step::Mark]),
+        Line::Taken([Some((0, 2, 0)), Some((1, 3, 1))]),
+        Line::Stays(Step::Entry(1)),
+        Line::Walk(&[Step::Again, Step::Leave, Step::Handle]),
+        Line::Counts([0, 0, 1025, 1025]),
+        Line::Taken([None, None]),
+        Line::Held,
+    ]);
+    assert_eq!(rt; wrong, None);
     Ok(())
 }
 
@@ -491,22 +528,16 @@ fn an_undisturbed_walk_ends_in_a_handle(rt: HostRuntime) -> Result<(), Fail> {
 #[test]
 fn a_walk_is_over_at_an_odd_sequence(rt: HostRuntime) -> Result<(), Fail> {
     let mut run = one_page(rt.alloc(), 2)?;
-    assert_eq!(rt; run.act(0, &[Act::Begin]), None);
-    assert_eq!(rt; run.walk(&[READ, Step::Sequence]), None);
-    assert_eq!(rt; run.walk(&[Step::Entry(0)]), Some(0));
-    assert_eq!(rt; run.walk(&[Step::Leave]), None);
-    assert_eq!(rt; run.counts(), [0, 0, 1, 0]);
-    assert_eq!(rt; run.taken(), [None, None]);
+    let wrong = run.first_wrong(&[
+        Line::Act(&[Act::Begin]),
+        Line::Walk(&[READ, Step::Sequence]),
+        Line::Stays(Step::Entry(0)),
+        Line::Walk(&[Step::Leave]),
+        Line::Counts([0, 0, 1, 0]),
+        Line::Taken([None, None]),
+    ]);
+    assert_eq!(rt; wrong, None);
     Ok(())
-}
-
-// A walk that stops at the page, and keeps nothing.
-fn stops(run: &mut Run, kind: Step, n: u64) -> bool {
-    run.walk(&[kind, Step::Sequence, Step::Entry(n)]).is_none()
-        && run.walk(&[Step::Grab]) == Some(0)
-        && run.walk(&[Step::AgainStopped, Step::Leave]).is_none()
-        && run.counts() == [1, 0, 0, 0]
-        && run.taken() == [None, None]
 }
 
 // An absent entry, a read-only one for a write pin, and a movable frame for a long pin stop the walk. A pin to read takes
@@ -514,20 +545,34 @@ fn stops(run: &mut Run, kind: Step, n: u64) -> bool {
 #[test]
 fn a_walk_stops_at_an_entry_that_is_not_right(rt: HostRuntime) -> Result<(), Fail> {
     let mut run = one_page(rt.alloc(), 0)?;
-    assert!(rt; stops(&mut run, READ, 1));
-    assert!(rt; stops(&mut run, WRITE, 0));
-    assert!(rt; stops(&mut run, LONG, 0));
-    let all = [
-        READ,
-        Step::Sequence,
-        Step::Entry(0),
-        Step::Grab,
-        Step::Same,
-        Step::Mark,
-    ];
-    assert_eq!(rt; run.walk(&all), None);
-    assert_eq!(rt; run.counts(), [1025, 0, 0, 0]);
-    assert_eq!(rt; run.taken(), [Some((0, 0, 0)), None]);
+    let wrong = run.first_wrong(&[
+        Line::Walk(&[READ, Step::Sequence, Step::Entry(1)]),
+        Line::Stays(Step::Grab),
+        Line::Walk(&[Step::AgainStopped, Step::Leave]),
+        Line::Counts([1, 0, 0, 0]),
+        Line::Taken([None, None]),
+        Line::Walk(&[WRITE, Step::Sequence, Step::Entry(0)]),
+        Line::Stays(Step::Grab),
+        Line::Walk(&[Step::AgainStopped, Step::Leave]),
+        Line::Counts([1, 0, 0, 0]),
+        Line::Taken([None, None]),
+        Line::Walk(&[LONG, Step::Sequence, Step::Entry(0)]),
+        Line::Stays(Step::Grab),
+        Line::Walk(&[Step::AgainStopped, Step::Leave]),
+        Line::Counts([1, 0, 0, 0]),
+        Line::Taken([None, None]),
+        Line::Walk(&[
+            READ,
+            Step::Sequence,
+            Step::Entry(0),
+            Step::Grab,
+            Step::Same,
+            Step::Mark,
+        ]),
+        Line::Counts([1025, 0, 0, 0]),
+        Line::Taken([Some((0, 0, 0)), None]),
+    ]);
+    assert_eq!(rt; wrong, None);
     Ok(())
 }
 
@@ -535,15 +580,15 @@ fn a_walk_stops_at_an_entry_that_is_not_right(rt: HostRuntime) -> Result<(), Fai
 #[test]
 fn a_free_frame_is_not_grabbed(rt: HostRuntime) -> Result<(), Fail> {
     let mut run = one_page(rt.alloc(), 2)?;
-    assert_eq!(rt; run.walk(&[READ, Step::Sequence, Step::Entry(0)]), None);
-    assert_eq!(rt; run.act(0, &[Act::Unmap(0), Act::Put(2)]), None);
-    assert_eq!(rt; run.walk(&[Step::Grab]), Some(0));
-    assert_eq!(rt;
-        run.walk(&[Step::Miss, Step::AgainStopped, Step::Leave]),
-        None
-    );
-    assert_eq!(rt; run.counts(), [0, 0, 0, 0]);
-    assert_eq!(rt; run.taken(), [None, None]);
+    let wrong = run.first_wrong(&[
+        Line::Walk(&[READ, Step::Sequence, Step::Entry(0)]),
+        Line::Act(&[Act::Unmap(0), Act::Put(2)]),
+        Line::Stays(Step::Grab),
+        Line::Walk(&[Step::Miss, Step::AgainStopped, Step::Leave]),
+        Line::Counts([0, 0, 0, 0]),
+        Line::Taken([None, None]),
+    ]);
+    assert_eq!(rt; wrong, None);
     Ok(())
 }
 
@@ -551,51 +596,43 @@ fn a_free_frame_is_not_grabbed(rt: HostRuntime) -> Result<(), Fail> {
 #[test]
 fn a_grab_is_dropped_where_the_entry_is_another(rt: HostRuntime) -> Result<(), Fail> {
     let mut run = one_page(rt.alloc(), 2)?;
-    assert_eq!(rt;
-        run.walk(&[READ, Step::Sequence, Step::Entry(0), Step::Grab]),
-        None
-    );
-    assert_eq!(rt; run.act(0, &[Act::Unmap(0), Act::Put(2)]), None);
-    assert_eq!(rt; run.counts(), [0, 0, 1024, 0]);
-    assert_eq!(rt; run.walk(&[Step::Same]), Some(0));
-    assert_eq!(rt; run.walk(&[Step::Other, Step::DropGrab]), None);
-    assert_eq!(rt; run.counts(), [0, 0, 0, 0]);
-    assert_eq!(rt; run.walk(&[Step::AgainStopped, Step::Leave]), None);
-    assert_eq!(rt; run.taken(), [None, None]);
+    let wrong = run.first_wrong(&[
+        Line::Walk(&[READ, Step::Sequence, Step::Entry(0), Step::Grab]),
+        Line::Act(&[Act::Unmap(0), Act::Put(2)]),
+        Line::Counts([0, 0, 1024, 0]),
+        Line::Stays(Step::Same),
+        Line::Walk(&[Step::Other, Step::DropGrab]),
+        Line::Counts([0, 0, 0, 0]),
+        Line::Walk(&[Step::AgainStopped, Step::Leave]),
+        Line::Taken([None, None]),
+    ]);
+    assert_eq!(rt; wrong, None);
     Ok(())
-}
-
-// The share of page 0, which has this frame, from the reading of its count on.
-fn shared(f: u64) -> [Act; 4] {
-    [
-        Act::Share(0),
-        Act::Lower(0, f),
-        Act::Unmark(0, f),
-        Act::Child(0, f),
-    ]
 }
 
 // A frame that a fork has shared isn't marked: the page is taken by the recheck, and dropped.
 #[test]
 fn an_unmarked_frame_is_dropped(rt: HostRuntime) -> Result<(), Fail> {
     let mut run = one_page(rt.alloc(), 2)?;
-    assert_eq!(rt; run.act(0, &[Act::Begin]), None);
-    assert_eq!(rt; run.act(0, &shared(2)), None);
-    assert_eq!(rt; run.act(0, &[Act::EndShared(0)]), None);
-    assert_eq!(rt;
-        run.walk(&[READ, Step::Sequence, Step::Entry(0), Step::Grab, Step::Same]),
-        None
-    );
-    assert_eq!(rt; run.counts(), [0, 0, 1026, 0]);
-    assert_eq!(rt; run.taken(), [Some((0, 2, 0)), None]);
-    assert_eq!(rt; run.walk(&[Step::Mark]), None);
-    assert_eq!(rt; run.walk(&[Step::Again]), Some(0));
-    assert_eq!(rt;
-        run.walk(&[Step::DropLast, Step::AgainStopped, Step::Leave]),
-        None
-    );
-    assert_eq!(rt; run.counts(), [0, 0, 2, 0]);
-    assert_eq!(rt; run.taken(), [None, None]);
+    let wrong = run.first_wrong(&[
+        Line::Act(&[
+            Act::Begin,
+            Act::Share(0),
+            Act::Lower(0, 2),
+            Act::Unmark(0, 2),
+            Act::Child(0, 2),
+            Act::EndShared(0),
+        ]),
+        Line::Walk(&[READ, Step::Sequence, Step::Entry(0), Step::Grab, Step::Same]),
+        Line::Counts([0, 0, 1026, 0]),
+        Line::Taken([Some((0, 2, 0)), None]),
+        Line::Walk(&[Step::Mark]),
+        Line::Stays(Step::Again),
+        Line::Walk(&[Step::DropLast, Step::AgainStopped, Step::Leave]),
+        Line::Counts([0, 0, 2, 0]),
+        Line::Taken([None, None]),
+    ]);
+    assert_eq!(rt; wrong, None);
     Ok(())
 }
 
@@ -604,37 +641,33 @@ fn an_unmarked_frame_is_dropped(rt: HostRuntime) -> Result<(), Fail> {
 #[test]
 fn a_fork_makes_a_walk_drop_all(rt: HostRuntime) -> Result<(), Fail> {
     let mut run = one_page(rt.alloc(), 2)?;
-    assert_eq!(rt;
-        run.act(0, &[Act::Map(1), Act::Take(3), Act::Fill(1, 3)]),
-        None
-    );
-    let first = [
-        READ,
-        Step::Sequence,
-        Step::Entry(1),
-        Step::Grab,
-        Step::Same,
-        Step::Mark,
-    ];
-    assert_eq!(rt; run.walk(&first), None);
-    assert_eq!(rt; run.walk(&[Step::Entry(0)]), None);
-    assert_eq!(rt; run.act(0, &[Act::Begin, Act::Share(0)]), None);
-    assert_eq!(rt; run.walk(&[Step::Grab, Step::Same, Step::Mark]), None);
-    assert_eq!(rt;
-        run.act(0, &[Act::Lower(0, 2), Act::Unmark(0, 2), Act::Child(0, 2)]),
-        None
-    );
-    assert_eq!(rt; run.counts(), [0, 0, 1026, 1025]);
-    assert_eq!(rt; run.taken(), [Some((1, 3, 1)), Some((0, 2, 0))]);
-    assert_eq!(rt; run.walk(&[Step::Again]), None);
-    assert_eq!(rt; run.walk(&[Step::Leave]), Some(0));
-    assert_eq!(rt; run.walk(&[Step::DropFirst]), None);
-    assert_eq!(rt; run.counts(), [0, 0, 1026, 1]);
-    assert_eq!(rt; run.taken(), [Some((0, 2, 0)), None]);
-    assert_eq!(rt; run.walk(&[Step::Leave]), Some(0));
-    assert_eq!(rt; run.walk(&[Step::DropFirst, Step::Leave]), None);
-    assert_eq!(rt; run.counts(), [0, 0, 2, 1]);
-    assert_eq!(rt; run.taken(), [None, None]);
+    let wrong = run.first_wrong(&[
+        Line::Act(&[Act::Map(1), Act::Take(3), Act::Fill(1, 3)]),
+        Line::Walk(&[
+            READ,
+            Step::Sequence,
+            Step::Entry(1),
+            Step::Grab,
+            Step::Same,
+            Step::Mark,
+        ]),
+        Line::Walk(&[Step::Entry(0)]),
+        Line::Act(&[Act::Begin, Act::Share(0)]),
+        Line::Walk(&[Step::Grab, Step::Same, Step::Mark]),
+        Line::Act(&[Act::Lower(0, 2), Act::Unmark(0, 2), Act::Child(0, 2)]),
+        Line::Counts([0, 0, 1026, 1025]),
+        Line::Taken([Some((1, 3, 1)), Some((0, 2, 0))]),
+        Line::Walk(&[Step::Again]),
+        Line::Stays(Step::Leave),
+        Line::Walk(&[Step::DropFirst]),
+        Line::Counts([0, 0, 1026, 1]),
+        Line::Taken([Some((0, 2, 0)), None]),
+        Line::Stays(Step::Leave),
+        Line::Walk(&[Step::DropFirst, Step::Leave]),
+        Line::Counts([0, 0, 2, 1]),
+        Line::Taken([None, None]),
+    ]);
+    assert_eq!(rt; wrong, None);
     Ok(())
 }
 
@@ -642,19 +675,19 @@ fn a_fork_makes_a_walk_drop_all(rt: HostRuntime) -> Result<(), Fail> {
 #[test]
 fn a_mover_meets_a_grab(rt: HostRuntime) -> Result<(), Fail> {
     let mut run = one_page(rt.alloc(), 2)?;
-    assert_eq!(rt; run.walk(&[READ, Step::Sequence, Step::Entry(0)]), None);
-    assert_eq!(rt; run.act(0, &[Act::Clear(0, 2)]), None);
-    assert_eq!(rt; run.walk(&[Step::Grab]), None);
-    assert_eq!(rt; run.act(0, &[Act::Count(0, 2, 1)]), Some(0));
-    assert_eq!(rt; run.act(0, &[Act::Count(0, 2, 1025)]), None);
-    assert_eq!(rt; run.act(0, &[Act::Take(3)]), Some(0));
-    assert_eq!(rt; run.act(0, &[Act::Restore(0, 2)]), None);
-    assert_eq!(rt;
-        run.walk(&[Step::Same, Step::Mark, Step::Again, Step::Leave]),
-        None
-    );
-    assert_eq!(rt; run.counts(), [0, 0, 1025, 0]);
-    assert_eq!(rt; run.taken(), [Some((0, 2, 0)), None]);
+    let wrong = run.first_wrong(&[
+        Line::Walk(&[READ, Step::Sequence, Step::Entry(0)]),
+        Line::Act(&[Act::Clear(0, 2)]),
+        Line::Walk(&[Step::Grab]),
+        Line::Denied(Act::Count(0, 2, 1)),
+        Line::Act(&[Act::Count(0, 2, 1025)]),
+        Line::Denied(Act::Take(3)),
+        Line::Act(&[Act::Restore(0, 2)]),
+        Line::Walk(&[Step::Same, Step::Mark, Step::Again, Step::Leave]),
+        Line::Counts([0, 0, 1025, 0]),
+        Line::Taken([Some((0, 2, 0)), None]),
+    ]);
+    assert_eq!(rt; wrong, None);
     Ok(())
 }
 
@@ -662,21 +695,18 @@ fn a_mover_meets_a_grab(rt: HostRuntime) -> Result<(), Fail> {
 #[test]
 fn a_walk_meets_a_moved_page(rt: HostRuntime) -> Result<(), Fail> {
     let mut run = one_page(rt.alloc(), 2)?;
-    assert_eq!(rt; run.walk(&[READ, Step::Sequence, Step::Entry(0)]), None);
-    assert_eq!(rt;
-        run.act(0, &[Act::Clear(0, 2), Act::Count(0, 2, 1), Act::Take(3)]),
-        None
-    );
-    assert_eq!(rt; run.walk(&[Step::Grab]), None);
-    assert_eq!(rt; run.act(0, &[Act::Place(0, 2, 3), Act::Put(2)]), None);
-    assert_eq!(rt; run.counts(), [0, 0, 1024, 1]);
-    assert_eq!(rt; run.walk(&[Step::Same]), Some(0));
-    assert_eq!(rt;
-        run.walk(&[Step::Other, Step::DropGrab, Step::AgainStopped, Step::Leave]),
-        None
-    );
-    assert_eq!(rt; run.counts(), [0, 0, 0, 1]);
-    assert_eq!(rt; run.taken(), [None, None]);
+    let wrong = run.first_wrong(&[
+        Line::Walk(&[READ, Step::Sequence, Step::Entry(0)]),
+        Line::Act(&[Act::Clear(0, 2), Act::Count(0, 2, 1), Act::Take(3)]),
+        Line::Walk(&[Step::Grab]),
+        Line::Act(&[Act::Place(0, 2, 3), Act::Put(2)]),
+        Line::Counts([0, 0, 1024, 1]),
+        Line::Stays(Step::Same),
+        Line::Walk(&[Step::Other, Step::DropGrab, Step::AgainStopped, Step::Leave]),
+        Line::Counts([0, 0, 0, 1]),
+        Line::Taken([None, None]),
+    ]);
+    assert_eq!(rt; wrong, None);
     Ok(())
 }
 
@@ -685,36 +715,27 @@ fn a_walk_meets_a_moved_page(rt: HostRuntime) -> Result<(), Fail> {
 #[test]
 fn a_frame_that_was_taken_again_is_dropped(rt: HostRuntime) -> Result<(), Fail> {
     let mut run = Run::new(rt.alloc()).or(Err("memory"))?;
-    assert_eq!(rt;
-        run.act(
-            0,
-            &[
-                Act::Begin,
-                Act::End,
-                Act::Map(0),
-                Act::Take(2),
-                Act::Fill(0, 2)
-            ]
-        ),
-        None
-    );
-    assert_eq!(rt; run.walk(&[READ, Step::Sequence, Step::Entry(0)]), None);
-    assert_eq!(rt; run.act(0, &[Act::Unmap(0), Act::Put(2)]), None);
-    assert_eq!(rt; run.counts(), [0, 0, 0, 0]);
-    assert_eq!(rt;
-        run.act(1, &[Act::Map(0), Act::Take(2), Act::Fill(0, 2)]),
-        None
-    );
-    assert_eq!(rt; run.walk(&[Step::Grab]), None);
-    assert_eq!(rt; run.counts(), [0, 0, 1025, 0]);
-    assert_eq!(rt; run.walk(&[Step::Same]), Some(0));
-    assert_eq!(rt;
-        run.walk(&[Step::Other, Step::DropGrab, Step::AgainStopped, Step::Leave]),
-        None
-    );
-    assert_eq!(rt; run.counts(), [0, 0, 1, 0]);
-    assert!(rt; *run.trial.mark.get(frame(2)));
-    assert_eq!(rt; run.taken(), [None, None]);
+    let wrong = run.first_wrong(&[
+        Line::Act(&[
+            Act::Begin,
+            Act::End,
+            Act::Map(0),
+            Act::Take(2),
+            Act::Fill(0, 2),
+        ]),
+        Line::Walk(&[READ, Step::Sequence, Step::Entry(0)]),
+        Line::Act(&[Act::Unmap(0), Act::Put(2)]),
+        Line::Counts([0, 0, 0, 0]),
+        Line::Second(&[Act::Map(0), Act::Take(2), Act::Fill(0, 2)]),
+        Line::Walk(&[Step::Grab]),
+        Line::Counts([0, 0, 1025, 0]),
+        Line::Stays(Step::Same),
+        Line::Walk(&[Step::Other, Step::DropGrab, Step::AgainStopped, Step::Leave]),
+        Line::Counts([0, 0, 1, 0]),
+        Line::Marked(2),
+        Line::Taken([None, None]),
+    ]);
+    assert_eq!(rt; wrong, None);
     Ok(())
 }
 
@@ -723,17 +744,19 @@ fn a_frame_that_was_taken_again_is_dropped(rt: HostRuntime) -> Result<(), Fail> 
 #[test]
 fn a_page_that_was_mapped_again_is_taken_anew(rt: HostRuntime) -> Result<(), Fail> {
     let mut run = one_page(rt.alloc(), 2)?;
-    assert_eq!(rt; run.walk(&[READ, Step::Sequence, Step::Entry(0)]), None);
-    assert_eq!(rt;
-        run.act(0, &[Act::Unmap(0), Act::Put(2), Act::Map(0)]),
-        None
-    );
-    assert_eq!(rt; run.act(0, &[Act::Take(2), Act::Fill(0, 2)]), None);
-    assert_eq!(rt;
-        run.walk(&[Step::Grab, Step::Same, Step::Mark, Step::Again, Step::Leave]),
-        None
-    );
-    assert_eq!(rt; run.counts(), [0, 0, 1025, 0]);
-    assert_eq!(rt; run.taken(), [Some((0, 2, 1)), None]);
+    let wrong = run.first_wrong(&[
+        Line::Walk(&[READ, Step::Sequence, Step::Entry(0)]),
+        Line::Act(&[
+            Act::Unmap(0),
+            Act::Put(2),
+            Act::Map(0),
+            Act::Take(2),
+            Act::Fill(0, 2),
+        ]),
+        Line::Walk(&[Step::Grab, Step::Same, Step::Mark, Step::Again, Step::Leave]),
+        Line::Counts([0, 0, 1025, 0]),
+        Line::Taken([Some((0, 2, 1)), None]),
+    ]);
+    assert_eq!(rt; wrong, None);
     Ok(())
 }
