@@ -338,15 +338,16 @@ impl Run {
 
     // Whether these are the page, frame and object of each page that the walk has taken.
     fn has_taken(&self, words: &mut SplitWhitespace<'_>) -> bool {
-        for taken in self.trial.taken.get(walker()).as_slice() {
-            if !is_spelled(taken, words) {
-                return false;
-            }
-        }
-        words.next().is_none()
+        let taken = match self.trial.taken.get(walker()).as_slice() {
+            [] => true,
+            [one] => is_spelled(one, words),
+            [one, two] => is_spelled(one, words) && is_spelled(two, words),
+            _ => false,
+        };
+        taken && words.next().is_none()
     }
 
-    // Does what the words say by this actor's process, or by the walk; and whether it could.
+    // Tries what the words say: a step of the walk, or what another actor, of this process, does. Whether it could.
     fn tries(&mut self, p: u64, words: &mut SplitWhitespace<'_>) -> Option<bool> {
         let verb = words.next().unwrap_or("");
         let object = words.next().unwrap_or("");
@@ -365,7 +366,7 @@ impl Run {
     // Does the line, or looks whether it is so.
     fn is_right(&mut self, line: &str) -> bool {
         let mut words = line.split_whitespace();
-        let mut others = line.split_whitespace();
+        let mut all = line.split_whitespace();
         match words.next().unwrap_or("") {
             "cannot" => self.tries(0, &mut words) == Some(false),
             "second" => self.tries(1, &mut words) == Some(true),
@@ -373,7 +374,7 @@ impl Run {
             "taken" => self.has_taken(&mut words),
             "marked" => *self.trial.mark.get(frame(number_in(&mut words))),
             "held" => self.trial.handle.is_held_by(handle(), walker()),
-            _ => self.tries(0, &mut others) == Some(true),
+            _ => self.tries(0, &mut all) == Some(true),
         }
     }
 }
