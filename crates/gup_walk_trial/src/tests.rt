@@ -430,8 +430,8 @@ fn a_walk_is_over_at_an_odd_sequence(rt: HostRuntime) -> Result<(), Fail> {
     Ok(())
 }
 
-// An absent entry, a read-only one for a write pin, and a movable frame for a long pin stop the walk. A pin to read takes
-// the frame that a long one doesn't.
+// An absent entry, a read-only one for a write pin, and a movable frame for a long pin stop the walk. A pin to read
+// takes the frame that a long one doesn't.
 #[test]
 fn a_walk_stops_at_an_entry_that_is_not_right(rt: HostRuntime) -> Result<(), Fail> {
     let script = "map 0, take 0, fill 0 0, \
