@@ -1,59 +1,14 @@
 use super::*;
-use gup_base::{ActorNo, Entry, FrameNo, HandleNo, PageNo, ProcNo, Rights};
+use gup_base::{ActorNo, FrameNo, HandleNo, PageNo, ProcNo, Rights};
 use gup_jobs::job::Counted;
-use gup_jobs::lists::same_frames;
 use gup_jobs::needs::entry_to;
 use gup_jobs::refused::Refused;
 use gup_jobs::taken::{Taken, same};
 use gup_jobs::walk::WalkStep;
 use gup_trial::Trial;
 use std::alloc::Global;
+use std::str::SplitWhitespace;
 use std::test::Fail;
-
-// A step of the walk.
-#[derive(Clone, Copy, Debug, PartialEq, Eq)]
-enum Step {
-    Enter { write: bool, long: bool },
-    Sequence,
-    Entry(u64),
-    Grab,
-    Miss,
-    Same,
-    Other,
-    Mark,
-    // Behind a page that is kept, or where the walk has stopped.
-    Again,
-    AgainStopped,
-    DropGrab,
-    DropLast,
-    DropFirst,
-    Leave,
-    Handle,
-}
-
-// What another actor does, in the process of the walk or in another one.
-#[derive(Clone, Copy, Debug, PartialEq, Eq)]
-enum Act {
-    Map(u64),
-    Take(u64),
-    Fill(u64, u64),
-    Upgrade(u64, u64),
-    Unmap(u64),
-    Put(u64),
-    // A move of the page: out of its entry, by the count that is read, into the frame, or back.
-    Clear(u64, u64),
-    Count(u64, u64, u64),
-    Place(u64, u64, u64),
-    Restore(u64, u64),
-    // A fork of the first process into the second: the page is shared.
-    Begin,
-    Share(u64),
-    Lower(u64, u64),
-    Unmark(u64, u64),
-    Child(u64, u64),
-    End,
-    EndShared(u64),
-}
 
 // A machine, and what the walker knows.
 #[derive(Drop)]
@@ -291,311 +246,237 @@ impl Run {
         )
     }
 
-    fn take_step(&mut self, step: &Step) -> Result<(), Refused> {
-        match *step {
-            Step::Enter { write, long } => self.enter_walk(write, long),
-            Step::Sequence => self.read_sequence(),
-            Step::Entry(n) => self.read_entry(page(n)),
-            Step::Grab => self.grab_frame(),
-            Step::Miss => self.miss_frame(),
-            Step::Same => self.recheck_same(),
-            Step::Other => self.recheck_other(),
-            Step::Mark => self.read_mark(),
-            Step::Again => self.read_again(WalkStep::Ready),
-            Step::AgainStopped => self.read_again(WalkStep::Stopped),
-            Step::DropGrab => self.drop_grab(),
-            Step::DropLast => self.drop_last(),
-            Step::DropFirst => self.drop_first(),
-            Step::Leave => self.leave_walk(),
-            Step::Handle => self.trial.make_handle(walker(), handle()),
-        }
+    // The walker takes the step. `None`: there is no such word.
+    fn take_step(&mut self, verb: &str, object: &str) -> Option<Result<(), Refused>> {
+        Some(match verb {
+            "enter" => self.enter_walk(object == "write", object == "long"),
+            "sequence" => self.read_sequence(),
+            "entry" => self.read_entry(page(number(object))),
+            "grab" => self.grab_frame(),
+            "miss" => self.miss_frame(),
+            "same" => self.recheck_same(),
+            "other" => self.recheck_other(),
+            "mark" => self.read_mark(),
+            "again" if object == "stopped" => self.read_again(WalkStep::Stopped),
+            "again" => self.read_again(WalkStep::Ready),
+            "drop" if object == "grab" => self.drop_grab(),
+            "drop" if object == "last" => self.drop_last(),
+            "drop" => self.drop_first(),
+            "leave" => self.leave_walk(),
+            "handle" => self.trial.make_handle(walker(), handle()),
+            _ => return None,
+        })
     }
 
-    // Takes the steps, up to the first that is refused: it is answered.
-    fn walk(&mut self, steps: &[Step]) -> Option<Step> {
-        for step in steps {
-            if self.take_step(step).is_err() {
-                return Some(*step);
-            }
-        }
-        None
-    }
-
-    // The entry that the page has now.
-    fn entry_at(&self, p: ProcNo, n: u64) -> Option<Entry> {
-        self.trial.entry.get(p, page(n))
-    }
-
-    fn share(&mut self, act: &Act) -> Result<(), Refused> {
+    // A fork of the first process into the second, which shares a page without a writable entry.
+    fn share(&mut self, verb: &str, n: u64, f: u64) -> Option<Result<(), Refused>> {
         let (a, p, c) = (actor(1), process(0), process(1));
         let none = Vec::new(self.alloc);
         let done = none.as_slice();
-        match *act {
-            Act::Begin => self.trial.begin_fork(a, p, c),
-            Act::Share(n) => match self.entry_at(p, n) {
-                None => Err(Refused::Cannot),
-                Some(entry) => self.trial.count_page(a, p, c, done, page(n), entry, false),
-            },
-            Act::Lower(n, f) => self
+        Some(match verb {
+            "begin" => self.trial.begin_fork(a, p, c),
+            "count" => {
+                let entry = entry_to(frame(f), false);
+                self.trial.count_page(a, p, c, done, page(n), entry, false)
+            }
+            "lower" => self
                 .trial
                 .share_entry(a, p, c, done, page(n), frame(f), false),
-            Act::Unmark(n, f) => self
+            "unmark" => self
                 .trial
                 .share_mark(a, p, c, done, page(n), frame(f), false),
-            Act::Child(n, f) => self
+            "child" => self
                 .trial
                 .share_child(a, p, c, done, page(n), frame(f), false),
-            Act::EndShared(n) => self.trial.end_fork(a, p, c, &[page(n)]),
-            _ => self.trial.end_fork(a, p, c, done),
-        }
+            "end" => self.trial.end_fork(a, p, c, done),
+            "finish" => self.trial.end_fork(a, p, c, &[page(n)]),
+            _ => return None,
+        })
     }
 
-    fn relocate(&mut self, act: &Act) -> Result<(), Refused> {
+    // A move of a page without a writable entry, by the count that is read, into another frame or back.
+    fn relocate(&mut self, verb: &str, n: u64, f: u64, m: u64) -> Option<Result<(), Refused>> {
         let (a, p) = (actor(1), process(0));
-        match *act {
-            Act::Clear(n, f) => self
+        let entry = entry_to(frame(f), false);
+        Some(match verb {
+            "clear" => self.trial.clear_entry(a, p, page(n), entry),
+            "read" => self.trial.count_moved(a, p, page(n), entry, m),
+            "place" => self.trial.place_frame(a, p, page(n), frame(m), entry),
+            "restore" => self
                 .trial
-                .clear_entry(a, p, page(n), entry_to(frame(f), false)),
-            Act::Count(n, f, count) => {
-                let entry = entry_to(frame(f), false);
-                self.trial.count_moved(a, p, page(n), entry, count)
-            }
-            Act::Place(n, old, new) => {
-                let entry = entry_to(frame(old), false);
-                self.trial.place_frame(a, p, page(n), frame(new), entry)
-            }
-            Act::Restore(n, f) => {
-                let entry = entry_to(frame(f), false);
-                self.trial
-                    .restore_entry(a, p, page(n), entry, Counted::More)
-            }
-            _ => self.share(act),
-        }
+                .restore_entry(a, p, page(n), entry, Counted::More),
+            _ => return self.share(verb, n, f),
+        })
     }
 
-    // The actor of the process does it.
-    fn do_one(&mut self, p: u64, act: &Act) -> Result<(), Refused> {
+    // Another actor, of this process, does it. `None`: there is no such word.
+    fn act(&mut self, p: u64, verb: &str, n: u64, f: u64, m: u64) -> Option<Result<(), Refused>> {
         let (a, p) = (actor(p.wrapping_add(1)), process(p));
-        match *act {
-            Act::Map(n) => self.trial.map_pages(a, p, page(n), 1, Rights::RW),
-            Act::Take(f) => self.trial.take_frame(a, frame(f)),
-            Act::Fill(n, f) => self.trial.fill(a, p, page(n), frame(f)),
-            Act::Upgrade(n, f) => self.trial.upgrade(a, p, page(n), frame(f)),
-            Act::Unmap(n) => {
-                let was = self.entry_at(p, n);
+        Some(match verb {
+            "map" => self.trial.map_pages(a, p, page(n), 1, Rights::RW),
+            "take" => self.trial.take_frame(a, frame(n)),
+            "fill" => self.trial.fill(a, p, page(n), frame(f)),
+            "upgrade" => self.trial.upgrade(a, p, page(n), frame(f)),
+            "unmap" => {
+                let was = self.trial.entry.get(p, page(n));
                 self.trial.drop_entry(a, p, page(n), was)
             }
-            Act::Put(f) => self.trial.put_entry(a, frame(f)),
-            _ => self.relocate(act),
-        }
+            "put" => self.trial.put_entry(a, frame(n)),
+            _ => return self.relocate(verb, n, f, m),
+        })
     }
 
-    // Another actor of the process does all this, up to the first that is refused: it is answered.
-    fn act(&mut self, p: u64, acts: &[Act]) -> Option<Act> {
-        for act in acts {
-            if self.do_one(p, act).is_err() {
-                return Some(*act);
+    // Whether these are the counts of the frames.
+    fn has_counts(&self, words: &mut SplitWhitespace<'_>) -> bool {
+        for f in 0..4 {
+            if number_in(words) != *self.trial.count.get(frame(f)) {
+                return false;
             }
         }
-        None
+        true
     }
 
-    // The count of each frame.
-    fn counts(&self) -> [u64; 4] {
-        let count = &self.trial.count;
-        [
-            *count.get(frame(0)),
-            *count.get(frame(1)),
-            *count.get(frame(2)),
-            *count.get(frame(3)),
-        ]
+    // Whether these are the page, frame and object of each page that the walk has taken.
+    fn has_taken(&self, words: &mut SplitWhitespace<'_>) -> bool {
+        let taken = match self.trial.taken.get(walker()).as_slice() {
+            [] => true,
+            [one] => is_spelled(one, words),
+            [one, two] => is_spelled(one, words) && is_spelled(two, words),
+            _ => false,
+        };
+        taken && words.next().is_none()
     }
 
-    // The page, frame and object of what the walk has taken.
-    fn taken_at(&self, k: usize) -> Option<(u64, u64, u64)> {
-        match self.trial.taken.get(walker()).as_slice().get(k) {
+    // Tries what the words say: a step of the walk, or what another actor, of this process, does. Whether it could.
+    fn tries(&mut self, p: u64, words: &mut SplitWhitespace<'_>) -> Option<bool> {
+        let verb = words.next().unwrap_or("");
+        let object = words.next().unwrap_or("");
+        if let Some(tried) = self.take_step(verb, object) {
+            return Some(tried.is_ok());
+        }
+        let n = number(object);
+        let f = number_in(words);
+        let m = number_in(words);
+        match self.act(p, verb, n, f, m) {
             None => None,
-            Some(taken) => Some((taken.page().get(), taken.frame().get(), taken.object())),
+            Some(tried) => Some(tried.is_ok()),
         }
     }
 
-    fn taken(&self) -> [Option<(u64, u64, u64)>; 2] {
-        [self.taken_at(0), self.taken_at(1)]
+    // Does the line, or looks whether it is so.
+    fn is_right(&mut self, line: &str) -> bool {
+        let mut words = line.split_whitespace();
+        let mut all = line.split_whitespace();
+        match words.next().unwrap_or("") {
+            "cannot" => self.tries(0, &mut words) == Some(false),
+            "second" => self.tries(1, &mut words) == Some(true),
+            "counts" => self.has_counts(&mut words),
+            "taken" => self.has_taken(&mut words),
+            "marked" => *self.trial.mark.get(frame(number_in(&mut words))),
+            "held" => self.trial.handle.is_held_by(handle(), walker()),
+            _ => self.tries(0, &mut all) == Some(true),
+        }
     }
 }
 
-const READ: Step = Step::Enter {
-    write: false,
-    long: false,
-};
+// The number, or 0 where the word is none.
+fn number(word: &str) -> u64 {
+    word.parse::<u64>().unwrap_or(0)
+}
 
-const WRITE: Step = Step::Enter {
-    write: true,
-    long: false,
-};
+fn number_in(words: &mut SplitWhitespace<'_>) -> u64 {
+    number(words.next().unwrap_or(""))
+}
 
-const LONG: Step = Step::Enter {
-    write: false,
-    long: true,
-};
+fn is_spelled(taken: &Taken, words: &mut SplitWhitespace<'_>) -> bool {
+    number_in(words) == taken.page().get()
+        && number_in(words) == taken.frame().get()
+        && number_in(words) == taken.object()
+}
 
-// A machine where page 0 has this frame.
-fn one_page(alloc: Global, f: u64) -> Result<Run, Fail> {
-    let mut run = Run::new(alloc).or(Err("memory"))?;
-    match run.act(0, &[Act::Map(0), Act::Take(f), Act::Fill(0, f)]) {
-        None => Ok(run),
-        Some(_) => Err("a fault".into()),
+// The place of the first line of the script that isn't right. Lines are parted by commas.
+fn first_wrong(alloc: Global, script: &str) -> Result<Option<u32>, Refused> {
+    let mut run = Run::new(alloc)?;
+    let mut place = 0;
+    for line in script.split(',') {
+        if !run.is_right(line) {
+            return Ok(Some(place));
+        }
+        place = place.wrapping_add(1);
     }
+    Ok(None)
 }
 
 // The walk over two pages counts a pin of each frame, and what it has taken becomes the handle's.
 #[test]
 fn an_undisturbed_walk_ends_in_a_handle(rt: HostRuntime) -> Result<(), Fail> {
-    let mut run = one_page(rt.alloc(), 2)?;
-    assert_eq!(rt;
-        run.act(
-            0,
-            &[
-                Act::Map(1),
-                Act::Take(3),
-                Act::Fill(1, 3),
-                Act::Upgrade(1, 3)
-            ]
-        ),
-        None
-    );
-    let first = [
-        READ,
-        Step::Sequence,
-        Step::Entry(0),
-        Step::Grab,
-        Step::Same,
-        Step::Mark,
-    ];
-    assert_eq!(rt; run.walk(&first), None);
-    assert_eq!(rt; run.counts(), [0, 0, 1025, 1]);
-    assert_eq!(rt;
-        run.walk(&[Step::Entry(1), Step::Grab, Step::Same, Step::Mark]),
-        None
-    );
-    assert_eq!(rt; run.taken(), [Some((0, 2, 0)), Some((1, 3, 1))]);
-    assert_eq!(rt; run.walk(&[Step::Entry(1)]), Some(Step::Entry(1)));
-    assert_eq!(rt; run.walk(&[Step::Again, Step::Leave, Step::Handle]), None);
-    assert_eq!(rt; run.counts(), [0, 0, 1025, 1025]);
-    assert_eq!(rt; run.taken(), [None, None]);
-    assert!(rt; run.trial.handle.is_held_by(handle(), walker()));
+    let script = "map 0, take 2, fill 0 2, \
+        map 1, take 3, fill 1 3, upgrade 1 3, \
+        enter read, sequence, entry 0, grab, same, mark, counts 0 0 1025 1, \
+        entry 1, grab, same, mark, taken 0 2 0 1 3 1, cannot entry 1, \
+        again, leave, handle, counts 0 0 1025 1025, taken, held";
+    let wrong = first_wrong(rt.alloc(), script).or(Err("memory"))?;
+    assert_eq!(rt; wrong, None);
     Ok(())
 }
 
 // While a fork runs, the sequence is odd: a walk that reads it is over, and has taken nothing.
 #[test]
 fn a_walk_is_over_at_an_odd_sequence(rt: HostRuntime) -> Result<(), Fail> {
-    let mut run = one_page(rt.alloc(), 2)?;
-    assert_eq!(rt; run.act(0, &[Act::Begin]), None);
-    assert_eq!(rt; run.walk(&[READ, Step::Sequence]), None);
-    assert_eq!(rt; run.walk(&[Step::Entry(0)]), Some(Step::Entry(0)));
-    assert_eq!(rt; run.walk(&[Step::Leave]), None);
-    assert_eq!(rt; run.counts(), [0, 0, 1, 0]);
-    assert_eq!(rt; run.taken(), [None, None]);
+    let script = "map 0, take 2, fill 0 2, \
+        begin, enter read, sequence, cannot entry 0, leave, counts 0 0 1 0, taken";
+    let wrong = first_wrong(rt.alloc(), script).or(Err("memory"))?;
+    assert_eq!(rt; wrong, None);
     Ok(())
 }
 
-// A walk that stops at the page, and keeps nothing.
-fn stops(run: &mut Run, kind: Step, n: u64) -> bool {
-    run.walk(&[kind, Step::Sequence, Step::Entry(n)]).is_none()
-        && run.walk(&[Step::Grab]) == Some(Step::Grab)
-        && run.walk(&[Step::AgainStopped, Step::Leave]).is_none()
-        && run.counts() == [1, 0, 0, 0]
-        && run.taken() == [None, None]
-}
-
-// An absent entry, a read-only one for a write pin, and a movable frame for a long pin stop the walk. A pin to read takes
-// the frame that a long one doesn't.
+// An absent entry, a read-only one for a write pin, and a movable frame for a long pin stop the walk. A pin to read
+// takes the frame that a long one doesn't.
 #[test]
 fn a_walk_stops_at_an_entry_that_is_not_right(rt: HostRuntime) -> Result<(), Fail> {
-    let mut run = one_page(rt.alloc(), 0)?;
-    assert!(rt; stops(&mut run, READ, 1));
-    assert!(rt; stops(&mut run, WRITE, 0));
-    assert!(rt; stops(&mut run, LONG, 0));
-    let all = [
-        READ,
-        Step::Sequence,
-        Step::Entry(0),
-        Step::Grab,
-        Step::Same,
-        Step::Mark,
-    ];
-    assert_eq!(rt; run.walk(&all), None);
-    assert_eq!(rt; run.counts(), [1025, 0, 0, 0]);
-    assert_eq!(rt; run.taken(), [Some((0, 0, 0)), None]);
+    let script = "map 0, take 0, fill 0 0, \
+        enter read, sequence, entry 1, cannot grab, again stopped, leave, counts 1 0 0 0, taken, \
+        enter write, sequence, entry 0, cannot grab, again stopped, leave, counts 1 0 0 0, taken, \
+        enter long, sequence, entry 0, cannot grab, again stopped, leave, counts 1 0 0 0, taken, \
+        enter read, sequence, entry 0, grab, same, mark, counts 1025 0 0 0, taken 0 0 0";
+    let wrong = first_wrong(rt.alloc(), script).or(Err("memory"))?;
+    assert_eq!(rt; wrong, None);
     Ok(())
 }
 
 // The page is unmapped behind the reading of its entry. Its frame is free, and isn't grabbed.
 #[test]
 fn a_free_frame_is_not_grabbed(rt: HostRuntime) -> Result<(), Fail> {
-    let mut run = one_page(rt.alloc(), 2)?;
-    assert_eq!(rt; run.walk(&[READ, Step::Sequence, Step::Entry(0)]), None);
-    assert_eq!(rt; run.act(0, &[Act::Unmap(0), Act::Put(2)]), None);
-    assert_eq!(rt; run.walk(&[Step::Grab]), Some(Step::Grab));
-    assert_eq!(rt;
-        run.walk(&[Step::Miss, Step::AgainStopped, Step::Leave]),
-        None
-    );
-    assert_eq!(rt; run.counts(), [0, 0, 0, 0]);
-    assert_eq!(rt; run.taken(), [None, None]);
+    let script = "map 0, take 2, fill 0 2, \
+        enter read, sequence, entry 0, \
+        unmap 0, put 2, \
+        cannot grab, miss, again stopped, leave, counts 0 0 0 0, taken";
+    let wrong = first_wrong(rt.alloc(), script).or(Err("memory"))?;
+    assert_eq!(rt; wrong, None);
     Ok(())
 }
 
 // The page is unmapped behind the grab: the recheck finds no entry, and the frame is free once the grab is dropped.
 #[test]
 fn a_grab_is_dropped_where_the_entry_is_another(rt: HostRuntime) -> Result<(), Fail> {
-    let mut run = one_page(rt.alloc(), 2)?;
-    assert_eq!(rt;
-        run.walk(&[READ, Step::Sequence, Step::Entry(0), Step::Grab]),
-        None
-    );
-    assert_eq!(rt; run.act(0, &[Act::Unmap(0), Act::Put(2)]), None);
-    assert_eq!(rt; run.counts(), [0, 0, 1024, 0]);
-    assert_eq!(rt; run.walk(&[Step::Same]), Some(Step::Same));
-    assert_eq!(rt; run.walk(&[Step::Other, Step::DropGrab]), None);
-    assert_eq!(rt; run.counts(), [0, 0, 0, 0]);
-    assert_eq!(rt; run.walk(&[Step::AgainStopped, Step::Leave]), None);
-    assert_eq!(rt; run.taken(), [None, None]);
+    let script = "map 0, take 2, fill 0 2, \
+        enter read, sequence, entry 0, grab, \
+        unmap 0, put 2, counts 0 0 1024 0, \
+        cannot same, other, drop grab, counts 0 0 0 0, again stopped, leave, taken";
+    let wrong = first_wrong(rt.alloc(), script).or(Err("memory"))?;
+    assert_eq!(rt; wrong, None);
     Ok(())
-}
-
-// The share of page 0, which has this frame, from the reading of its count on.
-fn shared(f: u64) -> [Act; 4] {
-    [
-        Act::Share(0),
-        Act::Lower(0, f),
-        Act::Unmark(0, f),
-        Act::Child(0, f),
-    ]
 }
 
 // A frame that a fork has shared isn't marked: the page is taken by the recheck, and dropped.
 #[test]
 fn an_unmarked_frame_is_dropped(rt: HostRuntime) -> Result<(), Fail> {
-    let mut run = one_page(rt.alloc(), 2)?;
-    assert_eq!(rt; run.act(0, &[Act::Begin]), None);
-    assert_eq!(rt; run.act(0, &shared(2)), None);
-    assert_eq!(rt; run.act(0, &[Act::EndShared(0)]), None);
-    assert_eq!(rt;
-        run.walk(&[READ, Step::Sequence, Step::Entry(0), Step::Grab, Step::Same]),
-        None
-    );
-    assert_eq!(rt; run.counts(), [0, 0, 1026, 0]);
-    assert_eq!(rt; run.taken(), [Some((0, 2, 0)), None]);
-    assert_eq!(rt; run.walk(&[Step::Mark]), None);
-    assert_eq!(rt; run.walk(&[Step::Again]), Some(Step::Again));
-    assert_eq!(rt;
-        run.walk(&[Step::DropLast, Step::AgainStopped, Step::Leave]),
-        None
-    );
-    assert_eq!(rt; run.counts(), [0, 0, 2, 0]);
-    assert_eq!(rt; run.taken(), [None, None]);
+    let script = "map 0, take 2, fill 0 2, \
+        begin, count 0 2, lower 0 2, unmark 0 2, child 0 2, finish 0, \
+        enter read, sequence, entry 0, grab, same, counts 0 0 1026 0, taken 0 2 0, \
+        mark, cannot again, drop last, again stopped, leave, counts 0 0 2 0, taken";
+    let wrong = first_wrong(rt.alloc(), script).or(Err("memory"))?;
+    assert_eq!(rt; wrong, None);
     Ok(())
 }
 
@@ -603,83 +484,44 @@ fn an_unmarked_frame_is_dropped(rt: HostRuntime) -> Result<(), Fail> {
 // marked, but the sequence has changed: it drops that page and the one that it took before.
 #[test]
 fn a_fork_makes_a_walk_drop_all(rt: HostRuntime) -> Result<(), Fail> {
-    let mut run = one_page(rt.alloc(), 2)?;
-    assert_eq!(rt;
-        run.act(0, &[Act::Map(1), Act::Take(3), Act::Fill(1, 3)]),
-        None
-    );
-    let first = [
-        READ,
-        Step::Sequence,
-        Step::Entry(1),
-        Step::Grab,
-        Step::Same,
-        Step::Mark,
-    ];
-    assert_eq!(rt; run.walk(&first), None);
-    assert_eq!(rt; run.walk(&[Step::Entry(0)]), None);
-    assert_eq!(rt; run.act(0, &[Act::Begin, Act::Share(0)]), None);
-    assert_eq!(rt; run.walk(&[Step::Grab, Step::Same, Step::Mark]), None);
-    assert_eq!(rt;
-        run.act(0, &[Act::Lower(0, 2), Act::Unmark(0, 2), Act::Child(0, 2)]),
-        None
-    );
-    assert_eq!(rt; run.counts(), [0, 0, 1026, 1025]);
-    assert_eq!(rt; run.taken(), [Some((1, 3, 1)), Some((0, 2, 0))]);
-    assert_eq!(rt; run.walk(&[Step::Again]), None);
-    assert_eq!(rt; run.walk(&[Step::Leave]), Some(Step::Leave));
-    assert_eq!(rt; run.walk(&[Step::DropFirst]), None);
-    assert_eq!(rt; run.counts(), [0, 0, 1026, 1]);
-    assert_eq!(rt; run.taken(), [Some((0, 2, 0)), None]);
-    assert_eq!(rt; run.walk(&[Step::Leave]), Some(Step::Leave));
-    assert_eq!(rt; run.walk(&[Step::DropFirst, Step::Leave]), None);
-    assert_eq!(rt; run.counts(), [0, 0, 2, 1]);
-    assert_eq!(rt; run.taken(), [None, None]);
+    let script = "map 0, take 2, fill 0 2, \
+        map 1, take 3, fill 1 3, \
+        enter read, sequence, entry 1, grab, same, mark, entry 0, \
+        begin, count 0 2, \
+        grab, same, mark, \
+        lower 0 2, unmark 0 2, child 0 2, counts 0 0 1026 1025, taken 1 3 1 0 2 0, \
+        again, cannot leave, drop first, counts 0 0 1026 1, taken 0 2 0, \
+        cannot leave, drop first, leave, counts 0 0 2 1, taken";
+    let wrong = first_wrong(rt.alloc(), script).or(Err("memory"))?;
+    assert_eq!(rt; wrong, None);
     Ok(())
 }
 
 // A mover that has cleared the entry finds the grab in the count, and puts the entry back. The walk takes the page.
 #[test]
 fn a_mover_meets_a_grab(rt: HostRuntime) -> Result<(), Fail> {
-    let mut run = one_page(rt.alloc(), 2)?;
-    assert_eq!(rt; run.walk(&[READ, Step::Sequence, Step::Entry(0)]), None);
-    assert_eq!(rt; run.act(0, &[Act::Clear(0, 2)]), None);
-    assert_eq!(rt; run.walk(&[Step::Grab]), None);
-    assert_eq!(rt;
-        run.act(0, &[Act::Count(0, 2, 1)]),
-        Some(Act::Count(0, 2, 1))
-    );
-    assert_eq!(rt; run.act(0, &[Act::Count(0, 2, 1025)]), None);
-    assert_eq!(rt; run.act(0, &[Act::Take(3)]), Some(Act::Take(3)));
-    assert_eq!(rt; run.act(0, &[Act::Restore(0, 2)]), None);
-    assert_eq!(rt;
-        run.walk(&[Step::Same, Step::Mark, Step::Again, Step::Leave]),
-        None
-    );
-    assert_eq!(rt; run.counts(), [0, 0, 1025, 0]);
-    assert_eq!(rt; run.taken(), [Some((0, 2, 0)), None]);
+    let script = "map 0, take 2, fill 0 2, \
+        enter read, sequence, entry 0, \
+        clear 0 2, \
+        grab, \
+        cannot read 0 2 1, read 0 2 1025, cannot take 3, restore 0 2, \
+        same, mark, again, leave, counts 0 0 1025 0, taken 0 2 0";
+    let wrong = first_wrong(rt.alloc(), script).or(Err("memory"))?;
+    assert_eq!(rt; wrong, None);
     Ok(())
 }
 
 // A mover counts before the grab, and gives the page another frame. The walk finds that, and drops the old one.
 #[test]
 fn a_walk_meets_a_moved_page(rt: HostRuntime) -> Result<(), Fail> {
-    let mut run = one_page(rt.alloc(), 2)?;
-    assert_eq!(rt; run.walk(&[READ, Step::Sequence, Step::Entry(0)]), None);
-    assert_eq!(rt;
-        run.act(0, &[Act::Clear(0, 2), Act::Count(0, 2, 1), Act::Take(3)]),
-        None
-    );
-    assert_eq!(rt; run.walk(&[Step::Grab]), None);
-    assert_eq!(rt; run.act(0, &[Act::Place(0, 2, 3), Act::Put(2)]), None);
-    assert_eq!(rt; run.counts(), [0, 0, 1024, 1]);
-    assert_eq!(rt; run.walk(&[Step::Same]), Some(Step::Same));
-    assert_eq!(rt;
-        run.walk(&[Step::Other, Step::DropGrab, Step::AgainStopped, Step::Leave]),
-        None
-    );
-    assert_eq!(rt; run.counts(), [0, 0, 0, 1]);
-    assert_eq!(rt; run.taken(), [None, None]);
+    let script = "map 0, take 2, fill 0 2, \
+        enter read, sequence, entry 0, \
+        clear 0 2, read 0 2 1, take 3, \
+        grab, \
+        place 0 2 3, put 2, counts 0 0 1024 1, \
+        cannot same, other, drop grab, again stopped, leave, counts 0 0 0 1, taken";
+    let wrong = first_wrong(rt.alloc(), script).or(Err("memory"))?;
+    assert_eq!(rt; wrong, None);
     Ok(())
 }
 
@@ -687,37 +529,14 @@ fn a_walk_meets_a_moved_page(rt: HostRuntime) -> Result<(), Fail> {
 // no entry, and leaves the frame to its new owner.
 #[test]
 fn a_frame_that_was_taken_again_is_dropped(rt: HostRuntime) -> Result<(), Fail> {
-    let mut run = Run::new(rt.alloc()).or(Err("memory"))?;
-    assert_eq!(rt;
-        run.act(
-            0,
-            &[
-                Act::Begin,
-                Act::End,
-                Act::Map(0),
-                Act::Take(2),
-                Act::Fill(0, 2)
-            ]
-        ),
-        None
-    );
-    assert_eq!(rt; run.walk(&[READ, Step::Sequence, Step::Entry(0)]), None);
-    assert_eq!(rt; run.act(0, &[Act::Unmap(0), Act::Put(2)]), None);
-    assert_eq!(rt; run.counts(), [0, 0, 0, 0]);
-    assert_eq!(rt;
-        run.act(1, &[Act::Map(0), Act::Take(2), Act::Fill(0, 2)]),
-        None
-    );
-    assert_eq!(rt; run.walk(&[Step::Grab]), None);
-    assert_eq!(rt; run.counts(), [0, 0, 1025, 0]);
-    assert_eq!(rt; run.walk(&[Step::Same]), Some(Step::Same));
-    assert_eq!(rt;
-        run.walk(&[Step::Other, Step::DropGrab, Step::AgainStopped, Step::Leave]),
-        None
-    );
-    assert_eq!(rt; run.counts(), [0, 0, 1, 0]);
-    assert!(rt; *run.trial.mark.get(frame(2)));
-    assert_eq!(rt; run.taken(), [None, None]);
+    let script = "begin, end, map 0, take 2, fill 0 2, \
+        enter read, sequence, entry 0, \
+        unmap 0, put 2, counts 0 0 0 0, \
+        second map 0, second take 2, second fill 0 2, \
+        grab, counts 0 0 1025 0, \
+        cannot same, other, drop grab, again stopped, leave, counts 0 0 1 0, marked 2, taken";
+    let wrong = first_wrong(rt.alloc(), script).or(Err("memory"))?;
+    assert_eq!(rt; wrong, None);
     Ok(())
 }
 
@@ -725,18 +544,11 @@ fn a_frame_that_was_taken_again_is_dropped(rt: HostRuntime) -> Result<(), Fail> 
 // entry equal, and takes the object that the page names now.
 #[test]
 fn a_page_that_was_mapped_again_is_taken_anew(rt: HostRuntime) -> Result<(), Fail> {
-    let mut run = one_page(rt.alloc(), 2)?;
-    assert_eq!(rt; run.walk(&[READ, Step::Sequence, Step::Entry(0)]), None);
-    assert_eq!(rt;
-        run.act(0, &[Act::Unmap(0), Act::Put(2), Act::Map(0)]),
-        None
-    );
-    assert_eq!(rt; run.act(0, &[Act::Take(2), Act::Fill(0, 2)]), None);
-    assert_eq!(rt;
-        run.walk(&[Step::Grab, Step::Same, Step::Mark, Step::Again, Step::Leave]),
-        None
-    );
-    assert_eq!(rt; run.counts(), [0, 0, 1025, 0]);
-    assert_eq!(rt; run.taken(), [Some((0, 2, 1)), None]);
+    let script = "map 0, take 2, fill 0 2, \
+        enter read, sequence, entry 0, \
+        unmap 0, put 2, map 0, take 2, fill 0 2, \
+        grab, same, mark, again, leave, counts 0 0 1025 0, taken 0 2 1";
+    let wrong = first_wrong(rt.alloc(), script).or(Err("memory"))?;
+    assert_eq!(rt; wrong, None);
     Ok(())
 }
