@@ -65,9 +65,14 @@ fn waits_for_holders(
         → place_of place ≡ fork_place (s.job actor) → StandsAt s actor proc op.now
         → result ≡ locks_waited (needed s actor proc op.now) actor (s.structure proc) (s.table proc) }
 {
-    let locks = locks_needed(spaces, proc, place, op);
     let space = space_at(spaces, proc);
-    waits_for_locks(&locks, actor, space.structure(), space.table())
+    let structure = space.structure();
+    let table = space.table();
+    if structure.is_none() && table.is_none() {
+        return None;
+    }
+    let locks = locks_needed(spaces, proc, place, op);
+    waits_for_locks(&locks, actor, structure, table)
 }
 
 fn space_at(spaces: &Vec<Space>, proc: ProcNo) -> &Space
