@@ -17,6 +17,9 @@ const MAX_SEGMENT: u64 = 64;
 /// How many times a written turn may be repeated.
 const MAX_TIMES: u64 = 1_000_000;
 
+/// How many words of a line there is room for from the start; a longer line makes more.
+const USUAL_WORDS: usize = 8;
+
 /// Whether each byte is one that a line may have: from the space to `~`.
 pub fn is_printable(line: &[u8]) -> bool
     ensures { result ≡ is_printable line.now }
@@ -49,7 +52,9 @@ pub fn is_passed(line: &[u8]) -> bool
 pub fn words(alloc: Global, line: &str) -> Result<Vec<&str>, AllocError>
     ensures { IfOk result (λ words. map (λ word. word.now) words.items ≡ parts 32 line.now) }
 {
-    line.split(' ').collect(alloc)
+    let mut words = Vec::with_capacity(alloc, USUAL_WORDS)?;
+    words.extend(line.split(' '))?;
+    Ok(words)
 }
 
 /// Whether no word is empty: the line that they were cut from has single spaces, and none at its ends.
