@@ -19,7 +19,7 @@ pub returns : goal.returns
 returns c =
     let line = c.args.line.now in
     let h : OnOk c.extend.result (texts c.extend.new.self.items ≡ parts 32 line) =
-      fact_from_extend {steps = split_steps FindsChar (λ a b. b ≡ a)} (λ word. word.now) c.extend.result c.extend.ensures.ran
-        (λ it b. rw b (YieldsList-from_str_split {s = c.split.result} 32 line (lit< tt) c.split.ensures.text c.split.ensures.has_more c.split.ensures.pattern))
-        (λ xs e h. texts_behind_none _ _ xs _ c.in_ok-words.ensures.items h.0 e) in
+    fact_from_extend {steps = split_steps FindsChar (λ a b. b ≡ a)} (λ word. word.now) c.extend.result c.extend.ensures.ran
+    (λ it b. rw b (YieldsList-from_str_split {s = c.split.result} 32 line (lit< tt) c.split.ensures.text c.split.ensures.has_more c.split.ensures.pattern))
+    (λ xs e h. texts_behind_none _ _ xs _ c.in_ok-words.ensures.items h.0 e) in
     subst (λ r. OnOk r (texts c.extend.new.self.items ≡ parts 32 line)) c.in_ok-extend.was h
