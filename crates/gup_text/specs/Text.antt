@@ -40,6 +40,11 @@ number_in word =
     let n = digits_value 10 word in
     if nat_lt n (2 ^ 64) && bytes_eq (decimal n) word then Some n else None
 
+-- a plus stands in front, or a zero before another byte
+unfoldable pub is_padded : List ℕ → Bool
+is_padded [] = false
+is_padded (c ∷ cs) = c == 43 || (c == 48 && nat_lt 0 (length cs))
+
 unfoldable pub count_in : (least most : ℕ) → List ℕ → Option ℕ
 count_in least most word = do
   n ← number_in word

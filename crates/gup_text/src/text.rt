@@ -2,10 +2,9 @@
 ghost use Rattle.std.specs.Prelude.{◌≡◌, ◌^◌, ◌≤◌, if◌then◌else◌, Some, None, map, IfOk, IfSome};
 ghost use Rattle.std.specs.List.{list_all};
 ghost use Rattle.std.specs.Option.{option_copied};
-ghost use Rattle.gup_text.specs.Text.{parts, is_printable, is_passed, are_spaced, number_in, count_in, index_in, page_in, word_no_in, page_and_word_in, address_in, range_in, index_and_count_in, segment_in, turn_name, turn_times, is_name, is_name_byte};
+ghost use Rattle.gup_text.specs.Text.{parts, is_printable, is_passed, are_spaced, is_padded, number_in, count_in, index_in, page_in, word_no_in, page_and_word_in, address_in, range_in, index_and_count_in, segment_in, turn_name, turn_times, is_name, is_name_byte};
 
 use gup_base::{PageNo, WordNo};
-use itoa::Buffer;
 use std::alloc::{AllocError, Global};
 
 /// How many pages there are.
@@ -16,6 +15,9 @@ const MAX_SEGMENT: u64 = 64;
 
 /// How many times a written turn may be repeated.
 const MAX_TIMES: u64 = 1_000_000;
+
+/// How many words of a line there is room for from the start; a longer line makes more.
+const USUAL_WORDS: usize = 8;
 
 /// Whether each byte is one that a line may have: from the space to `~`.
 pub fn is_printable(line: &[u8]) -> bool
@@ -49,7 +51,9 @@ pub fn is_passed(line: &[u8]) -> bool
 pub fn words(alloc: Global, line: &str) -> Result<Vec<&str>, AllocError>
     ensures { IfOk result (λ words. map (λ word. word.now) words.items ≡ parts 32 line.now) }
 {
-    line.split(' ').collect(alloc)
+    let mut words = Vec::with_capacity(alloc, USUAL_WORDS)?;
+    words.extend(line.split(' '))?;
+    Ok(words)
 }
 
 /// Whether no word is empty: the line that they were cut from has single spaces, and none at its ends.
@@ -67,9 +71,18 @@ pub fn number(word: &str) -> Option<u64>
     let Ok(n) = word.parse::<u64>() else {
         return None;
     };
-    let mut buffer = Buffer::new();
-    let text = buffer.format(n);
-    if text == word { Some(n) } else { None }
+    if is_padded(word) { None } else { Some(n) }
+}
+
+/// Whether something stands in front that a number's decimal text never has: a plus, or a zero before another byte.
+#[tactic(auto, unfolding(crate::specs::Text::is_padded))]
+fn is_padded(word: &str) -> bool
+    ensures { result ≡ is_padded word.now }
+{
+    match word.as_bytes() {
+        [] => false,
+        [first, rest @ ..] => *first == b'+' || (*first == b'0' && !rest.is_empty()),
+    }
 }
 
 /// The number that the word spells, if it is at least `least` and at most `most`.
