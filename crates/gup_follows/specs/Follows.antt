@@ -1,15 +1,17 @@
 -- A journal follows its script where each actor's notes are those of its operations in order, and the notes of one
 -- operation have one of the shapes of its kind.
-use Rattle.std.specs.Prelude.{◌≡◌, ℕ, ◌+◌, ◌≤◌, ◌==◌, ◌&&◌, ◌⊎◌, Bool, true, false, IsTrue, List, [], ◌∷◌, ◌++◌, map, filter, zero, suc}
+use Rattle.std.specs.Prelude.{◌≡◌, ℕ, ◌+◌, ◌≤◌, ◌<◌, ◌==◌, ◌&&◌, ◌⊎◌, Bool, true, false, not, IsTrue, List, [], ◌∷◌, ◌++◌, map, filter, zero, suc}
 use Rattle.gup_plain.specs.Note.{NoteValue}
 use Rattle.gup_plain.specs.declared.answer.Answer.{Answer}
 use Rattle.gup_plain.specs.declared.answer.Answer.TheVariants as answers
+use Rattle.gup_plain.specs.declared.answer.Cause.{Cause}
+use Rattle.gup_plain.specs.declared.answer.Cause.TheVariants as causes
 use Rattle.gup_plain.specs.declared.event.PlainEvent.{PlainEvent}
 use Rattle.gup_plain.specs.declared.event.PlainEvent.TheVariants as events
 use Rattle.gup_plain.specs.declared.note.What.{What}
 use Rattle.gup_plain.specs.declared.note.What.TheVariants.{Silent, Idle, Wait, Event, Done}
 use Rattle.gup_script.specs.declared.op.Op.{Op}
-use Rattle.gup_script.specs.declared.op.Op.TheVariants.{Map, Unmap, Protect, Discard, Load, Store, Fork, Exit}
+use Rattle.gup_script.specs.declared.op.Op.TheVariants.{Map, Unmap, Protect, Discard, Load, Store, Pin, Unpin, Give, Take, Transfer, Fork, Exit}
 use Rattle.gup_script.specs.Script.{ScriptValue}
 use Rattle.gup_follows.specs.Place.{process_of, ops_of}
 
@@ -39,6 +41,15 @@ refuses (Store page word value) answers.NoFrame = true
 refuses (Map page n rights) answers.Overlap = true
 refuses (Map page n rights) answers.Full = true
 refuses (Protect page n rights) answers.Missing = true
+refuses (Pin handle page n write) answers.Missing = true
+refuses (Pin handle page n write) answers.Forbidden = true
+refuses (Pin handle page n write) answers.NoFrame = true
+refuses (Unpin handle) answers.NotHeld = true
+refuses (Give handle to) answers.NotHeld = true
+refuses (Transfer handle outward index slot n) answers.NotHeld = true
+refuses (Transfer handle outward index slot n) answers.Forbidden = not outward
+refuses (Transfer handle outward index slot n) answers.Range = true
+refuses (Transfer handle outward index slot n) answers.Unborn = false
 -- a fork of a failed process has a shape of its own
 refuses (Fork child) answers.Unborn = false
 refuses op answers.Unborn = true
@@ -93,6 +104,57 @@ Forks who child notes =
     (pages : ℕ) × (front rest : List NoteValue) × (notes ≡ front ++ rest)
     × IsTurn who front (Event (events.ForkBegin who.proc child) ∷ []) × ForksPages who child 0 pages rest
 
+-- what may refuse a page of a pin
+abbrev pub EndsPin : Cause → Type 0
+EndsPin causes.Missing = Unit {0}
+EndsPin causes.Forbidden = Unit {0}
+EndsPin causes.NoFrame = Unit {0}
+EndsPin (causes.Unmovable count) = ⊥
+
+-- the page behind the first `got` of n is refused: the pin has those, where there are some
+abbrev pub EndsShort : Who → (handle n got : ℕ) → List NoteValue → Type 0
+EndsShort who handle n got notes =
+    (0 < got) × (cause : Cause) × EndsPin cause
+    × IsTurn who notes (Event (events.PinOk who.actor handle) ∷ Done (answers.Short got n cause) ∷ [])
+
+-- Of the n pages of a pin the first `got` are taken, and so many are left: they are tried in rising order, one a turn, to
+-- the last one or to the first that is refused. The last turn makes the handle.
+abbrev pub PinsPages : Who → (handle page n : ℕ) → (write : Bool) → (got left : ℕ) → List NoteValue → Type 0
+PinsPages who handle page n write got zero notes = ⊥
+PinsPages who handle page n write got (suc zero) notes =
+    IsTurn who notes
+    (Event (events.PinTry who.actor who.proc (page + got) write) ∷ Event (events.PinOk who.actor handle)
+    ∷ Done (answers.Pinned n) ∷ [])
+    ⊎ EndsShort who handle n got notes
+PinsPages who handle page n write got (suc (suc left)) notes =
+    ((front rest : List NoteValue) × (notes ≡ front ++ rest)
+    × IsTurn who front (Event (events.PinTry who.actor who.proc (page + got) write) ∷ [])
+    × PinsPages who handle page n write (got + 1) (suc left) rest)
+    ⊎ EndsShort who handle n got notes
+
+-- an unpin gives back so many pages, one a turn, and then the last, with which the pin is gone
+abbrev pub Unpins : Who → (handle more : ℕ) → List NoteValue → Type 0
+Unpins who handle zero notes = IsTurn who notes (Event (events.Unpin who.actor handle) ∷ Done answers.Plain ∷ [])
+Unpins who handle (suc more) notes =
+    (front rest : List NoteValue) × (notes ≡ front ++ rest) × IsTurn who front (Silent ∷ [])
+    × Unpins who handle more rest
+
+-- a word of a transfer, out of a pin's pages or into them
+abbrev pub moves_word : (actor handle : ℕ) → (outward : Bool) → (index slot value : ℕ) → PlainEvent
+moves_word actor handle true index slot value = events.MoveOut actor handle index slot value
+moves_word actor handle false index slot value = events.MoveIn actor handle index slot value
+
+-- n words from these on, one a turn, in rising order
+abbrev pub MovesWords : Who → (handle : ℕ) → (outward : Bool) → (index slot n : ℕ) → List NoteValue → Type 0
+MovesWords who handle outward index slot zero notes = ⊥
+MovesWords who handle outward index slot (suc zero) notes =
+    (value : ℕ)
+    × IsTurn who notes (Event (moves_word who.actor handle outward index slot value) ∷ Done answers.Words ∷ [])
+MovesWords who handle outward index slot (suc (suc n)) notes =
+    (value : ℕ) × (front rest : List NoteValue) × (notes ≡ front ++ rest)
+    × IsTurn who front (Event (moves_word who.actor handle outward index slot value) ∷ [])
+    × MovesWords who handle outward (index + 1) (slot + 1) (suc n) rest
+
 -- the shapes of an operation's notes
 abbrev pub Shape : Who → Op → List NoteValue → Type 0
 Shape who (Load page word) notes =
@@ -111,6 +173,17 @@ Shape who (Unmap page n) notes =
     TakesDownAll who (events.Unmap who.actor who.proc) page n notes ⊎ IsRefused who (Unmap page n) notes
 Shape who (Discard page n) notes =
     TakesDownAll who (events.Discard who.actor who.proc) page n notes ⊎ IsRefused who (Discard page n) notes
+Shape who (Pin handle page n write) notes =
+    PinsPages who handle page n write 0 n notes ⊎ IsRefused who (Pin handle page n write) notes
+Shape who (Unpin handle) notes = ((more : ℕ) × Unpins who handle more notes) ⊎ IsRefused who (Unpin handle) notes
+Shape who (Give handle to) notes =
+    IsTurn who notes (Event (events.Give who.actor handle to) ∷ Done answers.Plain ∷ [])
+    ⊎ IsRefused who (Give handle to) notes
+Shape who (Take handle) notes =
+    IsTurn who notes (Event (events.Take who.actor handle) ∷ Done answers.Plain ∷ [])
+    ⊎ IsRefused who (Take handle) notes
+Shape who (Transfer handle outward index slot n) notes =
+    MovesWords who handle outward index slot n notes ⊎ IsRefused who (Transfer handle outward index slot n) notes
 Shape who (Fork child) notes =
     Forks who child notes ⊎ IsTurn who notes (Event (events.ForkFail child) ∷ Done answers.Unborn ∷ [])
 Shape who Exit notes = ((pages : ℕ) × TakesDownWhole who pages notes) ⊎ IsRefused who Exit notes

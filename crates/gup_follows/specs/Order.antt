@@ -3,15 +3,15 @@
 use Rattle.std.specs.Prelude.{◌≡◌, ℕ, ◌+◌, ◌≤◌, ◌<◌, ◌⊎◌, ◌==◌, Bool, true, false, if◌then◌else◌, List, [], ◌∷◌, ◌++◌, length, Option, Some, None, slice_get, zero, suc}
 use Rattle.gup_plain.specs.Note.{NoteValue}
 use Rattle.gup_plain.specs.Put.{put}
-use Rattle.gup_plain.specs.State.{PlainState, Birth, unborn, growing, born, failed, start}
+use Rattle.gup_plain.specs.State.{PlainState, Birth, unborn, growing, born, failed, Handle, unmade, held, given, gone, start}
 use Rattle.gup_plain.specs.declared.note.What.{What}
 use Rattle.gup_plain.specs.declared.note.What.TheVariants.{Idle, Wait}
 use Rattle.gup_plain.specs.declared.note.Waiting.{Waiting}
 use Rattle.gup_plain.specs.declared.note.Waiting.TheVariants as waitings
 use Rattle.gup_script.specs.declared.op.Op.{Op}
-use Rattle.gup_script.specs.declared.op.Op.TheVariants.{Map, Unmap, Protect, Discard, Load, Store, Fork, Exit}
+use Rattle.gup_script.specs.declared.op.Op.TheVariants.{Map, Unmap, Protect, Discard, Load, Store, Pin, Unpin, Give, Take, Transfer, Fork, Exit}
 use Rattle.gup_script.specs.Script.{ScriptValue}
-use Rattle.gup_follows.specs.Place.{Place, first_place, place_behind, process_of, present_op, has_finished, starts_born}
+use Rattle.gup_follows.specs.Place.{Place, first_place, place_behind, process_of, doer, birth_for, present_op, has_finished, starts_born}
 use Rattle.gup_follows.specs.Plain.{plain_after}
 use Rattle.gup_follows.specs.Follows.{is_of_operation, notes_of_turn}
 
@@ -31,12 +31,27 @@ journal_of number places (turn ∷ turns) =
     notes_of_turn number turn.actor ((places turn.actor).answered + 1) turn.whats
     ++ journal_of (number + 1) (places_behind places turn) turns
 
--- an actor whose process is yet to be born waits for it
-abbrev pub waiting_at : ℕ → Birth → Option Waiting
-waiting_at p unborn = Some (waitings.Process p)
-waiting_at p (growing parent) = Some (waitings.Process p)
-waiting_at p born = None
-waiting_at p failed = None
+abbrev pub is_given_to : Handle → ℕ → Bool
+is_given_to (given to objects write) a = to == a
+is_given_to (held by objects write) a = false
+is_given_to unmade a = false
+is_given_to gone a = false
+
+-- an actor that is to take a pin waits until the pin is given to it
+abbrev pub taking_waits : (given : Bool) → (handle : ℕ) → Option Waiting
+taking_waits true handle = None
+taking_waits false handle = Some (waitings.Handle handle)
+
+abbrev pub handle_waits : (ℕ → Handle) → (a : ℕ) → Option Op → Option Waiting
+handle_waits handle a (Some (Take h)) = taking_waits (is_given_to (handle h) a) h
+handle_waits handle a op = None
+
+-- before that, a thread whose process is yet to be born waits for it; where its process failed it waits for nothing
+abbrev pub waiting_at : ℕ → Birth → Option Waiting → Option Waiting
+waiting_at p unborn waits = Some (waitings.Process p)
+waiting_at p (growing parent) waits = Some (waitings.Process p)
+waiting_at p born waits = waits
+waiting_at p failed waits = None
 
 -- what the turns so far have led to
 pub record Ordered : Type 0 where
@@ -46,7 +61,9 @@ pub record Ordered : Type 0 where
   pub turns : ℕ
 
 abbrev pub waiting_of : ScriptValue → Ordered → ℕ → Option Waiting
-waiting_of script o a = waiting_at (process_of script a) (o.plain.birth (process_of script a))
+waiting_of script o a =
+    waiting_at (process_of script a) (birth_for o.plain.birth (doer script a))
+    (handle_waits o.plain.handle a (present_op script a (o.places a)))
 
 abbrev pub finished_in : ScriptValue → Ordered → ℕ → Bool
 finished_in script o a = has_finished script a (o.places a)
@@ -61,6 +78,11 @@ KeepsLock (Some (Protect page n rights)) = ⊥
 KeepsLock (Some (Discard page n)) = ⊥
 KeepsLock (Some (Load page word)) = ⊥
 KeepsLock (Some (Store page word value)) = ⊥
+KeepsLock (Some (Pin handle page n write)) = ⊥
+KeepsLock (Some (Unpin handle)) = ⊥
+KeepsLock (Some (Give handle to)) = ⊥
+KeepsLock (Some (Take handle)) = ⊥
+KeepsLock (Some (Transfer handle outward index slot n)) = ⊥
 KeepsLock (Some Exit) = ⊥
 
 -- another actor b of the same process is in the middle of such an operation, so that a may wait for it
@@ -93,7 +115,7 @@ abbrev pub behind_by : (actors steps a : ℕ) → ℕ
 behind_by actors zero a = a
 behind_by actors (suc steps) a = behind_by actors steps (behind actors a)
 
--- the actor has finished, or waits for its process
+-- the actor has finished, or waits for its process or for a pin
 abbrev pub IsOverAt : (finished : Bool) → Option Waiting → Type 0
 IsOverAt true waiting = Unit {0}
 IsOverAt false (Some waiting) = Unit {0}
@@ -146,7 +168,7 @@ ordered_after script o turn =
     }
 
 -- The turns are the next ones, each behind those before it, up to where none is left: the written turns are over,
--- and each actor has finished or waits for its process.
+-- and each actor has finished, or waits for its process or for a pin.
 abbrev pub AreInOrder : ScriptValue → Ordered → List Turn → Type 0
 AreInOrder script o [] =
     (written_turn script o ≡ None) × ((a : ℕ) → a < length script.actors → IsOver script o a)

@@ -6,7 +6,9 @@ use Rattle.gup_script.specs.declared.op.Kind.{Kind}
 use Rattle.gup_script.specs.declared.op.Kind.TheVariants.{Thread, Device, Mover}
 use Rattle.gup_script.specs.declared.op.Op.{Op}
 pub use Rattle.gup_script.specs.Script.{ops_in, ops_of}
+use Rattle.gup_script.specs.Limits.{most_processes}
 use Rattle.gup_script.specs.Script.{ScriptValue, Process, Actor, actor_at}
+use Rattle.gup_plain.specs.State.{Birth, born}
 
 -- how many operations the actor has answered, how many notes the present one has, and whether one is an event
 pub record Place : Type 0 where
@@ -28,18 +30,59 @@ abbrev pub place_behind : Place → List What → Place
 place_behind place [] = place
 place_behind place (what ∷ whats) = place_behind (place_after place what) whats
 
--- The process of a thread. Devices and the mover are of none, and have no operations yet: nothing asks for theirs.
+-- The process of a thread. Devices and the mover are of none: the number is that of none.
 abbrev pub process_of_kind : Kind → ℕ
 process_of_kind (Thread p) = p
-process_of_kind (Device slots) = 0
-process_of_kind Mover = 0
+process_of_kind (Device slots) = most_processes
+process_of_kind Mover = most_processes
 
 abbrev pub process_in : Option Actor → ℕ
-process_in None = 0
+process_in None = most_processes
 process_in (Some actor) = process_of_kind actor.kind
 
 abbrev pub process_of : ScriptValue → ℕ → ℕ
 process_of script a = process_in (actor_at script a)
+
+-- is it a thread's kind?
+abbrev pub is_thread : Kind → Bool
+is_thread (Thread p) = true
+is_thread (Device slots) = false
+is_thread Mover = false
+
+abbrev pub thread_in : Option Actor → Bool
+thread_in None = false
+thread_in (Some actor) = is_thread actor.kind
+
+-- how many slots the store of a device has
+abbrev pub slots_of_kind : Kind → ℕ
+slots_of_kind (Thread p) = 0
+slots_of_kind (Device slots) = slots
+slots_of_kind Mover = 0
+
+abbrev pub slots_in : Option Actor → ℕ
+slots_in None = 0
+slots_in (Some actor) = slots_of_kind actor.kind
+
+-- Who does an operation: an actor, which is a thread of a process, or has a store of so many slots.
+pub record Doer : Type 0 where
+  pub actor : ℕ
+  pub thread : Bool
+  pub proc : ℕ
+  pub slots : ℕ
+
+abbrev pub doer_in : (a : ℕ) → Option Actor → Doer
+doer_in a actor = record { actor = a; thread = thread_in actor; proc = process_in actor; slots = slots_in actor }
+
+abbrev pub doer : ScriptValue → ℕ → Doer
+doer script a = doer_in a (actor_at script a)
+
+-- whether the process of a thread is born; whoever is no thread waits for no birth
+abbrev pub birth_by : (thread : Bool) → Birth → Birth
+birth_by true birth = birth
+birth_by false birth = born
+
+abbrev pub birth_for : (ℕ → Birth) → Doer → Birth
+birth_for birth who = birth_by who.thread (birth who.proc)
 
 -- the operation of an actor behind those that it has answered
 abbrev pub present_op : ScriptValue → ℕ → Place → Option Op

@@ -10,6 +10,16 @@ most_threads = 64
 abbrev pub most_devices : ℕ
 most_devices = 16
 
+abbrev pub most_handles : ℕ
+most_handles = 1024
+
+-- the pages of a pin, and the words of a transfer
+abbrev pub most_pinned : ℕ
+most_pinned = 16
+
+abbrev pub most_words : ℕ
+most_words = 64
+
 abbrev pub most_operations : ℕ
 most_operations = 16384
 

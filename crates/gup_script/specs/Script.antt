@@ -39,6 +39,9 @@ process_at s p = slice_get s.processes p
 abbrev pub actor_at : ScriptValue → ℕ → Option Actor
 actor_at s a = slice_get s.actors a
 
+abbrev pub handle_at : ScriptValue → ℕ → Option (List ℕ)
+handle_at s h = slice_get s.handles h
+
 -- the operations of an actor, in order
 abbrev pub ops_in : Option Actor → List Op
 ops_in None = []

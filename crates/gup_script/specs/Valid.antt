@@ -1,11 +1,11 @@
 -- What is true of every script that is read.
-use Rattle.std.specs.Prelude.{◌≡◌, ℕ, ◌+◌, ◌^◌, ◌<◌, ◌≤◌, false, length, slice_get, sum_by, All, Option, None, Some}
+use Rattle.std.specs.Prelude.{◌≡◌, ℕ, ◌+◌, ◌^◌, ◌<◌, ◌≤◌, Bool, false, length, slice_get, sum_by, All, Option, None, Some}
 use Rattle.gup_script.specs.declared.op.Kind.{Kind}
 use Rattle.gup_script.specs.declared.op.Kind.TheVariants.{Thread, Device, Mover}
 use Rattle.gup_script.specs.declared.op.Op.{Op}
-use Rattle.gup_script.specs.declared.op.Op.TheVariants.{Map, Unmap, Protect, Discard, Load, Store, Fork, Exit}
+use Rattle.gup_script.specs.declared.op.Op.TheVariants.{Map, Unmap, Protect, Discard, Load, Store, Pin, Unpin, Give, Take, Transfer, Fork, Exit}
 use Rattle.gup_script.specs.Script.{ScriptValue, Process, Actor, process_at, ops_of}
-use Rattle.gup_script.specs.Limits.{most_operations, most_turns, most_slots}
+use Rattle.gup_script.specs.Limits.{most_handles, most_operations, most_pinned, most_turns, most_slots, most_words}
 
 -- the numbers of an operation are in range
 
@@ -19,6 +19,11 @@ IsOp (Protect page n rights) = IsPages page n
 IsOp (Discard page n) = IsPages page n
 IsOp (Load page word) = (page < 2 ^ 35) × (word < 512)
 IsOp (Store page word value) = (page < 2 ^ 35) × (word < 512) × (value < 2 ^ 64)
+IsOp (Pin handle page n write) = (1 ≤ n) × (n ≤ most_pinned) × (page + n ≤ 2 ^ 35)
+IsOp (Transfer handle outward index slot n) = (1 ≤ n) × (n ≤ most_words) × (index < 2 ^ 32) × (slot < 2 ^ 32)
+IsOp (Unpin handle) = Unit {0}
+IsOp (Give handle to) = Unit {0}
+IsOp (Take handle) = Unit {0}
 IsOp (Fork child) = Unit {0}
 IsOp Exit = Unit {0}
 
@@ -27,43 +32,91 @@ abbrev pub IsChild : Option Process → Type 0
 IsChild None = ⊥
 IsChild (Some process) = process.born ≡ false
 
--- A fork brings such a process.
-abbrev pub BringsChild : ScriptValue → Op → Type 0
-BringsChild s (Fork child) = IsChild (process_at s child)
-BringsChild s (Map page n rights) = Unit {0}
-BringsChild s (Unmap page n) = Unit {0}
-BringsChild s (Protect page n rights) = Unit {0}
-BringsChild s (Discard page n) = Unit {0}
-BringsChild s (Load page word) = Unit {0}
-BringsChild s (Store page word value) = Unit {0}
-BringsChild s Exit = Unit {0}
+-- What an operation names, beside its own process, is declared: the child of a fork, the handle of a pin, and whom that
+-- is given to.
+abbrev pub AreDeclared : ScriptValue → Op → Type 0
+AreDeclared s (Fork child) = IsChild (process_at s child)
+AreDeclared s (Pin handle page n write) = handle < length s.handles
+AreDeclared s (Unpin handle) = handle < length s.handles
+AreDeclared s (Give handle to) = (handle < length s.handles) × (to < length s.actors)
+AreDeclared s (Take handle) = handle < length s.handles
+AreDeclared s (Transfer handle outward index slot n) = handle < length s.handles
+AreDeclared s (Map page n rights) = Unit {0}
+AreDeclared s (Unmap page n) = Unit {0}
+AreDeclared s (Protect page n rights) = Unit {0}
+AreDeclared s (Discard page n) = Unit {0}
+AreDeclared s (Load page word) = Unit {0}
+AreDeclared s (Store page word value) = Unit {0}
+AreDeclared s Exit = Unit {0}
 
 -- the actor's operation at this place is a fork that brings the child
 abbrev pub ForksAt : ScriptValue → (a k child : ℕ) → Type 0
 ForksAt s a k child = slice_get (ops_of s a) k ≡ Some (Fork child)
 
--- The process of a thread is declared. (Devices and the mover have no operations so far.)
+-- the actor's operation at this place is a pin that makes the handle
+abbrev pub PinsAt : ScriptValue → (a k handle : ℕ) → Type 0
+PinsAt s a k handle =
+    (page : ℕ) × (n : ℕ) × (write : Bool) × (slice_get (ops_of s a) k ≡ Some (Pin handle page n write))
+
+-- The process of a thread is declared.
 abbrev pub KindFits : ScriptValue → Kind → Type 0
 KindFits s (Thread p) = p < length s.processes
 KindFits s (Device slots) = (1 ≤ slots) × (slots ≤ most_slots)
 KindFits s Mover = Unit {0}
 
-abbrev pub OpsFit : Kind → (count : ℕ) → Type 0
-OpsFit (Thread p) count = Unit {0}
-OpsFit (Device slots) count = count ≡ 0
-OpsFit Mover count = count ≡ 0
+-- only a device moves words
+abbrev pub IsOfThread : Op → Type 0
+IsOfThread (Transfer handle outward index slot n) = ⊥
+IsOfThread (Map page n rights) = Unit {0}
+IsOfThread (Unmap page n) = Unit {0}
+IsOfThread (Protect page n rights) = Unit {0}
+IsOfThread (Discard page n) = Unit {0}
+IsOfThread (Load page word) = Unit {0}
+IsOfThread (Store page word value) = Unit {0}
+IsOfThread (Pin handle page n write) = Unit {0}
+IsOfThread (Unpin handle) = Unit {0}
+IsOfThread (Give handle to) = Unit {0}
+IsOfThread (Take handle) = Unit {0}
+IsOfThread (Fork child) = Unit {0}
+IsOfThread Exit = Unit {0}
+
+-- and beside that it gives, takes and unpins
+abbrev pub IsOfDevice : Op → Type 0
+IsOfDevice (Unpin handle) = Unit {0}
+IsOfDevice (Give handle to) = Unit {0}
+IsOfDevice (Take handle) = Unit {0}
+IsOfDevice (Transfer handle outward index slot n) = Unit {0}
+IsOfDevice (Map page n rights) = ⊥
+IsOfDevice (Unmap page n) = ⊥
+IsOfDevice (Protect page n rights) = ⊥
+IsOfDevice (Discard page n) = ⊥
+IsOfDevice (Load page word) = ⊥
+IsOfDevice (Store page word value) = ⊥
+IsOfDevice (Pin handle page n write) = ⊥
+IsOfDevice (Fork child) = ⊥
+IsOfDevice Exit = ⊥
+
+-- the operation is one of this kind of actor (the mover has none so far)
+abbrev pub FitsKind : Kind → Op → Type 0
+FitsKind (Thread p) op = IsOfThread op
+FitsKind (Device slots) op = IsOfDevice op
+FitsKind Mover op = ⊥
 
 pub record IsScript (s : ScriptValue) : Type 0 where
   pub few_frames : s.frames.movable + s.frames.normal ≤ 1024
   pub few_tables : s.frames.tables ≤ 8192
   pub few_processes : length s.processes ≤ 16
   pub few_actors : length s.actors ≤ 81
+  pub few_handles : length s.handles ≤ most_handles
   pub kinds : All (λ (a : Actor). KindFits s a.kind) s.actors
   pub ops : All (λ (a : Actor). All IsOp a.ops) s.actors
-  pub ops_fit : All (λ (a : Actor). OpsFit a.kind (length a.ops)) s.actors
-  pub children : All (λ (a : Actor). All (BringsChild s) a.ops) s.actors
-  -- no two forks bring one child
+  pub ops_fit : All (λ (a : Actor). All (FitsKind a.kind) a.ops) s.actors
+  pub declared : All (λ (a : Actor). All (AreDeclared s) a.ops) s.actors
+  -- no two forks bring one child, and no two pins make one handle
   pub forks_once : (a b j k child : ℕ) → ForksAt s a j child → ForksAt s b k child → (a ≡ b) × (j ≡ k)
+  pub pins_once : (a b j k handle : ℕ) → PinsAt s a j handle → PinsAt s b k handle → (a ≡ b) × (j ≡ k)
+  -- forks copy no page so far: a script has pins, or forks, and not both
+  pub pins_or_forks : (a b j k child handle : ℕ) → ForksAt s a j child → PinsAt s b k handle → ⊥
   pub few_ops : sum_by (λ (a : Actor). length a.ops) s.actors ≤ most_operations
   pub turns : All (λ a. a < length s.actors) s.turns
   pub few_turns : length s.turns ≤ most_turns

@@ -19,7 +19,7 @@ script_value s =
       frames = record { movable = s.movable; normal = s.normal; tables = s.tables };
       processes = map process_value s.processes.items;
       actors = map actor_value s.actors.items;
-      handles = [];
+      handles = map string_bytes s.handles.items;
       mirrors = [];
       turns = s.turns.items;
       seed = s.seed;

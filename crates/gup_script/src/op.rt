@@ -1,4 +1,4 @@
-use gup_base::{PageNo, ProcNo, Rights, WordNo};
+use gup_base::{ActorNo, HandleNo, PageNo, ProcNo, Rights, WordNo};
 
 /// An operation of an actor.
 #[derive(Clone, Copy, Debug, PartialEq, Eq)]
@@ -36,6 +36,36 @@ pub enum Op {
         page: PageNo,
         word: WordNo,
         value: u64,
+    },
+    /// `pin H p n read` or `pin H p n write`: pins the pages from p to p + n - 1, to read them or also to write them
+    /// (`pin_user_pages`), and makes the handle.
+    Pin {
+        handle: HandleNo,
+        page: PageNo,
+        n: u8,
+        write: bool,
+    },
+    /// `unpin H`: gives the pages of a pin back (`unpin_user_pages`).
+    Unpin {
+        handle: HandleNo,
+    },
+    /// `give H X`: gives a pin to an actor.
+    Give {
+        handle: HandleNo,
+        to: ActorNo,
+    },
+    /// `take H`: takes a pin that is given to this actor, once it is.
+    Take {
+        handle: HandleNo,
+    },
+    /// `out H i s n` or `in H i s n`: moves n words between the pages of a pin, from their word i on, and the store of
+    /// the device, from its slot s on: out of the pages, or into them.
+    Transfer {
+        handle: HandleNo,
+        outward: bool,
+        index: u32,
+        slot: u32,
+        n: u8,
     },
     /// `fork C`: brings a child process, which gets the mappings and shares the frames of this one (`fork`).
     Fork {

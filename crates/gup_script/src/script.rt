@@ -1,9 +1,9 @@
-ghost use Rattle.std.specs.Prelude.{◌≡◌, ◌<◌, length, Some, IfOk};
-ghost use Rattle.gup_script.specs.Script.{Process as ProcessValue, Actor as ActorValue, process_at, actor_at};
+ghost use Rattle.std.specs.Prelude.{◌≡◌, ℕ, ◌<◌, List, length, Some, IfOk};
+ghost use Rattle.gup_script.specs.Script.{Process as ProcessValue, Actor as ActorValue, process_at, actor_at, handle_at};
 ghost use Rattle.gup_script.specs.Valid.{IsScript};
 
 use crate::op::{Kind, Op};
-use gup_base::{ActorNo, NoMemory, ProcNo};
+use gup_base::{ActorNo, HandleNo, NoMemory, ProcNo};
 use std::marker::Model;
 
 /// A process as its line declares it: born at the start, or brought by a fork.
@@ -29,6 +29,8 @@ pub struct Contents {
     pub tables: u32,
     pub processes: Vec<Process>,
     pub actors: Vec<Actor>,
+    /// The names of the handles.
+    pub handles: Vec<String>,
     pub turns: Vec<ActorNo>,
     pub seed: u64,
 }
@@ -128,6 +130,22 @@ impl Script {
         ensures { (process : ProcessValue) → process_at self.now p ≡ Some process → result.now ≡ process.name }
     {
         self.contents.processes[p.get() as usize].name.as_str()
+    }
+
+    /// How many handles the script declares, at most 1,024.
+    pub fn handles(&self) -> u16
+        ensures count { result ≡ length self.now.handles }
+        ensures valid { IsScript self.now }
+    {
+        self.contents.handles.len() as u16
+    }
+
+    /// The handle's name.
+    pub fn handle_name(&self, h: HandleNo) -> &str
+        requires { h < length self.now.handles }
+        ensures { (name : List ℕ) → handle_at self.now h ≡ Some name → result.now ≡ name }
+    {
+        self.contents.handles[h.get() as usize].as_str()
     }
 
     /// Whether the process is born at the start. Others are brought by a fork.

@@ -11,7 +11,7 @@ use Rattle.gup_events.specs.Event.{CoreEvent, Can, happens, is_odd, map_pages, p
 use Rattle.gup_events.specs.Invariant.{AllCan, run}
 use Rattle.gup_events.specs.Sound.{IsSound, Forking, forking_of}
 use Rattle.gup_turns.specs.Pages.{sum_below, mapped_pages}
-use Rattle.gup_turns.proofs.Calm.{AreTurnEvents, IsTurnEvent, taking, filling, counting_one, marking_it, upgrading, breaking, putting, mapping, lowering, protecting, dropping, discarding, loading, storing, beginning, counting, sharing_entry, sharing_mark, sharing_child, passing, ending}
+use Rattle.gup_turns.proofs.Calm.{Strand, AreTurnEvents, IsTurnEvent, taking, filling, counting_one, marking_it, upgrading, breaking, putting, mapping, lowering, protecting, dropping, discarding, loading, storing, raising, pinning, making, handling, IsHandleEvent, AreHandleEvents, unpinning, giving, taking_over, moving_out, moving_in, beginning, counting, sharing_entry, sharing_mark, sharing_child, passing, ending}
 use Rattle.gup_turns.proofs.Mapped.{mapped_spread, mapped_same, mapped_lost, mapped_none}
 use Rattle.gup_turns.proofs.Puts.{put_same, put_other}
 use Rattle.gup_turns.proofs.Sums.{sum_at, sum_ones}
@@ -140,35 +140,51 @@ few_end n s a p c done below sound can h =
       forked = at_put (λ (k j : ℕ). k ≤ 2 * all_brought n (put c born s.birth)) p (s.sequence p + 1) (s.sequence p + 1) s.sequence s.sequence (omega (arith, was, same, less)) (λ q. omega (arith, was, same, h.forked q));
     }
 
-few_event : (n : ℕ) (s : CoreState) (a p c : ℕ) (e : CoreEvent) → IsTurnEvent a p c e → c < n → IsSound s → Can s e → IsFew n s → IsFew n (happens s e)
-few_event n s a p c e (taking f) below sound can h = few_same n s (happens s e) refl refl refl refl h
-few_event n s a p c e (filling page f) below sound can h = few_same n s (happens s e) refl refl refl refl h
-few_event n s a p c e (counting_one page f writable) below sound can h = few_same n s (happens s e) refl refl refl refl h
-few_event n s a p c e (marking_it page f) below sound can h = few_same n s (happens s e) refl refl refl refl h
-few_event n s a p c e (upgrading page f) below sound can h = few_same n s (happens s e) refl refl refl refl h
-few_event n s a p c e (breaking page old new was writable) below sound can h = few_same n s (happens s e) refl refl refl refl h
-few_event n s a p c e (putting f) below sound can h = few_same n s (happens s e) refl refl refl refl h
-few_event n s a p c e (mapping page m rights) below sound can h = few_map n s a p page m rights can h
-few_event n s a p c e (lowering page f) below sound can h = few_same n s (happens s e) refl refl refl refl h
-few_event n s a p c e (protecting page m rights) below sound can h = few_protect n s a p page m rights can h
-few_event n s a p c e (dropping page was) below sound can h = few_drop n s a p page was sound can h
-few_event n s a p c e (discarding page was) below sound can h = few_same n s (happens s e) refl refl refl refl h
-few_event n s a p c e (loading page word f value) below sound can h = few_same n s (happens s e) refl refl refl refl h
-few_event n s a p c e (storing page word f value) below sound can h = few_same n s (happens s e) refl refl refl refl h
-few_event n s a p c e beginning below sound can h = few_begin n s a p c below can h
-few_event n s a p c e (counting done page entry copies) below sound can h = few_same n s (happens s e) refl refl refl refl h
-few_event n s a p c e (sharing_entry done page f writable) below sound can h = few_same n s (happens s e) refl refl refl refl h
-few_event n s a p c e (sharing_mark done page f writable) below sound can h = few_same n s (happens s e) refl refl refl refl h
-few_event n s a p c e (sharing_child done page f writable) below sound can h = few_same n s (happens s e) refl refl refl refl h
-few_event n s a p c e (passing done page) below sound can h = few_same n s (happens s e) refl refl refl refl h
-few_event n s a p c e (ending done) below sound can h = few_end n s a p c done below sound can h
+pub few_handle : (n : ℕ) (s : CoreState) (a handle : ℕ) (e : CoreEvent) → IsHandleEvent a handle e → IsFew n s → IsFew n (happens s e)
+few_handle n s a handle e (unpinning f left) h = few_same n s (happens s e) refl refl refl refl h
+few_handle n s a handle e (giving to) h = few_same n s (happens s e) refl refl refl refl h
+few_handle n s a handle e taking_over h = few_same n s (happens s e) refl refl refl refl h
+few_handle n s a handle e (moving_out index slot f value) h = few_same n s (happens s e) refl refl refl refl h
+few_handle n s a handle e (moving_in index slot f value) h = few_same n s (happens s e) refl refl refl refl h
+
+few_event : (n : ℕ) (s : CoreState) (a p c : ℕ) (strand : Strand) (e : CoreEvent) → IsTurnEvent a p c strand e → c < n → IsSound s → Can s e → IsFew n s → IsFew n (happens s e)
+few_event n s a p c strand e (taking f) below sound can h = few_same n s (happens s e) refl refl refl refl h
+few_event n s a p c strand e (filling page f) below sound can h = few_same n s (happens s e) refl refl refl refl h
+few_event n s a p c strand e (counting_one page f writable) below sound can h = few_same n s (happens s e) refl refl refl refl h
+few_event n s a p c strand e (marking_it page f) below sound can h = few_same n s (happens s e) refl refl refl refl h
+few_event n s a p c strand e (upgrading page f) below sound can h = few_same n s (happens s e) refl refl refl refl h
+few_event n s a p c strand e (breaking page old new was writable) below sound can h = few_same n s (happens s e) refl refl refl refl h
+few_event n s a p c strand e (putting f) below sound can h = few_same n s (happens s e) refl refl refl refl h
+few_event n s a p c strand e (mapping page m rights) below sound can h = few_map n s a p page m rights can h
+few_event n s a p c strand e (lowering page f) below sound can h = few_same n s (happens s e) refl refl refl refl h
+few_event n s a p c strand e (protecting page m rights) below sound can h = few_protect n s a p page m rights can h
+few_event n s a p c strand e (dropping page was) below sound can h = few_drop n s a p page was sound can h
+few_event n s a p c strand e (discarding page was) below sound can h = few_same n s (happens s e) refl refl refl refl h
+few_event n s a p c strand e (loading page word f value) below sound can h = few_same n s (happens s e) refl refl refl refl h
+few_event n s a p c strand e (storing page word f value) below sound can h = few_same n s (happens s e) refl refl refl refl h
+few_event n s a p c strand e (raising handle is) below sound can h = few_same n s (happens s e) refl refl refl refl h
+few_event n s a p c strand e (pinning handle is page entry write) below sound can h = few_same n s (happens s e) refl refl refl refl h
+few_event n s a p c strand e (making handle is) below sound can h = few_same n s (happens s e) refl refl refl refl h
+few_event n s a p c strand e (handling handle is event) below sound can h = few_handle n s a handle e event h
+few_event n s a p c strand e beginning below sound can h = few_begin n s a p c below can h
+few_event n s a p c strand e (counting done page entry copies) below sound can h = few_same n s (happens s e) refl refl refl refl h
+few_event n s a p c strand e (sharing_entry done page f writable) below sound can h = few_same n s (happens s e) refl refl refl refl h
+few_event n s a p c strand e (sharing_mark done page f writable) below sound can h = few_same n s (happens s e) refl refl refl refl h
+few_event n s a p c strand e (sharing_child done page f writable) below sound can h = few_same n s (happens s e) refl refl refl refl h
+few_event n s a p c strand e (passing done page) below sound can h = few_same n s (happens s e) refl refl refl refl h
+few_event n s a p c strand e (ending done) below sound can h = few_end n s a p c done below sound can h
 
 -- events of a turn keep it
-pub few_kept : Law → (n : ℕ) (s : CoreState) (a p c : ℕ) (es : List CoreEvent) → AreTurnEvents a p c es → c < n → IsSound s → AllCan s es → IsFew n s → IsFew n (run s es)
-few_kept law n s a p c [] kinds below sound can h = h
-few_kept law n s a p c (e ∷ es) kinds below sound can h =
+pub few_kept : Law → (n : ℕ) (s : CoreState) (a p c : ℕ) (strand : Strand) (es : List CoreEvent) → AreTurnEvents a p c strand es → c < n → IsSound s → AllCan s es → IsFew n s → IsFew n (run s es)
+few_kept law n s a p c strand [] kinds below sound can h = h
+few_kept law n s a p c strand (e ∷ es) kinds below sound can h =
     let now = law s e sound can.0 in
-    few_kept law n (happens s e) a p c es kinds.1 below now.sound can.1 (few_event n s a p c e kinds.0 below sound can.0 h)
+    few_kept law n (happens s e) a p c strand es kinds.1 below now.sound can.1 (few_event n s a p c strand e kinds.0 below sound can.0 h)
+
+-- and so do those that are of no process
+pub few_handles : (n : ℕ) (s : CoreState) (a handle : ℕ) (es : List CoreEvent) → AreHandleEvents a handle es → IsFew n s → IsFew n (run s es)
+few_handles n s a handle [] kinds h = h
+few_handles n s a handle (e ∷ es) kinds h = few_handles n (happens s e) a handle es kinds.1 (few_handle n s a handle e kinds.0 h)
 
 -- at the start there are none
 pub few_first : (n movable normal : ℕ) (is_born : ℕ → Bool) → IsFew n (start movable normal is_born)

@@ -1,17 +1,17 @@
 -- A run's turns: what stands between two of them, and that each can be done and has one of the shapes.
-use Rattle.std.proofs.Common.{◌≡◌, ℕ, ◌<◌, length, Option, Some, None, refl, sym, subst}
+use Rattle.std.proofs.Common.{◌≡◌, ℕ, ◌≤◌, ◌<◌, false, length, Option, Some, None, refl, sym, subst}
 use Rattle.std.specs.Prelude.{◌⊎◌}
-use Rattle.gup_plain.specs.State.{Birth, unborn, growing, born, failed}
+use Rattle.gup_plain.specs.State.{Birth, unborn, growing, born, failed, unmade}
 use Rattle.gup_plain.specs.declared.note.Waiting.{Waiting}
-use Rattle.gup_script.specs.Valid.{IsScript, IsOp, ForksAt}
+use Rattle.gup_script.specs.Valid.{IsScript, IsOp, ForksAt, PinsAt}
 use Rattle.gup_script.specs.Script.{ScriptValue}
 use Rattle.gup_script.specs.declared.op.Op.{Op}
-use Rattle.gup_script.specs.declared.op.Op.TheVariants.{Map, Unmap, Protect, Discard, Load, Store, Fork, Exit}
+use Rattle.gup_script.specs.declared.op.Op.TheVariants.{Map, Unmap, Protect, Discard, Load, Store, Pin, Unpin, Give, Take, Transfer, Fork, Exit}
 use Rattle.gup_events.specs.State.{CoreState, plain_of}
 use Rattle.gup_events.specs.Invariant.{run}
 use Rattle.gup_events.specs.Sound.{IsSound}
-use Rattle.gup_follows.specs.Place.{Place, process_of}
-use Rattle.gup_turns.specs.Reached.{fork_place}
+use Rattle.gup_follows.specs.Place.{Place, Doer, doer, birth_for}
+use Rattle.gup_turns.specs.Reached.{fork_place, StandsHandle, back_in}
 use Rattle.gup_turns.specs.Run.{RunState, op_in, waiting_with, waiting_in, taken_by, taken_in, run_after}
 use Rattle.gup_turns.specs.Turn.{Taken, waits_at, waits_for_locks, locks_needed, failed_turn, turn_at, turn_of, op_turn}
 use Rattle.gup_turns.proofs.Calm.{IsCalm}
@@ -20,8 +20,8 @@ use Rattle.gup_turns.proofs.ForkOps.{fork_turned}
 use Rattle.gup_turns.proofs.Leaving.{leaves, apart}
 use Rattle.gup_turns.proofs.Ops.{map_turned, unmap_turned, load_turned, store_turned, protect_turned, discard_turned, exit_turned}
 use Rattle.gup_turns.specs.ScriptLemmas.{op_is_op}
-use Rattle.gup_turns.proofs.Shapes.{FitsOp, FitsAt, TurnAt, idles, waits, goes, AtRest, IsDone, child_of}
-use Rattle.gup_turns.proofs.Turned.{IsOpen, FitsNext, IsTurned}
+use Rattle.gup_turns.proofs.Shapes.{FitsOp, FitsAt, TurnAt, idles, waits, goes, AtRest, IsDone, child_of, strand_of}
+use Rattle.gup_turns.proofs.Turned.{IsOpen, IsQuiet, FitsNext, MakesPin, IsTurned}
 
 -- an actor has not begun the operation with this number
 abbrev pub IsAhead : Place → (k : ℕ) → Type 0
@@ -36,17 +36,23 @@ pub record Stands (script : ScriptValue) (r : RunState) : Type 0 where
   -- no process has failed, since a fork that shares wants no frame; all but unborn ones are declared
   pub unfailed : (p : ℕ) → r.core.birth p ≡ failed → ⊥
   pub declared : (p : ℕ) → (r.core.birth p ≡ unborn → ⊥) → p < length script.processes
-  -- each actor stands where its operation can, and in the middle of one only in a born process
-  pub fits : (a : ℕ) → FitsAt r.core a (process_of script a) (op_in script r a) (r.places a)
-  pub begun : (a : ℕ) → 0 < (r.places a).far → r.core.birth (process_of script a) ≡ born
-  -- the child of a fork that has not begun is unborn
+  -- each actor stands where its operation can, and a thread in the middle of one only in a born process
+  pub fits : (a : ℕ) → FitsAt r.core (doer script a) (op_in script r a) (r.places a)
+  pub begun : (a : ℕ) → 0 < (r.places a).far → birth_for r.core.birth (doer script a) ≡ born
+  -- the child of a fork that has not begun is unborn, and where there is a fork nobody pins
   pub unforked : (a k child : ℕ) → ForksAt script a k child → IsAhead (r.places a) k → r.core.birth child ≡ unborn
+  pub unpinned : (a k child : ℕ) → ForksAt script a k child → (p : ℕ) → r.core.has_pinned p ≡ false
+  -- the handle of a pin that is not answered is unmade; those that are made are declared and have their pages
+  pub yet_unmade : (a k h : ℕ) → PinsAt script a k h → (r.places a).answered ≤ k → r.core.handle h ≡ unmade
+  pub made : (h : ℕ) → (r.core.handle h ≡ unmade → ⊥) → h < length script.handles
+  pub handles : (h : ℕ) → StandsHandle (back_in script r h) (r.core.pinned h) (r.core.handle h)
 
 -- a turn can be done, it has its shape, and the actor stands right behind it
-pub record IsTaken (s : CoreState) (a p : ℕ) (place : Place) (op : Option Op) (waiting : Option Waiting) (turn : Taken) : Type 0 where
-  pub done : IsDone s a p (child_of p op) turn
-  pub shape : TurnAt (plain_of s) a p place op waiting (fork_place (s.job a)) turn.whats (fork_place ((run s turn.events).job a))
-  pub next : FitsNext (run s turn.events) a p op place turn.whats
+pub record IsTaken (s : CoreState) (who : Doer) (place : Place) (op : Option Op) (waiting : Option Waiting) (turn : Taken) : Type 0 where
+  pub done : IsDone s who.actor who.proc (child_of who.proc op) (strand_of op) turn
+  pub shape : TurnAt (plain_of s) who place op waiting (fork_place (s.job who.actor)) turn.whats (fork_place ((run s turn.events).job who.actor))
+  pub next : FitsNext (run s turn.events) who op place turn.whats
+  pub pin : (o : Op) → op ≡ Some o → waiting ≡ None → MakesPin s (run s turn.events) who.actor o
 
 -- an actor whose process hasn't failed goes on only once that is born
 born_of : (b : Birth) (p : ℕ) (locks : Option Waiting) → waits_at b p locks ≡ None → (b ≡ failed → ⊥) → b ≡ born

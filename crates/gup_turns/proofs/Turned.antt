@@ -1,22 +1,25 @@
 -- What is shown of the turn of each operation, and what it needs.
-use Rattle.std.proofs.Common.{◌≡◌, ℕ, ◌==◌, if◌then◌else◌, eqb-true, Bool, true, false, List, [], ◌∷◌, ◌++◌, Option, Some, None, refl, ap, sym, subst}
-use Rattle.gup_plain.specs.State.{born}
+use Rattle.std.proofs.Common.{◌≡◌, ℕ, ◌+◌, ◌<◌, ◌⊎◌, length, ◌==◌, if◌then◌else◌, eqb-true, Bool, true, false, List, [], ◌∷◌, ◌++◌, Option, Some, None, refl, ap, sym, subst}
+use Rattle.gup_plain.specs.Denial.{is_held_by}
+use Rattle.gup_plain.specs.Event.{IsHeldBy, IsGivenTo, given_to, held_by}
+use Rattle.gup_plain.specs.State.{born, gone}
 use Rattle.gup_plain.specs.declared.event.PlainEvent.{PlainEvent}
 use Rattle.gup_plain.specs.declared.note.What.{What}
 use Rattle.gup_plain.specs.declared.note.What.TheVariants.{Silent, Idle, Wait, Event, Done}
 use Rattle.gup_plain.specs.declared.note.Waiting.{Waiting}
 use Rattle.gup_plain.specs.declared.note.Waiting.TheVariants as waitings
 use Rattle.gup_script.specs.declared.op.Op.{Op}
+use Rattle.gup_script.specs.declared.op.Op.TheVariants.{Pin, Unpin, Give, Take, Transfer}
 use Rattle.gup_events.specs.State.{CoreState, idle, plain_of}
 use Rattle.gup_events.specs.Event.{CoreEvent, AreUnlocked, happens, told}
 use Rattle.gup_events.specs.Invariant.{AllCan, run}
 use Rattle.gup_events.specs.Sound.{IsSound, keeps_table, keeps_structure}
 use Rattle.gup_laws.specs.Law.{with_told, all_told}
-use Rattle.gup_follows.specs.Place.{Place, place_after}
-use Rattle.gup_turns.specs.Reached.{ForkPlace, unbegun, fork_place}
+use Rattle.gup_follows.specs.Place.{Place, Doer, place_after}
+use Rattle.gup_turns.specs.Reached.{ForkPlace, unbegun, fork_place, StandsHandle}
 use Rattle.gup_turns.specs.Turn.{Taken, held_by_other, waits_for_locks, first_waiting, both_locks}
-use Rattle.gup_turns.proofs.Calm.{IsCalm, AreTurnEvents}
-use Rattle.gup_turns.proofs.Shapes.{FitsAt, TurnOf, AtRest, IsDone, child_of}
+use Rattle.gup_turns.proofs.Calm.{IsCalm, Strand, AreTurnEvents}
+use Rattle.gup_turns.proofs.Shapes.{FitsAt, Rests, TurnOf, AtRest, IsDone, child_of, strand_of}
 
 -- A state between two turns, in which process p is born.
 pub record IsOpen (s : CoreState) (a p : ℕ) : Type 0 where
@@ -25,26 +28,54 @@ pub record IsOpen (s : CoreState) (a p : ℕ) : Type 0 where
   pub rest : AtRest s
   pub birth : s.birth p ≡ born
 
+-- the same of an operation that is of no process
+pub record IsQuiet (s : CoreState) : Type 0 where
+  pub sound : IsSound s
+  pub calm : IsCalm s
+  pub rest : AtRest s
+
 -- Behind notes with an answer the actor is in the middle of nothing; behind others it stands where its operation can.
-abbrev pub FitsNext : CoreState → (a p : ℕ) → Option Op → Place → List What → Type 0
-FitsNext t a p op place [] = FitsAt t a p op place
-FitsNext t a p op place (Done answer ∷ whats) = t.job a ≡ idle
-FitsNext t a p op place (Event e ∷ whats) = FitsNext t a p op (place_after place (Event e)) whats
-FitsNext t a p op place (Silent ∷ whats) = FitsNext t a p op (place_after place Silent) whats
-FitsNext t a p op place (Idle ∷ whats) = FitsNext t a p op place whats
-FitsNext t a p op place (Wait waiting ∷ whats) = FitsNext t a p op place whats
+abbrev pub FitsNext : CoreState → Doer → Option Op → Place → List What → Type 0
+FitsNext t who op place [] = FitsAt t who op place
+FitsNext t who op place (Done answer ∷ whats) = Rests t who.actor
+FitsNext t who op place (Event e ∷ whats) = FitsNext t who op (place_after place (Event e)) whats
+FitsNext t who op place (Silent ∷ whats) = FitsNext t who op (place_after place Silent) whats
+FitsNext t who op place (Idle ∷ whats) = FitsNext t who op place whats
+FitsNext t who op place (Wait waiting ∷ whats) = FitsNext t who op place whats
+
+-- What a turn makes of the pin that its operation names. A pin makes it with all its pages, or leaves it unmade; an unpin
+-- gives back one page, with the last of which it is gone; a give and a take leave its pages.
+abbrev pub MakesPin : (s t : CoreState) → (a : ℕ) → Op → Type 0
+MakesPin s t a (Pin handle page n write) =
+    (t.handle handle ≡ s.handle handle) × (t.pinned handle ≡ s.pinned handle)
+    ⊎ IsHeldBy (t.handle handle) a × StandsHandle (λ b. 0) (t.pinned handle) (t.handle handle)
+MakesPin s t a (Unpin handle) =
+    (t.handle handle ≡ s.handle handle) × (t.pinned handle ≡ s.pinned handle) × (is_held_by (s.handle handle) a ≡ false)
+    ⊎ (t.handle handle ≡ gone) × (t.pinned handle ≡ [])
+    ⊎ (t.handle handle ≡ s.handle handle) × (0 < length (t.pinned handle))
+    × (length (t.pinned handle) + 1 ≡ length (s.pinned handle))
+MakesPin s t a (Give handle to) =
+    (t.pinned handle ≡ s.pinned handle)
+    × ((t.handle handle ≡ s.handle handle)
+    ⊎ IsHeldBy (s.handle handle) a × (t.handle handle ≡ given_to (s.handle handle) to))
+MakesPin s t a (Take handle) =
+    (t.pinned handle ≡ s.pinned handle) × IsGivenTo (s.handle handle) a
+    × (t.handle handle ≡ held_by (s.handle handle) a)
+MakesPin s t a (Transfer handle outward index slot n) = (t.handle ≡ s.handle) × (t.pinned ≡ s.pinned)
+MakesPin s t a op = Unit {0}
 
 -- the turn can be done, it has its shape, and the actor stands right behind it
-pub record IsTurned (s : CoreState) (a p : ℕ) (place : Place) (op : Op) (turn : Taken) : Type 0 where
-  pub done : IsDone s a p (child_of p (Some op)) turn
-  pub shape : TurnOf (plain_of s) a p place op (fork_place (s.job a)) turn.whats (fork_place ((run s turn.events).job a))
-  pub next : FitsNext (run s turn.events) a p (Some op) place turn.whats
+pub record IsTurned (s : CoreState) (who : Doer) (place : Place) (op : Op) (turn : Taken) : Type 0 where
+  pub done : IsDone s who.actor who.proc (child_of who.proc (Some op)) (strand_of (Some op)) turn
+  pub shape : TurnOf (plain_of s) who place op (fork_place (s.job who.actor)) turn.whats (fork_place ((run s turn.events).job who.actor))
+  pub next : FitsNext (run s turn.events) who (Some op) place turn.whats
+  pub pin : MakesPin s (run s turn.events) who.actor op
 
 -- where the actor is in the middle of nothing before and behind, the turn is none of a fork that has begun
-pub shape_idle : (s t : CoreState) (a p : ℕ) (place : Place) (op : Op) (whats : List What) → s.job a ≡ idle → t.job a ≡ idle → TurnOf (plain_of s) a p place op unbegun whats unbegun → TurnOf (plain_of s) a p place op (fork_place (s.job a)) whats (fork_place (t.job a))
-shape_idle s t a p place op whats before behind shape =
-    subst (λ (from : ForkPlace). TurnOf (plain_of s) a p place op from whats (fork_place (t.job a))) (sym (ap fork_place before))
-    (subst (λ (to : ForkPlace). TurnOf (plain_of s) a p place op unbegun whats to) (sym (ap fork_place behind)) shape)
+pub shape_idle : (s t : CoreState) (who : Doer) (place : Place) (op : Op) (whats : List What) → s.job who.actor ≡ idle → t.job who.actor ≡ idle → TurnOf (plain_of s) who place op unbegun whats unbegun → TurnOf (plain_of s) who place op (fork_place (s.job who.actor)) whats (fork_place (t.job who.actor))
+shape_idle s t who place op whats before behind shape =
+    subst (λ (from : ForkPlace). TurnOf (plain_of s) who place op from whats (fork_place (t.job who.actor))) (sym (ap fork_place before))
+    (subst (λ (to : ForkPlace). TurnOf (plain_of s) who place op unbegun whats to) (sym (ap fork_place behind)) shape)
 
 -- locks
 
@@ -78,9 +109,9 @@ both_free s a p sound job free =
 
 -- events one after another
 
-pub kinds_behind : (a p c : ℕ) (before es : List CoreEvent) → AreTurnEvents a p c before → AreTurnEvents a p c es → AreTurnEvents a p c (before ++ es)
-kinds_behind a p c [] es kinds more = more
-kinds_behind a p c (e ∷ before) es kinds more = (kinds.0, kinds_behind a p c before es kinds.1 more)
+pub kinds_behind : (a p c : ℕ) (strand : Strand) (before es : List CoreEvent) → AreTurnEvents a p c strand before → AreTurnEvents a p c strand es → AreTurnEvents a p c strand (before ++ es)
+kinds_behind a p c strand [] es kinds more = more
+kinds_behind a p c strand (e ∷ before) es kinds more = (kinds.0, kinds_behind a p c strand before es kinds.1 more)
 
 pub run_behind : (s : CoreState) (before es : List CoreEvent) → run s (before ++ es) ≡ run (run s before) es
 run_behind s [] es = refl

@@ -1,9 +1,11 @@
 -- Why an operation of a core run finds no frame, which answers it has at all, and what an actor waits for.
-use Rattle.std.specs.Prelude.{◌≡◌, ℕ, ◌+◌, ◌<◌, true, List, [], ◌∷◌, length, map, Contains}
+use Rattle.std.specs.Prelude.{◌≡◌, ℕ, ◌+◌, ◌<◌, ◌⊎◌, true, List, [], ◌∷◌, length, map, Contains}
 use Rattle.std.specs.List.{AllByRecursion}
 use Rattle.gup_plain.specs.Note.{NoteValue}
 use Rattle.gup_plain.specs.declared.answer.Answer.{Answer}
 use Rattle.gup_plain.specs.declared.answer.Answer.TheVariants as answers
+use Rattle.gup_plain.specs.declared.answer.Cause.{Cause}
+use Rattle.gup_plain.specs.declared.answer.Cause.TheVariants as causes
 use Rattle.gup_plain.specs.declared.note.What.{What}
 use Rattle.gup_plain.specs.declared.note.What.TheVariants.{Silent, Idle, Wait, Event, Done}
 use Rattle.gup_plain.specs.declared.note.Waiting.{Waiting}
@@ -18,14 +20,26 @@ use Rattle.gup_turns.specs.Run.{RunState, run_after}
 abbrev pub AreAllHeld : CoreState → Type 0
 AreAllHeld s = (f : ℕ) → f < s.movable + s.normal → s.count f ≡ 0 → ⊥
 
--- an answer for want of a frame comes only of a turn that finds none free
+-- the turn answers for want of a frame, or that is the cause of its short pin
+abbrev pub LacksFrame : List What → Type 0
+LacksFrame whats =
+    Contains whats (Done answers.NoFrame)
+    ⊎ ((got wanted : ℕ) × Contains whats (Done (answers.Short got wanted causes.NoFrame)))
+
+-- such an answer comes only of a turn that finds none free
 abbrev pub FindNoFrame : ScriptValue → RunState → List Turn → Type 0
 FindNoFrame script r [] = Unit {0}
 FindNoFrame script r (turn ∷ turns) =
-    (Contains turn.whats (Done answers.NoFrame) → AreAllHeld r.core)
+    (LacksFrame turn.whats → AreAllHeld r.core)
     × FindNoFrame script (run_after script r turn.actor) turns
 
--- the answers that operations have so far
+-- the answers that operations have so far, and the causes of short pins
+abbrev pub IsKnownCause : Cause → Type 0
+IsKnownCause causes.Missing = Unit {0}
+IsKnownCause causes.Forbidden = Unit {0}
+IsKnownCause causes.NoFrame = Unit {0}
+IsKnownCause (causes.Unmovable count) = ⊥
+
 abbrev pub IsKnownAnswer : Answer → Type 0
 IsKnownAnswer answers.Plain = Unit {0}
 IsKnownAnswer (answers.Value value) = Unit {0}
@@ -33,6 +47,11 @@ IsKnownAnswer answers.Missing = Unit {0}
 IsKnownAnswer answers.Forbidden = Unit {0}
 IsKnownAnswer answers.NoFrame = Unit {0}
 IsKnownAnswer answers.Overlap = Unit {0}
+IsKnownAnswer (answers.Pinned pages) = Unit {0}
+IsKnownAnswer (answers.Short got wanted cause) = IsKnownCause cause
+IsKnownAnswer answers.Words = Unit {0}
+IsKnownAnswer answers.NotHeld = Unit {0}
+IsKnownAnswer answers.Range = Unit {0}
 IsKnownAnswer answers.Full = Unit {0}
 IsKnownAnswer answers.Unborn = Unit {0}
 IsKnownAnswer _ = ⊥
@@ -63,6 +82,8 @@ answered_in notes = answers_in (map (λ (note : NoteValue). note.what) notes)
 abbrev pub HaveFinished : ScriptValue → RunState → Type 0
 HaveFinished script end = (a : ℕ) → a < length script.actors → has_finished script a (end.places a) ≡ true
 
--- an actor waits for a process of the script to be born
-abbrev pub WaitsForProcess : ScriptValue → Waiting → Type 0
-WaitsForProcess script waiting = (p : ℕ) × (p < length script.processes) × (waiting ≡ waitings.Process p)
+-- an actor waits for a process of the script to be born, or for a pin of the script to be given to it
+abbrev pub WaitsForBirthOrPin : ScriptValue → Waiting → Type 0
+WaitsForBirthOrPin script waiting =
+    ((p : ℕ) × (p < length script.processes) × (waiting ≡ waitings.Process p))
+    ⊎ ((h : ℕ) × (h < length script.handles) × (waiting ≡ waitings.Handle h))

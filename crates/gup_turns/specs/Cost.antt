@@ -4,7 +4,9 @@ use Rattle.gup_base.specs.declared.entry.Rights.{Rights}
 use Rattle.gup_plain.specs.Event.{most_pages, page_numbers}
 use Rattle.gup_plain.specs.Put.{put}
 use Rattle.gup_script.specs.declared.op.Op.{Op}
-use Rattle.gup_script.specs.declared.op.Op.TheVariants.{Map, Unmap, Protect, Discard, Load, Store, Fork, Exit}
+use Rattle.gup_script.specs.declared.op.Op.TheVariants.{Map, Unmap, Protect, Discard, Load, Store, Pin, Unpin, Give, Take, Transfer, Fork, Exit}
+use Rattle.gup_plain.specs.State.{objects_of}
+use Rattle.gup_script.specs.Limits.{most_pinned}
 use Rattle.gup_script.specs.Script.{ScriptValue, Actor}
 use Rattle.gup_follows.specs.Place.{Place, ops_of, process_of}
 use Rattle.gup_events.specs.State.{CoreState}
@@ -32,6 +34,11 @@ op_cost (Discard page n) = n
 op_cost (Protect page n rights) = 1
 op_cost (Load page word) = 1
 op_cost (Store page word value) = 1
+op_cost (Pin handle page n write) = n
+op_cost (Unpin handle) = most_pinned
+op_cost (Give handle to) = 1
+op_cost (Take handle) = 1
+op_cost (Transfer handle outward index slot n) = n
 op_cost (Fork child) = 3 * most_pages + 2
 op_cost Exit = 1
 
@@ -43,6 +50,11 @@ op_left s a (Discard page n) far = n - far
 op_left s a (Protect page n rights) far = 1
 op_left s a (Load page word) far = 1
 op_left s a (Store page word value) far = 1
+op_left s a (Pin handle page n write) far = n - far
+op_left s a (Unpin handle) far = most_pinned - far
+op_left s a (Give handle to) far = 1
+op_left s a (Take handle) far = 1
+op_left s a (Transfer handle outward index slot n) far = n - far
 op_left s a (Fork child) far = fork_left (s.right child) (fork_place (s.job a))
 op_left s a Exit far = 1
 
@@ -79,8 +91,9 @@ GoesOn place next = (next.answered ≡ place.answered) × (next.far ≡ place.fa
 abbrev pub LosesPage : (before after : ℕ → Option Rights) → Type 0
 LosesPage before after = (page : ℕ) × (page < page_numbers) × IsSome (before page) × (after ≡ put page None before)
 
--- A mapping, a protection, a load and a store are answered in one turn, what goes over n pages in the n-th at the
--- latest; each turn of an exit but the one that answers it takes a page of its process; each of a fork takes of its turns.
+-- A mapping, a protection, a load, a store, a give and a take are answered in one turn, what goes over n pages or words in
+-- the n-th at the latest, and so is an unpin of n pages; each turn of an exit but the one that answers it takes a page of
+-- its process; each of a fork takes of its turns.
 abbrev pub IsWithinBound : Op → (a p : ℕ) → (place next : Place) → (before after : CoreState) → Type 0
 IsWithinBound (Map page n rights) a p place next before after = IsAnswered place next
 IsWithinBound (Protect page n rights) a p place next before after = IsAnswered place next
@@ -89,6 +102,14 @@ IsWithinBound (Store page word value) a p place next before after = IsAnswered p
 IsWithinBound (Unmap page n) a p place next before after =
     IsAnswered place next ⊎ (GoesOn place next × (next.far < n))
 IsWithinBound (Discard page n) a p place next before after =
+    IsAnswered place next ⊎ (GoesOn place next × (next.far < n))
+IsWithinBound (Pin handle page n write) a p place next before after =
+    IsAnswered place next ⊎ (GoesOn place next × (next.far < n))
+IsWithinBound (Unpin handle) a p place next before after =
+    IsAnswered place next ⊎ (GoesOn place next × (next.far < length (objects_of (before.handle handle))))
+IsWithinBound (Give handle to) a p place next before after = IsAnswered place next
+IsWithinBound (Take handle) a p place next before after = IsAnswered place next
+IsWithinBound (Transfer handle outward index slot n) a p place next before after =
     IsAnswered place next ⊎ (GoesOn place next × (next.far < n))
 IsWithinBound (Fork child) a p place next before after =
     IsAnswered place next

@@ -1,12 +1,15 @@
 -- What is known of each state that turns lead to, whoever takes them.
-use Rattle.std.specs.Prelude.{◌≡◌, ℕ, ◌*◌, ◌≤◌, ◌<◌, false, List, [], ◌∷◌, length, Contains, Option, Some, None, IsSome}
+use Rattle.std.specs.Prelude.{◌≡◌, ℕ, ◌+◌, ◌*◌, ◌≤◌, ◌<◌, ◌==◌, Bool, false, if◌then◌else◌, List, [], ◌∷◌, length, slice_get, Contains, Option, Some, None, IsSome}
 use Rattle.gup_base.specs.declared.entry.Entry.{Entry}
 use Rattle.gup_plain.specs.Event.{page_numbers}
-use Rattle.gup_plain.specs.State.{unborn, growing, failed}
+use Rattle.gup_plain.specs.State.{unborn, growing, failed, Handle, unmade, held, given, gone}
 use Rattle.gup_script.specs.declared.op.Op.{Op}
-use Rattle.gup_script.specs.declared.op.Op.TheVariants.{Map, Unmap, Protect, Discard, Load, Store, Fork, Exit}
+use Rattle.gup_script.specs.declared.op.Op.TheVariants.{Map, Unmap, Protect, Discard, Load, Store, Pin, Unpin, Give, Take, Transfer, Fork, Exit}
+use Rattle.gup_script.specs.Limits.{most_pinned}
 use Rattle.gup_script.specs.Script.{ScriptValue}
-use Rattle.gup_events.specs.State.{CoreState, Job, idle, marking, moving, forking, walking, between, counted, lowered, cleared, copying, failing}
+use Rattle.gup_script.specs.Valid.{ForksAt}
+use Rattle.gup_events.specs.State.{CoreState, Taken, Job, idle, marking, moving, forking, walking, between, counted, lowered, cleared, copying, failing}
+use Rattle.gup_events.specs.Event.{bias}
 use Rattle.gup_events.specs.Sound.{IsSound}
 use Rattle.gup_follows.specs.Place.{ops_of, present_op, process_of}
 use Rattle.gup_turns.specs.Pages.{mapped_pages}
@@ -75,24 +78,85 @@ IsNoFork (Some (Discard page n)) = Unit {0}
 IsNoFork (Some (Load page word)) = Unit {0}
 IsNoFork (Some (Store page word value)) = Unit {0}
 IsNoFork (Some (Fork child)) = ⊥
+IsNoFork (Some (Pin handle page n write)) = Unit {0}
+IsNoFork (Some (Unpin handle)) = Unit {0}
+IsNoFork (Some (Give handle to)) = Unit {0}
+IsNoFork (Some (Take handle)) = Unit {0}
+IsNoFork (Some (Transfer handle outward index slot n)) = Unit {0}
 IsNoFork (Some Exit) = Unit {0}
 
--- The core state is sound. No process has failed or pinned, and those that are born or growing are declared. Each entry
--- is of a mapped page, and its frame has a reference. No actor but one that forks is in the middle of anything, an
--- operation that goes over pages stands at one of them, and no actor has answered more operations than it has. Counts
--- and sequences stay small.
+-- an actor that has no pin to do has taken no page
+abbrev pub IsNoPin : Option Op → Type 0
+IsNoPin None = Unit {0}
+IsNoPin (Some (Map page n rights)) = Unit {0}
+IsNoPin (Some (Unmap page n)) = Unit {0}
+IsNoPin (Some (Protect page n rights)) = Unit {0}
+IsNoPin (Some (Discard page n)) = Unit {0}
+IsNoPin (Some (Load page word)) = Unit {0}
+IsNoPin (Some (Store page word value)) = Unit {0}
+IsNoPin (Some (Pin handle page n write)) = ⊥
+IsNoPin (Some (Unpin handle)) = Unit {0}
+IsNoPin (Some (Give handle to)) = Unit {0}
+IsNoPin (Some (Take handle)) = Unit {0}
+IsNoPin (Some (Transfer handle outward index slot n)) = Unit {0}
+IsNoPin (Some (Fork child)) = Unit {0}
+IsNoPin (Some Exit) = Unit {0}
+
+-- the pages that a pin of process p has taken are the first ones of it, so many
+abbrev pub IsTakenPage : (p page : ℕ) → (write : Bool) → (k : ℕ) → Taken → Type 0
+IsTakenPage p page write k t = (t.proc ≡ p) × (t.page ≡ page + k) × (t.write ≡ write) × (t.long ≡ false)
+
+pub record HasTaken (p page : ℕ) (write : Bool) (far : ℕ) (taken : List Taken) : Type 0 where
+  pub many : length taken ≡ far
+  pub each : (k : ℕ) (t : Taken) → slice_get taken k ≡ Some t → IsTakenPage p page write k t
+
+-- a pin of n pages stands at one of them, and its handle is yet to be made
+pub record StandsPin (s : CoreState) (a p handle page n : ℕ) (write : Bool) (far : ℕ) : Type 0 where
+  pub within : far < n
+  pub yet : s.handle handle ≡ unmade
+  pub taken : HasTaken p page write far (s.taken a)
+
+-- how many pages of a pin its holder has given back: those of the unpin that it is in the middle of
+abbrev pub given_back : Option Op → (handle far : ℕ) → ℕ
+given_back (Some (Unpin h)) handle far = if h == handle then far else 0
+given_back op handle far = 0
+
+-- A pin that is made has at most 16 pages, and all of them but those that its holder has given back; at least one is left.
+abbrev pub StandsHandle : (back : ℕ → ℕ) → (pinned : List ℕ) → Handle → Type 0
+StandsHandle back pinned unmade = pinned ≡ []
+StandsHandle back pinned gone = pinned ≡ []
+StandsHandle back pinned (held by objects write) =
+    (0 < length pinned) × (length objects ≤ most_pinned) × (length pinned + back by ≡ length objects)
+StandsHandle back pinned (given to objects write) =
+    (0 < length pinned) × (length objects ≤ most_pinned) × (length pinned ≡ length objects)
+
+abbrev pub back_in : ScriptValue → RunState → (handle a : ℕ) → ℕ
+back_in script r handle a = given_back (present_op script a (r.places a)) handle (r.places a).far
+
+-- The core state is sound. No process has failed, and where the script has a fork none has pinned; those that are born or
+-- growing are declared. Each entry is of a mapped page, and its frame has a reference. No actor but one that forks is in
+-- the middle of anything, none but one that pins has taken pages, an operation that goes over pages or words stands at one
+-- of them, and no actor has answered more operations than it has. Pins are of declared handles, and the weight of each of
+-- their pages is in the count of its frame. Counts and sequences stay small.
 pub record IsStanding (script : ScriptValue) (r : RunState) : Type 0 where
   pub sound : IsSound r.core
   pub unfailed : (p : ℕ) → r.core.birth p ≡ failed → ⊥
-  pub unpinned : (p : ℕ) → r.core.has_pinned p ≡ false
+  pub unpinned : (a k child : ℕ) → ForksAt script a k child → (p : ℕ) → r.core.has_pinned p ≡ false
   pub declared : (p : ℕ) → (r.core.birth p ≡ unborn → ⊥) → p < length script.processes
   pub mapped : (p page : ℕ) (e : Entry) → r.core.entry p page ≡ Some e → IsSome (r.core.right p page)
   pub counted : (p page : ℕ) (e : Entry) → r.core.entry p page ≡ Some e → r.core.count e.frame ≡ 0 → ⊥
   pub few_pages : (p : ℕ) → mapped_pages (r.core.right p) ≤ 1024
-  pub few_counts : (f : ℕ) → r.core.count f ≤ 16 * page_numbers
+  pub few_counts : (f : ℕ) → r.core.count f ≤ 16 * page_numbers + bias * 17680
   pub few_forks : (p : ℕ) → r.core.sequence p ≤ 32
   pub idle_jobs : (a : ℕ) → IsNoFork (present_op script a (r.places a)) → r.core.job a ≡ idle
   pub forks : (a child : ℕ) → present_op script a (r.places a) ≡ Some (Fork child) → StandsFork r.core a (process_of script a) child (r.core.job a)
+  pub untaken : (a : ℕ) → IsNoPin (present_op script a (r.places a)) → r.core.taken a ≡ []
+  pub pins : (a handle page n : ℕ) (write : Bool) → present_op script a (r.places a) ≡ Some (Pin handle page n write) → StandsPin r.core a (process_of script a) handle page n write (r.places a).far
+  pub handles : (h : ℕ) → StandsHandle (back_in script r h) (r.core.pinned h) (r.core.handle h)
+  pub made : (h : ℕ) → (r.core.handle h ≡ unmade → ⊥) → h < length script.handles
+  pub weighed : (h k f : ℕ) → slice_get (r.core.pinned h) k ≡ Some f → bias ≤ r.core.count f
+  pub ungot : (h : ℕ) → r.core.got h ≡ None
   pub unmaps : (a page n : ℕ) → present_op script a (r.places a) ≡ Some (Unmap page n) → (r.places a).far < n
   pub discards : (a page n : ℕ) → present_op script a (r.places a) ≡ Some (Discard page n) → (r.places a).far < n
+  pub transfers : (a handle : ℕ) (outward : Bool) (index slot n : ℕ) → present_op script a (r.places a) ≡ Some (Transfer handle outward index slot n) → (r.places a).far < n
   pub answered : (a : ℕ) → (r.places a).answered ≤ length (ops_of script a)

@@ -7,7 +7,7 @@ use Rattle.gup_script.specs.declared.op.Op.{Op}
 use Rattle.gup_script.specs.Script.{ScriptValue}
 use Rattle.gup_events.specs.State.{CoreState, start}
 use Rattle.gup_events.specs.Invariant.{run}
-use Rattle.gup_follows.specs.Place.{Place, first_place, process_of, present_op, starts_born}
+use Rattle.gup_follows.specs.Place.{Place, first_place, Doer, doer, present_op, starts_born}
 use Rattle.gup_follows.specs.Order.{Turn, places_behind, journal_of, behind, pointer_after}
 use Rattle.gup_turns.specs.Turn.{Taken, turn_of, waiting_for}
 
@@ -31,23 +31,23 @@ run_start script =
 abbrev pub op_in : ScriptValue → RunState → ℕ → Option Op
 op_in script r a = present_op script a (r.places a)
 
-abbrev pub waiting_with : CoreState → (a p : ℕ) → Option Op → Option Waiting
-waiting_with s a p None = None
-waiting_with s a p (Some op) = waiting_for s a p op
+abbrev pub waiting_with : CoreState → Doer → Option Op → Option Waiting
+waiting_with s who None = None
+waiting_with s who (Some op) = waiting_for s who op
 
 -- what the actor waits for, if it waits
 abbrev pub waiting_in : ScriptValue → RunState → ℕ → Option Waiting
-waiting_in script r a = waiting_with r.core a (process_of script a) (op_in script r a)
+waiting_in script r a = waiting_with r.core (doer script a) (op_in script r a)
 
 -- the turn of an actor: idle where it has finished, without an event where it waits, else that of its operation
-abbrev pub taken_by : CoreState → (a p far : ℕ) → Option Op → Option Waiting → Taken
-taken_by s a p far None waiting = record { events = []; whats = Idle ∷ [] }
-taken_by s a p far (Some op) (Some waiting) = record { events = []; whats = Wait waiting ∷ [] }
-taken_by s a p far (Some op) None = turn_of s a p far op
+abbrev pub taken_by : CoreState → Doer → (far : ℕ) → Option Op → Option Waiting → Taken
+taken_by s who far None waiting = record { events = []; whats = Idle ∷ [] }
+taken_by s who far (Some op) (Some waiting) = record { events = []; whats = Wait waiting ∷ [] }
+taken_by s who far (Some op) None = turn_of s who far op
 
 abbrev pub taken_in : ScriptValue → RunState → ℕ → Taken
 taken_in script r a =
-    taken_by r.core a (process_of script a) (r.places a).far (op_in script r a) (waiting_in script r a)
+    taken_by r.core (doer script a) (r.places a).far (op_in script r a) (waiting_in script r a)
 
 abbrev pub turn_in : ScriptValue → RunState → ℕ → Turn
 turn_in script r a = record { actor = a; whats = (taken_in script r a).whats }

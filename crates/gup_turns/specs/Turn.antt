@@ -1,25 +1,30 @@
 -- The turn table: which core events a turn is, and what its notes say.
-use Rattle.std.specs.Prelude.{ℕ, ◌+◌, ◌-◌, ◌==◌, Bool, true, false, not, if◌then◌else◌, List, [], ◌∷◌, ◌++◌, Option, Some, None, is_some, is_none, Ok, Err, zero, suc}
+use Rattle.std.specs.Prelude.{ℕ, ◌+◌, ◌-◌, ◌/◌, ◌%◌, ◌==◌, Bool, true, false, not, if◌then◌else◌, List, [], ◌∷◌, ◌++◌, length, take, slice_index, Option, Some, None, is_some, is_none, Ok, Err, zero, suc}
 use Rattle.gup_base.specs.declared.entry.Entry.{Entry}
 use Rattle.gup_base.specs.declared.entry.Rights.{Rights}
 use Rattle.gup_base.specs.declared.entry.Rights.TheVariants.{R, RW}
-use Rattle.gup_plain.specs.Event.{page_numbers}
+use Rattle.gup_plain.specs.Event.{page_numbers, words}
 use Rattle.gup_plain.specs.Put.{lowest}
-use Rattle.gup_plain.specs.State.{Birth, unborn, growing, born, failed}
+use Rattle.gup_plain.specs.State.{Birth, unborn, growing, born, failed, Handle}
 use Rattle.gup_plain.specs.declared.answer.Answer.{Answer}
 use Rattle.gup_plain.specs.declared.answer.Answer.TheVariants as answers
+use Rattle.gup_plain.specs.declared.answer.Cause.{Cause}
+use Rattle.gup_plain.specs.declared.answer.Cause.TheVariants as causes
 use Rattle.gup_plain.specs.declared.event.PlainEvent.TheVariants as events
 use Rattle.gup_plain.specs.declared.note.What.{What}
 use Rattle.gup_plain.specs.declared.note.What.TheVariants.{Silent, Event, Done}
 use Rattle.gup_plain.specs.declared.note.Waiting.{Waiting}
 use Rattle.gup_plain.specs.declared.note.Waiting.TheVariants as waitings
 use Rattle.gup_script.specs.declared.op.Op.{Op}
-use Rattle.gup_script.specs.declared.op.Op.TheVariants.{Map, Unmap, Protect, Discard, Load, Store, Fork, Exit}
+use Rattle.gup_script.specs.declared.op.Op.TheVariants.{Map, Unmap, Protect, Discard, Load, Store, Pin, Unpin, Give, Take, Transfer, Fork, Exit}
 use Rattle.gup_events.specs.State.{CoreState, Job, idle, marking, moving, forking, walking, ForkStep, between, counted, lowered, cleared, copying, failing}
-use Rattle.gup_events.specs.Event.{CoreEvent, map_pages, lower_entry, protect_pages, drop_entry, discard_entry, load, store, begin_fork, count_page, share_entry, share_mark, share_child, pass_page, end_fork, fail_unborn, copies_page}
-use Rattle.gup_events.specs.Fault.{Fault, read_fault, write_fault, gives_back}
+use Rattle.gup_events.specs.Event.{CoreEvent, map_pages, lower_entry, protect_pages, drop_entry, discard_entry, load, store, begin_fork, count_page, share_entry, share_mark, share_child, pass_page, end_fork, fail_unborn, copies_page, raise_flag, pin_page, make_handle, unpin_page, give_handle, take_handle, move_out, move_in}
+use Rattle.gup_events.specs.Fault.{Fault, read_fault, write_fault, unshare_fault, gives_back}
 use Rattle.gup_events.specs.Invariant.{run}
-use Rattle.gup_plain.specs.Denial.{any_mapped, any_unmapped, map_denial, protect_denial}
+use Rattle.gup_plain.specs.Denial.{any_mapped, any_unmapped, map_denial, protect_denial, is_held_by, transfer_denial}
+use Rattle.gup_follows.specs.Follows.{moves_word}
+use Rattle.gup_follows.specs.Order.{handle_waits}
+use Rattle.gup_follows.specs.Place.{Doer, birth_for}
 
 -- a turn: its core events in order, and its notes
 pub record Taken : Type 0 where
@@ -195,6 +200,152 @@ exit_turn_by s a p (Some page) =
 abbrev pub exit_turn : CoreState → (a p : ℕ) → Taken
 exit_turn s a p = exit_turn_by s a p (lowest_page (s.right p))
 
+-- pin: one page a turn
+
+-- has-pinned is set before the first page is tried
+abbrev pub raises : (a p far : ℕ) → List CoreEvent
+raises a p zero = raise_flag a p ∷ []
+raises a p (suc far) = []
+
+-- a page of a write pin needs a writable entry, one of a read pin an exclusive frame
+abbrev pub pin_fault : CoreState → (a p page : ℕ) → (write : Bool) → Fault
+pin_fault s a p page true = write_fault a p page (s.right p page) (s.entry p page) s.mark s.count (free_frame s)
+pin_fault s a p page false = unshare_fault a p page (s.right p page) (s.entry p page) s.mark s.count (free_frame s)
+
+abbrev pub entry_in : Option Entry → Entry
+entry_in None = record { frame = 0; writable = false }
+entry_in (Some e) = e
+
+-- the last page's turn makes the handle, and has the answer
+abbrev pub makes_if : (last : Bool) → (a handle : ℕ) → List CoreEvent
+makes_if true a handle = make_handle a handle ∷ []
+makes_if false a handle = []
+
+abbrev pub pinned_if : (last : Bool) → (a handle n : ℕ) → List What
+pinned_if true a handle n = Event (events.PinOk a handle) ∷ Done (answers.Pinned n) ∷ []
+pinned_if false a handle n = []
+
+-- behind these events the page is pinned by its entry
+abbrev pub pins_behind : List CoreEvent → (a p handle page n : ℕ) → (write last : Bool) → Entry → Taken
+pins_behind before a p handle page n write last e =
+    record {
+      events = before ++ pin_page a p page e write false ∷ makes_if last a handle;
+      whats = Event (events.PinTry a p page write) ∷ pinned_if last a handle n;
+    }
+
+abbrev pub pins : CoreState → List CoreEvent → (a p handle page n : ℕ) → (write last : Bool) → Taken
+pins s before a p handle page n write last =
+    pins_behind before a p handle page n write last (entry_in ((run s before).entry p page))
+
+-- the answer that refuses a page, as the cause of a short pin
+abbrev pub cause_of : Answer → Cause
+cause_of answers.Forbidden = causes.Forbidden
+cause_of answers.NoFrame = causes.NoFrame
+cause_of (answers.Unmovable count) = causes.Unmovable count
+cause_of answer = causes.Missing
+
+-- a page is refused: a pin that has pages has those, and one without any is refused
+abbrev pub ends_pin : (a p handle n got : ℕ) → Answer → Taken
+ends_pin a p handle n zero answer = record { events = raises a p 0; whats = Done answer ∷ [] }
+ends_pin a p handle n (suc got) answer =
+    record {
+      events = make_handle a handle ∷ [];
+      whats = Event (events.PinOk a handle) ∷ Done (answers.Short (suc got) n (cause_of answer)) ∷ [];
+    }
+
+abbrev pub pin_turn_by : Fault → CoreState → (a p handle page n far : ℕ) → (write : Bool) → Taken
+pin_turn_by (Err answer) s a p handle page n far write = ends_pin a p handle n far answer
+pin_turn_by (Ok before) s a p handle page n far write =
+    pins s (raises a p far ++ before) a p handle page n write (far + 1 == n)
+
+abbrev pub pin_turn : CoreState → (a p handle page n far : ℕ) → (write : Bool) → Taken
+pin_turn s a p handle page n far write =
+    pin_turn_by (pin_fault s a p (page + far) write) s a p handle (page + far) n far write
+
+-- unpin: the last page that the pin still has, one a turn
+
+abbrev pub last_of : List ℕ → ℕ
+last_of frames = slice_index frames (length frames - 1)
+
+abbrev pub but_last : List ℕ → List ℕ
+but_last frames = take (length frames - 1) frames
+
+-- with the last of all the pin is gone
+abbrev pub unpinned : (left : List ℕ) → (a handle : ℕ) → List What
+unpinned [] a handle = Event (events.Unpin a handle) ∷ Done answers.Plain ∷ []
+unpinned (f ∷ left) a handle = Silent ∷ []
+
+abbrev pub unpin_turn_by : (held : Bool) → (a handle : ℕ) → (pinned : List ℕ) → Taken
+unpin_turn_by false a handle pinned = answers_with answers.NotHeld
+unpin_turn_by true a handle pinned =
+    record {
+      events = unpin_page a handle (last_of pinned) (but_last pinned) ∷ [];
+      whats = unpinned (but_last pinned) a handle;
+    }
+
+abbrev pub unpin_turn : CoreState → (a handle : ℕ) → Taken
+unpin_turn s a handle = unpin_turn_by (is_held_by (s.handle handle) a) a handle (s.pinned handle)
+
+-- give and take
+
+abbrev pub give_turn_by : (held : Bool) → (a handle to : ℕ) → Taken
+give_turn_by false a handle to = answers_with answers.NotHeld
+give_turn_by true a handle to =
+    record {
+      events = give_handle a handle to ∷ [];
+      whats = Event (events.Give a handle to) ∷ Done answers.Plain ∷ [];
+    }
+
+abbrev pub give_turn : CoreState → (a handle to : ℕ) → Taken
+give_turn s a handle to = give_turn_by (is_held_by (s.handle handle) a) a handle to
+
+abbrev pub take_turn : (a handle : ℕ) → Taken
+take_turn a handle =
+    record {
+      events = take_handle a handle ∷ [];
+      whats = Event (events.Take a handle) ∷ Done answers.Plain ∷ [];
+    }
+
+-- transfer: one word a turn
+
+-- the frame of the page that has this word of a pin
+abbrev pub frame_at : (pinned : List ℕ) → (index : ℕ) → ℕ
+frame_at pinned index = slice_index pinned (index / words)
+
+abbrev pub moves_value : CoreState → (a : ℕ) → (outward : Bool) → (index slot f : ℕ) → ℕ
+moves_value s a true index slot f = s.word f (index % words)
+moves_value s a false index slot f = s.store a slot
+
+abbrev pub moves : (a handle : ℕ) → (outward : Bool) → (index slot f value : ℕ) → CoreEvent
+moves a handle true index slot f value = move_out a handle index slot f value
+moves a handle false index slot f value = move_in a handle index slot f value
+
+abbrev pub moved_if : (last : Bool) → List What
+moved_if true = Done answers.Words ∷ []
+moved_if false = []
+
+abbrev pub word_turn : (a handle : ℕ) → (outward last : Bool) → (index slot f value : ℕ) → Taken
+word_turn a handle outward last index slot f value =
+    record {
+      events = moves a handle outward index slot f value ∷ [];
+      whats = Event (moves_word a handle outward index slot value) ∷ moved_if last;
+    }
+
+abbrev pub moves_from : CoreState → (a handle : ℕ) → (outward last : Bool) → (index slot f : ℕ) → Taken
+moves_from s a handle outward last index slot f =
+    word_turn a handle outward last index slot f (moves_value s a outward index slot f)
+
+abbrev pub transfer_turn_by : Option Answer → CoreState → (a handle : ℕ) → (outward last : Bool) → (index slot : ℕ) → Taken
+transfer_turn_by (Some denied) s a handle outward last index slot = answers_with denied
+transfer_turn_by None s a handle outward last index slot =
+    moves_from s a handle outward last index slot (frame_at (s.pinned handle) index)
+
+-- it is refused as a whole, before its first word moves; nothing that refuses it comes later
+abbrev pub transfer_turn : CoreState → (a slots handle : ℕ) → (outward : Bool) → (index slot n far : ℕ) → Taken
+transfer_turn s a slots handle outward index slot n far =
+    transfer_turn_by (transfer_denial (s.handle handle) a outward slots slot ((index, n) ∷ [])) s a handle outward
+    (far + 1 == n) (index + far) (slot + far)
+
 -- fork: its beginning, and then page by page
 
 -- where a fork of which these pages are done, the last in front, looks for the next one
@@ -248,16 +399,22 @@ fork_turn s a p child (marking q page f) = record { events = []; whats = Silent 
 fork_turn s a p child (moving q page e count) = record { events = []; whats = Silent ∷ [] }
 fork_turn s a p child (walking q write long sequence step) = record { events = []; whats = Silent ∷ [] }
 
--- the turn of an operation of a born process, of which so many turns are over
-abbrev pub op_turn : CoreState → (a p far : ℕ) → Op → Taken
-op_turn s a p far (Map page n rights) = map_turn s a p page n rights
-op_turn s a p far (Unmap page n) = unmap_turn s a p (page + far) (far + 1 == n)
-op_turn s a p far (Load page word) = load_turn s a p page word (s.entry p page)
-op_turn s a p far (Store page word value) = store_turn s a p page word value (s.entry p page)
-op_turn s a p far (Protect page n rights) = protect_turn s a p page n rights
-op_turn s a p far (Discard page n) = discard_turn s a p (page + far) (far + 1 == n)
-op_turn s a p far (Fork child) = fork_turn s a p child (s.job a)
-op_turn s a p far Exit = exit_turn s a p
+-- the turn of an operation of a born process, or of a device with so many slots, of which so many turns are over
+abbrev pub op_turn : CoreState → (a p slots far : ℕ) → Op → Taken
+op_turn s a p slots far (Map page n rights) = map_turn s a p page n rights
+op_turn s a p slots far (Unmap page n) = unmap_turn s a p (page + far) (far + 1 == n)
+op_turn s a p slots far (Load page word) = load_turn s a p page word (s.entry p page)
+op_turn s a p slots far (Store page word value) = store_turn s a p page word value (s.entry p page)
+op_turn s a p slots far (Protect page n rights) = protect_turn s a p page n rights
+op_turn s a p slots far (Discard page n) = discard_turn s a p (page + far) (far + 1 == n)
+op_turn s a p slots far (Pin handle page n write) = pin_turn s a p handle page n far write
+op_turn s a p slots far (Unpin handle) = unpin_turn s a handle
+op_turn s a p slots far (Give handle to) = give_turn s a handle to
+op_turn s a p slots far (Take handle) = take_turn a handle
+op_turn s a p slots far (Transfer handle outward index slot n) =
+    transfer_turn s a slots handle outward index slot n far
+op_turn s a p slots far (Fork child) = fork_turn s a p child (s.job a)
+op_turn s a p slots far Exit = exit_turn s a p
 
 -- an operation of a failed process is refused; a fork makes its child failed too
 abbrev pub failed_turn : (a p : ℕ) → Op → Taken
@@ -272,6 +429,11 @@ failed_turn a p (Protect page n rights) = answers_with answers.Unborn
 failed_turn a p (Discard page n) = answers_with answers.Unborn
 failed_turn a p (Load page word) = answers_with answers.Unborn
 failed_turn a p (Store page word value) = answers_with answers.Unborn
+failed_turn a p (Pin handle page n write) = answers_with answers.Unborn
+failed_turn a p (Unpin handle) = answers_with answers.Unborn
+failed_turn a p (Give handle to) = answers_with answers.Unborn
+failed_turn a p (Take handle) = answers_with answers.Unborn
+failed_turn a p (Transfer handle outward index slot n) = answers_with answers.Unborn
 failed_turn a p Exit = answers_with answers.Unborn
 
 abbrev pub turn_at : Birth → (refused turn : Taken) → Taken
@@ -280,8 +442,10 @@ turn_at born refused turn = turn
 turn_at unborn refused turn = turn
 turn_at (growing parent) refused turn = turn
 
-abbrev pub turn_of : CoreState → (a p far : ℕ) → Op → Taken
-turn_of s a p far op = turn_at (s.birth p) (failed_turn a p op) (op_turn s a p far op)
+abbrev pub turn_of : CoreState → Doer → (far : ℕ) → Op → Taken
+turn_of s who far op =
+    turn_at (birth_for s.birth who) (failed_turn who.actor who.proc op)
+    (op_turn s who.actor who.proc who.slots far op)
 
 -- waiting
 
@@ -316,6 +480,11 @@ locks_needed s a p (Discard page n) = both_locks
 locks_needed s a p (Load page word) = both_if (is_none (s.entry p page))
 locks_needed s a p (Store page word value) = both_if (not (allows_store (s.entry p page)))
 locks_needed s a p (Fork child) = fork_locks (s.right child) (s.job a)
+locks_needed s a p (Pin handle page n write) = both_locks
+locks_needed s a p (Unpin handle) = no_lock
+locks_needed s a p (Give handle to) = no_lock
+locks_needed s a p (Take handle) = no_lock
+locks_needed s a p (Transfer handle outward index slot n) = no_lock
 locks_needed s a p Exit = both_locks
 
 -- a needed lock that another actor holds
@@ -335,14 +504,18 @@ abbrev pub waits_for_locks : Locks → (a : ℕ) → (structure table : Option �
 waits_for_locks locks a structure table =
     first_waiting (waits_for_lock locks.structure a structure) (waits_for_lock locks.table a table)
 
--- What actor a of process p waits for before its next turn, if it waits: first that its process is born, then for
--- the structure lock, then for the table lock.
+-- What an actor waits for before its next turn, if it waits: first a thread that its process is born, then that a pin
+-- is given to it, then for the structure lock, then for the table lock.
 abbrev pub waits_at : Birth → (p : ℕ) → Option Waiting → Option Waiting
-waits_at unborn p locks = Some (waitings.Process p)
-waits_at (growing parent) p locks = Some (waitings.Process p)
-waits_at failed p locks = None
-waits_at born p locks = locks
+waits_at unborn p others = Some (waitings.Process p)
+waits_at (growing parent) p others = Some (waitings.Process p)
+waits_at failed p others = None
+waits_at born p others = others
 
-abbrev pub waiting_for : CoreState → (a p : ℕ) → Op → Option Waiting
-waiting_for s a p op =
-    waits_at (s.birth p) p (waits_for_locks (locks_needed s a p op) a (s.structure p) (s.table p))
+abbrev pub waits_born : CoreState → (a p : ℕ) → Op → Option Waiting
+waits_born s a p op =
+    first_waiting (handle_waits s.handle a (Some op))
+    (waits_for_locks (locks_needed s a p op) a (s.structure p) (s.table p))
+
+abbrev pub waiting_for : CoreState → Doer → Op → Option Waiting
+waiting_for s who op = waits_at (birth_for s.birth who) who.proc (waits_born s who.actor who.proc op)

@@ -11,7 +11,7 @@ ghost use Rattle.gup_follows.specs.Plain.{IsPlain};
 ghost use Rattle.gup_follows.specs.Follows.{Follows};
 ghost use Rattle.gup_follows.specs.Order.{Turn, InOrder};
 ghost use Rattle.gup_turns.specs.Run.{RunState, Runs, run_start, run_after, op_in, waiting_in, can_go, IsCoreRun};
-ghost use Rattle.gup_turns.specs.Cause.{FindNoFrame, AreKnown, answered_in, HaveFinished, WaitsForProcess};
+ghost use Rattle.gup_turns.specs.Cause.{FindNoFrame, AreKnown, answered_in, HaveFinished, WaitsForBirthOrPin};
 ghost use Rattle.gup_turns.specs.Cost.{cost, operations, IsBoundedTurn};
 ghost use Rattle.gup_turns.specs.Reached.{turned, IsStanding};
 
@@ -67,16 +67,18 @@ pub fn turns_are_spent()
     ensures start { (script : ScriptValue) → IsScript script → cost script (run_start script) ≤ 3074 * operations script }
 {}
 
-/// How many turns an operation has at most: a mapping, a protection, a load and a store one, what goes over n pages n,
-/// a fork 2,050; each turn of an exit but the one that answers it takes a page of its process.
+/// How many turns an operation has at most: a mapping, a protection, a load, a store, a give and a take one, what goes over
+/// n pages or words n, an unpin of n pages n, a fork 2,050; each turn of an exit but the one that answers it takes a page of
+/// its process.
 pub fn turns_are_bounded()
     ensures { (script : ScriptValue) (r : RunState) (a : ℕ) (op : Op) → IsScript script → IsStanding script r → op_in script r a ≡ Some op → waiting_in script r a ≡ None → IsBoundedTurn script r a op }
 {}
 
-/// At the end of a run each actor has finished or waits, and whoever waits, waits for a process of the script.
+/// At the end of a run each actor has finished or waits, and whoever waits, waits for a process of the script to be born
+/// or for a pin of the script to be given to it.
 pub fn runs_end_at_waits()
     ensures ends { (script : ScriptValue) (turns : List Turn) (end : RunState) → Runs script (run_start script) turns end → (a : ℕ) → a < length script.actors → can_go script end a ≡ false }
-    ensures waits { (script : ScriptValue) (turns : List Turn) (end : RunState) → IsScript script → Runs script (run_start script) turns end → (a : ℕ) (waiting : Waiting) → waiting_in script end a ≡ Some waiting → WaitsForProcess script waiting }
+    ensures waits { (script : ScriptValue) (turns : List Turn) (end : RunState) → IsScript script → Runs script (run_start script) turns end → (a : ℕ) (waiting : Waiting) → waiting_in script end a ≡ Some waiting → WaitsForBirthOrPin script waiting }
 {
     reached_states_stand();
 }

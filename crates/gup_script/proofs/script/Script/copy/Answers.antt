@@ -1,4 +1,4 @@
-use Rattle.std.proofs.Common.{◌≡◌, map, rules, ◌∙◌, sym, refl, subst}
+use Rattle.std.proofs.Common.{◌≡◌, map, string_bytes, rules, ◌∙◌, sym, refl, subst}
 use Rattle.std.proofs.lemmas.List.Elements.{same_from_all_zip}
 use Rattle.gup_script.specs.Valid.{IsScript}
 use Rattle.gup_script.specs.Views.{process_value, actor_value, script_value}
@@ -11,8 +11,9 @@ same c =
     let h = c.in_ok-clone.ensures.cases in
     let processes : map process_value c.in_ok-clone.field-0.processes.items ≡ map process_value c.self.inside.contents.processes.items = map_of_copies _ process_value (λ x y e. search rules) _ _ h.1.1.1.0.0 in
     let actors : map actor_value c.in_ok-clone.field-0.actors.items ≡ map actor_value c.self.inside.contents.actors.items = map_of_copies _ actor_value (λ x y e. search (rules, same_from_all_zip)) _ _ h.1.1.1.1.0.0 in
-    let turns : c.in_ok-clone.field-0.turns.items ≡ c.self.inside.contents.turns.items = same_from_all_zip _ _ _ h.1.1.1.1.1.0.0 (λ x y e. search rules) in
-    rw (h.0, h.1.0, h.1.1.0, processes, actors, turns, h.1.1.1.1.1.1) refl
+    let handles : map string_bytes c.in_ok-clone.field-0.handles.items ≡ map string_bytes c.self.inside.contents.handles.items = map_of_copies _ string_bytes (λ x y e. search rules) _ _ h.1.1.1.1.1.0.0 in
+    let turns : c.in_ok-clone.field-0.turns.items ≡ c.self.inside.contents.turns.items = same_from_all_zip _ _ _ h.1.1.1.1.1.1.0.0 (λ x y e. search rules) in
+    rw (h.0, h.1.0, h.1.1.0, processes, actors, handles, turns, h.1.1.1.1.1.1.1) refl
 
 pub invariant_of-result : goal.invariant_of-result
 invariant_of-result c = subst IsScript (sym (same c)) c.self.invariant
