@@ -1,64 +1,77 @@
 -- What a turn of an operation leaves of all that the machine has.
-use Rattle.std.specs.Prelude.{◌≡◌, ℕ, ◌<◌, ◌^◌, true, false, length, slice_get, List, Some, None}
+use Rattle.std.specs.Prelude.{◌≡◌, ℕ, ◌<◌, ◌^◌, Bool, true, false, length, slice_get, List, Option, Some, None}
+use Rattle.arrayvec.specs.ArrayVec.{ArrayVec}
+use Rattle.gup_plain.specs.Event.{IsGivenTo}
 use Rattle.gup_plain.specs.declared.note.What.{What}
 use Rattle.gup_script.specs.Valid.{IsOp}
 use Rattle.gup_script.specs.declared.op.Op.{Op}
-use Rattle.gup_script.specs.declared.op.Op.TheVariants.{Fork}
-use Rattle.gup_frames.specs.Frames.{FramesValue, FrameLists, frames_of}
+use Rattle.gup_script.specs.declared.op.Op.TheVariants.{Pin, Take, Transfer, Fork}
+use Rattle.gup_frames.specs.Frames.{FramesValue, frames_of}
 use Rattle.gup_space.specs.Space.{SpaceParts, space_of}
-use Rattle.gup_space.specs.Shows.{ShowsFrames}
+use Rattle.gup_handles.specs.Handles.{handles_of, unmade, IsGivenTo as IsKeptFor}
 use Rattle.gup_events.specs.State.{CoreState, idle}
 use Rattle.gup_events.specs.Invariant.{run}
 use Rattle.gup_turns.specs.Turn.{Taken, op_turn}
-use Rattle.gup_turns.specs.Reached.{fork_place, IsNoFork, StandsFork}
+use Rattle.gup_turns.specs.Reached.{fork_place, IsNoFork, StandsFork, StandsPin}
 use Rattle.gup_ops.specs.declared.forks.ForkPlace.{ForkPlace}
 use Rattle.gup_ops.specs.Far.{HasFar, far_in}
 use Rattle.gup_ops.specs.Forked.{place_of, IsReadyAt}
+use Rattle.gup_ops.specs.Pins.{IsWeighed, IsWhole, slots_in}
 use Rattle.gup_ops.specs.Tidy.{IsTidy, needs_table}
 use Rattle.gup_core.specs.declared.births.Birth.{Birth}
-use Rattle.gup_core.specs.declared.seats.Seat.{Seat}
-use Rattle.gup_core.specs.Machine.{EachSpace, ShowsSpaces, ShowsBirths}
+use Rattle.gup_core.specs.declared.parts.Parts.{Parts}
+use Rattle.gup_core.specs.Doers.{HasProcess}
+use Rattle.gup_core.specs.Machine.{EachSpace, ShowsParts}
 
--- The actor of process p stands before a turn of this operation: it is in the middle of nothing but, where the operation
--- is one, a fork.
-abbrev pub StandsAt : CoreState → (a p : ℕ) → Op → Type 0
-StandsAt s a p op =
-    (IsNoFork (Some op) → s.job a ≡ idle) × ((child : ℕ) → op ≡ Fork child → StandsFork s a p child (s.job a))
+-- The actor of process p stands before a turn of this operation, of which so many turns are over: it is in the middle of
+-- nothing but, where the operation is one, a fork; a pin has taken its first pages, a pin that is taken is given to it, and
+-- one whose words it moves has all its pages.
+pub record StandsAt (s : CoreState) (a p far : ℕ) (op : Op) : Type 0 where
+  pub idle_job : IsNoFork (Some op) → s.job a ≡ idle
+  pub fork : (child : ℕ) → op ≡ Fork child → StandsFork s a p child (s.job a)
+  pub pin : (handle page n : ℕ) (write : Bool) → op ≡ Pin handle page n write → StandsPin s a p handle page n write far
+  pub pinned : (handle page n : ℕ) (write : Bool) → op ≡ Pin handle page n write → 0 < far → s.has_pinned p ≡ true
+  pub whole : (handle index slot n : ℕ) (outward : Bool) → op ≡ Transfer handle outward index slot n → IsWhole s a handle
 
--- From this state the actor's turn says this, and leads to these frames, processes and births. Its fork stands there
--- then, and those of others stand where they did.
-pub record LeadsAll (new_frames : FrameLists) (new_spaces : List SpaceParts) (new_births : List Birth) (a : ℕ) (s : CoreState) (turn : Taken) (whats : List What) (place : ForkPlace) : Type 0 where
+-- From this state the actor's turn says this, and leads to these parts. Its fork stands there then, and those of others
+-- stand where they did.
+pub record LeadsAll (new : Parts) (a : ℕ) (s : CoreState) (turn : Taken) (whats : List What) (place : ForkPlace) : Type 0 where
   pub says : turn.whats ≡ whats
-  pub frames : ShowsFrames (frames_of new_frames) (run s turn.events)
-  pub spaces : ShowsSpaces new_spaces (run s turn.events)
-  pub births : ShowsBirths new_births (run s turn.events)
+  pub parts : ShowsParts new (run s turn.events)
   pub fork : place_of place ≡ fork_place ((run s turn.events).job a)
   pub others : (b : ℕ) → (b ≡ a → ⊥) → fork_place ((run s turn.events).job b) ≡ fork_place (s.job b)
 
--- so it is from each state that shows what was, where an operation has gone over so many pages and its fork stood there
-abbrev pub IsTurnOfAll : (old_frames new_frames : FrameLists) → (old_spaces new_spaces : List SpaceParts) → (old_births new_births : List Birth) → (a p far : ℕ) → Op → (old_fork : ForkPlace) → List What → (new_fork : ForkPlace) → Type 0
-IsTurnOfAll old_frames new_frames old_spaces new_spaces old_births new_births a p far op old_fork whats new_fork =
+-- so it is from each state that shows what was, where an operation has gone over so many pages or words and its fork stood
+-- there
+abbrev pub IsTurnOfAll : (old new : Parts) → (a p slots far : ℕ) → Op → (old_fork : ForkPlace) → List What → (new_fork : ForkPlace) → Type 0
+IsTurnOfAll old new a p slots far op old_fork whats new_fork =
     (s : CoreState) (k : ℕ)
-    → ShowsFrames (frames_of old_frames) s → ShowsSpaces old_spaces s → ShowsBirths old_births s
-    → place_of old_fork ≡ fork_place (s.job a) → StandsAt s a p op → far ≡ far_in (Some op) k
-    → LeadsAll new_frames new_spaces new_births a s (op_turn s a p k op) whats new_fork
+    → ShowsParts old s → place_of old_fork ≡ fork_place (s.job a) → StandsAt s a p k op → far ≡ far_in (Some op) k
+    → LeadsAll new a s (op_turn s a p slots k op) whats new_fork
 
 -- What a turn of a fork of process p into this child needs: they are two processes, and what is true between two turns.
 pub record IsForkReady (frames : FramesValue) (spaces : List SpaceParts) (births : List Birth) (p child : ℕ) (fork : ForkPlace) : Type 0 where
   pub apart : p ≡ child → ⊥
   pub there : child < length spaces
   pub declared : child < length births
-  pub few_counts : (f : ℕ) → frames.count f < 2 ^ 40
   pub few_forks : EachSpace (λ space. space.sequence < 2 ^ 40) spaces
   pub unpinned : EachSpace (λ space. space.has_pinned ≡ false) spaces
   pub stands : (parent kid : SpaceParts) → slice_get spaces p ≡ Some parent → slice_get spaces child ≡ Some kid → IsReadyAt (place_of fork) (space_of parent) (space_of kid)
 
--- What a turn of an operation of process p needs: its numbers are in range, each process is tidy, and nobody holds a lock
--- that it needs.
-pub record IsReady (frames : FramesValue) (spaces : List SpaceParts) (births : List Birth) (p : ℕ) (op : Op) (seat : Seat) : Type 0 where
-  pub there : p < length spaces
-  pub tidy : EachSpace (IsTidy frames) spaces
-  pub table : (space : SpaceParts) → slice_get spaces p ≡ Some space → IsNoFork (Some op) → needs_table (space_of space) op ≡ true → (space_of space).table ≡ None
+-- What a turn of an operation needs that has gone so far, and whose fork stands there: its numbers are in range, it is of process p where it is of one, each process is tidy,
+-- counts are small, nobody holds a lock that it needs, and pins have the weight of their pages.
+pub record IsReady (parts : Parts) (a p slots : ℕ) (op : Op) (gone : ℕ) (place : ForkPlace) : Type 0 where
+  pub there : HasProcess op → p < length parts.spaces.items
+  pub tidy : EachSpace (IsTidy (frames_of parts.frames)) parts.spaces.items
+  pub few_counts : (f : ℕ) → (frames_of parts.frames).count f < 2 ^ 40
+  pub table : (space : SpaceParts) → slice_get parts.spaces.items p ≡ Some space → IsNoFork (Some op) → needs_table (space_of space) op ≡ true → (space_of space).table ≡ None
   pub in_range : IsOp op
-  pub far : HasFar op seat.far
-  pub fork : (child : ℕ) → op ≡ Fork child → IsForkReady frames spaces births p child seat.fork
+  pub far : HasFar op gone
+  pub fork : (child : ℕ) → op ≡ Fork child → IsForkReady (frames_of parts.frames) parts.spaces.items parts.births.items p child place
+  pub weighed : (h : ℕ) → IsWeighed (frames_of parts.frames) (handles_of parts.handles h)
+  pub yet : (handle page n : ℕ) (write : Bool) → op ≡ Pin handle page n write → handles_of parts.handles handle ≡ unmade
+  pub taken : (pages : ArrayVec ℕ) (handle page n : ℕ) (write : Bool) → slice_get parts.taken.items a ≡ Some pages → op ≡ Pin handle page n write → length pages.items ≡ gone
+  pub given : (handle : ℕ) → op ≡ Take handle → IsKeptFor (handles_of parts.handles handle) a
+  pub actor_taken : a < length parts.taken.items
+  pub actor_store : a < length parts.stores.items
+  pub store_slots : (store : Option (List ℕ)) → slice_get parts.stores.items a ≡ Some store → slots_in store ≡ slots

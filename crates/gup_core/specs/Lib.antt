@@ -1,5 +1,6 @@
 pub mod Seats
 pub mod Locks
+pub mod Doers
 pub mod Machine
 pub mod Goes
 pub mod Rest

@@ -4,7 +4,7 @@ use Rattle.gup_base.specs.declared.entry.Rights.{Rights}
 use Rattle.gup_plain.specs.Event.{page_numbers}
 use Rattle.gup_plain.specs.Put.{lowest}
 use Rattle.gup_script.specs.declared.op.Op.{Op}
-use Rattle.gup_script.specs.declared.op.Op.TheVariants.{Map, Unmap, Protect, Discard, Load, Store, Fork, Exit}
+use Rattle.gup_script.specs.declared.op.Op.TheVariants.{Map, Unmap, Protect, Discard, Load, Store, Pin, Unpin, Give, Take, Transfer, Fork, Exit}
 use Rattle.gup_turns.specs.Turn.{Locks, both_locks, no_lock}
 use Rattle.gup_turns.specs.Reached.{ForkPlace, unbegun, from_page, at_page}
 use Rattle.gup_core.specs.declared.locks.Locks.{Locks as KeptLocks}
@@ -27,5 +27,10 @@ child_in (Protect page n rights) = None
 child_in (Discard page n) = None
 child_in (Load page word) = None
 child_in (Store page word value) = None
+child_in (Pin handle page n write) = None
+child_in (Unpin handle) = None
+child_in (Give handle to) = None
+child_in (Take handle) = None
+child_in (Transfer handle outward index slot n) = None
 child_in (Fork child) = Some child
 child_in Exit = None

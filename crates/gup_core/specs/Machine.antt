@@ -1,35 +1,36 @@
 -- The machine, and the states of the core run that it shows.
-use Rattle.std.specs.Prelude.{◌≡◌, ℕ, ◌+◌, ◌-◌, ◌^◌, List, Some, length, min, slice_get}
+use Rattle.std.specs.Prelude.{◌≡◌, ℕ, ◌+◌, ◌-◌, ◌^◌, List, Option, Some, length, min, slice_get}
+use Rattle.arrayvec.specs.ArrayVec.{ArrayVec}
 use Rattle.gup_plain.specs.Note.{NoteValue}
 use Rattle.gup_plain.specs.State.{Birth, born, unborn, growing}
 use Rattle.gup_script.specs.Script.{ScriptValue}
-use Rattle.gup_follows.specs.Place.{present_op}
+use Rattle.gup_follows.specs.Place.{present_op, doer}
 use Rattle.gup_follows.specs.Follows.{notes_of_turn}
-use Rattle.gup_frames.specs.Frames.{FrameLists, frames_of}
+use Rattle.gup_frames.specs.Frames.{frames_of}
 use Rattle.gup_space.specs.Space.{SpaceValue, SpaceParts, space_of}
 use Rattle.gup_space.specs.Shows.{ShowsFrames, ShowsSpace}
+use Rattle.gup_handles.specs.Handles.{handles_of}
 use Rattle.gup_events.specs.State.{CoreState}
+use Rattle.gup_events.specs.Event.{frames_of as frames_taken}
 use Rattle.gup_turns.specs.Run.{RunState, run_start, run_after, taken_in}
 use Rattle.gup_turns.specs.Reached.{turned, fork_place}
 use Rattle.gup_ops.specs.Forked.{place_of}
+use Rattle.gup_ops.specs.Pins.{ShowsPins, ShowsStore, slots_in}
 use Rattle.gup_core.specs.declared.births.Birth.{Birth as KeptBirth}
 use Rattle.gup_core.specs.declared.births.Birth.TheVariants.{Unborn, Growing, Born}
+use Rattle.gup_core.specs.declared.parts.Parts.{Parts}
 use Rattle.gup_core.specs.declared.seats.Seat.{Seat}
 use Rattle.gup_core.specs.Seats.{IsSeat}
 
--- A machine: its script, the frames, the processes and whether they are born, the actors' seats, and how many turns are
--- over.
+-- A machine: its script, the parts of it, the actors' seats, and how many turns are over.
 pub record MachineValue : Type 0 where
   pub script : ScriptValue
-  pub frames : FrameLists
-  pub spaces : List SpaceParts
-  pub births : List KeptBirth
+  pub parts : Parts
   pub seats : List Seat
   pub turns : ℕ
 
-abbrev pub machine_of : ScriptValue → FrameLists → List SpaceParts → List KeptBirth → List Seat → (turns : ℕ) → MachineValue
-machine_of script frames spaces births seats turns =
-    record { script = script; frames = frames; spaces = spaces; births = births; seats = seats; turns = turns }
+abbrev pub machine_of : ScriptValue → Parts → List Seat → (turns : ℕ) → MachineValue
+machine_of script parts seats turns = record { script = script; parts = parts; seats = seats; turns = turns }
 
 -- the number of a turn stays at the last value of 32 bits
 abbrev pub counted : ℕ → ℕ
@@ -53,6 +54,24 @@ IsBirth Born birth = birth ≡ born
 abbrev pub ShowsBirths : List KeptBirth → CoreState → Type 0
 ShowsBirths births s = (p : ℕ) (birth : KeptBirth) → slice_get births p ≡ Some birth → IsBirth birth (s.birth p)
 
+-- what the running pins of actors have taken
+abbrev pub ShowsTaken : List (ArrayVec ℕ) → CoreState → Type 0
+ShowsTaken taken s =
+    (a : ℕ) (pages : ArrayVec ℕ) → slice_get taken a ≡ Some pages → frames_taken (s.taken a) ≡ pages.items
+
+-- the words of devices
+abbrev pub ShowsStores : List (Option (List ℕ)) → CoreState → Type 0
+ShowsStores stores s = (a : ℕ) (store : Option (List ℕ)) → slice_get stores a ≡ Some store → ShowsStore a store s
+
+-- the state has these parts
+pub record ShowsParts (parts : Parts) (s : CoreState) : Type 0 where
+  pub frames : ShowsFrames (frames_of parts.frames) s
+  pub spaces : ShowsSpaces parts.spaces.items s
+  pub births : ShowsBirths parts.births.items s
+  pub pins : ShowsPins (handles_of parts.handles) s
+  pub taken : ShowsTaken parts.taken.items s
+  pub stores : ShowsStores parts.stores.items s
+
 -- turns have led to the state from the start
 abbrev pub IsReached : ScriptValue → RunState → Type 0
 IsReached script r = (actors : List ℕ) × (r ≡ turned script (run_start script) actors)
@@ -60,9 +79,7 @@ IsReached script r = (actors : List ℕ) × (r ≡ turned script (run_start scri
 -- Turns lead to this state of the core run, and it is as the machine has it.
 pub record Shows (m : MachineValue) (r : RunState) : Type 0 where
   pub reached : IsReached m.script r
-  pub frames : ShowsFrames (frames_of m.frames) r.core
-  pub spaces : ShowsSpaces m.spaces r.core
-  pub births : ShowsBirths m.births r.core
+  pub parts : ShowsParts m.parts r.core
   pub seats : (a : ℕ) (seat : Seat) → slice_get m.seats a ≡ Some seat → IsSeat (present_op m.script a (r.places a)) (r.places a) seat
   pub forks : (a : ℕ) (seat : Seat) → slice_get m.seats a ≡ Some seat → place_of seat.fork ≡ fork_place (r.core.job a)
   pub turns : m.turns ≡ min r.turns (2 ^ 32 - 1)
@@ -77,10 +94,18 @@ pub record TakesTurn (old new : MachineValue) (actor : ℕ) (r : RunState) (note
 abbrev pub TakesTurns : (old new : MachineValue) → (actor : ℕ) → List NoteValue → Type 0
 TakesTurns old new actor notes = (r : RunState) → Shows old r → TakesTurn old new actor r notes
 
--- What a machine is between two turns: it has a space for each process and a seat for each actor, and shows a state.
+-- The parts are those of a machine of the script: a space and a birth for each process, and for each actor what it has
+-- taken, and the store of its slots, if it is a device.
+pub record AreParts (script : ScriptValue) (parts : Parts) : Type 0 where
+  pub spaces : length parts.spaces.items ≡ length script.processes
+  pub births : length parts.births.items ≡ length script.processes
+  pub taken : length parts.taken.items ≡ length script.actors
+  pub stores : length parts.stores.items ≡ length script.actors
+  pub slots : (a : ℕ) (store : Option (List ℕ)) → slice_get parts.stores.items a ≡ Some store → slots_in store ≡ (doer script a).slots
+
+-- What a machine is between two turns: it has its parts and a seat for each actor, and shows a state.
 pub record IsMachine (m : MachineValue) : Type 0 where
-  pub spaces : length m.spaces ≡ length m.script.processes
-  pub births : length m.births ≡ length m.script.processes
+  pub parts : AreParts m.script m.parts
   pub seats : length m.seats ≡ length m.script.actors
   pub shown : (r : RunState) × Shows m r
 

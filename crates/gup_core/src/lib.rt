@@ -1,10 +1,11 @@
-//! The machine for many processes and actors: it takes the turns of a script's core run, on frames and processes that
-//! take no more memory than they had at the start.
+//! The machine for many processes, threads and devices: it takes the turns of a script's core run, on frames, processes,
+//! pins and stores that take no more memory than they had at the start.
 #![tactic(auto)]
 
 mod births;
 mod locks;
 mod machine;
+mod parts;
 mod seats;
 mod takes;
 mod turn;

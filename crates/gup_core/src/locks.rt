@@ -1,5 +1,5 @@
-//! What actors wait for: processes to be born, and locks that others hold.
-ghost use Rattle.std.specs.Prelude.{◌≡◌, ℕ, ◌<◌, length, slice_get, Some};
+//! What actors wait for: processes to be born, pins to be given to them, and locks that others hold.
+ghost use Rattle.std.specs.Prelude.{◌≡◌, ℕ, ◌<◌, length, slice_get, Some, IsSome, IfSome};
 ghost use Rattle.gup_script.specs.declared.op.Op.TheVariants.{Fork};
 ghost use Rattle.gup_events.specs.State.{CoreState};
 ghost use Rattle.gup_space.specs.Space.{space_of};
@@ -9,11 +9,15 @@ ghost use Rattle.gup_turns.specs.Reached.{fork_place};
 ghost use Rattle.gup_ops.specs.Forked.{place_of};
 ghost use Rattle.gup_ops.specs.Tidy.{AreNumbered};
 ghost use Rattle.gup_core.specs.Locks.{locks_of, fork_needs, child_in};
-ghost use Rattle.gup_core.specs.Machine.{EachSpace, ShowsSpaces, ShowsBirths};
+ghost use Rattle.gup_follows.specs.Place.{Doer};
+ghost use Rattle.gup_core.specs.Doers.{HasProcess, IsProcessOf};
+ghost use Rattle.gup_core.specs.Machine.{EachSpace, ShowsSpaces, ShowsParts};
 ghost use Rattle.gup_core.specs.Goes.{StandsAt};
 
 use crate::births::{Birth, birth_of};
-use gup_base::{ActorNo, ProcNo};
+use crate::parts::Parts;
+use gup_base::{ActorNo, HandleNo, ProcNo};
+use gup_handles::Handles;
 use gup_ops::{ForkPlace, needs_table, next_page};
 use gup_plain::Waiting;
 use gup_script::Op;
@@ -26,27 +30,44 @@ pub struct Locks {
     pub table: bool,
 }
 
-/// What the actor waits for before its next turn, if it waits: first that its process is born, then for the holder of
-/// the structure lock, then for that of the table lock.
+/// What the actor waits for before its next turn, if it waits: first that its process is born, if it is a thread, then
+/// that the pin is given to it which it is to take, then for the holder of the structure lock, then for that of the table
+/// lock.
 pub fn waits_for(
-    spaces: &Vec<Space>,
-    births: &Vec<Birth>,
+    parts: &Parts,
     actor: ActorNo,
-    proc: ProcNo,
+    proc: Option<ProcNo>,
     place: ForkPlace,
     op: &Op,
 ) -> Option<Waiting>
-    requires there { proc < length spaces.now.items }
-    requires declared { proc < length births.now.items }
-    requires child { (child : ℕ) → op.now ≡ Fork child → child < length spaces.now.items }
-    requires numbered { EachSpace AreNumbered spaces.now.items }
-    ensures { (s : CoreState) → ShowsSpaces spaces.now.items s → ShowsBirths births.now.items s
-        → place_of place ≡ fork_place (s.job actor) → StandsAt s actor proc op.now
-        → result ≡ waiting_for s actor proc op.now }
+    requires there { HasProcess op.now → IsSome proc }
+    requires space { IfSome proc (λ p. p < length parts.now.spaces.items) }
+    requires birth { IfSome proc (λ p. p < length parts.now.births.items) }
+    requires child { (child : ℕ) → op.now ≡ Fork child → child < length parts.now.spaces.items }
+    requires numbered { EachSpace AreNumbered parts.now.spaces.items }
+    ensures { (s : CoreState) (who : Doer) (far : ℕ) → ShowsParts parts.now s → who.actor ≡ actor → IsProcessOf who proc
+        → place_of place ≡ fork_place (s.job actor) → StandsAt s actor who.proc far op.now
+        → result ≡ waiting_for s who op.now }
 {
-    match birth_of(births, proc) {
-        Birth::Born => waits_for_holders(spaces, actor, proc, place, op),
-        Birth::Unborn | Birth::Growing => Some(Waiting::Process(proc)),
+    if let Some(proc) = proc {
+        match birth_of(&parts.births, proc) {
+            Birth::Born => {}
+            Birth::Unborn | Birth::Growing => return Some(Waiting::Process(proc)),
+        }
+    }
+    match (*op, proc) {
+        (Op::Take { handle }, _) => waits_for_pin(&parts.handles, actor, handle),
+        (_, Some(proc)) => waits_for_holders(&parts.spaces, actor, proc, place, op),
+        (_, None) => None,
+    }
+}
+
+// The actor waits until the pin is given to it.
+fn waits_for_pin(handles: &Handles, actor: ActorNo, handle: HandleNo) -> Option<Waiting> {
+    if handles.given(handle, actor) {
+        None
+    } else {
+        Some(Waiting::Handle(handle))
     }
 }
 
@@ -61,8 +82,8 @@ fn waits_for_holders(
     requires there { proc < length spaces.now.items }
     requires child { (child : ℕ) → op.now ≡ Fork child → child < length spaces.now.items }
     requires numbered { EachSpace AreNumbered spaces.now.items }
-    ensures { (s : CoreState) → ShowsSpaces spaces.now.items s
-        → place_of place ≡ fork_place (s.job actor) → StandsAt s actor proc op.now
+    ensures { (s : CoreState) (far : ℕ) → ShowsSpaces spaces.now.items s
+        → place_of place ≡ fork_place (s.job actor) → StandsAt s actor proc far op.now
         → result ≡ locks_waited (needed s actor proc op.now) actor (s.structure proc) (s.table proc) }
 {
     let space = space_at(spaces, proc);
@@ -90,6 +111,8 @@ pub fn child_of(op: &Op) -> Option<ProcNo>
         Op::Fork { child } => Some(child),
         Op::Map { .. } | Op::Unmap { .. } | Op::Protect { .. } | Op::Discard { .. } => None,
         Op::Load { .. } | Op::Store { .. } | Op::Exit => None,
+        Op::Pin { .. } | Op::Unpin { .. } | Op::Give { .. } => None,
+        Op::Take { .. } | Op::Transfer { .. } => None,
     }
 }
 
@@ -98,8 +121,8 @@ fn locks_needed(spaces: &Vec<Space>, proc: ProcNo, place: ForkPlace, op: &Op) ->
     requires there { proc < length spaces.now.items }
     requires child { (child : ℕ) → op.now ≡ Fork child → child < length spaces.now.items }
     requires numbered { EachSpace AreNumbered spaces.now.items }
-    ensures { (s : CoreState) (a : ℕ) → ShowsSpaces spaces.now.items s → place_of place ≡ fork_place (s.job a)
-        → StandsAt s a proc op.now → locks_of result ≡ needed s a proc op.now }
+    ensures { (s : CoreState) (a far : ℕ) → ShowsSpaces spaces.now.items s → place_of place ≡ fork_place (s.job a)
+        → StandsAt s a proc far op.now → locks_of result ≡ needed s a proc op.now }
 {
     if let Some(child) = child_of(op) {
         return fork_locks(space_at(spaces, child), place);

@@ -1,33 +1,28 @@
 //! The machine for many processes and actors.
-ghost use Rattle.std.specs.Prelude.{◌≡◌, ℕ, ◌<◌, length, slice_get, Some, All, IfOk};
+ghost use Rattle.std.specs.Prelude.{◌≡◌, ℕ, ◌<◌, length, slice_get, Some, IfOk};
 ghost use Rattle.gup_follows.specs.Place.{has_finished};
 ghost use Rattle.gup_frames.specs.Frames.{frames_of, free_of};
-ghost use Rattle.gup_space.specs.Space.{SpaceParts, space_of, no_space};
 ghost use Rattle.gup_turns.specs.Run.{RunState, waiting_in};
 ghost use Rattle.gup_core.specs.Machine.{Shows, TakesTurns, IsNew};
 ghost use Rattle.gup_core.specs.Rest.{IsAtRest};
 
-use crate::births::{self, Birth};
 use crate::locks::waits_for;
+use crate::parts::{self, Parts};
 use crate::seats::{self, Seat, seat_of};
 use crate::turn::Turn;
 use crate::turns::{op_at, ops, process, take_turn};
 use gup_base::{ActorNo, NoMemory, Zone};
-use gup_frames::Frames;
 use gup_plain::Waiting;
 use gup_script::Script;
-use gup_space::Space;
 use std::alloc::Global;
 use std::marker::Model;
 
-/// The machine of a script: the frames, the processes, and where each actor stands. It is between two turns of the
-/// core run.
+/// The machine of a script: frames, processes, pins and stores, and where each actor stands. It is between two turns of
+/// the core run.
 #[derive(Drop)]
 pub struct Machine {
     script: Script,
-    frames: Frames,
-    spaces: Vec<Space>,
-    births: Vec<Birth>,
+    parts: Parts,
     seats: Vec<Seat>,
     turns: u32,
 }
@@ -39,18 +34,14 @@ impl Model for Machine {
 
     ghost view = { λ m. record {
       script = m.script;
-      frames = m.frames;
-      spaces = m.spaces.items;
-      births = m.births.items;
+      parts = m.parts;
       seats = m.seats.items;
       turns = m.turns;
     } };
 
     ghost invariant = { λ m. IsMachine (record {
       script = m.script;
-      frames = m.frames;
-      spaces = m.spaces.items;
-      births = m.births.items;
+      parts = m.parts;
       seats = m.seats.items;
       turns = m.turns;
     }) };
@@ -62,17 +53,12 @@ impl Machine {
     pub fn new(alloc: Global, script: &Script) -> Result<Machine, NoMemory>
         ensures { IfOk result (IsNew script.now) }
     {
-        let (movable, normal, _tables) = script.frames();
-        let spaces = empty_spaces(alloc, script.processes())?;
-        let births = births::first(alloc, script)?;
+        let parts = parts::first(alloc, script)?;
         let seats = seats::first(alloc, script.actors())?;
-        let frames = Frames::new(alloc, movable, normal)?;
         let script = script.copy()?;
         Ok(Machine {
             script,
-            frames,
-            spaces,
-            births,
+            parts,
             seats,
             turns: 0,
         })
@@ -89,17 +75,16 @@ impl Machine {
         self.rests();
         take_turn(
             &self.script,
-            &mut self.frames,
-            &mut self.spaces,
-            &mut self.births,
+            &mut self.parts,
             &mut self.seats,
             &mut self.turns,
             actor,
         )
     }
 
-    /// What the actor waits for before its next turn, if it waits: that its process is born, or else for another actor
-    /// that holds a lock of the process which the turn needs, first the structure lock, then the table lock.
+    /// What the actor waits for before its next turn, if it waits: that its process is born, or else that the pin is given
+    /// to it which it is to take, or else for another actor that holds a lock of the process which the turn needs, first
+    /// the structure lock, then the table lock.
     pub fn waits(&self, actor: ActorNo) -> Option<Waiting>
         requires { actor < length self.now.script.actors }
         ensures { (r : RunState) → Shows self.now r → result ≡ waiting_in self.now.script r actor }
@@ -111,7 +96,7 @@ impl Machine {
             return None;
         };
         let proc = process(&self.script, actor);
-        waits_for(&self.spaces, &self.births, actor, proc, seat.fork, &op)
+        waits_for(&self.parts, actor, proc, seat.fork, &op)
     }
 
     /// Whether the actor has answered all its operations.
@@ -124,9 +109,9 @@ impl Machine {
 
     /// How many frames of the zone are free.
     pub fn free_frames(&self, zone: Zone) -> u32
-        ensures { result ≡ free_of (frames_of self.now.frames) zone }
+        ensures { result ≡ free_of (frames_of self.now.parts.frames) zone }
     {
-        self.frames.free(zone)
+        self.parts.frames.free(zone)
     }
 
     // Where the actor stands.
@@ -142,19 +127,7 @@ impl Machine {
         ensures { IsAtRest self.now }
     {
         let _actors = self.script.actors();
-        self.frames.are_there();
+        self.parts.frames.are_there();
         gup_turns::reached_states_stand();
     }
-}
-
-// So many processes without mappings.
-fn empty_spaces(alloc: Global, n: u8) -> Result<Vec<Space>, NoMemory>
-    ensures many { IfOk result (λ spaces. length spaces.items ≡ n) }
-    ensures empty { IfOk result (λ spaces. All (λ (space : SpaceParts). space_of space ≡ no_space) spaces.items) }
-{
-    let mut spaces = Vec::new(alloc);
-    for _p in 0..n {
-        spaces.push(Space::new(alloc)?)?;
-    }
-    Ok(spaces)
 }

@@ -9,7 +9,7 @@ use gup_ops::ForkPlace;
 use gup_script::Op;
 use std::alloc::Global;
 
-/// Where an actor stands: how many operations it has answered, over how many pages the present one has gone, and where
+/// Where an actor stands: how many operations it has answered, over how many pages or words the present one has gone, and where
 /// its fork stands, if it is in the middle of one.
 #[derive(Clone, Copy, Debug)]
 pub struct Seat {
@@ -49,7 +49,7 @@ pub fn set_seat(seats: &mut Vec<Seat>, actor: ActorNo, seat: &Seat)
     seats[actor.get() as usize] = *seat;
 }
 
-/// Behind a turn of its present operation an actor stands at the next page, or at the next operation, and its fork
+/// Behind a turn of its present operation an actor stands at the next page or word, or at the next operation, and its fork
 /// there.
 pub fn behind(seat: &Seat, op: &Op, answered: bool, fork: ForkPlace) -> Seat
     requires few { seat.now.answered + 1 < 2 ^ 32 }
@@ -71,15 +71,16 @@ pub fn behind(seat: &Seat, op: &Op, answered: bool, fork: ForkPlace) -> Seat
     }
 }
 
-// Only an operation that goes over pages counts them.
+// Only an operation that goes over pages or words counts them, but for an unpin.
 fn far_of(op: &Op, far: u16) -> u16
     requires op { IsOp op.now }
     requires far { HasFar op.now far }
     ensures { result ≡ far_behind op.now far }
 {
     match op {
-        Op::Unmap { .. } | Op::Discard { .. } => far + 1,
+        Op::Unmap { .. } | Op::Discard { .. } | Op::Pin { .. } | Op::Transfer { .. } => far + 1,
         Op::Map { .. } | Op::Protect { .. } | Op::Load { .. } | Op::Store { .. } => 0,
+        Op::Unpin { .. } | Op::Give { .. } | Op::Take { .. } => 0,
         Op::Fork { .. } | Op::Exit => 0,
     }
 }

@@ -1,5 +1,5 @@
 //! A turn of an operation among all processes.
-ghost use Rattle.std.specs.Prelude.{◌≡◌, ℕ, ◌<◌, ◌^◌, true, false, length, slice_get, Some, None, if◌then◌else◌};
+ghost use Rattle.std.specs.Prelude.{◌≡◌, ℕ, ◌<◌, ◌^◌, true, false, length, slice_get, Some, None, IsSome, IfSome, if◌then◌else◌};
 ghost use Rattle.gup_script.specs.declared.op.Op.TheVariants.{Fork};
 ghost use Rattle.gup_script.specs.Valid.{IsOp};
 ghost use Rattle.gup_frames.specs.Frames.{frames_of};
@@ -7,45 +7,122 @@ ghost use Rattle.gup_space.specs.Space.{SpaceParts, space_of};
 ghost use Rattle.gup_space.specs.Shows.{change_of};
 ghost use Rattle.gup_fork.specs.Forks.{fork_change_of};
 ghost use Rattle.gup_turns.specs.Turn.{op_turn};
-ghost use Rattle.gup_turns.specs.Reached.{IsNoFork};
+ghost use Rattle.gup_ops.specs.Alone.{IsAlone};
 ghost use Rattle.gup_ops.specs.Far.{HasFar, far_in};
 ghost use Rattle.gup_ops.specs.Forked.{place_of, IsReadyAt, IsForkTurn};
 ghost use Rattle.gup_ops.specs.Said.{whats_of, IsTurnOf};
 ghost use Rattle.gup_ops.specs.Tidy.{IsTidy, needs_table};
 ghost use Rattle.gup_core.specs.declared.births.Birth.TheVariants.{Growing, Born};
+ghost use Rattle.gup_core.specs.Doers.{HasProcess};
 ghost use Rattle.gup_core.specs.Machine.{EachSpace};
-ghost use Rattle.gup_core.specs.Goes.{IsTurnOfAll, IsReady, IsForkReady};
+ghost use Rattle.gup_core.specs.Goes.{IsTurnOfAll, IsReady};
 
 use crate::births::{Birth, set_birth};
 use crate::locks::child_of;
-use crate::seats::Seat;
-use gup_base::{ActorNo, ProcNo};
+use crate::parts::Parts;
+use gup_base::{ActorNo, HandleNo, PageNo, ProcNo};
 use gup_frames::Frames;
-use gup_ops::{ForkPlace, Said, fork, is_last, take};
+use gup_ops::{ForkPlace, Said, fork, give, is_last, pin, take, take_over, transfer, unpin};
 use gup_script::Op;
 use gup_space::Space;
 
-/// Takes a turn of the operation, and answers what it says and where the actor's fork stands then.
+/// Takes a turn of the operation, which is of this process if it is of one, and answers what it says and where the actor's
+/// fork stands then.
 pub fn take_op(
-    frames: &mut Frames,
-    spaces: &mut Vec<Space>,
-    births: &mut Vec<Birth>,
+    parts: &mut Parts,
     actor: ActorNo,
-    proc: ProcNo,
-    seat: &Seat,
+    proc: Option<ProcNo>,
+    far: u16,
+    place: ForkPlace,
     op: &Op,
 ) -> (Said, ForkPlace)
-    requires { IsReady (frames_of frames.old) spaces.old.items births.old.items proc op.now seat.now }
-    ensures spaces { length spaces.new.items ≡ length spaces.old.items }
-    ensures births { length births.new.items ≡ length births.old.items }
-    ensures turn { IsTurnOfAll frames.old frames.new spaces.old.items spaces.new.items births.old.items births.new.items
-        actor proc seat.now.far op.now seat.now.fork (whats_of result.0) result.1 }
+    requires process { HasProcess op.now → IsSome proc }
+    requires ready { (p slots : ℕ) → IfSome proc (λ q. q ≡ p) → IsReady parts.old actor p slots op.now far place }
+    ensures spaces { length parts.new.spaces.items ≡ length parts.old.spaces.items }
+    ensures births { length parts.new.births.items ≡ length parts.old.births.items }
+    ensures taken { length parts.new.taken.items ≡ length parts.old.taken.items }
+    ensures stores { length parts.new.stores.items ≡ length parts.old.stores.items }
+    ensures turn { (p slots : ℕ) → IfSome proc (λ q. q ≡ p) → IsTurnOfAll parts.old parts.new actor p slots far
+        op.now place (whats_of result.0) result.1 }
 {
-    let Some(child) = child_of(op) else {
-        let said = take_alone(spaces, frames, actor, proc, seat.far, op);
-        return (said, seat.fork);
-    };
-    take_fork(frames, spaces, births, actor, proc, child, seat.fork)
+    if let Some(child) = child_of(op) {
+        return take_fork(parts, actor, proc.unwrap(), child, place);
+    }
+    (take_single(parts, actor, proc, far, op), place)
+}
+
+// Takes a turn of an operation that is no fork.
+fn take_single(
+    parts: &mut Parts,
+    actor: ActorNo,
+    proc: Option<ProcNo>,
+    far: u16,
+    op: &Op,
+) -> Said {
+    let place = actor.get() as usize;
+    match *op {
+        Op::Pin {
+            handle,
+            page,
+            n,
+            write,
+        } => take_pin(parts, actor, proc.unwrap(), handle, page, n, write, far),
+        Op::Unpin { handle } => unpin(&mut parts.frames, &mut parts.handles, actor, handle),
+        Op::Give { handle, to } => give(&mut parts.handles, actor, handle, to),
+        Op::Take { handle } => take_over(&mut parts.handles, actor, handle),
+        Op::Transfer {
+            handle,
+            outward,
+            index,
+            slot,
+            n,
+        } => transfer(
+            &mut parts.frames,
+            &parts.handles,
+            &mut parts.stores[place],
+            actor,
+            handle,
+            outward,
+            index,
+            slot,
+            n,
+            far,
+        ),
+        _ => take_alone(
+            &mut parts.spaces,
+            &mut parts.frames,
+            actor,
+            proc.unwrap(),
+            far,
+            op,
+        ),
+    }
+}
+
+// Takes a turn of a pin.
+fn take_pin(
+    parts: &mut Parts,
+    actor: ActorNo,
+    proc: ProcNo,
+    handle: HandleNo,
+    page: PageNo,
+    n: u8,
+    write: bool,
+    far: u16,
+) -> Said {
+    pin(
+        &mut parts.spaces[proc.get() as usize],
+        &mut parts.frames,
+        &mut parts.handles,
+        &mut parts.taken[actor.get() as usize],
+        actor,
+        proc,
+        handle,
+        page,
+        n,
+        write,
+        far,
+    )
 }
 
 // Takes a turn of an operation of one process.
@@ -63,14 +140,14 @@ fn take_alone(
         → needs_table (space_of space) op.now ≡ true → (space_of space).table ≡ None }
     requires op { IsOp op.now }
     requires far { HasFar op.now far }
-    requires single { IsNoFork (Some op.now) }
+    requires alone { IsAlone op.now }
     ensures many { length spaces.new.items ≡ length spaces.old.items }
     ensures others { (q : ℕ) → (q ≡ proc → ⊥) → slice_get spaces.new.items q ≡ slice_get spaces.old.items q }
-    ensures turn { (old new : SpaceParts) (k : ℕ)
+    ensures turn { (old new : SpaceParts) (slots k : ℕ)
         → slice_get spaces.old.items proc ≡ Some old → slice_get spaces.new.items proc ≡ Some new
         → far ≡ far_in (Some op.now) k
         → IsTurnOf (change_of frames.old frames.new old new) proc
-        (λ s. op_turn s actor proc k op.now) (whats_of result) }
+        (λ s. op_turn s actor proc slots k op.now) (whats_of result) }
 {
     take(
         &mut spaces[proc.get() as usize],
@@ -84,25 +161,21 @@ fn take_alone(
 
 // Takes a turn of a fork of the process into this child, which grows from the first turn on, and is born with the last.
 fn take_fork(
-    frames: &mut Frames,
-    spaces: &mut Vec<Space>,
-    births: &mut Vec<Birth>,
+    parts: &mut Parts,
     actor: ActorNo,
     proc: ProcNo,
     child: ProcNo,
     place: ForkPlace,
-) -> (Said, ForkPlace)
-    requires there { proc < length spaces.old.items }
-    requires tidy { EachSpace (IsTidy (frames_of frames.old)) spaces.old.items }
-    requires fork { IsForkReady (frames_of frames.old) spaces.old.items births.old.items proc child place }
-    ensures spaces { length spaces.new.items ≡ length spaces.old.items }
-    ensures births { length births.new.items ≡ length births.old.items }
-    ensures turn { (far : ℕ)
-        → IsTurnOfAll frames.old frames.new spaces.old.items spaces.new.items births.old.items births.new.items
-        actor proc far (Fork child) place (whats_of result.0) result.1 }
-{
-    let (said, next) = fork_two(frames, spaces, actor, proc, child, place);
-    set_birth(births, child, birth_behind(is_last(&said)));
+) -> (Said, ForkPlace) {
+    let (said, next) = fork_two(
+        &mut parts.frames,
+        &mut parts.spaces,
+        actor,
+        proc,
+        child,
+        place,
+    );
+    set_birth(&mut parts.births, child, birth_behind(is_last(&said)));
     (said, next)
 }
 

@@ -43,6 +43,16 @@ impl Turn {
         }
     }
 
+    /// A turn of three notes.
+    pub(crate) fn three(first: Note, second: Note, third: Note) -> Self
+        ensures { result ≡ first ∷ second ∷ third ∷ [] }
+    {
+        Turn {
+            notes: [first, second, third],
+            len: 3,
+        }
+    }
+
     /// The notes in order: at least one, and three at most.
     pub fn notes(&self) -> &[Note]
         ensures notes { result.now ≡ self.now }

@@ -1,44 +1,37 @@
 //! A turn of an actor.
 ghost use Rattle.std.specs.Prelude.{◌≡◌, ◌+◌, ◌-◌, ◌<◌, [], ◌∷◌, length, slice_get, Some, Option};
 ghost use Rattle.gup_follows.specs.Follows.{notes_of_turn};
-ghost use Rattle.gup_follows.specs.Place.{ops_of, process_of, process_of_kind};
+ghost use Rattle.gup_follows.specs.Place.{ops_of, doer};
 ghost use Rattle.gup_ops.specs.Said.{whats_of};
-ghost use Rattle.gup_core.specs.Machine.{machine_of, counted, IsMachine, TakesTurns};
+ghost use Rattle.gup_core.specs.Doers.{IsProcessOf};
+ghost use Rattle.gup_core.specs.Machine.{machine_of, counted, AreParts, IsMachine, TakesTurns};
 ghost use Rattle.gup_core.specs.Rest.{IsAtRest};
 
-use crate::births::Birth;
 use crate::locks::waits_for;
+use crate::parts::Parts;
 use crate::seats::{self, Seat, seat_of, set_seat};
 use crate::takes::take_op;
 use crate::turn::Turn;
 use gup_base::{ActorNo, ProcNo};
-use gup_frames::Frames;
 use gup_ops::{Said, is_last};
 use gup_plain::{Note, What};
 use gup_script::{Kind, Op, Script};
-use gup_space::Space;
 
 /// Takes the turn of an actor: idle where it has finished, without an event where it waits, else that of its operation.
 pub fn take_turn(
     script: &Script,
-    frames: &mut Frames,
-    spaces: &mut Vec<Space>,
-    births: &mut Vec<Birth>,
+    parts: &mut Parts,
     seats: &mut Vec<Seat>,
     turns: &mut u32,
     actor: ActorNo,
 ) -> Turn
     requires actor { actor < length script.now.actors }
-    requires machine { IsMachine
-        (machine_of script.now frames.old spaces.old.items births.old.items seats.old.items turns.old) }
-    requires rest { IsAtRest
-        (machine_of script.now frames.old spaces.old.items births.old.items seats.old.items turns.old) }
-    ensures spaces { length spaces.new.items ≡ length spaces.old.items }
-    ensures births { length births.new.items ≡ length births.old.items }
+    requires machine { IsMachine (machine_of script.now parts.old seats.old.items turns.old) }
+    requires rest { IsAtRest (machine_of script.now parts.old seats.old.items turns.old) }
+    ensures parts { AreParts script.now parts.new }
     ensures seats { length seats.new.items ≡ length seats.old.items }
-    ensures turn { TakesTurns
-        (machine_of script.now frames.old spaces.old.items births.old.items seats.old.items turns.old)
-        (machine_of script.now frames.new spaces.new.items births.new.items seats.new.items turns.new) actor result }
+    ensures turn { TakesTurns (machine_of script.now parts.old seats.old.items turns.old)
+        (machine_of script.now parts.new seats.new.items turns.new) actor result }
 {
     gup_turns::reached_states_stand();
     let seat = seat_of(seats, actor);
@@ -47,11 +40,11 @@ pub fn take_turn(
     let Some(op) = op_at(ops(script, actor), seat.answered) else {
         return note(number, actor, seat.answered + 1, What::Idle);
     };
-    let proc = process(script, actor);
-    if let Some(waiting) = waits_for(spaces, births, actor, proc, seat.fork, &op) {
+    if let Some(waiting) = waits_for(parts, actor, process(script, actor), seat.fork, &op) {
         return note(number, actor, seat.answered + 1, What::Wait(waiting));
     }
-    let (said, fork) = take_op(frames, spaces, births, actor, proc, &seat, &op);
+    let proc = process(script, actor);
+    let (said, fork) = take_op(parts, actor, proc, seat.far, seat.fork, &op);
     let next = seats::behind(&seat, &op, is_last(&said), fork);
     set_seat(seats, actor, &next);
     notes(number, actor, seat.answered + 1, &said)
@@ -75,13 +68,19 @@ fn note(turn: u32, actor: ActorNo, op: u32, what: What) -> Turn
 fn notes(turn: u32, actor: ActorNo, op: u32, said: &Said) -> Turn
     ensures { result ≡ notes_of_turn turn actor op (whats_of said.now) }
 {
-    match (said.event, said.answer) {
-        (None, None) => note(turn, actor, op, What::Silent),
-        (None, Some(answer)) => note(turn, actor, op, What::Done(answer)),
-        (Some(event), None) => note(turn, actor, op, What::Event(event)),
-        (Some(event), Some(answer)) => Turn::two(
-            Note::new(turn, actor, op, What::Event(event)),
-            Note::new(turn, actor, op, What::Done(answer)),
+    let of = |what| Note::new(turn, actor, op, what);
+    match (said.event, said.next, said.answer) {
+        (None, None, None) => Turn::one(of(What::Silent)),
+        (None, None, Some(answer)) => Turn::one(of(What::Done(answer))),
+        (Some(event), None, None) | (None, Some(event), None) => Turn::one(of(What::Event(event))),
+        (Some(event), None, Some(answer)) | (None, Some(event), Some(answer)) => {
+            Turn::two(of(What::Event(event)), of(What::Done(answer)))
+        }
+        (Some(event), Some(next), None) => Turn::two(of(What::Event(event)), of(What::Event(next))),
+        (Some(event), Some(next), Some(answer)) => Turn::three(
+            of(What::Event(event)),
+            of(What::Event(next)),
+            of(What::Done(answer)),
         ),
     }
 }
@@ -101,19 +100,17 @@ pub fn ops(script: &Script, actor: ActorNo) -> &[Op]
     script.ops(actor)
 }
 
-/// The process of a thread.
-pub fn process(script: &Script, actor: ActorNo) -> ProcNo
+/// The process of a thread; devices and the mover are of none.
+pub fn process(script: &Script, actor: ActorNo) -> Option<ProcNo>
     requires { actor < length script.now.actors }
-    ensures { result ≡ process_of script.now actor }
+    ensures { IsProcessOf (doer script.now actor) result }
 {
     process_named(script.kind(actor))
 }
 
-fn process_named(kind: Kind) -> ProcNo
-    ensures { result ≡ process_of_kind kind }
-{
+fn process_named(kind: Kind) -> Option<ProcNo> {
     match kind {
-        Kind::Thread(proc) => proc,
-        Kind::Device(_) | Kind::Mover => ProcNo::new(0).unwrap(),
+        Kind::Thread(proc) => Some(proc),
+        Kind::Device(_) | Kind::Mover => None,
     }
 }

@@ -39,6 +39,14 @@ writes_alone F F' S S' page e mark count free is one had frames space =
 pub got_writable : (S S' : SpaceValue) (page f : ℕ) → S' ≡ with_entry page (Some (entry_of f true)) S → IsWritable (S'.entry page)
 got_writable S S' page f is = has_entry (S'.entry page) (λ e. e.writable ≡ true) (entry_of f true) (got S S' page (entry_of f true) is) refl
 
+-- and its frame marked
+pub got_marked : (F : FramesValue) (S S' : SpaceValue) (page f : ℕ) → S' ≡ with_entry page (Some (entry_of f true)) S → F.mark f ≡ true → IsMarked F (S'.entry page)
+got_marked F S S' page f is marked =
+    has_entry (S'.entry page) (λ e. F.mark e.frame ≡ true) (entry_of f true) (got S S' page (entry_of f true) is) marked
+
+pub mark_put : (F F' : FramesValue) (f : ℕ) → F' ≡ with_mark f true F → F'.mark f ≡ true
+mark_put F F' f frames = ap (λ (x : FramesValue). x.mark f) frames ∙ put_here f true F.mark
+
 -- ---- an entry whose frame gets its mark
 
 unshares_alone_is : (a p page : ℕ) (e : Entry) (mark : Bool) (count : ℕ) (free : Option ℕ) → mark ≡ false → count ≡ 1 → unshares a p page e mark count free ≡ Ok (marks a p page e)

@@ -1,5 +1,6 @@
 //! Pages that are made ready to be read, to be pinned for reading, or to be written.
 ghost use Rattle.std.specs.Prelude.{◌≡◌, ℕ, true, false, Some, None, Ok, OnOk, IsSome};
+ghost use Rattle.gup_base.specs.declared.entry.Entry.{Entry as EntryValue};
 ghost use Rattle.gup_frames.specs.Frames.{frames_of, free_frame};
 ghost use Rattle.gup_events.specs.Fault.{read_fault, unshare_fault, unshares, write_fault, makes_writable};
 ghost use Rattle.gup_space.specs.Space.{space_of, HasRoom};
@@ -116,6 +117,9 @@ pub fn ready_write(
         (λ a p. write_fault a p page ((space_of space.old).right page) ((space_of space.old).entry page)
         (frames_of frames.old).mark (frames_of frames.old).count (free_frame (frames_of frames.old) allowed)) }
     ensures writable { OnOk result (IsWritable ((space_of space.new).entry page)) }
+    ensures marked { ((e : EntryValue) → (space_of space.old).entry page ≡ Some e → e.writable ≡ true
+        → (frames_of frames.old).mark e.frame ≡ true)
+        → OnOk result (IsMarked (frames_of frames.new) ((space_of space.new).entry page)) }
     ensures alone { KeepsAlone (change_of frames.old frames.new space.old space.new) page }
 {
     match space.rights_at(page) {
@@ -147,6 +151,7 @@ fn make_writable(
         (λ a p. makes_writable a p page entry ((frames_of frames.old).mark entry.frame) ((frames_of frames.old).count entry.frame)
         (free_frame (frames_of frames.old) allowed)) }
     ensures writable { OnOk result (IsWritable ((space_of space.new).entry page)) }
+    ensures marked { OnOk result (IsMarked (frames_of frames.new) ((space_of space.new).entry page)) }
     ensures alone { KeepsAlone (change_of frames.old frames.new space.old space.new) page }
 {
     let upgraded = Some(Entry {

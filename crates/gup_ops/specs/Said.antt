@@ -12,29 +12,35 @@ use Rattle.gup_events.specs.Invariant.{run}
 use Rattle.gup_turns.specs.Turn.{Taken}
 use Rattle.gup_ops.specs.declared.said.Said.{Said}
 
--- a turn without an event that answers nothing is silent
-abbrev pub whats_by : Option PlainEvent → Option Answer → List What
-whats_by None None = Silent ∷ []
-whats_by None (Some answer) = Done answer ∷ []
-whats_by (Some event) None = Event event ∷ []
-whats_by (Some event) (Some answer) = Event event ∷ Done answer ∷ []
+-- a turn without an event that answers nothing is silent; a pin is made at an event of its own, behind that of its page
+abbrev pub answer_what : Option Answer → List What
+answer_what None = []
+answer_what (Some answer) = Done answer ∷ []
+
+abbrev pub event_what : Option PlainEvent → List What → List What
+event_what None whats = whats
+event_what (Some event) whats = Event event ∷ whats
+
+abbrev pub whats_by : (event next : Option PlainEvent) → Option Answer → List What
+whats_by None None None = Silent ∷ []
+whats_by event next answer = event_what event (event_what next (answer_what answer))
 
 abbrev pub whats_of : Said → List What
-whats_of said = whats_by said.event said.answer
+whats_of said = whats_by said.event said.next said.answer
 
 -- what the turn of one of several pages says: its event where it was mapped, and the answer at the last page
 abbrev pub passed_said : (mapped : Bool) → PlainEvent → (last : Bool) → Said
 passed_said mapped event last =
-    record { event = if mapped then Some event else None; answer = if last then Some answers.Plain else None }
+    record { event = if mapped then Some event else None; next = None; answer = if last then Some answers.Plain else None }
 
 -- what a load says that reads this value, and what a store says
 abbrev pub loaded_said : (a p page word value : ℕ) → Said
 loaded_said a p page word value =
-    record { event = Some (events.Load a p page word value); answer = Some (answers.Value value) }
+    record { event = Some (events.Load a p page word value); next = None; answer = Some (answers.Value value) }
 
 abbrev pub stored_said : (a p page word value : ℕ) → Said
 stored_said a p page word value =
-    record { event = Some (events.Store a p page word value); answer = Some answers.Plain }
+    record { event = Some (events.Store a p page word value); next = None; answer = Some answers.Plain }
 
 -- From this state the turn of process p leads to frames and a process as they are behind the change, and says this.
 pub record Leads (c : Change) (p : ℕ) (s : CoreState) (turn : Taken) (whats : List What) : Type 0 where

@@ -186,7 +186,7 @@ fn share_turn(
 
 // The page is done: the child has what the parent has there.
 fn page_done(proc: ProcNo, child_no: ProcNo, page: PageNo) -> Said
-    ensures { result ≡ record { event = Some (PlainEvent.ForkPage proc child_no page); answer = None } }
+    ensures { result ≡ record { event = Some (PlainEvent.ForkPage proc child_no page); next = None; answer = None } }
 {
     happened(PlainEvent::ForkPage {
         parent: proc,
@@ -197,20 +197,22 @@ fn page_done(proc: ProcNo, child_no: ProcNo, page: PageNo) -> Said
 
 // An event, and no answer yet.
 fn happened(event: PlainEvent) -> Said
-    ensures { result ≡ record { event = Some event; answer = None } }
+    ensures { result ≡ record { event = Some event; next = None; answer = None } }
 {
     Said {
         event: Some(event),
+        next: None,
         answer: None,
     }
 }
 
 // Neither an event nor an answer.
 fn silent() -> Said
-    ensures { result ≡ record { event = None; answer = None } }
+    ensures { result ≡ record { event = None; next = None; answer = None } }
 {
     Said {
         event: None,
+        next: None,
         answer: None,
     }
 }

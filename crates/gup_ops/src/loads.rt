@@ -138,7 +138,7 @@ pub fn allows_store(entry: Option<Entry>) -> bool
 }
 
 // What a fault that is denied answers.
-fn answer_of(denied: Denied) -> Answer
+pub(crate) fn answer_of(denied: Denied) -> Answer
     ensures { result ≡ answered denied }
 {
     match denied {

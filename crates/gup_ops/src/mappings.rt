@@ -39,7 +39,7 @@ pub fn map(
 
 // The mapping's event and answer.
 fn mapped(actor: ActorNo, proc: ProcNo, page: PageNo, n: u16, rights: Rights) -> Said
-    ensures { result ≡ record { event = Some (PlainEvent.Map actor proc page n rights); answer = Some Answer.Plain } }
+    ensures { result ≡ record { event = Some (PlainEvent.Map actor proc page n rights); next = None; answer = Some Answer.Plain } }
 {
     let event = PlainEvent::Map {
         actor,
@@ -78,7 +78,7 @@ pub fn protect(
 // The protection's event and answer.
 fn protected(actor: ActorNo, proc: ProcNo, page: PageNo, n: u16, rights: Rights) -> Said
     ensures { result
-        ≡ record { event = Some (PlainEvent.Protect actor proc page n rights); answer = Some Answer.Plain } }
+        ≡ record { event = Some (PlainEvent.Protect actor proc page n rights); next = None; answer = Some Answer.Plain } }
 {
     let event = PlainEvent::Protect {
         actor,

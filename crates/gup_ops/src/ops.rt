@@ -5,9 +5,9 @@ ghost use Rattle.gup_frames.specs.Frames.{frames_of};
 ghost use Rattle.gup_space.specs.Space.{space_of};
 ghost use Rattle.gup_space.specs.Shows.{change_of};
 ghost use Rattle.gup_turns.specs.Turn.{op_turn};
-ghost use Rattle.gup_turns.specs.Reached.{IsNoFork};
 ghost use Rattle.gup_ops.specs.Tidy.{IsTidy, needs_table as table_needed};
 ghost use Rattle.gup_ops.specs.Said.{whats_of, IsTurnOf};
+ghost use Rattle.gup_ops.specs.Alone.{IsAlone};
 ghost use Rattle.gup_ops.specs.Far.{HasFar, far_in};
 
 use crate::loads::{allows_store, load, store};
@@ -20,8 +20,8 @@ use gup_plain::Answer;
 use gup_script::Op;
 use gup_space::Space;
 
-/// Takes a turn of the operation, which is no fork and has gone over so many pages. Nobody holds the table lock, if the
-/// turn needs it.
+/// Takes a turn of the operation, which is over one process and the frames and has gone over so many pages. Nobody holds
+/// the table lock, if the turn needs it.
 pub fn take(
     space: &mut Space,
     frames: &mut Frames,
@@ -34,10 +34,10 @@ pub fn take(
     requires table { table_needed (space_of space.old) op.now ≡ true → (space_of space.old).table ≡ None }
     requires op { IsOp op.now }
     requires far { HasFar op.now far }
-    requires single { IsNoFork (Some op.now) }
-    ensures { (k : ℕ) → far ≡ far_in (Some op.now) k
+    requires alone { IsAlone op.now }
+    ensures { (slots k : ℕ) → far ≡ far_in (Some op.now) k
         → IsTurnOf (change_of frames.old frames.new space.old space.new) proc
-        (λ s. op_turn s actor proc k op.now) (whats_of result) }
+        (λ s. op_turn s actor proc slots k op.now) (whats_of result) }
 {
     match *op {
         Op::Map { page, n, rights } => map(space, frames, actor, proc, page, n, rights),
@@ -60,13 +60,14 @@ pub fn take(
         ),
         Op::Load { page, word } => load(space, frames, actor, proc, page, word),
         Op::Store { page, word, value } => store(space, frames, actor, proc, page, word, value),
-        Op::Fork { .. } => refused(Answer::Unborn),
+        Op::Pin { .. } | Op::Unpin { .. } | Op::Give { .. } => refused(Answer::Unborn),
+        Op::Take { .. } | Op::Transfer { .. } | Op::Fork { .. } => refused(Answer::Unborn),
         Op::Exit => exit(space, frames, actor, proc),
     }
 }
 
 /// Whether a turn of the operation needs the table lock of its process: a load or a store does where its entry doesn't
-/// allow it.
+/// allow it, and what is done with a pin that is made does not.
 pub fn needs_table(space: &Space, op: &Op) -> bool
     ensures { result ≡ table_needed (space_of space.now) op.now }
 {
@@ -74,6 +75,7 @@ pub fn needs_table(space: &Space, op: &Op) -> bool
         Op::Load { page, .. } => space.entry(page).is_none(),
         Op::Store { page, .. } => !allows_store(space.entry(page)),
         Op::Map { .. } | Op::Unmap { .. } | Op::Protect { .. } | Op::Discard { .. } => true,
-        Op::Fork { .. } | Op::Exit => true,
+        Op::Pin { .. } | Op::Fork { .. } | Op::Exit => true,
+        Op::Unpin { .. } | Op::Give { .. } | Op::Take { .. } | Op::Transfer { .. } => false,
     }
 }

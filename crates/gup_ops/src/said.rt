@@ -3,30 +3,33 @@ ghost use Rattle.std.specs.Prelude.{◌≡◌, is_some, None, Some};
 
 use gup_plain::{Answer, PlainEvent};
 
-/// What a turn of an operation says: the event that stands at it, if one does, and the answer, if the turn ends the
-/// operation.
+/// What a turn of an operation says: the event that stands at it, if one does, a second one behind that, and the answer,
+/// if the turn ends the operation.
 #[derive(Clone, Copy)]
 pub struct Said {
     pub event: Option<PlainEvent>,
+    pub next: Option<PlainEvent>,
     pub answer: Option<Answer>,
 }
 
 /// An answer alone: the operation has changed nothing.
 pub fn refused(answer: Answer) -> Said
-    ensures { result ≡ record { event = None; answer = Some answer } }
+    ensures { result ≡ record { event = None; next = None; answer = Some answer } }
 {
     Said {
         event: None,
+        next: None,
         answer: Some(answer),
     }
 }
 
 /// An event and an answer.
 pub fn done(event: PlainEvent, answer: Answer) -> Said
-    ensures { result ≡ record { event = Some event; answer = Some answer } }
+    ensures { result ≡ record { event = Some event; next = None; answer = Some answer } }
 {
     Said {
         event: Some(event),
+        next: None,
         answer: Some(answer),
     }
 }

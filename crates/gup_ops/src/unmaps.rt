@@ -58,7 +58,11 @@ fn passed(mapped: bool, event: PlainEvent, last: bool) -> Said
 {
     let event = if mapped { Some(event) } else { None };
     let answer = if last { Some(Answer::Plain) } else { None };
-    Said { event, answer }
+    Said {
+        event,
+        next: None,
+        answer,
+    }
 }
 
 fn first_page() -> PageNo
@@ -80,6 +84,7 @@ pub fn exit(space: &mut Space, frames: &mut Frames, actor: ActorNo, proc: ProcNo
     let _mapped = take_down(space, frames, page);
     Said {
         event: Some(PlainEvent::Unmap { actor, proc, page }),
+        next: None,
         answer: None,
     }
 }

@@ -12,9 +12,9 @@ abbrev pub actor_of : Option Named → Option ℕ
 actor_of (Some (named.Actor a)) = Some a
 actor_of _ = None
 
-abbrev pub is_pin_name : Option Named → Bool
-is_pin_name (Some (named.Pin h)) = true
-is_pin_name _ = false
+abbrev pub pin_of : Option Named → Option ℕ
+pin_of (Some (named.Pin h)) = Some h
+pin_of _ = None
 
 abbrev pub is_got_name : Option Named → Bool
 is_got_name (Some (named.Got h)) = true

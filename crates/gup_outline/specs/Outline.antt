@@ -1,13 +1,14 @@
 -- What the lines so far have made: the script up to here, its names, and what counts and comes once.
-use Rattle.std.specs.Prelude.{ℕ, ◌+◌, ◌*◌, ◌/◌, ◌%◌, ◌^◌, ◌==◌, Bool, true, false, not, List, [], ◌∷◌, ◌++◌, length, count_by, slice_get, Option, Some, None, zero, suc}
+use Rattle.std.specs.Prelude.{ℕ, ◌+◌, ◌*◌, ◌/◌, ◌%◌, ◌^◌, ◌==◌, ◌||◌, nat_lt, Bool, true, false, not, if◌then◌else◌, List, [], ◌∷◌, ◌++◌, length, count_by, slice_get, Option, Some, None, zero, suc}
 use Rattle.std.specs.List.{list_any}
 use Rattle.gup_names.specs.Names.{Entry, declared}
 use Rattle.gup_names.specs.declared.names.Named.TheVariants as named
 use Rattle.gup_script.specs.declared.op.Kind.{Kind}
 use Rattle.gup_script.specs.declared.op.Kind.TheVariants.{Thread, Device, Mover}
 use Rattle.gup_script.specs.declared.op.Op.{Op}
-use Rattle.gup_script.specs.declared.op.Op.TheVariants.{Map, Unmap, Protect, Discard, Load, Store, Fork, Exit}
+use Rattle.gup_script.specs.declared.op.Op.TheVariants.{Map, Unmap, Protect, Discard, Load, Store, Pin, Unpin, Give, Take, Transfer, Fork, Exit}
 use Rattle.gup_script.specs.Script.{ScriptValue, Process, Actor, FrameCounts}
+use Rattle.gup_script.specs.Limits.{most_handles}
 
 pub record Outline : Type 0 where
   pub script : ScriptValue
@@ -17,6 +18,8 @@ pub record Outline : Type 0 where
   pub operations : ℕ
   -- is there a `seed` line?
   pub seeded : Bool
+  -- is there a `fork` line?
+  pub forked : Bool
 
 -- the three numbers of a `frames` line
 abbrev pub frame_counts : ℕ × ℕ × ℕ → FrameCounts
@@ -29,9 +32,10 @@ empty_outline counts =
       names = [];
       operations = 0;
       seeded = false;
+      forked = false;
     }
 
--- one more process, actor or operation; more written turns; the seed
+-- one more process, actor, handle or operation; more written turns; the seed
 
 abbrev pub with_process : List ℕ → Bool → Outline → Outline
 with_process name born st =
@@ -47,6 +51,29 @@ with_actor name kind st =
       names = declared st.names name (named.Actor (length st.script.actors));
     }
 
+-- the handle of a pin
+abbrev pub with_handle : List ℕ → Outline → Outline
+with_handle name st =
+    record st {
+      script = record st.script { handles = st.script.handles ++ name ∷ [] };
+      names = declared st.names name (named.Pin (length st.script.handles));
+    }
+
+abbrev pub is_fork : Op → Bool
+is_fork (Fork child) = true
+is_fork (Map page n rights) = false
+is_fork (Unmap page n) = false
+is_fork (Protect page n rights) = false
+is_fork (Discard page n) = false
+is_fork (Load page word) = false
+is_fork (Store page word value) = false
+is_fork (Pin handle page n write) = false
+is_fork (Unpin handle) = false
+is_fork (Give handle to) = false
+is_fork (Take handle) = false
+is_fork (Transfer handle outward index slot n) = false
+is_fork Exit = false
+
 abbrev pub with_op : ℕ → Op → List Actor → List Actor
 with_op k op [] = []
 with_op zero op (a ∷ actors) = record a { ops = a.ops ++ op ∷ [] } ∷ actors
@@ -57,6 +84,7 @@ with_operation a op st =
     record st {
       script = record st.script { actors = with_op a op st.script.actors };
       operations = st.operations + 1;
+      forked = st.forked || is_fork op;
     }
 
 abbrev pub with_turns : List ℕ → Outline → Outline
@@ -105,10 +133,22 @@ forks_child p (Protect page n rights) = false
 forks_child p (Discard page n) = false
 forks_child p (Load page word) = false
 forks_child p (Store page word value) = false
+forks_child p (Pin handle page n write) = false
+forks_child p (Unpin handle) = false
+forks_child p (Give handle to) = false
+forks_child p (Take handle) = false
+forks_child p (Transfer handle outward index slot n) = false
 forks_child p Exit = false
 
 abbrev pub is_forked : Outline → ℕ → Bool
 is_forked st p = list_any (λ (a : Actor). list_any (forks_child p) a.ops) st.script.actors
+
+-- the number of the next handle, if there may be one more
+abbrev pub next_handle : Outline → Option ℕ
+next_handle st = if nat_lt (length st.script.handles) most_handles then Some (length st.script.handles) else None
+
+abbrev pub has_handles : Outline → Bool
+has_handles st = nat_lt 0 (length st.script.handles)
 
 -- an actor to which a handle can be given: a thread or a device
 abbrev pub is_receiver_at : Option Actor → Bool

@@ -6,7 +6,13 @@ use Rattle.gup_outline.specs.Room.{IsWithin}
 
 abbrev pub outline_value : Inside → Outline
 outline_value r =
-    record { script = script_value r.contents; names = r.names; operations = r.operations; seeded = r.seeded }
+    record {
+      script = script_value r.contents;
+      names = r.names;
+      operations = r.operations;
+      seeded = r.seeded;
+      forked = r.forked;
+    }
 
 abbrev pub IsWithinLimits : Inside → Type 0
 IsWithinLimits r = IsWithin (outline_value r)

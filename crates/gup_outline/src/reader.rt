@@ -3,12 +3,12 @@ ghost use Rattle.std.specs.Prelude.{◌≡◌, ◌↔◌, ◌<◌, ◌≤◌, �
 ghost use Rattle.std.specs.List.{list_any};
 ghost use Rattle.gup_names.specs.Names.{find, is_unused};
 ghost use Rattle.gup_script.specs.Script.{actor_at, process_at};
-ghost use Rattle.gup_outline.specs.Outline.{frame_counts, empty_outline, with_process, with_actor, with_operation, with_turns, with_seed, draws, is_thread, is_device, is_mover, how_many, has_mover, is_child, forks_child, is_forked, is_receiver};
+ghost use Rattle.gup_outline.specs.Outline.{frame_counts, empty_outline, with_process, with_actor, with_handle, with_operation, with_turns, with_seed, draws, is_thread, is_device, is_mover, how_many, has_mover, is_child, is_fork, forks_child, is_forked, next_handle, has_handles, is_receiver};
 ghost use Rattle.gup_outline.specs.Room.{HasRoomFor};
-ghost use Rattle.gup_outline.specs.Named.{process_of, actor_of, is_pin_name, is_got_name, is_mirror_of, may_mirror};
+ghost use Rattle.gup_outline.specs.Named.{process_of, actor_of, pin_of, is_got_name, is_mirror_of, may_mirror};
 
 use crate::drawing::{push_drawn, push_times};
-use gup_base::{ActorNo, ProcNo};
+use gup_base::{ActorNo, HandleNo, ProcNo};
 use gup_names::{Named, Names};
 use gup_script::{Actor, Contents, Kind, Op, Process};
 use gup_text::is_name;
@@ -25,6 +25,7 @@ pub struct Reader {
     names: Names,
     operations: u32,
     seeded: bool,
+    forked: bool,
 }
 
 impl Model for Reader {
@@ -49,6 +50,12 @@ fn forks(ops: &[Op], p: ProcNo) -> bool
         .any(|op| matches!(op, Op::Fork { child } if *child == p))
 }
 
+fn is_fork(op: &Op) -> bool
+    ensures { result ≡ is_fork op.now }
+{
+    matches!(op, Op::Fork { .. })
+}
+
 impl Reader {
     ghost use Rattle.gup_script.specs.Views.{script_value};
 
@@ -64,12 +71,14 @@ impl Reader {
                 tables,
                 processes: Vec::new(alloc),
                 actors: Vec::new(alloc),
+                handles: Vec::new(alloc),
                 turns: Vec::new(alloc),
                 seed: 0,
             },
             names: Names::new(alloc),
             operations: 0,
             seeded: false,
+            forked: false,
         }
     }
 
@@ -82,6 +91,7 @@ impl Reader {
             names: _,
             operations: _,
             seeded: _,
+            forked: _,
         } = self;
         contents
     }
@@ -114,16 +124,14 @@ impl Reader {
         }
     }
 
-    /// Whether the word names a handle of a pin.
-    pub fn is_pin(&self, word: &str) -> bool
-        ensures { result ≡ is_pin_name (find self.now.names word.now) }
+    /// The handle of a pin that the word names.
+    pub fn pin(&self, word: &str) -> Option<HandleNo>
+        ensures { result ≡ pin_of (find self.now.names word.now) }
     {
-        let Some(named) = self.names.find(word) else {
-            return false;
-        };
+        let named = self.names.find(word)?;
         match named {
-            Named::Pin(_) => true,
-            _ => false,
+            Named::Pin(h) => Some(h),
+            _ => None,
         }
     }
 
@@ -190,6 +198,27 @@ impl Reader {
             .actors
             .iter()
             .any(|actor| forks(actor.ops.as_slice(), p))
+    }
+
+    /// Whether there is a `fork` line.
+    pub fn has_forks(&self) -> bool
+        ensures { result ≡ self.now.forked }
+    {
+        self.forked
+    }
+
+    /// The number of the next handle; `None` where there may be no more.
+    pub fn next_handle(&self) -> Option<HandleNo>
+        ensures { result ≡ next_handle self.now }
+    {
+        HandleNo::new(self.contents.handles.len() as u64)
+    }
+
+    /// Whether there is a handle.
+    pub fn has_handles(&self) -> bool
+        ensures { result ≡ has_handles self.now }
+    {
+        !self.contents.handles.is_empty()
     }
 
     /// Whether a handle can be given to the actor: a thread or a device.
@@ -296,15 +325,29 @@ impl Reader {
         self.names.declare(name, Named::Actor(number))
     }
 
+    /// One more handle, of a pin.
+    pub fn add_handle(&mut self, name: &str) -> Result<(), AllocError>
+        requires unused { is_unused self.old.names name.now ≡ true }
+        requires room { length self.old.script.handles < 1024 }
+        ensures { OnOk result (self.new ≡ with_handle name.now self.old) }
+    {
+        let alloc = *self.contents.handles.allocator();
+        let number = HandleNo::new(self.contents.handles.len() as u64).unwrap();
+        self.contents.handles.push(String::from_str(alloc, name)?)?;
+        self.names.declare(name, Named::Pin(number))
+    }
+
     /// One more operation of the actor.
     pub fn add_operation(&mut self, actor: ActorNo, op: Op) -> Result<(), AllocError>
         requires there { actor < length self.old.script.actors }
         requires room { self.old.operations < 16384 }
         ensures { OnOk result (self.new ≡ with_operation actor op self.old) }
     {
+        let forks = is_fork(&op);
         let actor = &mut self.contents.actors[actor.get() as usize];
         actor.ops.push(op)?;
         self.operations += 1;
+        self.forked |= forks;
         Ok(())
     }
 

@@ -7,7 +7,7 @@ use Rattle.gup_base.specs.declared.entry.Rights.TheVariants.{R, RW}
 use Rattle.gup_base.specs.declared.entry.Zone.{Zone}
 use Rattle.gup_base.specs.declared.entry.Zone.TheVariants.{Movable, Normal}
 use Rattle.gup_reader.specs.Said.{Word, Action, maps, unmaps, protects, discards, loads, stores, exits, pins, gets, puts, forks, unpins, takes, gives, transfers, transfers_parts, mirrors, looks, moves, action_words}
-use Rattle.gup_reader.specs.Reading.{rights_in}
+use Rattle.gup_reader.specs.Reading.{rights_in, way_in}
 
 -- ---- the words behind the operation's own, by how many there are
 
@@ -43,9 +43,6 @@ said_with say (Some x) = Some (say x)
 abbrev pub said_range : (Word → Word → Rights → Action) → List Word → Option Action
 said_range say (first ∷ count ∷ allowed ∷ []) = said_with (say first count) (rights_in allowed)
 said_range say _ = None
-
-abbrev pub way_in : Word → Option Bool
-way_in word = cond (bytes_eq word (codes "write")) (Some true) (cond (bytes_eq word (codes "read")) (Some false) None)
 
 abbrev pub zone_in : Word → Option Zone
 zone_in word = cond (bytes_eq word (codes "normal")) (Some Normal) (cond (bytes_eq word (codes "movable")) (Some Movable) None)
@@ -92,7 +89,7 @@ action_in [] = None
 action_in (word ∷ fields) = said_by word fields
 
 pub action_read : (action : Action) → action_in (action_words action) ≡ Some action
-unfolding rights_in
+unfolding rights_in way_in
 action_read (maps first count R) = refl
 action_read (maps first count RW) = refl
 action_read (unmaps first count) = refl

@@ -1,4 +1,4 @@
--- What the words of the operations that are built come to.
+-- What the words of the operations that are built come to, but for those of handles.
 use Rattle.std.proofs.Common.{◌≡◌, ℕ, Bool, true, false, cond, List, [], ◌∷◌, Option, Some, None, Ok, refl, ap, ◌∙◌, inl, inr}
 use Rattle.std.specs.Prelude.{codes}
 use Rattle.std.specs.Str.{bytes_eq}
@@ -8,11 +8,12 @@ use Rattle.gup_text.specs.Text.{range_in}
 use Rattle.gup_script.specs.declared.op.Op.TheVariants as ops
 use Rattle.gup_reader.specs.declared.refusal.Reason.TheVariants as reasons
 use Rattle.gup_reader.specs.Said.{Word, maps, unmaps, protects, discards, loads, stores, forks, exits, rights_word}
-use Rattle.gup_outline.specs.Outline.{Outline}
+use Rattle.gup_outline.specs.Outline.{Outline, has_handles}
+use Rattle.gup_reader.specs.Grammar.{NamesProcess}
 use Rattle.gup_reader.specs.Reading.{◌>>=◌, need, rights_in, map_in, unmap_in, protect_in, discard_in, load_in, store_in, fork_in, exit_in}
 use Rattle.gup_reader.proofs.Chains.{goes, checked, both, same_word}
 use Rattle.gup_reader.proofs.ActionWords.{said_with}
-use Rattle.gup_reader.proofs.Judged.{built, Told, number_step, address_step, range_step, child_step, unforked_Decides}
+use Rattle.gup_reader.proofs.Judged.{Ends, built, later, Told, number_step, address_step, range_step, child_step, unforked_Decides}
 
 -- ---- rights
 
@@ -35,7 +36,7 @@ map_told st a (first ∷ count ∷ allowed ∷ []) = way (rights_in allowed) ref
       inl (
         maps first count rights,
         ap (λ (w : Word). codes "map" ∷ first ∷ count ∷ w ∷ []) (rights_found allowed rights e),
-        goes tt (range_step 1024 first count _ (λ page n h. goes tt (goes tt (built (ops.Map page n rights) refl (page, n, h, refl))))),
+        goes tt (range_step 1024 first count _ (λ page n h. goes tt (goes tt (goes tt (built (ops.Map page n rights) refl tt (page, n, h, refl)))))),
       )
 map_told st a _ = inr (refl, refl)
 
@@ -48,20 +49,20 @@ protect_told st a (first ∷ count ∷ allowed ∷ []) = way (rights_in allowed)
       inl (
         protects first count rights,
         ap (λ (w : Word). codes "protect" ∷ first ∷ count ∷ w ∷ []) (rights_found allowed rights e),
-        goes tt (range_step 1024 first count _ (λ page n h. goes tt (goes tt (built (ops.Protect page n rights) refl (page, n, h, refl))))),
+        goes tt (range_step 1024 first count _ (λ page n h. goes tt (goes tt (goes tt (built (ops.Protect page n rights) refl tt (page, n, h, refl)))))),
       )
 protect_told st a _ = inr (refl, refl)
 
 pub unmap_told : (st : Outline) (a : ℕ) (fields : List Word) → Told st a (codes "unmap" ∷ fields) (unmap_in fields)
 unfolding unmap_in
 unmap_told st a (first ∷ count ∷ []) =
-    inl (unmaps first count, refl, goes tt (range_step 1024 first count _ (λ page n h. goes tt (goes tt (built (ops.Unmap page n) refl (page, n, h, refl))))))
+    inl (unmaps first count, refl, goes tt (range_step 1024 first count _ (λ page n h. goes tt (goes tt (goes tt (built (ops.Unmap page n) refl tt (page, n, h, refl)))))))
 unmap_told st a _ = inr (refl, refl)
 
 pub discard_told : (st : Outline) (a : ℕ) (fields : List Word) → Told st a (codes "discard" ∷ fields) (discard_in fields)
 unfolding discard_in
 discard_told st a (first ∷ count ∷ []) =
-    inl (discards first count, refl, goes tt (range_step 1024 first count _ (λ page n h. goes tt (goes tt (built (ops.Discard page n) refl (page, n, h, refl))))))
+    inl (discards first count, refl, goes tt (range_step 1024 first count _ (λ page n h. goes tt (goes tt (goes tt (built (ops.Discard page n) refl tt (page, n, h, refl)))))))
 discard_told st a _ = inr (refl, refl)
 
 -- ---- load, store, fork, exit
@@ -69,7 +70,7 @@ discard_told st a _ = inr (refl, refl)
 pub load_told : (st : Outline) (a : ℕ) (fields : List Word) → Told st a (codes "load" ∷ fields) (load_in fields)
 unfolding load_in
 load_told st a (address ∷ []) =
-    inl (loads address, refl, goes tt (address_step address _ (λ page w h. goes tt (goes tt (built (ops.Load page w) refl (page, w, h, refl))))))
+    inl (loads address, refl, goes tt (address_step address _ (λ page w h. goes tt (goes tt (goes tt (built (ops.Load page w) refl tt (page, w, h, refl)))))))
 load_told st a _ = inr (refl, refl)
 
 pub store_told : (st : Outline) (a : ℕ) (fields : List Word) → Told st a (codes "store" ∷ fields) (store_in fields)
@@ -78,7 +79,7 @@ store_told st a (address ∷ value ∷ []) =
     inl (
       stores address value,
       refl,
-      goes tt (both (address_step address _ (λ page w h. number_step value _ (λ v g. goes tt (goes tt (built (ops.Store page w v) refl (page, w, v, h, g, refl))))))),
+      goes tt (both (address_step address _ (λ page w h. number_step value _ (λ v g. goes tt (goes tt (goes tt (built (ops.Store page w v) refl tt (page, w, v, h, g, refl)))))))),
     )
 store_told st a _ = inr (refl, refl)
 
@@ -88,11 +89,15 @@ fork_told st a (child ∷ []) =
     inl (
       forks child,
       refl,
-      goes tt (goes tt (child_step st child _ (λ p h. checked _ (unforked_Decides st child p h) (λ u. built (ops.Fork p) refl (p, h, refl))))),
+      goes tt (goes tt (child_step st child _ (λ p h. checked _ (unforked_Decides st child p h) (λ u. goes tt (ends p h (has_handles st) refl))))),
     )
+  where
+    ends : (p : ℕ) → NamesProcess st child p → (b : Bool) → has_handles st ≡ b → Ends st (forks child) (Ok (cond b None (Some (ops.Fork p))))
+    ends p h true e = later refl (λ none. absurd (cc (e, none)))
+    ends p h false e = built (ops.Fork p) refl e (p, h, refl)
 fork_told st a _ = inr (refl, refl)
 
 pub exit_told : (st : Outline) (a : ℕ) (fields : List Word) → Told st a (codes "exit" ∷ fields) (exit_in fields)
 unfolding exit_in
-exit_told st a [] = inl (exits, refl, goes tt (goes tt (goes tt (goes tt (built ops.Exit refl refl)))))
+exit_told st a [] = inl (exits, refl, goes tt (goes tt (goes tt (goes tt (goes tt (built ops.Exit refl tt refl))))))
 exit_told st a _ = inr (refl, refl)

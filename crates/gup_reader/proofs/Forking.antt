@@ -1,15 +1,15 @@
--- The forks of a script: each brings a child that is declared, and no two bring one child. This stays so while lines
--- add processes, actors and operations.
-use Rattle.std.proofs.Common.{◌≡◌, ◌⊎◌, ◌==◌, ℕ, zero, suc, true, false, List, [], ◌∷◌, ◌++◌, length, slice_get, All, Option, Some, None, refl, sym, ap, subst, ◌∙◌, inl, inr}
+-- The forks and the pins of a script: what they name is declared, no two forks bring one child, no two pins make one
+-- handle, and there are not both. This stays so while lines add processes, actors, handles and operations.
+use Rattle.std.proofs.Common.{◌≡◌, ◌⊎◌, ◌==◌, ℕ, ◌<◌, ◌≤◌, zero, suc, Bool, true, false, List, [], ◌∷◌, ◌++◌, length, slice_get, All, Option, Some, None, refl, sym, ap, subst, ◌∙◌, inl, inr, arith}
 use Rattle.std.specs.List.{AllByRecursion, list_any}
 use Rattle.std.proofs.lemmas.Bool.{not-true}
 use Rattle.std.proofs.lemmas.Bool.Decides.{Decides-eqb}
 use Rattle.gup_script.specs.declared.op.Op.{Op}
-use Rattle.gup_script.specs.declared.op.Op.TheVariants.{Map, Unmap, Protect, Discard, Load, Store, Fork, Exit}
+use Rattle.gup_script.specs.declared.op.Op.TheVariants.{Map, Unmap, Protect, Discard, Load, Store, Pin, Unpin, Give, Take, Transfer, Fork, Exit}
 use Rattle.gup_script.specs.Script.{ScriptValue, Process, Actor, ops_in}
-use Rattle.gup_script.specs.Valid.{IsChild, BringsChild}
+use Rattle.gup_script.specs.Valid.{IsChild, AreDeclared}
 use Rattle.gup_outline.specs.Outline.{with_op, is_child_at, forks_child}
-use Rattle.gup_reader.proofs.Lists.{each_like, none_passes}
+use Rattle.gup_reader.proofs.Lists.{each_like, all_at, none_passes}
 
 -- ---- children that are declared
 
@@ -23,19 +23,25 @@ child_stays [] ys p h = absurd h
 child_stays (x ∷ xs) ys zero h = h
 child_stays (x ∷ xs) ys (suc p) h = child_stays xs ys p h
 
-still_brings : (s t : ScriptValue) (more : List Process) → t.processes ≡ s.processes ++ more → (op : Op) → BringsChild s op → BringsChild t op
-still_brings s t more e (Fork child) h = rw e (child_stays s.processes more child h)
-still_brings s t more e (Map page n rights) h = tt
-still_brings s t more e (Unmap page n) h = tt
-still_brings s t more e (Protect page n rights) h = tt
-still_brings s t more e (Discard page n) h = tt
-still_brings s t more e (Load page word) h = tt
-still_brings s t more e (Store page word value) h = tt
-still_brings s t more e Exit h = tt
+-- what an operation names stays declared when more is
+still_declared : (s t : ScriptValue) (more : List Process) → t.processes ≡ s.processes ++ more → length s.handles ≤ length t.handles → length s.actors ≤ length t.actors → (op : Op) → AreDeclared s op → AreDeclared t op
+still_declared s t more e handles actors (Fork child) h = rw e (child_stays s.processes more child h)
+still_declared s t more e handles actors (Pin handle page n write) h = omega arith
+still_declared s t more e handles actors (Unpin handle) h = omega arith
+still_declared s t more e handles actors (Give handle to) h = (omega (arith, h.0), omega (arith, h.1))
+still_declared s t more e handles actors (Take handle) h = omega arith
+still_declared s t more e handles actors (Transfer handle outward index slot n) h = omega arith
+still_declared s t more e handles actors (Map page n rights) h = tt
+still_declared s t more e handles actors (Unmap page n) h = tt
+still_declared s t more e handles actors (Protect page n rights) h = tt
+still_declared s t more e handles actors (Discard page n) h = tt
+still_declared s t more e handles actors (Load page word) h = tt
+still_declared s t more e handles actors (Store page word value) h = tt
+still_declared s t more e handles actors Exit h = tt
 
-pub children_stay : (s t : ScriptValue) (more : List Process) → t.processes ≡ s.processes ++ more → (actors : List Actor) → AllByRecursion (λ (a : Actor). All (BringsChild s) a.ops) actors → AllByRecursion (λ (a : Actor). All (BringsChild t) a.ops) actors
-children_stay s t more e actors h =
-    each_like (λ (a : Actor). All (BringsChild s) a.ops) (λ (a : Actor). All (BringsChild t) a.ops) actors (λ a all k d lt. still_brings s t more e _ (all k d lt)) h
+pub declared_stay : (s t : ScriptValue) (more : List Process) → t.processes ≡ s.processes ++ more → length s.handles ≤ length t.handles → length s.actors ≤ length t.actors → (all : List Actor) → AllByRecursion (λ (a : Actor). All (AreDeclared s) a.ops) all → AllByRecursion (λ (a : Actor). All (AreDeclared t) a.ops) all
+declared_stay s t more e handles actors all h =
+    each_like (λ (a : Actor). All (AreDeclared s) a.ops) (λ (a : Actor). All (AreDeclared t) a.ops) all (λ a each k d lt. still_declared s t more e handles actors _ (each k d lt)) h
 
 -- ---- operations by their places
 
@@ -43,13 +49,32 @@ children_stay s t more e actors h =
 abbrev pub OpAt : List Actor → (a k : ℕ) → Op → Type 0
 OpAt actors a k op = slice_get (ops_in (slice_get actors a)) k ≡ Some op
 
--- no two forks bring one child
-abbrev pub AreOnce : List Actor → Type 0
-AreOnce actors = (a b j k child : ℕ) → OpAt actors a j (Fork child) → OpAt actors b k (Fork child) → (a ≡ b) × (j ≡ k)
+-- the operation is a fork that brings this child, or a pin that makes this handle
+abbrev pub IsForkOf : Op → (child : ℕ) → Type 0
+IsForkOf op child = op ≡ Fork child
 
--- the operation isn't a fork that brings the child of another
-abbrev pub IsFresh : List Actor → Op → Type 0
-IsFresh actors op = (a k child : ℕ) → op ≡ Fork child → OpAt actors a k (Fork child) → ⊥
+abbrev pub IsPinOf : Op → (handle : ℕ) → Type 0
+IsPinOf op handle = (page n : ℕ) × (write : Bool) × (op ≡ Pin handle page n write)
+
+-- the actor's operation at this place brings, or makes, what has this number
+abbrev pub At : (Op → ℕ → Type 0) → List Actor → (a k number : ℕ) → Type 0
+At Brings actors a k number = (op : Op) × OpAt actors a k op × Brings op number
+
+-- no two operations bring one thing
+abbrev pub AreOnce : (Op → ℕ → Type 0) → List Actor → Type 0
+AreOnce Brings actors = (a b j k number : ℕ) → At Brings actors a j number → At Brings actors b k number → (a ≡ b) × (j ≡ k)
+
+-- the operation doesn't bring what another does
+abbrev pub IsFresh : (Op → ℕ → Type 0) → List Actor → Op → Type 0
+IsFresh Brings actors op = (a k number : ℕ) → Brings op number → At Brings actors a k number → ⊥
+
+-- none brings anything
+abbrev pub AreNone : (Op → ℕ → Type 0) → List Actor → Type 0
+AreNone Brings actors = (a k number : ℕ) → At Brings actors a k number → ⊥
+
+-- there are forks, or pins, and not both
+abbrev pub AreApart : List Actor → Type 0
+AreApart actors = (a b j k child handle : ℕ) → At IsForkOf actors a j child → At IsPinOf actors b k handle → ⊥
 
 -- an operation behind one more actor, which has none, was there before
 before_actor : (actors : List Actor) (actor : Actor) → actor.ops ≡ [] → (a k : ℕ) (op : Op) → OpAt (actors ++ actor ∷ []) a k op → OpAt actors a k op
@@ -60,9 +85,19 @@ before_actor [] actor none (suc a) k op e = e
 before_actor (x ∷ actors) actor none zero k op e = e
 before_actor (x ∷ actors) actor none (suc a) k op e = before_actor actors actor none a k op e
 
-pub actor_once : (actors : List Actor) (actor : Actor) → actor.ops ≡ [] → AreOnce actors → AreOnce (actors ++ actor ∷ [])
-actor_once actors actor none h a b j k child e f =
-    h a b j k child (before_actor actors actor none a j (Fork child) e) (before_actor actors actor none b k (Fork child) f)
+before_actor_at : (Brings : Op → ℕ → Type 0) (actors : List Actor) (actor : Actor) → actor.ops ≡ [] → (a k number : ℕ) → At Brings (actors ++ actor ∷ []) a k number → At Brings actors a k number
+before_actor_at Brings actors actor none a k number e = (e.0, before_actor actors actor none a k e.0 e.1, e.2)
+
+pub actor_once : (Brings : Op → ℕ → Type 0) (actors : List Actor) (actor : Actor) → actor.ops ≡ [] → AreOnce Brings actors → AreOnce Brings (actors ++ actor ∷ [])
+actor_once Brings actors actor none h a b j k number e f =
+    h a b j k number (before_actor_at Brings actors actor none a j number e) (before_actor_at Brings actors actor none b k number f)
+
+pub actor_none : (Brings : Op → ℕ → Type 0) (actors : List Actor) (actor : Actor) → actor.ops ≡ [] → AreNone Brings actors → AreNone Brings (actors ++ actor ∷ [])
+actor_none Brings actors actor none h a k number e = h a k number (before_actor_at Brings actors actor none a k number e)
+
+pub actor_apart : (actors : List Actor) (actor : Actor) → actor.ops ≡ [] → AreApart actors → AreApart (actors ++ actor ∷ [])
+actor_apart actors actor none h a b j k child handle e f =
+    h a b j k child handle (before_actor_at IsForkOf actors actor none a j child e) (before_actor_at IsPinOf actors actor none b k handle f)
 
 -- an operation behind one more of an actor was there before, or is this one, at the end of the actor's
 at_end : (ops : List Op) (new : Op) (k : ℕ) (op : Op) → slice_get (ops ++ new ∷ []) k ≡ Some op → (slice_get ops k ≡ Some op) ⊎ ((k ≡ length ops) × (op ≡ new))
@@ -81,18 +116,62 @@ before_op (x ∷ actors) (suc b) new zero k op e = inl e
 before_op (x ∷ actors) (suc b) new (suc a) k op e =
     elim (before_op actors b new a k op e) [ inl old ↦ inl old | inr here ↦ inr (ap (λ n. suc n) here.0, here.1, here.2) ]
 
-pub op_once : (actors : List Actor) (c : ℕ) (new : Op) → IsFresh actors new → AreOnce actors → AreOnce (with_op c new actors)
-op_once actors c new fresh h a b j k child e f =
-    way (before_op actors c new a j (Fork child) e) (before_op actors c new b k (Fork child) f)
-  where
-    IsNew : (a k : ℕ) → Type 0
-    IsNew a k = (a ≡ c) × (k ≡ length (ops_in (slice_get actors c))) × (Fork child ≡ new)
+-- and so did what it brings
+abbrev IsNew : (Op → ℕ → Type 0) → List Actor → (c : ℕ) → Op → (a k number : ℕ) → Type 0
+IsNew Brings actors c new a k number = (a ≡ c) × (k ≡ length (ops_in (slice_get actors c))) × Brings new number
 
-    way : OpAt actors a j (Fork child) ⊎ IsNew a j → OpAt actors b k (Fork child) ⊎ IsNew b k → (a ≡ b) × (j ≡ k)
-    way (inl x) (inl y) = h a b j k child x y
-    way (inl x) (inr y) = absurd (fresh a j child (sym y.2) x)
-    way (inr x) (inl y) = absurd (fresh b k child (sym x.2) y)
+before_op_at : (Brings : Op → ℕ → Type 0) (actors : List Actor) (c : ℕ) (new : Op) (a k number : ℕ) → At Brings (with_op c new actors) a k number → At Brings actors a k number ⊎ IsNew Brings actors c new a k number
+before_op_at Brings actors c new a k number e =
+    elim (before_op actors c new a k e.0 e.1) [
+      | inl old ↦ inl (e.0, old, e.2)
+      | inr here ↦ inr (here.0, here.1, subst (λ (op : Op). Brings op number) here.2 e.2)
+    ]
+
+pub op_once : (Brings : Op → ℕ → Type 0) (actors : List Actor) (c : ℕ) (new : Op) → IsFresh Brings actors new → AreOnce Brings actors → AreOnce Brings (with_op c new actors)
+op_once Brings actors c new fresh h a b j k number e f =
+    way (before_op_at Brings actors c new a j number e) (before_op_at Brings actors c new b k number f)
+  where
+    way : At Brings actors a j number ⊎ IsNew Brings actors c new a j number → At Brings actors b k number ⊎ IsNew Brings actors c new b k number → (a ≡ b) × (j ≡ k)
+    way (inl x) (inl y) = h a b j k number x y
+    way (inl x) (inr y) = absurd (fresh a j number y.2 x)
+    way (inr x) (inl y) = absurd (fresh b k number x.2 y)
     way (inr x) (inr y) = (x.0 ∙ sym y.0, x.1 ∙ sym y.1)
+
+pub op_none : (Brings : Op → ℕ → Type 0) (actors : List Actor) (c : ℕ) (new : Op) → ((number : ℕ) → Brings new number → ⊥) → AreNone Brings actors → AreNone Brings (with_op c new actors)
+op_none Brings actors c new other h a k number e =
+    elim (before_op_at Brings actors c new a k number e) [ inl old ↦ h a k number old | inr here ↦ other number here.2 ]
+
+-- a fork where there are no pins, or a pin where there are no forks
+abbrev pub IsApart : List Actor → Op → Type 0
+IsApart actors op =
+    ((child : ℕ) → IsForkOf op child → AreNone IsPinOf actors) × ((handle : ℕ) → IsPinOf op handle → AreNone IsForkOf actors)
+
+pub fork_no_pin : (op : Op) (child handle : ℕ) → IsForkOf op child → IsPinOf op handle → ⊥
+fork_no_pin op child handle f p = absurd (cc (f, p.3))
+
+pub op_apart : (actors : List Actor) (c : ℕ) (new : Op) → IsApart actors new → AreApart actors → AreApart (with_op c new actors)
+op_apart actors c new apart h a b j k child handle e f =
+    way (before_op_at IsForkOf actors c new a j child e) (before_op_at IsPinOf actors c new b k handle f)
+  where
+    way : At IsForkOf actors a j child ⊎ IsNew IsForkOf actors c new a j child → At IsPinOf actors b k handle ⊎ IsNew IsPinOf actors c new b k handle → ⊥
+    way (inl x) (inl y) = h a b j k child handle x y
+    way (inl x) (inr y) = apart.1 handle y.2 a j child x
+    way (inr x) (inl y) = apart.0 child x.2 b k handle y
+    way (inr x) (inr y) = fork_no_pin new child handle x.2 y.2
+
+-- what is true of each operation is true of one at its place
+op_is : (P : Op → Type 0) (actors : List Actor) → AllByRecursion (λ (a : Actor). All P a.ops) actors → (a k : ℕ) (op : Op) → OpAt actors a k op → P op
+op_is P [] h a k op e = absurd cc
+op_is P (actor ∷ actors) h zero k op e = all_at P actor.ops k op e h.0
+op_is P (actor ∷ actors) h (suc a) k op e = op_is P actors h.1 a k op e
+
+-- the handle of a pin is declared
+pub pin_declared : (s : ScriptValue) → AllByRecursion (λ (a : Actor). All (AreDeclared s) a.ops) s.actors → (a k handle : ℕ) → At IsPinOf s.actors a k handle → handle < length s.handles
+pin_declared s h a k handle p = subst (AreDeclared s) p.2.3 (op_is (AreDeclared s) s.actors h a k p.0 p.1)
+
+-- where no handle is declared, nothing pins
+pub none_pinned : (s : ScriptValue) → length s.handles ≡ 0 → AllByRecursion (λ (a : Actor). All (AreDeclared s) a.ops) s.actors → AreNone IsPinOf s.actors
+none_pinned s none h a k handle p = let lt = pin_declared s h a k handle p in absurd (omega arith)
 
 -- ---- a child that no fork brings so far
 

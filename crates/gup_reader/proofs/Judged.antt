@@ -1,7 +1,8 @@
 -- What an `on` line's action comes to: its tests in their order, and then an operation, or none where its kind comes
 -- later. For each form that a test has in the reader, the condition in the grammar that it tests.
-use Rattle.std.proofs.Common.{◌≡◌, ℕ, ◌^◌, ◌<◌, Bool, true, false, not, List, Option, Some, None, Result, Ok, Err, refl, ap, ◌⊎◌, inl, inr}
+use Rattle.std.proofs.Common.{◌≡◌, ℕ, ◌^◌, ◌<◌, Bool, true, false, not, cond, ltb, List, length, Option, Some, None, Result, Ok, Err, refl, ap, ◌⊎◌, inl, inr}
 use Rattle.std.specs.Bool.{Decides}
+use Rattle.std.proofs.lemmas.Bool.{ltb-true, lt-ltb}
 use Rattle.std.proofs.lemmas.Bool.Decides.{Decides-eqb}
 use Rattle.gup_text.specs.Text.{number_in, count_in, index_in, page_in, word_no_in, address_in, range_in, is_name}
 use Rattle.gup_text.specs.Spelling.{IsNumber, IsCount, IsIndex, IsPage, IsWordNo, IsAddress, IsRange, IsName}
@@ -15,25 +16,27 @@ use Rattle.gup_script.specs.declared.op.Op.{Op}
 use Rattle.gup_reader.specs.declared.refusal.Reason.{Reason}
 use Rattle.gup_reader.specs.declared.refusal.Reason.TheVariants as reasons
 use Rattle.gup_reader.specs.Said.{Word, Action, action_words, IsShaped}
-use Rattle.gup_outline.specs.Outline.{Outline, is_child, is_forked, is_receiver}
-use Rattle.gup_reader.specs.Grammar.{ActionNumbers, ActionNames, ActionOnce, Means, IsBuilt, NamesProcess, NamesActor}
+use Rattle.gup_outline.specs.Outline.{Outline, is_child, is_forked, next_handle, is_receiver}
+use Rattle.gup_script.specs.Limits.{most_handles}
+use Rattle.gup_reader.specs.Grammar.{ActionNumbers, ActionNames, ActionOnce, HandleLimits, Means, IsBuilt, NamesProcess, NamesActor, NamesPin}
 use Rattle.gup_reader.specs.Reading.{◌>>=◌, check, need}
-use Rattle.gup_outline.specs.Named.{process_of, actor_of, is_pin_name, is_got_name, is_mirror_of, may_mirror}
+use Rattle.gup_outline.specs.Named.{process_of, actor_of, pin_of, is_got_name, is_mirror_of, may_mirror}
 use Rattle.gup_reader.proofs.Chains.{Tried, stops, goes, needed}
 use Rattle.gup_reader.proofs.ActionWords.{action_in}
 
 -- ---- what an action comes to
 
 pub data Ends (st : Outline) (action : Action) (result : Result (Option Op) Reason) : Type 0 where
-  built : (op : Op) → (given : result ≡ Ok (Some op)) → (means : Means st action op) → Ends st action result
-  later : (given : result ≡ Ok None) → (unbuilt : IsBuilt action → ⊥) → Ends st action result
+  built : (op : Op) → (given : result ≡ Ok (Some op)) → (now : IsBuilt st action) → (means : Means st action op) → Ends st action result
+  later : (given : result ≡ Ok None) → (unbuilt : IsBuilt st action → ⊥) → Ends st action result
 
 abbrev pub Judged : Outline → (actor : ℕ) → Action → Result (Option Op) Reason → Type 0
 Judged st a action =
     Tried reasons.Shape (IsShaped action)
     (Tried reasons.Number (ActionNumbers action)
     (Tried reasons.Name (ActionNames st a action)
-    (Tried reasons.Twice (ActionOnce st action) (Ends st action))))
+    (Tried reasons.Twice (ActionOnce st action)
+    (Tried reasons.Limit (HandleLimits st action) (Ends st action)))))
 
 -- what words come to: they say an action, or none
 abbrev pub Told : Outline → (actor : ℕ) → List Word → Result (Option Op) Reason → Type 0
@@ -120,13 +123,29 @@ unforked_Decides st word p named = way (is_forked st p) refl where
   way true e = (λ t. absurd cc, λ h. let one : p ≡ h.0 = cc (named, h.1) in absurd (cc (one, e, h.2)))
   way false e = (λ t. (p, named, e), λ h. refl)
 
-pub receiver_step : {B : Type 0} (st : Outline) (word : Word) (f : Unit → Result B Reason) {behind : Result B Reason → Type 0} → behind (f tt) → Tried reasons.Name ((a : ℕ) × NamesActor st word a × (is_receiver st a ≡ true)) behind (need reasons.Name (actor_of (find st.names word)) >>= λ a. check reasons.Name (is_receiver st a) >>= f)
+pub receiver_step : {B : Type 0} (st : Outline) (word : Word) (f : ℕ → Unit → Result B Reason) {behind : Result B Reason → Type 0} → ((a : ℕ) → NamesActor st word a → behind (f a tt)) → Tried reasons.Name ((a : ℕ) × NamesActor st word a × (is_receiver st a ≡ true)) behind (need reasons.Name (actor_of (find st.names word)) >>= λ a. check reasons.Name (is_receiver st a) >>= f a)
 receiver_step st word f next =
-    named_and_tested (actor_of (find st.names word)) (NamesActor st word) (is_receiver st) (λ a. f) (actor_found (find st.names word)) (λ a h. ap actor_of h) (λ a h. next)
+    named_and_tested (actor_of (find st.names word)) (NamesActor st word) (is_receiver st) f (actor_found (find st.names word)) (λ a h. ap actor_of h) next
 
-pub pin_Decides : (o : Option Named) → Decides (is_pin_name o) ((h : ℕ) × (o ≡ Some (named.Pin h)))
-pin_Decides (Some (named.Pin q)) = (λ e. (q, refl), λ h. refl)
-pin_Decides _ = (λ e. absurd cc, λ h. absurd (cc h.1))
+pin_found : (o : Option Named) (h : ℕ) → pin_of o ≡ Some h → o ≡ Some (named.Pin h)
+pin_found (Some (named.Pin q)) h e = cc
+pin_found _ h e = absurd cc
+
+pub pin_step : {B : Type 0} (st : Outline) (word : Word) (f : ℕ → Result B Reason) {behind : Result B Reason → Type 0} → ((h : ℕ) → NamesPin st word h → behind (f h)) → Tried reasons.Name ((h : ℕ) × NamesPin st word h) behind (need reasons.Name (pin_of (find st.names word)) >>= f)
+pin_step st word f next =
+    needed f
+    (λ h e.
+    let is = pin_found (find st.names word) h e in
+    ((h, is), next h is))
+    (λ t none. absurd (cc (ap pin_of t.1)))
+
+-- ---- one more handle
+
+pub handle_step : {B : Type 0} (st : Outline) (f : ℕ → Result B Reason) {behind : Result B Reason → Type 0} → behind (f (length st.script.handles)) → Tried reasons.Limit (length st.script.handles < most_handles) behind (need reasons.Limit (next_handle st) >>= f)
+handle_step st f {behind} next = way (ltb (length st.script.handles) most_handles) refl where
+  way : (b : Bool) → ltb (length st.script.handles) most_handles ≡ b → Tried reasons.Limit (length st.script.handles < most_handles) behind (need reasons.Limit (cond b (Some (length st.script.handles)) None) >>= f)
+  way true e = goes (ltb-true _ _ e) next
+  way false e = stops refl (λ lt. absurd (cc (e, lt-ltb _ _ lt)))
 
 pub got_Decides : (o : Option Named) → Decides (is_got_name o) ((h : ℕ) × (o ≡ Some (named.Got h)))
 got_Decides (Some (named.Got q)) = (λ e. (q, refl), λ h. refl)

@@ -1,5 +1,6 @@
--- What the words of a device's operations and of the mover's come to: transfers, mirrors, moves.
-use Rattle.std.proofs.Common.{◌≡◌, ℕ, ◌+◌, ◌≤◌, Bool, true, false, cond, List, [], ◌∷◌, length, Option, Some, None, refl, arith, sym, ap, subst, ◌∙◌, inl, inr, lit<}
+-- What the words of a device's operations, and of the mover's, that come later come to: transfers of parts, mirrors,
+-- moves.
+use Rattle.std.proofs.Common.{◌≡◌, ℕ, ◌+◌, ◌≤◌, Bool, true, false, cond, List, [], ◌∷◌, length, Option, Some, None, refl, arith, sym, ap, subst, ◌∙◌, inl, inr}
 use Rattle.std.specs.Prelude.{codes}
 use Rattle.std.specs.Bool.{Decides}
 use Rattle.std.specs.Str.{bytes_eq}
@@ -9,27 +10,13 @@ use Rattle.gup_base.specs.declared.entry.Zone.TheVariants.{Movable, Normal}
 use Rattle.gup_text.specs.Text.{segment_in}
 use Rattle.gup_text.specs.SpelledPlaces.{segment_found, segment_read}
 use Rattle.gup_names.specs.Names.{find}
-use Rattle.gup_reader.specs.Said.{Word, transfers, transfers_parts, mirrors, looks, moves, transfer_word, parts_word, zone_word}
+use Rattle.gup_reader.specs.Said.{Word, transfers_parts, mirrors, looks, moves, parts_word, zone_word}
 use Rattle.gup_outline.specs.Outline.{Outline}
 use Rattle.gup_reader.specs.Grammar.{AreSegments}
-use Rattle.gup_reader.specs.Reading.{is_zone, segments_in, at_most_64, transfer_in, parts_in, mirror_in, look_in, move_in}
-use Rattle.gup_reader.proofs.Chains.{goes, checked, both, all_three, same_word}
+use Rattle.gup_reader.specs.Reading.{is_zone, segments_in, at_most_64, parts_in, mirror_in, look_in, move_in}
+use Rattle.gup_reader.proofs.Chains.{goes, checked, both, same_word}
 use Rattle.gup_reader.proofs.ActionWords.{said_with, zone_in}
-use Rattle.gup_reader.proofs.Judged.{later, Judged, Told, index_step, count_step, page_step, word_no_step, process_step, pin_Decides, mirror_Decides, slot_Decides}
-
--- ---- transfers
-
-pub transfer_told : (st : Outline) (a : ℕ) (outward : Bool) (fields : List Word) → Told st a (transfer_word outward ∷ fields) (transfer_in st fields)
-unfolding transfer_in
-transfer_told st a outward (handle ∷ index ∷ slot ∷ count ∷ []) =
-    inl (
-      transfers outward handle index slot count,
-      refl,
-      goes tt (all_three (index_step index _ (λ i h. index_step slot _ (λ s g. count_step 1 64 count _ (lit< tt) (λ n k.
-          checked _ (pin_Decides (find st.names handle)) (λ p. goes tt (later refl (λ b. b)))))))),
-    )
-transfer_told st a true _ = inr (refl, refl)
-transfer_told st a false _ = inr (refl, refl)
+use Rattle.gup_reader.proofs.Judged.{later, Judged, Told, index_step, page_step, word_no_step, process_step, pin_step, mirror_Decides, slot_Decides}
 
 -- ---- the parts of a transfer
 
@@ -67,8 +54,8 @@ parts_told st a outward (handle ∷ slot ∷ first ∷ more) =
       transfers_parts outward handle slot first more,
       refl,
       checked _ (leb-true (length more) 7, le-leb (length more) 7) (λ l.
-          both (index_step slot _ (λ s h. checked _ (total_Decides (first ∷ more)) (λ t.
-          checked _ (pin_Decides (find st.names handle)) (λ p. goes tt (later refl (λ b. b))))))),
+          both (index_step slot _ (λ s g. checked _ (total_Decides (first ∷ more)) (λ t.
+          pin_step st handle _ (λ h p. goes tt (goes tt (later refl (λ b. b)))))))),
     )
 parts_told st a true _ = inr (refl, refl)
 parts_told st a false _ = inr (refl, refl)
@@ -82,7 +69,7 @@ mirror_told st a (mirror ∷ process ∷ page ∷ []) =
       mirrors mirror process page,
       refl,
       goes tt (page_step page _ (λ p h.
-          both (checked _ (slot_Decides a mirror (find st.names mirror)) (λ m. process_step st process _ (λ q g. goes tt (later refl (λ b. b))))))),
+          both (checked _ (slot_Decides a mirror (find st.names mirror)) (λ m. process_step st process _ (λ q g. goes tt (goes tt (later refl (λ b. b)))))))),
     )
 mirror_told st a _ = inr (refl, refl)
 
@@ -93,7 +80,7 @@ look_told st a (mirror ∷ word ∷ []) =
       looks mirror word,
       refl,
       goes tt (word_no_step word _ (λ w h.
-          checked _ (mirror_Decides a (find st.names mirror)) (λ m. goes tt (later refl (λ b. b))))),
+          checked _ (mirror_Decides a (find st.names mirror)) (λ m. goes tt (goes tt (later refl (λ b. b)))))),
     )
 look_told st a _ = inr (refl, refl)
 
@@ -124,6 +111,6 @@ move_told st a (process ∷ page ∷ word ∷ []) = way (zone_in word) refl wher
         moves process page zone,
         ap (λ (w : Word). codes "move" ∷ process ∷ page ∷ w ∷ []) is,
         subst (λ (w : Word). Judged st a (moves process page zone) (move_in st (process ∷ page ∷ w ∷ []))) (sym is)
-            (rw (is_zone_word zone) (goes tt (page_step page _ (λ p h. process_step st process _ (λ q g. goes tt (later refl (λ b. b))))))),
+            (rw (is_zone_word zone) (goes tt (page_step page _ (λ p h. process_step st process _ (λ q g. goes tt (goes tt (later refl (λ b. b)))))))),
       )
 move_told st a _ = inr (refl, refl)

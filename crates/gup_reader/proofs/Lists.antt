@@ -1,7 +1,9 @@
 -- What holds of each element of a list, and sums over lists, as lists grow.
-use Rattle.std.proofs.Common.{◌≡◌, ℕ, zero, suc, ◌+◌, Bool, true, false, cond, ◌||◌, List, [], ◌∷◌, ◌++◌, length, replicate, slice_get, count_by, refl, ap, subst, ◌∙◌, Some, arith}
+use Rattle.std.proofs.Common.{◌≡◌, ℕ, zero, suc, ◌+◌, Bool, true, false, cond, ◌||◌, List, [], ◌∷◌, ◌++◌, length, replicate, slice_get, count_by, All, refl, ap, subst, ◌∙◌, Some, arith}
 use Rattle.std.specs.List.{AllByRecursion, list_any}
+use Rattle.std.proofs.lemmas.List.Elements.{All-get_or}
 use Rattle.std.proofs.lemmas.List.Sums.{sum_by-cons}
+use Rattle.std.proofs.lemmas.Option.{get_or_from_slice_get, slice_get_within}
 
 module _ {X : Type 0} (P : X → Type 0) where
   pub each_append : (xs ys : List X) → AllByRecursion P xs → AllByRecursion P ys → AllByRecursion P (xs ++ ys)
@@ -21,6 +23,10 @@ module _ {X : Type 0} (P : X → Type 0) where
   each_at [] k x e h = absurd cc
   each_at (y ∷ xs) zero x e h = let same : y ≡ x = cc in subst P same h.0
   each_at (y ∷ xs) (suc k) x e h = each_at xs k x e h.1
+
+-- what is true of each element is true of one at its place
+pub all_at : {X : Type 0} (P : X → Type 0) (xs : List X) (k : ℕ) (x : X) → slice_get xs k ≡ Some x → All P xs → P x
+all_at P xs k x e h = subst P (get_or_from_slice_get xs k x x e) (All-get_or P xs k x (slice_get_within xs k x e) h)
 
 -- of three tests of which each element passes one at most, and passes one
 module _ {X : Type 0} (p q r : X → Bool) (one : (x : X) → cond (p x) 1 0 + cond (q x) 1 0 + cond (r x) 1 0 ≡ 1) where

@@ -27,9 +27,9 @@ SaysOp st a words result =
     ((action : Action) × (words ≡ action_words action) × Acts st a action result)
     ⊎ ((result ≡ Err reasons.Shape) × (action_in words ≡ None))
 
-says : (st : Outline) (a : ℕ) (words : List Word) (result : Result (Option Op) Reason) → Told st a words result → SaysOp st a words (result >>= placed st a)
-says st a words result (inl t) = inl (t.0, t.1, acts st a t.0 result t.2)
-says st a words result (inr t) = inr (ap (λ r. r >>= placed st a) t.0, t.1)
+says : (st : Outline) (a : ℕ) (word : Word) (fields : List Word) (result : Result (Option Op) Reason) → Told st a (word ∷ fields) result → SaysOp st a (word ∷ fields) (result >>= placed st a fields)
+says st a word fields result (inl t) = inl (t.0, t.1, acts st a t.0 word fields result t.1 t.2)
+says st a word fields result (inr t) = inr (ap (λ r. r >>= placed st a fields) t.0, t.1)
 
 abbrev OnWords : Outline → (name word : Word) → (fields : List Word) → Result Outline Reason → Type 0
 OnWords st name word fields result =
@@ -39,13 +39,13 @@ OnWords st name word fields result =
 on_words : (st : Outline) (name word : Word) (fields : List Word) → OnWords st name word fields (on_in st (name ∷ word ∷ fields))
 unfolding on_in
 on_words st name word fields = way (actor_of (find st.names name)) refl where
-  way : (o : Option ℕ) → actor_of (find st.names name) ≡ o → OnWords st name word fields (need reasons.Name o >>= λ a. op_of_actor st a (actor_at st.script a) word fields >>= placed st a)
+  way : (o : Option ℕ) → actor_of (find st.names name) ≡ o → OnWords st name word fields (need reasons.Name o >>= λ a. op_of_actor st a (actor_at st.script a) word fields >>= placed st a fields)
   way None e = inl (refl, λ a named. absurd (cc (e, ap actor_of named)))
   way (Some a) e =
       inr (
         a,
         actor_found (find st.names name) a e,
-        carried (placed st a) (says st a (word ∷ fields) _) (op_chosen st a (actor_at st.script a) word fields),
+        carried (placed st a fields) (says st a word fields _) (op_chosen st a (actor_at st.script a) word fields),
       )
 
 -- ---- what is read is right

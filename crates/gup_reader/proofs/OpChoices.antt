@@ -14,8 +14,9 @@ use Rattle.gup_reader.proofs.Chains.{Tried}
 use Rattle.gup_reader.proofs.Choices.{Chosen, choose, none_left, tried_choice}
 use Rattle.gup_reader.proofs.Judged.{Told}
 use Rattle.gup_reader.proofs.BuiltActions.{map_told, unmap_told, protect_told, discard_told, load_told, store_told, fork_told, exit_told}
-use Rattle.gup_reader.proofs.LaterThreads.{pin_told, get_told, put_told, unpin_told, take_told, give_told}
-use Rattle.gup_reader.proofs.LaterDevices.{transfer_told, parts_told, mirror_told, look_told, move_told}
+use Rattle.gup_reader.proofs.BuiltHandles.{pin_told, unpin_told, take_told, give_told, transfer_told}
+use Rattle.gup_reader.proofs.LaterThreads.{get_told, put_told}
+use Rattle.gup_reader.proofs.LaterDevices.{parts_told, mirror_told, look_told, move_told}
 
 abbrev says : Outline → (actor : ℕ) → List Word → Word → Result (Option Op) Reason → Type 0
 says st a fields word result = Told st a (word ∷ fields) result

@@ -10,8 +10,8 @@ use Rattle.gup_text.specs.Spelling.{IsName, turn_word, address}
 use Rattle.gup_names.specs.Names.{Entry, find, declared}
 use Rattle.gup_names.specs.declared.names.Named.{Named}
 use Rattle.gup_outline.specs.Outline.{Outline}
-use Rattle.gup_reader.specs.Said.{Word, Said, a_process, a_child, a_thread, a_device, a_mover, a_seed, some_turns, random_turns, said_words, Action, maps, unmaps, protects, discards, loads, stores, forks, exits, action_words, rights_word}
-use Rattle.gup_reader.specs.Grammar.{TurnsAnActor, Declares, Does, IsNext, IsSaid, IsRight, Stage, before_head, before_frames, open_at}
+use Rattle.gup_reader.specs.Said.{Word, Said, a_process, a_child, a_thread, a_device, a_mover, a_seed, some_turns, random_turns, said_words, Action, maps, unmaps, protects, discards, loads, stores, exits, pins, forks, unpins, takes, gives, transfers, action_words, rights_word, write_word, transfer_word}
+use Rattle.gup_reader.specs.Grammar.{TurnsAnActor, Declares, ActionNames, with_declared, Does, IsNext, IsSaid, IsRight, Stage, before_head, before_frames, open_at}
 use Rattle.gup_reader.specs.Fault.{AreSpaced}
 use Rattle.gup_reader.proofs.Verdicts.{given}
 
@@ -51,9 +51,13 @@ stays_declared st next (a_seed number) h d = subst AreNamed (sym d.4.2) h
 stays_declared st next (some_turns first more) h d = subst AreNamed (sym d.4.2) h
 stays_declared st next (random_turns start count) h d = subst AreNamed (sym d.4.4) h
 
+stays_handle : (st : Outline) (a : ℕ) (action : Action) → AreNamed st → ActionNames st a action → AreNamed (with_declared action st)
+stays_handle st a (pins fast handle first count write long) h names = unnamed_declared st.names handle _ (some_name handle names) h
+stays_handle st a _ h names = h
+
 stays_next : (st next : Outline) (words : List Word) → AreNamed st → IsNext st words next → AreNamed next
 stays_next st next words h (inl s) = stays_declared st next s.0 h s.2
-stays_next st next words h (inr o) = let d = o.6 in subst AreNamed (sym d.5.2) h
+stays_next st next words h (inr o) = let d = o.6 in subst AreNamed (sym d.6.2) (stays_handle st o.1 o.2 h d.2)
 
 stays_said : (stage next : Stage) (words : List Word) → AreNamedAt stage → IsSaid stage words next → AreNamedAt next
 stays_said before_head next words h s = subst AreNamedAt (sym s.1) tt
@@ -100,6 +104,14 @@ some_rights : (rights : Rights) → rights_word rights ≡ [] → ⊥
 some_rights R e = cc
 some_rights RW e = cc
 
+some_way : (write : Bool) → write_word write ≡ [] → ⊥
+some_way true e = cc
+some_way false e = cc
+
+some_transfer : (outward : Bool) → transfer_word outward ≡ [] → ⊥
+some_transfer true e = cc
+some_transfer false e = cc
+
 some_address : (page w : ℕ) → address page w ≡ [] → ⊥
 some_address page w e = way (decimal page) e where
   way : (front : List ℕ) → front ++ codes "." ++ decimal w ≡ [] → ⊥
@@ -113,9 +125,19 @@ spaced_action st next a (protects first count rights) h d = let n = d.1 in (λ e
 spaced_action st next a (discards first count) h d = let n = d.1 in (λ e. cc, (some_decimal first n.0 n.2.0 (omega (arith, n.2.4)), (some_decimal count n.1 n.2.1 (omega (arith, n.2.3)), tt)))
 spaced_action st next a (loads at) h d = let n = d.1 in (λ e. cc, (λ e. some_address n.0 n.1 (sym n.2.0 ∙ e), tt))
 spaced_action st next a (stores at value) h d = let n = d.1.0 in let v = d.1.1 in (λ e. cc, (λ e. some_address n.0 n.1 (sym n.2.0 ∙ e), (some_decimal value v.0 v.1.0 v.1.1, tt)))
-spaced_action st next a (forks child) h d = (λ e. cc, (found_name st child _ h d.2.1, tt))
 spaced_action st next a exits h d = (λ e. cc, tt)
-spaced_action st next a action h d = absurd d.5.1
+spaced_action st next a (pins false handle first count write false) h d = let n = d.1 in (λ e. cc, (some_name handle d.2, (some_decimal first n.0 n.2.0 (omega (arith, n.2.4)), (some_decimal count n.1 n.2.1 (omega (arith, n.2.3)), (some_way write, tt)))))
+spaced_action st next a (forks child) h d = (λ e. cc, (found_name st child _ h d.2.1, tt))
+spaced_action st next a (unpins handle) h d = (λ e. cc, (found_name st handle _ h d.2.1, tt))
+spaced_action st next a (takes handle) h d = (λ e. cc, (found_name st handle _ h d.2.1, tt))
+spaced_action st next a (gives handle to) h d = let n = d.2 in (λ e. cc, (found_name st handle _ h n.0.1, (found_name st to _ h n.1.1, tt)))
+spaced_action st next a (transfers outward handle index slot count) h d =
+    let n = d.1 in
+    let i = n.0 in
+    let s = n.1 in
+    let k = n.2 in
+    (some_transfer outward, (found_name st handle _ h d.2.1, (some_decimal index i.0 i.1.0 (omega (arith, i.1.1)), (some_decimal slot s.0 s.1.0 (omega (arith, s.1.1)), (some_decimal count k.0 k.1.0 (omega (arith, k.1.2)), tt)))))
+spaced_action st next a _ h d = absurd d.6.1
 
 spaced_next : (st next : Outline) (words : List Word) → AreNamed st → IsNext st words next → AreSpaced words
 spaced_next st next words h (inl s) = subst AreSpaced (sym s.1) (spaced_said st next s.0 h s.2)

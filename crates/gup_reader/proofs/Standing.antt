@@ -1,5 +1,5 @@
 -- What is true of every outline that lines make, and how a line that declares keeps it.
-use Rattle.std.proofs.Common.{◌≡◌, ◌⊎◌, ℕ, ◌+◌, ◌<◌, ◌≤◌, Bool, true, false, cond, List, [], ◌∷◌, length, All, sum_by, refl, sym, Option, Some, None, inl, inr, arith}
+use Rattle.std.proofs.Common.{◌≡◌, ◌⊎◌, ℕ, ◌+◌, ◌<◌, ◌≤◌, Bool, true, false, cond, List, [], ◌∷◌, length, append-nil, All, sum_by, refl, sym, Option, Some, None, inl, inr, arith}
 use Rattle.std.specs.Prelude.{bytes_eq}
 use Rattle.std.specs.List.{AllByRecursion}
 use Rattle.std.proofs.lemmas.List.{length_push, length-append}
@@ -10,30 +10,36 @@ use Rattle.gup_names.specs.declared.names.Named.{Named}
 use Rattle.gup_names.specs.declared.names.Named.TheVariants as named
 use Rattle.gup_script.specs.declared.op.Kind.{Kind}
 use Rattle.gup_script.specs.declared.op.Kind.TheVariants.{Thread, Device, Mover}
+use Rattle.gup_script.specs.declared.op.Op.{Op}
 use Rattle.gup_script.specs.Script.{ScriptValue, Process, Actor, FrameCounts}
-use Rattle.gup_outline.specs.Outline.{Outline, empty_outline, with_process, with_actor, with_turns, with_seed, is_thread, is_device, is_mover, how_many}
-use Rattle.gup_script.specs.Limits.{most_operations, most_turns}
+use Rattle.gup_outline.specs.Outline.{Outline, empty_outline, with_process, with_actor, with_handle, with_turns, with_seed, is_thread, is_device, is_mover, how_many}
+use Rattle.gup_script.specs.Limits.{most_handles, most_operations, most_turns}
 use Rattle.gup_reader.specs.Said.{Word}
-use Rattle.gup_reader.specs.Grammar.{NamesProcess, NamesActor, AreFrameCounts}
-use Rattle.gup_script.specs.Valid.{IsOp, KindFits, OpsFit, BringsChild}
+use Rattle.gup_reader.specs.Grammar.{NamesProcess, NamesActor, NamesPin, AreFrameCounts}
+use Rattle.gup_script.specs.Valid.{IsOp, KindFits, FitsKind, AreDeclared}
 use Rattle.gup_reader.proofs.Verdicts.{given, same_given}
 use Rattle.gup_reader.proofs.Lists.{each_append, each_like}
-use Rattle.gup_reader.proofs.Forking.{AreOnce, children_stay, actor_once}
+use Rattle.gup_reader.proofs.Forking.{OpAt, IsForkOf, IsPinOf, AreOnce, AreNone, AreApart, declared_stay, actor_once, actor_none, actor_apart}
 
 pub record Stands (st : Outline) : Type 0 where
   pub processes_in : (word : Word) (p : ℕ) → NamesProcess st word p → p < length st.script.processes
   pub actors_in : (word : Word) (a : ℕ) → NamesActor st word a → a < length st.script.actors
+  pub pins_in : (word : Word) (h : ℕ) → NamesPin st word h → h < length st.script.handles
   pub few_frames : st.script.frames.movable + st.script.frames.normal ≤ 1024
   pub few_tables : st.script.frames.tables ≤ 8192
   pub few_processes : length st.script.processes ≤ 16
   pub few_threads : how_many is_thread st ≤ 64
   pub few_devices : how_many is_device st ≤ 16
   pub few_movers : how_many is_mover st ≤ 1
+  pub few_handles : length st.script.handles ≤ most_handles
   pub kinds : AllByRecursion (λ (a : Actor). KindFits st.script a.kind) st.script.actors
   pub ops : AllByRecursion (λ (a : Actor). All IsOp a.ops) st.script.actors
-  pub ops_fit : AllByRecursion (λ (a : Actor). OpsFit a.kind (length a.ops)) st.script.actors
-  pub children : AllByRecursion (λ (a : Actor). All (BringsChild st.script) a.ops) st.script.actors
-  pub forks_once : AreOnce st.script.actors
+  pub ops_fit : AllByRecursion (λ (a : Actor). All (FitsKind a.kind) a.ops) st.script.actors
+  pub declared : AllByRecursion (λ (a : Actor). All (AreDeclared st.script) a.ops) st.script.actors
+  pub forks_once : AreOnce IsForkOf st.script.actors
+  pub pins_once : AreOnce IsPinOf st.script.actors
+  pub pins_or_forks : AreApart st.script.actors
+  pub unforked : st.forked ≡ false → AreNone IsForkOf st.script.actors
   pub counted : sum_by (λ (a : Actor). length a.ops) st.script.actors ≡ st.operations
   pub few_ops : st.operations ≤ most_operations
   pub turns : AllByRecursion (λ a. a < length st.script.actors) st.script.turns
@@ -43,22 +49,29 @@ pub stands_empty : (counts : FrameCounts) → AreFrameCounts counts.movable coun
 stands_empty counts h = record {
   processes_in = λ word p e. absurd cc;
   actors_in = λ word a e. absurd cc;
+  pins_in = λ word n e. absurd cc;
   few_frames = h.0;
   few_tables = h.1;
   few_processes = omega arith;
   few_threads = omega arith;
   few_devices = omega arith;
   few_movers = omega arith;
+  few_handles = omega arith;
   kinds = tt;
   ops = tt;
   ops_fit = tt;
-  children = tt;
-  forks_once = λ a b j k child e f. absurd cc;
+  declared = tt;
+  forks_once = λ a b j k child e f. absurd (nothing a j e.0 e.1);
+  pins_once = λ a b j k handle e f. absurd (nothing a j e.0 e.1);
+  pins_or_forks = λ a b j k child handle e f. nothing a j e.0 e.1;
+  unforked = λ none a k child e. nothing a k e.0 e.1;
   counted = refl;
   few_ops = omega arith;
   turns = tt;
   few_turns = omega arith;
-}
+} where
+  nothing : (a k : ℕ) (op : Op) → OpAt [] a k op → ⊥
+  nothing a k op e = absurd cc
 
 -- ---- names
 
@@ -82,12 +95,21 @@ same_process p q e = cc
 same_actor : (a b : ℕ) → named.Actor a ≡ named.Actor b → a ≡ b
 same_actor a b e = cc
 
+same_pin : (h g : ℕ) → named.Pin h ≡ named.Pin g → h ≡ g
+same_pin h g e = cc
+
 process_no_actor : (p a : ℕ) → named.Process p ≡ named.Actor a → ⊥
 process_no_actor p a e = cc
 
+process_no_pin : (p h : ℕ) → named.Process p ≡ named.Pin h → ⊥
+process_no_pin p h e = cc
+
+actor_no_pin : (a h : ℕ) → named.Actor a ≡ named.Pin h → ⊥
+actor_no_pin a h e = cc
+
 -- ---- one more process
 
-kind_fits : (s t : ScriptValue) → length s.processes ≤ length t.processes → (k : Kind) → KindFits s k → KindFits t k
+pub kind_fits : (s t : ScriptValue) → length s.processes ≤ length t.processes → (k : Kind) → KindFits s k → KindFits t k
 kind_fits s t more (Thread p) h = omega arith
 kind_fits s t more (Device slots) h = h
 kind_fits s t more Mover h = h
@@ -106,17 +128,25 @@ stands_process st name born h few =
         | inl old ↦ h.actors_in word a old
         | inr new ↦ absurd (process_no_actor (length st.script.processes) a new)
       ];
+      pins_in = λ word n e. elim (found_behind st.names name word (named.Process (length st.script.processes)) (named.Pin n) e) [
+        | inl old ↦ h.pins_in word n old
+        | inr new ↦ absurd (process_no_pin (length st.script.processes) n new)
+      ];
       few_frames = h.few_frames;
       few_tables = h.few_tables;
       few_processes = omega arith;
       few_threads = h.few_threads;
       few_devices = h.few_devices;
       few_movers = h.few_movers;
+      few_handles = h.few_handles;
       kinds = each_like (λ (a : Actor). KindFits st.script a.kind) (λ a. KindFits next.script a.kind) st.script.actors (λ a. kind_fits st.script next.script (omega arith) a.kind) h.kinds;
       ops = h.ops;
       ops_fit = h.ops_fit;
-      children = children_stay st.script next.script (process ∷ []) refl st.script.actors h.children;
+      declared = declared_stay st.script next.script (process ∷ []) refl (omega arith) (omega arith) st.script.actors h.declared;
       forks_once = h.forks_once;
+      pins_once = h.pins_once;
+      pins_or_forks = h.pins_or_forks;
+      unforked = h.unforked;
       counted = h.counted;
       few_ops = h.few_ops;
       turns = h.turns;
@@ -124,11 +154,6 @@ stands_process st name born h few =
     }
 
 -- ---- one more actor
-
-no_ops : (kind : Kind) → OpsFit kind 0
-no_ops (Thread p) = tt
-no_ops (Device slots) = refl
-no_ops Mover = refl
 
 pub stands_actor : (st : Outline) (name : Word) (kind : Kind) → Stands st → KindFits st.script kind → how_many is_thread st + cond (is_thread kind) 1 0 ≤ 64 → how_many is_device st + cond (is_device kind) 1 0 ≤ 16 → how_many is_mover st + cond (is_mover kind) 1 0 ≤ 1 → Stands (with_actor name kind st)
 stands_actor st name kind h fits threads devices movers =
@@ -145,20 +170,69 @@ stands_actor st name kind h fits threads devices movers =
         | inl old ↦ let lt = h.actors_in word a old in omega arith
         | inr new ↦ let same = same_actor (length actors) a new in omega arith
       ];
+      pins_in = λ word n e. elim (found_behind st.names name word (named.Actor (length actors)) (named.Pin n) e) [
+        | inl old ↦ h.pins_in word n old
+        | inr new ↦ absurd (actor_no_pin (length actors) n new)
+      ];
       few_frames = h.few_frames;
       few_tables = h.few_tables;
       few_processes = h.few_processes;
       few_threads = let sum = sum_by_push (λ (a : Actor). cond (is_thread a.kind) 1 0) actors actor in omega arith;
       few_devices = let sum = sum_by_push (λ (a : Actor). cond (is_device a.kind) 1 0) actors actor in omega arith;
       few_movers = let sum = sum_by_push (λ (a : Actor). cond (is_mover a.kind) 1 0) actors actor in omega arith;
+      few_handles = h.few_handles;
       kinds = each_append (λ (a : Actor). KindFits st.script a.kind) actors (actor ∷ []) h.kinds (fits, tt);
       ops = each_append (λ (a : Actor). All IsOp a.ops) actors (actor ∷ []) h.ops (All-nil IsOp, tt);
-      ops_fit = each_append (λ (a : Actor). OpsFit a.kind (length a.ops)) actors (actor ∷ []) h.ops_fit (no_ops kind, tt);
-      children = each_append (λ (a : Actor). All (BringsChild st.script) a.ops) actors (actor ∷ []) h.children (All-nil (BringsChild st.script), tt);
-      forks_once = actor_once actors actor refl h.forks_once;
+      ops_fit = each_append (λ (a : Actor). All (FitsKind a.kind) a.ops) actors (actor ∷ []) h.ops_fit (All-nil (FitsKind kind), tt);
+      declared = declared_stay st.script next.script [] (sym (append-nil st.script.processes)) (omega arith) (omega arith) next.script.actors (each_append (λ (a : Actor). All (AreDeclared st.script) a.ops) actors (actor ∷ []) h.declared (All-nil (AreDeclared st.script), tt));
+      forks_once = actor_once IsForkOf actors actor refl h.forks_once;
+      pins_once = actor_once IsPinOf actors actor refl h.pins_once;
+      pins_or_forks = actor_apart actors actor refl h.pins_or_forks;
+      unforked = λ none. actor_none IsForkOf actors actor refl (h.unforked none);
       counted = let sum = sum_by_push (λ (a : Actor). length a.ops) actors actor in let old = h.counted in omega arith;
       few_ops = h.few_ops;
       turns = each_like (λ a. a < length actors) (λ a. a < length next.script.actors) st.script.turns (λ a lt. omega arith) h.turns;
+      few_turns = h.few_turns;
+    }
+
+-- ---- one more handle
+
+pub stands_handle : (st : Outline) (name : Word) → Stands st → length st.script.handles < most_handles → Stands (with_handle name st)
+stands_handle st name h few =
+    let next = with_handle name st in
+    let handles = st.script.handles in
+    let long : length next.script.handles ≡ length handles + 1 = length_push handles name in
+    record {
+      processes_in = λ word p e. elim (found_behind st.names name word (named.Pin (length handles)) (named.Process p) e) [
+        | inl old ↦ h.processes_in word p old
+        | inr new ↦ absurd (process_no_pin p (length handles) (sym new))
+      ];
+      actors_in = λ word a e. elim (found_behind st.names name word (named.Pin (length handles)) (named.Actor a) e) [
+        | inl old ↦ h.actors_in word a old
+        | inr new ↦ absurd (actor_no_pin a (length handles) (sym new))
+      ];
+      pins_in = λ word n e. elim (found_behind st.names name word (named.Pin (length handles)) (named.Pin n) e) [
+        | inl old ↦ let lt = h.pins_in word n old in omega arith
+        | inr new ↦ let same = same_pin (length handles) n new in omega arith
+      ];
+      few_frames = h.few_frames;
+      few_tables = h.few_tables;
+      few_processes = h.few_processes;
+      few_threads = h.few_threads;
+      few_devices = h.few_devices;
+      few_movers = h.few_movers;
+      few_handles = omega arith;
+      kinds = each_like (λ (a : Actor). KindFits st.script a.kind) (λ a. KindFits next.script a.kind) st.script.actors (λ a. kind_fits st.script next.script (omega arith) a.kind) h.kinds;
+      ops = h.ops;
+      ops_fit = h.ops_fit;
+      declared = declared_stay st.script next.script [] (sym (append-nil st.script.processes)) (omega arith) (omega arith) st.script.actors h.declared;
+      forks_once = h.forks_once;
+      pins_once = h.pins_once;
+      pins_or_forks = h.pins_or_forks;
+      unforked = h.unforked;
+      counted = h.counted;
+      few_ops = h.few_ops;
+      turns = h.turns;
       few_turns = h.few_turns;
     }
 
@@ -168,17 +242,22 @@ pub stands_seed : (st : Outline) (seed : ℕ) → Stands st → Stands (with_see
 stands_seed st seed h = record {
   processes_in = h.processes_in;
   actors_in = h.actors_in;
+  pins_in = h.pins_in;
   few_frames = h.few_frames;
   few_tables = h.few_tables;
   few_processes = h.few_processes;
   few_threads = h.few_threads;
   few_devices = h.few_devices;
   few_movers = h.few_movers;
+  few_handles = h.few_handles;
   kinds = h.kinds;
   ops = h.ops;
   ops_fit = h.ops_fit;
-  children = h.children;
+  declared = h.declared;
   forks_once = h.forks_once;
+  pins_once = h.pins_once;
+  pins_or_forks = h.pins_or_forks;
+  unforked = h.unforked;
   counted = h.counted;
   few_ops = h.few_ops;
   turns = h.turns;
@@ -189,17 +268,22 @@ pub stands_turns : (st : Outline) (turns : List ℕ) → Stands st → AllByRecu
 stands_turns st turns h of_actors few = record {
   processes_in = h.processes_in;
   actors_in = h.actors_in;
+  pins_in = h.pins_in;
   few_frames = h.few_frames;
   few_tables = h.few_tables;
   few_processes = h.few_processes;
   few_threads = h.few_threads;
   few_devices = h.few_devices;
   few_movers = h.few_movers;
+  few_handles = h.few_handles;
   kinds = h.kinds;
   ops = h.ops;
   ops_fit = h.ops_fit;
-  children = h.children;
+  declared = h.declared;
   forks_once = h.forks_once;
+  pins_once = h.pins_once;
+  pins_or_forks = h.pins_or_forks;
+  unforked = h.unforked;
   counted = h.counted;
   few_ops = h.few_ops;
   turns = each_append (λ a. a < length st.script.actors) st.script.turns turns h.turns of_actors;

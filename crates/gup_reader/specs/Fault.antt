@@ -41,8 +41,8 @@ ActionFault st a action reason =
     (Unless Number (ActionNumbers action) reason
     (Unless Name (ActionNames st a action) reason
     (Unless Twice (ActionOnce st action) reason
-    (Unless Limit (ActionLimits st) reason
-    (Fails Later (IsBuilt action) reason)))))
+    (Unless Limit (ActionLimits st action) reason
+    (Fails Later (IsBuilt st action) reason)))))
 
 abbrev pub OpFault : Outline → (actor : ℕ) → List Letters → Reason → Type 0
 OpFault st a words reason =

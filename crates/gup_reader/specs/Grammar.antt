@@ -12,8 +12,8 @@ use Rattle.gup_script.specs.declared.op.Op.{Op}
 use Rattle.gup_script.specs.declared.op.Op.TheVariants as ops
 use Rattle.gup_script.specs.Script.{ScriptValue, FrameCounts, actor_at}
 use Rattle.gup_reader.specs.Said.{Word, Said, a_process, a_child, a_thread, a_device, a_mover, a_seed, some_turns, random_turns, said_words, Action, maps, unmaps, protects, discards, loads, stores, exits, pins, gets, puts, forks, unpins, takes, gives, transfers, transfers_parts, mirrors, looks, moves, action_words, IsShaped, op_words_of}
-use Rattle.gup_outline.specs.Outline.{Outline, empty_outline, with_process, with_actor, with_operation, with_turns, with_seed, is_thread, is_device, how_many, has_mover, is_child, is_forked, is_receiver, draws}
-use Rattle.gup_script.specs.Limits.{most_processes, most_threads, most_devices, most_operations, most_turns, most_slots, most_frames, most_tables}
+use Rattle.gup_outline.specs.Outline.{Outline, empty_outline, with_process, with_actor, with_handle, with_operation, with_turns, with_seed, is_thread, is_device, how_many, has_mover, is_child, is_forked, has_handles, is_receiver, draws}
+use Rattle.gup_script.specs.Limits.{most_processes, most_threads, most_devices, most_handles, most_pinned, most_words, most_operations, most_turns, most_slots, most_frames, most_tables}
 
 -- 1. Numbers: those that a line has are spelled right and in range
 
@@ -41,12 +41,12 @@ ActionNumbers (protects first count rights) = (page n : ℕ) × IsRange 1024 fir
 ActionNumbers (discards first count) = (page n : ℕ) × IsRange 1024 first count page n
 ActionNumbers (loads address) = (page w : ℕ) × IsAddress address page w
 ActionNumbers (stores address value) = ((page w : ℕ) × IsAddress address page w) × ((v : ℕ) × IsNumber value v)
-ActionNumbers (pins fast handle first count write long) = (page n : ℕ) × IsRange 16 first count page n
+ActionNumbers (pins fast handle first count write long) = (page n : ℕ) × IsRange most_pinned first count page n
 ActionNumbers (gets handle page) = (p : ℕ) × IsPage page p
 ActionNumbers (transfers outward handle index slot count) =
-    ((i : ℕ) × IsIndex index i) × ((s : ℕ) × IsIndex slot s) × ((n : ℕ) × IsCount 1 64 count n)
+    ((i : ℕ) × IsIndex index i) × ((s : ℕ) × IsIndex slot s) × ((n : ℕ) × IsCount 1 most_words count n)
 ActionNumbers (transfers_parts outward handle slot first more) =
-    ((s : ℕ) × IsIndex slot s) × ((total : ℕ) × AreSegments (first ∷ more) total × (total ≤ 64))
+    ((s : ℕ) × IsIndex slot s) × ((total : ℕ) × AreSegments (first ∷ more) total × (total ≤ most_words))
 ActionNumbers (mirrors mirror process page) = (p : ℕ) × IsPage page p
 ActionNumbers (looks mirror word) = (w : ℕ) × IsWordNo word w
 ActionNumbers (moves process page zone) = (p : ℕ) × IsPage page p
@@ -61,8 +61,11 @@ NamesProcess st word p = find st.names word ≡ Some (named.Process p)
 abbrev pub NamesActor : Outline → Word → ℕ → Type 0
 NamesActor st word a = find st.names word ≡ Some (named.Actor a)
 
+abbrev pub NamesPin : Outline → Word → ℕ → Type 0
+NamesPin st word h = find st.names word ≡ Some (named.Pin h)
+
 abbrev pub IsPin : Outline → Word → Type 0
-IsPin st word = (h : ℕ) × (find st.names word ≡ Some (named.Pin h))
+IsPin st word = (h : ℕ) × NamesPin st word h
 
 abbrev pub IsGot : Outline → Word → Type 0
 IsGot st word = (h : ℕ) × (find st.names word ≡ Some (named.Got h))
@@ -141,13 +144,19 @@ SaidLimits st (some_turns first more) =
 SaidLimits st (random_turns start count) = (n : ℕ) × IsNumber count n × (length st.script.turns + n ≤ most_turns)
 SaidLimits st said = Unit {0}
 
-abbrev pub ActionLimits : Outline → Type 0
-ActionLimits st = st.operations < most_operations
+-- there may be what the action declares
+abbrev pub HandleLimits : Outline → Action → Type 0
+HandleLimits st (pins fast handle first count write long) = length st.script.handles < most_handles
+HandleLimits st (gets handle page) = length st.script.handles < most_handles
+HandleLimits st action = Unit {0}
+
+abbrev pub ActionLimits : Outline → Action → Type 0
+ActionLimits st action = HandleLimits st action × (st.operations < most_operations)
 
 -- 5. What a right line makes
 
 -- The operation that an action is. Those that none is said of come later: a line with one is right, and refused for
--- that alone.
+-- that alone. A pin makes the next handle.
 abbrev pub Means : Outline → Action → Op → Type 0
 Means st (maps first count rights) op = (page n : ℕ) × IsRange 1024 first count page n × (op ≡ ops.Map page n rights)
 Means st (unmaps first count) op = (page n : ℕ) × IsRange 1024 first count page n × (op ≡ ops.Unmap page n)
@@ -157,21 +166,40 @@ Means st (discards first count) op = (page n : ℕ) × IsRange 1024 first count 
 Means st (loads address) op = (page w : ℕ) × IsAddress address page w × (op ≡ ops.Load page w)
 Means st (stores address value) op =
     (page w v : ℕ) × IsAddress address page w × IsNumber value v × (op ≡ ops.Store page w v)
-Means st (forks child) op = (p : ℕ) × NamesProcess st child p × (op ≡ ops.Fork p)
 Means st exits op = op ≡ ops.Exit
+Means st (pins false handle first count write false) op =
+    (page n : ℕ) × IsRange most_pinned first count page n × (op ≡ ops.Pin (length st.script.handles) page n write)
+Means st (forks child) op = (p : ℕ) × NamesProcess st child p × (op ≡ ops.Fork p)
+Means st (unpins handle) op = (h : ℕ) × NamesPin st handle h × (op ≡ ops.Unpin h)
+Means st (takes handle) op = (h : ℕ) × NamesPin st handle h × (op ≡ ops.Take h)
+Means st (gives handle to) op = (h b : ℕ) × NamesPin st handle h × NamesActor st to b × (op ≡ ops.Give h b)
+Means st (transfers outward handle index slot count) op =
+    (h i s n : ℕ) × NamesPin st handle h × IsIndex index i × IsIndex slot s × IsCount 1 most_words count n
+    × (op ≡ ops.Transfer h outward i s n)
 Means st action op = ⊥
 
--- is the action an operation that is built?
-abbrev pub IsBuilt : Action → Type 0
-IsBuilt (maps first count rights) = Unit {0}
-IsBuilt (unmaps first count) = Unit {0}
-IsBuilt (protects first count rights) = Unit {0}
-IsBuilt (discards first count) = Unit {0}
-IsBuilt (loads address) = Unit {0}
-IsBuilt (stores address value) = Unit {0}
-IsBuilt (forks child) = Unit {0}
-IsBuilt exits = Unit {0}
-IsBuilt action = ⊥
+-- Is the action an operation that is built? A script has pins, or forks, and not both so far: the first line of the
+-- second kind comes later.
+abbrev pub IsBuilt : Outline → Action → Type 0
+IsBuilt st (maps first count rights) = Unit {0}
+IsBuilt st (unmaps first count) = Unit {0}
+IsBuilt st (protects first count rights) = Unit {0}
+IsBuilt st (discards first count) = Unit {0}
+IsBuilt st (loads address) = Unit {0}
+IsBuilt st (stores address value) = Unit {0}
+IsBuilt st exits = Unit {0}
+IsBuilt st (pins false handle first count write false) = st.forked ≡ false
+IsBuilt st (forks child) = has_handles st ≡ false
+IsBuilt st (unpins handle) = Unit {0}
+IsBuilt st (takes handle) = Unit {0}
+IsBuilt st (gives handle to) = Unit {0}
+IsBuilt st (transfers outward handle index slot count) = Unit {0}
+IsBuilt st action = ⊥
+
+-- the outline with what the action declares: the handle of a pin
+abbrev pub with_declared : Action → Outline → Outline
+with_declared (pins fast handle first count write long) st = with_handle handle st
+with_declared action st = st
 
 abbrev pub Becomes : Outline → Said → Outline → Type 0
 Becomes st (a_process name) next = next ≡ with_process name true st
@@ -193,8 +221,8 @@ Declares st said next =
 -- the action is one of this actor's kind, right, and built
 abbrev pub Does : Outline → (actor : ℕ) → Action → Outline → Type 0
 Does st a action next =
-    IsShaped action × ActionNumbers action × ActionNames st a action × ActionOnce st action × ActionLimits st
-    × ((op : Op) × Means st action op × (next ≡ with_operation a op st))
+    IsShaped action × ActionNumbers action × ActionNames st a action × ActionOnce st action × ActionLimits st action
+    × IsBuilt st action × ((op : Op) × Means st action op × (next ≡ with_operation a op (with_declared action st)))
 
 -- is the operation with this word one of the actor's kind?
 abbrev pub IsOpOf : Outline → (actor : ℕ) → Word → Type 0

@@ -16,9 +16,9 @@ use Rattle.gup_reader.specs.declared.refusal.Reason.TheVariants as reasons
 use Rattle.gup_reader.specs.declared.refusal.ScriptFault.{ScriptFault}
 use Rattle.gup_script.specs.Script.{Actor, FrameCounts, actor_at}
 use Rattle.gup_reader.specs.Grammar.{Stage, before_head, before_frames, open_at, most_bytes}
-use Rattle.gup_outline.specs.Outline.{Outline, frame_counts, empty_outline, with_process, with_actor, with_operation, with_turns, with_seed, is_thread, is_device, how_many, has_mover, is_child, is_forked, is_receiver, draws}
-use Rattle.gup_outline.specs.Named.{process_of, actor_of, is_pin_name, is_got_name, is_mirror_of, may_mirror}
-use Rattle.gup_script.specs.Limits.{most_processes, most_threads, most_devices, most_operations, most_turns, most_slots, most_frames, most_tables}
+use Rattle.gup_outline.specs.Outline.{Outline, frame_counts, empty_outline, with_process, with_actor, with_handle, with_operation, with_turns, with_seed, is_thread, is_device, how_many, has_mover, is_child, is_forked, next_handle, has_handles, is_receiver, draws}
+use Rattle.gup_outline.specs.Named.{process_of, actor_of, pin_of, is_got_name, is_mirror_of, may_mirror}
+use Rattle.gup_script.specs.Limits.{most_processes, most_threads, most_devices, most_pinned, most_words, most_operations, most_turns, most_slots, most_frames, most_tables}
 
 -- one test after another, up to the first that fails
 infixl 10 ◌>>=◌
@@ -42,8 +42,12 @@ rights_in word =
     else if bytes_eq word (codes "rw") then Some RW
     else None
 
-abbrev pub is_way : List ℕ → Bool
-is_way word = bytes_eq word (codes "read") || bytes_eq word (codes "write")
+-- does a pin write?
+unfoldable pub way_in : List ℕ → Option Bool
+way_in word =
+    if bytes_eq word (codes "read") then Some false
+    else if bytes_eq word (codes "write") then Some true
+    else None
 
 abbrev pub is_zone : List ℕ → Bool
 is_zone word = bytes_eq word (codes "normal") || bytes_eq word (codes "movable")
@@ -94,28 +98,29 @@ unfoldable pub exit_in : List (List ℕ) → Result (Option Op) Reason
 exit_in [] = Ok (Some ops.Exit)
 exit_in _ = Err reasons.Shape
 
--- those that come later
-
-unfoldable pub pin_of : Outline → (handle first count way : List ℕ) → Result (Option Op) Reason
-pin_of st handle first count way = do
-  _ ← check reasons.Shape (is_way way)
-  _ ← need reasons.Number (range_in 16 first count)
+-- a pin, which is built in a script without forks, and later where it is fast or long
+unfoldable pub pinned_in : (built : Bool) → Outline → (handle first count way : List ℕ) → Result (Option Op) Reason
+pinned_in built st handle first count way = do
+  write ← need reasons.Shape (way_in way)
+  range ← need reasons.Number (range_in most_pinned first count)
   _ ← check reasons.Name (is_name handle)
   _ ← check reasons.Twice (is_unused st.names handle)
-  Ok None
+  h ← need reasons.Limit (next_handle st)
+  Ok (if built && not st.forked then Some (ops.Pin h range.0 range.1 write) else None)
 
-unfoldable pub pin_in : Outline → List (List ℕ) → Result (Option Op) Reason
-pin_in st (handle ∷ first ∷ count ∷ way ∷ []) = pin_of st handle first count way
-pin_in st (handle ∷ first ∷ count ∷ way ∷ long ∷ []) = do
+unfoldable pub pin_in : (fast : Bool) → Outline → List (List ℕ) → Result (Option Op) Reason
+pin_in fast st (handle ∷ first ∷ count ∷ way ∷ []) = pinned_in (not fast) st handle first count way
+pin_in fast st (handle ∷ first ∷ count ∷ way ∷ long ∷ []) = do
   _ ← check reasons.Shape (bytes_eq long (codes "long"))
-  pin_of st handle first count way
-pin_in st _ = Err reasons.Shape
+  pinned_in false st handle first count way
+pin_in fast st _ = Err reasons.Shape
 
 unfoldable pub get_in : Outline → List (List ℕ) → Result (Option Op) Reason
 get_in st (handle ∷ page ∷ []) = do
   _ ← need reasons.Number (page_in page)
   _ ← check reasons.Name (is_name handle)
   _ ← check reasons.Twice (is_unused st.names handle)
+  _ ← need reasons.Limit (next_handle st)
   Ok None
 get_in st _ = Err reasons.Shape
 
@@ -130,33 +135,38 @@ fork_in st (child ∷ []) = do
   p ← need reasons.Name (process_of (find st.names child))
   _ ← check reasons.Name (is_child st p)
   _ ← check reasons.Twice (not (is_forked st p))
-  Ok (Some (ops.Fork p))
+  Ok (if has_handles st then None else Some (ops.Fork p))
 fork_in st _ = Err reasons.Shape
 
--- `unpin` and `take`
-unfoldable pub handle_in : Outline → List (List ℕ) → Result (Option Op) Reason
-handle_in st (handle ∷ []) = do
-  _ ← check reasons.Name (is_pin_name (find st.names handle))
-  Ok None
-handle_in st _ = Err reasons.Shape
+unfoldable pub unpin_in : Outline → List (List ℕ) → Result (Option Op) Reason
+unpin_in st (handle ∷ []) = do
+  h ← need reasons.Name (pin_of (find st.names handle))
+  Ok (Some (ops.Unpin h))
+unpin_in st _ = Err reasons.Shape
+
+unfoldable pub take_in : Outline → List (List ℕ) → Result (Option Op) Reason
+take_in st (handle ∷ []) = do
+  h ← need reasons.Name (pin_of (find st.names handle))
+  Ok (Some (ops.Take h))
+take_in st _ = Err reasons.Shape
 
 unfoldable pub give_in : Outline → List (List ℕ) → Result (Option Op) Reason
 give_in st (handle ∷ to ∷ []) = do
-  _ ← check reasons.Name (is_pin_name (find st.names handle))
-  a ← need reasons.Name (actor_of (find st.names to))
-  _ ← check reasons.Name (is_receiver st a)
-  Ok None
+  h ← need reasons.Name (pin_of (find st.names handle))
+  b ← need reasons.Name (actor_of (find st.names to))
+  _ ← check reasons.Name (is_receiver st b)
+  Ok (Some (ops.Give h b))
 give_in st _ = Err reasons.Shape
 
 -- `out` and `in`
-unfoldable pub transfer_in : Outline → List (List ℕ) → Result (Option Op) Reason
-transfer_in st (handle ∷ index ∷ slot ∷ count ∷ []) = do
-  _ ← need reasons.Number (index_in index)
-  _ ← need reasons.Number (index_in slot)
-  _ ← need reasons.Number (count_in 1 64 count)
-  _ ← check reasons.Name (is_pin_name (find st.names handle))
-  Ok None
-transfer_in st _ = Err reasons.Shape
+unfoldable pub transfer_in : (outward : Bool) → Outline → List (List ℕ) → Result (Option Op) Reason
+transfer_in outward st (handle ∷ index ∷ slot ∷ count ∷ []) = do
+  i ← need reasons.Number (index_in index)
+  s ← need reasons.Number (index_in slot)
+  n ← need reasons.Number (count_in 1 most_words count)
+  h ← need reasons.Name (pin_of (find st.names handle))
+  Ok (Some (ops.Transfer h outward i s n))
+transfer_in outward st _ = Err reasons.Shape
 
 -- how many words the parts of a transfer have together
 abbrev pub segments_in : List (List ℕ) → Option ℕ
@@ -177,7 +187,7 @@ parts_in st (handle ∷ slot ∷ first ∷ more) = do
   _ ← check reasons.Shape (nat_le (length more) 7)
   _ ← need reasons.Number (index_in slot)
   _ ← check reasons.Number (at_most_64 (segments_in (first ∷ more)))
-  _ ← check reasons.Name (is_pin_name (find st.names handle))
+  _ ← need reasons.Name (pin_of (find st.names handle))
   Ok None
 parts_in st _ = Err reasons.Shape
 
@@ -215,23 +225,23 @@ thread_op_in st word fields =
     else if bytes_eq word (codes "load") then load_in fields
     else if bytes_eq word (codes "store") then store_in fields
     else if bytes_eq word (codes "exit") then exit_in fields
-    else if bytes_eq word (codes "pin") then pin_in st fields
-    else if bytes_eq word (codes "pinfast") then pin_in st fields
+    else if bytes_eq word (codes "pin") then pin_in false st fields
+    else if bytes_eq word (codes "pinfast") then pin_in true st fields
     else if bytes_eq word (codes "get") then get_in st fields
     else if bytes_eq word (codes "put") then put_in st fields
     else if bytes_eq word (codes "fork") then fork_in st fields
-    else if bytes_eq word (codes "unpin") then handle_in st fields
-    else if bytes_eq word (codes "take") then handle_in st fields
+    else if bytes_eq word (codes "unpin") then unpin_in st fields
+    else if bytes_eq word (codes "take") then take_in st fields
     else if bytes_eq word (codes "give") then give_in st fields
     else Err reasons.Word
 
 unfoldable pub device_op_in : Outline → (actor : ℕ) → (word : List ℕ) → List (List ℕ) → Result (Option Op) Reason
 device_op_in st a word fields =
-    if bytes_eq word (codes "unpin") then handle_in st fields
-    else if bytes_eq word (codes "take") then handle_in st fields
+    if bytes_eq word (codes "unpin") then unpin_in st fields
+    else if bytes_eq word (codes "take") then take_in st fields
     else if bytes_eq word (codes "give") then give_in st fields
-    else if bytes_eq word (codes "out") then transfer_in st fields
-    else if bytes_eq word (codes "in") then transfer_in st fields
+    else if bytes_eq word (codes "out") then transfer_in true st fields
+    else if bytes_eq word (codes "in") then transfer_in false st fields
     else if bytes_eq word (codes "outv") then parts_in st fields
     else if bytes_eq word (codes "inv") then parts_in st fields
     else if bytes_eq word (codes "mirror") then mirror_in st a fields
@@ -250,6 +260,11 @@ abbrev pub op_of_actor : Outline → (actor : ℕ) → Option Actor → (word : 
 op_of_actor st a None word fields = Err reasons.Word
 op_of_actor st a (Some actor) word fields = op_of_kind st a actor.kind word fields
 
+-- the outline with the handle of a pin, whose name is the first word behind the operation's own
+abbrev pub with_pinned : Op → List (List ℕ) → Outline → Outline
+with_pinned (ops.Pin handle page n write) (name ∷ fields) st = with_handle name st
+with_pinned op fields st = st
+
 -- the words behind `on`
 unfoldable pub on_in : Outline → List (List ℕ) → Result Outline Reason
 on_in st (name ∷ word ∷ fields) = do
@@ -257,7 +272,7 @@ on_in st (name ∷ word ∷ fields) = do
   built ← op_of_actor st a (actor_at st.script a) word fields
   _ ← check reasons.Limit (nat_lt st.operations most_operations)
   op ← need reasons.Later built
-  Ok (with_operation a op st)
+  Ok (with_operation a op (with_pinned op fields st))
 on_in st _ = Err reasons.Shape
 
 -- declarations: the words behind the first

@@ -1,6 +1,10 @@
 -- What the functions of the reader answer, beside the functions on lists that they compute. Want of memory says
 -- nothing of the text.
-use Rattle.std.specs.Prelude.{◌≡◌, ℕ, Result, Ok, Err}
+use Rattle.std.specs.Prelude.{◌≡◌, ℕ, ◌<◌, true, List, ◌∷◌, length, Result, Ok, Err}
+use Rattle.gup_names.specs.Names.{is_unused}
+use Rattle.gup_script.specs.declared.op.Op.{Op}
+use Rattle.gup_script.specs.declared.op.Op.TheVariants as ops
+use Rattle.gup_script.specs.Limits.{most_handles}
 use Rattle.gup_reader.specs.declared.refusal.Reason.{Reason}
 use Rattle.gup_reader.specs.declared.refusal.Trouble.{Trouble}
 use Rattle.gup_reader.specs.declared.refusal.Trouble.TheVariants as trouble
@@ -19,6 +23,12 @@ IsTrouble found trouble.NoMemory = Unit {0}
 abbrev pub Makes : Result Outline Reason → Outline → Result Unit Trouble → Type 0
 Makes found next (Ok done) = found ≡ Ok next
 Makes found next (Err e) = IsTrouble found e
+
+-- the handle of a pin, named by the first of the words, may be declared
+abbrev pub IsDeclarable : Op → List (List ℕ) → Outline → Type 0
+IsDeclarable (ops.Pin handle page n write) (name ∷ fields) st =
+    (is_unused st.names name ≡ true) × (length st.script.handles < most_handles)
+IsDeclarable op fields st = Unit {0}
 
 -- the refusal for a line's trouble
 abbrev pub refusal_at : (line : ℕ) → Trouble → ReadRefusal

@@ -1,15 +1,16 @@
 //! The lines behind the `frames` line: each adds what it declares, an operation or turns to a `Reader`, or is refused
 //! for the first fault that it has.
-ghost use Rattle.std.specs.Prelude.{map};
-ghost use Rattle.gup_reader.specs.Steps.{Makes};
-ghost use Rattle.gup_reader.specs.Reading.{on_in, process_in, thread_in, device_in, mover_in, seed_in, next_in};
+ghost use Rattle.std.specs.Prelude.{◌≡◌, map, OnOk};
+ghost use Rattle.gup_reader.specs.Steps.{Makes, IsDeclarable};
+ghost use Rattle.gup_reader.specs.Reading.{with_pinned, on_in, process_in, thread_in, device_in, mover_in, seed_in, next_in};
 
 use crate::operations::actor_op;
 use crate::refusal::{Reason, Trouble, check};
 use crate::turns::{random_line, turns_line};
 use gup_outline::Reader;
-use gup_script::Kind;
+use gup_script::{Kind, Op};
 use gup_text::{count, is_name, number};
+use std::alloc::AllocError;
 
 const MAX_PROCESSES: usize = 16;
 
@@ -19,6 +20,17 @@ const MAX_DEVICES: usize = 16;
 
 /// How many words the store of a device may have.
 const MAX_SLOTS: u64 = 4_096;
+
+/// Declares the handle of a pin, whose name is the first word behind the operation's own.
+fn declare_pinned(reader: &mut Reader, op: &Op, fields: &[&str]) -> Result<(), AllocError>
+    requires { IsDeclarable op.now (map (λ word. word.now) fields.now) reader.old }
+    ensures { OnOk result (reader.new ≡ with_pinned op.now (map (λ word. word.now) fields.now) reader.old) }
+{
+    match (op, fields) {
+        (Op::Pin { .. }, [name, ..]) => reader.add_handle(name),
+        _ => Ok(()),
+    }
+}
 
 #[tactic(auto, unfolding(crate::specs::Reading::on_in))]
 fn on_line(reader: &mut Reader, fields: &[&str]) -> Result<(), Trouble>
@@ -31,6 +43,7 @@ fn on_line(reader: &mut Reader, fields: &[&str]) -> Result<(), Trouble>
     let op = actor_op(reader, actor, word, fields)?;
     check(reader.has_room(), Reason::Limit)?;
     let op = op.ok_or(Reason::Later)?;
+    declare_pinned(reader, &op, fields)?;
     reader.add_operation(actor, op)?;
     Ok(())
 }

@@ -2,11 +2,12 @@
 //! A fault is the first that the words have.
 ghost use Rattle.std.specs.Prelude.{◌≡◌, map, Some};
 ghost use Rattle.std.specs.List.{list_all};
+ghost use Rattle.gup_text.specs.Text.{range_in};
 ghost use Rattle.gup_script.specs.Script.{Actor, actor_at};
-ghost use Rattle.gup_reader.specs.Reading.{rights_in, map_in, unmap_in, protect_in, discard_in, load_in, store_in, exit_in, pin_of, pin_in, get_in, put_in, fork_in, handle_in, give_in, transfer_in, segments_in, at_most_64, parts_in, mirror_in, look_in, move_in, thread_op_in, device_op_in, mover_op_in, op_of_kind, op_of_actor};
+ghost use Rattle.gup_reader.specs.Reading.{rights_in, map_in, unmap_in, protect_in, discard_in, load_in, store_in, exit_in, way_in, pinned_in, pin_in, get_in, put_in, fork_in, unpin_in, take_in, give_in, transfer_in, segments_in, at_most_64, parts_in, mirror_in, look_in, move_in, thread_op_in, device_op_in, mover_op_in, op_of_kind, op_of_actor};
 
 use crate::refusal::{Reason, check};
-use gup_base::{ActorNo, Rights};
+use gup_base::{ActorNo, PageNo, Rights};
 use gup_outline::Reader;
 use gup_script::{Kind, Op};
 use gup_text::{address, count, index, is_name, number, page, range, segment, word_no};
@@ -113,34 +114,65 @@ fn exit_op(fields: &[&str]) -> Result<Option<Op>, Reason>
     }
 }
 
-/// The words of a pin but for `long`.
-#[tactic(auto, unfolding(crate::specs::Reading::pin_of))]
+/// Whether a pin writes.
+#[tactic(auto, unfolding(crate::specs::Reading::way_in))]
+fn way(word: &str) -> Option<bool>
+    ensures { result ≡ way_in word.now }
+{
+    match word {
+        "read" => Some(false),
+        "write" => Some(true),
+        _ => None,
+    }
+}
+
+/// The pages of a pin.
+fn pinned_range(first: &str, count: &str) -> Option<(PageNo, u8)>
+    ensures { result ≡ range_in 16 first.now count.now }
+{
+    let (page, n) = range(MAX_PIN, first, count)?;
+    Some((page, n as u8))
+}
+
+/// The words of a pin but for `long`. A pin is built unless it is fast or long, in a script without forks.
+#[tactic(auto, unfolding(crate::specs::Reading::pinned_in))]
 fn pinned_pages(
     reader: &Reader,
+    built: bool,
     handle: &str,
     first: &str,
     count: &str,
-    way: &str,
+    way_word: &str,
 ) -> Result<Option<Op>, Reason>
-    ensures { result ≡ pin_of reader.now handle.now first.now count.now way.now }
+    ensures { result ≡ pinned_in built reader.now handle.now first.now count.now way_word.now }
 {
-    check(way == "read" || way == "write", Reason::Shape)?;
-    range(MAX_PIN, first, count).ok_or(Reason::Number)?;
+    let write = way(way_word).ok_or(Reason::Shape)?;
+    let (page, n) = pinned_range(first, count).ok_or(Reason::Number)?;
     check(is_name(handle), Reason::Name)?;
     check(reader.is_unused(handle), Reason::Twice)?;
-    Ok(None)
+    let handle = reader.next_handle().ok_or(Reason::Limit)?;
+    if built && !reader.has_forks() {
+        Ok(Some(Op::Pin {
+            handle,
+            page,
+            n,
+            write,
+        }))
+    } else {
+        Ok(None)
+    }
 }
 
 /// `pin` and `pinfast`.
 #[tactic(auto, unfolding(crate::specs::Reading::pin_in))]
-fn pin_op(reader: &Reader, fields: &[&str]) -> Result<Option<Op>, Reason>
-    ensures { result ≡ pin_in reader.now (map (λ word. word.now) fields.now) }
+fn pin_op(reader: &Reader, fast: bool, fields: &[&str]) -> Result<Option<Op>, Reason>
+    ensures { result ≡ pin_in fast reader.now (map (λ word. word.now) fields.now) }
 {
     match fields {
-        [handle, first, count, way] => pinned_pages(reader, handle, first, count, way),
+        [handle, first, count, way] => pinned_pages(reader, !fast, handle, first, count, way),
         [handle, first, count, way, long] => {
             check(*long == "long", Reason::Shape)?;
-            pinned_pages(reader, handle, first, count, way)
+            pinned_pages(reader, false, handle, first, count, way)
         }
         _ => Err(Reason::Shape),
     }
@@ -156,6 +188,7 @@ fn get_op(reader: &Reader, fields: &[&str]) -> Result<Option<Op>, Reason>
     page(page_word).ok_or(Reason::Number)?;
     check(is_name(handle), Reason::Name)?;
     check(reader.is_unused(handle), Reason::Twice)?;
+    reader.next_handle().ok_or(Reason::Limit)?;
     Ok(None)
 }
 
@@ -170,6 +203,7 @@ fn put_op(reader: &Reader, fields: &[&str]) -> Result<Option<Op>, Reason>
     Ok(None)
 }
 
+/// A fork is built in a script without pins.
 #[tactic(auto, unfolding(crate::specs::Reading::fork_in))]
 fn fork_op(reader: &Reader, fields: &[&str]) -> Result<Option<Op>, Reason>
     ensures { result ≡ fork_in reader.now (map (λ word. word.now) fields.now) }
@@ -180,19 +214,33 @@ fn fork_op(reader: &Reader, fields: &[&str]) -> Result<Option<Op>, Reason>
     let child = reader.process(child).ok_or(Reason::Name)?;
     check(reader.is_child(child), Reason::Name)?;
     check(!reader.is_forked(child), Reason::Twice)?;
-    Ok(Some(Op::Fork { child }))
+    if reader.has_handles() {
+        Ok(None)
+    } else {
+        Ok(Some(Op::Fork { child }))
+    }
 }
 
-/// `unpin` and `take`.
-#[tactic(auto, unfolding(crate::specs::Reading::handle_in))]
-fn handle_op(reader: &Reader, fields: &[&str]) -> Result<Option<Op>, Reason>
-    ensures { result ≡ handle_in reader.now (map (λ word. word.now) fields.now) }
+#[tactic(auto, unfolding(crate::specs::Reading::unpin_in))]
+fn unpin_op(reader: &Reader, fields: &[&str]) -> Result<Option<Op>, Reason>
+    ensures { result ≡ unpin_in reader.now (map (λ word. word.now) fields.now) }
 {
     let [handle] = fields else {
         return Err(Reason::Shape);
     };
-    check(reader.is_pin(handle), Reason::Name)?;
-    Ok(None)
+    let handle = reader.pin(handle).ok_or(Reason::Name)?;
+    Ok(Some(Op::Unpin { handle }))
+}
+
+#[tactic(auto, unfolding(crate::specs::Reading::take_in))]
+fn take_op(reader: &Reader, fields: &[&str]) -> Result<Option<Op>, Reason>
+    ensures { result ≡ take_in reader.now (map (λ word. word.now) fields.now) }
+{
+    let [handle] = fields else {
+        return Err(Reason::Shape);
+    };
+    let handle = reader.pin(handle).ok_or(Reason::Name)?;
+    Ok(Some(Op::Take { handle }))
 }
 
 #[tactic(auto, unfolding(crate::specs::Reading::give_in))]
@@ -202,25 +250,31 @@ fn give_op(reader: &Reader, fields: &[&str]) -> Result<Option<Op>, Reason>
     let [handle, to] = fields else {
         return Err(Reason::Shape);
     };
-    check(reader.is_pin(handle), Reason::Name)?;
+    let handle = reader.pin(handle).ok_or(Reason::Name)?;
     let to = reader.actor(to).ok_or(Reason::Name)?;
     check(reader.is_receiver(to), Reason::Name)?;
-    Ok(None)
+    Ok(Some(Op::Give { handle, to }))
 }
 
 /// `out` and `in`.
 #[tactic(auto, unfolding(crate::specs::Reading::transfer_in))]
-fn transfer_op(reader: &Reader, fields: &[&str]) -> Result<Option<Op>, Reason>
-    ensures { result ≡ transfer_in reader.now (map (λ word. word.now) fields.now) }
+fn transfer_op(reader: &Reader, outward: bool, fields: &[&str]) -> Result<Option<Op>, Reason>
+    ensures { result ≡ transfer_in outward reader.now (map (λ word. word.now) fields.now) }
 {
     let [handle, index_word, slot, words] = fields else {
         return Err(Reason::Shape);
     };
-    index(index_word).ok_or(Reason::Number)?;
-    index(slot).ok_or(Reason::Number)?;
-    count(1, MAX_TRANSFER, words).ok_or(Reason::Number)?;
-    check(reader.is_pin(handle), Reason::Name)?;
-    Ok(None)
+    let first = index(index_word).ok_or(Reason::Number)?;
+    let slot = index(slot).ok_or(Reason::Number)?;
+    let n = count(1, MAX_TRANSFER, words).ok_or(Reason::Number)?;
+    let handle = reader.pin(handle).ok_or(Reason::Name)?;
+    Ok(Some(Op::Transfer {
+        handle,
+        outward,
+        index: first,
+        slot,
+        n: n as u8,
+    }))
 }
 
 /// Whether the parts are spelled right and have at most 64 words together.
@@ -254,7 +308,7 @@ fn parts_op(reader: &Reader, fields: &[&str]) -> Result<Option<Op>, Reason>
     check(more.len() <= MAX_MORE_PARTS, Reason::Shape)?;
     index(slot).ok_or(Reason::Number)?;
     check(are_parts(parts), Reason::Number)?;
-    check(reader.is_pin(handle), Reason::Name)?;
+    reader.pin(handle).ok_or(Reason::Name)?;
     Ok(None)
 }
 
@@ -308,11 +362,13 @@ fn thread_op(reader: &Reader, word: &str, fields: &[&str]) -> Result<Option<Op>,
         "load" => load_op(fields),
         "store" => store_op(fields),
         "exit" => exit_op(fields),
-        "pin" | "pinfast" => pin_op(reader, fields),
+        "pin" => pin_op(reader, false, fields),
+        "pinfast" => pin_op(reader, true, fields),
         "get" => get_op(reader, fields),
         "put" => put_op(reader, fields),
         "fork" => fork_op(reader, fields),
-        "unpin" | "take" => handle_op(reader, fields),
+        "unpin" => unpin_op(reader, fields),
+        "take" => take_op(reader, fields),
         "give" => give_op(reader, fields),
         _ => Err(Reason::Word),
     }
@@ -328,9 +384,11 @@ fn device_op(
     ensures { result ≡ device_op_in reader.now device word.now (map (λ field. field.now) fields.now) }
 {
     match word {
-        "unpin" | "take" => handle_op(reader, fields),
+        "unpin" => unpin_op(reader, fields),
+        "take" => take_op(reader, fields),
         "give" => give_op(reader, fields),
-        "out" | "in" => transfer_op(reader, fields),
+        "out" => transfer_op(reader, true, fields),
+        "in" => transfer_op(reader, false, fields),
         "outv" | "inv" => parts_op(reader, fields),
         "mirror" => mirror_op(reader, device, fields),
         "look" => look_op(reader, device, fields),

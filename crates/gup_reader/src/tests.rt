@@ -1,5 +1,5 @@
 use super::*;
-use gup_base::{ActorNo, PageNo, ProcNo, Rights, WordNo};
+use gup_base::{ActorNo, HandleNo, PageNo, ProcNo, Rights, WordNo};
 use gup_script::{Kind, Op, Script};
 use std::alloc::Global;
 use std::process::Abort;
@@ -10,7 +10,7 @@ const DECLARED: &str =
     "gup 1\nframes 8 8 64\nprocess p\nchild c\nthread t p\ndevice d 64\nmover m\n";
 
 /// What stands behind the seven lines, and its first fault. Where a line has a second fault, the first goes before it.
-const LINES: [(&str, u32, Reason); 129] = [
+const LINES: [(&str, u32, Reason); 143] = [
     ("process q\t\n", 8, Reason::Byte),
     ("# \u{e9}\n", 8, Reason::Byte),
     (" \u{7f}wrong\n", 8, Reason::Byte),
@@ -136,11 +136,33 @@ const LINES: [(&str, u32, Reason); 129] = [
     ("random 1 1000001\n", 8, Reason::Limit),
     ("turns t\nrandom 1 1000000\n", 9, Reason::Limit),
     ("random 1 18446744073709551615\n", 8, Reason::Limit),
-    ("on t pin h 1 1 read\n", 8, Reason::Later),
     ("on t pin h 0 16 write long\n", 8, Reason::Later),
     ("on t pinfast h 34359738366 2 read\n", 8, Reason::Later),
     ("on t get g 0\n", 8, Reason::Later),
     ("on d mirror s c 0\n", 8, Reason::Later),
+    ("on t pin h 0 1 read\non d outv h 0 0:1\n", 9, Reason::Later),
+    (
+        "on t pin h 0 1 read\non d inv h 0 0:1 1:63\n",
+        9,
+        Reason::Later,
+    ),
+    ("on t pin h 0 1 read\non t fork c\n", 9, Reason::Later),
+    ("on t fork c\non t pin h 0 1 read\n", 9, Reason::Later),
+    ("on t fork c\non t pin t 0 1 read\n", 9, Reason::Twice),
+    ("on t pin h 0 1 read\non t fork p\n", 9, Reason::Name),
+    (
+        "on t pin h 0 1 read\non t pin h 1 1 write\n",
+        9,
+        Reason::Twice,
+    ),
+    ("on t pin h 0 1 read\nprocess h\n", 9, Reason::Twice),
+    ("on t pin h 0 1 read\non d take g\n", 9, Reason::Name),
+    ("on t pin h 0 1 read\non t give h m\n", 9, Reason::Name),
+    ("on t pin h 0 1 read\non d give h p\n", 9, Reason::Name),
+    ("on t pin h 0 1 read\non t put h\n", 9, Reason::Name),
+    ("on t pin h 0 1 read\non d out h 0 0 0\n", 9, Reason::Number),
+    ("on t pin h 0 1 read\non t in h 0 0 1\n", 9, Reason::Word),
+    ("on t pin h 0 1 read\non m take h\n", 9, Reason::Word),
     ("on m move c 0 movable\n", 8, Reason::Later),
     (
         "# x\n\n#\non m move p 34359738367 normal\n",
@@ -194,6 +216,10 @@ const TEXTS: [(&str, u32, Reason); 24] = [
 const WHOLE: &str =
     "# all\ngup 1\n\nframes 512 512 8192\nrandom 3 0\nprocess p\nchild c\nthread t p\ndevice d 4096\nthread u c\nmover m\nseed 18446744073709551615\non t map 5 1024 r\non u discard 0 3\non t protect 34359738367 1 rw\non t fork c\non t store 5.511 7\non t exit\nturns t u*3 d m*2\nrandom 7 6\nturns d\n";
 
+/// A thread and a device that pin, give, take and unpin handles, and move words of one.
+const HELD: &str =
+    "gup 1\nframes 8 8 64\nprocess p\nthread t p\ndevice d 64\nmover m\non t pin h 5 16 write\non t pin g 34359738367 1 read\non t give h d\non d take h\non d out h 4294967295 0 64\non d in g 0 4294967295 1\non d give g t\non t take g\non t unpin h\non d unpin g\n";
+
 /// The fault for which the text is refused.
 fn fault(alloc: Global, text: &[u8]) -> Result<ScriptFault, Fail> {
     match read_script(alloc, text) {
@@ -231,6 +257,47 @@ fn faults_of_texts(rt: HostRuntime) -> Result<(), Fail> {
     expect_faults(&rt, rt.alloc(), "", &TEXTS)
 }
 
+/// A script that is as long as a limit allows has so many lines behind the seven, each of this prefix, a number and
+/// this suffix; with one line more it has this fault in that line.
+const LIMITS: [(u32, &str, &str, &str, Reason); 12] = [
+    (14, "process q", "", "child r\n", Reason::Limit),
+    (14, "child q", "", "process p\n", Reason::Twice),
+    (63, "thread u", " p", "thread v c\n", Reason::Limit),
+    (63, "thread u", " p", "thread t c\n", Reason::Twice),
+    (15, "device e", " 1", "device f 4096\n", Reason::Limit),
+    (16_384, "on t load ", ".0", "on t exit\n", Reason::Limit),
+    (16_384, "on t load ", ".0", "on t get g 0\n", Reason::Limit),
+    (16_384, "on t load ", ".0", "on t get t 0\n", Reason::Twice),
+    (
+        1_024,
+        "on t pin h",
+        " 0 1 read",
+        "on t pin g 0 1 read\n",
+        Reason::Limit,
+    ),
+    (
+        1_024,
+        "on t pin h",
+        " 0 1 read",
+        "on t get g 0\n",
+        Reason::Limit,
+    ),
+    (
+        1_024,
+        "on t pin h",
+        " 0 1 read",
+        "on t get h7 0\n",
+        Reason::Twice,
+    ),
+    (
+        1_024,
+        "on t pin h",
+        " 0 1 read",
+        "on t fork c\n",
+        Reason::Later,
+    ),
+];
+
 /// The text with so many more lines `PREFIX`, number and `SUFFIX`.
 fn with_lines(text: &mut String, count: u32, prefix: &str, suffix: &str) -> Result<(), Fail> {
     let alloc = *text.allocator();
@@ -241,34 +308,28 @@ fn with_lines(text: &mut String, count: u32, prefix: &str, suffix: &str) -> Resu
     Ok(())
 }
 
+fn expect_limit(
+    rt: &impl Abort,
+    alloc: Global,
+    row: &(u32, &str, &str, &str, Reason),
+) -> Result<(), Fail> {
+    let (most, prefix, suffix, beyond, reason) = row;
+    let mut text = String::from_str(alloc, DECLARED)?;
+    with_lines(&mut text, *most, prefix, suffix)?;
+    assert!(rt; read_script(alloc, text.as_bytes()).is_ok(), "{prefix}");
+    text.push_str(beyond)?;
+    let expected = ScriptFault {
+        line: most.checked_add(8).ok_or("a line")?,
+        reason: *reason,
+    };
+    assert_eq!(rt; fault(alloc, text.as_bytes())?, expected, "{beyond}");
+    Ok(())
+}
+
 #[test]
 fn limits(rt: HostRuntime) -> Result<(), Fail> {
-    for (most, prefix, suffix, beyond, reason) in [
-        (14, "process q", "", "child r\n", Reason::Limit),
-        (14, "child q", "", "process p\n", Reason::Twice),
-        (63, "thread u", " p", "thread v c\n", Reason::Limit),
-        (63, "thread u", " p", "thread t c\n", Reason::Twice),
-        (15, "device e", " 1", "device f 4096\n", Reason::Limit),
-        (16_384, "on t load ", ".0", "on t exit\n", Reason::Limit),
-        (16_384, "on t load ", ".0", "on t get g 0\n", Reason::Limit),
-        (16_384, "on t load ", ".0", "on t get t 0\n", Reason::Twice),
-    ] {
-        let mut text = String::from_str(rt.alloc(), DECLARED)?;
-        with_lines(&mut text, most, prefix, suffix)?;
-        assert!(rt;
-            read_script(rt.alloc(), text.as_bytes()).is_ok(),
-            "{prefix}"
-        );
-        text.push_str(beyond)?;
-        let fault = fault(rt.alloc(), text.as_bytes())?;
-        assert_eq!(rt;
-            fault,
-            ScriptFault {
-                line: most + 8,
-                reason
-            },
-            "{beyond}"
-        );
+    for row in &LIMITS {
+        expect_limit(&rt, rt.alloc(), row)?;
     }
     Ok(())
 }
@@ -358,4 +419,69 @@ fn whole_script(rt: HostRuntime) -> Result<(), Fail> {
     expect_whole(&rt, &script)?;
     let copy = script.copy()?;
     expect_whole(&rt, &copy)
+}
+
+/// What the readers say of the script with handles.
+fn expect_held(rt: &impl Abort, script: &Script) -> Result<(), Fail> {
+    let [h, g] = [0, 1].map(|v| HandleNo::new(v));
+    let h = h.ok_or("a handle")?;
+    let g = g.ok_or("a handle")?;
+    assert_eq!(rt; script.actors(), 3);
+    assert_eq!(rt; script.handles(), 2);
+    assert_eq!(rt; script.handle_name(h), "h");
+    assert_eq!(rt; script.handle_name(g), "g");
+    let [t, d] = [0, 1].map(|v| ActorNo::new(v));
+    let t = t.ok_or("an actor")?;
+    let d = d.ok_or("an actor")?;
+    let page = PageNo::new(5).ok_or("a page")?;
+    let last = PageNo::new(34_359_738_367).ok_or("a page")?;
+    let of_thread = [
+        Op::Pin {
+            handle: h,
+            page,
+            n: 16,
+            write: true,
+        },
+        Op::Pin {
+            handle: g,
+            page: last,
+            n: 1,
+            write: false,
+        },
+        Op::Give { handle: h, to: d },
+        Op::Take { handle: g },
+        Op::Unpin { handle: h },
+    ];
+    assert_eq!(rt; script.ops(t), of_thread.as_slice());
+    let of_device = [
+        Op::Take { handle: h },
+        Op::Transfer {
+            handle: h,
+            outward: true,
+            index: u32::MAX,
+            slot: 0,
+            n: 64,
+        },
+        Op::Transfer {
+            handle: g,
+            outward: false,
+            index: 0,
+            slot: u32::MAX,
+            n: 1,
+        },
+        Op::Give { handle: g, to: t },
+        Op::Unpin { handle: g },
+    ];
+    assert_eq!(rt; script.ops(d), of_device.as_slice());
+    Ok(())
+}
+
+#[test]
+fn script_with_handles(rt: HostRuntime) -> Result<(), Fail> {
+    let script = read_script(rt.alloc(), HELD.as_bytes())
+        .ok()
+        .ok_or("the text is a script")?;
+    expect_held(&rt, &script)?;
+    let copy = script.copy()?;
+    expect_held(&rt, &copy)
 }

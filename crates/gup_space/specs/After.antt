@@ -1,14 +1,15 @@
--- What the events of faults, mappings and data make of frames and of one process.
-use Rattle.std.specs.Prelude.{◌≡◌, ℕ, ◌-◌, Bool, true, false, List, [], ◌∷◌, Option, Some, None}
+-- What the events of faults, mappings, pins and data make of frames and of one process.
+use Rattle.std.specs.Prelude.{◌≡◌, ℕ, ◌-◌, ◌%◌, Bool, true, false, List, [], ◌∷◌, Option, Some, None}
 use Rattle.gup_base.specs.declared.entry.Entry.{Entry}
 use Rattle.gup_base.specs.declared.entry.Rights.{Rights}
+use Rattle.gup_plain.specs.Event.{words}
 use Rattle.gup_plain.specs.Put.{put}
-use Rattle.gup_frames.specs.Frames.{FramesValue, taken, without_references, with_mark, with_word, copied}
+use Rattle.gup_frames.specs.Frames.{FramesValue, taken, with_references, without_references, with_mark, with_word, copied}
 use Rattle.gup_space.specs.Shows.{Change}
 use Rattle.gup_space.specs.Space.{SpaceValue, with_entry, with_rights, with_pages}
-use Rattle.gup_events.specs.Event.{CoreEvent, entry_of, take_frame, fill, count_one, set_mark, upgrade, break_entry, put_entry, drop_entry, discard_entry, map_pages, lower_entry, protect_pages, load, store}
+use Rattle.gup_events.specs.Event.{CoreEvent, entry_of, take_frame, fill, count_one, set_mark, upgrade, break_entry, put_entry, drop_entry, discard_entry, map_pages, lower_entry, protect_pages, load, store, raise_flag, pin_page, make_handle, unpin_page, give_handle, take_handle, move_out, move_in, bias}
 
--- the event is one of faults, mappings or data that concerns process p alone, or frames alone
+-- the event is one of faults, mappings, pins or data that concerns process p alone, or no process
 pub data IsOf (p : ℕ) : CoreEvent → Type 0 where
   taking : (a f : ℕ) → IsOf p (take_frame a f)
   filling : (a page f : ℕ) → IsOf p (fill a p page f)
@@ -24,6 +25,14 @@ pub data IsOf (p : ℕ) : CoreEvent → Type 0 where
   protecting : (a page n : ℕ) (rights : Rights) → IsOf p (protect_pages a p page n rights)
   loading : (a page word f value : ℕ) → IsOf p (load a p page word f value)
   storing : (a page word f value : ℕ) → IsOf p (store a p page word f value)
+  flagging : (a : ℕ) → IsOf p (raise_flag a p)
+  pinning : (a page : ℕ) (e : Entry) (write long : Bool) → IsOf p (pin_page a p page e write long)
+  making : (a h : ℕ) → IsOf p (make_handle a h)
+  unpinning : (a h f : ℕ) (left : List ℕ) → IsOf p (unpin_page a h f left)
+  giving : (a h to : ℕ) → IsOf p (give_handle a h to)
+  taking_over : (a h : ℕ) → IsOf p (take_handle a h)
+  moving_out : (a h index slot f value : ℕ) → IsOf p (move_out a h index slot f value)
+  moving_in : (a h index slot f value : ℕ) → IsOf p (move_in a h index slot f value)
 
 -- each of them is
 abbrev pub AreOf : (p : ℕ) → List CoreEvent → Type 0
@@ -38,6 +47,9 @@ frames_after (set_mark a p page f) frames = with_mark f true frames
 frames_after (break_entry a p page old new was writable) frames = with_mark new true (copied old new frames)
 frames_after (put_entry a f) frames = without_references f 1 frames
 frames_after (store a p page word f value) frames = with_word f word value frames
+frames_after (pin_page a p page e write long) frames = with_references e.frame bias frames
+frames_after (unpin_page a h f left) frames = without_references f bias frames
+frames_after (move_in a h index slot f value) frames = with_word f (index % words) value frames
 frames_after e frames = frames
 
 -- the process behind such an event of its own
@@ -53,6 +65,7 @@ space_after (discard_entry a p page was) space = with_entry page None space
 space_after (map_pages a p page n rights) space = with_pages page n rights space
 space_after (lower_entry a p page f) space = with_entry page (Some (entry_of f false)) space
 space_after (protect_pages a p page n rights) space = with_rights page n rights space
+space_after (raise_flag a p) space = record space { has_pinned = true }
 space_after e space = space
 
 -- and behind a list of them

@@ -5,7 +5,7 @@ use Rattle.std.proofs.lemmas.Bool.Decides.{nat_tests}
 use Rattle.gup_space.specs.Space.{SpaceValue}
 use Rattle.gup_frames.specs.Frames.{FramesValue}
 use Rattle.gup_space.specs.Shows.{ShowsFrames, ShowsSpace, Change, AreEvents}
-use Rattle.gup_space.specs.After.{IsOf, taking, filling, counting, marking_it, upgrading, breaking, putting, dropping, discarding, mapping, lowering, protecting, loading, storing, AreOf, frames_after, space_after, all_frames_after, all_space_after, IsShownAs, IsMadeBy}
+use Rattle.gup_space.specs.After.{IsOf, taking, filling, counting, marking_it, upgrading, breaking, putting, dropping, discarding, mapping, lowering, protecting, loading, storing, flagging, pinning, making, unpinning, giving, taking_over, moving_out, moving_in, AreOf, frames_after, space_after, all_frames_after, all_space_after, IsShownAs, IsMadeBy}
 use Rattle.gup_events.specs.State.{CoreState}
 use Rattle.gup_events.specs.Event.{CoreEvent, happens}
 use Rattle.gup_events.specs.Invariant.{run}
@@ -37,6 +37,22 @@ leaves_other p q space s other (protecting a page n rights) h =
     record { right = λ g. grind (arith, nat_tests, h.right g); pages = h.pages; entry = h.entry; sequence = h.sequence; has_pinned = h.has_pinned; structure = h.structure; table = h.table }
 leaves_other p q space s other (loading a page word f value) h = h
 leaves_other p q space s other (storing a page word f value) h =
+    record { right = h.right; pages = h.pages; entry = h.entry; sequence = h.sequence; has_pinned = h.has_pinned; structure = h.structure; table = h.table }
+leaves_other p q space s other (flagging a) h =
+    record { right = h.right; pages = h.pages; entry = h.entry; sequence = h.sequence; has_pinned = grind (arith, nat_tests, h.has_pinned); structure = h.structure; table = h.table }
+leaves_other p q space s other (pinning a page e write long) h =
+    record { right = h.right; pages = h.pages; entry = h.entry; sequence = h.sequence; has_pinned = h.has_pinned; structure = h.structure; table = h.table }
+leaves_other p q space s other (making a k) h =
+    record { right = h.right; pages = h.pages; entry = h.entry; sequence = h.sequence; has_pinned = h.has_pinned; structure = h.structure; table = h.table }
+leaves_other p q space s other (unpinning a k f left) h =
+    record { right = h.right; pages = h.pages; entry = h.entry; sequence = h.sequence; has_pinned = h.has_pinned; structure = h.structure; table = h.table }
+leaves_other p q space s other (giving a k to) h =
+    record { right = h.right; pages = h.pages; entry = h.entry; sequence = h.sequence; has_pinned = h.has_pinned; structure = h.structure; table = h.table }
+leaves_other p q space s other (taking_over a k) h =
+    record { right = h.right; pages = h.pages; entry = h.entry; sequence = h.sequence; has_pinned = h.has_pinned; structure = h.structure; table = h.table }
+leaves_other p q space s other (moving_out a k index slot f value) h =
+    record { right = h.right; pages = h.pages; entry = h.entry; sequence = h.sequence; has_pinned = h.has_pinned; structure = h.structure; table = h.table }
+leaves_other p q space s other (moving_in a k index slot f value) h =
     record { right = h.right; pages = h.pages; entry = h.entry; sequence = h.sequence; has_pinned = h.has_pinned; structure = h.structure; table = h.table }
 
 -- and so do lists of them
@@ -76,6 +92,22 @@ shows_frames p frames s (loading a page word f value) h =
     record { movable = h.movable; normal = h.normal; count = h.count; mark = h.mark; word = h.word }
 shows_frames p frames s (storing a page word f value) h =
     record { movable = h.movable; normal = h.normal; count = h.count; mark = h.mark; word = λ g w. grind (arith, nat_tests, h.word g w) }
+shows_frames p frames s (flagging a) h =
+    record { movable = h.movable; normal = h.normal; count = h.count; mark = h.mark; word = h.word }
+shows_frames p frames s (pinning a page e write long) h =
+    record { movable = h.movable; normal = h.normal; count = λ g. grind (arith, nat_tests, h.count g, h.count e.frame); mark = h.mark; word = h.word }
+shows_frames p frames s (making a k) h =
+    record { movable = h.movable; normal = h.normal; count = h.count; mark = h.mark; word = h.word }
+shows_frames p frames s (unpinning a k f left) h =
+    record { movable = h.movable; normal = h.normal; count = λ g. grind (arith, nat_tests, h.count g, h.count f); mark = λ g. grind (arith, nat_tests, h.mark g, h.mark f, h.count f); word = h.word }
+shows_frames p frames s (giving a k to) h =
+    record { movable = h.movable; normal = h.normal; count = h.count; mark = h.mark; word = h.word }
+shows_frames p frames s (taking_over a k) h =
+    record { movable = h.movable; normal = h.normal; count = h.count; mark = h.mark; word = h.word }
+shows_frames p frames s (moving_out a k index slot f value) h =
+    record { movable = h.movable; normal = h.normal; count = h.count; mark = h.mark; word = h.word }
+shows_frames p frames s (moving_in a k index slot f value) h =
+    record { movable = h.movable; normal = h.normal; count = h.count; mark = h.mark; word = λ g w. grind (arith, nat_tests, h.word g w) }
 
 pub shows_space : (p : ℕ) (space : SpaceValue) (s : CoreState) {e : CoreEvent} → IsOf p e → ShowsSpace p space s → ShowsSpace p (space_after e space) (happens s e)
 shows_space p space s (taking a f) h =
@@ -105,6 +137,22 @@ shows_space p space s (protecting a page n rights) h =
 shows_space p space s (loading a page word f value) h =
     record { right = h.right; pages = h.pages; entry = h.entry; sequence = h.sequence; has_pinned = h.has_pinned; structure = h.structure; table = h.table }
 shows_space p space s (storing a page word f value) h =
+    record { right = h.right; pages = h.pages; entry = h.entry; sequence = h.sequence; has_pinned = h.has_pinned; structure = h.structure; table = h.table }
+shows_space p space s (flagging a) h =
+    record { right = h.right; pages = h.pages; entry = h.entry; sequence = h.sequence; has_pinned = grind (arith, nat_tests, h.has_pinned); structure = h.structure; table = h.table }
+shows_space p space s (pinning a page e write long) h =
+    record { right = h.right; pages = h.pages; entry = h.entry; sequence = h.sequence; has_pinned = h.has_pinned; structure = h.structure; table = h.table }
+shows_space p space s (making a k) h =
+    record { right = h.right; pages = h.pages; entry = h.entry; sequence = h.sequence; has_pinned = h.has_pinned; structure = h.structure; table = h.table }
+shows_space p space s (unpinning a k f left) h =
+    record { right = h.right; pages = h.pages; entry = h.entry; sequence = h.sequence; has_pinned = h.has_pinned; structure = h.structure; table = h.table }
+shows_space p space s (giving a k to) h =
+    record { right = h.right; pages = h.pages; entry = h.entry; sequence = h.sequence; has_pinned = h.has_pinned; structure = h.structure; table = h.table }
+shows_space p space s (taking_over a k) h =
+    record { right = h.right; pages = h.pages; entry = h.entry; sequence = h.sequence; has_pinned = h.has_pinned; structure = h.structure; table = h.table }
+shows_space p space s (moving_out a k index slot f value) h =
+    record { right = h.right; pages = h.pages; entry = h.entry; sequence = h.sequence; has_pinned = h.has_pinned; structure = h.structure; table = h.table }
+shows_space p space s (moving_in a k index slot f value) h =
     record { right = h.right; pages = h.pages; entry = h.entry; sequence = h.sequence; has_pinned = h.has_pinned; structure = h.structure; table = h.table }
 
 pub show_frames : (p : ℕ) (frames : FramesValue) (s : CoreState) (es : List CoreEvent) → AreOf p es → ShowsFrames frames s → ShowsFrames (all_frames_after es frames) (run s es)

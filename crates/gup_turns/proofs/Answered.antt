@@ -12,20 +12,20 @@ use Rattle.gup_plain.specs.declared.note.What.{What}
 use Rattle.gup_plain.specs.declared.note.What.TheVariants.{Silent, Idle, Wait, Event, Done}
 use Rattle.gup_plain.specs.declared.note.Waiting.{Waiting}
 use Rattle.gup_script.specs.declared.op.Op.{Op}
-use Rattle.gup_script.specs.declared.op.Op.TheVariants.{Map, Unmap, Protect, Discard, Load, Store, Fork, Exit}
 use Rattle.gup_script.specs.Script.{ScriptValue, Actor}
 use Rattle.gup_script.specs.Valid.{IsScript}
-use Rattle.gup_follows.specs.Follows.{refuses, notes_of_turn}
+use Rattle.gup_follows.specs.Follows.{refuses, EndsPin, notes_of_turn}
 use Rattle.gup_follows.specs.Order.{Turn, journal_of, places_behind}
-use Rattle.gup_follows.specs.Place.{Place, place_after, place_behind, ops_of, ops_in, process_of}
-use Rattle.gup_turns.specs.Cause.{IsKnownAnswer, IsKnown, AreKnown, answers_in, answered_in, HaveFinished}
+use Rattle.gup_follows.specs.Place.{Place, place_after, place_behind, ops_of, ops_in, Doer, doer}
+use Rattle.gup_turns.specs.Cause.{IsKnownCause, IsKnownAnswer, IsKnown, AreKnown, answers_in, answered_in, HaveFinished}
 use Rattle.gup_turns.specs.Cost.{operations}
 use Rattle.gup_turns.specs.Pages.{sum_below}
 use Rattle.gup_turns.specs.Reached.{ForkPlace, IsStanding}
 use Rattle.gup_turns.specs.Run.{RunState, Runs, run_start, run_after, taken_by, taken_in, op_in, waiting_in}
 use Rattle.gup_turns.proofs.Puts.{by_points, put_same, put_other, put_own}
+use Rattle.gup_turns.proofs.Rightness.{unrefused_short, not_both}
 use Rattle.gup_turns.specs.ScriptLemmas.{has_ops_declared}
-use Rattle.gup_turns.proofs.Shapes.{TurnOf, refused, mapped, protected, loaded, stored, took, took_last, passed, passed_last, took_lowest, took_all, began, passed_page, counted_page, shared_page, ended, TurnAt, idles, waits, goes}
+use Rattle.gup_turns.proofs.Shapes.{TurnOf, refused, mapped, protected, loaded, stored, gave, took_over, took, took_last, passed, passed_last, took_lowest, took_all, pinned_page, pinned_all, pinned_short, unpinned_page, unpinned_last, moved_word, moved_last, began, passed_page, counted_page, shared_page, ended, TurnAt, idles, waits, goes}
 use Rattle.gup_turns.proofs.Stands.{stands_on}
 use Rattle.gup_turns.proofs.Steps.{Stands, taken}
 use Rattle.gup_turns.proofs.Sums.{sum_at, sum_zero, sum_of_list}
@@ -33,32 +33,17 @@ use Rattle.gup_turns.proofs.Through.{Law}
 
 -- no operation is refused by an answer that comes of what none has as yet
 
-abbrev pub NeverRefuses : Op → Answer → Type 0
-NeverRefuses op answer = refuses op answer ≡ false
+unmovable_never : (op : Op) (count : ℕ) → refuses op (answers.Unmovable count) ≡ false
+unmovable_never op count = grind arith
 
-never : (op : Op) (count : ℕ) → NeverRefuses op (answers.Unmovable count) × NeverRefuses op (answers.Busy count) × NeverRefuses op answers.Untouched × NeverRefuses op answers.Stale × NeverRefuses op answers.NotHeld × NeverRefuses op answers.Range
-never (Map page n rights) count = (refl, refl, refl, refl, refl, refl)
-never (Unmap page n) count = (refl, refl, refl, refl, refl, refl)
-never (Protect page n rights) count = (refl, refl, refl, refl, refl, refl)
-never (Discard page n) count = (refl, refl, refl, refl, refl, refl)
-never (Load page word) count = (refl, refl, refl, refl, refl, refl)
-never (Store page word value) count = (refl, refl, refl, refl, refl, refl)
-never (Fork child) count = (refl, refl, refl, refl, refl, refl)
-never Exit count = (refl, refl, refl, refl, refl, refl)
+busy_never : (op : Op) (count : ℕ) → refuses op (answers.Busy count) ≡ false
+busy_never op count = grind arith
 
-never_pins : (op : Op) (pages got wanted : ℕ) (cause : Cause) → NeverRefuses op (answers.Pinned pages) × NeverRefuses op (answers.Short got wanted cause) × NeverRefuses op answers.Words
-never_pins (Map page n rights) pages got wanted cause = (refl, refl, refl)
-never_pins (Unmap page n) pages got wanted cause = (refl, refl, refl)
-never_pins (Protect page n rights) pages got wanted cause = (refl, refl, refl)
-never_pins (Discard page n) pages got wanted cause = (refl, refl, refl)
-never_pins (Load page word) pages got wanted cause = (refl, refl, refl)
-never_pins (Store page word value) pages got wanted cause = (refl, refl, refl)
-never_pins (Fork child) pages got wanted cause = (refl, refl, refl)
-never_pins Exit pages got wanted cause = (refl, refl, refl)
+untouched_never : (op : Op) → refuses op answers.Untouched ≡ false
+untouched_never op = grind arith
 
-not_both : (b : Bool) → b ≡ false → IsTrue b → ⊥
-not_both true lacks has = cc lacks
-not_both false lacks has = cc has
+stale_never : (op : Op) → refuses op answers.Stale ≡ false
+stale_never op = grind arith
 
 known_refusal : (op : Op) (answer : Answer) → IsTrue (refuses op answer) → IsKnownAnswer answer
 known_refusal op answers.Plain is = tt
@@ -69,43 +54,60 @@ known_refusal op answers.NoFrame is = tt
 known_refusal op answers.Overlap is = tt
 known_refusal op answers.Full is = tt
 known_refusal op answers.Unborn is = tt
-known_refusal op (answers.Unmovable count) is = not_both (refuses op (answers.Unmovable count)) (never op count).0 is
-known_refusal op (answers.Busy count) is = not_both (refuses op (answers.Busy count)) (never op count).1 is
-known_refusal op answers.Untouched is = not_both (refuses op answers.Untouched) (never op 0).2 is
-known_refusal op answers.Stale is = not_both (refuses op answers.Stale) (never op 0).3 is
-known_refusal op answers.NotHeld is = not_both (refuses op answers.NotHeld) (never op 0).4 is
-known_refusal op answers.Range is = not_both (refuses op answers.Range) (never op 0).5 is
-known_refusal op (answers.Pinned pages) is = not_both (refuses op (answers.Pinned pages)) (never_pins op pages 0 0 causes.Missing).0 is
-known_refusal op (answers.Short got wanted cause) is = not_both (refuses op (answers.Short got wanted cause)) (never_pins op 0 got wanted cause).1 is
-known_refusal op answers.Words is = not_both (refuses op answers.Words) (never_pins op 0 0 0 causes.Missing).2 is
+known_refusal op (answers.Unmovable count) is = not_both (refuses op (answers.Unmovable count)) (unmovable_never op count) is
+known_refusal op (answers.Busy count) is = not_both (refuses op (answers.Busy count)) (busy_never op count) is
+known_refusal op answers.Untouched is = not_both (refuses op answers.Untouched) (untouched_never op) is
+known_refusal op answers.Stale is = not_both (refuses op answers.Stale) (stale_never op) is
+known_refusal op answers.NotHeld is = tt
+known_refusal op answers.Range is = tt
+known_refusal op (answers.Pinned pages) is = tt
+known_refusal op (answers.Short got wanted cause) is =
+    absurd (not_both (refuses op (answers.Short got wanted cause)) (unrefused_short op got wanted cause) is)
+known_refusal op answers.Words is = tt
+
+-- what ends a pin is a cause that there is
+known_cause : (cause : Cause) → EndsPin cause → IsKnownCause cause
+known_cause causes.Missing end = tt
+known_cause causes.Forbidden end = tt
+known_cause causes.NoFrame end = tt
+known_cause (causes.Unmovable count) end = end
 
 -- the notes of a turn
 abbrev pub AreKnownWhats : List What → Type 0
 AreKnownWhats [] = Unit {0}
 AreKnownWhats (what ∷ whats) = IsKnown what × AreKnownWhats whats
 
-known_turn : {s : PlainState} {a p : ℕ} {place : Place} {op : Op} {from to : ForkPlace} {whats : List What} → TurnOf s a p place op from whats to → AreKnownWhats whats
+known_turn : {s : PlainState} {who : Doer} {place : Place} {op : Op} {from to : ForkPlace} {whats : List What} → TurnOf s who place op from whats to → AreKnownWhats whats
 known_turn (refused op answer first refusal right passes) = (known_refusal op answer refusal, tt)
 known_turn (mapped page n rights first undenied) = (tt, (tt, tt))
 known_turn (protected page n rights first undenied) = (tt, (tt, tt))
 known_turn (loaded page word value first undenied) = (tt, (tt, tt))
 known_turn (stored page word value first undenied) = (tt, (tt, tt))
+known_turn (gave handle to first undenied) = (tt, (tt, tt))
+known_turn (took_over handle first) = (tt, (tt, tt))
 known_turn (took op page n event over more) = (tt, tt)
 known_turn (took_last op page n event over last) = (tt, (tt, tt))
 known_turn (passed op page n event over more none) = (tt, tt)
 known_turn (passed_last op page n event over last none) = (tt, tt)
 known_turn (took_lowest page none) = (tt, tt)
 known_turn (took_all none) = (tt, tt)
+known_turn (pinned_page handle page n write more undenied) = (tt, tt)
+known_turn (pinned_all handle page n write last undenied) = (tt, (tt, (tt, tt)))
+known_turn (pinned_short handle page n write cause some less end right) = (tt, (known_cause cause end, tt))
+known_turn (unpinned_page handle undenied more) = (tt, tt)
+known_turn (unpinned_last handle none undenied last) = (tt, (tt, tt))
+known_turn (moved_word handle outward index slot n value more undenied) = (tt, tt)
+known_turn (moved_last handle outward index slot n value last undenied) = (tt, (tt, tt))
 known_turn (began child first) = (tt, tt)
 known_turn (passed_page child first page begun up) = (tt, tt)
 known_turn (counted_page child first page begun up) = (tt, tt)
 known_turn (shared_page child page begun) = (tt, tt)
 known_turn (ended child first begun) = (tt, (tt, tt))
 
-known_taken : {s : PlainState} {a p : ℕ} {place : Place} {op : Option Op} {waiting : Option Waiting} {from to : ForkPlace} {whats : List What} → TurnAt s a p place op waiting from whats to → AreKnownWhats whats
+known_taken : {s : PlainState} {who : Doer} {place : Place} {op : Option Op} {waiting : Option Waiting} {from to : ForkPlace} {whats : List What} → TurnAt s who place op waiting from whats to → AreKnownWhats whats
 known_taken (idles waiting at) = (tt, tt)
 known_taken (waits op waiting at) = (tt, tt)
-known_taken (goes op whats from to birth turn) = known_turn turn
+known_taken (goes op whats from to birth own turn) = known_turn turn
 
 known_notes : (number actor op : ℕ) (whats : List What) (rest : List NoteValue) → AreKnownWhats whats → AreKnown rest → AreKnown (notes_of_turn number actor op whats ++ rest)
 known_notes number actor op [] rest known later = later
@@ -168,7 +170,7 @@ turn_counts script r a = go (nat_le (length script.actors) a) refl
   where
     idle_counts : (o : Option Op) → op_in script r a ≡ o → o ≡ None → all_answered script (run_after script r a).places ≡ all_answered script r.places + answers_in (taken_in script r a).whats
     idle_counts o is none =
-        let idle : (taken_in script r a).whats ≡ Idle ∷ [] = ap (λ (x : Option Op). (taken_by r.core a (process_of script a) (r.places a).far x (waiting_in script r a)).whats) (is ∙ none) in
+        let idle : (taken_in script r a).whats ≡ Idle ∷ [] = ap (λ (x : Option Op). (taken_by r.core (doer script a) (r.places a).far x (waiting_in script r a)).whats) (is ∙ none) in
         let places : (run_after script r a).places ≡ r.places = ap (λ (ws : List What). put a (place_behind (r.places a) ws) r.places) idle ∙ put_own a r.places in
         let same = ap (all_answered script) places in
         let nothing : answers_in (taken_in script r a).whats ≡ 0 = ap answers_in idle in

@@ -1,5 +1,5 @@
--- What a turn of an operation that isn't a fork does to the mapped pages of its process and to jobs, and how far it
--- brings the operation.
+-- What a turn of an operation on pages that isn't a fork does to the mapped pages of its process and to jobs, and how
+-- far it brings the operation.
 use Rattle.std.proofs.Common.{◌≡◌, ℕ, ◌+◌, ◌<◌, ◌≤◌, ◌==◌, Bool, true, false, is_some, if◌then◌else◌, List, [], ◌∷◌, ◌++◌, Option, Some, None, inl, inr, refl, ap, sym, subst, ◌∙◌, zero, suc, arith, append_assoc}
 use Rattle.std.specs.Prelude.{◌⊎◌, Ok}
 use Rattle.std.proofs.lemmas.Bool.Decides.{nat_tests}
@@ -13,9 +13,10 @@ use Rattle.gup_plain.specs.declared.answer.Answer.TheVariants as answers
 use Rattle.gup_plain.specs.declared.event.PlainEvent.TheVariants as events
 use Rattle.gup_plain.specs.declared.note.What.{What}
 use Rattle.gup_plain.specs.declared.note.What.TheVariants.{Event}
-use Rattle.gup_plain.specs.Denial.{any_mapped, any_unmapped, map_denial, protect_denial}
+use Rattle.gup_plain.specs.Denial.{any_unmapped, protect_denial}
 use Rattle.gup_script.specs.declared.op.Op.{Op}
-use Rattle.gup_script.specs.declared.op.Op.TheVariants.{Map, Unmap, Protect, Discard, Load, Store, Fork, Exit}
+use Rattle.gup_script.specs.declared.op.Op.TheVariants.{Map, Unmap, Protect, Discard, Load, Store, Pin, Unpin, Give, Take, Transfer, Fork, Exit}
+use Rattle.gup_script.specs.Limits.{most_pinned}
 use Rattle.gup_events.specs.State.{CoreState, Job, idle, marking}
 use Rattle.gup_events.specs.Event.{CoreEvent, happens, protect_pages, lower_entry, drop_entry, discard_entry, upgrade}
 use Rattle.gup_events.specs.Fault.{Fault, fills, fills_writable, breaks, marks, makes_writable, read_fault, write_fault, gives_back}
@@ -23,10 +24,11 @@ use Rattle.gup_events.specs.Invariant.{run}
 use Rattle.gup_follows.specs.Place.{Place, place_behind}
 use Rattle.gup_turns.specs.Cost.{op_left, IsAnswered, IsWithinBound}
 use Rattle.gup_turns.specs.Pages.{mapped_pages}
-use Rattle.gup_turns.specs.Turn.{Taken, answers_with, free_frame, loads_after, load_turn, stores_after, allows_store, store_fault_by, map_turn_by, done_if, silent_or_done, unmap_turn_by, lowers_entry, lowers, lowers_for, protect_turn_by, discard_turn_by, lowest_page, exit_turn_by, op_turn}
+use Rattle.gup_turns.specs.Turn.{Taken, answers_with, free_frame, loads_after, load_turn, stores_after, store_fault_by, map_turn_by, done_if, silent_or_done, unmap_turn_by, lowers_entry, lowers, lowers_for, protect_turn_by, discard_turn_by, lowest_page, exit_turn_by}
 use Rattle.gup_turns.proofs.Mapped.{mapped_spread, mapped_same, mapped_put, mapped_lost}
 use Rattle.gup_turns.proofs.Puts.{put_same, put_other}
 use Rattle.gup_turns.proofs.Searches.{lowest_some, undenied_protect}
+use Rattle.gup_turns.proofs.Shapes.{HasLeft}
 
 -- one row of a function of two numbers
 put2_row : {X : Type 0} (k l : ℕ) (x : X) (f : ℕ → ℕ → X) → put2 k l x f k ≡ put l x (f k)
@@ -43,6 +45,11 @@ answer_bound (Protect page n rights) a p place next s t is = is
 answer_bound (Discard page n) a p place next s t is = inl is
 answer_bound (Load page word) a p place next s t is = is
 answer_bound (Store page word value) a p place next s t is = is
+answer_bound (Pin handle page n write) a p place next s t is = inl is
+answer_bound (Unpin handle) a p place next s t is = inl is
+answer_bound (Give handle to) a p place next s t is = is
+answer_bound (Take handle) a p place next s t is = is
+answer_bound (Transfer handle outward index slot n) a p place next s t is = inl is
 answer_bound (Fork child) a p place next s t is = inl is
 answer_bound Exit a p place next s t is = inl is
 
@@ -54,19 +61,29 @@ mapped_by (Protect page n rights) = 0
 mapped_by (Discard page n) = 0
 mapped_by (Load page word) = 0
 mapped_by (Store page word value) = 0
+mapped_by (Pin handle page n write) = 0
+mapped_by (Unpin handle) = 0
+mapped_by (Give handle to) = 0
+mapped_by (Take handle) = 0
+mapped_by (Transfer handle outward index slot n) = 0
 mapped_by (Fork child) = 0
 mapped_by Exit = 0
 
--- where a turn of an operation stands: short of the last page that it goes over; forks stand aside
-abbrev pub StandsShort : Op → Place → Type 0
-StandsShort (Unmap page n) place = place.far < n
-StandsShort (Discard page n) place = place.far < n
-StandsShort (Map page n rights) place = Unit {0}
-StandsShort (Protect page n rights) place = Unit {0}
-StandsShort (Load page word) place = Unit {0}
-StandsShort (Store page word value) place = Unit {0}
-StandsShort (Fork child) place = ⊥
-StandsShort Exit place = Unit {0}
+-- where a turn of an operation stands: short of the last page or word that it goes over; forks stand aside
+abbrev pub StandsShort : CoreState → (a : ℕ) → Op → Place → Type 0
+StandsShort s a (Unmap page n) place = place.far < n
+StandsShort s a (Discard page n) place = place.far < n
+StandsShort s a (Map page n rights) place = Unit {0}
+StandsShort s a (Protect page n rights) place = Unit {0}
+StandsShort s a (Load page word) place = Unit {0}
+StandsShort s a (Store page word value) place = Unit {0}
+StandsShort s a (Pin handle page n write) place = place.far < n
+StandsShort s a (Unpin handle) place = (place.far < most_pinned) × HasLeft s a handle place.far
+StandsShort s a (Give handle to) place = Unit {0}
+StandsShort s a (Take handle) place = Unit {0}
+StandsShort s a (Transfer handle outward index slot n) place = place.far < n
+StandsShort s a (Fork child) place = ⊥
+StandsShort s a Exit place = Unit {0}
 
 -- the actor is in the middle of nothing, and other actors' jobs stay
 pub record KeepsJobs (s : CoreState) (a : ℕ) (t : CoreState) : Type 0 where
@@ -82,7 +99,7 @@ pub record IsMoved (s : CoreState) (a p : ℕ) (place : Place) (op : Op) (turn :
 
 module _ (s : CoreState) (a p : ℕ) (place : Place) (rests : s.job a ≡ idle) where
   -- all jobs stay
-  same_jobs : (t : CoreState) → t.job ≡ s.job → KeepsJobs s a t
+  pub same_jobs : (t : CoreState) → t.job ≡ s.job → KeepsJobs s a t
   same_jobs t same =
       record {
         idle = ap (λ (f : ℕ → Job). f a) same ∙ rests;
@@ -98,7 +115,7 @@ module _ (s : CoreState) (a p : ℕ) (place : Place) (rests : s.job a ≡ idle) 
       }
 
   -- a turn that leaves all mappings as they were, and goes on or answers
-  keeping : (op : Op) (turn : Taken) → (run s turn.events).right ≡ s.right → KeepsJobs s a (run s turn.events) → IsWithinBound op a p place (place_behind place turn.whats) s (run s turn.events) → IsMoved s a p place op turn
+  pub keeping : (op : Op) (turn : Taken) → (run s turn.events).right ≡ s.right → KeepsJobs s a (run s turn.events) → IsWithinBound op a p place (place_behind place turn.whats) s (run s turn.events) → IsMoved s a p place op turn
   keeping op turn same jobs bound =
       let pages : mapped_pages ((run s turn.events).right p) ≡ mapped_pages (s.right p) = ap (λ (f : ℕ → ℕ → Option Rights). mapped_pages (f p)) same in
       record {
@@ -109,11 +126,11 @@ module _ (s : CoreState) (a p : ℕ) (place : Place) (rests : s.job a ≡ idle) 
       }
 
   -- one that answers, and leaves jobs too
-  still : (op : Op) (turn : Taken) → (run s turn.events).right ≡ s.right → (run s turn.events).job ≡ s.job → IsAnswered place (place_behind place turn.whats) → IsMoved s a p place op turn
+  pub still : (op : Op) (turn : Taken) → (run s turn.events).right ≡ s.right → (run s turn.events).job ≡ s.job → IsAnswered place (place_behind place turn.whats) → IsMoved s a p place op turn
   still op turn same jobs answered =
       keeping op turn same (same_jobs (run s turn.events) jobs) (answer_bound op a p place (place_behind place turn.whats) s (run s turn.events) answered)
 
-  load_moved : (page word : ℕ) (entry : Option Entry) → IsMoved s a p place (Load page word) (load_turn s a p page word entry)
+  pub load_moved : (page word : ℕ) (entry : Option Entry) → IsMoved s a p place (Load page word) (load_turn s a p page word entry)
   load_moved page word (Some e) = still (Load page word) (load_turn s a p page word (Some e)) refl refl refl
   load_moved page word None = fault (s.right p page) (free_frame s)
     where
@@ -122,7 +139,7 @@ module _ (s : CoreState) (a p : ℕ) (place : Place) (rests : s.job a ≡ idle) 
       fault (Some rights) None = still (Load page word) (answers_with answers.NoFrame) refl refl refl
       fault (Some rights) (Some f) = still (Load page word) (loads_after s (fills a p page (Some f)) a p page word) refl refl refl
 
-  store_moved : (page word value : ℕ) (entry : Option Entry) (allowed : Bool) → IsMoved s a p place (Store page word value) (stores_after s (store_fault_by allowed s a p page entry) a p page word value)
+  pub store_moved : (page word value : ℕ) (entry : Option Entry) (allowed : Bool) → IsMoved s a p place (Store page word value) (stores_after s (store_fault_by allowed s a p page entry) a p page word value)
   store_moved page word value entry true = still (Store page word value) (stores_after s (Ok []) a p page word value) refl refl refl
   store_moved page word value entry false = fault (s.right p page) entry
     where
@@ -157,7 +174,7 @@ module _ (s : CoreState) (a p : ℕ) (place : Place) (rests : s.job a ≡ idle) 
       fault (Some RW) None = by_fill (free_frame s)
       fault (Some RW) (Some e) = by_entry e e.writable
 
-  map_moved : (page n : ℕ) (rights : Rights) (denied : Option Answer) → IsMoved s a p place (Map page n rights) (map_turn_by denied a p page n rights)
+  pub map_moved : (page n : ℕ) (rights : Rights) (denied : Option Answer) → IsMoved s a p place (Map page n rights) (map_turn_by denied a p page n rights)
   map_moved page n rights (Some answer) = still (Map page n rights) (answers_with answer) refl refl refl
   map_moved page n rights None =
       let new : ℕ → Option Rights = spread page n (λ _. Some rights) (s.right p) in
@@ -201,7 +218,7 @@ module _ (s : CoreState) (a p : ℕ) (place : Place) (rests : s.job a ≡ idle) 
   lower_for R page n rest = lower_all s (s.entry p) page n rest
   lower_for RW page n rest = (s, record { leads = refl; right = refl; job = refl })
 
-  protect_moved : (page n : ℕ) (rights : Rights) (denied : Option Answer) → protect_denial (any_unmapped (s.right p) page n) ≡ denied → IsMoved s a p place (Protect page n rights) (protect_turn_by denied s a p page n rights)
+  pub protect_moved : (page n : ℕ) (rights : Rights) (denied : Option Answer) → protect_denial (any_unmapped (s.right p) page n) ≡ denied → IsMoved s a p place (Protect page n rights) (protect_turn_by denied s a p page n rights)
   protect_moved page n rights (Some answer) is = still (Protect page n rights) (answers_with answer) refl refl refl
   protect_moved page n rights None is =
       let turn : Taken = protect_turn_by None s a p page n rights in
@@ -259,37 +276,26 @@ module _ (s : CoreState) (a p : ℕ) (place : Place) (rests : s.job a ≡ idle) 
   passed : (op : Op) (whats : List What) → IsWithinBound op a p place (place_behind place whats) s s → IsMoved s a p place op (record { events = []; whats = whats })
   passed op whats bound = keeping op (record { events = []; whats = whats }) refl (same_jobs s refl) bound
 
-  goes_less : (far n : ℕ) → far < n → (far + 1 == n) ≡ false → far + 1 < n
+  pub goes_less : (far n : ℕ) → far < n → (far + 1 == n) ≡ false → far + 1 < n
   goes_less far n less e = grind (arith, nat_tests)
 
-  unmap_moved : (page n : ℕ) (rights : Option Rights) (entry : Option Entry) (last : Bool) → place.far < n → (place.far + 1 == n) ≡ last → IsMoved s a p place (Unmap page n) (unmap_turn_by rights a p (page + place.far) entry last)
+  pub unmap_moved : (page n : ℕ) (rights : Option Rights) (entry : Option Entry) (last : Bool) → place.far < n → (place.far + 1 == n) ≡ last → IsMoved s a p place (Unmap page n) (unmap_turn_by rights a p (page + place.far) entry last)
   unmap_moved page n None entry true far test = passed (Unmap page n) (silent_or_done true) (inl refl)
   unmap_moved page n None entry false far test = passed (Unmap page n) (silent_or_done false) (inr ((refl, refl), goes_less place.far n far test))
   unmap_moved page n (Some rights) entry true far test = drop_moved (Unmap page n) (page + place.far) entry (Event (events.Unmap a p (page + place.far)) ∷ done_if true) (inl refl)
   unmap_moved page n (Some rights) entry false far test = drop_moved (Unmap page n) (page + place.far) entry (Event (events.Unmap a p (page + place.far)) ∷ done_if false) (inr ((refl, refl), goes_less place.far n far test))
 
-  discard_moved : (page n : ℕ) (rights : Option Rights) (entry : Option Entry) (last : Bool) → place.far < n → (place.far + 1 == n) ≡ last → IsMoved s a p place (Discard page n) (discard_turn_by rights a p (page + place.far) entry last)
+  pub discard_moved : (page n : ℕ) (rights : Option Rights) (entry : Option Entry) (last : Bool) → place.far < n → (place.far + 1 == n) ≡ last → IsMoved s a p place (Discard page n) (discard_turn_by rights a p (page + place.far) entry last)
   discard_moved page n None entry true far test = passed (Discard page n) (silent_or_done true) (inl refl)
   discard_moved page n None entry false far test = passed (Discard page n) (silent_or_done false) (inr ((refl, refl), goes_less place.far n far test))
   discard_moved page n (Some rights) entry true far test = discard_kept (Discard page n) (page + place.far) entry (Event (events.Discard a p (page + place.far)) ∷ done_if true) (inl refl)
   discard_moved page n (Some rights) entry false far test = discard_kept (Discard page n) (page + place.far) entry (Event (events.Discard a p (page + place.far)) ∷ done_if false) (inr ((refl, refl), goes_less place.far n far test))
 
-  exit_moved : (found : Option ℕ) → lowest_page (s.right p) ≡ found → IsMoved s a p place Exit (exit_turn_by s a p found)
+  pub exit_moved : (found : Option ℕ) → lowest_page (s.right p) ≡ found → IsMoved s a p place Exit (exit_turn_by s a p found)
   exit_moved None is = still Exit (answers_with answers.Plain) refl refl refl
   exit_moved (Some page) is =
       let found = lowest_some 0 page_numbers page (λ g. is_some (s.right p g)) is in
       drop_moved Exit page (s.entry p page) (Event (events.Unmap a p page) ∷ []) (inr ((refl, refl), (page, omega (arith, found.below), found.passes, dropped page (s.entry p page))))
-
-  -- every operation but a fork
-  pub op_moved : (op : Op) → StandsShort op place → IsMoved s a p place op (op_turn s a p place.far op)
-  op_moved (Map page n rights) short = map_moved page n rights (map_denial (any_mapped (s.right p) page n) (s.pages p) n)
-  op_moved (Unmap page n) short = unmap_moved page n (s.right p (page + place.far)) (s.entry p (page + place.far)) (place.far + 1 == n) short refl
-  op_moved (Load page word) short = load_moved page word (s.entry p page)
-  op_moved (Store page word value) short = store_moved page word value (s.entry p page) (allows_store (s.entry p page))
-  op_moved (Protect page n rights) short = protect_moved page n rights (protect_denial (any_unmapped (s.right p) page n)) refl
-  op_moved (Discard page n) short = discard_moved page n (s.right p (page + place.far)) (s.entry p (page + place.far)) (place.far + 1 == n) short refl
-  op_moved (Fork child) short = absurd short
-  op_moved Exit short = exit_moved (lowest_page (s.right p)) refl
 
 -- What a turn takes of the cost: the operation is answered, its actor idle, and it leaves less; or it goes on and has
 -- less left.
@@ -298,7 +304,7 @@ TakesCost s t a op place next before after =
     (IsAnswered place next × (t.job a ≡ idle) × (after < op_left s a op place.far + before))
     ⊎ ((next.answered ≡ place.answered) × (op_left t a op next.far + after < op_left s a op place.far + before))
 
-pub takes_cost : (op : Op) (a p : ℕ) (place next : Place) (s t : CoreState) → StandsShort op place → t.job a ≡ idle → mapped_pages (t.right p) ≤ mapped_pages (s.right p) + mapped_by op → IsWithinBound op a p place next s t → TakesCost s t a op place next (mapped_pages (s.right p)) (mapped_pages (t.right p))
+pub takes_cost : (op : Op) (a p : ℕ) (place next : Place) (s t : CoreState) → StandsShort s a op place → t.job a ≡ idle → mapped_pages (t.right p) ≤ mapped_pages (s.right p) + mapped_by op → IsWithinBound op a p place next s t → TakesCost s t a op place next (mapped_pages (s.right p)) (mapped_pages (t.right p))
 takes_cost (Map page n rights) a p place next s t short rests gained bound = inl (bound, rests, omega arith)
 takes_cost (Protect page n rights) a p place next s t short rests gained bound = inl (bound, rests, omega arith)
 takes_cost (Load page word) a p place next s t short rests gained bound = inl (bound, rests, omega arith)
@@ -307,6 +313,17 @@ takes_cost (Unmap page n) a p place next s t short rests gained (inl is) = inl (
 takes_cost (Unmap page n) a p place next s t short rests gained (inr on) = let far = on.0.1 in inr (on.0.0, omega arith)
 takes_cost (Discard page n) a p place next s t short rests gained (inl is) = inl (is, rests, omega arith)
 takes_cost (Discard page n) a p place next s t short rests gained (inr on) = let far = on.0.1 in inr (on.0.0, omega arith)
+takes_cost (Pin handle page n write) a p place next s t short rests gained (inl is) = inl (is, rests, omega arith)
+takes_cost (Pin handle page n write) a p place next s t short rests gained (inr on) = let far = on.0.1 in inr (on.0.0, omega arith)
+takes_cost (Unpin handle) a p place next s t short rests gained (inl is) = let less = short.0 in inl (is, rests, omega arith)
+takes_cost (Unpin handle) a p place next s t short rests gained (inr on) =
+    let far = on.0.1 in
+    let less = short.0 in
+    inr (on.0.0, omega arith)
+takes_cost (Give handle to) a p place next s t short rests gained bound = inl (bound, rests, omega arith)
+takes_cost (Take handle) a p place next s t short rests gained bound = inl (bound, rests, omega arith)
+takes_cost (Transfer handle outward index slot n) a p place next s t short rests gained (inl is) = inl (is, rests, omega arith)
+takes_cost (Transfer handle outward index slot n) a p place next s t short rests gained (inr on) = let far = on.0.1 in inr (on.0.0, omega arith)
 takes_cost (Fork child) a p place next s t short rests gained bound = absurd short
 takes_cost Exit a p place next s t short rests gained (inl is) = inl (is, rests, omega arith)
 takes_cost Exit a p place next s t short rests gained (inr on) = let less = mapped_lost (s.right p) (t.right p) on.1 in inr (on.0.0, omega arith)

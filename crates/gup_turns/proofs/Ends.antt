@@ -1,25 +1,25 @@
--- The end of a run: nobody can go, and who waits, waits for a process.
-use Rattle.std.proofs.Common.{◌≡◌, ℕ, ◌<◌, ◌==◌, Bool, true, false, if◌then◌else◌, is_some, List, [], ◌∷◌, length, Option, Some, None, inl, inr, refl, sym, ap, subst, ◌∙◌, arith}
+-- The end of a run: nobody can go, and who waits, waits for a process or for a pin.
+use Rattle.std.proofs.Common.{◌≡◌, ℕ, ◌<◌, ◌==◌, Bool, true, false, if◌then◌else◌, is_some, List, [], ◌∷◌, length, slice_get, Option, Some, None, inl, inr, refl, sym, ap, subst, ◌∙◌, arith}
 use Rattle.std.specs.Prelude.{◌⊎◌}
 use Rattle.std.proofs.lemmas.Bool.Decides.{nat_tests}
-use Rattle.gup_plain.specs.State.{Birth, born, unborn, growing, failed}
+use Rattle.gup_plain.specs.State.{Birth, born, unborn, growing, failed, Handle}
 use Rattle.gup_plain.specs.declared.note.Waiting.{Waiting}
 use Rattle.gup_plain.specs.declared.note.Waiting.TheVariants as waitings
 use Rattle.gup_script.specs.declared.op.Op.{Op}
-use Rattle.gup_script.specs.declared.op.Op.TheVariants.{Map, Unmap, Protect, Discard, Load, Store, Fork, Exit}
-use Rattle.gup_script.specs.Script.{ScriptValue}
-use Rattle.gup_script.specs.Valid.{IsScript}
+use Rattle.gup_script.specs.declared.op.Op.TheVariants.{Map, Unmap, Protect, Discard, Load, Store, Pin, Unpin, Give, Take, Transfer, Fork, Exit}
+use Rattle.gup_script.specs.Script.{ScriptValue, actor_at}
+use Rattle.gup_script.specs.Valid.{IsScript, AreDeclared}
 use Rattle.gup_events.specs.State.{CoreState, Job, idle, marking, moving, forking, walking, ForkStep, between, counted, lowered, cleared, copying, failing}
 use Rattle.gup_events.specs.Sound.{Forking, forking_of, keeps_table, keeps_structure}
-use Rattle.gup_follows.specs.Order.{Turn}
-use Rattle.gup_follows.specs.Place.{process_of}
-use Rattle.gup_turns.specs.Cause.{WaitsForProcess}
+use Rattle.gup_follows.specs.Order.{Turn, is_given_to, taking_waits, handle_waits}
+use Rattle.gup_follows.specs.Place.{Doer, doer, birth_by, birth_for, ops_of, process_of}
+use Rattle.gup_turns.specs.Cause.{WaitsForBirthOrPin}
 use Rattle.gup_turns.specs.Reached.{IsStanding, IsNoFork, StandsFork, turned}
 use Rattle.gup_turns.specs.Run.{RunState, Runs, run_after, op_in, waiting_with, waiting_in, is_ready, can_go}
-use Rattle.gup_turns.specs.Turn.{Locks, next_page, fork_locks, locks_needed, held_by_other, waits_for_lock, first_waiting, waits_for_locks, waits_at, waiting_for}
+use Rattle.gup_turns.specs.Turn.{Locks, next_page, fork_locks, locks_needed, held_by_other, waits_for_lock, first_waiting, waits_for_locks, waits_at, waits_born, waiting_for}
 use Rattle.gup_turns.proofs.Pointer.{PointerFits, none_can_go, pointer_fits}
 use Rattle.gup_turns.proofs.Puts.{some_same}
-use Rattle.gup_turns.specs.ScriptLemmas.{has_ops_declared}
+use Rattle.gup_turns.specs.ScriptLemmas.{has_ops_declared, ops_at}
 use Rattle.gup_turns.proofs.Spending.{has_process}
 
 pub end_turns : (script : ScriptValue) (turns : List Turn) (r end : RunState) → PointerFits script r → Runs script r turns end → (a : ℕ) → a < length script.actors → can_go script end a ≡ false
@@ -90,6 +90,46 @@ fork_kept s b q (walking k write long sequence step) locked keeps = absurd (cc k
 fork_kept s b q (forking k c done step) locked keeps =
     subst (λ (n : ℕ). s.structure n ≡ Some b) (some_same keeps) (locked (record { proc = k; child = c; done = done; step = step }) refl)
 
+-- whoever is of a born process waits for no birth
+born_for : (who : Doer) (births : ℕ → Birth) → births who.proc ≡ born → birth_for births who ≡ born
+born_for who births is = go who.thread
+  where
+    go : (t : Bool) → birth_by t (births who.proc) ≡ born
+    go true = is
+    go false = refl
+
+-- and whoever waits for one is a thread
+waits_as_thread : (who : Doer) (births : ℕ → Birth) → (birth_for births who ≡ born → ⊥) → who.thread ≡ true
+waits_as_thread who births never = go who.thread never
+  where
+    go : (t : Bool) → (birth_by t (births who.proc) ≡ born → ⊥) → t ≡ true
+    go true never = refl
+    go false never = absurd (never refl)
+
+-- only a take waits for a pin
+taking_waits_for : (given : Bool) (handle : ℕ) (w : Waiting) → taking_waits given handle ≡ Some w → w ≡ waitings.Handle handle
+taking_waits_for true handle w is = absurd (cc is)
+taking_waits_for false handle w is = sym (same_waiting is)
+
+waits_to_take : (handle : ℕ → Handle) (a : ℕ) (op : Op) (w : Waiting) → handle_waits handle a (Some op) ≡ Some w → (h : ℕ) × (op ≡ Take h) × (w ≡ waitings.Handle h)
+waits_to_take handle a (Take h) w is = (h, refl, taking_waits_for (is_given_to (handle h) a) h w is)
+waits_to_take handle a (Map page n rights) w is = absurd (cc is)
+waits_to_take handle a (Unmap page n) w is = absurd (cc is)
+waits_to_take handle a (Protect page n rights) w is = absurd (cc is)
+waits_to_take handle a (Discard page n) w is = absurd (cc is)
+waits_to_take handle a (Load page word) w is = absurd (cc is)
+waits_to_take handle a (Store page word value) w is = absurd (cc is)
+waits_to_take handle a (Pin h page n write) w is = absurd (cc is)
+waits_to_take handle a (Unpin h) w is = absurd (cc is)
+waits_to_take handle a (Give h to) w is = absurd (cc is)
+waits_to_take handle a (Transfer h outward index slot n) w is = absurd (cc is)
+waits_to_take handle a (Fork child) w is = absurd (cc is)
+waits_to_take handle a Exit w is = absurd (cc is)
+
+-- and of a pin of the script
+handle_declared : (script : ScriptValue) → IsScript script → (a k h : ℕ) → slice_get (ops_of script a) k ≡ Some (Take h) → h < length script.handles
+handle_declared script valid a k h there = ops_at (AreDeclared script) script valid.declared a k (Take h) (actor_at script a) refl there
+
 module _ (script : ScriptValue) (r : RunState) (h : IsStanding script r) where
   -- an actor that keeps a lock forks
   keeper_forks : (b p : ℕ) → (keeps_structure (r.core.job b) ≡ Some p) ⊎ (keeps_table (r.core.job b) ≡ Some p) → (child : ℕ) × (op_in script r b ≡ Some (Fork child))
@@ -111,6 +151,11 @@ module _ (script : ScriptValue) (r : RunState) (h : IsStanding script r) where
       go (Some (Load page word)) is = absurd (no_fork (Some (Load page word)) is tt)
       go (Some (Store page word value)) is = absurd (no_fork (Some (Store page word value)) is tt)
       go (Some (Fork child)) is = (child, is)
+      go (Some (Pin handle page n write)) is = absurd (no_fork (Some (Pin handle page n write)) is tt)
+      go (Some (Unpin handle)) is = absurd (no_fork (Some (Unpin handle)) is tt)
+      go (Some (Give handle to)) is = absurd (no_fork (Some (Give handle to)) is tt)
+      go (Some (Take handle)) is = absurd (no_fork (Some (Take handle)) is tt)
+      go (Some (Transfer handle outward index slot n)) is = absurd (no_fork (Some (Transfer handle outward index slot n)) is tt)
       go (Some Exit) is = absurd (no_fork (Some Exit) is tt)
 
   -- whoever holds a table lock holds the structure lock too
@@ -133,23 +178,23 @@ module _ (script : ScriptValue) (r : RunState) (h : IsStanding script r) where
   table_unwaited b p false locked = refl
 
   -- a fork in the middle waits for nobody
-  middle_goes : (b child : ℕ) (job : Job) → r.core.job b ≡ job → StandsFork r.core b (process_of script b) child job → (job ≡ idle → ⊥) → waiting_for r.core b (process_of script b) (Fork child) ≡ None
+  middle_goes : (b child : ℕ) (job : Job) → r.core.job b ≡ job → StandsFork r.core b (process_of script b) child job → (job ≡ idle → ⊥) → waiting_for r.core (doer script b) (Fork child) ≡ None
   middle_goes b child job is stands busy = go job is stands busy
     where
       p : ℕ
       p = process_of script b
 
-      is_born : (q c : ℕ) (done : List ℕ) (step : ForkStep) → r.core.job b ≡ forking q c done step → q ≡ p → r.core.birth p ≡ born
+      is_born : (q c : ℕ) (done : List ℕ) (step : ForkStep) → r.core.job b ≡ forking q c done step → q ≡ p → birth_for r.core.birth (doer script b) ≡ born
       is_born q c done step is own =
           let k : Forking = record { proc = q; child = c; done = done; step = step } in
-          subst (λ (n : ℕ). r.core.birth n ≡ born) own (h.sound.1.fork_parent b k (h.sound.1.forks_are b ∙ ap forking_of is))
+          born_for (doer script b) r.core.birth (subst (λ (n : ℕ). r.core.birth n ≡ born) own (h.sound.1.fork_parent b k (h.sound.1.forks_are b ∙ ap forking_of is)))
 
       -- it waits for no lock, so for nothing
-      unlocked : r.core.birth p ≡ born → waits_for_locks (fork_locks (r.core.right child) (r.core.job b)) b (r.core.structure p) (r.core.table p) ≡ None → waiting_for r.core b p (Fork child) ≡ None
+      unlocked : birth_for r.core.birth (doer script b) ≡ born → waits_for_locks (fork_locks (r.core.right child) (r.core.job b)) b (r.core.structure p) (r.core.table p) ≡ None → waiting_for r.core (doer script b) (Fork child) ≡ None
       unlocked birth free =
           ap (λ (x : Birth). waits_at x p (waits_for_locks (fork_locks (r.core.right child) (r.core.job b)) b (r.core.structure p) (r.core.table p))) birth ∙ free
 
-      go : (j : Job) → r.core.job b ≡ j → StandsFork r.core b p child j → (j ≡ idle → ⊥) → waiting_for r.core b p (Fork child) ≡ None
+      go : (j : Job) → r.core.job b ≡ j → StandsFork r.core b p child j → (j ≡ idle → ⊥) → waiting_for r.core (doer script b) (Fork child) ≡ None
       go idle is stands busy = absurd (busy refl)
       go (marking q page f) is stands busy = absurd stands
       go (moving q page e count) is stands busy = absurd stands
@@ -171,7 +216,7 @@ module _ (script : ScriptValue) (r : RunState) (h : IsStanding script r) where
       let forks = keeper_forks b p keeps in
       let op : Op = Fork forks.0 in
       let free = middle_goes b forks.0 (r.core.job b) refl (h.forks b forks.0 forks.1) (busy keeps) in
-      let waiting : waiting_in script r b ≡ None = ap (waiting_with r.core b (process_of script b)) forks.1 ∙ free in
+      let waiting : waiting_in script r b ≡ None = ap (waiting_with r.core (doer script b)) forks.1 ∙ free in
       let ready : can_go script r b ≡ true = ap (λ (o : Option Op). is_ready o (waiting_in script r b)) forks.1 ∙ ap (is_ready (Some op)) waiting in
       (has_ops_declared script b (r.places b).answered op forks.1, ready)
     where
@@ -190,19 +235,37 @@ module _ (script : ScriptValue) (r : RunState) (h : IsStanding script r) where
       let goes = holder_goes p holds.0 holds.1 in
       cc (sym (stuck holds.0 goes.0) ∙ goes.1)
 
-  waits_by : ((a : ℕ) → a < length script.actors → can_go script r a ≡ false) → IsScript script → (a : ℕ) (o : Option Op) (w : Waiting) → op_in script r a ≡ o → waiting_with r.core a (process_of script a) o ≡ Some w → WaitsForProcess script w
-  waits_by stuck valid a None w is waits = absurd (cc waits)
-  waits_by stuck valid a (Some op) w is waits = (p, has_process script valid a (r.places a).answered op is, go (r.core.birth p) waits)
+  -- once it waits for no birth, it waits for a pin of the script
+  waits_born_by : ((a : ℕ) → a < length script.actors → can_go script r a ≡ false) → IsScript script → (a : ℕ) (op : Op) (w : Waiting) → op_in script r a ≡ Some op → waits_born r.core a (process_of script a) op ≡ Some w → WaitsForBirthOrPin script w
+  waits_born_by stuck valid a op w is waits = go (handle_waits r.core.handle a (Some op)) refl waits
     where
       p : ℕ
       p = process_of script a
 
-      go : (b : Birth) → waits_at b p (waits_for_locks (locks_needed r.core a p op) a (r.core.structure p) (r.core.table p)) ≡ Some w → w ≡ waitings.Process p
-      go unborn waits = sym (same_waiting waits)
-      go (growing parent) waits = sym (same_waiting waits)
-      go failed waits = absurd (cc waits)
-      go born waits = absurd (no_lock_waits stuck a p (locks_needed r.core a p op) w waits)
+      go : (given : Option Waiting) → handle_waits r.core.handle a (Some op) ≡ given → first_waiting given (waits_for_locks (locks_needed r.core a p op) a (r.core.structure p) (r.core.table p)) ≡ Some w → WaitsForBirthOrPin script w
+      go None none locks = absurd (no_lock_waits stuck a p (locks_needed r.core a p op) w locks)
+      go (Some v) some now =
+          let take = waits_to_take r.core.handle a op v some in
+          let there = is ∙ ap (λ (o : Op). Some o) take.1 in
+          inr (take.0, handle_declared script valid a (r.places a).answered take.0 there, sym (same_waiting now) ∙ take.2)
 
--- where nobody can go, whoever waits, waits for a process of the script
-pub waits_for_process : (script : ScriptValue) → IsScript script → (r : RunState) → IsStanding script r → ((a : ℕ) → a < length script.actors → can_go script r a ≡ false) → (a : ℕ) (w : Waiting) → waiting_in script r a ≡ Some w → WaitsForProcess script w
-waits_for_process script valid r h stuck a w waits = waits_by script r h stuck valid a (op_in script r a) w refl waits
+  waits_by : ((a : ℕ) → a < length script.actors → can_go script r a ≡ false) → IsScript script → (a : ℕ) (o : Option Op) (w : Waiting) → op_in script r a ≡ o → waiting_with r.core (doer script a) o ≡ Some w → WaitsForBirthOrPin script w
+  waits_by stuck valid a None w is waits = absurd (cc waits)
+  waits_by stuck valid a (Some op) w is waits = go (birth_for r.core.birth who) refl waits
+    where
+      who : Doer
+      who = doer script a
+
+      process : (birth_for r.core.birth who ≡ born → ⊥) → Some (waitings.Process who.proc) ≡ Some w → WaitsForBirthOrPin script w
+      process unborn_yet now =
+          inl (who.proc, has_process script valid a (waits_as_thread who r.core.birth unborn_yet), sym (same_waiting now))
+
+      go : (b : Birth) → birth_for r.core.birth who ≡ b → waits_at b who.proc (waits_born r.core a who.proc op) ≡ Some w → WaitsForBirthOrPin script w
+      go unborn birth now = process (λ e. cc (sym birth ∙ e)) now
+      go (growing parent) birth now = process (λ e. cc (sym birth ∙ e)) now
+      go failed birth now = absurd (cc now)
+      go born birth now = waits_born_by stuck valid a op w is now
+
+-- where nobody can go, whoever waits, waits for a process or for a pin of the script
+pub waits_for_birth_or_pin : (script : ScriptValue) → IsScript script → (r : RunState) → IsStanding script r → ((a : ℕ) → a < length script.actors → can_go script r a ≡ false) → (a : ℕ) (w : Waiting) → waiting_in script r a ≡ Some w → WaitsForBirthOrPin script w
+waits_for_birth_or_pin script valid r h stuck a w waits = waits_by script r h stuck valid a (op_in script r a) w refl waits

@@ -4,12 +4,14 @@ use Rattle.std.proofs.lemmas.Bool.Decides.{nat_tests}
 use Rattle.gup_script.specs.Valid.{IsScript}
 use Rattle.gup_plain.specs.Note.{NoteValue}
 use Rattle.gup_plain.specs.declared.note.Waiting.{Waiting}
-use Rattle.gup_events.specs.State.{Job}
+use Rattle.gup_plain.specs.State.{Birth, Handle}
+use Rattle.gup_events.specs.State.{CoreState, Job}
 use Rattle.gup_script.specs.Script.{ScriptValue}
 use Rattle.gup_script.specs.declared.op.Op.{Op}
+use Rattle.gup_script.specs.declared.op.Op.TheVariants.{Map, Unmap, Protect, Discard, Load, Store, Pin, Unpin, Give, Take, Transfer, Fork, Exit}
 use Rattle.gup_follows.specs.Follows.{own_notes, notes_of_turn}
-use Rattle.gup_follows.specs.Order.{Turn, journal_of, waiting_at, waiting_of, finished_in, IsOverAt}
-use Rattle.gup_follows.specs.Place.{Place, place_behind, process_of, ops_of}
+use Rattle.gup_follows.specs.Order.{Turn, journal_of, waiting_at, waiting_of, finished_in, handle_waits, IsOverAt}
+use Rattle.gup_follows.specs.Place.{Place, Doer, doer, place_behind, process_of, ops_of}
 use Rattle.gup_turns.specs.Reached.{ForkPlace, fork_place}
 use Rattle.gup_turns.specs.Run.{RunState, Runs, run_after, op_in, taken_in, can_go}
 use Rattle.gup_turns.proofs.Following.{LeftAt, Left, ops_split, ops_over, turn_left, other_left}
@@ -17,6 +19,7 @@ use Rattle.gup_turns.proofs.Ordering.{ordered_of, is_over, finished_is}
 use Rattle.gup_turns.proofs.Owning.{own_append}
 use Rattle.gup_turns.proofs.Pointer.{PointerFits, none_can_go, pointer_fits}
 use Rattle.gup_turns.specs.ScriptLemmas.{has_ops_declared}
+use Rattle.gup_turns.proofs.Shapes.{FitsAt}
 use Rattle.gup_turns.proofs.Stands.{stands_on}
 use Rattle.gup_turns.proofs.Steps.{Stands, taken, jobs_stay}
 use Rattle.gup_turns.proofs.Through.{Law}
@@ -25,9 +28,26 @@ use Rattle.gup_turns.proofs.Through.{Law}
 abbrev pub LeftOf : ScriptValue → ℕ → Place → ForkPlace → List NoteValue → Type 0
 LeftOf script a place at notes = LeftAt a (process_of script a) (ops_of script a) place at notes
 
--- an actor that has an operation of a born process has neither finished nor waits for its process
+-- an actor that neither waits nor has no operation left has not finished
 not_over : (finished : Bool) (seen : Option Waiting) → finished ≡ false → seen ≡ None → IsOverAt finished seen → ⊥
 not_over finished seen left none over = subst₂ IsOverAt left none over
+
+-- who is in the middle of an operation waits for no pin
+untaking : (s : CoreState) (handle : ℕ → Handle) (who : Doer) (op : Option Op) (place : Place) → FitsAt s who op place → 0 < place.far → handle_waits handle who.actor op ≡ None
+untaking s handle who None place fits far = refl
+untaking s handle who (Some (Map page n rights)) place fits far = refl
+untaking s handle who (Some (Unmap page n)) place fits far = refl
+untaking s handle who (Some (Protect page n rights)) place fits far = refl
+untaking s handle who (Some (Discard page n)) place fits far = refl
+untaking s handle who (Some (Load page word)) place fits far = refl
+untaking s handle who (Some (Store page word value)) place fits far = refl
+untaking s handle who (Some (Pin h page n write)) place fits far = refl
+untaking s handle who (Some (Unpin h)) place fits far = refl
+untaking s handle who (Some (Give h to)) place fits far = refl
+untaking s handle who (Some (Take h)) place fits far = absurd (let first = fits.1.0 in omega arith)
+untaking s handle who (Some (Transfer h outward index slot n)) place fits far = refl
+untaking s handle who (Some (Fork child)) place fits far = refl
+untaking s handle who (Some Exit) place fits far = refl
 
 -- so at the end no actor is in the middle of an operation
 end_left : (script : ScriptValue) → IsScript script → (r : RunState) → Stands script r → ((a : ℕ) → a < length script.actors → can_go script r a ≡ false) → (a : ℕ) (op : Option Op) → op_in script r a ≡ op → (at : ForkPlace) → LeftOf script a (r.places a) at []
@@ -39,8 +59,12 @@ end_left script valid r h stopped a (Some op) is at =
     let p = process_of script a in
     let over = is_over script valid r h stopped a (stopped a (has_ops_declared script a place.answered op is)) in
     let unfinished : finished_in script (ordered_of r) a ≡ false = finished_is (ops_of script a) place.answered ∙ ap is_none is in
+    let unwaiting : 0 < place.far → waiting_of script (ordered_of r) a ≡ None =
+    λ far.
+    ap (λ (b : Birth). waiting_at p b (handle_waits r.core.handle a (op_in script r a))) (h.begun a far)
+    ∙ untaking r.core r.core.handle (doer script a) (op_in script r a) place (h.fits a) far in
     let unbegun : 0 < place.far → ⊥ =
-    λ far. not_over (finished_in script (ordered_of r) a) (waiting_of script (ordered_of r) a) unfinished (ap (waiting_at p) (h.begun a far)) over in
+    λ far. not_over (finished_in script (ordered_of r) a) (waiting_of script (ordered_of r) a) unfinished (unwaiting far) over in
     let first : place.far ≡ 0 = omega arith in
     subst (λ (os : List Op). Left a p (place.answered + 1) os place.far at []) (sym (ops_split (ops_of script a) place.answered op is)) (inl (first, refl))
 
@@ -55,7 +79,7 @@ turn_of_any script valid r h b t a later true e left =
     let whats = (taken_in script r b).whats in
     let behind = place_behind (r.places b) whats in
     let here : LeftOf script b behind (stands_at (run_after script r b) b) later = subst (λ (k : ℕ). LeftOf script k behind (stands_at (run_after script r b) k) later) same left in
-    let before = turn_left b (process_of script b) t (r.places b) (ops_of script b) later (taken script valid r h b).shape refl here in
+    let before = turn_left (doer script b) t (r.places b) (ops_of script b) later (taken script valid r h b).shape refl here in
     subst (λ (k : ℕ). LeftOf script k (r.places k) (stands_at r k) (own_notes k (notes_of_turn t b ((r.places b).answered + 1) whats) ++ later)) (sym same) before
 turn_of_any script valid r h b t a later false e left =
     let apart : a ≡ b → ⊥ = λ same. let yes = eq-eqb a b same in cc in

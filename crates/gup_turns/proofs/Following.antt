@@ -1,5 +1,5 @@
 -- A run follows its script: what an actor's notes are from a state on, backwards from the end.
-use Rattle.std.proofs.Common.{◌≡◌, ℕ, ◌+◌, ◌-◌, ◌<◌, ◌≤◌, ◌==◌, ◌++◌, ◌⊎◌, inl, inr, false, IsTrue, List, [], ◌∷◌, Option, Some, None, slice_get, drop, refl, sym, ap, ◌∙◌, subst, append_assoc, zero, suc, arith}
+use Rattle.std.proofs.Common.{◌≡◌, ℕ, ◌+◌, ◌-◌, ◌<◌, ◌≤◌, ◌==◌, ◌++◌, ◌⊎◌, inl, inr, Bool, false, IsTrue, List, [], ◌∷◌, Option, Some, None, slice_get, drop, refl, sym, ap, ◌∙◌, subst, append_assoc, zero, suc, arith}
 use Rattle.std.proofs.Math.Seq.{drop-nil}
 use Rattle.gup_plain.specs.Note.{NoteValue}
 use Rattle.gup_plain.specs.State.{PlainState}
@@ -11,17 +11,18 @@ use Rattle.gup_plain.specs.declared.note.What.{What}
 use Rattle.gup_plain.specs.declared.note.What.TheVariants.{Silent, Idle, Wait, Event}
 use Rattle.gup_plain.specs.declared.note.Waiting.{Waiting}
 use Rattle.gup_script.specs.declared.op.Op.{Op}
-use Rattle.gup_script.specs.declared.op.Op.TheVariants.{Map, Unmap, Protect, Discard, Load, Store, Fork, Exit}
-use Rattle.gup_follows.specs.Follows.{Who, IsTurn, IsRefused, TakesDown, TakesDownLast, TakesDownAll, TakesDownWhole, ForksPages, Shape, Shapes, refuses, own_notes, notes_of_turn, is_of_operation}
-use Rattle.gup_follows.specs.Place.{Place, place_behind}
+use Rattle.gup_script.specs.declared.op.Op.TheVariants.{Map, Unmap, Protect, Discard, Load, Store, Pin, Unpin, Give, Take, Transfer, Fork, Exit}
+use Rattle.gup_follows.specs.Follows.{Who, IsTurn, IsRefused, TakesDown, TakesDownLast, TakesDownAll, TakesDownWhole, ForksPages, EndsShort, PinsPages, Unpins, moves_word, MovesWords, Shape, Shapes, refuses, own_notes, notes_of_turn, is_of_operation}
+use Rattle.gup_follows.specs.Place.{Place, Doer, place_behind}
 use Rattle.gup_turns.specs.Reached.{ForkPlace, unbegun, from_page, at_page}
 use Rattle.gup_turns.proofs.Puts.{some_same}
-use Rattle.gup_turns.proofs.Shapes.{TurnOf, refused, mapped, protected, loaded, stored, took, took_last, passed, passed_last, took_lowest, took_all, began, passed_page, counted_page, shared_page, ended, GoesOver, unmaps, discards, TurnAt, idles, waits, goes}
+use Rattle.gup_turns.proofs.Shapes.{TurnOf, refused, mapped, protected, loaded, stored, gave, took_over, took, took_last, passed, passed_last, took_lowest, took_all, pinned_page, pinned_all, pinned_short, unpinned_page, unpinned_last, moved_word, moved_last, began, passed_page, counted_page, shared_page, ended, GoesOver, unmaps, discards, TurnAt, idles, waits, goes}
 use Rattle.gup_turns.proofs.Ordering.{op_moves}
 use Rattle.gup_turns.proofs.Owning.{own_other, own_same, own_idle}
 
 -- What is left of an operation of which so many turns are over: of one that goes over pages, those behind; of an exit,
--- so many pages as are still mapped; of a fork, what is left from where it stands.
+-- so many pages as are still mapped; of a fork, what is left from where it stands; of a pin and of a transfer, the pages or
+-- words behind, and of an unpin, so many pages as the pin still has.
 abbrev pub RestOver : Who → Op → (page n : ℕ) → (ℕ → PlainEvent) → (far : ℕ) → List NoteValue → Type 0
 RestOver who op page n event far notes = TakesDownAll who event (page + far) (n - far) notes ⊎ ((far ≡ 0) × IsRefused who op notes)
 
@@ -42,6 +43,15 @@ RestOf who (Map page n rights) far at notes = Shape who (Map page n rights) note
 RestOf who (Protect page n rights) far at notes = Shape who (Protect page n rights) notes
 RestOf who (Load page word) far at notes = Shape who (Load page word) notes
 RestOf who (Store page word value) far at notes = Shape who (Store page word value) notes
+RestOf who (Pin handle page n write) far at notes =
+    PinsPages who handle page n write far (n - far) notes ⊎ ((far ≡ 0) × IsRefused who (Pin handle page n write) notes)
+RestOf who (Unpin handle) far at notes =
+    ((more : ℕ) × Unpins who handle more notes) ⊎ ((far ≡ 0) × IsRefused who (Unpin handle) notes)
+RestOf who (Give handle to) far at notes = Shape who (Give handle to) notes
+RestOf who (Take handle) far at notes = Shape who (Take handle) notes
+RestOf who (Transfer handle outward index slot n) far at notes =
+    MovesWords who handle outward (index + far) (slot + far) (n - far) notes
+    ⊎ ((far ≡ 0) × IsRefused who (Transfer handle outward index slot n) notes)
 
 rest_over : (who : Who) {op : Op} {page n : ℕ} {event : ℕ → PlainEvent} (far : ℕ) (at : ForkPlace) (notes : List NoteValue) → GoesOver who.actor who.proc op page n event → RestOf who op far at notes → RestOver who op page n event far notes
 rest_over who far at notes (unmaps page n) rest = rest
@@ -83,6 +93,15 @@ all_of who event page n notes all =
     let many : n - 0 ≡ n = omega arith in
     subst (λ (k : ℕ). TakesDownAll who event page k notes) many (subst (λ (g : ℕ). TakesDownAll who event g (n - 0) notes) first all)
 
+moves_of : (who : Who) (handle : ℕ) (outward : Bool) (index slot n : ℕ) (notes : List NoteValue) → MovesWords who handle outward (index + 0) (slot + 0) (n - 0) notes → MovesWords who handle outward index slot n notes
+moves_of who handle outward index slot n notes all =
+    let first : index + 0 ≡ index = omega arith in
+    let there : slot + 0 ≡ slot = omega arith in
+    let many : n - 0 ≡ n = omega arith in
+    subst (λ (k : ℕ). MovesWords who handle outward index slot k notes) many
+    (subst (λ (k : ℕ). MovesWords who handle outward index k (n - 0) notes) there
+    (subst (λ (k : ℕ). MovesWords who handle outward k (slot + 0) (n - 0) notes) first all))
+
 shape_of : (who : Who) (op : Op) (notes : List NoteValue) → RestOf who op 0 unbegun notes → Shape who op notes
 shape_of who (Unmap page n) notes (inl all) = inl (all_of who (events.Unmap who.actor who.proc) page n notes all)
 shape_of who (Unmap page n) notes (inr refusal) = inr refusal.1
@@ -95,6 +114,16 @@ shape_of who (Map page n rights) notes rest = rest
 shape_of who (Protect page n rights) notes rest = rest
 shape_of who (Load page word) notes rest = rest
 shape_of who (Store page word value) notes rest = rest
+shape_of who (Pin handle page n write) notes (inl pins) =
+    let many : n - 0 ≡ n = omega arith in
+    inl (subst (λ (k : ℕ). PinsPages who handle page n write 0 k notes) many pins)
+shape_of who (Pin handle page n write) notes (inr refusal) = inr refusal.1
+shape_of who (Unpin handle) notes (inl unpins) = inl unpins
+shape_of who (Unpin handle) notes (inr refusal) = inr refusal.1
+shape_of who (Give handle to) notes rest = rest
+shape_of who (Take handle) notes rest = rest
+shape_of who (Transfer handle outward index slot n) notes (inl all) = inl (moves_of who handle outward index slot n notes all)
+shape_of who (Transfer handle outward index slot n) notes (inr refusal) = inr refusal.1
 
 pub left_shapes : (a p number : ℕ) (ops : List Op) (notes : List NoteValue) → Left a p number ops 0 unbegun notes → Shapes a p number ops notes
 left_shapes a p number [] notes left = left
@@ -106,6 +135,21 @@ left_shapes a p number (op ∷ ops) notes (inr more) =
 takes_down : (who : Who) (event : ℕ → PlainEvent) (page m : ℕ) (now later : List NoteValue) → 1 ≤ m → TakesDown who (event page) now → TakesDownAll who event (page + 1) m later → TakesDownAll who event page (suc m) (now ++ later)
 takes_down who event page zero now later some down all = absurd (omega arith)
 takes_down who event page (suc m) now later some down all = (now, later, refl, down, all)
+
+-- one page of a pin more in front, and the page that is refused
+pins_more : (who : Who) (handle page n : ℕ) (write : Bool) (got m : ℕ) (now later : List NoteValue) → 1 ≤ m → IsTurn who now (Event (events.PinTry who.actor who.proc (page + got) write) ∷ []) → PinsPages who handle page n write (got + 1) m later → PinsPages who handle page n write got (suc m) (now ++ later)
+pins_more who handle page n write got zero now later some first pins = absurd (omega arith)
+pins_more who handle page n write got (suc m) now later some first pins = inl (now, later, refl, first, pins)
+
+pins_short : (who : Who) (handle page n : ℕ) (write : Bool) (got left : ℕ) (now : List NoteValue) → 0 < left → EndsShort who handle n got now → PinsPages who handle page n write got left now
+pins_short who handle page n write got zero now some end = absurd (omega arith)
+pins_short who handle page n write got (suc zero) now some end = inr end
+pins_short who handle page n write got (suc (suc left)) now some end = inr end
+
+-- one word of a transfer more in front
+moves_more : (who : Who) (handle : ℕ) (outward : Bool) (index slot value m : ℕ) (now later : List NoteValue) → 1 ≤ m → IsTurn who now (Event (moves_word who.actor handle outward index slot value) ∷ []) → MovesWords who handle outward (index + 1) (slot + 1) m later → MovesWords who handle outward index slot (suc m) (now ++ later)
+moves_more who handle outward index slot value zero now later some first all = absurd (omega arith)
+moves_more who handle outward index slot value (suc m) now later some first all = (value, now, later, refl, first, all)
 
 -- what is left of an actor at a place
 abbrev pub LeftAt : (a p : ℕ) → List Op → Place → ForkPlace → List NoteValue → Type 0
@@ -140,6 +184,11 @@ refused_rest who (Load page word) far now first refusal = inr refusal
 refused_rest who (Store page word value) far now first refusal = inr refusal
 refused_rest who (Protect page n rights) far now first refusal = inr refusal
 refused_rest who (Discard page n) far now first refusal = inr (first, refusal)
+refused_rest who (Pin handle page n write) far now first refusal = inr (first, refusal)
+refused_rest who (Unpin handle) far now first refusal = inr (first, refusal)
+refused_rest who (Give handle to) far now first refusal = inr refusal
+refused_rest who (Take handle) far now first refusal = inr refusal
+refused_rest who (Transfer handle outward index slot n) far now first refusal = inr (first, refusal)
 refused_rest who Exit far now first refusal = inr (first, refusal)
 
 last_rest : (who : Who) (op : Op) (page n : ℕ) (event : ℕ → PlainEvent) (far : ℕ) (now : List NoteValue) → far + 1 ≡ n → TakesDownLast who (event (page + far)) now → RestOver who op page n event far now
@@ -148,26 +197,26 @@ last_rest who op page n event far now last down =
     inl (subst (λ (k : ℕ). TakesDownAll who event (page + far) k now) one down)
 
 -- from behind turn t of the actor to before it
-module _ (a p t : ℕ) (place : Place) (ops : List Op) (later : List NoteValue) where
+module _ (who : Doer) (t : ℕ) (place : Place) (ops : List Op) (later : List NoteValue) where
   abbrev present : Who
-  present = record { actor = a; proc = p; number = place.answered + 1 }
+  present = record { actor = who.actor; proc = who.proc; number = place.answered + 1 }
 
   abbrev now : List What → List NoteValue
-  now whats = notes_of_turn t a (place.answered + 1) whats
+  now whats = notes_of_turn t who.actor (place.answered + 1) whats
 
   abbrev ops_behind : List Op
   ops_behind = drop (place.answered + 1) ops
 
   -- what is left before the turn: of this operation, and of those behind it
   abbrev LeftBefore : Op → ForkPlace → List NoteValue → Type 0
-  LeftBefore op at notes = Left a p (place.answered + 1) (op ∷ ops_behind) place.far at notes
+  LeftBefore op at notes = Left who.actor who.proc (place.answered + 1) (op ∷ ops_behind) place.far at notes
 
   -- the operation ends with this turn
-  ends : (op : Op) (at : ForkPlace) (whats : List What) → RestOf present op place.far at (now whats) → Left a p (place.answered + 1 + 1) ops_behind 0 unbegun later → LeftBefore op at (now whats ++ later)
-  ends op at whats rest left = inr (now whats, later, refl, rest, left_shapes a p (place.answered + 1 + 1) ops_behind later left)
+  ends : (op : Op) (at : ForkPlace) (whats : List What) → RestOf present op place.far at (now whats) → Left who.actor who.proc (place.answered + 1 + 1) ops_behind 0 unbegun later → LeftBefore op at (now whats ++ later)
+  ends op at whats rest left = inr (now whats, later, refl, rest, left_shapes who.actor who.proc (place.answered + 1 + 1) ops_behind later left)
 
   -- it takes one page down, and goes on
-  goes_over : (op : Op) (page n : ℕ) (event : ℕ → PlainEvent) (whats : List What) (front rest : List NoteValue) → GoesOver a p op page n event → place.far + 1 < n → TakesDown present (event (page + place.far)) (now whats) → later ≡ front ++ rest → RestOver present op page n event (place.far + 1) front → Shapes a p (place.answered + 1 + 1) ops_behind rest → LeftBefore op unbegun (now whats ++ later)
+  goes_over : (op : Op) (page n : ℕ) (event : ℕ → PlainEvent) (whats : List What) (front rest : List NoteValue) → GoesOver who.actor who.proc op page n event → place.far + 1 < n → TakesDown present (event (page + place.far)) (now whats) → later ≡ front ++ rest → RestOver present op page n event (place.far + 1) front → Shapes who.actor who.proc (place.answered + 1 + 1) ops_behind rest → LeftBefore op unbegun (now whats ++ later)
   goes_over op page n event whats front rest over more down is (inr refusal) shapes = absurd (let e = refusal.0 in omega arith)
   goes_over op page n event whats front rest over more down is (inl all) shapes =
       let first = page + place.far in
@@ -178,21 +227,56 @@ module _ (a p t : ℕ) (place : Place) (ops : List Op) (later : List NoteValue) 
       let whole : TakesDownAll present event first (n - place.far) (now whats ++ front) = subst (λ (k : ℕ). TakesDownAll present event first k (now whats ++ front)) many (takes_down present event first left (now whats) front (omega arith) down there) in
       inr (now whats ++ front, rest, ap (λ (ns : List NoteValue). now whats ++ ns) is ∙ sym (append_assoc (now whats) front rest), over_rest present place.far unbegun (now whats ++ front) over (inl whole), shapes)
 
-  takes_and_goes : (op : Op) (page n : ℕ) (event : ℕ → PlainEvent) (whats : List What) → GoesOver a p op page n event → place.far + 1 < n → TakesDown present (event (page + place.far)) (now whats) → Left a p (place.answered + 1) (op ∷ ops_behind) (place.far + 1) unbegun later → LeftBefore op unbegun (now whats ++ later)
+  takes_and_goes : (op : Op) (page n : ℕ) (event : ℕ → PlainEvent) (whats : List What) → GoesOver who.actor who.proc op page n event → place.far + 1 < n → TakesDown present (event (page + place.far)) (now whats) → Left who.actor who.proc (place.answered + 1) (op ∷ ops_behind) (place.far + 1) unbegun later → LeftBefore op unbegun (now whats ++ later)
   takes_and_goes op page n event whats over more down (inl none) = absurd (let e = none.0 in omega arith)
   takes_and_goes op page n event whats over more down (inr (front, rest, is, begun, shapes)) =
       goes_over op page n event whats front rest over more down is (rest_over present (place.far + 1) unbegun front over begun) shapes
 
   -- an exit takes one page more down in front
-  exits_on : (page : ℕ) (whats : List What) → IsTurn present (now whats) (Event (events.Unmap a p page) ∷ []) → Left a p (place.answered + 1) (Exit ∷ ops_behind) (place.far + 1) unbegun later → LeftBefore Exit unbegun (now whats ++ later)
+  exits_on : (page : ℕ) (whats : List What) → IsTurn present (now whats) (Event (events.Unmap who.actor who.proc page) ∷ []) → Left who.actor who.proc (place.answered + 1) (Exit ∷ ops_behind) (place.far + 1) unbegun later → LeftBefore Exit unbegun (now whats ++ later)
   exits_on page whats down (inl none) = absurd (let e = none.0 in omega arith)
   exits_on page whats down (inr (front, rest, is, inr refusal, shapes)) = absurd (let e = refusal.0 in omega arith)
   exits_on page whats down (inr (front, rest, is, inl (pages, whole), shapes)) =
       let more : TakesDownWhole present (suc pages) (now whats ++ front) = (page, now whats, front, refl, down, whole) in
       inr (now whats ++ front, rest, ap (λ (ns : List NoteValue). now whats ++ ns) is ∙ sym (append_assoc (now whats) front rest), inl (suc pages, more), shapes)
 
+  -- a pin takes one page more
+  pins_on : (handle page n : ℕ) (write : Bool) (whats : List What) → place.far + 1 < n → IsTurn present (now whats) (Event (events.PinTry who.actor who.proc (page + place.far) write) ∷ []) → Left who.actor who.proc (place.answered + 1) (Pin handle page n write ∷ ops_behind) (place.far + 1) unbegun later → LeftBefore (Pin handle page n write) unbegun (now whats ++ later)
+  pins_on handle page n write whats more first (inl none) = absurd (let e = none.0 in omega arith)
+  pins_on handle page n write whats more first (inr (front, rest, is, inr refusal, shapes)) = absurd (let e = refusal.0 in omega arith)
+  pins_on handle page n write whats more first (inr (front, rest, is, inl pins, shapes)) =
+      let left = n - (place.far + 1) in
+      let many : suc left ≡ n - place.far = omega arith in
+      let whole : PinsPages present handle page n write place.far (n - place.far) (now whats ++ front) = subst (λ (k : ℕ). PinsPages present handle page n write place.far k (now whats ++ front)) many (pins_more present handle page n write place.far left (now whats) front (omega arith) first pins) in
+      inr (now whats ++ front, rest, ap (λ (ns : List NoteValue). now whats ++ ns) is ∙ sym (append_assoc (now whats) front rest), inl whole, shapes)
+
+  -- an unpin gives back one page more in front
+  unpins_on : (handle : ℕ) (whats : List What) → IsTurn present (now whats) (Silent ∷ []) → Left who.actor who.proc (place.answered + 1) (Unpin handle ∷ ops_behind) (place.far + 1) unbegun later → LeftBefore (Unpin handle) unbegun (now whats ++ later)
+  unpins_on handle whats silent (inl none) = absurd (let e = none.0 in omega arith)
+  unpins_on handle whats silent (inr (front, rest, is, inr refusal, shapes)) = absurd (let e = refusal.0 in omega arith)
+  unpins_on handle whats silent (inr (front, rest, is, inl (more, unpins), shapes)) =
+      let whole : Unpins present handle (suc more) (now whats ++ front) = (now whats, front, refl, silent, unpins) in
+      inr (now whats ++ front, rest, ap (λ (ns : List NoteValue). now whats ++ ns) is ∙ sym (append_assoc (now whats) front rest), inl (suc more, whole), shapes)
+
+  -- a transfer moves one word more in front
+  moves_on : (handle : ℕ) (outward : Bool) (index slot n value : ℕ) (whats : List What) → place.far + 1 < n → IsTurn present (now whats) (Event (moves_word who.actor handle outward (index + place.far) (slot + place.far) value) ∷ []) → Left who.actor who.proc (place.answered + 1) (Transfer handle outward index slot n ∷ ops_behind) (place.far + 1) unbegun later → LeftBefore (Transfer handle outward index slot n) unbegun (now whats ++ later)
+  moves_on handle outward index slot n value whats more first (inl none) = absurd (let e = none.0 in omega arith)
+  moves_on handle outward index slot n value whats more first (inr (front, rest, is, inr refusal, shapes)) = absurd (let e = refusal.0 in omega arith)
+  moves_on handle outward index slot n value whats more first (inr (front, rest, is, inl all, shapes)) =
+      let i = index + place.far in
+      let j = slot + place.far in
+      let left = n - (place.far + 1) in
+      let next : index + (place.far + 1) ≡ i + 1 = omega arith in
+      let then : slot + (place.far + 1) ≡ j + 1 = omega arith in
+      let many : suc left ≡ n - place.far = omega arith in
+      let there : MovesWords present handle outward (i + 1) (j + 1) left front =
+      subst (λ (k : ℕ). MovesWords present handle outward (i + 1) k left front) then (subst (λ (k : ℕ). MovesWords present handle outward k (slot + (place.far + 1)) left front) next all) in
+      let whole : MovesWords present handle outward i j (n - place.far) (now whats ++ front) =
+      subst (λ (k : ℕ). MovesWords present handle outward i j k (now whats ++ front)) many (moves_more present handle outward i j value left (now whats) front (omega arith) first there) in
+      inr (now whats ++ front, rest, ap (λ (ns : List NoteValue). now whats ++ ns) is ∙ sym (append_assoc (now whats) front rest), inl whole, shapes)
+
   -- a fork goes on from where it stands to where it stands then
-  forks_on : (child : ℕ) (at next : ForkPlace) (whats : List What) → ((front : List NoteValue) → RestOfFork present child next front → RestOfFork present child at (now whats ++ front)) → Left a p (place.answered + 1) (Fork child ∷ ops_behind) (place.far + 1) next later → LeftBefore (Fork child) at (now whats ++ later)
+  forks_on : (child : ℕ) (at next : ForkPlace) (whats : List What) → ((front : List NoteValue) → RestOfFork present child next front → RestOfFork present child at (now whats ++ front)) → Left who.actor who.proc (place.answered + 1) (Fork child ∷ ops_behind) (place.far + 1) next later → LeftBefore (Fork child) at (now whats ++ later)
   forks_on child at next whats on (inl none) = absurd (let e = none.0 in omega arith)
   forks_on child at next whats on (inr (front, rest, is, begun, shapes)) =
       inr (now whats ++ front, rest, ap (λ (ns : List NoteValue). now whats ++ ns) is ∙ sym (append_assoc (now whats) front rest), on front begun, shapes)
@@ -203,47 +287,64 @@ module _ (a p t : ℕ) (place : Place) (ops : List Op) (later : List NoteValue) 
       let split : now whats ++ front ≡ (now whats ++ share) ++ rest = ap (λ (ns : List NoteValue). now whats ++ ns) is ∙ sym (append_assoc (now whats) share rest) in
       (suc pages, (page, up, now whats ++ share, rest, split, inr (now whats, share, refl, silent, shares), all))
 
-  op_left : {s : PlainState} (op : Op) {from to : ForkPlace} (whats : List What) → TurnOf s a p place op from whats to → drop place.answered ops ≡ op ∷ ops_behind → LeftAt a p ops (place_behind place whats) to later → LeftBefore op from (now whats ++ later)
+  op_left : {s : PlainState} (op : Op) {from to : ForkPlace} (whats : List What) → TurnOf s who place op from whats to → drop place.answered ops ≡ op ∷ ops_behind → LeftAt who.actor who.proc ops (place_behind place whats) to later → LeftBefore op from (now whats ++ later)
   op_left op whats (refused o answer first refusal right passes) is left = ends op unbegun whats (refused_rest present op place.far (now whats) first.0 (answer, refusal, (t, refl))) left
   op_left op whats (mapped page n rights first free) is left = ends op unbegun whats (inl (t, refl)) left
   op_left op whats (protected page n rights first free) is left = ends op unbegun whats (inl (t, refl)) left
   op_left op whats (loaded page word value first free) is left = ends op unbegun whats (inl (value, (t, refl))) left
   op_left op whats (stored page word value first free) is left = ends op unbegun whats (inl (t, refl)) left
+  op_left op whats (gave handle to first free) is left = ends op unbegun whats (inl (t, refl)) left
+  op_left op whats (took_over handle first) is left = ends op unbegun whats (inl (t, refl)) left
   op_left op whats (took o page n event over more) is left =
-      takes_and_goes op page n event whats over more (inl (t, refl)) (subst (λ (os : List Op). Left a p (place.answered + 1) os (place.far + 1) unbegun later) is left)
+      takes_and_goes op page n event whats over more (inl (t, refl)) (subst (λ (os : List Op). Left who.actor who.proc (place.answered + 1) os (place.far + 1) unbegun later) is left)
   op_left op whats (passed o page n event over more none) is left =
-      takes_and_goes op page n event whats over more (inr (t, refl)) (subst (λ (os : List Op). Left a p (place.answered + 1) os (place.far + 1) unbegun later) is left)
+      takes_and_goes op page n event whats over more (inr (t, refl)) (subst (λ (os : List Op). Left who.actor who.proc (place.answered + 1) os (place.far + 1) unbegun later) is left)
   op_left op whats (took_last o page n event over last) is left =
       ends op unbegun whats (over_rest present place.far unbegun (now whats) over (last_rest present op page n event place.far (now whats) last (inl (t, refl)))) left
   op_left op whats (passed_last o page n event over last none) is left =
       ends op unbegun whats (over_rest present place.far unbegun (now whats) over (last_rest present op page n event place.far (now whats) last (inr (t, refl)))) left
   op_left op whats (took_lowest page none) is left =
-      exits_on page whats (t, refl) (subst (λ (os : List Op). Left a p (place.answered + 1) os (place.far + 1) unbegun later) is left)
+      exits_on page whats (t, refl) (subst (λ (os : List Op). Left who.actor who.proc (place.answered + 1) os (place.far + 1) unbegun later) is left)
   op_left op whats (took_all none) is left = ends op unbegun whats (inl (zero, (t, refl))) left
+  op_left op whats (pinned_page handle page n write more free) is left =
+      pins_on handle page n write whats more (t, refl) (subst (λ (os : List Op). Left who.actor who.proc (place.answered + 1) os (place.far + 1) unbegun later) is left)
+  op_left op whats (pinned_all handle page n write last free) is left =
+      let one : 1 ≡ n - place.far = omega arith in
+      ends op unbegun whats (inl (subst (λ (k : ℕ). PinsPages present handle page n write place.far k (now whats)) one (inl (t, refl)))) left
+  op_left op whats (pinned_short handle page n write cause some less end right) is left =
+      ends op unbegun whats (inl (pins_short present handle page n write place.far (n - place.far) (now whats) (omega arith) (some, cause, end, (t, refl)))) left
+  op_left op whats (unpinned_page handle free more) is left =
+      unpins_on handle whats (t, refl) (subst (λ (os : List Op). Left who.actor who.proc (place.answered + 1) os (place.far + 1) unbegun later) is left)
+  op_left op whats (unpinned_last handle none free last) is left = ends op unbegun whats (inl (zero, (t, refl))) left
+  op_left op whats (moved_word handle outward index slot n value more free) is left =
+      moves_on handle outward index slot n value whats more (t, refl) (subst (λ (os : List Op). Left who.actor who.proc (place.answered + 1) os (place.far + 1) unbegun later) is left)
+  op_left op whats (moved_last handle outward index slot n value last free) is left =
+      let one : 1 ≡ n - place.far = omega arith in
+      ends op unbegun whats (inl (subst (λ (k : ℕ). MovesWords present handle outward (index + place.far) (slot + place.far) k (now whats)) one (value, (t, refl)))) left
   op_left op whats (began child first) is left =
-      forks_on child unbegun (from_page 0) whats (λ front h. inl (h.0, now whats, front, refl, (t, refl), h.1)) (subst (λ (os : List Op). Left a p (place.answered + 1) os (place.far + 1) (from_page 0) later) is left)
+      forks_on child unbegun (from_page 0) whats (λ front h. inl (h.0, now whats, front, refl, (t, refl), h.1)) (subst (λ (os : List Op). Left who.actor who.proc (place.answered + 1) os (place.far + 1) (from_page 0) later) is left)
   op_left op whats (passed_page child first page begun up) is left =
-      forks_on child (from_page first) (from_page (page + 1)) whats (λ front h. (suc h.0, (page, up, now whats, front, refl, inl (t, refl), h.1))) (subst (λ (os : List Op). Left a p (place.answered + 1) os (place.far + 1) (from_page (page + 1)) later) is left)
+      forks_on child (from_page first) (from_page (page + 1)) whats (λ front h. (suc h.0, (page, up, now whats, front, refl, inl (t, refl), h.1))) (subst (λ (os : List Op). Left who.actor who.proc (place.answered + 1) os (place.far + 1) (from_page (page + 1)) later) is left)
   op_left op whats (counted_page child first page begun up) is left =
-      forks_on child (from_page first) (at_page page) whats (counted_before child first page whats (t, refl) up) (subst (λ (os : List Op). Left a p (place.answered + 1) os (place.far + 1) (at_page page) later) is left)
+      forks_on child (from_page first) (at_page page) whats (counted_before child first page whats (t, refl) up) (subst (λ (os : List Op). Left who.actor who.proc (place.answered + 1) os (place.far + 1) (at_page page) later) is left)
   op_left op whats (shared_page child page begun) is left =
-      forks_on child (at_page page) (from_page (page + 1)) whats (λ front h. (h.0, now whats, front, refl, (t, refl), h.1)) (subst (λ (os : List Op). Left a p (place.answered + 1) os (place.far + 1) (from_page (page + 1)) later) is left)
+      forks_on child (at_page page) (from_page (page + 1)) whats (λ front h. (h.0, now whats, front, refl, (t, refl), h.1)) (subst (λ (os : List Op). Left who.actor who.proc (place.answered + 1) os (place.far + 1) (from_page (page + 1)) later) is left)
   op_left op whats (ended child first begun) is left = ends op (from_page first) whats (zero, (t, refl)) left
 
   -- a turn without notes of an operation
-  same_left : (at : ForkPlace) (what : What) → is_of_operation what ≡ false → LeftAt a p ops place at later → LeftAt a p ops place at (own_notes a (now (what ∷ [])) ++ later)
-  same_left at what other left = subst (λ (ns : List NoteValue). LeftAt a p ops place at (ns ++ later)) (sym (own_idle a t (place.answered + 1) what other)) left
+  same_left : (at : ForkPlace) (what : What) → is_of_operation what ≡ false → LeftAt who.actor who.proc ops place at later → LeftAt who.actor who.proc ops place at (own_notes who.actor (now (what ∷ [])) ++ later)
+  same_left at what other left = subst (λ (ns : List NoteValue). LeftAt who.actor who.proc ops place at (ns ++ later)) (sym (own_idle who.actor t (place.answered + 1) what other)) left
 
   -- any turn of the actor's
-  pub turn_left : {s : PlainState} {op : Option Op} {waiting : Option Waiting} {from to : ForkPlace} {whats : List What} → TurnAt s a p place op waiting from whats to → slice_get ops place.answered ≡ op → LeftAt a p ops (place_behind place whats) to later → LeftAt a p ops place from (own_notes a (now whats) ++ later)
+  pub turn_left : {s : PlainState} {op : Option Op} {waiting : Option Waiting} {from to : ForkPlace} {whats : List What} → TurnAt s who place op waiting from whats to → slice_get ops place.answered ≡ op → LeftAt who.actor who.proc ops (place_behind place whats) to later → LeftAt who.actor who.proc ops place from (own_notes who.actor (now whats) ++ later)
   turn_left (idles waiting at) is left = same_left at Idle refl left
   turn_left (waits op waiting at) is left = same_left at (Wait waiting) refl left
-  turn_left (goes op whats from to birth turn) is left =
+  turn_left (goes op whats from to birth own turn) is left =
       let split = ops_split ops place.answered op is in
-      let own = own_same a t (place.answered + 1) whats (op_moves turn).2 in
+      let own = own_same who.actor t (place.answered + 1) whats (op_moves turn).2 in
       let here = op_left op whats turn split left in
-      subst (λ (ns : List NoteValue). LeftAt a p ops place from (ns ++ later)) (sym own)
-      (subst (λ (os : List Op). Left a p (place.answered + 1) os place.far from (now whats ++ later)) (sym split) here)
+      subst (λ (ns : List NoteValue). LeftAt who.actor who.proc ops place from (ns ++ later)) (sym own)
+      (subst (λ (os : List Op). Left who.actor who.proc (place.answered + 1) os place.far from (now whats ++ later)) (sym split) here)
 
 -- a turn of another actor changes nothing
 pub other_left : (a p b t n : ℕ) (place : Place) (at : ForkPlace) (ops : List Op) (whats : List What) (later : List NoteValue) → (b == a) ≡ false → LeftAt a p ops place at later → LeftAt a p ops place at (own_notes a (notes_of_turn t b n whats) ++ later)

@@ -7,20 +7,21 @@ use Rattle.gup_plain.specs.Put.{put}
 use Rattle.gup_plain.specs.Event.{page_numbers}
 use Rattle.gup_plain.specs.State.{Birth, unborn, growing, born}
 use Rattle.gup_script.specs.declared.op.Op.{Op}
-use Rattle.gup_script.specs.declared.op.Op.TheVariants.{Map, Unmap, Protect, Discard, Load, Store, Fork, Exit}
+use Rattle.gup_script.specs.declared.op.Op.TheVariants.{Map, Unmap, Protect, Discard, Load, Store, Pin, Unpin, Give, Take, Transfer, Fork, Exit}
 use Rattle.gup_events.specs.State.{CoreState, Job, idle, marking, moving, forking, walking, between, counted, lowered, cleared, copying, failing}
 use Rattle.gup_events.specs.Event.{happens, begin_fork, copies_page}
 use Rattle.gup_events.specs.Invariant.{run}
-use Rattle.gup_follows.specs.Place.{Place, place_behind}
+use Rattle.gup_follows.specs.Place.{Place, Doer, birth_for, place_behind}
 use Rattle.gup_turns.specs.Cost.{fork_turns, fork_left, GoesOn, IsWithinBound}
 use Rattle.gup_turns.specs.Pages.{mapped_pages, pages_from}
 use Rattle.gup_turns.specs.Reached.{ForkPlace, unbegun, from_page, at_page, fork_place, StandsFork}
-use Rattle.gup_turns.specs.Turn.{Taken, first_behind, next_page, page_turn, next_turn, share_turn, fork_turn, op_turn, turn_at, failed_turn}
-use Rattle.gup_turns.proofs.Bounds.{StandsShort, IsMoved, op_moved, TakesCost, takes_cost}
+use Rattle.gup_turns.specs.Turn.{Taken, first_behind, next_page, page_turn, next_turn, share_turn, fork_turn, op_turn, turn_at, failed_turn, turn_of}
+use Rattle.gup_turns.proofs.Bounds.{StandsShort, IsMoved, TakesCost, takes_cost}
+use Rattle.gup_turns.proofs.PinBounds.{op_moved, kept_rights}
 use Rattle.gup_turns.proofs.Mapped.{pages_few, pages_behind}
 use Rattle.gup_turns.proofs.Puts.{put_same, put_other}
 use Rattle.gup_turns.proofs.Searches.{IsLowest, lowest_some}
-use Rattle.gup_turns.proofs.Shapes.{child_of}
+use Rattle.gup_turns.proofs.Shapes.{IsOfProcess, child_of}
 
 -- A turn leaves the pages of all processes but its own, or the child that it brings, and those of each that grows. It
 -- leaves the jobs of other actors, takes of the cost, and is within its bound.
@@ -61,17 +62,29 @@ left_turns right (at_page page) middle = refl
 
 module _ (s : CoreState) (a p : ℕ) (place : Place) where
   -- an operation that isn't a fork
-  moved_spent : (op : Op) (turn : Taken) → child_of p (Some op) ≡ p → s.birth p ≡ born → StandsShort op place → IsMoved s a p place op turn → IsSpent s a p place op turn
-  moved_spent op turn own birth short moved =
+  moved_spent : (op : Op) (turn : Taken) → child_of p (Some op) ≡ p → ((q parent : ℕ) → s.birth q ≡ growing parent → (run s turn.events).right q ≡ s.right q) → StandsShort s a op place → IsMoved s a p place op turn → IsSpent s a p place op turn
+  moved_spent op turn own grown short moved =
       let t : CoreState = run s turn.events in
       let takes = takes_cost op a p place (place_behind place turn.whats) s t short moved.jobs.idle moved.gained moved.bound in
       record {
         others = λ q other. moved.others q (subst (λ (k : ℕ). (q == k) ≡ false) own other);
-        grown = λ q parent grows. moved.others q (apart_grown s.birth p q parent born birth (born_grown parent) grows);
+        grown = grown;
         jobs = moved.jobs.others;
         takes = subst (λ (k : ℕ). TakesCost s t a op place (place_behind place turn.whats) (mapped_pages (s.right k)) (mapped_pages (t.right k))) (sym own) takes;
         bound = moved.bound;
       }
+
+  -- of a born process
+  page_op_spent : (slots : ℕ) (op : Op) → child_of p (Some op) ≡ p → s.birth p ≡ born → (s.job a ≡ idle) × StandsShort s a op place → IsSpent s a p place op (op_turn s a p slots place.far op)
+  page_op_spent slots op own birth stands =
+      let moved = op_moved s a p place stands.0 slots op stands.1 in
+      moved_spent op (op_turn s a p slots place.far op) own (λ q parent grows. moved.others q (apart_grown s.birth p q parent born birth (born_grown parent) grows)) stands.1 moved
+
+  -- of whoever holds a pin
+  handle_op_spent : (slots : ℕ) (op : Op) → child_of p (Some op) ≡ p → (IsOfProcess op → ⊥) → (s.job a ≡ idle) × StandsShort s a op place → IsSpent s a p place op (op_turn s a p slots place.far op)
+  handle_op_spent slots op own none stands =
+      let same = kept_rights s a p slots place.far op none in
+      moved_spent op (op_turn s a p slots place.far op) own (λ q parent grows. ap (λ (f : ℕ → ℕ → Option Rights). f q) same) stands.1 (op_moved s a p place stands.0 slots op stands.1)
 
   -- forks
 
@@ -185,19 +198,24 @@ module _ (s : CoreState) (a p : ℕ) (place : Place) where
   -- where an operation stands: its actor is idle, unless it forks
   abbrev pub StandsAt : Op → Type 0
   StandsAt (Fork child) = StandsFork s a p child (s.job a)
-  StandsAt op = (s.job a ≡ idle) × StandsShort op place
+  StandsAt op = (s.job a ≡ idle) × StandsShort s a op place
 
-  -- every operation of a born process
-  op_spent : (op : Op) → s.birth p ≡ born → s.has_pinned p ≡ false → mapped_pages (s.right p) ≤ 1024 → StandsAt op → IsSpent s a p place op (op_turn s a p place.far op)
-  op_spent (Fork child) birth unpinned few stands = fork_spent child (s.job a) refl stands unpinned few
-  op_spent (Map page n rights) birth unpinned few stands = moved_spent (Map page n rights) (op_turn s a p place.far (Map page n rights)) refl birth stands.1 (op_moved s a p place stands.0 (Map page n rights) stands.1)
-  op_spent (Unmap page n) birth unpinned few stands = moved_spent (Unmap page n) (op_turn s a p place.far (Unmap page n)) refl birth stands.1 (op_moved s a p place stands.0 (Unmap page n) stands.1)
-  op_spent (Protect page n rights) birth unpinned few stands = moved_spent (Protect page n rights) (op_turn s a p place.far (Protect page n rights)) refl birth stands.1 (op_moved s a p place stands.0 (Protect page n rights) stands.1)
-  op_spent (Discard page n) birth unpinned few stands = moved_spent (Discard page n) (op_turn s a p place.far (Discard page n)) refl birth stands.1 (op_moved s a p place stands.0 (Discard page n) stands.1)
-  op_spent (Load page word) birth unpinned few stands = moved_spent (Load page word) (op_turn s a p place.far (Load page word)) refl birth stands.1 (op_moved s a p place stands.0 (Load page word) stands.1)
-  op_spent (Store page word value) birth unpinned few stands = moved_spent (Store page word value) (op_turn s a p place.far (Store page word value)) refl birth stands.1 (op_moved s a p place stands.0 (Store page word value) stands.1)
-  op_spent Exit birth unpinned few stands = moved_spent Exit (op_turn s a p place.far Exit) refl birth stands.1 (op_moved s a p place stands.0 Exit stands.1)
+  -- every operation of a born process, or of whoever waits for no birth; where there is a fork, nobody has pinned
+  op_spent : (slots : ℕ) (op : Op) → (IsOfProcess op → s.birth p ≡ born) → ((child : ℕ) → op ≡ Fork child → s.has_pinned p ≡ false) → mapped_pages (s.right p) ≤ 1024 → StandsAt op → IsSpent s a p place op (op_turn s a p slots place.far op)
+  op_spent slots (Fork child) birth unpinned few stands = fork_spent child (s.job a) refl stands (unpinned child refl) few
+  op_spent slots (Map page n rights) birth unpinned few stands = page_op_spent slots (Map page n rights) refl (birth tt) stands
+  op_spent slots (Unmap page n) birth unpinned few stands = page_op_spent slots (Unmap page n) refl (birth tt) stands
+  op_spent slots (Protect page n rights) birth unpinned few stands = page_op_spent slots (Protect page n rights) refl (birth tt) stands
+  op_spent slots (Discard page n) birth unpinned few stands = page_op_spent slots (Discard page n) refl (birth tt) stands
+  op_spent slots (Load page word) birth unpinned few stands = page_op_spent slots (Load page word) refl (birth tt) stands
+  op_spent slots (Store page word value) birth unpinned few stands = page_op_spent slots (Store page word value) refl (birth tt) stands
+  op_spent slots (Pin handle page n write) birth unpinned few stands = page_op_spent slots (Pin handle page n write) refl (birth tt) stands
+  op_spent slots (Unpin handle) birth unpinned few stands = handle_op_spent slots (Unpin handle) refl (λ e. e) stands
+  op_spent slots (Give handle to) birth unpinned few stands = handle_op_spent slots (Give handle to) refl (λ e. e) stands
+  op_spent slots (Take handle) birth unpinned few stands = handle_op_spent slots (Take handle) refl (λ e. e) stands
+  op_spent slots (Transfer handle outward index slot n) birth unpinned few stands = handle_op_spent slots (Transfer handle outward index slot n) refl (λ e. e) stands
+  op_spent slots Exit birth unpinned few stands = page_op_spent slots Exit refl (birth tt) stands
 
-  pub turn_spent : (op : Op) → s.birth p ≡ born → s.has_pinned p ≡ false → mapped_pages (s.right p) ≤ 1024 → StandsAt op → IsSpent s a p place op (turn_at (s.birth p) (failed_turn a p op) (op_turn s a p place.far op))
-  turn_spent op birth unpinned few stands =
-      subst (λ (b : Birth). IsSpent s a p place op (turn_at b (failed_turn a p op) (op_turn s a p place.far op))) (sym birth) (op_spent op birth unpinned few stands)
+pub turn_spent : (s : CoreState) (who : Doer) (place : Place) (op : Op) → birth_for s.birth who ≡ born → (IsOfProcess op → s.birth who.proc ≡ born) → ((child : ℕ) → op ≡ Fork child → s.has_pinned who.proc ≡ false) → mapped_pages (s.right who.proc) ≤ 1024 → StandsAt s who.actor who.proc place op → IsSpent s who.actor who.proc place op (turn_of s who place.far op)
+turn_spent s who place op birth own unpinned few stands =
+    subst (λ (b : Birth). IsSpent s who.actor who.proc place op (turn_at b (failed_turn who.actor who.proc op) (op_turn s who.actor who.proc who.slots place.far op))) (sym birth) (op_spent s who.actor who.proc place who.slots op own unpinned few stands)

@@ -15,7 +15,7 @@ use Rattle.gup_script.specs.declared.op.Op.TheVariants.{Fork}
 use Rattle.gup_events.specs.State.{CoreState, Job, idle, marking, moving, forking, walking, ForkStep, between, counted, lowered, cleared, copying, failing, plain_of}
 use Rattle.gup_events.specs.Event.{AreUnlocked, happens, entry_of, begin_fork, count_page, share_entry, share_mark, share_child, pass_page, end_fork, copies_page}
 use Rattle.gup_events.specs.Sound.{keeps_table}
-use Rattle.gup_follows.specs.Place.{Place}
+use Rattle.gup_follows.specs.Place.{Place, Doer}
 use Rattle.gup_turns.specs.Reached.{ForkPlace, unbegun, from_page, at_page, fork_place, IsForking, HasCounted}
 use Rattle.gup_turns.specs.Turn.{frame_in, allows_store, first_behind, next_page, page_turn, next_turn, share_turn, fork_turn, fork_locks, held_by_other, waits_for_lock, waits_for_locks, locks_needed, op_turn}
 use Rattle.gup_turns.proofs.Calm.{beginning, counting, sharing_entry, sharing_mark, sharing_child, passing, ending}
@@ -26,10 +26,10 @@ use Rattle.gup_turns.proofs.Shapes.{AtFirst, IsBegun, FitsFork, FitsOp, TurnOf, 
 use Rattle.gup_turns.proofs.Turned.{IsOpen, IsTurned, both_free, table_free}
 
 -- between two pages, or behind the beginning: the place moves by the fork's job
-shape_from : (s t : CoreState) (a p child : ℕ) (place : Place) (whats : List What) (from to : ForkPlace) → fork_place (s.job a) ≡ from → fork_place (t.job a) ≡ to → TurnOf (plain_of s) a p place (Fork child) from whats to → TurnOf (plain_of s) a p place (Fork child) (fork_place (s.job a)) whats (fork_place (t.job a))
-shape_from s t a p child place whats from to before behind shape =
-    subst (λ (x : ForkPlace). TurnOf (plain_of s) a p place (Fork child) x whats (fork_place (t.job a))) (sym before)
-    (subst (λ (y : ForkPlace). TurnOf (plain_of s) a p place (Fork child) from whats y) (sym behind) shape)
+shape_from : (s t : CoreState) (who : Doer) (child : ℕ) (place : Place) (whats : List What) (from to : ForkPlace) → fork_place (s.job who.actor) ≡ from → fork_place (t.job who.actor) ≡ to → TurnOf (plain_of s) who place (Fork child) from whats to → TurnOf (plain_of s) who place (Fork child) (fork_place (s.job who.actor)) whats (fork_place (t.job who.actor))
+shape_from s t who child place whats from to before behind shape =
+    subst (λ (x : ForkPlace). TurnOf (plain_of s) who place (Fork child) x whats (fork_place (t.job who.actor))) (sym before)
+    (subst (λ (y : ForkPlace). TurnOf (plain_of s) who place (Fork child) from whats y) (sym behind) shape)
 
 and_false : (b : Bool) → (b && false) ≡ false
 and_false true = refl
@@ -71,7 +71,13 @@ some_right : (o : Option Rights) → IsSome o → (r : Rights) × (o ≡ Some r)
 some_right None is = absurd (cc is)
 some_right (Some r) is = (r, refl)
 
-module _ (s : CoreState) (a p child : ℕ) (place : Place) (h : IsOpen s a p) where
+module _ (s : CoreState) (who : Doer) (child : ℕ) (place : Place) (h : IsOpen s who.actor who.proc) (unpinned : (p : ℕ) → s.has_pinned p ≡ false) (untaken : s.taken who.actor ≡ []) where
+  abbrev a : ℕ
+  a = who.actor
+
+  abbrev p : ℕ
+  p = who.proc
+
   -- the child has no entry before it is brought
   unborn_empty : s.birth child ≡ unborn → (page : ℕ) (entry : Option Entry) → s.entry child page ≡ entry → entry ≡ None
   unborn_empty birth page None is = refl
@@ -81,7 +87,7 @@ module _ (s : CoreState) (a p child : ℕ) (place : Place) (h : IsOpen s a p) wh
 
   -- the beginning
 
-  begins : s.job a ≡ idle → AtFirst place → s.birth child ≡ unborn → AreUnlocked s p → IsTurned s a p place (Fork child) (fork_turn s a p child idle)
+  begins : s.job a ≡ idle → AtFirst place → s.birth child ≡ unborn → AreUnlocked s p → IsTurned s who place (Fork child) (fork_turn s a p child idle)
   begins job first birth free =
       let t : CoreState = happens s (begin_fork a p child) in
       let behind : t.job a ≡ forking p child [] between = put_same a (forking p child [] between) s.job in
@@ -98,12 +104,13 @@ module _ (s : CoreState) (a p child : ℕ) (place : Place) (h : IsOpen s a p) wh
       record {
         done = record {
           kinds = (beginning, tt);
-          can = ((h.birth, birth, free, (job, h.rest.prepared a), h.rest.owed a, h.calm.untaken a), tt);
+          can = ((h.birth, birth, free, (job, h.rest.prepared a), h.rest.owed a, untaken), tt);
           rest = record { prepared = h.rest.prepared; owed = h.rest.owed };
           told = refl;
         };
-        shape = shape_from s t a p child place (Event (events.ForkBegin p child) ∷ []) unbegun (from_page 0) (ap fork_place job) (ap fork_place behind) (began child first);
-        next = subst (λ (j : Job). FitsFork t a p child (record place { far = place.far + 1; had = true }) j) (sym behind) ((omega arith, refl), stands);
+        shape = shape_from s t who child place (Event (events.ForkBegin p child) ∷ []) unbegun (from_page 0) (ap fork_place job) (ap fork_place behind) (began child first);
+        next = (untaken, subst (λ (j : Job). FitsFork t a p child (record place { far = place.far + 1; had = true }) j) (sym behind) ((omega arith, refl), stands));
+        pin = tt;
       }
 
   -- a fork of which these pages are done
@@ -160,7 +167,7 @@ module _ (s : CoreState) (a p child : ℕ) (place : Place) (h : IsOpen s a p) wh
           by_order (inl less) = at.done_all page less named
           by_order (inr least) = absurd (behind least)
 
-      ends : next_page (s.right child) done ≡ None → IsTurned s a p place (Fork child) (next_turn s a p child done None)
+      ends : next_page (s.right child) done ≡ None → IsTurned s who place (Fork child) (next_turn s a p child done None)
       ends none =
           let t : CoreState = happens s (end_fork a p child done) in
           let behind : t.job a ≡ idle = put_same a idle s.job in
@@ -171,8 +178,9 @@ module _ (s : CoreState) (a p child : ℕ) (place : Place) (h : IsOpen s a p) wh
               rest = record { prepared = h.rest.prepared; owed = h.rest.owed };
               told = refl;
             };
-            shape = shape_from s t a p child place (Event (events.ForkEnd p child) ∷ Done answers.Plain ∷ []) (from_page (first_behind done)) unbegun (ap fork_place job) (ap fork_place behind) (ended child (first_behind done) begun);
-            next = behind;
+            shape = shape_from s t who child place (Event (events.ForkEnd p child) ∷ Done answers.Plain ∷ []) (from_page (first_behind done)) unbegun (ap fork_place job) (ap fork_place behind) (ended child (first_behind done) begun);
+            next = (behind, untaken);
+            pin = tt;
           }
 
       module _ (page : ℕ) (found : next_page (s.right child) done ≡ Some page) (free : s.table p ≡ None) where
@@ -185,7 +193,7 @@ module _ (s : CoreState) (a p child : ℕ) (place : Place) (h : IsOpen s a p) wh
         undone : Contains done page → ⊥
         undone has = let less : page < first_behind done = at.below page has in let least : first_behind done ≤ page = is_lowest.from in omega arith
 
-        passes : s.entry p page ≡ None → IsTurned s a p place (Fork child) (page_turn s a p child done page None)
+        passes : s.entry p page ≡ None → IsTurned s who place (Fork child) (page_turn s a p child done page None)
         passes none =
             let t : CoreState = happens s (pass_page a p child done page) in
             let behind : t.job a ≡ forking p child (page ∷ done) between = put_same a (forking p child (page ∷ done) between) s.job in
@@ -197,15 +205,16 @@ module _ (s : CoreState) (a p child : ℕ) (place : Place) (h : IsOpen s a p) wh
                 rest = record { prepared = h.rest.prepared; owed = h.rest.owed };
                 told = refl;
               };
-              shape = shape_from s t a p child place (Event (events.ForkPage p child page) ∷ []) (from_page (first_behind done)) (from_page (page + 1)) (ap fork_place job) (ap fork_place behind) (passed_page child (first_behind done) page begun is_lowest.from);
-              next = subst (λ (j : Job). FitsFork t a p child (record place { far = place.far + 1; had = true }) j) (sym behind) ((omega arith, refl), stands);
+              shape = shape_from s t who child place (Event (events.ForkPage p child page) ∷ []) (from_page (first_behind done)) (from_page (page + 1)) (ap fork_place job) (ap fork_place behind) (passed_page child (first_behind done) page begun is_lowest.from);
+              next = (untaken, subst (λ (j : Job). FitsFork t a p child (record place { far = place.far + 1; had = true }) j) (sym behind) ((omega arith, refl), stands));
+              pin = tt;
             }
 
-        counts : (e : Entry) → s.entry p page ≡ Some e → IsTurned s a p place (Fork child) (page_turn s a p child done page (Some e))
+        counts : (e : Entry) → s.entry p page ≡ Some e → IsTurned s who place (Fork child) (page_turn s a p child done page (Some e))
         counts e there =
             let copies : Bool = copies_page s p e.frame in
             let t : CoreState = happens s (count_page a p child done page e copies) in
-            let shares : copies ≡ false = uncopied s p e.frame (h.calm.unpinned p) in
+            let shares : copies ≡ false = uncopied s p e.frame (unpinned p) in
             let behind : t.job a ≡ forking p child done (counted page) = put_same a (forking p child done (if copies then copying page 0 else counted page)) s.job ∙ ap (λ (b : Bool). forking p child done (if b then copying page 0 else counted page)) shares in
             let stands : IsForking t a p child p child done =
             record { parent = refl; into = refl; birth = at.birth; locked = at.locked; below = at.below; done_all = at.done_all; fresh = at.fresh } in
@@ -224,20 +233,21 @@ module _ (s : CoreState) (a p child : ℕ) (place : Place) (h : IsOpen s a p) wh
                 rest = record { prepared = h.rest.prepared; owed = h.rest.owed };
                 told = refl;
               };
-              shape = shape_from s t a p child place (Silent ∷ []) (from_page (first_behind done)) (at_page page) (ap fork_place job) (ap fork_place behind) (counted_page child (first_behind done) page begun is_lowest.from);
-              next = subst (λ (j : Job). FitsFork t a p child (record place { far = place.far + 1 }) j) (sym behind) ((omega arith, begun.1), (stands, kept));
+              shape = shape_from s t who child place (Silent ∷ []) (from_page (first_behind done)) (at_page page) (ap fork_place job) (ap fork_place behind) (counted_page child (first_behind done) page begun is_lowest.from);
+              next = (untaken, subst (λ (j : Job). FitsFork t a p child (record place { far = place.far + 1 }) j) (sym behind) ((omega arith, begun.1), (stands, kept)));
+              pin = tt;
             }
 
-        page_by : (entry : Option Entry) → s.entry p page ≡ entry → IsTurned s a p place (Fork child) (page_turn s a p child done page entry)
+        page_by : (entry : Option Entry) → s.entry p page ≡ entry → IsTurned s who place (Fork child) (page_turn s a p child done page entry)
         page_by None is = passes is
         page_by (Some e) is = counts e is
 
-      next_by : (found : Option ℕ) → next_page (s.right child) done ≡ found → (is_some found ≡ true → s.table p ≡ None) → IsTurned s a p place (Fork child) (next_turn s a p child done found)
+      next_by : (found : Option ℕ) → next_page (s.right child) done ≡ found → (is_some found ≡ true → s.table p ≡ None) → IsTurned s who place (Fork child) (next_turn s a p child done found)
       next_by None is free = ends is
       next_by (Some page) is free = page_by page is (free refl) (s.entry p page) refl
 
     -- it has counted a page, which is shared
-    shares : (page : ℕ) → s.job a ≡ forking p child done (counted page) → IsBegun place → HasCounted s a p child done page → IsTurned s a p place (Fork child) (share_turn a p child done page (s.entry p page))
+    shares : (page : ℕ) → s.job a ≡ forking p child done (counted page) → IsBegun place → HasCounted s a p child done page → IsTurned s who place (Fork child) (share_turn a p child done page (s.entry p page))
     shares page job begun kept =
         let f : ℕ = frame_in (s.entry p page) in
         let writable : Bool = allows_store (s.entry p page) in
@@ -259,8 +269,9 @@ module _ (s : CoreState) (a p child : ℕ) (place : Place) (h : IsOpen s a p) wh
             rest = record { prepared = h.rest.prepared; owed = h.rest.owed };
             told = refl;
           };
-          shape = shape_from s t a p child place (Event (events.ForkPage p child page) ∷ []) (at_page page) (from_page (page + 1)) (ap fork_place job) (ap fork_place behind) (shared_page child page begun);
-          next = subst (λ (j : Job). FitsFork t a p child (record place { far = place.far + 1; had = true }) j) (sym behind) ((omega arith, refl), stands);
+          shape = shape_from s t who child place (Event (events.ForkPage p child page) ∷ []) (at_page page) (from_page (page + 1)) (ap fork_place job) (ap fork_place behind) (shared_page child page begun);
+          next = (untaken, subst (λ (j : Job). FitsFork t a p child (record place { far = place.far + 1; had = true }) j) (sym behind) ((omega arith, refl), stands));
+          pin = tt;
         }
 
   -- by where the fork stands
@@ -278,7 +289,7 @@ module _ (s : CoreState) (a p child : ℕ) (place : Place) (h : IsOpen s a p) wh
   table_needed None free some = absurd (cc some)
   table_needed (Some page) free some = free
 
-  fork_by : (job : Job) → s.job a ≡ job → FitsFork s a p child place job → waits_for_locks (fork_locks (s.right child) job) a (s.structure p) (s.table p) ≡ None → IsTurned s a p place (Fork child) (fork_turn s a p child job)
+  fork_by : (job : Job) → s.job a ≡ job → FitsFork s a p child place job → waits_for_locks (fork_locks (s.right child) job) a (s.structure p) (s.table p) ≡ None → IsTurned s who place (Fork child) (fork_turn s a p child job)
   fork_by idle is fits free = begins is fits.0 fits.1 (both_free s a p h.sound is free)
   fork_by (forking q c done between) is fits free =
       let at = own_fork q c done fits.1 in
@@ -294,5 +305,6 @@ module _ (s : CoreState) (a p child : ℕ) (place : Place) (h : IsOpen s a p) wh
   fork_by (moving q page e count) is fits free = absurd fits
   fork_by (walking q write long sequence step) is fits free = absurd fits
 
-  pub fork_turned : FitsOp s a p (Fork child) place → waits_for_locks (locks_needed s a p (Fork child)) a (s.structure p) (s.table p) ≡ None → IsTurned s a p place (Fork child) (op_turn s a p place.far (Fork child))
-  fork_turned fits free = fork_by (s.job a) refl fits free
+pub fork_turned : (s : CoreState) (who : Doer) (child : ℕ) (place : Place) → IsOpen s who.actor who.proc → ((p : ℕ) → s.has_pinned p ≡ false) → FitsOp s who (Fork child) place → waits_for_locks (locks_needed s who.actor who.proc (Fork child)) who.actor (s.structure who.proc) (s.table who.proc) ≡ None → IsTurned s who place (Fork child) (op_turn s who.actor who.proc who.slots place.far (Fork child))
+fork_turned s who child place h unpinned fits free =
+    fork_by s who child place h unpinned fits.0 (s.job who.actor) refl fits.1 free

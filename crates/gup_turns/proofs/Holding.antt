@@ -5,10 +5,10 @@ use Rattle.gup_plain.specs.declared.note.Waiting.{Waiting}
 use Rattle.gup_plain.specs.declared.note.Waiting.TheVariants as waitings
 use Rattle.gup_script.specs.Script.{ScriptValue}
 use Rattle.gup_script.specs.declared.op.Op.{Op}
-use Rattle.gup_script.specs.declared.op.Op.TheVariants.{Map, Unmap, Protect, Discard, Load, Store, Fork, Exit}
+use Rattle.gup_script.specs.declared.op.Op.TheVariants.{Map, Unmap, Protect, Discard, Load, Store, Pin, Unpin, Give, Take, Transfer, Fork, Exit}
 use Rattle.gup_events.specs.State.{CoreState, Job, idle, marking, moving, forking, walking, between, counted, lowered, cleared, copying, failing}
 use Rattle.gup_events.specs.Sound.{keeps_table, keeps_structure}
-use Rattle.gup_follows.specs.Place.{Place, process_of}
+use Rattle.gup_follows.specs.Place.{Place, Doer, doer, process_of}
 use Rattle.gup_turns.specs.Reached.{IsForking}
 use Rattle.gup_turns.specs.Run.{RunState, op_in, waiting_with, waiting_in}
 use Rattle.gup_turns.specs.Turn.{Locks, locks_needed, held_by_other, waits_for_lock, first_waiting, waits_for_locks, waits_at}
@@ -103,16 +103,22 @@ pub record IsInFork (script : ScriptValue) (r : RunState) (b p : ℕ) : Type 0 w
   pub locked : r.core.structure p ≡ Some b
 
 -- an actor that keeps a lock has such an operation
-op_keeps : (s : CoreState) (b q p : ℕ) (op : Option Op) (place : Place) → FitsAt s b q op place → Keeps (s.job b) p → (child : ℕ) × (op ≡ Some (Fork child)) × IsForkOf s b q p place
-op_keeps s b q p None place fits keeps = keeps_idle fits.0 keeps
-op_keeps s b q p (Some (Fork child)) place fits keeps = (child, refl, fork_keeps s b q child p place (s.job b) fits keeps)
-op_keeps s b q p (Some (Map page n rights)) place fits keeps = keeps_idle fits.0 keeps
-op_keeps s b q p (Some (Unmap page n)) place fits keeps = keeps_idle fits.0 keeps
-op_keeps s b q p (Some (Protect page n rights)) place fits keeps = keeps_idle fits.0 keeps
-op_keeps s b q p (Some (Discard page n)) place fits keeps = keeps_idle fits.0 keeps
-op_keeps s b q p (Some (Load page word)) place fits keeps = keeps_idle fits.0 keeps
-op_keeps s b q p (Some (Store page word value)) place fits keeps = keeps_idle fits.0 keeps
-op_keeps s b q p (Some Exit) place fits keeps = keeps_idle fits keeps
+op_keeps : (s : CoreState) (who : Doer) (p : ℕ) (op : Option Op) (place : Place) → FitsAt s who op place → Keeps (s.job who.actor) p → (child : ℕ) × (op ≡ Some (Fork child)) × IsForkOf s who.actor who.proc p place
+op_keeps s who p None place fits keeps = keeps_idle fits.0.0 keeps
+op_keeps s who p (Some (Fork child)) place fits keeps =
+    (child, refl, fork_keeps s who.actor who.proc child p place (s.job who.actor) fits.1 keeps)
+op_keeps s who p (Some (Map page n rights)) place fits keeps = keeps_idle fits.0.0 keeps
+op_keeps s who p (Some (Unmap page n)) place fits keeps = keeps_idle fits.0.0 keeps
+op_keeps s who p (Some (Protect page n rights)) place fits keeps = keeps_idle fits.0.0 keeps
+op_keeps s who p (Some (Discard page n)) place fits keeps = keeps_idle fits.0.0 keeps
+op_keeps s who p (Some (Load page word)) place fits keeps = keeps_idle fits.0.0 keeps
+op_keeps s who p (Some (Store page word value)) place fits keeps = keeps_idle fits.0.0 keeps
+op_keeps s who p (Some (Pin handle page n write)) place fits keeps = keeps_idle fits.0 keeps
+op_keeps s who p (Some (Unpin handle)) place fits keeps = keeps_idle fits.0.0 keeps
+op_keeps s who p (Some (Give handle to)) place fits keeps = keeps_idle fits.0.0 keeps
+op_keeps s who p (Some (Take handle)) place fits keeps = keeps_idle fits.0.0 keeps
+op_keeps s who p (Some (Transfer handle outward index slot n)) place fits keeps = keeps_idle fits.0.0 keeps
+op_keeps s who p (Some Exit) place fits keeps = keeps_idle fits.0 keeps
 
 -- what is of no value is none
 none_by : (o : Option Waiting) → ((waiting : Waiting) → o ≡ Some waiting → ⊥) → o ≡ None
@@ -122,7 +128,7 @@ none_by (Some waiting) never = absurd (never waiting refl)
 module _ (script : ScriptValue) (r : RunState) (h : Stands script r) where
   keeper : (b p : ℕ) → Keeps (r.core.job b) p → IsInFork script r b p
   keeper b p keeps =
-      let at = op_keeps r.core b (process_of script b) p (op_in script r b) (r.places b) (h.fits b) keeps in
+      let at = op_keeps r.core (doer script b) p (op_in script r b) (r.places b) (h.fits b) keeps in
       record { child = at.0; forks = at.1; of = at.2.of; begun = at.2.begun.0; locked = at.2.locked }
 
   -- what the locks of process p let an actor wait for
@@ -140,10 +146,11 @@ module _ (script : ScriptValue) (r : RunState) (h : Stands script r) where
   -- an actor in the middle of a fork waits for none
   pub fork_can_go : (b child : ℕ) → op_in script r b ≡ Some (Fork child) → 0 < (r.places b).far → waiting_in script r b ≡ None
   fork_can_go b child is far =
+      let who : Doer = doer script b in
       let p = process_of script b in
-      let fits : FitsAt r.core b p (Some (Fork child)) (r.places b) = subst (λ (o : Option Op). FitsAt r.core b p o (r.places b)) is (h.fits b) in
-      let locked : r.core.structure p ≡ Some b = fork_locked r.core b p child (r.places b) (r.core.job b) fits far in
+      let fits : FitsAt r.core who (Some (Fork child)) (r.places b) = subst (λ (o : Option Op). FitsAt r.core who o (r.places b)) is (h.fits b) in
+      let locked : r.core.structure p ≡ Some b = fork_locked r.core b p child (r.places b) (r.core.job b) fits.1 far in
       let alone : (waiting : Waiting) → locks_of b (Fork child) ≡ Some waiting → ⊥ =
       λ waiting held. let other = waits_for_fork b (Fork child) waiting held in other.2 (some_same (sym locked ∙ other.3.locked)) in
       let free : locks_of b (Fork child) ≡ None = none_by (locks_of b (Fork child)) alone in
-      ap (waiting_with r.core b p) is ∙ ap (λ (x : Birth). waits_at x p (locks_of b (Fork child))) (h.begun b far) ∙ free
+      ap (waiting_with r.core who) is ∙ ap (λ (x : Birth). waits_at x p (locks_of b (Fork child))) (h.begun b far) ∙ free

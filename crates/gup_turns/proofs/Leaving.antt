@@ -1,13 +1,16 @@
 -- What the events of a turn leave as it is.
-use Rattle.std.proofs.Common.{◌≡◌, ℕ, ◌==◌, Bool, true, false, List, [], ◌∷◌, Option, Some, refl, ◌∙◌, eqb-true, arith}
+use Rattle.std.proofs.Common.{◌≡◌, ℕ, ◌==◌, ◌⊎◌, inl, inr, Bool, true, false, List, [], ◌∷◌, ◌++◌, Option, Some, refl, sym, ap, subst, ◌∙◌, eqb-true, arith}
 use Rattle.std.proofs.lemmas.Bool.Decides.{nat_tests}
 use Rattle.gup_base.specs.declared.entry.Entry.{Entry}
 use Rattle.gup_base.specs.declared.entry.Rights.{Rights}
-use Rattle.gup_plain.specs.State.{Birth, unborn, born, failed}
-use Rattle.gup_events.specs.State.{CoreState, idle}
-use Rattle.gup_events.specs.Event.{CoreEvent, Can, happens}
+use Rattle.gup_plain.specs.Event.{IsHeldBy, IsGivenTo, given_to, held_by}
+use Rattle.gup_plain.specs.Put.{put}
+use Rattle.gup_plain.specs.State.{Birth, unborn, born, failed, Handle, unmade, held, given, gone}
+use Rattle.gup_events.specs.State.{CoreState, Taken, idle}
+use Rattle.gup_events.specs.Event.{CoreEvent, Can, happens, raise_flag, pin_page, make_handle, unpin_page, give_handle, take_handle, frames_of, objects_taken, writes_taken}
 use Rattle.gup_events.specs.Invariant.{AllCan, run}
-use Rattle.gup_turns.proofs.Calm.{IsCalm, Strand, of_pages, of_pin, of_handle, IsTurnEvent, AreTurnEvents, taking, filling, counting_one, marking_it, upgrading, breaking, putting, mapping, lowering, protecting, dropping, discarding, loading, storing, raising, pinning, making, handling, IsHandleEvent, unpinning, giving, taking_over, moving_out, moving_in, beginning, counting, sharing_entry, sharing_mark, sharing_child, passing, ending}
+use Rattle.gup_turns.proofs.Calm.{IsCalm, Strand, of_pages, of_pin, of_handle, IsTurnEvent, AreTurnEvents, taking, filling, counting_one, marking_it, upgrading, breaking, putting, mapping, lowering, protecting, dropping, discarding, loading, storing, raising, pinning, making, handling, IsHandleEvent, AreHandleEvents, unpinning, giving, taking_over, moving_out, moving_in, beginning, counting, sharing_entry, sharing_mark, sharing_child, passing, ending}
+use Rattle.gup_turns.proofs.Puts.{put_same, put_other}
 
 -- what is of one process
 pub record OfProcess : Type 0 where
@@ -264,4 +267,231 @@ pages_leave s a p c (e ∷ es) kinds =
       pinned = later.pinned ∙ first.pinned;
       taken = later.taken ∙ first.taken;
       has_pinned = later.has_pinned ∙ first.has_pinned;
+    }
+
+-- numbers, equal or not
+pub same_or_apart : (x y : ℕ) → (x ≡ y) ⊎ (x ≡ y → ⊥)
+same_or_apart x y = go (x == y) refl
+  where
+    apart_by : (x == y) ≡ false → x ≡ y → ⊥
+    apart_by e same = grind (arith, nat_tests)
+
+    go : (b : Bool) → (x == y) ≡ b → (x ≡ y) ⊎ (x ≡ y → ⊥)
+    go true e = inl (eqb-true x y e)
+    go false e = inr (apart_by e)
+
+pub put_apart : {X : Type 0} (k j : ℕ) (x : X) (f : ℕ → X) → (j ≡ k → ⊥) → put k x f j ≡ f j
+put_apart k j x f other = put_other k j x f (apart j k other)
+
+-- a handle has one holder, and whoever holds it isn't one to whom it is given
+pub one_holder : (h : Handle) (a b : ℕ) → IsHeldBy h a → IsHeldBy h b → a ≡ b
+one_holder (held by objects write) a b here there = sym here ∙ there
+one_holder (given to objects write) a b here there = absurd here
+one_holder unmade a b here there = absurd here
+one_holder gone a b here there = absurd here
+
+pub held_ungiven : (h : Handle) (a b : ℕ) → IsHeldBy h a → IsGivenTo h b → ⊥
+held_ungiven (held by objects write) a b here there = there
+held_ungiven (given to objects write) a b here there = here
+held_ungiven unmade a b here there = here
+held_ungiven gone a b here there = here
+
+pub held_made : (h : Handle) (a : ℕ) → IsHeldBy h a → h ≡ unmade → ⊥
+held_made (held by objects write) a here yet = cc yet
+held_made (given to objects write) a here yet = here
+held_made unmade a here yet = here
+held_made gone a here yet = here
+
+-- a handle and its pages are as they were
+pub record KeepsPin (h : ℕ) (s t : CoreState) : Type 0 where
+  pub handle : t.handle h ≡ s.handle h
+  pub pinned : t.pinned h ≡ s.pinned h
+
+-- Of pins, a turn leaves what other actors have taken, and the flags but where it makes a pin. It leaves a handle that it
+-- isn't about; one that its actor neither makes, holds, nor is given; and one that another actor holds behind it.
+pub record LeavesPinsOf (a : ℕ) (strand : Strand) (s t : CoreState) : Type 0 where
+  pub taken : (b : ℕ) → (b ≡ a → ⊥) → t.taken b ≡ s.taken b
+  pub flags : ((h : ℕ) → strand ≡ of_pin h → ⊥) → t.has_pinned ≡ s.has_pinned
+  pub others : (h : ℕ) → (strand ≡ of_pin h → ⊥) → (strand ≡ of_handle h → ⊥) → KeepsPin h s t
+  pub unheld : (h : ℕ) → (strand ≡ of_pin h → s.handle h ≡ unmade → ⊥) → (IsHeldBy (s.handle h) a → ⊥) → (IsGivenTo (s.handle h) a → ⊥) → KeepsPin h s t
+  pub held_then : (h b : ℕ) → (b ≡ a → ⊥) → IsHeldBy (t.handle h) b → KeepsPin h s t
+
+-- no pin is changed
+same_pins : (a : ℕ) (strand : Strand) (s t : CoreState) → t.handle ≡ s.handle → t.pinned ≡ s.pinned → t.taken ≡ s.taken → t.has_pinned ≡ s.has_pinned → LeavesPinsOf a strand s t
+same_pins a strand s t handle pinned taken flags =
+    let kept : (h : ℕ) → KeepsPin h s t = λ h. record { handle = ap (λ (f : ℕ → Handle). f h) handle; pinned = ap (λ (f : ℕ → List ℕ). f h) pinned } in
+    record {
+      taken = λ b other. ap (λ (f : ℕ → List Taken). f b) taken;
+      flags = λ none. flags;
+      others = λ h no_pin no_handle. kept h;
+      unheld = λ h making holding taking. kept h;
+      held_then = λ h b other is. kept h;
+    }
+
+-- one handle is changed, and what the actor has taken, where that was the actor's to do
+changed_pin : (a h : ℕ) (strand : Strand) (s t : CoreState) → t.has_pinned ≡ s.has_pinned → ((b : ℕ) → (b ≡ a → ⊥) → t.taken b ≡ s.taken b) → ((k : ℕ) → (k ≡ h → ⊥) → KeepsPin k s t) → (strand ≡ of_pin h) ⊎ (strand ≡ of_handle h) → ((strand ≡ of_pin h → s.handle h ≡ unmade → ⊥) → (IsHeldBy (s.handle h) a → ⊥) → (IsGivenTo (s.handle h) a → ⊥) → ⊥) → ((b : ℕ) → (b ≡ a → ⊥) → IsHeldBy (t.handle h) b → ⊥) → LeavesPinsOf a strand s t
+changed_pin a h strand s t flags taken apart_kept about allowed held_on =
+    record {
+      taken = taken;
+      flags = λ none. flags;
+      others = λ k no_pin no_handle. elim (same_or_apart k h) [
+        | inl same ↦ absurd (elim about [
+          | inl is ↦ no_pin (is ∙ ap of_pin (sym same))
+          | inr is ↦ no_handle (is ∙ ap of_handle (sym same))
+        ])
+        | inr other ↦ apart_kept k other
+      ];
+      unheld = λ k making holding taking. elim (same_or_apart k h) [
+        | inl same ↦ absurd (allowed
+            (λ is yet. making (is ∙ ap of_pin (sym same)) (ap s.handle same ∙ yet))
+            (λ holds. holding (subst (λ (j : ℕ). IsHeldBy (s.handle j) a) (sym same) holds))
+            (λ is_given. taking (subst (λ (j : ℕ). IsGivenTo (s.handle j) a) (sym same) is_given)))
+        | inr other ↦ apart_kept k other
+      ];
+      held_then = λ k b other is. elim (same_or_apart k h) [
+        | inl same ↦ absurd (held_on b other (subst (λ (j : ℕ). IsHeldBy (t.handle j) b) same is))
+        | inr away ↦ apart_kept k away
+      ];
+    }
+
+module _ (s : CoreState) (a : ℕ) (strand : Strand) where
+  pins_making : (h : ℕ) → strand ≡ of_pin h → Can s (make_handle a h) → LeavesPinsOf a strand s (happens s (make_handle a h))
+  pins_making h is can =
+      let new : Handle = held a (objects_taken (s.taken a)) (writes_taken (s.taken a)) in
+      changed_pin a h strand s (happens s (make_handle a h)) refl
+      (λ b other. put_apart a b [] s.taken other)
+      (λ k other. record { handle = put_apart h k new s.handle other; pinned = put_apart h k (frames_of (s.taken a)) s.pinned other })
+      (inl is)
+      (λ making holding taking. making is can.1)
+      (λ b other holds. other (sym (subst (λ (x : Handle). IsHeldBy x b) (put_same h new s.handle) holds)))
+
+  pins_unpinning : (h f : ℕ) (left : List ℕ) → strand ≡ of_handle h → Can s (unpin_page a h f left) → LeavesPinsOf a strand s (happens s (unpin_page a h f left))
+  pins_unpinning h f left is can =
+      let new : Handle = elim left [ [] ↦ gone | g ∷ gs ↦ s.handle h ] in
+      changed_pin a h strand s (happens s (unpin_page a h f left)) refl
+      (λ b other. refl)
+      (λ k other. record { handle = put_apart h k new s.handle other; pinned = put_apart h k left s.pinned other })
+      (inr is)
+      (λ making holding taking. holding can.0)
+      (λ b other holds. other (one_holder (s.handle h) b a (still left b (subst (λ (x : Handle). IsHeldBy x b) (put_same h new s.handle) holds)) can.0))
+    where
+      still : (xs : List ℕ) (b : ℕ) → IsHeldBy (elim xs [ [] ↦ gone | g ∷ gs ↦ s.handle h ]) b → IsHeldBy (s.handle h) b
+      still [] b holds = absurd holds
+      still (x ∷ xs) b holds = holds
+
+  pins_giving : (h to : ℕ) → strand ≡ of_handle h → Can s (give_handle a h to) → LeavesPinsOf a strand s (happens s (give_handle a h to))
+  pins_giving h to is can =
+      let new : Handle = given_to (s.handle h) to in
+      changed_pin a h strand s (happens s (give_handle a h to)) refl
+      (λ b other. refl)
+      (λ k other. record { handle = put_apart h k new s.handle other; pinned = refl })
+      (inr is)
+      (λ making holding taking. holding can)
+      (λ b other holds. subst (λ (x : Handle). IsHeldBy x b) (put_same h new s.handle) holds)
+
+  pins_taking : (h : ℕ) → strand ≡ of_handle h → Can s (take_handle a h) → LeavesPinsOf a strand s (happens s (take_handle a h))
+  pins_taking h is can =
+      let new : Handle = held_by (s.handle h) a in
+      changed_pin a h strand s (happens s (take_handle a h)) refl
+      (λ b other. refl)
+      (λ k other. record { handle = put_apart h k new s.handle other; pinned = refl })
+      (inr is)
+      (λ making holding taking. taking can)
+      (λ b other holds. other (sym (subst (λ (x : Handle). IsHeldBy x b) (put_same h new s.handle) holds)))
+
+  pins_pinning : (p page : ℕ) (e : Entry) (write : Bool) → LeavesPinsOf a strand s (happens s (pin_page a p page e write false))
+  pins_pinning p page e write =
+      record {
+        taken = λ b other. put_apart a b (s.taken a ++ record { proc = p; page = page; frame = e.frame; object = s.object p page; write = write; long = false } ∷ []) s.taken other;
+        flags = λ none. refl;
+        others = λ h no_pin no_handle. record { handle = refl; pinned = refl };
+        unheld = λ h making holding taking. record { handle = refl; pinned = refl };
+        held_then = λ h b other is. record { handle = refl; pinned = refl };
+      }
+
+  pins_raising : (h p : ℕ) → strand ≡ of_pin h → LeavesPinsOf a strand s (happens s (raise_flag a p))
+  pins_raising h p is =
+      record {
+        taken = λ b other. refl;
+        flags = λ none. absurd (none h is);
+        others = λ k no_pin no_handle. record { handle = refl; pinned = refl };
+        unheld = λ k making holding taking. record { handle = refl; pinned = refl };
+        held_then = λ k b other holds. record { handle = refl; pinned = refl };
+      }
+
+  pins_event : (p c : ℕ) (e : CoreEvent) → IsTurnEvent a p c strand e → Can s e → LeavesPinsOf a strand s (happens s e)
+  pins_event p c e (taking f) can = same_pins a strand s (happens s e) refl refl refl refl
+  pins_event p c e (filling page f) can = same_pins a strand s (happens s e) refl refl refl refl
+  pins_event p c e (counting_one page f writable) can = same_pins a strand s (happens s e) refl refl refl refl
+  pins_event p c e (marking_it page f) can = same_pins a strand s (happens s e) refl refl refl refl
+  pins_event p c e (upgrading page f) can = same_pins a strand s (happens s e) refl refl refl refl
+  pins_event p c e (breaking page old new was writable) can = same_pins a strand s (happens s e) refl refl refl refl
+  pins_event p c e (putting f) can = same_pins a strand s (happens s e) refl refl refl refl
+  pins_event p c e (mapping page n rights) can = same_pins a strand s (happens s e) refl refl refl refl
+  pins_event p c e (lowering page f) can = same_pins a strand s (happens s e) refl refl refl refl
+  pins_event p c e (protecting page n rights) can = same_pins a strand s (happens s e) refl refl refl refl
+  pins_event p c e (dropping page was) can = same_pins a strand s (happens s e) refl refl refl refl
+  pins_event p c e (discarding page was) can = same_pins a strand s (happens s e) refl refl refl refl
+  pins_event p c e (loading page word f value) can = same_pins a strand s (happens s e) refl refl refl refl
+  pins_event p c e (storing page word f value) can = same_pins a strand s (happens s e) refl refl refl refl
+  pins_event p c e (raising h is) can = pins_raising h p is
+  pins_event p c e (pinning h is page entry write) can = pins_pinning p page entry write
+  pins_event p c e (making h is) can = pins_making h is can
+  pins_event p c e (handling h is (unpinning f left)) can = pins_unpinning h f left is can
+  pins_event p c e (handling h is (giving to)) can = pins_giving h to is can
+  pins_event p c e (handling h is taking_over) can = pins_taking h is can
+  pins_event p c e (handling h is (moving_out index slot f value)) can = same_pins a strand s (happens s e) refl refl refl refl
+  pins_event p c e (handling h is (moving_in index slot f value)) can = same_pins a strand s (happens s e) refl refl refl refl
+  pins_event p c e beginning can = same_pins a strand s (happens s e) refl refl refl refl
+  pins_event p c e (counting done page entry copies) can = same_pins a strand s (happens s e) refl refl refl refl
+  pins_event p c e (sharing_entry done page f writable) can = same_pins a strand s (happens s e) refl refl refl refl
+  pins_event p c e (sharing_mark done page f writable) can = same_pins a strand s (happens s e) refl refl refl refl
+  pins_event p c e (sharing_child done page f writable) can = same_pins a strand s (happens s e) refl refl refl refl
+  pins_event p c e (passing done page) can = same_pins a strand s (happens s e) refl refl refl refl
+  pins_event p c e (ending done) can = same_pins a strand s (happens s e) refl refl refl refl
+
+pins_on : (a : ℕ) (strand : Strand) (s t u : CoreState) → LeavesPinsOf a strand s t → LeavesPinsOf a strand t u → LeavesPinsOf a strand s u
+pins_on a strand s t u first later =
+    let both : (h : ℕ) → KeepsPin h s t → KeepsPin h t u → KeepsPin h s u = λ h one two. record { handle = two.handle ∙ one.handle; pinned = two.pinned ∙ one.pinned } in
+    record {
+      taken = λ b other. later.taken b other ∙ first.taken b other;
+      flags = λ none. later.flags none ∙ first.flags none;
+      others = λ h no_pin no_handle. both h (first.others h no_pin no_handle) (later.others h no_pin no_handle);
+      unheld = λ h making holding taking.
+          let one = first.unheld h making holding taking in
+          both h one (later.unheld h (λ is yet. making is (sym one.handle ∙ yet))
+          (λ holds. holding (subst (λ (x : Handle). IsHeldBy x a) one.handle holds))
+          (λ is_given. taking (subst (λ (x : Handle). IsGivenTo x a) one.handle is_given)));
+      held_then = λ h b other holds.
+          let two = later.held_then h b other holds in
+          both h (first.held_then h b other (subst (λ (x : Handle). IsHeldBy x b) two.handle holds)) two;
+    }
+
+pub leaves_pins : (s : CoreState) (a p c : ℕ) (strand : Strand) (es : List CoreEvent) → AreTurnEvents a p c strand es → AllCan s es → LeavesPinsOf a strand s (run s es)
+leaves_pins s a p c strand [] kinds can = same_pins a strand s s refl refl refl refl
+leaves_pins s a p c strand (e ∷ es) kinds can =
+    pins_on a strand s (happens s e) (run s (e ∷ es)) (pins_event s a strand p c e kinds.0 can.0) (leaves_pins (happens s e) a p c strand es kinds.1 can.1)
+
+-- What gives, takes or gives back a pin, or moves a word of one, leaves all processes, all jobs and what actors have taken.
+pub record LeavesAll (s t : CoreState) : Type 0 where
+  pub process : (q : ℕ) → of_process t q ≡ of_process s q
+  pub job : t.job ≡ s.job
+  pub taken : t.taken ≡ s.taken
+
+handle_leaves : (s : CoreState) (a h : ℕ) {e : CoreEvent} → IsHandleEvent a h e → LeavesAll s (happens s e)
+handle_leaves s a h (unpinning f left) = record { process = λ q. refl; job = refl; taken = refl }
+handle_leaves s a h (giving to) = record { process = λ q. refl; job = refl; taken = refl }
+handle_leaves s a h taking_over = record { process = λ q. refl; job = refl; taken = refl }
+handle_leaves s a h (moving_out index slot f value) = record { process = λ q. refl; job = refl; taken = refl }
+handle_leaves s a h (moving_in index slot f value) = record { process = λ q. refl; job = refl; taken = refl }
+
+pub handles_leave : (s : CoreState) (a h : ℕ) (es : List CoreEvent) → AreHandleEvents a h es → LeavesAll s (run s es)
+handles_leave s a h [] kinds = record { process = λ q. refl; job = refl; taken = refl }
+handles_leave s a h (e ∷ es) kinds =
+    let first = handle_leaves s a h kinds.0 in
+    let later = handles_leave (happens s e) a h es kinds.1 in
+    record {
+      process = λ q. later.process q ∙ first.process q;
+      job = later.job ∙ first.job;
+      taken = later.taken ∙ first.taken;
     }

@@ -10,10 +10,14 @@ pub mod Leaving
 pub mod Few
 pub mod Counting
 pub mod Turned
+pub mod Places
 pub mod Faults
 pub mod Ops
 pub mod ForkOps
+pub mod PinOps
+pub mod HandleOps
 pub mod Steps
+pub mod PinChanges
 pub mod Stands
 pub mod Reached
 pub mod Rightness
@@ -27,6 +31,7 @@ pub mod FollowRuns
 pub mod Answered
 pub mod Causes
 pub mod Bounds
+pub mod PinBounds
 pub mod ForkBounds
 pub mod Spending
 pub mod Ends

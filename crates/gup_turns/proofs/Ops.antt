@@ -1,5 +1,5 @@
 -- The turns of single operations can be done, have their shapes, and lead where the next turn can go on.
-use Rattle.std.proofs.Common.{◌≡◌, ℕ, ◌+◌, ◌<◌, ◌≤◌, ◌^◌, ◌==◌, Bool, true, false, IsTrue, IsSome, is_some, is_none, not, if◌then◌else◌, List, [], ◌∷◌, ◌++◌, Option, Some, None, Ok, inl, inr, refl, ap, sym, subst, ◌∙◌, eq-or-lt_of_le, zero, suc, arith}
+use Rattle.std.proofs.Common.{◌≡◌, ℕ, ◌+◌, ◌<◌, ◌≤◌, ◌^◌, ◌==◌, Bool, true, false, IsTrue, IsSome, is_some, is_none, not, if◌then◌else◌, List, [], ◌∷◌, ◌++◌, Option, Some, None, Ok, Err, inl, inr, refl, ap, sym, subst, ◌∙◌, eq-or-lt_of_le, zero, suc, arith}
 use Rattle.std.proofs.lemmas.Bool.Decides.{nat_tests}
 use Rattle.std.specs.Option.{option_map}
 use Rattle.gup_base.specs.declared.entry.Entry.{Entry}
@@ -17,45 +17,64 @@ use Rattle.gup_plain.specs.Denial.{any_mapped, any_unmapped, map_denial, protect
 use Rattle.gup_script.specs.Valid.{IsOp}
 use Rattle.gup_script.specs.declared.op.Op.{Op}
 use Rattle.gup_script.specs.declared.op.Op.TheVariants.{Map, Unmap, Protect, Discard, Load, Store, Exit}
-use Rattle.gup_events.specs.State.{CoreState, Job, idle, plain_of}
-use Rattle.gup_events.specs.Event.{CoreEvent, AreUnlocked, happens, entry_of, take_frame, fill, lower_entry, protect_pages, drop_entry, discard_entry, load, store, upgrade, break_entry, put_entry}
-use Rattle.gup_events.specs.Fault.{marks, fills_writable, breaks, makes_writable, read_fault, write_fault, gives_back}
+use Rattle.gup_events.specs.State.{CoreState, Taken as TakenPage, Job, idle, plain_of}
+use Rattle.gup_events.specs.Event.{CoreEvent, AreUnlocked, happens, entry_of, take_frame, fill, lower_entry, protect_pages, drop_entry, discard_entry, load, store}
+use Rattle.gup_events.specs.Fault.{Fault, read_fault, write_fault, gives_back}
 use Rattle.gup_events.specs.Invariant.{AllCan, run}
 use Rattle.gup_laws.specs.Law.{all_told}
 use Rattle.gup_follows.specs.Denial.{op_denial}
-use Rattle.gup_follows.specs.Place.{Place}
+use Rattle.gup_follows.specs.Place.{Place, Doer}
 use Rattle.gup_follows.specs.Follows.{refuses}
 use Rattle.gup_follows.specs.Plain.{IsAnswerOf, Passes}
 use Rattle.gup_turns.specs.Reached.{unbegun}
 use Rattle.gup_turns.specs.Turn.{Taken, answers_with, free_frame, loads, loads_after, load_turn, stores, stores_after, store_fault_by, allows_store, frame_in, map_turn_by, done_if, silent_or_done, unmap_turn_by, lowers_entry, lowers, lowers_for, protect_turn_by, discard_turn_by, lowest_page, exit_turn_by, op_turn, waits_for_locks, locks_needed, both_if}
-use Rattle.gup_turns.proofs.Calm.{AreTurnEvents, putting, mapping, lowering, protecting, dropping, discarding, loading, storing}
-use Rattle.gup_turns.proofs.Faults.{IsReady, entry_there, writable_there, no_mirror, needs_none, filled, filled_writable, upgraded, marked_upgraded, broken}
+use Rattle.gup_turns.proofs.Calm.{Strand, of_pages, AreTurnEvents, putting, mapping, lowering, protecting, dropping, discarding, loading, storing}
+use Rattle.gup_turns.proofs.Faults.{IsReady, MayFault, may_fault, RefusesPage, missing, forbidden, no_frame, LeadsTo, write_leads, entry_there, writable_there, no_mirror, needs_none, filled}
+use Rattle.gup_turns.proofs.Leaving.{pages_leave}
 use Rattle.gup_turns.proofs.Puts.{put_same, put2_same, some_same, none_of}
 use Rattle.gup_turns.proofs.Searches.{lowest_some, lowest_none, none_below, undenied_map, denied_map, undenied_protect, denied_protect}
-use Rattle.gup_turns.proofs.Shapes.{AtFirst, FitsOp, TurnOf, refused, mapped, protected, loaded, stored, took, took_last, passed, passed_last, took_lowest, took_all, GoesOver, unmaps, discards, AtRest, IsDone, child_of}
+use Rattle.gup_turns.proofs.Shapes.{AtFirst, FitsOp, TurnOf, refused, mapped, protected, loaded, stored, took, took_last, passed, passed_last, took_lowest, took_all, GoesOver, unmaps, discards, AtRest, IsDone, Rests, child_of, strand_of}
 use Rattle.gup_turns.proofs.Through.{events_of}
-use Rattle.gup_turns.proofs.Turned.{IsOpen, FitsNext, IsTurned, shape_idle, both_free, kinds_behind, run_behind, can_behind, told_behind}
+use Rattle.gup_turns.proofs.Turned.{IsOpen, FitsNext, MakesPin, IsTurned, shape_idle, both_free, kinds_behind, run_behind, can_behind, told_behind}
 
 -- where the range of an operation ends
 all_below : (page n : ℕ) → page + n ≤ 2 ^ 35 → page + n ≤ page_numbers
 unfolding page_numbers
 all_below page n ends = ends
 
-module _ (s : CoreState) (a p : ℕ) (place : Place) (h : IsOpen s a p) (job : s.job a ≡ idle) where
+module _ (s : CoreState) (who : Doer) (place : Place) (h : IsOpen s who.actor who.proc) (rests : Rests s who.actor) where
+  abbrev a : ℕ
+  a = who.actor
+
+  abbrev p : ℕ
+  p = who.proc
+
+  job : s.job a ≡ idle
+  job = rests.0
+
+  may : MayFault s a p
+  may = may_fault s a p h job
+
+  -- an operation brings no child, is about pages alone, and makes no pin
+  abbrev IsOfPages : Op → CoreState → Type 0
+  IsOfPages op t = (child_of p (Some op) ≡ p) × (strand_of (Some op) ≡ of_pages) × MakesPin s t a op
+
   -- what is asked of the next turn of an operation that is answered here
-  done_turn : (op : Op) (turn : Taken) → IsDone s a p p turn → (child_of p (Some op) ≡ p) → (run s turn.events).job a ≡ idle → TurnOf (plain_of s) a p place op unbegun turn.whats unbegun → FitsNext (run s turn.events) a p (Some op) place turn.whats → IsTurned s a p place op turn
-  done_turn op turn done same behind shape next =
+  done_turn : (op : Op) (turn : Taken) → IsDone s a p p of_pages turn → IsOfPages op (run s turn.events) → (run s turn.events).job a ≡ idle → TurnOf (plain_of s) who place op unbegun turn.whats unbegun → (Rests (run s turn.events) a → FitsNext (run s turn.events) who (Some op) place turn.whats) → IsTurned s who place op turn
+  done_turn op turn done alone behind shape next =
+      let left = pages_leave s a p p turn.events done.kinds in
       record {
-        done = subst (λ (c : ℕ). IsDone s a p c turn) (sym same) done;
-        shape = shape_idle s (run s turn.events) a p place op turn.whats job behind shape;
-        next = next;
+        done = subst (λ (c : ℕ). IsDone s a p c (strand_of (Some op)) turn) (sym alone.0) (subst (λ (x : Strand). IsDone s a p p x turn) (sym alone.1) done);
+        shape = shape_idle s (run s turn.events) who place op turn.whats job behind shape;
+        next = next (behind, ap (λ (f : ℕ → List TakenPage). f a) left.taken ∙ rests.1);
+        pin = alone.2;
       }
 
   -- an operation is answered without an event
-  answered : (op : Op) (answer : Answer) → child_of p (Some op) ≡ p → AtFirst place → IsTrue (refuses op answer) → IsAnswerOf (op_denial (plain_of s) p op) answer → Passes (plain_of s) p op place.far → IsTurned s a p place op (answers_with answer)
-  answered op answer same first refusal right passes =
-      done_turn op (answers_with answer) (record { kinds = tt; can = tt; rest = h.rest; told = refl }) same job
-      (refused op answer first refusal right passes) job
+  answered : (op : Op) (answer : Answer) → IsOfPages op s → AtFirst place → IsTrue (refuses op answer) → IsAnswerOf (op_denial (plain_of s) who place.far op) answer → Passes (plain_of s) p op place.far → IsTurned s who place op (answers_with answer)
+  answered op answer alone first refusal right passes =
+      done_turn op (answers_with answer) (record { kinds = tt; can = tt; rest = h.rest; told = refl }) alone job
+      (refused op answer first refusal right passes) (λ still. still)
 
   -- an entry of a born process is of a mapped page, and a writable one of a page that may be written
 
@@ -74,7 +93,7 @@ module _ (s : CoreState) (a p : ℕ) (place : Place) (h : IsOpen s a p) (job : s
 
   -- load, behind the events of a fault
 
-  load_ready : (page word : ℕ) (before : List CoreEvent) → word < words → AtFirst place → op_denial (plain_of s) p (Load page word) ≡ None → IsReady s a p before → IsSome ((run s before).entry p page) → IsTurned s a p place (Load page word) (loads s before a p page word)
+  load_ready : (page word : ℕ) (before : List CoreEvent) → word < words → AtFirst place → op_denial (plain_of s) who place.far (Load page word) ≡ None → IsReady s a p before → IsSome ((run s before).entry p page) → IsTurned s who place (Load page word) (loads s before a p page word)
   load_ready page word before within first undenied ready there =
       let t : CoreState = run s before in
       let f : ℕ = frame_in (t.entry p page) in
@@ -82,32 +101,32 @@ module _ (s : CoreState) (a p : ℕ) (place : Place) (h : IsOpen s a p) (job : s
       let same : run s (before ++ last) ≡ t = run_behind s before last in
       done_turn (Load page word) (loads s before a p page word)
       (record {
-        kinds = kinds_behind a p p before last ready.kinds (loading page word f (t.word f word), tt);
+        kinds = kinds_behind a p p of_pages before last (ready.kinds of_pages) (loading page word f (t.word f word), tt);
         can = can_behind s before last ready.can ((ready.birth, (allows_store (t.entry p page), entry_there (t.entry p page) there), within, refl), tt);
         rest = subst AtRest (sym same) ready.rest;
         told = told_behind before last ready.told;
       })
-      refl (ap (λ (u : CoreState). u.job a) same ∙ ready.job)
+      (refl, refl, tt) (ap (λ (u : CoreState). u.job a) same ∙ ready.job)
       (loaded page word (t.word f word) first undenied)
-      (ap (λ (u : CoreState). u.job a) same ∙ ready.job)
+      (λ still. still)
 
-  load_fills : (page word : ℕ) (rights : Option Rights) (free : Option ℕ) → AreUnlocked s p → word < words → AtFirst place → s.right p page ≡ rights → free_frame s ≡ free → s.entry p page ≡ None → IsTurned s a p place (Load page word) (loads_after s (read_fault a p page rights None free) a p page word)
-  load_fills page word None free unlocked within first is found none = answered (Load page word) answers.Missing refl first refl (rw is refl) tt
-  load_fills page word (Some rights) None unlocked within first is found none = answered (Load page word) answers.NoFrame refl first refl (rw is refl) tt
+  load_fills : (page word : ℕ) (rights : Option Rights) (free : Option ℕ) → AreUnlocked s p → word < words → AtFirst place → s.right p page ≡ rights → free_frame s ≡ free → s.entry p page ≡ None → IsTurned s who place (Load page word) (loads_after s (read_fault a p page rights None free) a p page word)
+  load_fills page word None free unlocked within first is found none = answered (Load page word) answers.Missing (refl, refl, tt) first refl (rw is refl) tt
+  load_fills page word (Some rights) None unlocked within first is found none = answered (Load page word) answers.NoFrame (refl, refl, tt) first refl (rw is refl) tt
   load_fills page word (Some rights) (Some f) unlocked within first is found none =
       let before = take_frame a f ∷ fill a p page f ∷ [] in
-      load_ready page word before within first (rw is refl) (filled s a p h job unlocked page f found (rw is refl) none)
+      load_ready page word before within first (rw is refl) (filled s a p may unlocked page f found (rw is refl) none)
       (rw (put2_same p page (Some (entry_of f false)) s.entry) refl)
 
-  load_by : (page word : ℕ) (entry : Option Entry) → waits_for_locks (both_if (is_none entry)) a (s.structure p) (s.table p) ≡ None → word < words → AtFirst place → s.entry p page ≡ entry → IsTurned s a p place (Load page word) (load_turn s a p page word entry)
+  load_by : (page word : ℕ) (entry : Option Entry) → waits_for_locks (both_if (is_none entry)) a (s.structure p) (s.table p) ≡ None → word < words → AtFirst place → s.entry p page ≡ entry → IsTurned s who place (Load page word) (load_turn s a p page word entry)
   load_by page word (Some e) free within first is =
-      load_ready page word [] within first (named_load page e is (s.right p page) refl) (needs_none s a p h job) (rw is refl)
+      load_ready page word [] within first (named_load page e is (s.right p page) refl) (needs_none s a p may) (rw is refl)
   load_by page word None free within first is =
       load_fills page word (s.right p page) (free_frame s) (both_free s a p h.sound job free) within first refl refl is
 
   -- store, behind the events of a fault
 
-  store_ready : (page word value : ℕ) (before : List CoreEvent) → word < words → AtFirst place → op_denial (plain_of s) p (Store page word value) ≡ None → IsReady s a p before → allows_store ((run s before).entry p page) ≡ true → IsTurned s a p place (Store page word value) (stores s before a p page word value)
+  store_ready : (page word value : ℕ) (before : List CoreEvent) → word < words → AtFirst place → op_denial (plain_of s) who place.far (Store page word value) ≡ None → IsReady s a p before → allows_store ((run s before).entry p page) ≡ true → IsTurned s who place (Store page word value) (stores s before a p page word value)
   store_ready page word value before within first undenied ready may =
       let t : CoreState = run s before in
       let f : ℕ = frame_in (t.entry p page) in
@@ -115,68 +134,43 @@ module _ (s : CoreState) (a p : ℕ) (place : Place) (h : IsOpen s a p) (job : s
       let same : run s (before ++ last) ≡ happens t (store a p page word f value) = run_behind s before last in
       done_turn (Store page word value) (stores s before a p page word value)
       (record {
-        kinds = kinds_behind a p p before last ready.kinds (storing page word f value, tt);
+        kinds = kinds_behind a p p of_pages before last (ready.kinds of_pages) (storing page word f value, tt);
         can = can_behind s before last ready.can ((ready.birth, writable_there (t.entry p page) may, within), tt);
         rest = subst AtRest (sym same) (record { prepared = ready.rest.prepared; owed = ready.rest.owed });
         told = told_behind before last ready.told;
       })
-      refl (ap (λ (u : CoreState). u.job a) same ∙ ready.job)
+      (refl, refl, tt) (ap (λ (u : CoreState). u.job a) same ∙ ready.job)
       (stored page word value first undenied)
-      (ap (λ (u : CoreState). u.job a) same ∙ ready.job)
+      (λ still. still)
 
-  store_fills : (page word value : ℕ) (free : Option ℕ) → AreUnlocked s p → word < words → AtFirst place → s.right p page ≡ Some RW → free_frame s ≡ free → s.entry p page ≡ None → IsTurned s a p place (Store page word value) (stores_after s (fills_writable a p page free) a p page word value)
-  store_fills page word value None unlocked within first is found none = answered (Store page word value) answers.NoFrame refl first refl (rw is refl) tt
-  store_fills page word value (Some f) unlocked within first is found none =
-      let before = take_frame a f ∷ fill a p page f ∷ upgrade a p page f ∷ [] in
-      store_ready page word value before within first (rw is refl) (filled_writable s a p h job unlocked page f found is none)
-      (rw (put2_same p page (Some (entry_of f true)) (put2 p page (Some (entry_of f false)) s.entry)) refl)
+  -- by what the fault comes to
+  refused_store : (page word value : ℕ) {answer : Answer} → RefusesPage answer → IsTrue (refuses (Store page word value) answer)
+  refused_store page word value missing = refl
+  refused_store page word value forbidden = refl
+  refused_store page word value no_frame = refl
 
-  -- an unmarked frame: with one reference it is marked, else copied
-  store_unshares : (page word value : ℕ) (e : Entry) (once : Bool) (free : Option ℕ) → AreUnlocked s p → word < words → AtFirst place → s.right p page ≡ Some RW → free_frame s ≡ free → s.entry p page ≡ Some e → e.writable ≡ false → s.mark e.frame ≡ false → (s.count e.frame == 1) ≡ once → IsTurned s a p place (Store page word value) (stores_after s (if once then Ok (marks a p page e ++ upgrade a p page e.frame ∷ []) else breaks a p page e true free) a p page word value)
-  store_unshares page word value e true free unlocked within first is found here barred unmarked count =
-      let before = marks a p page e ++ upgrade a p page e.frame ∷ [] in
-      store_ready page word value before within first (rw is refl)
-      (marked_upgraded s a p h job unlocked page e is here barred unmarked (grind (arith, nat_tests)))
-      (rw (put2_same p page (Some (entry_of e.frame true)) s.entry) refl)
-  store_unshares page word value e false None unlocked within first is found here barred unmarked count = answered (Store page word value) answers.NoFrame refl first refl (rw is refl) tt
-  store_unshares page word value e false (Some f) unlocked within first is found here barred unmarked count =
-      let before = take_frame a f ∷ break_entry a p page e.frame f e.writable true ∷ put_entry a e.frame ∷ [] in
-      store_ready page word value before within first (rw is refl) (broken s a p h job unlocked page e f found is here unmarked)
-      (rw (put2_same p page (Some (entry_of f true)) s.entry) refl)
+  store_leads : (page word value : ℕ) (fault : Fault) → word < words → AtFirst place → LeadsTo s a p page true (store_denial (s.right p page)) fault → IsTurned s who place (Store page word value) (stores_after s fault a p page word value)
+  store_leads page word value (Err answer) within first to =
+      answered (Store page word value) answer (refl, refl, tt) first (refused_store page word value to.0) to.1 tt
+  store_leads page word value (Ok before) within first to =
+      store_ready page word value before within first to.0 to.1 (ap allows_store to.2.there ∙ to.2.may refl)
 
-  store_read_only : (page word value : ℕ) (e : Entry) (marked : Bool) → AreUnlocked s p → word < words → AtFirst place → s.right p page ≡ Some RW → s.entry p page ≡ Some e → e.writable ≡ false → s.mark e.frame ≡ marked → IsTurned s a p place (Store page word value) (stores_after s (makes_writable a p page e marked (s.count e.frame) (free_frame s)) a p page word value)
-  store_read_only page word value e true unlocked within first is here barred marked =
-      store_ready page word value (upgrade a p page e.frame ∷ []) within first (rw is refl) (upgraded s a p h job unlocked page e is here barred marked)
-      (rw (put2_same p page (Some (entry_of e.frame true)) s.entry) refl)
-  store_read_only page word value e false unlocked within first is here barred unmarked =
-      store_unshares page word value e (s.count e.frame == 1) (free_frame s) unlocked within first is refl here barred unmarked refl
-
-  -- the fault doesn't find a writable entry
-  store_entry : (page word value : ℕ) (e : Entry) (writable : Bool) → AreUnlocked s p → word < words → AtFirst place → s.right p page ≡ Some RW → s.entry p page ≡ Some e → e.writable ≡ writable → writable ≡ false → IsTurned s a p place (Store page word value) (stores_after s (if writable then Ok [] else makes_writable a p page e (s.mark e.frame) (s.count e.frame) (free_frame s)) a p page word value)
-  store_entry page word value e true unlocked within first is here may barred = absurd (cc barred)
-  store_entry page word value e false unlocked within first is here may barred = store_read_only page word value e (s.mark e.frame) unlocked within first is here may refl
-
-  store_faults : (page word value : ℕ) (rights : Option Rights) (entry : Option Entry) → AreUnlocked s p → word < words → AtFirst place → s.right p page ≡ rights → s.entry p page ≡ entry → allows_store entry ≡ false → IsTurned s a p place (Store page word value) (stores_after s (write_fault a p page rights entry s.mark s.count (free_frame s)) a p page word value)
-  store_faults page word value None entry unlocked within first is here barred = answered (Store page word value) answers.Missing refl first refl (rw is refl) tt
-  store_faults page word value (Some R) entry unlocked within first is here barred = answered (Store page word value) answers.Forbidden refl first refl (rw is refl) tt
-  store_faults page word value (Some RW) None unlocked within first is here barred = store_fills page word value (free_frame s) unlocked within first is refl here
-  store_faults page word value (Some RW) (Some e) unlocked within first is here barred = store_entry page word value e e.writable unlocked within first is here refl barred
-
-  store_by : (page word value : ℕ) (entry : Option Entry) (allowed : Bool) → waits_for_locks (both_if (not allowed)) a (s.structure p) (s.table p) ≡ None → word < words → AtFirst place → s.entry p page ≡ entry → allows_store entry ≡ allowed → IsTurned s a p place (Store page word value) (stores_after s (store_fault_by allowed s a p page entry) a p page word value)
+  store_by : (page word value : ℕ) (entry : Option Entry) (allowed : Bool) → waits_for_locks (both_if (not allowed)) a (s.structure p) (s.table p) ≡ None → word < words → AtFirst place → s.entry p page ≡ entry → allows_store entry ≡ allowed → IsTurned s who place (Store page word value) (stores_after s (store_fault_by allowed s a p page entry) a p page word value)
   store_by page word value None true free within first here allowed = absurd (cc allowed)
   store_by page word value (Some e) true free within first here allowed =
-      store_ready page word value [] within first (named_store page e here allowed (s.right p page) refl) (needs_none s a p h job)
+      store_ready page word value [] within first (named_store page e here allowed (s.right p page) refl) (needs_none s a p may)
       (rw here allowed)
   store_by page word value entry false free within first here barred =
-      store_faults page word value (s.right p page) entry (both_free s a p h.sound job free) within first refl here barred
+      store_leads page word value (write_fault a p page (s.right p page) entry s.mark s.count (free_frame s)) within first
+      (write_leads s a p may (both_free s a p h.sound job free) page (s.right p page) entry refl here)
 
   -- The other operations need both locks, which are free.
   module _ (unlocked : AreUnlocked s p) where
     -- map
 
-    map_by : (page n : ℕ) (rights : Rights) (denied : Option Answer) → AtFirst place → IsOp (Map page n rights) → map_denial (any_mapped (s.right p) page n) (s.pages p) n ≡ denied → IsTurned s a p place (Map page n rights) (map_turn_by denied a p page n rights)
+    map_by : (page n : ℕ) (rights : Rights) (denied : Option Answer) → AtFirst place → IsOp (Map page n rights) → map_denial (any_mapped (s.right p) page n) (s.pages p) n ≡ denied → IsTurned s who place (Map page n rights) (map_turn_by denied a p page n rights)
     map_by page n rights (Some answer) first fits is =
-        answered (Map page n rights) answer refl first (denied_map page n rights (any_mapped (s.right p) page n) (s.pages p) answer is) (rw is refl) tt
+        answered (Map page n rights) answer (refl, refl, tt) first (denied_map page n rights (any_mapped (s.right p) page n) (s.pages p) answer is) (rw is refl) tt
     map_by page n rights None first fits is =
         let free = undenied_map (any_mapped (s.right p) page n) (s.pages p) n is in
         let unmapped = none_below n (λ k. is_some (s.right p (page + k))) free.0 in
@@ -187,13 +181,13 @@ module _ (s : CoreState) (a p : ℕ) (place : Place) (h : IsOpen s a p) (job : s
           rest = record { prepared = h.rest.prepared; owed = h.rest.owed };
           told = refl;
         })
-        refl job (mapped page n rights first is) job
+        (refl, refl, tt) job (mapped page n rights first is) (λ still. still)
 
     -- protect
 
     -- a turn can be done, and the actor is in the middle of nothing behind it
     abbrev IsDoneIdle : CoreState → Taken → Type 0
-    IsDoneIdle t turn = IsDone t a p p turn × ((run t turn.events).job a ≡ idle)
+    IsDoneIdle t turn = IsDone t a p p of_pages turn × ((run t turn.events).job a ≡ idle)
 
     -- the state with these entries in place of its own
     abbrev with_entries : (ℕ → ℕ → Option Entry) → CoreState
@@ -212,7 +206,7 @@ module _ (s : CoreState) (a p : ℕ) (place : Place) (h : IsOpen s a p) (job : s
     protect_last entries page n rights named allowed = (
       record {
         kinds = (protecting page n rights, tt);
-        can = ((h.birth, unlocked, named, allowed, (λ k less. no_mirror s a p h job (page + k))), tt);
+        can = ((h.birth, unlocked, named, allowed, (λ k less. no_mirror s a p may (page + k))), tt);
         rest = record { prepared = h.rest.prepared; owed = h.rest.owed };
         told = refl;
       },
@@ -222,7 +216,7 @@ module _ (s : CoreState) (a p : ℕ) (place : Place) (h : IsOpen s a p) (job : s
     -- one entry more is lowered in front
     lower_one : (entries : ℕ → ℕ → Option Entry) (page n g f : ℕ) (before : List CoreEvent) → entries p g ≡ Some (entry_of f true) → IsDoneIdle (with_entries (put2 p g (Some (entry_of f false)) entries)) (protects page n R before) → IsDoneIdle (with_entries entries) (protects page n R (lower_entry a p g f ∷ before))
     lower_one entries page n g f before is done =
-        (record { kinds = (lowering g f, done.0.kinds); can = ((h.birth, unlocked, is, no_mirror s a p h job g), done.0.can); rest = done.0.rest; told = done.0.told }, done.1)
+        (record { kinds = (lowering g f, done.0.kinds); can = ((h.birth, unlocked, is, no_mirror s a p may g), done.0.can); rest = done.0.rest; told = done.0.told }, done.1)
 
     -- no entry of the pages from this one up to g is writable; from g on they are those of the state
     abbrev AreLowered : (ℕ → ℕ → Option Entry) → (page g : ℕ) → Type 0
@@ -272,12 +266,12 @@ module _ (s : CoreState) (a p : ℕ) (place : Place) (h : IsOpen s a p) (job : s
     protect_done page n R named = lower_pages page n page n named refl s.entry (λ k e least less. absurd (omega arith)) (λ k least. refl)
     protect_done page n RW named = protect_last s.entry page n RW named (λ k e less is may. refl)
 
-    protect_by : (page n : ℕ) (rights : Rights) (denied : Option Answer) → AtFirst place → protect_denial (any_unmapped (s.right p) page n) ≡ denied → IsTurned s a p place (Protect page n rights) (protect_turn_by denied s a p page n rights)
+    protect_by : (page n : ℕ) (rights : Rights) (denied : Option Answer) → AtFirst place → protect_denial (any_unmapped (s.right p) page n) ≡ denied → IsTurned s who place (Protect page n rights) (protect_turn_by denied s a p page n rights)
     protect_by page n rights (Some answer) first is =
-        answered (Protect page n rights) answer refl first (denied_protect page n rights (any_unmapped (s.right p) page n) answer is) (rw is refl) tt
+        answered (Protect page n rights) answer (refl, refl, tt) first (denied_protect page n rights (any_unmapped (s.right p) page n) answer is) (rw is refl) tt
     protect_by page n rights None first is =
         let done = protect_done page n rights (undenied_protect (s.right p) page n is) in
-        done_turn (Protect page n rights) (protect_turn_by None s a p page n rights) done.0 refl done.1 (protected page n rights first is) done.1
+        done_turn (Protect page n rights) (protect_turn_by None s a p page n rights) done.0 (refl, refl, tt) done.1 (protected page n rights first is) (λ still. still)
 
     -- unmap, discard and exit
 
@@ -300,7 +294,7 @@ module _ (s : CoreState) (a p : ℕ) (place : Place) (h : IsOpen s a p) (job : s
       refl,
     )
 
-    gives_events : (entry : Option Entry) → AreTurnEvents a p p (gives_back a entry)
+    gives_events : (entry : Option Entry) → AreTurnEvents a p p of_pages (gives_back a entry)
     gives_events None = tt
     gives_events (Some e) = (putting e.frame, tt)
 
@@ -320,7 +314,7 @@ module _ (s : CoreState) (a p : ℕ) (place : Place) (h : IsOpen s a p) (job : s
         let back = given_back (happens s (drop_entry a p page entry)) entry refl refl in (
           record {
             kinds = (dropping page entry, gives_events entry);
-            can = ((h.birth, unlocked, job, named, here, h.rest.owed a, no_mirror s a p h job page), back.0);
+            can = ((h.birth, unlocked, job, named, here, h.rest.owed a, no_mirror s a p may page), back.0);
             rest = back.1;
             told = tells_alone (events.Unmap a p page) entry last;
           },
@@ -332,48 +326,48 @@ module _ (s : CoreState) (a p : ℕ) (place : Place) (h : IsOpen s a p) (job : s
         let back = given_back (happens s (discard_entry a p page entry)) entry refl refl in (
           record {
             kinds = (discarding page entry, gives_events entry);
-            can = ((h.birth, unlocked, job, named, here, h.rest.owed a, no_mirror s a p h job page), back.0);
+            can = ((h.birth, unlocked, job, named, here, h.rest.owed a, no_mirror s a p may page), back.0);
             rest = back.1;
             told = tells_alone (events.Discard a p page) entry last;
           },
           ap (λ (f : ℕ → Job). f a) back.2 ∙ job,
         )
 
-    -- an operation that goes over n pages brings no child, and stands at one of them
-    over_alone : {op : Op} {page n : ℕ} {event : ℕ → PlainEvent} → GoesOver a p op page n event → child_of p (Some op) ≡ p
-    over_alone (unmaps page n) = refl
-    over_alone (discards page n) = refl
+    -- an operation that goes over n pages is of pages alone, and stands at one of them
+    over_alone : {op : Op} {page n : ℕ} {event : ℕ → PlainEvent} → GoesOver a p op page n event → (t : CoreState) → IsOfPages op t
+    over_alone (unmaps page n) t = (refl, refl, tt)
+    over_alone (discards page n) t = (refl, refl, tt)
 
-    over_fits : {op : Op} {page n : ℕ} {event : ℕ → PlainEvent} → GoesOver a p op page n event → (t : CoreState) (next : Place) → t.job a ≡ idle → next.far < n → FitsOp t a p op next
-    over_fits (unmaps page n) t next behind far = (behind, far)
-    over_fits (discards page n) t next behind far = (behind, far)
+    over_fits : {op : Op} {page n : ℕ} {event : ℕ → PlainEvent} → GoesOver a p op page n event → (t : CoreState) (next : Place) → next.far < n → Rests t a → FitsOp t who op next
+    over_fits (unmaps page n) t next far still = (still, far)
+    over_fits (discards page n) t next far still = (still, far)
 
     -- a turn of an operation that goes over pages: the page has its event, or is passed
-    takes_page : (op : Op) (page n : ℕ) (event : ℕ → PlainEvent) (es : List CoreEvent) (last : Bool) → GoesOver a p op page n event → place.far < n → (place.far + 1 == n) ≡ last → IsDoneIdle s (record { events = es; whats = Event (event (page + place.far)) ∷ done_if last }) → IsTurned s a p place op (record { events = es; whats = Event (event (page + place.far)) ∷ done_if last })
+    takes_page : (op : Op) (page n : ℕ) (event : ℕ → PlainEvent) (es : List CoreEvent) (last : Bool) → GoesOver a p op page n event → place.far < n → (place.far + 1 == n) ≡ last → IsDoneIdle s (record { events = es; whats = Event (event (page + place.far)) ∷ done_if last }) → IsTurned s who place op (record { events = es; whats = Event (event (page + place.far)) ∷ done_if last })
     takes_page op page n event es true over far test done =
-        done_turn op (record { events = es; whats = Event (event (page + place.far)) ∷ Done answers.Plain ∷ [] }) done.0 (over_alone over) done.1
-        (took_last op page n event over (grind (arith, nat_tests))) done.1
+        done_turn op (record { events = es; whats = Event (event (page + place.far)) ∷ Done answers.Plain ∷ [] }) done.0 (over_alone over (run s es)) done.1
+        (took_last op page n event over (grind (arith, nat_tests))) (λ still. still)
     takes_page op page n event es false over far test done =
         let more : place.far + 1 < n = grind (arith, nat_tests) in
-        done_turn op (record { events = es; whats = Event (event (page + place.far)) ∷ [] }) done.0 (over_alone over) done.1
-        (took op page n event over more) (over_fits over (run s es) (record place { far = place.far + 1; had = true }) done.1 more)
+        done_turn op (record { events = es; whats = Event (event (page + place.far)) ∷ [] }) done.0 (over_alone over (run s es)) done.1
+        (took op page n event over more) (over_fits over (run s es) (record place { far = place.far + 1; had = true }) more)
 
-    passes_page : (op : Op) (page n : ℕ) (event : ℕ → PlainEvent) (last : Bool) → GoesOver a p op page n event → place.far < n → (place.far + 1 == n) ≡ last → s.right p (page + place.far) ≡ None → IsTurned s a p place op (record { events = []; whats = silent_or_done last })
+    passes_page : (op : Op) (page n : ℕ) (event : ℕ → PlainEvent) (last : Bool) → GoesOver a p op page n event → place.far < n → (place.far + 1 == n) ≡ last → s.right p (page + place.far) ≡ None → IsTurned s who place op (record { events = []; whats = silent_or_done last })
     passes_page op page n event true over far test none =
-        done_turn op (record { events = []; whats = Done answers.Plain ∷ [] }) (record { kinds = tt; can = tt; rest = h.rest; told = refl }) (over_alone over) job
-        (passed_last op page n event over (grind (arith, nat_tests)) none) job
+        done_turn op (record { events = []; whats = Done answers.Plain ∷ [] }) (record { kinds = tt; can = tt; rest = h.rest; told = refl }) (over_alone over s) job
+        (passed_last op page n event over (grind (arith, nat_tests)) none) (λ still. still)
     passes_page op page n event false over far test none =
         let more : place.far + 1 < n = grind (arith, nat_tests) in
-        done_turn op (record { events = []; whats = Silent ∷ [] }) (record { kinds = tt; can = tt; rest = h.rest; told = refl }) (over_alone over) job
-        (passed op page n event over more none) (over_fits over s (record place { far = place.far + 1 }) job more)
+        done_turn op (record { events = []; whats = Silent ∷ [] }) (record { kinds = tt; can = tt; rest = h.rest; told = refl }) (over_alone over s) job
+        (passed op page n event over more none) (over_fits over s (record place { far = place.far + 1 }) more)
 
-    unmap_by : (page n : ℕ) (rights : Option Rights) (entry : Option Entry) (last : Bool) → place.far < n → (place.far + 1 == n) ≡ last → s.right p (page + place.far) ≡ rights → s.entry p (page + place.far) ≡ entry → IsTurned s a p place (Unmap page n) (unmap_turn_by rights a p (page + place.far) entry last)
+    unmap_by : (page n : ℕ) (rights : Option Rights) (entry : Option Entry) (last : Bool) → place.far < n → (place.far + 1 == n) ≡ last → s.right p (page + place.far) ≡ rights → s.entry p (page + place.far) ≡ entry → IsTurned s who place (Unmap page n) (unmap_turn_by rights a p (page + place.far) entry last)
     unmap_by page n None entry last far test is here = passes_page (Unmap page n) page n (events.Unmap a p) last (unmaps page n) far test is
     unmap_by page n (Some rights) entry last far test is here =
         takes_page (Unmap page n) page n (events.Unmap a p) (drop_entry a p (page + place.far) entry ∷ gives_back a entry) last (unmaps page n) far test
         (unmap_done (page + place.far) entry last (rw is refl) here)
 
-    discard_by : (page n : ℕ) (rights : Option Rights) (entry : Option Entry) (last : Bool) → place.far < n → (place.far + 1 == n) ≡ last → s.right p (page + place.far) ≡ rights → s.entry p (page + place.far) ≡ entry → IsTurned s a p place (Discard page n) (discard_turn_by rights a p (page + place.far) entry last)
+    discard_by : (page n : ℕ) (rights : Option Rights) (entry : Option Entry) (last : Bool) → place.far < n → (place.far + 1 == n) ≡ last → s.right p (page + place.far) ≡ rights → s.entry p (page + place.far) ≡ entry → IsTurned s who place (Discard page n) (discard_turn_by rights a p (page + place.far) entry last)
     discard_by page n None entry last far test is here = passes_page (Discard page n) page n (events.Discard a p) last (discards page n) far test is
     discard_by page n (Some rights) entry last far test is here =
         takes_page (Discard page n) page n (events.Discard a p) (discard_entry a p (page + place.far) entry ∷ gives_back a entry) last (discards page n) far test
@@ -386,39 +380,39 @@ module _ (s : CoreState) (a p : ℕ) (place : Place) (h : IsOpen s a p) (job : s
         let below = h.sound.1.right_numbered p g rights there in
         none_of (s.right p g) (lowest_none 0 page_numbers (λ page. is_some (s.right p page)) is g (omega arith) (omega arith))
 
-    exit_by : (found : Option ℕ) → lowest_page (s.right p) ≡ found → IsTurned s a p place Exit (exit_turn_by s a p found)
+    exit_by : (found : Option ℕ) → lowest_page (s.right p) ≡ found → IsTurned s who place Exit (exit_turn_by s a p found)
     exit_by None is =
-        done_turn Exit (answers_with answers.Plain) (record { kinds = tt; can = tt; rest = h.rest; told = refl }) refl job
-        (took_all (λ g. none_mapped is g (s.right p g) refl)) job
+        done_turn Exit (answers_with answers.Plain) (record { kinds = tt; can = tt; rest = h.rest; told = refl }) (refl, refl, tt) job
+        (took_all (λ g. none_mapped is g (s.right p g) refl)) (λ still. still)
     exit_by (Some page) is =
         let found = lowest_some 0 page_numbers page (λ g. is_some (s.right p g)) is in
         let done = unmap_done page (s.entry p page) false found.passes refl in
-        done_turn Exit (exit_turn_by s a p (Some page)) done.0 refl done.1
-        (took_lowest page (λ g less. none_of (s.right p g) (found.others g (omega arith) less))) done.1
+        done_turn Exit (exit_turn_by s a p (Some page)) done.0 (refl, refl, tt) done.1
+        (took_lowest page (λ g less. none_of (s.right p g) (found.others g (omega arith) less))) (λ still. still)
 
 -- every operation but a fork
-module _ (s : CoreState) (a p : ℕ) (place : Place) (h : IsOpen s a p) where
+module _ (s : CoreState) (who : Doer) (place : Place) (h : IsOpen s who.actor who.proc) where
   -- the actor waits for none of the locks that this operation needs
   abbrev IsFree : Op → Type 0
-  IsFree op = waits_for_locks (locks_needed s a p op) a (s.structure p) (s.table p) ≡ None
+  IsFree op = waits_for_locks (locks_needed s who.actor who.proc op) who.actor (s.structure who.proc) (s.table who.proc) ≡ None
 
-  pub map_turned : (page n : ℕ) (rights : Rights) → IsOp (Map page n rights) → FitsOp s a p (Map page n rights) place → IsFree (Map page n rights) → IsTurned s a p place (Map page n rights) (op_turn s a p place.far (Map page n rights))
-  map_turned page n rights range fits free = map_by s a p place h fits.0 (both_free s a p h.sound fits.0 free) page n rights (map_denial (any_mapped (s.right p) page n) (s.pages p) n) fits.1 range refl
+  pub map_turned : (page n : ℕ) (rights : Rights) → IsOp (Map page n rights) → FitsOp s who (Map page n rights) place → IsFree (Map page n rights) → IsTurned s who place (Map page n rights) (op_turn s who.actor who.proc who.slots place.far (Map page n rights))
+  map_turned page n rights range fits free = map_by s who place h fits.0 (both_free s who.actor who.proc h.sound fits.0.0 free) page n rights (map_denial (any_mapped (s.right who.proc) page n) (s.pages who.proc) n) fits.1 range refl
 
-  pub unmap_turned : (page n : ℕ) → FitsOp s a p (Unmap page n) place → IsFree (Unmap page n) → IsTurned s a p place (Unmap page n) (op_turn s a p place.far (Unmap page n))
-  unmap_turned page n fits free = unmap_by s a p place h fits.0 (both_free s a p h.sound fits.0 free) page n (s.right p (page + place.far)) (s.entry p (page + place.far)) (place.far + 1 == n) fits.1 refl refl refl
+  pub unmap_turned : (page n : ℕ) → FitsOp s who (Unmap page n) place → IsFree (Unmap page n) → IsTurned s who place (Unmap page n) (op_turn s who.actor who.proc who.slots place.far (Unmap page n))
+  unmap_turned page n fits free = unmap_by s who place h fits.0 (both_free s who.actor who.proc h.sound fits.0.0 free) page n (s.right who.proc (page + place.far)) (s.entry who.proc (page + place.far)) (place.far + 1 == n) fits.1 refl refl refl
 
-  pub load_turned : (page word : ℕ) → IsOp (Load page word) → FitsOp s a p (Load page word) place → IsFree (Load page word) → IsTurned s a p place (Load page word) (op_turn s a p place.far (Load page word))
-  load_turned page word range fits free = load_by s a p place h fits.0 page word (s.entry p page) free range.1 fits.1 refl
+  pub load_turned : (page word : ℕ) → IsOp (Load page word) → FitsOp s who (Load page word) place → IsFree (Load page word) → IsTurned s who place (Load page word) (op_turn s who.actor who.proc who.slots place.far (Load page word))
+  load_turned page word range fits free = load_by s who place h fits.0 page word (s.entry who.proc page) free range.1 fits.1 refl
 
-  pub store_turned : (page word value : ℕ) → IsOp (Store page word value) → FitsOp s a p (Store page word value) place → IsFree (Store page word value) → IsTurned s a p place (Store page word value) (op_turn s a p place.far (Store page word value))
-  store_turned page word value range fits free = store_by s a p place h fits.0 page word value (s.entry p page) (allows_store (s.entry p page)) free range.1 fits.1 refl refl
+  pub store_turned : (page word value : ℕ) → IsOp (Store page word value) → FitsOp s who (Store page word value) place → IsFree (Store page word value) → IsTurned s who place (Store page word value) (op_turn s who.actor who.proc who.slots place.far (Store page word value))
+  store_turned page word value range fits free = store_by s who place h fits.0 page word value (s.entry who.proc page) (allows_store (s.entry who.proc page)) free range.1 fits.1 refl refl
 
-  pub protect_turned : (page n : ℕ) (rights : Rights) → FitsOp s a p (Protect page n rights) place → IsFree (Protect page n rights) → IsTurned s a p place (Protect page n rights) (op_turn s a p place.far (Protect page n rights))
-  protect_turned page n rights fits free = protect_by s a p place h fits.0 (both_free s a p h.sound fits.0 free) page n rights (protect_denial (any_unmapped (s.right p) page n)) fits.1 refl
+  pub protect_turned : (page n : ℕ) (rights : Rights) → FitsOp s who (Protect page n rights) place → IsFree (Protect page n rights) → IsTurned s who place (Protect page n rights) (op_turn s who.actor who.proc who.slots place.far (Protect page n rights))
+  protect_turned page n rights fits free = protect_by s who place h fits.0 (both_free s who.actor who.proc h.sound fits.0.0 free) page n rights (protect_denial (any_unmapped (s.right who.proc) page n)) fits.1 refl
 
-  pub discard_turned : (page n : ℕ) → FitsOp s a p (Discard page n) place → IsFree (Discard page n) → IsTurned s a p place (Discard page n) (op_turn s a p place.far (Discard page n))
-  discard_turned page n fits free = discard_by s a p place h fits.0 (both_free s a p h.sound fits.0 free) page n (s.right p (page + place.far)) (s.entry p (page + place.far)) (place.far + 1 == n) fits.1 refl refl refl
+  pub discard_turned : (page n : ℕ) → FitsOp s who (Discard page n) place → IsFree (Discard page n) → IsTurned s who place (Discard page n) (op_turn s who.actor who.proc who.slots place.far (Discard page n))
+  discard_turned page n fits free = discard_by s who place h fits.0 (both_free s who.actor who.proc h.sound fits.0.0 free) page n (s.right who.proc (page + place.far)) (s.entry who.proc (page + place.far)) (place.far + 1 == n) fits.1 refl refl refl
 
-  pub exit_turned : FitsOp s a p Exit place → IsFree Exit → IsTurned s a p place Exit (op_turn s a p place.far Exit)
-  exit_turned fits free = exit_by s a p place h fits (both_free s a p h.sound fits free) (lowest_page (s.right p)) refl
+  pub exit_turned : FitsOp s who Exit place → IsFree Exit → IsTurned s who place Exit (op_turn s who.actor who.proc who.slots place.far Exit)
+  exit_turned fits free = exit_by s who place h fits (both_free s who.actor who.proc h.sound fits.0 free) (lowest_page (s.right who.proc)) refl

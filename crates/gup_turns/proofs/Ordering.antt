@@ -9,18 +9,18 @@ use Rattle.gup_plain.specs.declared.note.Waiting.{Waiting}
 use Rattle.gup_plain.specs.declared.note.Waiting.TheVariants as waitings
 use Rattle.gup_script.specs.Script.{ScriptValue}
 use Rattle.gup_script.specs.declared.op.Op.{Op}
-use Rattle.gup_script.specs.declared.op.Op.TheVariants.{Map, Unmap, Protect, Discard, Load, Store, Fork, Exit}
+use Rattle.gup_script.specs.declared.op.Op.TheVariants.{Map, Unmap, Protect, Discard, Load, Store, Pin, Unpin, Give, Take, Transfer, Fork, Exit}
 use Rattle.gup_events.specs.State.{plain_of}
-use Rattle.gup_follows.specs.Order.{Turn, Ordered, Moves, IsWrittenTurn, IsOverAt, IsOver, IsPassed, MayHold, KeepsLock, IsPointedTurn, IsNextTurn, AreInOrder, behind_by, written_turn, waiting_at, waiting_of, finished_in}
-use Rattle.gup_follows.specs.Place.{Place, process_of, ops_of}
+use Rattle.gup_follows.specs.Order.{Turn, Ordered, Moves, IsWrittenTurn, IsOverAt, IsOver, IsPassed, MayHold, KeepsLock, IsPointedTurn, IsNextTurn, AreInOrder, behind_by, written_turn, waiting_at, waiting_of, finished_in, handle_waits}
+use Rattle.gup_follows.specs.Place.{Place, Doer, doer, birth_by, birth_for, process_of, ops_of}
 use Rattle.gup_turns.specs.Reached.{ForkPlace}
-use Rattle.gup_turns.specs.Turn.{waits_at}
+use Rattle.gup_turns.specs.Turn.{waits_at, waits_born, first_waiting}
 use Rattle.gup_turns.specs.Run.{RunState, Runs, next_actor, next_by, written_in, turn_in, run_after, op_in, waiting_with, waiting_in, taken_in, is_ready, can_go}
 use Rattle.gup_turns.proofs.Holding.{IsInFork, locks_of, waits_for_fork, fork_can_go}
 use Rattle.gup_turns.specs.ScriptLemmas.{has_ops_declared}
 use Rattle.gup_turns.proofs.Pointer.{PointerFits, IsFirstToGo, pointed_some, none_can_go, pointer_fits}
 use Rattle.gup_turns.proofs.Puts.{some_same}
-use Rattle.gup_turns.proofs.Shapes.{TurnOf, refused, mapped, protected, loaded, stored, took, took_last, passed, passed_last, took_lowest, took_all, began, passed_page, counted_page, shared_page, ended, TurnAt, idles, waits, goes}
+use Rattle.gup_turns.proofs.Shapes.{TurnOf, refused, mapped, protected, loaded, stored, gave, took_over, took, took_last, passed, passed_last, took_lowest, took_all, pinned_page, pinned_all, pinned_short, unpinned_page, unpinned_last, moved_word, moved_last, began, passed_page, counted_page, shared_page, ended, TurnAt, idles, waits, goes}
 use Rattle.gup_turns.proofs.Stands.{stands_on, same_plain}
 use Rattle.gup_turns.proofs.Steps.{Stands, taken}
 use Rattle.gup_turns.proofs.Through.{Law}
@@ -32,18 +32,27 @@ finished_is (op ∷ ops) zero = leb-suc-zero (length ops)
 finished_is (op ∷ ops) (suc k) = leb-suc-suc (length ops) k ∙ finished_is ops k
 
 -- a turn of an operation has one to three notes of it
-pub op_moves : {s : PlainState} {a p : ℕ} {place : Place} {op : Op} {from to : ForkPlace} {whats : List What} → TurnOf s a p place op from whats to → Moves whats
+pub op_moves : {s : PlainState} {who : Doer} {place : Place} {op : Op} {from to : ForkPlace} {whats : List What} → TurnOf s who place op from whats to → Moves whats
 op_moves (refused op answer first refusal right passes) = (omega arith, omega arith, (refl, tt))
 op_moves (mapped page n rights first free) = (omega arith, omega arith, (refl, (refl, tt)))
 op_moves (protected page n rights first free) = (omega arith, omega arith, (refl, (refl, tt)))
 op_moves (loaded page word value first free) = (omega arith, omega arith, (refl, (refl, tt)))
 op_moves (stored page word value first free) = (omega arith, omega arith, (refl, (refl, tt)))
+op_moves (gave handle to first free) = (omega arith, omega arith, (refl, (refl, tt)))
+op_moves (took_over handle first) = (omega arith, omega arith, (refl, (refl, tt)))
 op_moves (took op page n event over more) = (omega arith, omega arith, (refl, tt))
 op_moves (took_last op page n event over last) = (omega arith, omega arith, (refl, (refl, tt)))
 op_moves (passed op page n event over more none) = (omega arith, omega arith, (refl, tt))
 op_moves (passed_last op page n event over last none) = (omega arith, omega arith, (refl, tt))
 op_moves (took_lowest page none) = (omega arith, omega arith, (refl, tt))
 op_moves (took_all none) = (omega arith, omega arith, (refl, tt))
+op_moves (pinned_page handle page n write more free) = (omega arith, omega arith, (refl, tt))
+op_moves (pinned_all handle page n write last free) = (omega arith, omega arith, (refl, (refl, (refl, tt))))
+op_moves (pinned_short handle page n write cause some less end right) = (omega arith, omega arith, (refl, (refl, tt)))
+op_moves (unpinned_page handle free more) = (omega arith, omega arith, (refl, tt))
+op_moves (unpinned_last handle none free last) = (omega arith, omega arith, (refl, (refl, tt)))
+op_moves (moved_word handle outward index slot n value more free) = (omega arith, omega arith, (refl, tt))
+op_moves (moved_last handle outward index slot n value last free) = (omega arith, omega arith, (refl, (refl, tt)))
 op_moves (began child first) = (omega arith, omega arith, (refl, tt))
 op_moves (passed_page child from page begun up) = (omega arith, omega arith, (refl, tt))
 op_moves (counted_page child from page begun up) = (omega arith, omega arith, (refl, tt))
@@ -69,18 +78,18 @@ free_written : (holder : ℕ → Type 0) (seen : Option Waiting) (whats : List W
 free_written holder seen whats (inl same) moves = rw same (inl moves)
 free_written holder seen whats (inr (none, b, holds, is)) moves = absurd (cc is)
 
-written_right : {s : PlainState} {a p : ℕ} {place : Place} {op : Option Op} {waiting : Option Waiting} {from to : ForkPlace} {whats : List What} {finished : Bool} {holder : ℕ → Type 0} {seen : Option Waiting} → TurnAt s a p place op waiting from whats to → Sees finished holder seen op waiting → IsWrittenTurn finished seen holder whats
+written_right : {s : PlainState} {who : Doer} {place : Place} {op : Option Op} {waiting : Option Waiting} {from to : ForkPlace} {whats : List What} {finished : Bool} {holder : ℕ → Type 0} {seen : Option Waiting} → TurnAt s who place op waiting from whats to → Sees finished holder seen op waiting → IsWrittenTurn finished seen holder whats
 written_right (idles waiting at) h = rw h.finishes refl
 written_right {holder = holder} {seen = seen} (waits op waiting at) h = rw h.finishes (wait_written holder seen waiting (h.waits_so op refl))
-written_right {holder = holder} {seen = seen} (goes op whats from to birth turn) h = rw h.finishes (free_written holder seen whats (h.waits_so op refl) (op_moves turn))
+written_right {holder = holder} {seen = seen} (goes op whats from to birth own turn) h = rw h.finishes (free_written holder seen whats (h.waits_so op refl) (op_moves turn))
 
 -- the turn of an actor that can go moves it on
-goes_moves : {s : PlainState} {a p : ℕ} {place : Place} {op : Option Op} {waiting : Option Waiting} {from to : ForkPlace} {whats : List What} → TurnAt s a p place op waiting from whats to → is_ready op waiting ≡ true → Moves whats
+goes_moves : {s : PlainState} {who : Doer} {place : Place} {op : Option Op} {waiting : Option Waiting} {from to : ForkPlace} {whats : List What} → TurnAt s who place op waiting from whats to → is_ready op waiting ≡ true → Moves whats
 goes_moves (idles waiting at) is = absurd (cc is)
 goes_moves (waits op waiting at) is = absurd (cc is)
-goes_moves (goes op whats from to birth turn) is = op_moves turn
+goes_moves (goes op whats from to birth own turn) is = op_moves turn
 
--- an actor that can't go has finished or waits for its process, or waits for one that may hold a lock
+-- an actor that can't go has finished or waits for its process or for a pin, or waits for one that may hold a lock
 passed_over : (op : Option Op) (waiting : Option Waiting) {finished : Bool} {holder : ℕ → Type 0} {seen : Option Waiting} → Sees finished holder seen op waiting → is_ready op waiting ≡ false → IsOverAt finished seen ⊎ ((b : ℕ) × holder b × (waiting ≡ Some (waitings.Holder b)))
 passed_over None waiting h is = inl (rw h.finishes tt)
 passed_over (Some op) (Some w) {finished = finished} {holder = holder} {seen = seen} h is = go (h.waits_so op refl)
@@ -118,32 +127,51 @@ kept_fork (Some (Protect page n rights)) keeps = absurd keeps
 kept_fork (Some (Discard page n)) keeps = absurd keeps
 kept_fork (Some (Load page word)) keeps = absurd keeps
 kept_fork (Some (Store page word value)) keeps = absurd keeps
+kept_fork (Some (Pin handle page n write)) keeps = absurd keeps
+kept_fork (Some (Unpin handle)) keeps = absurd keeps
+kept_fork (Some (Give handle to)) keeps = absurd keeps
+kept_fork (Some (Take handle)) keeps = absurd keeps
+kept_fork (Some (Transfer handle outward index slot n)) keeps = absurd keeps
 kept_fork (Some Exit) keeps = absurd keeps
+
+-- whoever is no thread waits for no process that failed
+pub unfailed_for : (who : Doer) (births : ℕ → Birth) → (births who.proc ≡ failed → ⊥) → birth_for births who ≡ failed → ⊥
+unfailed_for who births never is = go who.thread is
+  where
+    go : (t : Bool) → birth_by t (births who.proc) ≡ failed → ⊥
+    go true fails = never fails
+    go false fails = cc fails
 
 module _ (script : ScriptValue) (valid : IsScript script) (r : RunState) (h : Stands script r) where
   -- one that is in the middle of a fork of this actor's process may hold a lock of it
   may_hold : (a b : ℕ) → (a ≡ b → ⊥) → IsInFork script r b (process_of script a) → MayHold script (ordered_of r) a b
   may_hold a b apart fork = (apart, fork.of, fork.begun, keeps_lock (op_in script r b) fork.child fork.forks)
 
-  -- once its process is born an actor waits only for such a one
+  -- once its process is born, and its pin given to it, an actor waits only for such a one
   sees_locks : (a : ℕ) (op : Op) (locks : Option Waiting) → locks_of script r h a op ≡ locks → SeesWaiting (MayHold script (ordered_of r) a) None locks
   sees_locks a op None is = inl refl
   sees_locks a op (Some waiting) is =
       let fork = waits_for_fork script r h a op waiting is in
       inr (refl, fork.0, may_hold a fork.0 fork.2 fork.3, ap (λ (w : Waiting). Some w) fork.1)
 
-  sees_waiting : (a : ℕ) (op : Op) (b : Birth) → r.core.birth (process_of script a) ≡ b → SeesWaiting (MayHold script (ordered_of r) a) (waiting_at (process_of script a) b) (waits_at b (process_of script a) (locks_of script r h a op))
+  sees_born : (a : ℕ) (op : Op) (given : Option Waiting) → SeesWaiting (MayHold script (ordered_of r) a) given (first_waiting given (locks_of script r h a op))
+  sees_born a op (Some waiting) = inl refl
+  sees_born a op None = sees_locks a op (locks_of script r h a op) refl
+
+  sees_waiting : (a : ℕ) (op : Op) (b : Birth) → birth_for r.core.birth (doer script a) ≡ b → SeesWaiting (MayHold script (ordered_of r) a) (waiting_at (process_of script a) b (handle_waits r.core.handle a (Some op))) (waits_at b (process_of script a) (waits_born r.core a (process_of script a) op))
   sees_waiting a op unborn is = inl refl
   sees_waiting a op (growing parent) is = inl refl
-  sees_waiting a op born is = sees_locks a op (locks_of script r h a op) refl
-  sees_waiting a op failed is = absurd (h.unfailed (process_of script a) is)
+  sees_waiting a op born is = sees_born a op (handle_waits r.core.handle a (Some op))
+  sees_waiting a op failed is =
+      absurd (unfailed_for (doer script a) r.core.birth (h.unfailed (process_of script a)) is)
 
   pub sees : (a : ℕ) → Sees (finished_in script (ordered_of r) a) (MayHold script (ordered_of r) a) (waiting_of script (ordered_of r) a) (op_in script r a) (waiting_in script r a)
   sees a =
-      let p = process_of script a in
+      let who : Doer = doer script a in
+      let seen : Option Op → Option Waiting = λ o. waiting_at (process_of script a) (birth_for r.core.birth who) (handle_waits r.core.handle a o) in
       record {
         finishes = finished_is (ops_of script a) (r.places a).answered;
-        waits_so = λ o is. subst (SeesWaiting (MayHold script (ordered_of r) a) (waiting_of script (ordered_of r) a)) (sym (ap (waiting_with r.core a p) is)) (sees_waiting a o (r.core.birth p) refl);
+        waits_so = λ o is. subst (λ (x : Option Op). SeesWaiting (MayHold script (ordered_of r) a) (seen x) (waiting_with r.core who x)) (sym is) (sees_waiting a o (birth_for r.core.birth who) refl);
       }
 
   turn_written : (a : ℕ) → IsWrittenTurn (finished_in script (ordered_of r) a) (waiting_of script (ordered_of r) a) (MayHold script (ordered_of r) a) (taken_in script r a).whats

@@ -1,11 +1,12 @@
 -- The notes of a turn are right in the plain state.
-use Rattle.std.proofs.Common.{◌≡◌, ℕ, ◌+◌, ◌==◌, ◌++◌, cond, Bool, true, false, inl, List, [], ◌∷◌, Option, Some, None, slice_get, refl, sym, ap, ◌∙◌, subst, arith}
+use Rattle.std.proofs.Common.{◌≡◌, ℕ, ◌+◌, ◌<◌, ◌==◌, ◌++◌, cond, Bool, true, false, IsTrue, inl, List, [], ◌∷◌, Option, Some, None, slice_get, refl, sym, ap, ◌∙◌, subst, arith}
 use Rattle.gup_plain.specs.Event.{CanHappen, happened}
 use Rattle.gup_plain.specs.Note.{NoteValue}
 use Rattle.gup_plain.specs.Put.{put}
 use Rattle.gup_plain.specs.State.{PlainState, Birth, born}
 use Rattle.gup_plain.specs.declared.answer.Answer.{Answer}
 use Rattle.gup_plain.specs.declared.answer.Answer.TheVariants as answers
+use Rattle.gup_plain.specs.declared.answer.Cause.{Cause}
 use Rattle.gup_plain.specs.declared.event.PlainEvent.{PlainEvent}
 use Rattle.gup_plain.specs.declared.event.PlainEvent.TheVariants as events
 use Rattle.gup_plain.specs.declared.note.What.{What}
@@ -13,31 +14,33 @@ use Rattle.gup_plain.specs.declared.note.What.TheVariants.{Silent, Idle, Wait, E
 use Rattle.gup_plain.specs.declared.note.Waiting.{Waiting}
 use Rattle.gup_script.specs.Script.{ScriptValue}
 use Rattle.gup_script.specs.declared.op.Op.{Op}
-use Rattle.gup_script.specs.declared.op.Op.TheVariants.{Map, Unmap, Protect, Discard, Load, Store, Fork, Exit}
+use Rattle.gup_script.specs.declared.op.Op.TheVariants.{Map, Unmap, Protect, Discard, Load, Store, Pin, Unpin, Give, Take, Transfer, Fork, Exit}
 use Rattle.gup_plain.specs.Denial.{denial_at, is_denial}
 use Rattle.gup_follows.specs.Denial.{denial, op_denial}
-use Rattle.gup_follows.specs.Follows.{notes_of_turn, note_of}
+use Rattle.gup_events.specs.State.{CoreState}
+use Rattle.gup_follows.specs.Follows.{refuses, moves_word, notes_of_turn, note_of}
 use Rattle.gup_follows.specs.Order.{plain_behind}
-use Rattle.gup_follows.specs.Place.{Place, place_after, place_behind, process_of, ops_of}
-use Rattle.gup_follows.specs.Plain.{Judged, judged_after, ArePlain, IsRightAt, IsRightOf, IsSettled, IsAnswerAfter, IsAnswerOf, IsUndeniedAt, judged_before, Passes, TakesLowest, plain_after}
+use Rattle.gup_follows.specs.Place.{Place, Doer, doer, birth_by, birth_for, place_after, place_behind, ops_of}
+use Rattle.gup_follows.specs.Plain.{Judged, judged_after, ArePlain, IsRightAt, IsRightOf, IsSettled, IsAnswerAfter, IsAnswerOf, IsUndeniedAt, judged_before, Passes, IsDue, refusal_of, refusal_in, judged_far, plain_after}
 use Rattle.gup_turns.proofs.Puts.{put_same, put_twice, put_own}
 use Rattle.gup_turns.specs.Reached.{ForkPlace}
-use Rattle.gup_turns.proofs.Shapes.{TurnOf, refused, mapped, protected, loaded, stored, took, took_last, passed, passed_last, took_lowest, took_all, began, passed_page, counted_page, shared_page, ended, GoesOver, unmaps, discards, TurnAt, idles, waits, goes}
+use Rattle.gup_turns.proofs.Shapes.{TurnOf, refused, mapped, protected, loaded, stored, gave, took_over, took, took_last, passed, passed_last, took_lowest, took_all, pinned_page, pinned_all, pinned_short, unpinned_page, unpinned_last, moved_word, moved_last, began, passed_page, counted_page, shared_page, ended, GoesOver, unmaps, discards, TurnAt, idles, waits, goes, FitsAt}
 use Rattle.gup_turns.proofs.Through.{events_of, AllCanHappen}
 
 -- the notes of one turn are right, each in what those before it have led to
-abbrev pub AreRight : List Op → ℕ → PlainState → Place → List What → Type 0
-AreRight ops p s place [] = Unit {0}
-AreRight ops p s place (what ∷ whats) =
-    IsRightAt s p place (slice_get ops place.answered) what × AreRight ops p (plain_after s what) (place_after place what) whats
+abbrev pub AreRight : List Op → Doer → PlainState → Place → List What → Type 0
+AreRight ops who s place [] = Unit {0}
+AreRight ops who s place (what ∷ whats) =
+    IsRightAt s who place (slice_get ops place.answered) what
+    × AreRight ops who (plain_after s what) (place_after place what) whats
 
--- in a born process
+-- where whoever does it waits for no birth
 
 settled : (b : Birth) → b ≡ born → IsSettled b
 settled b e = subst IsSettled (sym e) tt
 
-denial_born : (s : PlainState) (p : ℕ) (op : Op) → s.birth p ≡ born → denial s p op ≡ op_denial s p op
-denial_born s p op e = ap (λ (b : Birth). denial_at b (op_denial s p op)) e
+denial_born : (s : PlainState) (who : Doer) (far : ℕ) (op : Op) → birth_for s.birth who ≡ born → denial s who far op ≡ op_denial s who far op
+denial_born s who far op e = ap (λ (b : Birth). denial_at b (op_denial s who far op)) e
 
 undenied : (had : Bool) (denied : Option Answer) → denied ≡ None → IsUndeniedAt had denied
 undenied true denied e = tt
@@ -48,101 +51,189 @@ answers_undenied : (had : Bool) (denied : Option Answer) (answer : Answer) → d
 answers_undenied true denied answer e plain = plain
 answers_undenied false denied answer e plain = subst (λ (d : Option Answer). IsAnswerOf d answer) (sym e) plain
 
--- what is judged at its answer has it where nothing denies, what is judged before had an event
-after_event : (s : PlainState) (p : ℕ) (op : Op) (answer : Answer) → s.birth p ≡ born → is_denial answer ≡ false → IsAnswerAfter (judged_before op true) (denial s p op) answer
-after_event s p (Fork child) answer birth plain = answers_undenied false (denial s p (Fork child)) answer (denial_born s p (Fork child) birth) plain
-after_event s p (Map page n rights) answer birth plain = plain
-after_event s p (Unmap page n) answer birth plain = plain
-after_event s p (Protect page n rights) answer birth plain = plain
-after_event s p (Discard page n) answer birth plain = plain
-after_event s p (Load page word) answer birth plain = plain
-after_event s p (Store page word value) answer birth plain = plain
-after_event s p Exit answer birth plain = plain
-
 -- at its first turn every operation is judged in the state of that turn
-judged_first : (op : Op) → judged_before op false ≡ false
-judged_first (Fork child) = refl
-judged_first (Map page n rights) = refl
-judged_first (Unmap page n) = refl
-judged_first (Protect page n rights) = refl
-judged_first (Discard page n) = refl
-judged_first (Load page word) = refl
-judged_first (Store page word value) = refl
-judged_first Exit = refl
+judged_first : (op : Op) (answer : Answer) → judged_before op false answer ≡ false
+judged_first op answer = grind arith
+
+-- no operation is refused by a short pin
+pub unrefused_short : (op : Op) (got wanted : ℕ) (cause : Cause) → refuses op (answers.Short got wanted cause) ≡ false
+unrefused_short op got wanted cause = grind arith
+
+pub not_both : (b : Bool) → b ≡ false → IsTrue b → ⊥
+not_both true lacks has = cc lacks
+not_both false lacks has = cc has
+
+-- a refusal is judged where it stands, and is the refusal
+refused_here : (op : Op) (answer : Answer) (far : ℕ) → IsTrue (refuses op answer) → (judged_far far answer ≡ far) × (refusal_in answer ≡ answer)
+refused_here op answers.Plain far is = (refl, refl)
+refused_here op (answers.Value value) far is = (refl, refl)
+refused_here op answers.Missing far is = (refl, refl)
+refused_here op answers.Forbidden far is = (refl, refl)
+refused_here op answers.NoFrame far is = (refl, refl)
+refused_here op answers.Overlap far is = (refl, refl)
+refused_here op answers.Full far is = (refl, refl)
+refused_here op answers.Unborn far is = (refl, refl)
+refused_here op (answers.Unmovable count) far is = (refl, refl)
+refused_here op (answers.Busy count) far is = (refl, refl)
+refused_here op answers.Untouched far is = (refl, refl)
+refused_here op answers.Stale far is = (refl, refl)
+refused_here op answers.NotHeld far is = (refl, refl)
+refused_here op answers.Range far is = (refl, refl)
+refused_here op (answers.Pinned pages) far is = (refl, refl)
+refused_here op (answers.Short got wanted cause) far is =
+    absurd (not_both (refuses op (answers.Short got wanted cause)) (unrefused_short op got wanted cause) is)
+refused_here op answers.Words far is = (refl, refl)
 
 -- where a fork ends, what was born stays so
-stays_born : (births : ℕ → Birth) (p child : ℕ) → births p ≡ born → put child born births p ≡ born
-stays_born births p child birth = go (p == child)
+stays_born : (births : ℕ → Birth) (who : Doer) (child : ℕ) → birth_for births who ≡ born → birth_for (put child born births) who ≡ born
+stays_born births who child birth = go who.thread (who.proc == child) birth
   where
-    go : (c : Bool) → cond c born (births p) ≡ born
-    go true = refl
-    go false = birth
+    go : (t c : Bool) → birth_by t (births who.proc) ≡ born → birth_by t (cond c born (births who.proc)) ≡ born
+    go false c now = refl
+    go true true now = refl
+    go true false now = now
 
-module _ (ops : List Op) (s : PlainState) (a p : ℕ) (place : Place) (birth : s.birth p ≡ born) where
+-- a pin that is in the middle had an event
+abbrev pub HadInPin : Option Op → Place → Type 0
+HadInPin (Some (Pin handle page n write)) place = 0 < place.far → place.had ≡ true
+HadInPin op place = Unit {0}
+
+pub had_in_pin : (s : CoreState) (who : Doer) (op : Option Op) (place : Place) → FitsAt s who op place → HadInPin op place
+had_in_pin s who None place fits = tt
+had_in_pin s who (Some (Map page n rights)) place fits = tt
+had_in_pin s who (Some (Unmap page n)) place fits = tt
+had_in_pin s who (Some (Protect page n rights)) place fits = tt
+had_in_pin s who (Some (Discard page n)) place fits = tt
+had_in_pin s who (Some (Load page word)) place fits = tt
+had_in_pin s who (Some (Store page word value)) place fits = tt
+had_in_pin s who (Some (Pin handle page n write)) place fits = fits.1.1
+had_in_pin s who (Some (Unpin handle)) place fits = tt
+had_in_pin s who (Some (Give handle to)) place fits = tt
+had_in_pin s who (Some (Take handle)) place fits = tt
+had_in_pin s who (Some (Transfer handle outward index slot n)) place fits = tt
+had_in_pin s who (Some (Fork child)) place fits = tt
+had_in_pin s who (Some Exit) place fits = tt
+
+module _ (ops : List Op) (s : PlainState) (who : Doer) (place : Place) (birth : birth_for s.birth who ≡ born) where
   -- one note of the present operation
-  one_right : (op : Op) (what : What) → slice_get ops place.answered ≡ Some op → IsRightOf s p place op what → AreRight ops p s place (what ∷ [])
-  one_right op what is right = (subst (λ (o : Option Op). IsRightAt s p place o what) (sym is) right, tt)
+  one_right : (op : Op) (what : What) → slice_get ops place.answered ≡ Some op → IsRightOf s who place op what → AreRight ops who s place (what ∷ [])
+  one_right op what is right = (subst (λ (o : Option Op). IsRightAt s who place o what) (sym is) right, tt)
 
-  event_right : (op : Op) (e : PlainEvent) → CanHappen s e → op_denial s p op ≡ None → TakesLowest s p op e → IsRightOf s p place op (Event e)
-  event_right op e can free lowest = (can, inl (undenied place.had (denial s p op) (denial_born s p op birth ∙ free)), lowest)
+  event_right : (op : Op) (e : PlainEvent) → CanHappen s e → op_denial s who place.far op ≡ None → IsDue s who.proc op place.far e → IsRightOf s who place op (Event e)
+  event_right op e can free due =
+      (can, inl (undenied place.had (denial s who place.far op) (denial_born s who place.far op birth ∙ free)), due)
 
-  done_right : (op : Op) (answer : Answer) → slice_get ops place.answered ≡ Some op → IsAnswerAfter (judged_before op place.had) (denial s p op) answer → Passes s p op place.far → AreRight ops p s place (Done answer ∷ [])
-  done_right op answer is right passes = one_right op (Done answer) is (settled (s.birth p) birth, right, passes)
+  done_right : (op : Op) (answer : Answer) → slice_get ops place.answered ≡ Some op → IsAnswerAfter (judged_before op place.had answer) (denial s who (judged_far place.far answer) op) (refusal_in answer) → Passes s who.proc op place.far → AreRight ops who s place (Done answer ∷ [])
+  done_right op answer is right passes = one_right op (Done answer) is (settled (birth_for s.birth who) birth, right, passes)
 
   -- an event and its answer
-  two_right : (op : Op) (e : PlainEvent) (answer : Answer) → slice_get ops place.answered ≡ Some op → CanHappen s e → op_denial s p op ≡ None → TakesLowest s p op e → is_denial answer ≡ false → (happened s e).birth p ≡ born → Passes (happened s e) p op (place.far + 1) → AreRight ops p s place (Event e ∷ Done answer ∷ [])
-  two_right op e answer is can free lowest plain still passes =
-      let born_then = settled ((happened s e).birth p) still in
-      let judged = after_event (happened s e) p op answer still plain in
-      let first = subst (λ (o : Option Op). IsRightAt s p place o (Event e)) (sym is) (event_right op e can free lowest) in
-      let second = subst (λ (o : Option Op). IsRightAt (happened s e) p (place_after place (Event e)) o (Done answer)) (sym is) (born_then, judged, passes) in
+  then_right : (op : Op) (e : PlainEvent) (answer : Answer) → slice_get ops place.answered ≡ Some op → IsRightOf s who place op (Event e) → birth_for (happened s e).birth who ≡ born → IsAnswerAfter (judged_before op true answer) (denial (happened s e) who (judged_far (place.far + 1) answer) op) (refusal_in answer) → Passes (happened s e) who.proc op (place.far + 1) → AreRight ops who s place (Event e ∷ Done answer ∷ [])
+  then_right op e answer is right still judged passes =
+      let born_then = settled (birth_for (happened s e).birth who) still in
+      let first = subst (λ (o : Option Op). IsRightAt s who place o (Event e)) (sym is) right in
+      let second = subst (λ (o : Option Op). IsRightAt (happened s e) who (place_after place (Event e)) o (Done answer)) (sym is) (born_then, judged, passes) in
       (first, (second, tt))
 
   -- an operation that goes over pages is not denied
-  over_undenied : {op : Op} {page n : ℕ} {event : ℕ → PlainEvent} → GoesOver a p op page n event → op_denial s p op ≡ None
+  over_undenied : {op : Op} {page n : ℕ} {event : ℕ → PlainEvent} → GoesOver who.actor who.proc op page n event → op_denial s who place.far op ≡ None
   over_undenied (unmaps page n) = refl
   over_undenied (discards page n) = refl
 
-  passes_over : {op : Op} {page n : ℕ} {event : ℕ → PlainEvent} → GoesOver a p op page n event → s.right p (page + place.far) ≡ None → Passes s p op place.far
+  passes_over : {op : Op} {page n : ℕ} {event : ℕ → PlainEvent} → GoesOver who.actor who.proc op page n event → s.right who.proc (page + place.far) ≡ None → Passes s who.proc op place.far
   passes_over (unmaps page n) none = λ less. none
   passes_over (discards page n) none = λ less. none
 
-  took_right : (op : Op) (page n : ℕ) (event : ℕ → PlainEvent) → GoesOver a p op page n event → slice_get ops place.answered ≡ Some op → CanHappen s (event (page + place.far)) → AreRight ops p s place (Event (event (page + place.far)) ∷ [])
-  took_right op page n event (unmaps g m) is can = let e = events.Unmap a p (page + place.far) in one_right op (Event e) is (event_right op e can refl tt)
-  took_right op page n event (discards g m) is can = let e = events.Discard a p (page + place.far) in one_right op (Event e) is (event_right op e can refl tt)
+  took_right : (op : Op) (page n : ℕ) (event : ℕ → PlainEvent) → GoesOver who.actor who.proc op page n event → CanHappen s (event (page + place.far)) → IsRightOf s who place op (Event (event (page + place.far)))
+  took_right op page n event (unmaps g m) can = event_right op (events.Unmap who.actor who.proc (page + place.far)) can refl tt
+  took_right op page n event (discards g m) can = event_right op (events.Discard who.actor who.proc (page + place.far)) can refl tt
 
-  took_last_right : (op : Op) (page n : ℕ) (event : ℕ → PlainEvent) → GoesOver a p op page n event → place.far + 1 ≡ n → slice_get ops place.answered ≡ Some op → CanHappen s (event (page + place.far)) → AreRight ops p s place (Event (event (page + place.far)) ∷ Done answers.Plain ∷ [])
-  took_last_right op page n event (unmaps g m) last is can = two_right op (events.Unmap a p (page + place.far)) answers.Plain is can refl tt refl birth (λ less. absurd (omega arith))
-  took_last_right op page n event (discards g m) last is can = two_right op (events.Discard a p (page + place.far)) answers.Plain is can refl tt refl birth (λ less. absurd (omega arith))
+  took_last_right : (op : Op) (page n : ℕ) (event : ℕ → PlainEvent) → GoesOver who.actor who.proc op page n event → place.far + 1 ≡ n → slice_get ops place.answered ≡ Some op → CanHappen s (event (page + place.far)) → AreRight ops who s place (Event (event (page + place.far)) ∷ Done answers.Plain ∷ [])
+  took_last_right op page n event (unmaps g m) last is can =
+      then_right op (events.Unmap who.actor who.proc (page + place.far)) answers.Plain is (took_right op page n event (unmaps g m) can) birth refl (λ less. absurd (omega arith))
+  took_last_right op page n event (discards g m) last is can =
+      then_right op (events.Discard who.actor who.proc (page + place.far)) answers.Plain is (took_right op page n event (discards g m) can) birth refl (λ less. absurd (omega arith))
+
+  -- the answer of a page that is passed last is judged here
+  plain_right : (op : Op) → slice_get ops place.answered ≡ Some op → op_denial s who place.far op ≡ None → Passes s who.proc op place.far → AreRight ops who s place (Done answers.Plain ∷ [])
+  plain_right op is free passes =
+      done_right op answers.Plain is (answers_undenied (judged_before op place.had answers.Plain) (denial s who place.far op) answers.Plain (denial_born s who place.far op birth ∙ free) refl) passes
+
+  -- a word that moves brings no birth
+  still_born : (handle : ℕ) (outward : Bool) (k l value : ℕ) → (happened s (moves_word who.actor handle outward k l value)).birth ≡ s.birth
+  still_born handle true k l value = refl
+  still_born handle false k l value = refl
 
   -- a turn of each shape
-  op_right : (op : Op) {from to : ForkPlace} (whats : List What) → TurnOf s a p place op from whats to → slice_get ops place.answered ≡ Some op → AllCanHappen s (events_of whats) → AreRight ops p s place whats
-  op_right op whats (refused o answer first refusal right passes) is can =
-      let judged : IsAnswerOf (denial s p op) answer = subst (λ (d : Option Answer). IsAnswerOf d answer) (sym (denial_born s p op birth)) right in
-      done_right op answer is (subst (λ (b : Bool). IsAnswerAfter b (denial s p op) answer) (sym (ap (judged_before o) first.1 ∙ judged_first o)) judged) passes
-  op_right op whats (mapped page n rights first free) is can = two_right op (events.Map a p page n rights) answers.Plain is can.0 free tt refl birth tt
-  op_right op whats (protected page n rights first free) is can = two_right op (events.Protect a p page n rights) answers.Plain is can.0 free tt refl birth tt
-  op_right op whats (loaded page word value first free) is can = two_right op (events.Load a p page word value) (answers.Value value) is can.0 free tt refl birth tt
-  op_right op whats (stored page word value first free) is can = two_right op (events.Store a p page word value) answers.Plain is can.0 free tt refl birth tt
-  op_right op whats (took o page n event over more) is can = took_right o page n event over is can.0
-  op_right op whats (took_last o page n event over last) is can = took_last_right o page n event over last is can.0
-  op_right op whats (passed o page n event over more none) is can = one_right op Silent is (passes_over over none)
-  op_right op whats (passed_last o page n event over last none) is can =
-      done_right op answers.Plain is (answers_undenied (judged_before op place.had) (denial s p op) answers.Plain (denial_born s p op birth ∙ over_undenied over) refl) (passes_over over none)
-  op_right op whats (took_lowest page none) is can = let e = events.Unmap a p page in one_right op (Event e) is (event_right op e can.0 refl none)
-  op_right op whats (took_all none) is can =
-      done_right op answers.Plain is (answers_undenied (judged_before op place.had) (denial s p op) answers.Plain (denial_born s p op birth) refl) none
-  op_right op whats (began child first) is can = let e = events.ForkBegin p child in one_right op (Event e) is (event_right op e can.0 refl tt)
-  op_right op whats (passed_page child from page begun up) is can = let e = events.ForkPage p child page in one_right op (Event e) is (event_right op e can.0 refl tt)
-  op_right op whats (counted_page child from page begun up) is can = one_right op Silent is tt
-  op_right op whats (shared_page child page begun) is can = let e = events.ForkPage p child page in one_right op (Event e) is (event_right op e can.0 refl tt)
-  op_right op whats (ended child from begun) is can =
-      two_right op (events.ForkEnd p child) answers.Plain is can.0 refl tt refl (stays_born s.birth p child birth) tt
+  op_right : (op : Op) {from to : ForkPlace} (whats : List What) → TurnOf s who place op from whats to → slice_get ops place.answered ≡ Some op → HadInPin (Some op) place → AllCanHappen s (events_of whats) → AreRight ops who s place whats
+  op_right op whats (refused o answer first refusal right passes) is had can =
+      let judged : IsAnswerOf (denial s who place.far op) answer = subst (λ (d : Option Answer). IsAnswerOf d answer) (sym (denial_born s who place.far op birth)) right in
+      let here = refused_here op answer place.far refusal in
+      let at : IsAnswerOf (denial s who (judged_far place.far answer) op) (refusal_in answer) =
+      subst (λ (k : ℕ). IsAnswerOf (denial s who k op) (refusal_in answer)) (sym here.0) (subst (λ (x : Answer). IsAnswerOf (denial s who place.far op) x) (sym here.1) judged) in
+      done_right op answer is (subst (λ (b : Bool). IsAnswerAfter b (denial s who (judged_far place.far answer) op) (refusal_in answer)) (sym (ap (λ (h : Bool). judged_before op h answer) first.1 ∙ judged_first op answer)) at) passes
+  op_right op whats (mapped page n rights first free) is had can =
+      let e = events.Map who.actor who.proc page n rights in then_right op e answers.Plain is (event_right op e can.0 free tt) birth refl tt
+  op_right op whats (protected page n rights first free) is had can =
+      let e = events.Protect who.actor who.proc page n rights in then_right op e answers.Plain is (event_right op e can.0 free tt) birth refl tt
+  op_right op whats (loaded page word value first free) is had can =
+      let e = events.Load who.actor who.proc page word value in then_right op e (answers.Value value) is (event_right op e can.0 free tt) birth refl tt
+  op_right op whats (stored page word value first free) is had can =
+      let e = events.Store who.actor who.proc page word value in then_right op e answers.Plain is (event_right op e can.0 free tt) birth refl tt
+  op_right op whats (gave handle to first free) is had can =
+      let e = events.Give who.actor handle to in then_right op e answers.Plain is (event_right op e can.0 free tt) birth refl tt
+  op_right op whats (took_over handle first) is had can =
+      let e = events.Take who.actor handle in then_right op e answers.Plain is (event_right op e can.0 refl tt) birth refl tt
+  op_right op whats (took o page n event over more) is had can = one_right op (Event (event (page + place.far))) is (took_right op page n event over can.0)
+  op_right op whats (took_last o page n event over last) is had can = took_last_right op page n event over last is can.0
+  op_right op whats (passed o page n event over more none) is had can = one_right op Silent is (passes_over over none)
+  op_right op whats (passed_last o page n event over last none) is had can = plain_right op is (over_undenied over) (passes_over over none)
+  op_right op whats (took_lowest page none) is had can =
+      let e = events.Unmap who.actor who.proc page in one_right op (Event e) is (event_right op e can.0 refl none)
+  op_right op whats (took_all none) is had can = plain_right op is refl none
+  op_right op whats (pinned_page handle page n write more free) is had can =
+      let e = events.PinTry who.actor who.proc (page + place.far) write in one_right op (Event e) is (event_right op e can.0 free tt)
+  op_right op whats (pinned_all handle page n write last free) is had can =
+      let e : PlainEvent = events.PinTry who.actor who.proc (page + place.far) write in
+      let t : PlainState = happened s e in
+      let ok : PlainEvent = events.PinOk who.actor handle in
+      let u : PlainState = happened t ok in
+      let then : Place = place_after place (Event e) in
+      let first = subst (λ (o : Option Op). IsRightAt s who place o (Event e)) (sym is) (event_right op e can.0 free tt) in
+      let second = subst (λ (o : Option Op). IsRightAt t who then o (Event ok)) (sym is) (can.1.0, inl tt, tt) in
+      let third = subst (λ (o : Option Op). IsRightAt u who (place_after then (Event ok)) o (Done (answers.Pinned n))) (sym is) (settled (birth_for s.birth who) birth, refl, tt) in
+      (first, (second, (third, tt)))
+  op_right op whats (pinned_short handle page n write cause some less end right) is had can =
+      let e : PlainEvent = events.PinOk who.actor handle in
+      let judged : IsAnswerOf (denial s who place.far op) (refusal_of cause) = subst (λ (d : Option Answer). IsAnswerOf d (refusal_of cause)) (sym (denial_born s who place.far op birth)) right in
+      let stands : IsUndeniedAt place.had (denial s who place.far op) = subst (λ (b : Bool). IsUndeniedAt b (denial s who place.far op)) (sym (had some)) tt in
+      then_right op e (answers.Short place.far n cause) is (can.0, inl stands, tt) birth judged tt
+  op_right op whats (unpinned_page handle free more) is had can = one_right op Silent is tt
+  op_right op whats (unpinned_last handle none free last) is had can =
+      let e = events.Unpin who.actor handle in then_right op e answers.Plain is (event_right op e can.0 free last) birth refl tt
+  op_right op whats (moved_word handle outward index slot n value more free) is had can =
+      let e = moves_word who.actor handle outward (index + place.far) (slot + place.far) value in
+      one_right op (Event e) is (event_right op e can.0 free tt)
+  op_right op whats (moved_last handle outward index slot n value last free) is had can =
+      let e = moves_word who.actor handle outward (index + place.far) (slot + place.far) value in
+      let still = ap (λ (f : ℕ → Birth). birth_for f who) (still_born handle outward (index + place.far) (slot + place.far) value) ∙ birth in
+      then_right op e answers.Words is (event_right op e can.0 free tt) still refl tt
+  op_right op whats (began child first) is had can =
+      let e = events.ForkBegin who.proc child in one_right op (Event e) is (event_right op e can.0 refl tt)
+  op_right op whats (passed_page child from page begun up) is had can =
+      let e = events.ForkPage who.proc child page in one_right op (Event e) is (event_right op e can.0 refl tt)
+  op_right op whats (counted_page child from page begun up) is had can = one_right op Silent is tt
+  op_right op whats (shared_page child page begun) is had can =
+      let e = events.ForkPage who.proc child page in one_right op (Event e) is (event_right op e can.0 refl tt)
+  op_right op whats (ended child from begun) is had can =
+      let e : PlainEvent = events.ForkEnd who.proc child in
+      let still = stays_born s.birth who child birth in
+      let judged = answers_undenied false (denial (happened s e) who (place.far + 1) op) answers.Plain (denial_born (happened s e) who (place.far + 1) op still) refl in
+      then_right op e answers.Plain is (event_right op e can.0 refl tt) still judged tt
 
-pub turn_right : (ops : List Op) {s : PlainState} {a p : ℕ} {place : Place} {op : Option Op} {waiting : Option Waiting} {from to : ForkPlace} {whats : List What} → TurnAt s a p place op waiting from whats to → slice_get ops place.answered ≡ op → AllCanHappen s (events_of whats) → AreRight ops p s place whats
-turn_right ops {s = s} {p = p} {place = place} (idles waiting at) is can = (subst (λ (o : Option Op). IsRightAt s p place o Idle) (sym is) tt, tt)
-turn_right ops {s = s} {p = p} {place = place} (waits op waiting at) is can = (subst (λ (o : Option Op). IsRightAt s p place o (Wait waiting)) (sym is) tt, tt)
-turn_right ops {s = s} {a = a} {p = p} {place = place} (goes op whats from to birth turn) is can = op_right ops s a p place birth op whats turn is can
+pub turn_right : (ops : List Op) {s : PlainState} {who : Doer} {place : Place} {op : Option Op} {waiting : Option Waiting} {from to : ForkPlace} {whats : List What} → TurnAt s who place op waiting from whats to → slice_get ops place.answered ≡ op → HadInPin op place → AllCanHappen s (events_of whats) → AreRight ops who s place whats
+turn_right ops {s = s} {who = who} {place = place} (idles waiting at) is had can = (subst (λ (o : Option Op). IsRightAt s who place o Idle) (sym is) tt, tt)
+turn_right ops {s = s} {who = who} {place = place} (waits op waiting at) is had can = (subst (λ (o : Option Op). IsRightAt s who place o (Wait waiting)) (sym is) tt, tt)
+turn_right ops {s = s} {who = who} {place = place} (goes op whats from to birth own turn) is had can = op_right ops s who place birth op whats turn is had can
 
 -- what has been judged behind notes of one actor
 abbrev pub judged_behind : Judged → ℕ → List What → Judged
@@ -157,10 +248,10 @@ judged_step j t a n what whats =
     ap (λ (places : ℕ → Place). record { plain = plain_behind (plain_after j.plain what) whats; places = places }) same
 
 -- a turn's notes, and then the rest
-pub plain_append : (script : ScriptValue) (t a n : ℕ) (whats : List What) (rest : List NoteValue) (j : Judged) → AreRight (ops_of script a) (process_of script a) j.plain (j.places a) whats → ArePlain script (judged_behind j a whats) rest → ArePlain script j (notes_of_turn t a n whats ++ rest)
+pub plain_append : (script : ScriptValue) (t a n : ℕ) (whats : List What) (rest : List NoteValue) (j : Judged) → AreRight (ops_of script a) (doer script a) j.plain (j.places a) whats → ArePlain script (judged_behind j a whats) rest → ArePlain script j (notes_of_turn t a n whats ++ rest)
 plain_append script t a n [] rest j right later = subst (λ (places : ℕ → Place). ArePlain script (record { plain = j.plain; places = places }) rest) (put_own a j.places) later
 plain_append script t a n (what ∷ whats) rest j right later =
     let next = place_after (j.places a) what in
-    let more = subst (λ (q : Place). AreRight (ops_of script a) (process_of script a) (plain_after j.plain what) q whats) (sym (put_same a next j.places)) right.1 in
+    let more = subst (λ (q : Place). AreRight (ops_of script a) (doer script a) (plain_after j.plain what) q whats) (sym (put_same a next j.places)) right.1 in
     let after = subst (λ (k : Judged). ArePlain script k rest) (sym (judged_step j t a n what whats)) later in
     (right.0, plain_append script t a n whats rest (judged_after j (note_of t a n what)) more after)

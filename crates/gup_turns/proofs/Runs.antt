@@ -5,11 +5,11 @@ use Rattle.gup_plain.specs.State.{PlainState}
 use Rattle.gup_script.specs.Script.{ScriptValue}
 use Rattle.gup_events.specs.State.{plain_of}
 use Rattle.gup_follows.specs.Order.{Turn, journal_of}
-use Rattle.gup_follows.specs.Place.{ops_of}
+use Rattle.gup_follows.specs.Place.{doer, ops_of}
 use Rattle.gup_follows.specs.Plain.{Judged, ArePlain}
-use Rattle.gup_turns.specs.Run.{RunState, Runs, turn_in, run_after, taken_in}
+use Rattle.gup_turns.specs.Run.{RunState, Runs, turn_in, run_after, taken_in, op_in}
 use Rattle.gup_turns.proofs.Puts.{some_same}
-use Rattle.gup_turns.proofs.Rightness.{turn_right, plain_append}
+use Rattle.gup_turns.proofs.Rightness.{had_in_pin, turn_right, plain_append}
 use Rattle.gup_turns.proofs.Stands.{stands_on, same_plain, plain_can}
 use Rattle.gup_turns.proofs.Steps.{Stands, taken}
 use Rattle.gup_turns.proofs.Through.{Law}
@@ -41,7 +41,7 @@ plain_run law script valid (turn ∷ turns) number r end h run =
     let a = turn.actor in
     let here = taken script valid r h a in
     let whats = (taken_in script r a).whats in
-    let right = turn_right (ops_of script a) here.shape refl (plain_can law script valid r h a) in
+    let right = turn_right (ops_of script a) here.shape refl (had_in_pin r.core (doer script a) (op_in script r a) (r.places a) (h.fits a)) (plain_can law script valid r h a) in
     let next = run_after script r a in
     let later = plain_run law script valid turns (number + 1) next end (stands_on law script valid r h a) run.2 in
     let after = subst (λ (s : PlainState). ArePlain script (record { plain = s; places = next.places }) (journal_of (number + 1) next.places turns)) (same_plain law script valid r h a) later in

@@ -1,33 +1,36 @@
 -- A turn of an actor that can go takes of the cost, and any other leaves it.
-use Rattle.std.proofs.Common.{◌≡◌, ℕ, ◌+◌, ◌*◌, ◌<◌, ◌≤◌, ◌==◌, true, false, List, [], ◌∷◌, length, All, Option, Some, None, slice_get, get_or, inl, inr, refl, ap, sym, subst, ◌∙◌, zero, suc, arith, add-one}
-use Rattle.std.specs.Prelude.{sum_by}
+use Rattle.std.proofs.Common.{◌≡◌, ℕ, ◌+◌, ◌*◌, ◌<◌, ◌≤◌, ◌==◌, true, false, List, [], ◌∷◌, length, All, Option, Some, None, slice_get, get_or, inl, inr, refl, ap, sym, subst, ◌∙◌, zero, suc, arith, add-one, eqb-true}
+use Rattle.std.specs.Prelude.{◌⊎◌, sum_by}
+use Rattle.std.proofs.lemmas.Bool.Decides.{nat_tests}
 use Rattle.std.proofs.lemmas.List.Sums.{sum_by-cons, sum_by-le}
-use Rattle.std.proofs.lemmas.Option.{slice_get_within}
 use Rattle.gup_base.specs.declared.entry.Rights.{Rights}
 use Rattle.gup_plain.specs.Put.{put}
-use Rattle.gup_plain.specs.State.{Birth, unborn, growing, born, failed}
+use Rattle.gup_plain.specs.State.{Birth, unborn, growing, born, failed, Handle, unmade, held, given, gone, objects_of}
+use Rattle.gup_plain.specs.Denial.{is_held_by}
 use Rattle.gup_plain.specs.declared.note.Waiting.{Waiting}
 use Rattle.gup_script.specs.declared.op.Kind.{Kind}
 use Rattle.gup_script.specs.declared.op.Kind.TheVariants.{Thread, Device, Mover}
 use Rattle.gup_script.specs.declared.op.Op.{Op}
-use Rattle.gup_script.specs.declared.op.Op.TheVariants.{Map, Unmap, Protect, Discard, Load, Store, Fork, Exit}
-use Rattle.gup_script.specs.Script.{ScriptValue, Process, Actor, actor_at}
-use Rattle.gup_script.specs.Valid.{IsScript, IsOp, KindFits, OpsFit, IsChild, BringsChild}
+use Rattle.gup_script.specs.declared.op.Op.TheVariants.{Map, Unmap, Protect, Discard, Load, Store, Pin, Unpin, Give, Take, Transfer, Fork, Exit}
+use Rattle.gup_script.specs.Script.{ScriptValue, Actor, actor_at}
+use Rattle.gup_script.specs.Valid.{IsScript, IsOp, IsOfDevice, KindFits}
 use Rattle.gup_events.specs.State.{CoreState, Job, idle, marking, moving, forking, walking, between, counted, lowered, cleared, copying, failing}
 use Rattle.gup_events.specs.Event.{CoreEvent}
 use Rattle.gup_events.specs.Invariant.{run}
-use Rattle.gup_follows.specs.Place.{Place, place_behind, process_of, process_in, process_of_kind, ops_of, ops_in}
+use Rattle.gup_follows.specs.Place.{Place, Doer, doer, birth_for, is_thread, thread_in, place_behind, process_of, process_in, process_of_kind, ops_of, ops_in}
 use Rattle.gup_turns.specs.Cost.{fork_left, op_cost, op_left, left_cost, actor_cost, cost, operations, IsBoundedTurn, IsWithinBound}
 use Rattle.gup_turns.specs.Pages.{sum_below, mapped_pages}
-use Rattle.gup_turns.specs.Reached.{IsStanding, IsNoFork, StandsFork, fork_place}
+use Rattle.gup_turns.specs.Reached.{IsStanding, IsNoFork, StandsFork, StandsHandle, given_back, back_in, fork_place}
 use Rattle.gup_turns.specs.Run.{RunState, run_start, run_after, op_in, waiting_in, waiting_with, taken_by, taken_in, is_ready, can_go}
-use Rattle.gup_turns.specs.Turn.{waits_at, waits_for_locks, locks_needed}
+use Rattle.gup_turns.specs.Turn.{waits_at, waits_born, turn_at, failed_turn, op_turn}
 use Rattle.gup_turns.proofs.Bounds.{TakesCost}
 use Rattle.gup_turns.proofs.ForkBounds.{IsSpent, StandsAt, turn_spent}
 use Rattle.gup_turns.proofs.Mapped.{mapped_none}
 use Rattle.gup_turns.proofs.Puts.{put_same, put_other, put_own}
-use Rattle.gup_turns.specs.ScriptLemmas.{all_at, has_ops_declared}
-use Rattle.gup_turns.proofs.Shapes.{child_of}
+use Rattle.gup_turns.proofs.Ordering.{unfailed_for}
+use Rattle.gup_turns.proofs.PinBounds.{kept_rights}
+use Rattle.gup_turns.specs.ScriptLemmas.{all_at, has_ops_declared, child_declared, is_of_thread, thread_birth}
+use Rattle.gup_turns.proofs.Shapes.{HasLeft, IsOfProcess, child_of}
 use Rattle.gup_turns.proofs.Sums.{sum_at, sum_same, sum_zero, sum_of_list}
 
 -- what an actor has left
@@ -50,6 +53,11 @@ left_op s a rests (Protect page n rights) = refl
 left_op s a rests (Discard page n) = omega arith
 left_op s a rests (Load page word) = refl
 left_op s a rests (Store page word value) = refl
+left_op s a rests (Pin handle page n write) = omega arith
+left_op s a rests (Unpin handle) = omega arith
+left_op s a rests (Give handle to) = refl
+left_op s a rests (Take handle) = refl
+left_op s a rests (Transfer handle outward index slot n) = omega arith
 left_op s a rests (Fork child) = ap (λ (j : Job). fork_left (s.right child) (fork_place j)) rests
 left_op s a rests Exit = refl
 
@@ -116,49 +124,68 @@ op_stays script r h t b job grown (Protect page n rights) is = refl
 op_stays script r h t b job grown (Discard page n) is = refl
 op_stays script r h t b job grown (Load page word) is = refl
 op_stays script r h t b job grown (Store page word value) is = refl
+op_stays script r h t b job grown (Pin handle page n write) is = refl
+op_stays script r h t b job grown (Unpin handle) is = refl
+op_stays script r h t b job grown (Give handle to) is = refl
+op_stays script r h t b job grown (Take handle) is = refl
+op_stays script r h t b job grown (Transfer handle outward index slot n) is = refl
 op_stays script r h t b job grown (Fork child) is =
     fork_stays r.core t b (process_of script b) child (r.core.job b) (h.forks b child is) refl job (grown child (process_of script b))
 op_stays script r h t b job grown Exit is = refl
 
--- the process of an actor that has an operation is declared
-process_declared : (script : ScriptValue) → IsScript script → (a k : ℕ) (op : Op) (actor : Option Actor) → actor_at script a ≡ actor → slice_get (ops_in actor) k ≡ Some op → process_in actor < length script.processes
-process_declared script valid a k op None is there = absurd (cc there)
-process_declared script valid a k op (Some actor) is there =
-    of_kind actor.kind (all_at (λ (x : Actor). KindFits script x.kind) script.actors a actor valid.kinds is)
-    (all_at (λ (x : Actor). OpsFit x.kind (length x.ops)) script.actors a actor valid.ops_fit is)
+-- the process of a thread is declared
+process_declared : (script : ScriptValue) → IsScript script → (a : ℕ) (actor : Option Actor) → actor_at script a ≡ actor → thread_in actor ≡ true → process_in actor < length script.processes
+process_declared script valid a None is thread = absurd (cc thread)
+process_declared script valid a (Some actor) is thread =
+    of_kind actor.kind (all_at (λ (x : Actor). KindFits script x.kind) script.actors a actor valid.kinds is) thread
   where
-    some : k < length actor.ops
-    some = slice_get_within actor.ops k op there
+    of_kind : (kind : Kind) → KindFits script kind → is_thread kind ≡ true → process_of_kind kind < length script.processes
+    of_kind (Thread p) fits thread = fits
+    of_kind (Device slots) fits thread = absurd (cc thread)
+    of_kind Mover fits thread = absurd (cc thread)
 
-    of_kind : (kind : Kind) → KindFits script kind → OpsFit kind (length actor.ops) → process_of_kind kind < length script.processes
-    of_kind (Thread p) fits few = fits
-    of_kind (Device slots) fits few = absurd (let more = some in omega arith)
-    of_kind Mover fits few = absurd (let more = some in omega arith)
+pub has_process : (script : ScriptValue) → IsScript script → (a : ℕ) → (doer script a).thread ≡ true → process_of script a < length script.processes
+has_process script valid a thread = process_declared script valid a (actor_at script a) refl thread
 
-pub has_process : (script : ScriptValue) → IsScript script → (a k : ℕ) (op : Op) → slice_get (ops_of script a) k ≡ Some op → process_of script a < length script.processes
-has_process script valid a k op there = process_declared script valid a k op (actor_at script a) refl there
+-- an operation of a process is none of a device
+process_no_device : (op : Op) → IsOfProcess op → IsOfDevice op → ⊥
+process_no_device op of device = grind arith
 
--- and so is the child that it brings
-child_declared : (script : ScriptValue) (child : ℕ) (process : Option Process) → slice_get script.processes child ≡ process → IsChild process → child < length script.processes
-child_declared script child None is brings = absurd brings
-child_declared script child (Some process) is brings = slice_get_within script.processes child process is
+-- the pages of its process, or of the child that it brings, are those of a declared one; or it is of no process
+pub has_child : (script : ScriptValue) → IsScript script → (a k : ℕ) (op : Op) → slice_get (ops_of script a) k ≡ Some op → (child_of (process_of script a) (Some op) < length script.processes) ⊎ (IsOfProcess op → ⊥)
+has_child script valid a k op there = go op there
+  where
+    own : (o : Op) → IsOfProcess o → slice_get (ops_of script a) k ≡ Some o → process_of script a < length script.processes
+    own o of is = has_process script valid a (is_of_thread script valid a k o is (process_no_device o of))
 
-brings_child : (script : ScriptValue) → IsScript script → (a k : ℕ) (op : Op) (actor : Option Actor) → actor_at script a ≡ actor → slice_get (ops_in actor) k ≡ Some op → BringsChild script op
-brings_child script valid a k op None is there = absurd (cc there)
-brings_child script valid a k op (Some actor) is there =
-    all_at (BringsChild script) actor.ops k op (all_at (λ (x : Actor). All (BringsChild script) x.ops) script.actors a actor valid.children is) there
-
-pub has_child : (script : ScriptValue) → IsScript script → (a k : ℕ) (op : Op) → slice_get (ops_of script a) k ≡ Some op → child_of (process_of script a) (Some op) < length script.processes
-has_child script valid a k (Map page n rights) there = has_process script valid a k (Map page n rights) there
-has_child script valid a k (Unmap page n) there = has_process script valid a k (Unmap page n) there
-has_child script valid a k (Protect page n rights) there = has_process script valid a k (Protect page n rights) there
-has_child script valid a k (Discard page n) there = has_process script valid a k (Discard page n) there
-has_child script valid a k (Load page word) there = has_process script valid a k (Load page word) there
-has_child script valid a k (Store page word value) there = has_process script valid a k (Store page word value) there
-has_child script valid a k (Fork child) there = child_declared script child (slice_get script.processes child) refl (brings_child script valid a k (Fork child) (actor_at script a) refl there)
-has_child script valid a k Exit there = has_process script valid a k Exit there
+    go : (o : Op) → slice_get (ops_of script a) k ≡ Some o → (child_of (process_of script a) (Some o) < length script.processes) ⊎ (IsOfProcess o → ⊥)
+    go (Map page n rights) is = inl (own (Map page n rights) tt is)
+    go (Unmap page n) is = inl (own (Unmap page n) tt is)
+    go (Protect page n rights) is = inl (own (Protect page n rights) tt is)
+    go (Discard page n) is = inl (own (Discard page n) tt is)
+    go (Load page word) is = inl (own (Load page word) tt is)
+    go (Store page word value) is = inl (own (Store page word value) tt is)
+    go (Pin handle page n write) is = inl (own (Pin handle page n write) tt is)
+    go (Unpin handle) is = inr (λ e. e)
+    go (Give handle to) is = inr (λ e. e)
+    go (Take handle) is = inr (λ e. e)
+    go (Transfer handle outward index slot n) is = inr (λ e. e)
+    go (Fork child) is = inl (child_declared script valid a k child is)
+    go Exit is = inl (own Exit tt is)
 
 -- the turn of an actor that can go
+
+-- of a pin that the actor holds, what is left
+left_of : (back : ℕ → ℕ) (pinned : List ℕ) (x : Handle) (a : ℕ) → StandsHandle back pinned x → is_held_by x a ≡ true → (0 < length pinned) × (length pinned + back a ≡ length (objects_of x))
+left_of back pinned unmade a stands is = absurd (cc is)
+left_of back pinned gone a stands is = absurd (cc is)
+left_of back pinned (given to objects write) a stands is = absurd (cc is)
+left_of back pinned (held by objects write) a stands is =
+    let same : by ≡ a = eqb-true by a is in
+    (stands.0, subst (λ (k : ℕ). length pinned + back k ≡ length objects) same stands.2)
+
+gives_back_far : (handle far : ℕ) → given_back (Some (Unpin handle)) handle far ≡ far
+gives_back_far handle far = grind (arith, nat_tests)
 
 -- where an operation stands
 stands_at : (script : ScriptValue) (r : RunState) → IsStanding script r → (a : ℕ) (op : Op) → op_in script r a ≡ Some op → StandsAt r.core a (process_of script a) (r.places a) op
@@ -167,6 +194,12 @@ stands_at script r h a op is = go op is
     rests : (op : Op) → IsNoFork (Some op) → op_in script r a ≡ Some op → r.core.job a ≡ idle
     rests op none is = h.idle_jobs a (subst IsNoFork (sym is) none)
 
+    left : (handle : ℕ) → op_in script r a ≡ Some (Unpin handle) → HasLeft r.core a handle (r.places a).far
+    left handle is holds =
+        let has = left_of (back_in script r handle) (r.core.pinned handle) (r.core.handle handle) a (h.handles handle) holds in
+        let back : back_in script r handle a ≡ (r.places a).far = ap (λ (o : Option Op). given_back o handle (r.places a).far) is ∙ gives_back_far handle (r.places a).far in
+        (has.0, ap (λ (k : ℕ). length (r.core.pinned handle) + k) (sym back) ∙ has.1)
+
     go : (op : Op) → op_in script r a ≡ Some op → StandsAt r.core a (process_of script a) (r.places a) op
     go (Map page n rights) is = (rests (Map page n rights) tt is, tt)
     go (Unmap page n) is = (rests (Unmap page n) tt is, h.unmaps a page n is)
@@ -174,24 +207,59 @@ stands_at script r h a op is = go op is
     go (Discard page n) is = (rests (Discard page n) tt is, h.discards a page n is)
     go (Load page word) is = (rests (Load page word) tt is, tt)
     go (Store page word value) is = (rests (Store page word value) tt is, tt)
+    go (Pin handle page n write) is = (rests (Pin handle page n write) tt is, (h.pins a handle page n write is).within)
+    go (Unpin handle) is = (rests (Unpin handle) tt is, (h.unpins a handle is, left handle is))
+    go (Give handle to) is = (rests (Give handle to) tt is, tt)
+    go (Take handle) is = (rests (Take handle) tt is, tt)
+    go (Transfer handle outward index slot n) is = (rests (Transfer handle outward index slot n) tt is, h.transfers a handle outward index slot n is)
     go (Fork child) is = h.forks a child is
     go Exit is = (rests Exit tt is, tt)
 
--- an actor whose process hasn't failed goes on only once that is born
-born_of : (b : Birth) (p : ℕ) (locks : Option Waiting) → waits_at b p locks ≡ None → (b ≡ failed → ⊥) → b ≡ born
-born_of unborn p locks free unfailed = absurd (cc free)
-born_of (growing parent) p locks free unfailed = absurd (cc free)
-born_of born p locks free unfailed = refl
-born_of failed p locks free unfailed = absurd (unfailed refl)
+-- an actor whose process hasn't failed goes on only once it waits for no birth
+born_of : (b : Birth) (p : ℕ) (others : Option Waiting) → waits_at b p others ≡ None → (b ≡ failed → ⊥) → b ≡ born
+born_of unborn p others free unfailed = absurd (cc free)
+born_of (growing parent) p others free unfailed = absurd (cc free)
+born_of born p others free unfailed = refl
+born_of failed p others free unfailed = absurd (unfailed refl)
 
-pub spent_turn : (script : ScriptValue) (r : RunState) → IsStanding script r → (a : ℕ) (op : Op) → op_in script r a ≡ Some op → waiting_in script r a ≡ None → IsSpent r.core a (process_of script a) (r.places a) op (taken_in script r a)
-spent_turn script r h a op is free =
+goes_born : (script : ScriptValue) (r : RunState) → IsStanding script r → (a : ℕ) (op : Op) → op_in script r a ≡ Some op → waiting_in script r a ≡ None → birth_for r.core.birth (doer script a) ≡ born
+goes_born script r h a op is free =
+    let who : Doer = doer script a in
+    let unwaiting : waiting_with r.core who (Some op) ≡ None = subst (λ (o : Option Op). waiting_with r.core who o ≡ None) is free in
+    born_of (birth_for r.core.birth who) who.proc (waits_born r.core who.actor who.proc op) unwaiting (unfailed_for who r.core.birth (h.unfailed who.proc))
+
+pub spent_turn : (script : ScriptValue) → IsScript script → (r : RunState) → IsStanding script r → (a : ℕ) (op : Op) → op_in script r a ≡ Some op → waiting_in script r a ≡ None → IsSpent r.core a (process_of script a) (r.places a) op (taken_in script r a)
+spent_turn script valid r h a op is free =
+    let who : Doer = doer script a in
     let p : ℕ = process_of script a in
-    let P : Option Op → Option Waiting → Type 0 = λ o w. IsSpent r.core a p (r.places a) op (taken_by r.core a p (r.places a).far o w) in
-    let unwaiting : waiting_with r.core a p (Some op) ≡ None = subst (λ (o : Option Op). waiting_with r.core a p o ≡ None) is free in
-    let birth = born_of (r.core.birth p) p (waits_for_locks (locks_needed r.core a p op) a (r.core.structure p) (r.core.table p)) unwaiting (h.unfailed p) in
-    let spent : P (Some op) None = turn_spent r.core a p (r.places a) op birth (h.unpinned p) (h.few_pages p) (stands_at script r h a op is) in
+    let k : ℕ = (r.places a).answered in
+    let P : Option Op → Option Waiting → Type 0 = λ o w. IsSpent r.core a p (r.places a) op (taken_by r.core who (r.places a).far o w) in
+    let birth = goes_born script r h a op is free in
+    let own : IsOfProcess op → r.core.birth p ≡ born =
+    λ of. sym (thread_birth who r.core.birth (is_of_thread script valid a k op is (process_no_device op of))) ∙ birth in
+    let unpinned : (child : ℕ) → op ≡ Fork child → r.core.has_pinned p ≡ false =
+    λ child same. h.unpinned a k child (is ∙ ap (λ (o : Op). Some o) same) p in
+    let spent : P (Some op) None = turn_spent r.core who (r.places a) op birth own unpinned (h.few_pages p) (stands_at script r h a op is) in
     subst (λ (w : Option Waiting). P (op_in script r a) w) (sym free) (subst (λ (o : Option Op). P o None) (sym is) spent)
+
+-- what is of no process leaves all mappings
+kept_turn : (script : ScriptValue) (r : RunState) → IsStanding script r → (a : ℕ) (op : Op) → op_in script r a ≡ Some op → waiting_in script r a ≡ None → (IsOfProcess op → ⊥) → (run r.core (taken_in script r a).events).right ≡ r.core.right
+kept_turn script r h a op is free none =
+    let who : Doer = doer script a in
+    let far : ℕ = (r.places a).far in
+    let P : Option Op → Option Waiting → Type 0 = λ o w. (run r.core (taken_by r.core who far o w).events).right ≡ r.core.right in
+    let birth = goes_born script r h a op is free in
+    let kept : P (Some op) None =
+    subst (λ (b : Birth). (run r.core (turn_at b (failed_turn who.actor who.proc op) (op_turn r.core who.actor who.proc who.slots far op)).events).right ≡ r.core.right) (sym birth) (kept_rights r.core who.actor who.proc who.slots far op none) in
+    subst (λ (w : Option Waiting). P (op_in script r a) w) (sym free) (subst (λ (o : Option Op). P o None) (sym is) kept)
+
+-- the mapped pages of all processes change as those of the one process do
+pages_change : (n q : ℕ) (s t : CoreState) → (q < n) ⊎ (t.right ≡ s.right) → ((k : ℕ) → (k == q) ≡ false → t.right k ≡ s.right k) → sum_below n (λ k. mapped_pages (t.right k)) + mapped_pages (s.right q) ≡ sum_below n (λ k. mapped_pages (s.right k)) + mapped_pages (t.right q)
+pages_change n q s t (inl less) others = sum_at n (λ k. mapped_pages (t.right k)) (λ k. mapped_pages (s.right k)) q less (λ k apart. ap mapped_pages (others k apart))
+pages_change n q s t (inr same) others =
+    let all = ap (λ (f : ℕ → ℕ → Option Rights). sum_below n (λ k. mapped_pages (f k))) same in
+    let one = ap (λ (f : ℕ → ℕ → Option Rights). mapped_pages (f q)) same in
+    omega (arith, all, one)
 
 -- the place of the actor behind its turn
 abbrev pub next_place : ScriptValue → RunState → ℕ → Place
@@ -206,17 +274,18 @@ spent_by script valid r h a op is free =
     let t : CoreState = run r.core (taken_in script r a).events in
     let after : RunState = run_after script r a in
     let next : Place = next_place script r a in
-    let spent = spent_turn script r h a op is free in
+    let spent = spent_turn script valid r h a op is free in
     let less = actor_takes r.core t a (ops_of script a) op (r.places a) next (mapped_pages (r.core.right q)) (mapped_pages (t.right q)) is spent.takes in
     let there : a < length script.actors = has_ops_declared script a (r.places a).answered op is in
-    let named : q < length script.processes = has_child script valid a (r.places a).answered op is in
+    let named : (q < length script.processes) ⊎ (t.right ≡ r.core.right) =
+    elim (has_child script valid a (r.places a).answered op is) [ inl declared ↦ inl declared | inr none ↦ inr (kept_turn script r h a op is free none) ] in
     let other : (b : ℕ) → (b == a) ≡ false → actor_cost script after b ≡ actor_cost script r b =
     λ b apart.
     ap (λ (place : Place). left_cost t b (ops_of script b) place.answered place.far) (put_other a b next r.places apart)
     ∙ left_same r.core t b (ops_of script b) (r.places b).answered (r.places b).far (op_stays script r h t b (spent.jobs b apart) spent.grown) in
     let here : actor_cost script after a ≡ left_cost t a (ops_of script a) next.answered next.far = ap (λ (place : Place). left_cost t a (ops_of script a) place.answered place.far) (put_same a next r.places) in
     let actors = sum_at (length script.actors) (actor_cost script after) (actor_cost script r) a there other in
-    let pages = sum_at (length script.processes) (λ k. mapped_pages (t.right k)) (λ k. mapped_pages (r.core.right k)) q named (λ k apart. ap mapped_pages (spent.others k apart)) in
+    let pages = pages_change (length script.processes) q r.core t named spent.others in
     omega (arith, less, here, actors, pages)
 
 pub spent_turns : (script : ScriptValue) → IsScript script → (r : RunState) → IsStanding script r → (a : ℕ) → can_go script r a ≡ true → cost script (run_after script r a) < cost script r
@@ -231,8 +300,8 @@ spent_turns script valid r h a goes = by_parts (op_in script r a) (waiting_in sc
 
 abbrev pub IsIdleBy : ScriptValue → RunState → ℕ → Option Op → Option Waiting → Type 0
 IsIdleBy script r a op waiting =
-    ((taken_by r.core a (process_of script a) (r.places a).far op waiting).events ≡ [])
-    × (place_behind (r.places a) (taken_by r.core a (process_of script a) (r.places a).far op waiting).whats ≡ r.places a)
+    ((taken_by r.core (doer script a) (r.places a).far op waiting).events ≡ [])
+    × (place_behind (r.places a) (taken_by r.core (doer script a) (r.places a).far op waiting).whats ≡ r.places a)
 
 idle_by : (script : ScriptValue) (r : RunState) (a : ℕ) (op : Option Op) (waiting : Option Waiting) → is_ready op waiting ≡ false → IsIdleBy script r a op waiting
 idle_by script r a None waiting stays = (refl, refl)
@@ -260,6 +329,11 @@ most_of (Protect page n rights) range = omega arith
 most_of (Discard page n) range = let few = range.1 in omega arith
 most_of (Load page word) range = omega arith
 most_of (Store page word value) range = omega arith
+most_of (Pin handle page n write) range = let few = range.1 in omega arith
+most_of (Unpin handle) range = omega arith
+most_of (Give handle to) range = omega arith
+most_of (Take handle) range = omega arith
+most_of (Transfer handle outward index slot n) range = let few = range.1 in omega arith
 most_of (Fork child) range = omega arith
 most_of Exit range = omega arith
 
@@ -286,8 +360,8 @@ first_cost script valid =
     omega (arith, same, actors, most, pages)
 
 -- the bounds on an operation's own turns
-pub bounded_turn : (script : ScriptValue) (r : RunState) → IsStanding script r → (a : ℕ) (op : Op) → op_in script r a ≡ Some op → waiting_in script r a ≡ None → IsBoundedTurn script r a op
-bounded_turn script r h a op is free =
-    let spent = spent_turn script r h a op is free in
+pub bounded_turn : (script : ScriptValue) → IsScript script → (r : RunState) → IsStanding script r → (a : ℕ) (op : Op) → op_in script r a ≡ Some op → waiting_in script r a ≡ None → IsBoundedTurn script r a op
+bounded_turn script valid r h a op is free =
+    let spent = spent_turn script valid r h a op is free in
     let here : (run_after script r a).places a ≡ next_place script r a = put_same a (next_place script r a) r.places in
     subst (λ (q : Place). IsWithinBound op a (process_of script a) (r.places a) q r.core (run_after script r a).core) (sym here) spent.bound

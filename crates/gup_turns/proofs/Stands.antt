@@ -1,32 +1,39 @@
 -- What stands between two turns of a run stands at its start, and each turn keeps it.
-use Rattle.std.proofs.Common.{◌≡◌, ℕ, ◌+◌, ◌<◌, ◌==◌, Bool, true, false, List, [], length, Option, Some, None, IsSome, ◌⊎◌, inl, inr, refl, sym, ap, ◌∙◌, subst, eqb-true, if◌then◌else◌, arith}
+use Rattle.std.proofs.Common.{◌≡◌, ℕ, ◌+◌, ◌<◌, ◌≤◌, ◌==◌, ◌&&◌, Bool, true, false, List, [], ◌∷◌, length, slice_get, Option, Some, None, IsSome, ◌⊎◌, inl, inr, refl, sym, ap, ◌∙◌, subst, eqb-true, if◌then◌else◌, arith}
+use Rattle.std.proofs.Math.Path.{subst₂}
 use Rattle.std.proofs.lemmas.Bool.Decides.{nat_tests}
 use Rattle.std.proofs.lemmas.Option.{slice_get_within}
 use Rattle.gup_base.specs.declared.entry.Entry.{Entry}
 use Rattle.gup_base.specs.declared.entry.Rights.{Rights}
-use Rattle.gup_script.specs.Valid.{IsScript, IsChild, ForksAt}
-use Rattle.gup_plain.specs.State.{PlainState, unborn, growing, born, failed}
+use Rattle.gup_script.specs.Valid.{IsScript, IsChild, AreDeclared, ForksAt, PinsAt}
+use Rattle.gup_plain.specs.Denial.{is_held_by, transfer_denial, transfer_denial_by, has_words, has_slots}
+use Rattle.gup_plain.specs.Event.{IsHeldBy, IsGivenTo, may_write}
+use Rattle.gup_plain.specs.State.{PlainState, Birth, unborn, growing, born, failed, Handle, unmade, held, given, gone, objects_of}
+use Rattle.gup_plain.specs.declared.answer.Answer.{Answer}
 use Rattle.gup_plain.specs.declared.event.PlainEvent.{PlainEvent}
 use Rattle.gup_plain.specs.declared.note.What.{What}
 use Rattle.gup_plain.specs.declared.note.Waiting.{Waiting}
-use Rattle.gup_script.specs.Script.{ScriptValue, Process, process_at}
+use Rattle.gup_script.specs.Script.{ScriptValue, Process, actor_at, process_at}
 use Rattle.gup_script.specs.declared.op.Op.{Op}
-use Rattle.gup_script.specs.declared.op.Op.TheVariants.{Map, Unmap, Protect, Discard, Load, Store, Fork, Exit}
+use Rattle.gup_script.specs.declared.op.Op.TheVariants.{Map, Unmap, Protect, Discard, Load, Store, Pin, Unpin, Give, Take, Transfer, Fork, Exit}
 use Rattle.gup_events.specs.State.{CoreState, Job, idle, marking, moving, forking, walking, between, counted, lowered, cleared, copying, failing, plain_of, start}
+use Rattle.gup_events.specs.Event.{CoreEvent}
 use Rattle.gup_events.specs.Invariant.{run}
 use Rattle.gup_events.specs.Sound.{IsSound}
 use Rattle.gup_follows.specs.Order.{plain_behind}
-use Rattle.gup_follows.specs.Place.{Place, place_behind, process_of, present_op, is_born, starts_born}
-use Rattle.gup_turns.specs.Reached.{ForkPlace, IsForking, HasCounted}
+use Rattle.gup_follows.specs.Place.{Place, Doer, doer, place_behind, process_of, ops_of, present_op, birth_by, birth_for, is_born, starts_born}
+use Rattle.gup_turns.specs.Reached.{ForkPlace, IsForking, HasCounted, HasTaken, StandsPin, StandsHandle, given_back, back_in}
 use Rattle.gup_turns.specs.Run.{RunState, run_start, run_after, op_in, waiting_in, taken_by, taken_in}
-use Rattle.gup_turns.specs.Turn.{Taken}
-use Rattle.gup_turns.proofs.Calm.{starts_calm}
-use Rattle.gup_turns.proofs.Few.{IsFew, few_kept, few_first}
-use Rattle.gup_turns.proofs.Leaving.{OfProcess, of_process, Leaves, IsBarred, apart, leaves, stays_calm, stays_born, failed_before, stays_barred}
-use Rattle.gup_turns.proofs.Puts.{some_same}
-use Rattle.gup_turns.specs.ScriptLemmas.{child_is, child_declared}
+use Rattle.gup_turns.specs.Turn.{Taken, turn_at, failed_turn, unpin_turn, unpin_turn_by, last_of, but_last, give_turn, give_turn_by, take_turn, transfer_turn, transfer_turn_by, word_turn, frame_at, moves_value}
+use Rattle.gup_turns.proofs.Calm.{starts_calm, Strand, of_pages, of_pin, of_handle, AreHandleEvents, unpinning, giving, taking_over, moving_out, moving_in}
+use Rattle.gup_turns.proofs.Few.{IsFew, few_kept, few_handles, few_first}
+use Rattle.gup_turns.proofs.Leaving.{OfProcess, of_process, Leaves, IsBarred, apart, same_or_apart, put_apart, leaves, stays_calm, stays_born, failed_before, stays_barred, LeavesAll, handles_leave, LeavesPinsOf, leaves_pins, one_holder, held_ungiven, held_made}
+use Rattle.gup_turns.proofs.PinChanges.{Change, changed_stands, first_back, same_pin, same_handle, turn_changes}
+use Rattle.gup_turns.proofs.Places.{next_place, IsBehind, goes_on, is_over, IsBehindTurn, stays_there, goes_by, op_behind, turn_behind}
+use Rattle.gup_turns.proofs.Puts.{some_same, put_same}
+use Rattle.gup_turns.specs.ScriptLemmas.{ops_at, child_is, child_declared, is_of_thread, thread_birth}
 use Rattle.gup_turns.proofs.Scripts.{fresh_place, fresh_fits}
-use Rattle.gup_turns.proofs.Shapes.{FitsFork, FitsAt, TurnOf, refused, mapped, protected, loaded, stored, took, took_last, passed, passed_last, took_lowest, took_all, began, passed_page, counted_page, shared_page, ended, TurnAt, idles, waits, goes, child_of}
+use Rattle.gup_turns.proofs.Shapes.{FitsFork, FitsAt, Rests, HasLeft, IsOfProcess, TurnAt, idles, waits, goes, child_of, strand_of}
 use Rattle.gup_turns.proofs.Steps.{Stands, IsAhead, IsTaken, taken}
 use Rattle.gup_turns.proofs.Through.{Law, leads, plain_through, plain_behind-through, AllCanHappen, events_of}
 use Rattle.gup_turns.proofs.Turned.{FitsNext}
@@ -57,71 +64,111 @@ ahead_more n far k had (inl less) = less
 ahead_more n far k had (inr same) = absurd (let e = same.1 in omega (arith, e))
 
 -- behind a turn of its present operation an actor has begun that, and no later one
-ahead_on : {s : PlainState} {a p : ℕ} {place : Place} {op : Op} {whats : List What} {from to : ForkPlace} → TurnOf s a p place op from whats to → (k : ℕ) → IsAhead (place_behind place whats) k → place.answered < k
-ahead_on {place = place} (refused op answer first refusal right passes) k ahead = ahead_next place.answered k ahead
-ahead_on {place = place} (mapped page n rights first undenied) k ahead = ahead_next place.answered k ahead
-ahead_on {place = place} (protected page n rights first undenied) k ahead = ahead_next place.answered k ahead
-ahead_on {place = place} (loaded page word value first undenied) k ahead = ahead_next place.answered k ahead
-ahead_on {place = place} (stored page word value first undenied) k ahead = ahead_next place.answered k ahead
-ahead_on {place = place} (took op page n event over more) k ahead = ahead_more place.answered place.far k true ahead
-ahead_on {place = place} (took_last op page n event over last) k ahead = ahead_next place.answered k ahead
-ahead_on {place = place} (passed op page n event over more none) k ahead = ahead_more place.answered place.far k place.had ahead
-ahead_on {place = place} (passed_last op page n event over last none) k ahead = ahead_next place.answered k ahead
-ahead_on {place = place} (took_lowest page none) k ahead = ahead_more place.answered place.far k true ahead
-ahead_on {place = place} (took_all none) k ahead = ahead_next place.answered k ahead
-ahead_on {place = place} (began child first) k ahead = ahead_more place.answered place.far k true ahead
-ahead_on {place = place} (passed_page child from page begun least) k ahead = ahead_more place.answered place.far k true ahead
-ahead_on {place = place} (counted_page child from page begun least) k ahead = ahead_more place.answered place.far k place.had ahead
-ahead_on {place = place} (shared_page child page begun) k ahead = ahead_more place.answered place.far k true ahead
-ahead_on {place = place} (ended child from begun) k ahead = ahead_next place.answered k ahead
+ahead_on : {t : CoreState} {who : Doer} {op : Option Op} {place : Place} {whats : List What} → IsBehind t who op place whats → (k : ℕ) → IsAhead (place_behind place whats) k → place.answered < k
+ahead_on {place = place} (goes_on had is fits) k ahead = ahead_more place.answered place.far k had (subst (λ (q : Place). IsAhead q k) is ahead)
+ahead_on {place = place} (is_over is rests) k ahead = ahead_next place.answered k (subst (λ (q : Place). IsAhead q k) is ahead)
 
 -- so an operation that has not begun behind the turn had not begun before it
-ahead_before : {s : PlainState} {a p : ℕ} {place : Place} {op : Option Op} {waiting : Option Waiting} {whats : List What} {from to : ForkPlace} → TurnAt s a p place op waiting from whats to → (k : ℕ) → IsAhead (place_behind place whats) k → IsAhead place k
-ahead_before (idles waiting at) k ahead = ahead
-ahead_before (waits op waiting at) k ahead = ahead
-ahead_before (goes op whats from to birth turn) k ahead = inl (ahead_on turn k ahead)
+ahead_before : {t : CoreState} {who : Doer} {op : Option Op} {place : Place} {whats : List What} → IsBehindTurn t who op place whats → (k : ℕ) → IsAhead (place_behind place whats) k → IsAhead place k
+ahead_before (stays_there is fits) k ahead = subst (λ (q : Place). IsAhead q k) is ahead
+ahead_before (goes_by behind) k ahead = inl (ahead_on behind k ahead)
 
--- The turn of an actor that goes on: its process is born, and behind it the present operation has begun. Any other turn
--- has no events.
+-- a turn takes back no answer
+answered_least : {t : CoreState} {who : Doer} {op : Option Op} {place : Place} {whats : List What} → IsBehindTurn t who op place whats → place.answered ≤ (place_behind place whats).answered
+answered_least {place = place} (stays_there is fits) = subst (λ (q : Place). place.answered ≤ q.answered) (sym is) (omega arith)
+answered_least {place = place} (goes_by (goes_on had is fits)) = subst (λ (q : Place). place.answered ≤ q.answered) (sym is) (omega arith)
+answered_least {place = place} (goes_by (is_over is rests)) = subst (λ (q : Place). place.answered ≤ q.answered) (sym is) (omega arith)
+
+-- The turn of an actor that goes on in a process: that is born, and behind the turn the present operation has begun. Any
+-- other turn is about a handle, or has no events.
 pub record IsGoing (place : Place) (p : ℕ) (s : PlainState) (whats : List What) : Type 0 where
   pub birth : s.birth p ≡ born
   pub later : (k : ℕ) → IsAhead (place_behind place whats) k → place.answered < k
 
-still_or_going : {pl : PlainState} {place : Place} {from to : ForkPlace} {whats : List What} {op : Option Op} {waiting : Option Waiting} (s : CoreState) (a p far : ℕ) → TurnAt pl a p place op waiting from whats to → ((taken_by s a p far op waiting).events ≡ []) ⊎ IsGoing place p pl whats
-still_or_going s a p far (idles waiting at) = inl refl
-still_or_going s a p far (waits op waiting at) = inl refl
-still_or_going s a p far (goes op whats from to birth turn) = inr (record { birth = birth; later = ahead_on turn })
+abbrev pub IsAboutHandle : (a : ℕ) → List CoreEvent → Type 0
+IsAboutHandle a es = (h : ℕ) × AreHandleEvents a h es
 
--- only an actor of a born process comes into the middle of an operation
-keeps_begun : {s : PlainState} {a p : ℕ} {place : Place} {op : Option Op} {waiting : Option Waiting} {whats : List What} {from to : ForkPlace} → TurnAt s a p place op waiting from whats to → (0 < place.far → s.birth p ≡ born) → 0 < (place_behind place whats).far → s.birth p ≡ born
+about_unpin : (a h : ℕ) (holds : Bool) (pinned : List ℕ) → AreHandleEvents a h (unpin_turn_by holds a h pinned).events
+about_unpin a h false pinned = tt
+about_unpin a h true pinned = (unpinning (last_of pinned) (but_last pinned), tt)
+
+about_give : (a h to : ℕ) (holds : Bool) → AreHandleEvents a h (give_turn_by holds a h to).events
+about_give a h to false = tt
+about_give a h to true = (giving to, tt)
+
+about_word : (a h : ℕ) (outward last : Bool) (index slot f value : ℕ) → AreHandleEvents a h (word_turn a h outward last index slot f value).events
+about_word a h true last index slot f value = (moving_out index slot f value, tt)
+about_word a h false last index slot f value = (moving_in index slot f value, tt)
+
+about_transfer : (denied : Option Answer) (s : CoreState) (a h : ℕ) (outward last : Bool) (index slot : ℕ) → AreHandleEvents a h (transfer_turn_by denied s a h outward last index slot).events
+about_transfer (Some answer) s a h outward last index slot = tt
+about_transfer None s a h outward last index slot =
+    about_word a h outward last index slot (frame_at (s.pinned h) index) (moves_value s a outward index slot (frame_at (s.pinned h) index))
+
+-- a process that failed refuses it without an event
+about_by : (a h : ℕ) (birth : Birth) (refused turn : Taken) → refused.events ≡ [] → AreHandleEvents a h turn.events → AreHandleEvents a h (turn_at birth refused turn).events
+about_by a h unborn refused turn none about = about
+about_by a h (growing parent) refused turn none about = about
+about_by a h born refused turn none about = about
+about_by a h failed refused turn none about = subst (AreHandleEvents a h) (sym none) tt
+
+going_by : {pl : PlainState} {place : Place} {whats : List What} (s : CoreState) (who : Doer) (far : ℕ) (op : Op) → birth_for pl.birth who ≡ born → (IsOfProcess op → pl.birth who.proc ≡ born) → ((k : ℕ) → IsAhead (place_behind place whats) k → place.answered < k) → IsAboutHandle who.actor (taken_by s who far (Some op) None).events ⊎ IsGoing place who.proc pl whats
+going_by s who far (Map page n rights) birth own later = inr (record { birth = own tt; later = later })
+going_by s who far (Unmap page n) birth own later = inr (record { birth = own tt; later = later })
+going_by s who far (Protect page n rights) birth own later = inr (record { birth = own tt; later = later })
+going_by s who far (Discard page n) birth own later = inr (record { birth = own tt; later = later })
+going_by s who far (Load page word) birth own later = inr (record { birth = own tt; later = later })
+going_by s who far (Store page word value) birth own later = inr (record { birth = own tt; later = later })
+going_by s who far (Pin handle page n write) birth own later = inr (record { birth = own tt; later = later })
+going_by s who far (Unpin handle) birth own later =
+    inl (
+      handle,
+      about_by who.actor handle (birth_for s.birth who) (failed_turn who.actor who.proc (Unpin handle)) (unpin_turn s who.actor handle) refl
+          (about_unpin who.actor handle (is_held_by (s.handle handle) who.actor) (s.pinned handle)),
+    )
+going_by s who far (Give handle to) birth own later =
+    inl (
+      handle,
+      about_by who.actor handle (birth_for s.birth who) (failed_turn who.actor who.proc (Give handle to)) (give_turn s who.actor handle to) refl
+          (about_give who.actor handle to (is_held_by (s.handle handle) who.actor)),
+    )
+going_by s who far (Take handle) birth own later =
+    inl (
+      handle,
+      about_by who.actor handle (birth_for s.birth who) (failed_turn who.actor who.proc (Take handle)) (take_turn who.actor handle) refl
+          (taking_over, tt),
+    )
+going_by s who far (Transfer handle outward index slot n) birth own later =
+    inl (
+      handle,
+      about_by who.actor handle (birth_for s.birth who) (failed_turn who.actor who.proc (Transfer handle outward index slot n)) (transfer_turn s who.actor who.slots handle outward index slot n far) refl
+          (about_transfer (transfer_denial (s.handle handle) who.actor outward who.slots slot ((index, n) ∷ [])) s who.actor handle outward (far + 1 == n) (index + far) (slot + far)),
+    )
+going_by s who far (Fork child) birth own later = inr (record { birth = own tt; later = later })
+going_by s who far Exit birth own later = inr (record { birth = own tt; later = later })
+
+still_or_going : {pl : PlainState} {place : Place} {from to : ForkPlace} {whats : List What} {op : Option Op} {waiting : Option Waiting} (s : CoreState) (who : Doer) (far : ℕ) → TurnAt pl who place op waiting from whats to → IsAboutHandle who.actor (taken_by s who far op waiting).events ⊎ IsGoing place who.proc pl whats
+still_or_going s who far (idles waiting at) = inl (0, tt)
+still_or_going s who far (waits op waiting at) = inl (0, tt)
+still_or_going s who far (goes op whats from to birth own turn) = going_by s who far op birth own (ahead_on (op_behind s (Some op) turn))
+
+-- only an actor that waits for no birth comes into the middle of an operation
+keeps_begun : {s : PlainState} {who : Doer} {place : Place} {op : Option Op} {waiting : Option Waiting} {whats : List What} {from to : ForkPlace} → TurnAt s who place op waiting from whats to → (0 < place.far → birth_for s.birth who ≡ born) → 0 < (place_behind place whats).far → birth_for s.birth who ≡ born
 keeps_begun (idles waiting at) begun = begun
 keeps_begun (waits op waiting at) begun = begun
-keeps_begun (goes op whats from to birth turn) begun = λ _. birth
+keeps_begun (goes op whats from to birth own turn) begun = λ _. birth
 
 -- behind its turn an actor stands where its present operation can: at the next turn of the same one, or at the first of
 -- the next
-op_fits : (script : ScriptValue) (t : CoreState) {s : PlainState} {a p : ℕ} {place : Place} {op : Op} {whats : List What} {from to : ForkPlace} → TurnOf s a p place op from whats to → FitsNext t a p (Some op) place whats → present_op script a place ≡ Some op → (place_behind place whats ≡ fresh_place (place.answered + 1) → t.job a ≡ idle → FitsAt t a p (present_op script a (fresh_place (place.answered + 1))) (fresh_place (place.answered + 1))) → FitsAt t a p (present_op script a (place_behind place whats)) (place_behind place whats)
-op_fits script t (refused op answer first refusal right passes) next is fresh = fresh refl next
-op_fits script t (mapped page n rights first undenied) next is fresh = fresh refl next
-op_fits script t (protected page n rights first undenied) next is fresh = fresh refl next
-op_fits script t (loaded page word value first undenied) next is fresh = fresh refl next
-op_fits script t (stored page word value first undenied) next is fresh = fresh refl next
-op_fits script t {a = a} {p = p} {place = place} {whats = whats} (took op page n event over more) next is fresh = subst (λ (o : Option Op). FitsAt t a p o (place_behind place whats)) (sym is) next
-op_fits script t (took_last op page n event over last) next is fresh = fresh refl next
-op_fits script t {a = a} {p = p} {place = place} {whats = whats} (passed op page n event over more none) next is fresh = subst (λ (o : Option Op). FitsAt t a p o (place_behind place whats)) (sym is) next
-op_fits script t (passed_last op page n event over last none) next is fresh = fresh refl next
-op_fits script t {a = a} {p = p} {place = place} {whats = whats} (took_lowest page none) next is fresh = subst (λ (o : Option Op). FitsAt t a p o (place_behind place whats)) (sym is) next
-op_fits script t (took_all none) next is fresh = fresh refl next
-op_fits script t {a = a} {p = p} {place = place} {whats = whats} (began child first) next is fresh = subst (λ (o : Option Op). FitsAt t a p o (place_behind place whats)) (sym is) next
-op_fits script t {a = a} {p = p} {place = place} {whats = whats} (passed_page child from page begun least) next is fresh = subst (λ (o : Option Op). FitsAt t a p o (place_behind place whats)) (sym is) next
-op_fits script t {a = a} {p = p} {place = place} {whats = whats} (counted_page child from page begun least) next is fresh = subst (λ (o : Option Op). FitsAt t a p o (place_behind place whats)) (sym is) next
-op_fits script t {a = a} {p = p} {place = place} {whats = whats} (shared_page child page begun) next is fresh = subst (λ (o : Option Op). FitsAt t a p o (place_behind place whats)) (sym is) next
-op_fits script t (ended child from begun) next is fresh = fresh refl next
-
-turn_fits : (script : ScriptValue) (t : CoreState) {s : PlainState} {a p : ℕ} {place : Place} {op : Option Op} {waiting : Option Waiting} {whats : List What} {from to : ForkPlace} → TurnAt s a p place op waiting from whats to → FitsNext t a p op place whats → present_op script a place ≡ op → (place_behind place whats ≡ fresh_place (place.answered + 1) → t.job a ≡ idle → FitsAt t a p (present_op script a (fresh_place (place.answered + 1))) (fresh_place (place.answered + 1))) → FitsAt t a p (present_op script a (place_behind place whats)) (place_behind place whats)
-turn_fits script t {a = a} {p = p} {place = place} (idles waiting at) next is fresh = subst (λ (o : Option Op). FitsAt t a p o place) (sym is) next
-turn_fits script t {a = a} {p = p} {place = place} (waits op waiting at) next is fresh = subst (λ (o : Option Op). FitsAt t a p o place) (sym is) next
-turn_fits script t (goes op whats from to birth turn) next is fresh = op_fits script t turn next is fresh
+turn_fits : (script : ScriptValue) (t : CoreState) (who : Doer) {op : Option Op} {place : Place} {whats : List What} → IsBehindTurn t who op place whats → FitsNext t who op place whats → present_op script who.actor place ≡ op → (place_behind place whats ≡ fresh_place (place.answered + 1) → Rests t who.actor → FitsAt t who (present_op script who.actor (fresh_place (place.answered + 1))) (fresh_place (place.answered + 1))) → FitsAt t who (present_op script who.actor (place_behind place whats)) (place_behind place whats)
+turn_fits script t who {place = place} (stays_there same fits) next is fresh =
+    subst (λ (q : Place). FitsAt t who (present_op script who.actor q) q) (sym same)
+    (subst (λ (o : Option Op). FitsAt t who o place) (sym is) (fits next))
+turn_fits script t who {place = place} (goes_by (goes_on had same fits)) next is fresh =
+    subst (λ (q : Place). FitsAt t who (present_op script who.actor q) q) (sym same)
+    (subst (λ (o : Option Op). FitsAt t who o (next_place place had)) (sym is) (fits next))
+turn_fits script t who (goes_by (is_over same rests)) next is fresh =
+    subst (λ (q : Place). FitsAt t who (present_op script who.actor q) q) (sym same) (fresh same (rests next))
 
 -- an actor is in the middle of nothing, or holds the structure of its process
 
@@ -137,16 +184,21 @@ fork_held s a p child place (marking q page f) is fits = absurd fits
 fork_held s a p child place (moving q page e count) is fits = absurd fits
 fork_held s a p child place (walking q write long sequence step) is fits = absurd fits
 
-idle_or_holds : (s : CoreState) (a p : ℕ) (op : Option Op) (place : Place) → FitsAt s a p op place → (s.job a ≡ idle) ⊎ (s.structure p ≡ Some a)
-idle_or_holds s a p None place fits = inl fits.0
-idle_or_holds s a p (Some (Map page n rights)) place fits = inl fits.0
-idle_or_holds s a p (Some (Unmap page n)) place fits = inl fits.0
-idle_or_holds s a p (Some (Protect page n rights)) place fits = inl fits.0
-idle_or_holds s a p (Some (Discard page n)) place fits = inl fits.0
-idle_or_holds s a p (Some (Load page word)) place fits = inl fits.0
-idle_or_holds s a p (Some (Store page word value)) place fits = inl fits.0
-idle_or_holds s a p (Some (Fork child)) place fits = fork_held s a p child place (s.job a) refl fits
-idle_or_holds s a p (Some Exit) place fits = inl fits
+idle_or_holds : (s : CoreState) (who : Doer) (op : Option Op) (place : Place) → FitsAt s who op place → (s.job who.actor ≡ idle) ⊎ (s.structure who.proc ≡ Some who.actor)
+idle_or_holds s who None place fits = inl fits.0.0
+idle_or_holds s who (Some (Map page n rights)) place fits = inl fits.0.0
+idle_or_holds s who (Some (Unmap page n)) place fits = inl fits.0.0
+idle_or_holds s who (Some (Protect page n rights)) place fits = inl fits.0.0
+idle_or_holds s who (Some (Discard page n)) place fits = inl fits.0.0
+idle_or_holds s who (Some (Load page word)) place fits = inl fits.0.0
+idle_or_holds s who (Some (Store page word value)) place fits = inl fits.0.0
+idle_or_holds s who (Some (Pin handle page n write)) place fits = inl fits.0
+idle_or_holds s who (Some (Unpin handle)) place fits = inl fits.0.0
+idle_or_holds s who (Some (Give handle to)) place fits = inl fits.0.0
+idle_or_holds s who (Some (Take handle)) place fits = inl fits.0.0
+idle_or_holds s who (Some (Transfer handle outward index slot n)) place fits = inl fits.0.0
+idle_or_holds s who (Some (Fork child)) place fits = fork_held s who.actor who.proc child place (s.job who.actor) refl fits.1
+idle_or_holds s who (Some Exit) place fits = inl fits.0
 
 -- the child of a fork, begun or not, is not born
 fork_unborn : (s : CoreState) (a p child : ℕ) (place : Place) (job : Job) → FitsFork s a p child place job → s.birth child ≡ born → ⊥
@@ -162,16 +214,21 @@ fork_unborn s a p child place (moving q page e count) fits is = fits
 fork_unborn s a p child place (walking q write long sequence step) fits is = fits
 
 -- a born process is no child of the operation, unless it is the operation's own
-born_apart : (s : CoreState) (a p q : ℕ) (op : Option Op) (place : Place) → FitsAt s a p op place → s.birth q ≡ born → (q ≡ p → ⊥) → q ≡ child_of p op → ⊥
-born_apart s a p q None place fits is other same = other same
-born_apart s a p q (Some (Map page n rights)) place fits is other same = other same
-born_apart s a p q (Some (Unmap page n)) place fits is other same = other same
-born_apart s a p q (Some (Protect page n rights)) place fits is other same = other same
-born_apart s a p q (Some (Discard page n)) place fits is other same = other same
-born_apart s a p q (Some (Load page word)) place fits is other same = other same
-born_apart s a p q (Some (Store page word value)) place fits is other same = other same
-born_apart s a p q (Some (Fork child)) place fits is other same = fork_unborn s a p child place (s.job a) fits (ap s.birth (sym same) ∙ is)
-born_apart s a p q (Some Exit) place fits is other same = other same
+born_apart : (s : CoreState) (who : Doer) (q : ℕ) (op : Option Op) (place : Place) → FitsAt s who op place → s.birth q ≡ born → (q ≡ who.proc → ⊥) → q ≡ child_of who.proc op → ⊥
+born_apart s who q None place fits is other same = other same
+born_apart s who q (Some (Map page n rights)) place fits is other same = other same
+born_apart s who q (Some (Unmap page n)) place fits is other same = other same
+born_apart s who q (Some (Protect page n rights)) place fits is other same = other same
+born_apart s who q (Some (Discard page n)) place fits is other same = other same
+born_apart s who q (Some (Load page word)) place fits is other same = other same
+born_apart s who q (Some (Store page word value)) place fits is other same = other same
+born_apart s who q (Some (Pin handle page n write)) place fits is other same = other same
+born_apart s who q (Some (Unpin handle)) place fits is other same = other same
+born_apart s who q (Some (Give handle to)) place fits is other same = other same
+born_apart s who q (Some (Take handle)) place fits is other same = other same
+born_apart s who q (Some (Transfer handle outward index slot n)) place fits is other same = other same
+born_apart s who q (Some (Fork child)) place fits is other same = fork_unborn s who.actor who.proc child place (s.job who.actor) fits.1 (ap s.birth (sym same) ∙ is)
+born_apart s who q (Some Exit) place fits is other same = other same
 
 -- the child that an operation brings is declared
 child_below : (script : ScriptValue) → IsScript script → (a p k : ℕ) (op : Option Op) → present_op script a (fresh_place k) ≡ op → p < length script.processes → child_of p op < length script.processes
@@ -182,33 +239,116 @@ child_below script valid a p k (Some (Protect page n rights)) is below = below
 child_below script valid a p k (Some (Discard page n)) is below = below
 child_below script valid a p k (Some (Load page word)) is below = below
 child_below script valid a p k (Some (Store page word value)) is below = below
+child_below script valid a p k (Some (Pin handle page n write)) is below = below
+child_below script valid a p k (Some (Unpin handle)) is below = below
+child_below script valid a p k (Some (Give handle to)) is below = below
+child_below script valid a p k (Some (Take handle)) is below = below
+child_below script valid a p k (Some (Transfer handle outward index slot n)) is below = below
 child_below script valid a p k (Some (Fork child)) is below = child_declared script valid a k child is
 child_below script valid a p k (Some Exit) is below = below
 
 -- the child of another fork is no child of this operation: it is not born, and two forks bring two children
 other_child : (script : ScriptValue) → IsScript script → (a p k : ℕ) (op : Option Op) → present_op script a (fresh_place k) ≡ op → (b j child : ℕ) → ForksAt script b j child → (child ≡ p → ⊥) → (b ≡ a → j ≡ k → ⊥) → child ≡ child_of p op → ⊥
-other_child script valid a p k None is b j child forks other apart same = other same
-other_child script valid a p k (Some (Map page n rights)) is b j child forks other apart same = other same
-other_child script valid a p k (Some (Unmap page n)) is b j child forks other apart same = other same
-other_child script valid a p k (Some (Protect page n rights)) is b j child forks other apart same = other same
-other_child script valid a p k (Some (Discard page n)) is b j child forks other apart same = other same
-other_child script valid a p k (Some (Load page word)) is b j child forks other apart same = other same
-other_child script valid a p k (Some (Store page word value)) is b j child forks other apart same = other same
-other_child script valid a p k (Some (Fork brought)) is b j child forks other apart same =
+other_child script valid a p k None is b j child forks other twice same = other same
+other_child script valid a p k (Some (Map page n rights)) is b j child forks other twice same = other same
+other_child script valid a p k (Some (Unmap page n)) is b j child forks other twice same = other same
+other_child script valid a p k (Some (Protect page n rights)) is b j child forks other twice same = other same
+other_child script valid a p k (Some (Discard page n)) is b j child forks other twice same = other same
+other_child script valid a p k (Some (Load page word)) is b j child forks other twice same = other same
+other_child script valid a p k (Some (Store page word value)) is b j child forks other twice same = other same
+other_child script valid a p k (Some (Pin handle page n write)) is b j child forks other twice same = other same
+other_child script valid a p k (Some (Unpin handle)) is b j child forks other twice same = other same
+other_child script valid a p k (Some (Give handle to)) is b j child forks other twice same = other same
+other_child script valid a p k (Some (Take handle)) is b j child forks other twice same = other same
+other_child script valid a p k (Some (Transfer handle outward index slot n)) is b j child forks other twice same = other same
+other_child script valid a p k (Some (Fork brought)) is b j child forks other twice same =
     let once = valid.forks_once b a j k child forks (subst (ForksAt script a k) (sym same) is) in
-    apart once.0 once.1
-other_child script valid a p k (Some Exit) is b j child forks other apart same = other same
+    twice once.0 once.1
+other_child script valid a p k (Some Exit) is b j child forks other twice same = other same
 
--- numbers, equal or not
-same_or_apart : (x y : ℕ) → (x ≡ y) ⊎ (x ≡ y → ⊥)
-same_or_apart x y = go (x == y) refl
-  where
-    apart_by : (x == y) ≡ false → x ≡ y → ⊥
-    apart_by e same = grind (arith, nat_tests)
+-- pins
 
-    go : (b : Bool) → (x == y) ≡ b → (x ≡ y) ⊎ (x ≡ y → ⊥)
-    go true e = inl (eqb-true x y e)
-    go false e = inr (apart_by e)
+-- an operation that makes a pin is the actor's present one
+pins_here : (script : ScriptValue) (a k : ℕ) (op : Option Op) → present_op script a (fresh_place k) ≡ op → (h : ℕ) → strand_of op ≡ of_pin h → PinsAt script a k h
+pins_here script a k None is h e = absurd (cc e)
+pins_here script a k (Some (Map page n rights)) is h e = absurd (cc e)
+pins_here script a k (Some (Unmap page n)) is h e = absurd (cc e)
+pins_here script a k (Some (Protect page n rights)) is h e = absurd (cc e)
+pins_here script a k (Some (Discard page n)) is h e = absurd (cc e)
+pins_here script a k (Some (Load page word)) is h e = absurd (cc e)
+pins_here script a k (Some (Store page word value)) is h e = absurd (cc e)
+pins_here script a k (Some (Pin handle page n write)) is h e = subst (PinsAt script a k) (same_pin e) (page, n, write, is)
+pins_here script a k (Some (Unpin handle)) is h e = absurd (cc e)
+pins_here script a k (Some (Give handle to)) is h e = absurd (cc e)
+pins_here script a k (Some (Take handle)) is h e = absurd (cc e)
+pins_here script a k (Some (Transfer handle outward index slot n)) is h e = absurd (cc e)
+pins_here script a k (Some (Fork child)) is h e = absurd (cc e)
+pins_here script a k (Some Exit) is h e = absurd (cc e)
+
+-- whether an operation is about this handle
+abbrev pub IsAbout : Strand → (h : ℕ) → Type 0
+IsAbout strand h = (strand ≡ of_pin h) ⊎ (strand ≡ of_handle h)
+
+about_or_not : (strand : Strand) (h : ℕ) → IsAbout strand h ⊎ (strand ≡ of_pin h → ⊥) × (strand ≡ of_handle h → ⊥)
+about_or_not of_pages h = inr ((λ e. cc e), (λ e. cc e))
+about_or_not (of_pin k) h =
+    elim (same_or_apart k h) [
+      | inl same ↦ inl (inl (ap of_pin same))
+      | inr other ↦ inr ((λ e. other (same_pin e)), (λ e. cc e))
+    ]
+about_or_not (of_handle k) h =
+    elim (same_or_apart k h) [
+      | inl same ↦ inl (inr (ap of_handle same))
+      | inr other ↦ inr ((λ e. cc e), (λ e. other (same_handle e)))
+    ]
+
+-- that is declared
+about_declared : (script : ScriptValue) (op : Op) (h : ℕ) → AreDeclared script op → IsAbout (strand_of (Some op)) h → h < length script.handles
+about_declared script (Map page n rights) h there about = absurd (elim about [ inl e ↦ cc e | inr e ↦ cc e ])
+about_declared script (Unmap page n) h there about = absurd (elim about [ inl e ↦ cc e | inr e ↦ cc e ])
+about_declared script (Protect page n rights) h there about = absurd (elim about [ inl e ↦ cc e | inr e ↦ cc e ])
+about_declared script (Discard page n) h there about = absurd (elim about [ inl e ↦ cc e | inr e ↦ cc e ])
+about_declared script (Load page word) h there about = absurd (elim about [ inl e ↦ cc e | inr e ↦ cc e ])
+about_declared script (Store page word value) h there about = absurd (elim about [ inl e ↦ cc e | inr e ↦ cc e ])
+about_declared script (Pin handle page n write) h there about = elim about [ inl e ↦ subst (λ (k : ℕ). k < length script.handles) (same_pin e) there | inr e ↦ absurd (cc e) ]
+about_declared script (Unpin handle) h there about = elim about [ inl e ↦ absurd (cc e) | inr e ↦ subst (λ (k : ℕ). k < length script.handles) (same_handle e) there ]
+about_declared script (Give handle to) h there about = elim about [ inl e ↦ absurd (cc e) | inr e ↦ subst (λ (k : ℕ). k < length script.handles) (same_handle e) there.0 ]
+about_declared script (Take handle) h there about = elim about [ inl e ↦ absurd (cc e) | inr e ↦ subst (λ (k : ℕ). k < length script.handles) (same_handle e) there ]
+about_declared script (Transfer handle outward index slot n) h there about = elim about [ inl e ↦ absurd (cc e) | inr e ↦ subst (λ (k : ℕ). k < length script.handles) (same_handle e) there ]
+about_declared script (Fork child) h there about = absurd (elim about [ inl e ↦ cc e | inr e ↦ cc e ])
+about_declared script Exit h there about = absurd (elim about [ inl e ↦ cc e | inr e ↦ cc e ])
+
+handle_declared : (script : ScriptValue) → IsScript script → (a k : ℕ) (op : Option Op) → present_op script a (fresh_place k) ≡ op → (h : ℕ) → IsAbout (strand_of op) h → h < length script.handles
+handle_declared script valid a k None is h about = absurd (elim about [ inl e ↦ cc e | inr e ↦ cc e ])
+handle_declared script valid a k (Some op) is h about =
+    about_declared script op h (ops_at (AreDeclared script) script valid.declared a k op (actor_at script a) refl is) about
+
+-- whoever is found to hold a handle holds it
+is_holder : (h : Handle) (a : ℕ) → is_held_by h a ≡ true → IsHeldBy h a
+is_holder (held by objects write) a is = eqb-true by a is
+is_holder (given to objects write) a is = absurd (cc is)
+is_holder unmade a is = absurd (cc is)
+is_holder gone a is = absurd (cc is)
+
+-- an actor that has given back nothing of a handle that it holds finds all its pages
+all_left : (backs : ℕ → ℕ) (pinned : List ℕ) (h : Handle) (a : ℕ) → StandsHandle backs pinned h → backs a ≡ 0 → is_held_by h a ≡ true → (0 < length pinned) × (length pinned + 0 ≡ length (objects_of h))
+all_left backs pinned (held by objects write) a stands none is =
+    let back : backs by ≡ 0 = ap backs (eqb-true by a is) ∙ none in
+    let all = stands.2 in
+    (stands.0, omega (arith, back, all))
+all_left backs pinned (given to objects write) a stands none is = absurd (cc is)
+all_left backs pinned unmade a stands none is = absurd (cc is)
+all_left backs pinned gone a stands none is = absurd (cc is)
+
+-- a transfer that isn't denied is one of its holder
+transfer_held : (holds outward may fits : Bool) → transfer_denial_by holds outward may fits ≡ None → holds ≡ true
+transfer_held true outward may fits none = refl
+transfer_held false outward may fits none = absurd (cc none)
+
+-- whoever waits for no birth waits for none later
+waits_no_more : (thread : Bool) (before behind : Birth) → (before ≡ born → behind ≡ born) → birth_by thread before ≡ born → birth_by thread behind ≡ born
+waits_no_more true before behind stays is = stays is
+waits_no_more false before behind stays is = refl
 
 -- what another actor's fork knows of its parent stays
 pub record IsParentKept (q : ℕ) (s t : CoreState) : Type 0 where
@@ -219,6 +359,9 @@ pub record IsParentKept (q : ℕ) (s t : CoreState) : Type 0 where
 module _ (script : ScriptValue) (valid : IsScript script) (r : RunState) (h : Stands script r) (a : ℕ) where
   abbrev s : CoreState
   s = r.core
+
+  abbrev who : Doer
+  who = doer script a
 
   abbrev p : ℕ
   p = process_of script a
@@ -241,19 +384,32 @@ module _ (script : ScriptValue) (valid : IsScript script) (r : RunState) (h : St
   abbrev behind : Place
   behind = place_behind place turn.whats
 
-  turns : IsTaken s a p place op (waiting_in script r a) turn
+  abbrev after : RunState
+  after = run_after script r a
+
+  turns : IsTaken s who place op (waiting_in script r a) turn
   turns = taken script valid r h a
 
+  behinds : IsBehindTurn t who op place turn.whats
+  behinds = turn_behind t turns.shape
+
   left : Leaves a p c s t
-  left = leaves s a p c turn.events turns.done.kinds
+  left = leaves s a p c (strand_of op) turn.events turns.done.kinds
 
-  still_same : turn.events ≡ [] → t ≡ s
-  still_same none = ap (run s) none
+  pins : LeavesPinsOf a (strand_of op) s t
+  pins = leaves_pins s a p c (strand_of op) turn.events turns.done.kinds turns.done.can
 
-  going : (turn.events ≡ []) ⊎ IsGoing place p (plain_of s) turn.whats
-  going = still_or_going s a p place.far turns.shape
+  going : IsAboutHandle a turn.events ⊎ IsGoing place p (plain_of s) turn.whats
+  going = still_or_going s who place.far turns.shape
 
-  -- the child is declared where there are events
+  -- what is about a handle leaves all else
+  quiet : IsAboutHandle a turn.events → LeavesAll s t
+  quiet about = handles_leave s a about.0 turn.events about.1
+
+  quiet_birth : IsAboutHandle a turn.events → (q : ℕ) → t.birth q ≡ s.birth q
+  quiet_birth about q = ap (λ (o : OfProcess). o.birth) ((quiet about).process q)
+
+  -- the child is declared where the turn is of a process
   declared_child : s.birth p ≡ born → c < length script.processes
   declared_child birth =
       child_below script valid a p place.answered op refl (h.declared p (λ (yet : s.birth p ≡ unborn). cc))
@@ -261,60 +417,137 @@ module _ (script : ScriptValue) (valid : IsScript script) (r : RunState) (h : St
   few_on : Law → IsFew (length script.processes) t
   few_on law =
       elim going [
-        | inl none ↦ subst (IsFew (length script.processes)) (sym (still_same none)) h.few
-        | inr moves ↦ few_kept law (length script.processes) s a p c turn.events turns.done.kinds (declared_child moves.birth) h.sound turns.done.can h.few
+        | inl about ↦ few_handles (length script.processes) s a about.0 turn.events about.1 h.few
+        | inr moves ↦ few_kept law (length script.processes) s a p c (strand_of op) turn.events turns.done.kinds (declared_child moves.birth) h.sound turns.done.can h.few
       ]
 
   declared_on : (q : ℕ) → (t.birth q ≡ unborn → ⊥) → q < length script.processes
   declared_on q some = by_child (same_or_apart q c) going
     where
-      by_child : (q ≡ c) ⊎ (q ≡ c → ⊥) → (turn.events ≡ []) ⊎ IsGoing place p (plain_of s) turn.whats → q < length script.processes
+      by_child : (q ≡ c) ⊎ (q ≡ c → ⊥) → IsAboutHandle a turn.events ⊎ IsGoing place p (plain_of s) turn.whats → q < length script.processes
       by_child (inr other) is = h.declared q (λ yet. some (left.birth q (apart q c other) ∙ yet))
-      by_child (inl same) (inl none) = h.declared q (λ yet. some (ap (λ (u : CoreState). u.birth q) (still_same none) ∙ yet))
+      by_child (inl same) (inl about) = h.declared q (λ yet. some (quiet_birth about q ∙ yet))
       by_child (inl same) (inr moves) = subst (λ (k : ℕ). k < length script.processes) (sym same) (declared_child moves.birth)
 
   -- the child of a fork that has not begun stays unborn
   unborn_on : (b k child : ℕ) → ForksAt script b k child → s.birth child ≡ unborn → (IsGoing place p (plain_of s) turn.whats → b ≡ a → k ≡ place.answered → ⊥) → t.birth child ≡ unborn
   unborn_on b k child forks yet later =
       elim going [
-        | inl none ↦ ap (λ (u : CoreState). u.birth child) (still_same none) ∙ yet
+        | inl about ↦ quiet_birth about child ∙ yet
         | inr moves ↦ left.birth child (apart child c (other_child script valid a p place.answered op refl b k child forks (λ (same : child ≡ p). let lives : s.birth p ≡ born = moves.birth in let e : s.birth child ≡ s.birth p = ap s.birth same in cc) (later moves))) ∙ yet
       ]
 
   unforked_own : (k child : ℕ) → ForksAt script a k child → IsAhead behind k → t.birth child ≡ unborn
   unforked_own k child forks ahead =
-      unborn_on a k child forks (h.unforked a k child forks (ahead_before turns.shape k ahead))
+      unborn_on a k child forks (h.unforked a k child forks (ahead_before behinds k ahead))
       (λ moves own same. let less : place.answered < k = moves.later k ahead in omega (arith, same))
 
   unforked_other : (b : ℕ) → (b ≡ a → ⊥) → (k child : ℕ) → ForksAt script b k child → IsAhead (r.places b) k → t.birth child ≡ unborn
   unforked_other b other k child forks ahead = unborn_on b k child forks (h.unforked b k child forks ahead) (λ moves own same. other own)
 
+  -- pins
+
+  unpinned_on : (b k child : ℕ) → ForksAt script b k child → (q : ℕ) → t.has_pinned q ≡ false
+  unpinned_on b k child forks q =
+      let same = pins.flags (λ handle is. valid.pins_or_forks b a k place.answered child handle forks (pins_here script a place.answered op refl handle is)) in
+      ap (λ (f : ℕ → Bool). f q) same ∙ h.unpinned b k child forks q
+
+  -- the handle of a pin that isn't answered stays unmade, unless the turn is of that pin
+  yet_kept : (b k handle : ℕ) → PinsAt script b k handle → (r.places b).answered ≤ k → (b ≡ a → k ≡ place.answered → ⊥) → t.handle handle ≡ unmade
+  yet_kept b k handle makes least other =
+      let yet : s.handle handle ≡ unmade = h.yet_unmade b k handle makes least in
+      let kept = pins.unheld handle
+      (λ is none. let once = valid.pins_once b a k place.answered handle makes (pins_here script a place.answered op refl handle is) in other once.0 once.1)
+      (λ holds. subst (λ (x : Handle). IsHeldBy x a) yet holds)
+      (λ is_given. subst (λ (x : Handle). IsGivenTo x a) yet is_given) in
+      kept.handle ∙ yet
+
+  made_on : (handle : ℕ) → (t.handle handle ≡ unmade → ⊥) → handle < length script.handles
+  made_on handle some =
+      elim (about_or_not (strand_of op) handle) [
+        | inl about ↦ handle_declared script valid a place.answered op refl handle about
+        | inr neither ↦ h.made handle (λ yet. some ((pins.others handle neither.0 neither.1).handle ∙ yet))
+      ]
+
+  -- what is given back of a pin behind the turn
+
+  own_back : (handle : ℕ) → back_in script after handle a ≡ given_back (present_op script a behind) handle behind.far
+  own_back handle = ap (λ (q : Place). given_back (present_op script a q) handle q.far) (put_same a behind r.places)
+
+  others_back : (handle b : ℕ) → (b ≡ a → ⊥) → back_in script after handle b ≡ back_in script r handle b
+  others_back handle b other = ap (λ (q : Place). given_back (present_op script b q) handle q.far) (put_apart a b behind r.places other)
+
+  handles_on : (handle : ℕ) → StandsHandle (back_in script after handle) (t.pinned handle) (t.handle handle)
+  handles_on handle =
+      let change = turn_changes script s who place handle op (waiting_in script r a) refl turns in
+      let own = subst (λ (k : ℕ). Change a (back_in script r handle a) k (s.pinned handle) (t.pinned handle) (s.handle handle) (t.handle handle)) (sym (own_back handle)) change in
+      changed_stands (back_in script r handle) (back_in script after handle) a (others_back handle) own (h.handles handle)
+
+  -- at the first turn of the next operation the actor has all pages of what it holds
+  left_fresh : behind ≡ fresh_place (place.answered + 1) → (handle : ℕ) → HasLeft t a handle 0
+  left_fresh same handle =
+      let none : back_in script after handle a ≡ 0 = own_back handle ∙ ap (λ (q : Place). given_back (present_op script a q) handle q.far) same ∙ first_back (present_op script a (fresh_place (place.answered + 1))) handle in
+      all_left (back_in script after handle) (t.pinned handle) (t.handle handle) a (handles_on handle) none
+
   -- the actor's own place
 
-  fits_own : FitsAt t a p (present_op script a behind) behind
+  fits_own : FitsAt t who (present_op script a behind) behind
   fits_own =
-      turn_fits script t turns.shape turns.next refl
-      (λ same job. fresh_fits script valid t a p (place.answered + 1) job
-      (λ child forks. unforked_own (place.answered + 1) child forks (subst (λ (q : Place). IsAhead q (place.answered + 1)) (sym same) (inr (refl, refl)))))
+      turn_fits script t who behinds turns.next refl
+      (λ same rests. fresh_fits script valid t who a (place.answered + 1) rests
+      (λ child forks. unforked_own (place.answered + 1) child forks (subst (λ (q : Place). IsAhead q (place.answered + 1)) (sym same) (inr (refl, refl))))
+      (λ handle makes. yet_kept a (place.answered + 1) handle makes (omega arith) (λ own beyond. omega (arith, beyond)))
+      (left_fresh same))
 
-  -- another actor that is in the middle of a fork
+  yet_own : (k handle : ℕ) → PinsAt script a k handle → behind.answered ≤ k → t.handle handle ≡ unmade
+  yet_own k handle makes least =
+      elim (same_or_apart k behind.answered) [
+        | inl same ↦ at_pin same
+        | inr other ↦ yet_kept a k handle makes (omega (arith, least, answered_least behinds)) (λ own here. before other here)
+      ]
+    where
+      before : (k ≡ behind.answered → ⊥) → k ≡ place.answered → ⊥
+      before other here = let from = answered_least behinds in other (omega (arith, least, from, here))
 
-  module _ (b : ℕ) (other : b ≡ a → ⊥) (moves : IsGoing place p (plain_of s) turn.whats) where
+      at_pin : k ≡ behind.answered → t.handle handle ≡ unmade
+      at_pin same =
+          let page = makes.0 in
+          let n = makes.1 in
+          let write = makes.2 in
+          let is : present_op script a behind ≡ Some (Pin handle page n write) = ap (λ (j : ℕ). slice_get (ops_of script a) j) (sym same) ∙ makes.3 in
+          let fits : FitsAt t who (Some (Pin handle page n write)) behind = subst (λ (o : Option Op). FitsAt t who o behind) is fits_own in
+          fits.2.yet
+
+  -- another actor
+
+  module _ (b : ℕ) (other : b ≡ a → ⊥) where
     abbrev q : ℕ
     q = process_of script b
 
+    parent_same : of_process t q ≡ of_process s q → IsParentKept q s t
+    parent_same same =
+        record {
+          structure = ap (λ (o : OfProcess). o.structure) same;
+          table = ap (λ (o : OfProcess). o.table) same;
+          entry = ap (λ (o : OfProcess). o.entry) same;
+        }
+
     parent_kept : s.birth q ≡ born → s.structure q ≡ Some b → IsParentKept q s t
-    parent_kept lives locked = by_process (same_or_apart q p)
+    parent_kept lives locked =
+        elim going [
+          | inl about ↦ parent_same ((quiet about).process q)
+          | inr moves ↦ by_process (same_or_apart q p)
+        ]
       where
         idle_here : q ≡ p → s.job a ≡ idle
         idle_here same =
-            elim (idle_or_holds s a p op place (h.fits a)) [
+            elim (idle_or_holds s who op place (h.fits a)) [
               | inl job ↦ job
               | inr holds ↦ absurd (let two : Some a ≡ Some b = sym holds ∙ ap s.structure (sym same) ∙ locked in other (sym (some_same two)))
             ]
 
         barred : q ≡ p → IsBarred a p s t
-        barred same = stays_barred s a p c b turn.events turns.done.kinds turns.done.can (ap s.structure (sym same) ∙ locked) (idle_here same)
+        barred same = stays_barred s a p c b (strand_of op) turn.events turns.done.kinds turns.done.can (ap s.structure (sym same) ∙ locked) (idle_here same)
 
         by_process : (q ≡ p) ⊎ (q ≡ p → ⊥) → IsParentKept q s t
         by_process (inl same) =
@@ -325,25 +558,22 @@ module _ (script : ScriptValue) (valid : IsScript script) (r : RunState) (h : St
               entry = subst (λ (k : ℕ). t.entry k ≡ s.entry k) (sym same) bars.entry;
             }
         by_process (inr away) =
-            let same : of_process t q ≡ of_process s q = left.process q (apart q p away) (apart q c (born_apart s a p q op place (h.fits a) lives away)) in
-            record {
-              structure = ap (λ (o : OfProcess). o.structure) same;
-              table = ap (λ (o : OfProcess). o.table) same;
-              entry = ap (λ (o : OfProcess). o.entry) same;
-            }
+            parent_same (left.process q (apart q p away) (apart q c (born_apart s who q op place (h.fits a) lives away)))
 
     -- a growing child is not the process that has a turn, and not the child that this brings
-    growing_apart : (child : ℕ) → s.birth child ≡ growing q → child ≡ p → ⊥
-    growing_apart child grows same = let lives : s.birth p ≡ born = moves.birth in let e : s.birth child ≡ s.birth p = ap s.birth same in cc
-
-    child_kept : (k child : ℕ) → ForksAt script b k child → (child ≡ p → ⊥) → of_process t child ≡ of_process s child
-    child_kept k child forks away =
-        left.process child (apart child p away)
-        (apart child c (other_child script valid a p place.answered op refl b k child forks away (λ own same. other own)))
+    child_kept : (k child : ℕ) → ForksAt script b k child → s.birth child ≡ growing q → of_process t child ≡ of_process s child
+    child_kept k child forks grows =
+        elim going [
+          | inl about ↦ (quiet about).process child
+          | inr moves ↦ left.process child (apart child p (away moves)) (apart child c (other_child script valid a p place.answered op refl b k child forks (away moves) (λ own same. other own)))
+        ]
+      where
+        away : IsGoing place p (plain_of s) turn.whats → child ≡ p → ⊥
+        away moves same = let lives : s.birth p ≡ born = moves.birth in let e : s.birth child ≡ s.birth p = ap s.birth same in cc
 
     forking_kept : (k child u v : ℕ) (done : List ℕ) → ForksAt script b k child → s.birth q ≡ born → IsForking s b q child u v done → IsForking t b q child u v done
     forking_kept k child u v done forks lives at =
-        let same = child_kept k child forks (growing_apart child at.birth) in
+        let same = child_kept k child forks at.birth in
         let kept = parent_kept lives at.locked in
         let rights : t.right child ≡ s.right child = ap (λ (o : OfProcess). o.right) same in
         record {
@@ -358,7 +588,7 @@ module _ (script : ScriptValue) (valid : IsScript script) (r : RunState) (h : St
 
     counted_kept : (k child : ℕ) (done : List ℕ) (page u v : ℕ) → ForksAt script b k child → s.birth q ≡ born → IsForking s b q child u v done → HasCounted s b q child done page → HasCounted t b q child done page
     counted_kept k child done page u v forks lives at has =
-        let same = child_kept k child forks (growing_apart child at.birth) in
+        let same = child_kept k child forks at.birth in
         let kept = parent_kept lives at.locked in
         let rights : t.right child ≡ s.right child = ap (λ (o : OfProcess). o.right) same in
         record {
@@ -385,44 +615,94 @@ module _ (script : ScriptValue) (valid : IsScript script) (r : RunState) (h : St
     job_kept : t.job b ≡ s.job b
     job_kept = left.job b (apart b a other)
 
-    op_kept : (its : Place) (o : Option Op) → present_op script b its ≡ o → (0 < its.far → s.birth q ≡ born) → ((child : ℕ) → ForksAt script b its.answered child → its.far ≡ 0 → t.birth child ≡ unborn) → FitsAt s b q o its → FitsAt t b q o its
-    op_kept its None is begun yet fits = (job_kept ∙ fits.0, fits.1)
-    op_kept its (Some (Map page n rights)) is begun yet fits = (job_kept ∙ fits.0, fits.1)
-    op_kept its (Some (Unmap page n)) is begun yet fits = (job_kept ∙ fits.0, fits.1)
-    op_kept its (Some (Protect page n rights)) is begun yet fits = (job_kept ∙ fits.0, fits.1)
-    op_kept its (Some (Discard page n)) is begun yet fits = (job_kept ∙ fits.0, fits.1)
-    op_kept its (Some (Load page word)) is begun yet fits = (job_kept ∙ fits.0, fits.1)
-    op_kept its (Some (Store page word value)) is begun yet fits = (job_kept ∙ fits.0, fits.1)
-    op_kept its (Some (Fork child)) is begun yet fits =
-        subst (FitsFork t b q child its) (sym job_kept) (fork_kept its.answered child its (s.job b) is begun (yet child is) fits)
-    op_kept its (Some Exit) is begun yet fits = job_kept ∙ fits
+    taken_kept : t.taken b ≡ s.taken b
+    taken_kept = pins.taken b other
 
-  fits_other : (b : ℕ) → (b ≡ a → ⊥) → FitsAt t b (process_of script b) (present_op script b (r.places b)) (r.places b)
+    rests_kept : Rests s b → Rests t b
+    rests_kept rests = (job_kept ∙ rests.0, taken_kept ∙ rests.1)
+
+    -- what it holds stays, before the turn and behind it
+
+    held_kept : (handle : ℕ) → is_held_by (s.handle handle) b ≡ true → t.handle handle ≡ s.handle handle
+    held_kept handle is =
+        let holds = is_holder (s.handle handle) b is in
+        let kept = pins.unheld handle (λ makes yet. held_made (s.handle handle) b holds yet)
+        (λ own. other (one_holder (s.handle handle) b a holds own)) (λ is_given. held_ungiven (s.handle handle) b a holds is_given) in
+        kept.handle
+
+    left_kept : (handle far : ℕ) → HasLeft s b handle far → HasLeft t b handle far
+    left_kept handle far has is =
+        let kept = pins.held_then handle b other (is_holder (t.handle handle) b is) in
+        subst₂ (λ (x : Handle) (xs : List ℕ). is_held_by x b ≡ true → (0 < length xs) × (length xs + far ≡ length (objects_of x))) (sym kept.handle) (sym kept.pinned) has is
+
+    pin_kept : (handle page n far : ℕ) (write : Bool) → t.handle handle ≡ unmade → StandsPin s b q handle page n write far → StandsPin t b q handle page n write far
+    pin_kept handle page n far write yet at =
+        record { within = at.within; yet = yet; taken = subst (HasTaken q page write far) (sym taken_kept) at.taken }
+
+    op_kept : (its : Place) (o : Option Op) → present_op script b its ≡ o → (0 < its.far → birth_for s.birth (doer script b) ≡ born) → ((child : ℕ) → ForksAt script b its.answered child → its.far ≡ 0 → t.birth child ≡ unborn) → ((handle : ℕ) → PinsAt script b its.answered handle → t.handle handle ≡ unmade) → FitsAt s (doer script b) o its → FitsAt t (doer script b) o its
+    op_kept its None is begun unforked yet fits = (rests_kept fits.0, fits.1)
+    op_kept its (Some (Map page n rights)) is begun unforked yet fits = (rests_kept fits.0, fits.1)
+    op_kept its (Some (Unmap page n)) is begun unforked yet fits = (rests_kept fits.0, fits.1)
+    op_kept its (Some (Protect page n rights)) is begun unforked yet fits = (rests_kept fits.0, fits.1)
+    op_kept its (Some (Discard page n)) is begun unforked yet fits = (rests_kept fits.0, fits.1)
+    op_kept its (Some (Load page word)) is begun unforked yet fits = (rests_kept fits.0, fits.1)
+    op_kept its (Some (Store page word value)) is begun unforked yet fits = (rests_kept fits.0, fits.1)
+    op_kept its (Some (Pin handle page n write)) is begun unforked yet fits =
+        (job_kept ∙ fits.0, fits.1, pin_kept handle page n its.far write (yet handle (page, n, write, is)) fits.2)
+    op_kept its (Some (Unpin handle)) is begun unforked yet fits = (
+      rests_kept fits.0,
+      fits.1,
+      (λ far. subst (λ (x : Handle). is_held_by x b ≡ true) (sym (held_kept handle (fits.2 far))) (fits.2 far)),
+      left_kept handle its.far fits.3,
+    )
+    op_kept its (Some (Give handle to)) is begun unforked yet fits = (rests_kept fits.0, fits.1)
+    op_kept its (Some (Take handle)) is begun unforked yet fits = (rests_kept fits.0, fits.1)
+    op_kept its (Some (Transfer handle outward index slot n)) is begun unforked yet fits =
+        (rests_kept fits.0, fits.1, fits.2, (λ far. transfers (fits.3 far)), left_kept handle 0 fits.4)
+      where
+        transfers : transfer_denial (s.handle handle) b outward (doer script b).slots slot ((index, n) ∷ []) ≡ None → transfer_denial (t.handle handle) b outward (doer script b).slots slot ((index, n) ∷ []) ≡ None
+        transfers none =
+            let holds = transfer_held (is_held_by (s.handle handle) b) outward (may_write (s.handle handle)) (has_words (length (objects_of (s.handle handle))) ((index, n) ∷ []) && has_slots (doer script b).slots slot ((index, n) ∷ [])) none in
+            subst (λ (x : Handle). transfer_denial x b outward (doer script b).slots slot ((index, n) ∷ []) ≡ None) (sym (held_kept handle holds)) none
+    op_kept its (Some (Fork child)) is begun unforked yet fits =
+        let thread = is_of_thread script valid b its.answered (Fork child) is (λ none. none) in
+        let lives : 0 < its.far → s.birth q ≡ born = λ far. sym (thread_birth (doer script b) s.birth thread) ∙ begun far in
+        (taken_kept ∙ fits.0, subst (FitsFork t b q child its) (sym job_kept) (fork_kept its.answered child its (s.job b) is lives (unforked child is) fits.1))
+    op_kept its (Some Exit) is begun unforked yet fits = rests_kept fits
+
+  fits_other : (b : ℕ) → (b ≡ a → ⊥) → FitsAt t (doer script b) (present_op script b (r.places b)) (r.places b)
   fits_other b other =
-      elim going [
-        | inl none ↦ subst (λ (u : CoreState). FitsAt u b (process_of script b) (present_op script b (r.places b)) (r.places b)) (sym (still_same none)) (h.fits b)
-        | inr moves ↦ op_kept b other moves (r.places b) (present_op script b (r.places b)) refl (h.begun b)
-            (λ child forks far. unforked_other b other (r.places b).answered child forks (inr (refl, far))) (h.fits b)
-      ]
+      op_kept b other (r.places b) (present_op script b (r.places b)) refl (h.begun b)
+      (λ child forks far. unforked_other b other (r.places b).answered child forks (inr (refl, far)))
+      (λ handle makes. yet_kept b (r.places b).answered handle makes (omega arith) (λ own here. other own))
+      (h.fits b)
 
-  born_on : (q : ℕ) → s.birth q ≡ born → t.birth q ≡ born
-  born_on q is = stays_born s a p c turn.events turns.done.kinds turns.done.can q is
+  born_on : (b : ℕ) → birth_for s.birth (doer script b) ≡ born → birth_for t.birth (doer script b) ≡ born
+  born_on b is =
+      waits_no_more (doer script b).thread (s.birth (process_of script b)) (t.birth (process_of script b))
+      (stays_born s a p c (strand_of op) turn.events turns.done.kinds turns.done.can (process_of script b)) is
 
   stands : Law → Stands script (run_after script r a)
   stands law =
       record {
         sound = (leads law s turn.events h.sound turns.done.can).sound;
-        calm = stays_calm s a p c turn.events turns.done.kinds h.calm;
+        calm = stays_calm s a p c (strand_of op) turn.events turns.done.kinds h.calm;
         rest = turns.done.rest;
         few = few_on law;
-        unfailed = λ q is. h.unfailed q (failed_before s a p c turn.events turns.done.kinds turns.done.can q is);
+        unfailed = λ k is. h.unfailed k (failed_before s a p c (strand_of op) turn.events turns.done.kinds turns.done.can k is);
         declared = declared_on;
-        fits = at_others (λ (b : ℕ) (q : Place). FitsAt t b (process_of script b) (present_op script b q) q) a behind r.places fits_own fits_other;
-        begun = at_each (λ (b : ℕ) (q : Place). 0 < q.far → t.birth (process_of script b) ≡ born) a behind r.places
-            (λ far. born_on p (keeps_begun turns.shape (h.begun a) far)) (λ b far. born_on (process_of script b) (h.begun b far));
+        fits = at_others (λ (b : ℕ) (k : Place). FitsAt t (doer script b) (present_op script b k) k) a behind r.places fits_own fits_other;
+        begun = at_each (λ (b : ℕ) (k : Place). 0 < k.far → birth_for t.birth (doer script b) ≡ born) a behind r.places
+            (λ far. born_on a (keeps_begun turns.shape (h.begun a) far)) (λ b far. born_on b (h.begun b far));
         unforked = λ b k child forks.
-            at_others (λ (d : ℕ) (q : Place). ForksAt script d k child → IsAhead q k → t.birth child ≡ unborn) a behind r.places
+            at_others (λ (d : ℕ) (j : Place). ForksAt script d k child → IsAhead j k → t.birth child ≡ unborn) a behind r.places
             (λ here. unforked_own k child here) (λ d other here. unforked_other d other k child here) b forks;
+        unpinned = unpinned_on;
+        yet_unmade = λ b k handle makes.
+            at_others (λ (d : ℕ) (j : Place). PinsAt script d k handle → j.answered ≤ k → t.handle handle ≡ unmade) a behind r.places
+            (λ here least. yet_own k handle here least) (λ d other here least. yet_kept d k handle here least (λ own same. other own)) b makes;
+        made = made_on;
+        handles = handles_on;
       }
 
 pub stands_on : Law → (script : ScriptValue) → IsScript script → (r : RunState) → Stands script r → (a : ℕ) → Stands script (run_after script r a)
@@ -474,7 +754,11 @@ stands_first starts script valid =
       few = few_first (length script.processes) script.frames.movable script.frames.normal (starts_born script);
       unfailed = λ p. starts_unfailed (starts_born script p);
       declared = λ p. starts_declared script p (process_at script p) refl;
-      fits = λ a. fresh_fits script valid (run_start script).core a (process_of script a) 0 refl (unforked a 0);
+      fits = λ a. fresh_fits script valid (run_start script).core (doer script a) a 0 (refl, refl) (unforked a 0) (λ h makes. refl) (λ h holds. absurd (cc holds));
       begun = λ a far. absurd (omega arith);
       unforked = λ a k child forks ahead. unforked a k child forks;
+      unpinned = λ a k child forks p. refl;
+      yet_unmade = λ a k h makes least. refl;
+      made = λ h some. absurd (some refl);
+      handles = λ h. refl;
     }

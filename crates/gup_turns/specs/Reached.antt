@@ -1,5 +1,5 @@
 -- What is known of each state that turns lead to, whoever takes them.
-use Rattle.std.specs.Prelude.{◌≡◌, ℕ, ◌+◌, ◌*◌, ◌≤◌, ◌<◌, ◌==◌, Bool, false, if◌then◌else◌, List, [], ◌∷◌, length, slice_get, Contains, Option, Some, None, IsSome}
+use Rattle.std.specs.Prelude.{◌≡◌, ℕ, ◌+◌, ◌*◌, ◌≤◌, ◌<◌, ◌==◌, Bool, true, false, if◌then◌else◌, List, [], ◌∷◌, length, slice_get, Contains, Option, Some, None, IsSome}
 use Rattle.gup_base.specs.declared.entry.Entry.{Entry}
 use Rattle.gup_plain.specs.Event.{page_numbers}
 use Rattle.gup_plain.specs.State.{unborn, growing, failed, Handle, unmade, held, given, gone}
@@ -133,11 +133,12 @@ StandsHandle back pinned (given to objects write) =
 abbrev pub back_in : ScriptValue → RunState → (handle a : ℕ) → ℕ
 back_in script r handle a = given_back (present_op script a (r.places a)) handle (r.places a).far
 
--- The core state is sound. No process has failed, and where the script has a fork none has pinned; those that are born or
--- growing are declared. Each entry is of a mapped page, and its frame has a reference. No actor but one that forks is in
--- the middle of anything, none but one that pins has taken pages, an operation that goes over pages or words stands at one
--- of them, and no actor has answered more operations than it has. Pins are of declared handles, and the weight of each of
--- their pages is in the count of its frame. Counts and sequences stay small.
+-- The core state is sound. No process has failed, and where the script has a fork none has pinned; those that are born
+-- or growing are declared. Each entry is of a mapped page, and its frame has a reference. No actor but one that forks
+-- is in the middle of anything, none but one that pins has taken pages, an operation that goes over pages or words
+-- stands at one of them, an unpin has given back fewer than the most pages of a pin, and no actor has answered more
+-- operations than it has. Pins are of declared handles, and the weight of each of their pages is in the count of its
+-- frame. Counts and sequences stay small.
 pub record IsStanding (script : ScriptValue) (r : RunState) : Type 0 where
   pub sound : IsSound r.core
   pub unfailed : (p : ℕ) → r.core.birth p ≡ failed → ⊥
@@ -152,11 +153,13 @@ pub record IsStanding (script : ScriptValue) (r : RunState) : Type 0 where
   pub forks : (a child : ℕ) → present_op script a (r.places a) ≡ Some (Fork child) → StandsFork r.core a (process_of script a) child (r.core.job a)
   pub untaken : (a : ℕ) → IsNoPin (present_op script a (r.places a)) → r.core.taken a ≡ []
   pub pins : (a handle page n : ℕ) (write : Bool) → present_op script a (r.places a) ≡ Some (Pin handle page n write) → StandsPin r.core a (process_of script a) handle page n write (r.places a).far
+  pub flagged : (a handle page n : ℕ) (write : Bool) → present_op script a (r.places a) ≡ Some (Pin handle page n write) → 0 < (r.places a).far → r.core.has_pinned (process_of script a) ≡ true
   pub handles : (h : ℕ) → StandsHandle (back_in script r h) (r.core.pinned h) (r.core.handle h)
   pub made : (h : ℕ) → (r.core.handle h ≡ unmade → ⊥) → h < length script.handles
   pub weighed : (h k f : ℕ) → slice_get (r.core.pinned h) k ≡ Some f → bias ≤ r.core.count f
   pub ungot : (h : ℕ) → r.core.got h ≡ None
   pub unmaps : (a page n : ℕ) → present_op script a (r.places a) ≡ Some (Unmap page n) → (r.places a).far < n
   pub discards : (a page n : ℕ) → present_op script a (r.places a) ≡ Some (Discard page n) → (r.places a).far < n
+  pub unpins : (a handle : ℕ) → present_op script a (r.places a) ≡ Some (Unpin handle) → (r.places a).far < most_pinned
   pub transfers : (a handle : ℕ) (outward : Bool) (index slot n : ℕ) → present_op script a (r.places a) ≡ Some (Transfer handle outward index slot n) → (r.places a).far < n
   pub answered : (a : ℕ) → (r.places a).answered ≤ length (ops_of script a)

@@ -2,7 +2,7 @@
 use Rattle.std.proofs.Common.{subst}
 use Rattle.gup_turns.specs.Reached.{IsStanding}
 use Rattle.gup_turns.specs.Run.{RunState, run_start}
-use Rattle.gup_turns.proofs.Ends.{end_turns, end_turned, waits_for_process}
+use Rattle.gup_turns.proofs.Ends.{end_turns, end_turned, waits_for_birth_or_pin}
 use Rattle.gup_turns.proofs.runs_end_at_waits.Goals as goal
 
 pub returns-clause-ends : goal.returns-clause-ends
@@ -13,4 +13,4 @@ returns-clause-waits c script turns end valid run a waiting waits =
     let led = end_turned script turns (run_start script) end run in
     let stands = subst (λ (r : RunState). IsStanding script r) led.1 (c.reached_states_stand.ensures script led.0 valid) in
     let stuck = end_turns script turns (run_start script) end (λ some. some) run in
-    waits_for_process script valid end stands stuck a waiting waits
+    waits_for_birth_or_pin script valid end stands stuck a waiting waits

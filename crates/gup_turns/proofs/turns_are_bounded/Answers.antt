@@ -3,4 +3,4 @@ use Rattle.gup_turns.proofs.Spending.{bounded_turn}
 use Rattle.gup_turns.proofs.turns_are_bounded.Goals as goal
 
 pub returns : goal.returns
-returns c script r a op valid stands is free = bounded_turn script r stands a op is free
+returns c script r a op valid stands is free = bounded_turn script valid r stands a op is free

@@ -1,0 +1,200 @@
+//! Pins: they are made page by page, given from one actor to another, and given back page by page.
+ghost use Rattle.std.specs.Prelude.{◌≡◌, ℕ, ◌+◌, ◌≤◌, ◌<◌, ◌^◌, true, length, if◌then◌else◌};
+ghost use Rattle.arrayvec.specs.ArrayVec.{array_vec_len};
+ghost use Rattle.gup_frames.specs.Frames.{FrameLists, frames_of};
+ghost use Rattle.gup_space.specs.Space.{space_of};
+ghost use Rattle.gup_handles.specs.Handles.{handles_of, unmade, IsGivenTo};
+ghost use Rattle.gup_turns.specs.Turn.{unpin_turn, give_turn, take_turn, cause_of as cause};
+ghost use Rattle.gup_ops.specs.Tidy.{IsTidy};
+ghost use Rattle.gup_ops.specs.Said.{whats_of};
+ghost use Rattle.gup_ops.specs.Pins.{IsPinTurn, IsHandleTurn, IsWeighed};
+
+use crate::loads::answer_of;
+use crate::mappings::page_behind;
+use crate::said::{Said, done, refused};
+use arrayvec::ArrayVec;
+use gup_base::{ActorNo, Allowed, FrameNo, HandleNo, PageNo, ProcNo, Want};
+use gup_fault::{Denied, ready_write, unshare};
+use gup_frames::Frames;
+use gup_handles::Handles;
+use gup_plain::{Answer, Cause, PlainEvent};
+use gup_slow::pin_page;
+use gup_space::Space;
+
+// What a pin adds to the count of its frame (`GUP_PIN_COUNTING_BIAS`).
+const BIAS: u64 = 1024;
+
+/// One page of a pin of `n` pages from `page` on, of which `far` are taken. The page is made ready and its frame gets the
+/// weight of a pin (Linux's `__get_user_pages`, `mm/gup.c`). The last page's turn makes the handle, and so does the turn of
+/// a page that is refused behind others: the pin then has those (this project's own: Linux leaves a short count to its
+/// caller). Where the first page is refused, the pin is. Has-pinned is set before the first page is tried.
+pub fn pin(
+    space: &mut Space,
+    frames: &mut Frames,
+    handles: &mut Handles,
+    taken: &mut ArrayVec<FrameNo, 16>,
+    actor: ActorNo,
+    proc: ProcNo,
+    handle: HandleNo,
+    page: PageNo,
+    n: u8,
+    write: bool,
+    far: u16,
+) -> Said
+    requires tidy { IsTidy (frames_of frames.old) (space_of space.old) }
+    requires table { (space_of space.old).table ≡ None }
+    requires few { (f : ℕ) → (frames_of frames.old).count f < 2 ^ 40 }
+    requires unmade { handles_of handles.old handle ≡ unmade }
+    requires taken { array_vec_len taken.old ≡ far }
+    requires within { far < n }
+    requires most { n ≤ 16 }
+    requires range { page + n ≤ 2 ^ 35 }
+    ensures { IsPinTurn (record {
+        old_frames = frames_of frames.old; new_frames = frames_of frames.new;
+        old_space = space_of space.old; new_space = space_of space.new;
+        old_pins = handles_of handles.old; new_pins = handles_of handles.new;
+        old_taken = taken.old.items; new_taken = taken.new.items
+        }) actor proc handle page n write far (whats_of result) }
+{
+    if far == 0 {
+        space.set_pinned();
+    }
+    let page = page_behind(page, far);
+    match ready(space, frames, page, write) {
+        Ok(()) => {
+            let want = Want { write, long: false };
+            taken.push(pin_page(space, frames, page, want));
+            let tried = PlainEvent::PinTry {
+                actor,
+                proc,
+                page,
+                write,
+            };
+            if far + 1 < u16::from(n) {
+                return happened(tried);
+            }
+            hold(handles, taken, actor, handle, write);
+            Said {
+                event: Some(tried),
+                next: Some(PlainEvent::PinOk { actor, handle }),
+                answer: Some(Answer::Pinned(n)),
+            }
+        }
+        Err(denied) if far == 0 => refused(answer_of(denied)),
+        Err(denied) => {
+            hold(handles, taken, actor, handle, write);
+            let answer = Answer::Short {
+                got: far as u8,
+                wanted: n,
+                cause: cause_of(denied),
+            };
+            done(PlainEvent::PinOk { actor, handle }, answer)
+        }
+    }
+}
+
+// Makes the page ready for a pin.
+fn ready(
+    space: &mut Space,
+    frames: &mut Frames,
+    page: PageNo,
+    write: bool,
+) -> Result<(), Denied> {
+    space.has_room(page);
+    if write {
+        ready_write(space, frames, page, Allowed::Any)
+    } else {
+        unshare(space, frames, page, Allowed::Any)
+    }
+}
+
+// What the running pin has taken is the handle's.
+fn hold(
+    handles: &mut Handles,
+    taken: &mut ArrayVec<FrameNo, 16>,
+    actor: ActorNo,
+    handle: HandleNo,
+    write: bool,
+) {
+    handles.hold(handle, actor, taken, write);
+    taken.clear();
+}
+
+// Why a page ended a short pin.
+fn cause_of(denied: Denied) -> Cause {
+    match denied {
+        Denied::Missing => Cause::Missing,
+        Denied::Forbidden => Cause::Forbidden,
+        Denied::NoFrame => Cause::NoFrame,
+    }
+}
+
+// An event, and no answer yet.
+fn happened(event: PlainEvent) -> Said
+    ensures { result ≡ record { event = Some event; next = None; answer = None } }
+{
+    Said {
+        event: Some(event),
+        next: None,
+        answer: None,
+    }
+}
+
+/// One page of an unpin: the last one that the pin still has, whose frame loses the weight of a pin (Linux's
+/// `unpin_user_page`, `mm/gup.c`). With the last of all the pin is gone. `NotHeld` is answered where the actor doesn't hold
+/// the pin.
+pub fn unpin(frames: &mut Frames, handles: &mut Handles, actor: ActorNo, handle: HandleNo) -> Said
+    requires { IsWeighed (frames_of frames.old) (handles_of handles.old handle) }
+    ensures { IsHandleTurn (record {
+        old_frames = frames_of frames.old; new_frames = frames_of frames.new;
+        old_pins = handles_of handles.old; new_pins = handles_of handles.new;
+        old_store = None; new_store = None
+        }) actor (λ s. unpin_turn s actor handle) (whats_of result) }
+{
+    let Ok(frame) = handles.drop_last(handle, actor) else {
+        return refused(Answer::NotHeld);
+    };
+    frames.put(frame, BIAS);
+    if handles.pages(handle, actor).is_ok() {
+        return silent();
+    }
+    done(PlainEvent::Unpin { actor, handle }, Answer::Plain)
+}
+
+// Neither an event nor an answer.
+fn silent() -> Said
+    ensures { result ≡ record { event = None; next = None; answer = None } }
+{
+    Said {
+        event: None,
+        next: None,
+        answer: None,
+    }
+}
+
+/// Gives the actor's pin to another, or to itself: `NotHeld` where the actor doesn't hold it.
+pub fn give(handles: &mut Handles, actor: ActorNo, handle: HandleNo, to: ActorNo) -> Said
+    ensures { (frames : FrameLists) → IsHandleTurn (record {
+        old_frames = frames_of frames; new_frames = frames_of frames;
+        old_pins = handles_of handles.old; new_pins = handles_of handles.new;
+        old_store = None; new_store = None
+        }) actor (λ s. give_turn s actor handle to) (whats_of result) }
+{
+    if handles.give(handle, actor, to).is_err() {
+        return refused(Answer::NotHeld);
+    }
+    done(PlainEvent::Give { actor, handle, to }, Answer::Plain)
+}
+
+/// Takes the pin that is given to the actor.
+pub fn take_over(handles: &mut Handles, actor: ActorNo, handle: HandleNo) -> Said
+    requires { IsGivenTo (handles_of handles.old handle) actor }
+    ensures { (frames : FrameLists) → IsHandleTurn (record {
+        old_frames = frames_of frames; new_frames = frames_of frames;
+        old_pins = handles_of handles.old; new_pins = handles_of handles.new;
+        old_store = None; new_store = None
+        }) actor (λ s. take_turn actor handle) (whats_of result) }
+{
+    handles.take(handle, actor);
+    done(PlainEvent::Take { actor, handle }, Answer::Plain)
+}
