@@ -7,10 +7,10 @@ use Rattle.gup_plain.specs.declared.note.Waiting.{Waiting}
 use Rattle.gup_plain.specs.declared.note.Waiting.TheVariants as waitings
 use Rattle.gup_script.specs.declared.op.Op.{Op}
 use Rattle.gup_script.specs.Script.{ScriptValue}
-use Rattle.gup_follows.specs.Place.{has_finished, ops_of, process_of}
-use Rattle.gup_turns.specs.Cause.{HaveFinished, WaitsForProcess}
+use Rattle.gup_follows.specs.Place.{has_finished, ops_of, doer}
+use Rattle.gup_turns.specs.Cause.{HaveFinished, WaitsForBirthOrPin}
 use Rattle.gup_turns.specs.Run.{RunState, op_in, waiting_with, waiting_in, is_ready, can_go, IsCoreRun}
-use Rattle.gup_lines.specs.Text.{NamesProcess, text_of}
+use Rattle.gup_lines.specs.Text.{NamesWaiting, text_of}
 use Rattle.gup.specs.Report.{HasRun, IsRunOf, IsEnd}
 use Rattle.gup.specs.Stuck.{IsFinishedRun, IsStuckRun, AreWaiting, stuck_of, stuck_lines, stuck_text, run_text}
 
@@ -32,15 +32,16 @@ unready_waits script end a None w is waits left stays =
 unready_waits script end a (Some op) (Some waiting) is waits left stays = (waiting, waits)
 unready_waits script end a (Some op) None is waits left stays = absurd (cc stays)
 
-pub all_wait : (script : ScriptValue) (end : RunState) → ((a : ℕ) → a < length script.actors → can_go script end a ≡ false) → ((a : ℕ) (w : Waiting) → waiting_in script end a ≡ Some w → WaitsForProcess script w) → AreWaiting script end
+pub all_wait : (script : ScriptValue) (end : RunState) → ((a : ℕ) → a < length script.actors → can_go script end a ≡ false) → ((a : ℕ) (w : Waiting) → waiting_in script end a ≡ Some w → WaitsForBirthOrPin script w) → AreWaiting script end
 all_wait script end stays named a below left =
     let found = unready_waits script end a (op_in script end a) (waiting_in script end a) refl refl left (stays a below) in
     (found.0, found.1, named a found.0 found.1)
 
 -- lines
 
-pub names_process : (script : ScriptValue) (w : Waiting) → WaitsForProcess script w → NamesProcess script w
-names_process script w waits = subst (λ (x : Waiting). NamesProcess script x) (sym waits.2) waits.1
+pub names_process : (script : ScriptValue) (w : Waiting) → WaitsForBirthOrPin script w → NamesWaiting script w
+names_process script w (inl process) = subst (λ (x : Waiting). NamesWaiting script x) (sym process.2) process.1
+names_process script w (inr pin) = subst (λ (x : Waiting). NamesWaiting script x) (sym pin.2) pin.1
 
 -- where all have finished there are none
 none_stuck : (script : ScriptValue) (end : RunState) (n : ℕ) → n ≤ length script.actors → HaveFinished script end → stuck_lines script end n ≡ []
@@ -48,7 +49,7 @@ none_stuck script end zero most finished = refl
 none_stuck script end (suc n) most finished =
     let before = none_stuck script end n (omega arith) finished in
     let done : op_in script end n ≡ None = op_of_finished script end n (finished n (omega arith)) in
-    let waits : waiting_in script end n ≡ None = ap (waiting_with end.core n (process_of script n)) done in
+    let waits : waiting_in script end n ≡ None = ap (waiting_with end.core (doer script n)) done in
     ap (λ (l : List ℕ). l ++ stuck_of script n (waiting_in script end n)) before ∙ ap (stuck_of script n) waits
 
 pub finished_text : (script : ScriptValue) (notes : List NoteValue) (end : RunState) → HaveFinished script end → run_text script notes end ≡ text_of script notes

@@ -4,7 +4,7 @@ use Rattle.gup_plain.specs.Note.{NoteValue}
 use Rattle.gup_plain.specs.declared.note.Waiting.{Waiting}
 use Rattle.gup_script.specs.Script.{ScriptValue}
 use Rattle.gup_follows.specs.Place.{has_finished}
-use Rattle.gup_turns.specs.Cause.{HaveFinished, WaitsForProcess}
+use Rattle.gup_turns.specs.Cause.{HaveFinished, WaitsForBirthOrPin}
 use Rattle.gup_turns.specs.Run.{RunState, IsCoreRun, waiting_in}
 use Rattle.gup_sched.specs.Ran.{IsStuckAt}
 use Rattle.gup_lines.specs.Text.{stuck_line, text_of}
@@ -13,11 +13,11 @@ use Rattle.gup_lines.specs.Text.{stuck_line, text_of}
 abbrev pub IsFinishedRun : ScriptValue → List NoteValue → Type 0
 IsFinishedRun script notes = (end : RunState) × IsCoreRun script notes end × HaveFinished script end
 
--- each actor that has operations left waits for a process of the script
+-- each actor that has operations left waits for a process of the script to be born, or for a pin of the script
 abbrev pub AreWaiting : ScriptValue → RunState → Type 0
 AreWaiting script end =
     (a : ℕ) → a < length script.actors → has_finished script a (end.places a) ≡ false
-    → (waiting : Waiting) × (waiting_in script end a ≡ Some waiting) × WaitsForProcess script waiting
+    → (waiting : Waiting) × (waiting_in script end a ≡ Some waiting) × WaitsForBirthOrPin script waiting
 
 -- the journal is the script's core run, at whose end actors have operations left, and each of them waits
 abbrev pub IsStuckRun : ScriptValue → List NoteValue → Type 0

@@ -1,6 +1,6 @@
 //! The scripts of examples/, with their statuses and their texts. Written by examples/tests.
 
-pub const EXAMPLES: [(&str, u8, &str); 5] = [
+pub const EXAMPLES: [(&str, u8, &str); 10] = [
     // first.gup
     (
         "gup 1\nframes 8 8 64\nprocess p\nthread t p\non t map 5 1 rw\non t load 5.0\non t store 5.0 7\non t load 5.0\non t unmap 5 1\non t load 5.0\n",
@@ -13,17 +13,47 @@ pub const EXAMPLES: [(&str, u8, &str); 5] = [
         0,
         "t 1 ok\nt 2 ok\nt 3 ok\nt 4 ok\nt 5 ok 8\nu 1 ok 7\n",
     ),
+    // munmap-under-pin.gup
+    (
+        "# A pin keeps the memory that it was made of: behind munmap and a new mapping of the same address the device still reads and\n# writes the old page, and never sees the new one.\n# Linux: mm/gup.c, pin_user_pages takes references of the page itself; mm/memory.c, zap_pte_range drops the mapping's alone.\n# never: d 2 ok 8\n# never: t 8 ok 7\ngup 1\nframes 8 8 64\nprocess p\nthread t p\ndevice d 8\non t map 5 1 rw\non t store 5.0 7\non t pin h 5 1 write\non t give h d\non t unmap 5 1\non t map 5 1 rw\non t store 5.0 8\non d take h\non d out h 0 0 1\non d in h 1 0 1\non d unpin h\non t load 5.1\nturns t*7 d*4 t\n",
+        0,
+        "t 1 ok\nt 2 ok\nt 3 ok 1\nt 4 ok\nt 5 ok\nt 6 ok\nt 7 ok\nd 1 ok\nd 2 ok 7\nd 3 ok 7\nd 4 ok\nt 8 ok 0\n",
+    ),
     // no-frame-after-fork.gup
     (
         "# A fork takes no frame for what it shares, so it succeeds with no memory left; it is a later write that fails for want\n# of it, and succeeds once the other process is gone.\n# Linux: mm/memory.c, wp_page_copy answers VM_FAULT_OOM; behind the child's exit wp_can_reuse_anon_folio.\n# never: t 3 noframe\ngup 1\nframes 1 0 64\nprocess p\nchild c\nthread t p\nthread u c\non t map 5 1 rw\non t store 5.0 7\non t fork c\non t store 5.0 8\non t load 5.0\non u exit\non t store 5.0 9\non t load 5.0\nturns t*8 u*2\n",
         0,
         "t 1 ok\nt 2 ok\nt 3 ok\nt 4 noframe\nt 5 ok 7\nu 1 ok\nt 6 ok\nt 7 ok 9\n",
     ),
+    // read-pin-unshares.gup
+    (
+        "# A pin to read a page that was never written doesn't get the zero page that all processes share: it gets the page's own\n# frame, so that a device sees what the process writes later.\n# Linux: mm/gup.c, a pin that may last breaks the sharing of the zero page by an unshare fault (gup_must_unshare,\n# FAULT_FLAG_UNSHARE); mm/memory.c, do_anonymous_page maps the zero page for a plain read.\n# never: d 2 ok 0\ngup 1\nframes 8 8 64\nprocess p\nthread t p\ndevice d 8\non t map 5 1 rw\non t pin h 5 1 read\non t give h d\non t store 5.0 8\non d take h\non d out h 0 0 1\non d in h 0 0 1\nturns t*4\n",
+        0,
+        "t 1 ok\nt 2 ok 1\nt 3 ok\nt 4 ok\nd 1 ok\nd 2 ok 8\nd 3 forbidden\n",
+    ),
+    // short-pin.gup
+    (
+        "# A pin that meets a hole keeps the pages in front of it and says how many: whoever asked for four must look at the answer\n# before a device goes past the second.\n# Linux: mm/gup.c, __get_user_pages answers how many pages it got, and -EFAULT only where it got none.\n# never: t 3 ok 4\n# never: d 2 ok 0\ngup 1\nframes 8 8 64\nprocess p\nthread t p\ndevice d 1024\non t map 5 4 rw\non t unmap 7 1\non t pin h 5 4 write\non t pin k 7 1 read\non t give h d\non d take h\non d out h 1024 0 1\non d out h 1023 0 1\nturns t*7\n",
+        0,
+        "t 1 ok\nt 2 ok\nt 3 ok 2 of 4 missing\nt 4 missing\nt 5 ok\nd 1 ok\nd 2 range\nd 3 ok 0\n",
+    ),
     // store-during-fork.gup
     (
         "# A thread goes on while another forks: what it writes to a page before that page is shared is in the child, what it\n# writes behind the share waits for the end of the fork and is not.\n# Linux: fork holds the mmap lock (kernel/fork.c, dup_mmap); a write to a page that is read-only by then faults.\n# never: u 2 ok 3\ngup 1\nframes 8 8 64\nprocess p\nchild c\nthread t p\nthread v p\nthread u c\non t map 5 2 rw\non t store 5.0 1\non t store 6.0 1\non t fork c\non v store 6.0 2\non v store 6.0 3\non u load 5.0\non u load 6.0\nturns t*6 v t*2 v*2\n",
         0,
         "t 1 ok\nt 2 ok\nt 3 ok\nv 1 ok\nt 4 ok\nv 2 ok\nu 1 ok 1\nu 2 ok 2\n",
+    ),
+    // stuck.gup
+    (
+        "# Two threads that each hold the pin which the other is to take wait for ever, and the run says for what.\n# Linux: mm/gup.c knows no such wait; it is whoever hands buffers on that deadlocks, and the model shows it as such.\n# never: t 3 ok\ngup 1\nframes 8 8 64\nprocess p\nthread t p\nthread v p\non t map 5 2 rw\non t pin h 5 1 read\non v pin k 6 1 read\non t take k\non t give h v\non v take h\non v give k t\nturns t*2 v\n",
+        4,
+        "t 1 ok\nt 2 ok 1\nv 1 ok 1\nstuck t handle k\nstuck v handle h\n",
+    ),
+    // two-pins.gup
+    (
+        "# Two pins of one page are pins of one frame: what a device writes through the one it reads through the other, also once the\n# process has discarded the page and sees zeros.\n# Linux: mm/gup.c, try_grab_folio adds the bias for each pin; mm/madvise.c, MADV_DONTNEED drops the mapping's reference.\n# never: d 5 ok 0\n# never: t 8 ok 7\ngup 1\nframes 8 8 64\nprocess p\nthread t p\ndevice d 8\non t map 5 1 rw\non t store 5.0 7\non t pin h 5 1 write\non t pin k 5 1 write\non t give h d\non t give k d\non t discard 5 1\non t load 5.0\non d take h\non d take k\non d out h 0 0 1\non d in k 1 0 1\non d out h 1 1 1\nturns t*8\n",
+        0,
+        "t 1 ok\nt 2 ok\nt 3 ok 1\nt 4 ok 1\nt 5 ok\nt 6 ok\nt 7 ok\nt 8 ok 0\nd 1 ok\nd 2 ok\nd 3 ok 7\nd 4 ok 7\nd 5 ok 7\n",
     ),
     // write-after-fork.gup
     (

@@ -19,7 +19,7 @@ const FIRST: &str =
 const FIRST_TEXT: &str = "t 1 ok\nt 2 ok 0\nt 3 ok\nt 4 ok 7\nt 5 ok\nt 6 missing\n";
 
 /// Scripts, with the statuses and the texts of their runs.
-const RUNS: [(&str, u8, &str); 27] = [
+const RUNS: [(&str, u8, &str); 30] = [
     // Nobody has anything to do.
     ("gup 1\nframes 8 8 64\nprocess p\nthread t p\n", 0, ""),
     ("gup 1\nframes 8 8 64\n", 0, ""),
@@ -62,6 +62,24 @@ const RUNS: [(&str, u8, &str); 27] = [
         "gup 1\nframes 1 0 64\nprocess p\nthread t p\non t map 5 3 rw\non t store 6.0 4\non t exit\non t load 6.0\non t map 6 1 rw\non t load 6.0\n",
         0,
         "t 1 ok\nt 2 ok\nt 3 ok\nt 4 missing\nt 5 ok\nt 6 ok 0\n",
+    ),
+    // What denies a pin, and where it ends.
+    (
+        "gup 1\nframes 8 8 64\nprocess p\nthread t p\non t load 5.0\non t map 5 1 r\non t store 5.0 1\non t pin h 5 1 write\non t map 4 2 rw\non t pin k 5 2 read\non t unpin h\non t unpin k\non t unpin k\n",
+        0,
+        "t 1 missing\nt 2 ok\nt 3 forbidden\nt 4 forbidden\nt 5 overlap\nt 6 ok 1 of 2 missing\nt 7 notheld\nt 8 ok\nt 9 notheld\n",
+    ),
+    // A pin keeps its frame behind its page, and gives it back.
+    (
+        "gup 1\nframes 1 0 64\nprocess p\nthread t p\non t map 5 2 rw\non t pin h 5 2 write\non t pin k 6 1 read\non t unpin k\non t unmap 5 2\non t map 6 1 rw\non t load 6.0\non t unpin h\non t load 6.0\non t unpin h\n",
+        0,
+        "t 1 ok\nt 2 ok 1 of 2 noframe\nt 3 noframe\nt 4 notheld\nt 5 ok\nt 6 ok\nt 7 noframe\nt 8 ok\nt 9 ok 0\nt 10 notheld\n",
+    ),
+    // A pin goes from hand to hand, and a device moves words of it.
+    (
+        "gup 1\nframes 8 8 64\nprocess p\nthread t p\ndevice d 2\non t map 5 2 rw\non t store 6.511 9\non t pin h 5 2 write\non t give h d\non t give h d\non t unpin h\non t take h\non t load 5.511\non t load 6.0\non t unpin h\non d take h\non d out h 1023 1 1\non d out h 1023 0 2\non d in h 0 1 2\non d in h 511 0 2\non d give h d\non d out h 0 0 1\non d take h\non d give h t\n",
+        0,
+        "t 1 ok\nt 2 ok\nt 3 ok 2\nt 4 ok\nd 1 ok\nt 5 notheld\nd 2 ok 9\nt 6 notheld\nd 3 range\nd 4 range\nd 5 ok 0 9\nd 6 ok\nd 7 notheld\nd 8 ok\nd 9 ok\nt 7 ok\nt 8 ok 0\nt 9 ok 9\nt 10 ok\n",
     ),
     // At most 1,024 pages.
     (
@@ -196,7 +214,7 @@ const REFUSALS: [(&str, u32, Reason, &str); 7] = [
         "line 5: name\n",
     ),
     (
-        "gup 1\nframes 8 8 64\nprocess p\nthread t p\non t pin h 5 1 read\n",
+        "gup 1\nframes 8 8 64\nprocess p\nthread t p\non t pin h 5 1 read long\n",
         5,
         Reason::Later,
         "line 5: later\n",

@@ -2,10 +2,10 @@
 ghost use Rattle.std.specs.Prelude.{◌≡◌, ℕ, ◌≤◌, ◌++◌, length, Some, decimal, IfOk, OnOk};
 ghost use Rattle.std.specs.List.{flat_map};
 ghost use Rattle.gup_plain.specs.declared.note.Waiting.{Waiting as WaitingValue};
-ghost use Rattle.gup_turns.specs.Cause.{WaitsForProcess};
+ghost use Rattle.gup_turns.specs.Cause.{WaitsForBirthOrPin};
 ghost use Rattle.gup_turns.specs.Run.{RunState, waiting_in};
 ghost use Rattle.gup_core.specs.Machine.{Shows};
-ghost use Rattle.gup_lines.specs.Text.{line_of, text_of, NamesProcess};
+ghost use Rattle.gup_lines.specs.Text.{line_of, text_of, NamesWaiting};
 ghost use Rattle.gup.specs.Report.{reason_text, refusal_text};
 ghost use Rattle.gup.specs.Stuck.{stuck_of, stuck_text};
 
@@ -37,7 +37,7 @@ fn lines_of(alloc: Global, script: &Script, outcomes: &[Outcome]) -> Result<Vec<
 }
 
 /// Appends a line for each actor that waits, in declared order, with what it waits for. The machine shows a state in
-/// which that is always a process.
+/// which that is always a process to be born, or a pin to be given.
 pub fn push_stuck_lines(
     script: &Script,
     machine: &Machine,
@@ -45,7 +45,7 @@ pub fn push_stuck_lines(
 ) -> Result<(), NoMemory>
     requires same { machine.now.script ≡ script.now }
     requires named { (r : RunState) × Shows machine.now r
-        × ((a : ℕ) (waiting : WaitingValue) → waiting_in script.now r a ≡ Some waiting → WaitsForProcess script.now waiting) }
+        × ((a : ℕ) (waiting : WaitingValue) → waiting_in script.now r a ≡ Some waiting → WaitsForBirthOrPin script.now waiting) }
     ensures { OnOk result ((r : RunState) → Shows machine.now r → text.new.items ≡ text.old.items ++ stuck_text script.now r) }
 {
     for k in 0..script.actors() {
@@ -62,7 +62,7 @@ fn push_stuck_line(
     waiting: Option<Waiting>,
     text: &mut Vec<u8>,
 ) -> Result<(), NoMemory>
-    requires { (w : WaitingValue) → waiting ≡ Some w → NamesProcess script.now w }
+    requires { (w : WaitingValue) → waiting ≡ Some w → NamesWaiting script.now w }
     ensures { OnOk result (text.new.items ≡ text.old.items ++ stuck_of script.now actor waiting) }
 {
     match waiting {

@@ -1,5 +1,5 @@
 //! One handle.
-ghost use Rattle.std.specs.Prelude.{◌≡◌, ℕ, ◌<◌, ◌↔◌, IsTrue, IsSome, IfSome, OnSome, IfNone, MatchOption, if◌then◌else◌};
+ghost use Rattle.std.specs.Prelude.{◌≡◌, ℕ, ◌<◌, ◌≤◌, ◌↔◌, length, IsTrue, IsSome, IfSome, OnSome, IfNone, MatchOption, if◌then◌else◌};
 ghost use Rattle.arrayvec.specs.ArrayVec.{array_vec_len};
 ghost use Rattle.gup_handles.specs.Handles.{unmade, held, got, IsPinOf, IsHeldBy, IsGivenTo, given_to, taken_by, without_last, HasLast};
 
@@ -147,6 +147,7 @@ impl Handle {
     pub(crate) fn pages(&self, actor: ActorNo) -> Option<(&[FrameNo], bool)>
         ensures held { IsSome result ↔ IsPinOf self.now actor }
         ensures pages { IfSome result (λ pages. self.now ≡ held actor pages.0.now pages.1) }
+        ensures few { IfSome result (λ pages. length pages.0.now ≤ 16) }
     {
         if self.is_pin_of(actor) {
             Some((self.frames.as_slice(), self.write))

@@ -1,5 +1,5 @@
 //! All handles.
-ghost use Rattle.std.specs.Prelude.{◌≡◌, ℕ, Bool, ◌<◌, ◌↔◌, IsTrue, IsOk, IfOk, OnOk, OnErr, if◌then◌else◌};
+ghost use Rattle.std.specs.Prelude.{◌≡◌, ℕ, Bool, ◌<◌, ◌≤◌, ◌↔◌, length, IsTrue, IsOk, IfOk, OnOk, OnErr, if◌then◌else◌};
 ghost use Rattle.std.specs.Bool.{OnTrue};
 ghost use Rattle.arrayvec.specs.ArrayVec.{array_vec_len};
 ghost use Rattle.gup_plain.specs.Put.{put};
@@ -141,12 +141,13 @@ impl Handles {
         }
     }
 
-    /// The frames of the pages that the actor's pin still has, in order, and whether the pin may write them.
+    /// The frames of the pages that the actor's pin still has, in order, at most 16, and whether the pin may write them.
     ///
     /// `NotHeld` comes exactly where the actor doesn't hold a pin by the handle.
     pub fn pages(&self, h: HandleNo, actor: ActorNo) -> Result<(&[FrameNo], bool), NotHeld>
         ensures held { IsOk result ↔ IsPinOf (handles_of self.now h) actor }
         ensures pages { IfOk result (λ pages. handles_of self.now h ≡ held actor pages.0.now pages.1) }
+        ensures few { IfOk result (λ pages. length pages.0.now ≤ 16) }
     {
         match self.handles[h.get() as usize].pages(actor) {
             Some(pages) => Ok(pages),

@@ -4,3 +4,7 @@ pub mod Loading
 pub mod Unmapping
 pub mod Mapping
 pub mod Forking
+pub mod Readying
+pub mod Pinning
+pub mod Holding
+pub mod Moving

@@ -36,7 +36,7 @@ read_fault_same F S a p page s none frames space =
     ∙ ap (λ o. read_fault a p page (S.right page) o (free_frame F Any)) (sym none)
 
 -- what a write fault reads of the frame of its entry
-write_fault_reads : (F : FramesValue) (a p page : ℕ) (rights : Option Rights) (entry : Option Entry) (free : Option ℕ) (s : CoreState) → ShowsFrames F s
+pub write_fault_reads : (F : FramesValue) (a p page : ℕ) (rights : Option Rights) (entry : Option Entry) (free : Option ℕ) (s : CoreState) → ShowsFrames F s
     → write_fault a p page rights entry s.mark s.count free ≡ write_fault a p page rights entry F.mark F.count free
 write_fault_reads F a p page None entry free s frames = refl
 write_fault_reads F a p page (Some R) entry free s frames = refl
@@ -270,7 +270,7 @@ read_there c page none unlocked fault there some =
     behind.0 behind.1 (marked (fault.refused 0 0)) there some
 
 -- the free frame is no entry's
-free_apart : (F : FramesValue) (S : SpaceValue) (page f : ℕ) (d : Entry) → IsTidy F S → free_frame F Any ≡ Some f → S.entry page ≡ Some d → f ≡ d.frame → ⊥
+pub free_apart : (F : FramesValue) (S : SpaceValue) (page f : ℕ) (d : Entry) → IsTidy F S → free_frame F Any ≡ Some f → S.entry page ≡ Some d → f ≡ d.frame → ⊥
 free_apart F S page f d tidy free found same =
     let none : (F.count f == 0) ≡ true = lowest_passes 0 (frames_in F) f (λ g. F.count g == 0) free in
     tidy.counted page d found (ap F.count (sym same) ∙ eqb-true (F.count f) 0 none)

@@ -104,7 +104,7 @@ exited_none F S a p last s frames space =
 
 exit_by : (c : Change) (a p page : ℕ) (rights : Option Rights) (entry : Option Entry) (s : CoreState) → IsSome rights → s.entry p page ≡ entry
     → ShowsFrames c.new_frames (run s (takes_down a p page rights entry)) → ShowsSpace p c.new_space (run s (takes_down a p page rights entry))
-    → Leads c p s (exit_turn_by s a p (Some page)) (whats_of (record { event = Some (events.Unmap a p page); answer = None }))
+    → Leads c p s (exit_turn_by s a p (Some page)) (whats_of (record { event = Some (events.Unmap a p page); next = None; answer = None }))
 exit_by c a p page None entry s some found frames space = absurd (cc)
 exit_by c a p page (Some rights) None s some found frames space =
     rw found (record { says = refl; frames = frames; space = space })
@@ -113,7 +113,7 @@ exit_by c a p page (Some rights) (Some e) s some found frames space =
 
 pub exited : (c : Change) (a p page : ℕ) → c.old_space.table ≡ None → page < page_numbers → IsNextPage c.old_space.right 0 page
     → AreEvents c (λ b q. takes_down b q page (c.old_space.right page) (c.old_space.entry page))
-    → IsTurnOf c p (λ s. exit_turn s a p) (whats_of (record { event = Some (events.Unmap a p page); answer = None }))
+    → IsTurnOf c p (λ s. exit_turn s a p) (whats_of (record { event = Some (events.Unmap a p page); next = None; answer = None }))
 exited c a p page unlocked below next made s frames space =
     let behind = made s a p frames space (space.table ∙ unlocked) in
     leads_alike c p s _ _ _

@@ -1,13 +1,18 @@
 //! Pins: they are made page by page, given from one actor to another, and given back page by page.
-ghost use Rattle.std.specs.Prelude.{◌≡◌, ℕ, ◌+◌, ◌≤◌, ◌<◌, ◌^◌, true, length, if◌then◌else◌};
+ghost use Rattle.std.specs.Prelude.{◌≡◌, ℕ, ◌+◌, ◌≤◌, ◌<◌, ◌^◌, true, false, [], OnOk, Some, None};
 ghost use Rattle.arrayvec.specs.ArrayVec.{array_vec_len};
+ghost use Rattle.gup_plain.specs.Put.{put};
 ghost use Rattle.gup_frames.specs.Frames.{FrameLists, frames_of};
 ghost use Rattle.gup_space.specs.Space.{space_of};
-ghost use Rattle.gup_handles.specs.Handles.{handles_of, unmade, IsGivenTo};
+ghost use Rattle.gup_space.specs.Shows.{change_of};
+ghost use Rattle.gup_fault.specs.Refused.{answer_of as answered, denial_of};
+ghost use Rattle.gup_fault.specs.Faults.{IsFault};
+ghost use Rattle.gup_slow.specs.Pins.{IsReady};
+ghost use Rattle.gup_handles.specs.Handles.{handles_of, unmade, held, IsGivenTo};
 ghost use Rattle.gup_turns.specs.Turn.{unpin_turn, give_turn, take_turn, cause_of as cause};
 ghost use Rattle.gup_ops.specs.Tidy.{IsTidy};
 ghost use Rattle.gup_ops.specs.Said.{whats_of};
-ghost use Rattle.gup_ops.specs.Pins.{IsPinTurn, IsHandleTurn, IsWeighed};
+ghost use Rattle.gup_ops.specs.Pins.{IsPinTurn, IsHandleTurn, IsWeighed, raised, fault_to_pin, want_of};
 
 use crate::loads::answer_of;
 use crate::mappings::page_behind;
@@ -50,15 +55,17 @@ pub fn pin(
     requires most { n ≤ 16 }
     requires range { page + n ≤ 2 ^ 35 }
     ensures { IsPinTurn (record {
-        old_frames = frames_of frames.old; new_frames = frames_of frames.new;
-        old_space = space_of space.old; new_space = space_of space.new;
-        old_pins = handles_of handles.old; new_pins = handles_of handles.new;
-        old_taken = taken.old.items; new_taken = taken.new.items
-        }) actor proc handle page n write far (whats_of result) }
+      old_frames = frames_of frames.old;
+      new_frames = frames_of frames.new;
+      old_space = space_of space.old;
+      new_space = space_of space.new;
+      old_pins = handles_of handles.old;
+      new_pins = handles_of handles.new;
+      old_taken = taken.old.items;
+      new_taken = taken.new.items;
+    }) actor proc handle page n write far (whats_of result) }
 {
-    if far == 0 {
-        space.set_pinned();
-    }
+    raise_flag(space, far);
     let page = page_behind(page, far);
     match ready(space, frames, page, write) {
         Ok(()) => {
@@ -82,30 +89,68 @@ pub fn pin(
         }
         Err(denied) if far == 0 => refused(answer_of(denied)),
         Err(denied) => {
-            hold(handles, taken, actor, handle, write);
             let answer = Answer::Short {
                 got: far as u8,
                 wanted: n,
                 cause: cause_of(denied),
             };
+            hold(handles, taken, actor, handle, write);
             done(PlainEvent::PinOk { actor, handle }, answer)
         }
     }
 }
 
-// Makes the page ready for a pin.
-fn ready(
-    space: &mut Space,
-    frames: &mut Frames,
-    page: PageNo,
-    write: bool,
-) -> Result<(), Denied> {
-    space.has_room(page);
-    if write {
-        ready_write(space, frames, page, Allowed::Any)
-    } else {
-        unshare(space, frames, page, Allowed::Any)
+// Before the first page is tried the process has pinned.
+fn raise_flag(space: &mut Space, far: u16)
+    ensures { space_of space.new ≡ raised far (space_of space.old) }
+{
+    if far == 0 {
+        space.set_pinned();
     }
+}
+
+// Makes the page ready for a pin: its frame is exclusive, and its entry writable where the pin is to write.
+fn ready(space: &mut Space, frames: &mut Frames, page: PageNo, write: bool) -> Result<(), Denied>
+    requires tidy { IsTidy (frames_of frames.old) (space_of space.old) }
+    requires table { (space_of space.old).table ≡ None }
+    requires few { (f : ℕ) → (frames_of frames.old).count f < 2 ^ 40 }
+    ensures fault { IsFault (change_of frames.old frames.new space.old space.new) (denial_of result)
+        (λ a p. fault_to_pin (frames_of frames.old) (space_of space.old) a p page write) }
+    ensures ready { OnOk result (IsReady (frames_of frames.new) (space_of space.new) page (want_of write)) }
+{
+    if write {
+        ready_to_write(space, frames, page)
+    } else {
+        ready_to_read(space, frames, page)
+    }
+}
+
+fn ready_to_write(space: &mut Space, frames: &mut Frames, page: PageNo) -> Result<(), Denied>
+    requires tidy { IsTidy (frames_of frames.old) (space_of space.old) }
+    requires table { (space_of space.old).table ≡ None }
+    requires few { (f : ℕ) → (frames_of frames.old).count f < 2 ^ 40 }
+    ensures fault { IsFault (change_of frames.old frames.new space.old space.new) (denial_of result)
+        (λ a p. fault_to_pin (frames_of frames.old) (space_of space.old) a p page true) }
+    ensures ready { OnOk result (IsReady (frames_of frames.new) (space_of space.new) page (want_of true)) }
+{
+    space.has_room(page);
+    let ready = ready_write(space, frames, page, Allowed::Any);
+    frames.are_there();
+    ready
+}
+
+fn ready_to_read(space: &mut Space, frames: &mut Frames, page: PageNo) -> Result<(), Denied>
+    requires tidy { IsTidy (frames_of frames.old) (space_of space.old) }
+    requires table { (space_of space.old).table ≡ None }
+    requires few { (f : ℕ) → (frames_of frames.old).count f < 2 ^ 40 }
+    ensures fault { IsFault (change_of frames.old frames.new space.old space.new) (denial_of result)
+        (λ a p. fault_to_pin (frames_of frames.old) (space_of space.old) a p page false) }
+    ensures ready { OnOk result (IsReady (frames_of frames.new) (space_of space.new) page (want_of false)) }
+{
+    space.has_room(page);
+    let ready = unshare(space, frames, page, Allowed::Any);
+    frames.are_there();
+    ready
 }
 
 // What the running pin has taken is the handle's.
@@ -115,13 +160,20 @@ fn hold(
     actor: ActorNo,
     handle: HandleNo,
     write: bool,
-) {
+)
+    requires unmade { handles_of handles.old handle ≡ unmade }
+    requires some { 0 < array_vec_len taken.old }
+    ensures held { handles_of handles.new ≡ put handle (held actor taken.old.items write) (handles_of handles.old) }
+    ensures empty { taken.new.items ≡ [] }
+{
     handles.hold(handle, actor, taken, write);
     taken.clear();
 }
 
 // Why a page ended a short pin.
-fn cause_of(denied: Denied) -> Cause {
+fn cause_of(denied: Denied) -> Cause
+    ensures { result ≡ cause (answered denied) }
+{
     match denied {
         Denied::Missing => Cause::Missing,
         Denied::Forbidden => Cause::Forbidden,
@@ -146,11 +198,17 @@ fn happened(event: PlainEvent) -> Said
 pub fn unpin(frames: &mut Frames, handles: &mut Handles, actor: ActorNo, handle: HandleNo) -> Said
     requires { IsWeighed (frames_of frames.old) (handles_of handles.old handle) }
     ensures { IsHandleTurn (record {
-        old_frames = frames_of frames.old; new_frames = frames_of frames.new;
-        old_pins = handles_of handles.old; new_pins = handles_of handles.new;
-        old_store = None; new_store = None
-        }) actor (λ s. unpin_turn s actor handle) (whats_of result) }
+      old_frames = frames_of frames.old;
+      new_frames = frames_of frames.new;
+      old_pins = handles_of handles.old;
+      new_pins = handles_of handles.new;
+      old_store = None;
+      new_store = None;
+    }) actor (λ s. unpin_turn s actor handle) (whats_of result) }
 {
+    if handles.pages(handle, actor).is_err() {
+        return refused(Answer::NotHeld);
+    }
     let Ok(frame) = handles.drop_last(handle, actor) else {
         return refused(Answer::NotHeld);
     };
@@ -175,10 +233,13 @@ fn silent() -> Said
 /// Gives the actor's pin to another, or to itself: `NotHeld` where the actor doesn't hold it.
 pub fn give(handles: &mut Handles, actor: ActorNo, handle: HandleNo, to: ActorNo) -> Said
     ensures { (frames : FrameLists) → IsHandleTurn (record {
-        old_frames = frames_of frames; new_frames = frames_of frames;
-        old_pins = handles_of handles.old; new_pins = handles_of handles.new;
-        old_store = None; new_store = None
-        }) actor (λ s. give_turn s actor handle to) (whats_of result) }
+      old_frames = frames_of frames;
+      new_frames = frames_of frames;
+      old_pins = handles_of handles.old;
+      new_pins = handles_of handles.new;
+      old_store = None;
+      new_store = None;
+    }) actor (λ s. give_turn s actor handle to) (whats_of result) }
 {
     if handles.give(handle, actor, to).is_err() {
         return refused(Answer::NotHeld);
@@ -190,10 +251,13 @@ pub fn give(handles: &mut Handles, actor: ActorNo, handle: HandleNo, to: ActorNo
 pub fn take_over(handles: &mut Handles, actor: ActorNo, handle: HandleNo) -> Said
     requires { IsGivenTo (handles_of handles.old handle) actor }
     ensures { (frames : FrameLists) → IsHandleTurn (record {
-        old_frames = frames_of frames; new_frames = frames_of frames;
-        old_pins = handles_of handles.old; new_pins = handles_of handles.new;
-        old_store = None; new_store = None
-        }) actor (λ s. take_turn actor handle) (whats_of result) }
+      old_frames = frames_of frames;
+      new_frames = frames_of frames;
+      old_pins = handles_of handles.old;
+      new_pins = handles_of handles.new;
+      old_store = None;
+      new_store = None;
+    }) actor (λ s. take_turn actor handle) (whats_of result) }
 {
     handles.take(handle, actor);
     done(PlainEvent::Take { actor, handle }, Answer::Plain)

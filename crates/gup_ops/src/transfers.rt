@@ -1,10 +1,12 @@
 //! Transfers of words between the pages of a pin and the store of a device.
-ghost use Rattle.std.specs.Prelude.{◌≡◌, ℕ, ◌+◌, ◌≤◌, ◌<◌, ◌^◌, ◌∷◌, [], length, Ok, Err, Some, None};
-ghost use Rattle.gup_plain.specs.Denial.{transfer_denial};
-ghost use Rattle.gup_frames.specs.Frames.{frames_of};
+ghost use Rattle.std.specs.Prelude.{◌≡◌, ℕ, ◌*◌, ◌/◌, ◌%◌, ◌≤◌, ◌<◌, length, slice_get, Some, None, if◌then◌else◌};
+ghost use Rattle.gup_plain.specs.declared.answer.Answer.TheVariants as answers;
+ghost use Rattle.gup_frames.specs.Frames.{frames_of, IsFrame};
+ghost use Rattle.gup_device.specs.Store.{store_of, IsSlot};
 ghost use Rattle.gup_handles.specs.Handles.{handles_of};
+ghost use Rattle.gup_follows.specs.Follows.{moves_word};
 ghost use Rattle.gup_ops.specs.Said.{whats_of};
-ghost use Rattle.gup_ops.specs.Pins.{IsTransferTurn, IsWeighed};
+ghost use Rattle.gup_ops.specs.Pins.{IsTransferTurn, IsWeighed, HasMoved, slots_in, fits_in, refusal_in};
 
 use crate::said::{Said, refused};
 use gup_base::{ActorNo, FrameNo, HandleNo, WordNo};
@@ -39,59 +41,116 @@ pub fn transfer(
     requires within { far < n }
     requires most { n ≤ 64 }
     ensures { IsTransferTurn (record {
-        old_frames = frames_of frames.old; new_frames = frames_of frames.new;
-        old_pins = handles_of handles.now; new_pins = handles_of handles.now;
-        old_store = store.old; new_store = store.new
-        }) actor handle outward index slot n far (whats_of result) }
+      old_frames = frames_of frames.old;
+      new_frames = frames_of frames.new;
+      old_pins = handles_of handles.now;
+      new_pins = handles_of handles.now;
+      old_store = store.old;
+      new_store = store.new;
+    }) actor handle outward index slot n far (whats_of result) }
 {
+    let slots = slots_of(store);
+    if let Some(denied) = refusal(handles, actor, handle, outward, slots, index, slot, n) {
+        return refused(denied);
+    }
     let Some(store) = store else {
-        return refused(refusal(handles, actor, handle, outward));
-    };
-    let (pages, may_write) = match handles.pages(handle, actor) {
-        Ok(pin) => pin,
-        Err(_) => return refused(Answer::NotHeld),
-    };
-    if !outward && !may_write {
-        return refused(Answer::Forbidden);
-    }
-    if !fits(pages.len(), store.words(), index, slot, n) {
         return refused(Answer::Range);
-    }
-    let at = index + u32::from(far);
-    let frame = pages[(at / WORDS) as usize];
-    let word = WordNo::new(u64::from(at % WORDS)).unwrap();
-    let place = (slot + u32::from(far)) as u16;
-    let value = if outward {
-        store.word_out(frames, frame, word, place)
-    } else {
-        store.word_in(frames, frame, word, place)
     };
-    let event = moved(actor, handle, outward, at, u32::from(place), value);
-    Said {
-        event: Some(event),
-        next: None,
-        answer: if far + 1 == u16::from(n) {
-            Some(Answer::Words)
-        } else {
-            None
-        },
+    let Ok((pages, _)) = handles.pages(handle, actor) else {
+        return refused(Answer::NotHeld);
+    };
+    let at = index + u32::from(far);
+    let place = slot + u32::from(far);
+    let value = move_word(
+        frames,
+        store,
+        frame_at(pages, at),
+        word_at(at),
+        place as u16,
+        outward,
+    );
+    let event = moved(actor, handle, outward, at, place, value);
+    moved_said(event, far + 1 == u16::from(n))
+}
+
+// How many words the store has, if there is one.
+fn slots_of(store: &Option<Store>) -> u16
+    ensures slots { result ≡ slots_in store.now }
+    ensures few { result ≤ 4096 }
+{
+    match store {
+        Some(store) => store.words(),
+        None => 0,
     }
 }
 
-// What refuses a transfer of an actor that has no store.
-fn refusal(handles: &Handles, actor: ActorNo, handle: HandleNo, outward: bool) -> Answer {
-    match handles.pages(handle, actor) {
-        Err(_) => Answer::NotHeld,
-        Ok((_, may_write)) if !outward && !may_write => Answer::Forbidden,
-        Ok(_) => Answer::Range,
+// What refuses a transfer of n words, if something does.
+fn refusal(
+    handles: &Handles,
+    actor: ActorNo,
+    handle: HandleNo,
+    outward: bool,
+    slots: u16,
+    index: u32,
+    slot: u32,
+    n: u8,
+) -> Option<Answer>
+    ensures { result ≡ refusal_in (handles_of handles.now handle) actor outward slots index slot n }
+{
+    let Ok((pages, may_write)) = handles.pages(handle, actor) else {
+        return Some(Answer::NotHeld);
+    };
+    if !outward && !may_write {
+        return Some(Answer::Forbidden);
     }
+    if !fits(pages.len(), slots, index, slot, n) {
+        return Some(Answer::Range);
+    }
+    None
 }
 
 // Whether n words from this index on are words of so many pages, and n slots from this one on are of a store of so many.
-fn fits(pages: usize, slots: u16, index: u32, slot: u32, n: u8) -> bool {
+fn fits(pages: usize, slots: u16, index: u32, slot: u32, n: u8) -> bool
+    requires { pages ≤ 16 }
+    ensures { result ≡ fits_in pages slots index slot n }
+{
     let words = u64::from(n);
     u64::from(index) + words <= u64::from(WORDS) * pages as u64
         && u64::from(slot) + words <= u64::from(slots)
+}
+
+// The frame that has the word with this index, and the word's place in it.
+fn frame_at(pages: &[FrameNo], index: u32) -> FrameNo
+    requires { index < 512 * length pages.now }
+    ensures { slice_get pages.now (index / 512) ≡ Some result }
+{
+    pages[(index / WORDS) as usize]
+}
+
+fn word_at(index: u32) -> WordNo
+    ensures { result ≡ index % 512 }
+{
+    WordNo::new(u64::from(index % WORDS)).unwrap()
+}
+
+// Moves a word of the frame out into the slot, or in from there.
+fn move_word(
+    frames: &mut Frames,
+    store: &mut Store,
+    frame: FrameNo,
+    word: WordNo,
+    slot: u16,
+    outward: bool,
+) -> u64
+    requires slot { IsSlot (store_of store.old) slot }
+    requires there { IsFrame (frames_of frames.old) frame }
+    ensures { HasMoved outward (frames_of frames.old) (frames_of frames.new) store.old store.new frame word slot result }
+{
+    if outward {
+        store.word_out(frames, frame, word, slot)
+    } else {
+        store.word_in(frames, frame, word, slot)
+    }
 }
 
 // The event of a word that moved.
@@ -102,7 +161,9 @@ fn moved(
     index: u32,
     slot: u32,
     value: u64,
-) -> PlainEvent {
+) -> PlainEvent
+    ensures { result ≡ moves_word actor handle outward index slot value }
+{
     if outward {
         PlainEvent::MoveOut {
             actor,
@@ -119,5 +180,17 @@ fn moved(
             slot,
             value,
         }
+    }
+}
+
+// The event, and the answer where it is of the last word.
+fn moved_said(event: PlainEvent, last: bool) -> Said
+    ensures { result ≡ record { event = Some event; next = None; answer = if last then Some answers.Words else None } }
+{
+    let answer = if last { Some(Answer::Words) } else { None };
+    Said {
+        event: Some(event),
+        next: None,
+        answer,
     }
 }

@@ -3,19 +3,19 @@ use Rattle.std.proofs.Common.{◌≡◌, ◌+◌, ◌++◌, ℕ, List, Option, S
 use Rattle.std.specs.Option.{IfSome}
 use Rattle.gup_plain.specs.declared.note.Waiting.{Waiting}
 use Rattle.gup_script.specs.Script.{ScriptValue}
-use Rattle.gup_turns.specs.Cause.{WaitsForProcess}
+use Rattle.gup_turns.specs.Cause.{WaitsForBirthOrPin}
 use Rattle.gup_turns.specs.Run.{RunState, waiting_in}
-use Rattle.gup_lines.specs.Text.{NamesProcess}
+use Rattle.gup_lines.specs.Text.{NamesWaiting}
 use Rattle.gup.specs.Stuck.{stuck_of, stuck_lines}
+use Rattle.gup.proofs.Ended.{names_process}
 use Rattle.gup.proofs.text.push_stuck_lines.Goals as goal
 
-names_process : (script seen : ScriptValue) → seen ≡ script → (r : RunState)
-    → ((a : ℕ) (waiting : Waiting) → waiting_in script r a ≡ Some waiting → WaitsForProcess script waiting)
-    → (a : ℕ) (waits : Option Waiting) → waits ≡ waiting_in seen r a → (w : Waiting) → waits ≡ Some w → NamesProcess script w
-names_process script seen same r named a waits shown w is =
+names_it : (script seen : ScriptValue) → seen ≡ script → (r : RunState)
+    → ((a : ℕ) (waiting : Waiting) → waiting_in script r a ≡ Some waiting → WaitsForBirthOrPin script waiting)
+    → (a : ℕ) (waits : Option Waiting) → waits ≡ waiting_in seen r a → (w : Waiting) → waits ≡ Some w → NamesWaiting script w
+names_it script seen same r named a waits shown w is =
     let here : waiting_in script r a ≡ Some w = ap (λ (s : ScriptValue). waiting_in s r a) (sym same) ∙ sym shown ∙ is in
-    let process = named a w here in
-    subst (NamesProcess script) (sym process.2) process.1
+    names_process script w (named a w here)
 
 one_line_more : (script seen : ScriptValue) → seen ≡ script → (r : RunState) (before now after : List ℕ) (k a : ℕ) (waits : Option Waiting)
     → a ≡ k → waits ≡ waiting_in seen r a → now ≡ before ++ stuck_lines script r k → after ≡ now ++ stuck_of script a waits
@@ -34,7 +34,7 @@ one_line_more script seen same r before now after k a waits number shown so_far 
 
 pub push_stuck_line-requires : goal.push_stuck_line-requires
 push_stuck_line-requires c w is =
-    names_process c.args.script.now _ c.requires.same c.requires.named.0 c.requires.named.2 _ c.waits.result (c.waits.ensures c.requires.named.0 c.requires.named.1) w is
+    names_it c.args.script.now _ c.requires.same c.requires.named.0 c.requires.named.2 _ c.waits.result (c.waits.ensures c.requires.named.0 c.requires.named.1) w is
 
 pub loop-k-preserved : goal.loop-k-preserved
 loop-k-preserved c r shows =

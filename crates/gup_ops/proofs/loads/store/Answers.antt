@@ -37,5 +37,5 @@ returns-in-Err c =
     let a = c.args in
     let change = change_of a.frames.now c.ready_write.new.frames a.space.now c.ready_write.new.space in
     let unallowed = ap allows_store (sym c.entry.ensures) ∙ sym c.allows_store.ensures ∙ c.if-allows_store.false in
-    notes_alike change a.proc _ _ _ (ap whats_of c.refused.ensures ∙ ap (λ x. whats_of (record { event = None; answer = Some x })) c.answer_of.ensures)
+    notes_alike change a.proc _ _ _ (ap whats_of c.refused.ensures ∙ ap (λ x. whats_of (record { event = None; next = None; answer = Some x })) c.answer_of.ensures)
     (store_refused change a.actor a.proc a.page a.word a.value (answer_of c.in-Err.denied) unallowed (c.requires.table (ap not unallowed)) c.in-Err.ensures.fault)

@@ -1,0 +1,43 @@
+use Rattle.std.proofs.Common.{true, false, None, Ok, IfOk, refl, sym, ap, ◌∙◌}
+use Rattle.gup_frames.specs.Frames.{frames_of}
+use Rattle.gup_handles.specs.Handles.{handles_of}
+use Rattle.gup_turns.specs.Turn.{unpin_turn}
+use Rattle.gup_ops.specs.Said.{whats_of}
+use Rattle.gup_ops.proofs.Holding.{handle_change, handle_alike, passed, failed, last_weighed, page_unpinned, unpinned_whats}
+use Rattle.gup_ops.proofs.pins.unpin.Goals as goal
+
+pub put-requires-clause-there : goal.put-requires-clause-there
+put-requires-clause-there c =
+    let a = c.args in
+    (last_weighed (frames_of a.frames.now) (handles_of a.handles.now a.handle) a.actor c.in-Ok.frame c.requires
+    (c.pages.ensures.held.0 (passed c.pages.result (sym c.is_err.ensures.value ∙ c.if-is_err.false))) c.in-Ok.ensures.last).0
+
+pub put-requires-clause-held : goal.put-requires-clause-held
+put-requires-clause-held c =
+    let a = c.args in
+    (last_weighed (frames_of a.frames.now) (handles_of a.handles.now a.handle) a.actor c.in-Ok.frame c.requires
+    (c.pages.ensures.held.0 (passed c.pages.result (sym c.is_err.ensures.value ∙ c.if-is_err.false))) c.in-Ok.ensures.last).1
+
+pub returns-then-is_ok : goal.returns-then-is_ok
+returns-then-is_ok c =
+    let a = c.args in
+    let F = frames_of a.frames.now in
+    let F1 = frames_of c.put.new.self in
+    let H = handles_of a.handles.now in
+    let H1 = handles_of c.drop_last.new.self in
+    let mine = c.pages.ensures.held.0 (passed c.pages.result (sym c.is_err.ensures.value ∙ c.if-is_err.false)) in
+    handle_alike (handle_change F F1 H H1 None None) a.actor (λ s. unpin_turn s a.actor a.handle) (unpinned_whats true a.actor a.handle) _ (ap whats_of c.silent.ensures)
+    (page_unpinned F F1 H H1 a.actor a.handle c.in-Ok.frame true mine c.in-Ok.ensures.last c.put.ensures c.in-Ok.ensures.dropped
+    (λ so. c.pages-2.ensures.held.0 (sym c.is_ok.ensures.value ∙ c.if-is_ok.true)) (λ so. absurd (cc)))
+
+pub returns : goal.returns
+returns c =
+    let a = c.args in
+    let F = frames_of a.frames.now in
+    let F1 = frames_of c.put.new.self in
+    let H = handles_of a.handles.now in
+    let H1 = handles_of c.drop_last.new.self in
+    let mine = c.pages.ensures.held.0 (passed c.pages.result (sym c.is_err.ensures.value ∙ c.if-is_err.false)) in
+    handle_alike (handle_change F F1 H H1 None None) a.actor (λ s. unpin_turn s a.actor a.handle) (unpinned_whats false a.actor a.handle) _ (ap whats_of c.done.ensures)
+    (page_unpinned F F1 H H1 a.actor a.handle c.in-Ok.frame false mine c.in-Ok.ensures.last c.put.ensures c.in-Ok.ensures.dropped
+    (λ so. absurd (cc)) (λ so holds. failed c.pages-2.result (sym c.is_ok.ensures.value ∙ c.if-is_ok.false) (c.pages-2.ensures.held.1 holds)))
