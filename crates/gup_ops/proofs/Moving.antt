@@ -1,8 +1,8 @@
 -- What a word of a transfer makes of frames and a store is the turn's.
-use Rattle.std.proofs.Common.{◌≡◌, ℕ, ◌+◌, ◌*◌, ◌/◌, ◌%◌, ◌<◌, ◌≤◌, ◌==◌, ◌&&◌, nat_le, Bool, true, false, cond, List, [], ◌∷◌, length, slice_get, slice_index, unwrap_or, Option, Some, None, refl, sym, ap, ◌∙◌, subst, arith}
+use Rattle.std.proofs.Common.{◌≡◌, ℕ, ◌+◌, ◌/◌, ◌%◌, ◌<◌, ◌≤◌, ◌==◌, Bool, true, false, cond, List, [], ◌∷◌, length, slice_get, slice_index, Option, Some, None, refl, sym, ap, ◌∙◌, subst, arith}
 use Rattle.std.proofs.lemmas.Option.{get_or_from_slice_get}
 use Rattle.std.proofs.lemmas.Bool.Decides.{nat_tests}
-use Rattle.gup_plain.specs.Denial.{is_held_by, transfer_denial, transfer_denial_by, has_words, has_slots, range_denial, write_denial}
+use Rattle.gup_plain.specs.Denial.{is_held_by, transfer_denial, transfer_denial_by}
 use Rattle.gup_plain.specs.Put.{put}
 use Rattle.gup_plain.specs.State as plain
 use Rattle.gup_plain.specs.declared.answer.Answer.{Answer}
@@ -10,17 +10,16 @@ use Rattle.gup_plain.specs.declared.answer.Answer.TheVariants as answers
 use Rattle.gup_plain.specs.declared.event.PlainEvent.{PlainEvent}
 use Rattle.gup_plain.specs.declared.note.What.{What}
 use Rattle.gup_plain.specs.declared.note.What.TheVariants.{Event, Done}
-use Rattle.gup_frames.specs.Frames.{FramesValue, IsFrame, with_word}
-use Rattle.gup_device.specs.Store.{StoreValue, store_of}
+use Rattle.gup_frames.specs.Frames.{FramesValue, IsFrame}
+use Rattle.gup_device.specs.Store.{StoreValue}
 use Rattle.gup_space.specs.After.{moving_out, moving_in}
 use Rattle.gup_space.specs.Shows.{ShowsFrames}
 use Rattle.gup_space.specs.ShowsLemmas.{shows_frames}
 use Rattle.gup_handles.specs.Handles.{HandleValue, HandlesValue, unmade, held, given, got, gone}
 use Rattle.gup_events.specs.State.{CoreState}
 use Rattle.gup_events.specs.Event.{happens, move_out, move_in}
-use Rattle.gup_events.specs.Invariant.{run}
 use Rattle.gup_follows.specs.Follows.{moves_word}
-use Rattle.gup_turns.specs.Turn.{frame_at, moves, moves_value, moves_from, moved_if, word_turn, transfer_turn, transfer_turn_by}
+use Rattle.gup_turns.specs.Turn.{frame_at, moves_value, moves_from, moved_if, word_turn, transfer_turn, transfer_turn_by}
 use Rattle.gup_ops.specs.declared.said.Said.{Said}
 use Rattle.gup_ops.specs.Said.{whats_of}
 use Rattle.gup_ops.specs.Pins.{IsPin, ShowsPins, ShowsStore, IsWeighed, IsWhole, HandleChange, LeadsHandle, IsTransferTurn, HasMoved, slots_in, frames_in, is_pin_of, writes_in, fits_in, refusal_in}

@@ -1,5 +1,5 @@
 -- What a turn of a pin makes of frames, a process, pins and what was taken is the turn's.
-use Rattle.std.proofs.Common.{◌≡◌, ℕ, ◌+◌, ◌<◌, ◌==◌, Bool, true, false, cond, List, [], ◌∷◌, ◌++◌, length, map, slice_get, Option, Some, None, Ok, Err, zero, suc, refl, sym, ap, ◌∙◌, subst, eqb-true, arith}
+use Rattle.std.proofs.Common.{◌≡◌, ℕ, ◌+◌, ◌<◌, ◌==◌, Bool, true, false, cond, List, [], ◌∷◌, ◌++◌, length, slice_get, Option, Some, None, Ok, Err, zero, suc, refl, sym, ap, ◌∙◌, subst, arith}
 use Rattle.std.proofs.lemmas.List.{map-append}
 use Rattle.std.proofs.lemmas.Bool.Decides.{nat_tests}
 use Rattle.gup_base.specs.declared.entry.Entry.{Entry}
@@ -17,12 +17,11 @@ use Rattle.gup_space.specs.Shows.{ShowsFrames, ShowsSpace}
 use Rattle.gup_space.specs.ShowsLemmas.{shows_frames, shows_space}
 use Rattle.gup_handles.specs.Handles.{HandlesValue, held}
 use Rattle.gup_events.specs.State.{CoreState, Taken as TakenPage}
-use Rattle.gup_events.specs.Event.{CoreEvent, happens, raise_flag, pin_page, make_handle, writes_taken, objects_taken, frames_of as frames_taken}
+use Rattle.gup_events.specs.Event.{CoreEvent, happens, pin_page, make_handle, writes_taken, objects_taken, frames_of as frames_taken}
 use Rattle.gup_events.specs.Invariant.{run, frame_of}
 use Rattle.gup_events.specs.Fault.{Fault, events_of, refusal_of}
 use Rattle.gup_fault.specs.Faults.{IsFault}
-use Rattle.gup_turns.specs.Turn.{Taken, raises, entry_in, makes_if, pinned_if, pins_behind, pins, cause_of, ends_pin, pin_turn, pin_turn_by}
-use Rattle.gup_turns.specs.Reached.{HasTaken, StandsPin}
+use Rattle.gup_turns.specs.Turn.{Taken, raises, entry_in, makes_if, pinned_if, pins, cause_of, ends_pin, pin_turn, pin_turn_by}
 use Rattle.gup_ops.specs.Pins.{IsPin, ShowsPins, PinChange, LeadsPin, IsPinTurn, raised, fault_to_pin}
 use Rattle.gup_ops.specs.Tidy.{IsTidy}
 use Rattle.gup_ops.proofs.Leading.{ch, run_behind}

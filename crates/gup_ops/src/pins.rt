@@ -125,6 +125,7 @@ fn ready(space: &mut Space, frames: &mut Frames, page: PageNo, write: bool) -> R
     }
 }
 
+// The same of a pin to write, and of one to read.
 fn ready_to_write(space: &mut Space, frames: &mut Frames, page: PageNo) -> Result<(), Denied>
     requires tidy { IsTidy (frames_of frames.old) (space_of space.old) }
     requires table { (space_of space.old).table ≡ None }
@@ -206,6 +207,7 @@ pub fn unpin(frames: &mut Frames, handles: &mut Handles, actor: ActorNo, handle:
       new_store = None;
     }) actor (λ s. unpin_turn s actor handle) (whats_of result) }
 {
+    // A got reference is held by a handle too, and is no pin.
     if handles.pages(handle, actor).is_err() {
         return refused(Answer::NotHeld);
     }

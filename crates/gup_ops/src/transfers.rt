@@ -53,6 +53,7 @@ pub fn transfer(
     if let Some(denied) = refusal(handles, actor, handle, outward, slots, index, slot, n) {
         return refused(denied);
     }
+    // What isn't refused has a store, and is of a pin that the actor holds.
     let Some(store) = store else {
         return refused(Answer::Range);
     };

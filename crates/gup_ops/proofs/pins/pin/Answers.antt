@@ -1,4 +1,4 @@
-use Rattle.std.proofs.Common.{◌≡◌, ℕ, ◌+◌, ◌<◌, ◌≤◌, ◌==◌, Bool, true, false, [], ◌∷◌, Option, Some, None, refl, sym, ap, ◌∙◌, arith}
+use Rattle.std.proofs.Common.{◌≡◌, ℕ, ◌+◌, ◌<◌, ◌≤◌, ◌==◌, true, false, [], ◌∷◌, Some, None, refl, sym, ap, ◌∙◌, arith}
 use Rattle.std.proofs.lemmas.Bool.Decides.{nat_tests}
 use Rattle.gup_plain.specs.declared.answer.Answer.{Answer}
 use Rattle.gup_plain.specs.declared.answer.Answer.TheVariants as answers
@@ -10,7 +10,6 @@ use Rattle.gup_space.specs.Space.{space_of}
 use Rattle.gup_handles.specs.Handles.{handles_of}
 use Rattle.gup_events.specs.Invariant.{frame_of}
 use Rattle.gup_fault.specs.Refused.{answer_of}
-use Rattle.gup_turns.specs.Turn.{cause_of}
 use Rattle.gup_ops.specs.Said.{whats_of}
 use Rattle.gup_ops.proofs.Pinning.{pin_change, pin_alike, raised_tidy, fault_at, pinned_page, pin_refused, pin_short, tried_whats, short_whats}
 use Rattle.gup_ops.proofs.pins.pin.Goals as goal

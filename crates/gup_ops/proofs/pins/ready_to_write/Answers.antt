@@ -1,6 +1,5 @@
 use Rattle.std.proofs.Common.{true}
 use Rattle.gup_space.specs.Shows.{change_of}
-use Rattle.gup_space.specs.Space.{space_of}
 use Rattle.gup_ops.proofs.Readying.{ready_behind}
 use Rattle.gup_ops.proofs.pins.ready_to_write.Goals as goal
 

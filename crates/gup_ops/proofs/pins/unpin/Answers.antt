@@ -1,4 +1,4 @@
-use Rattle.std.proofs.Common.{true, false, None, Ok, IfOk, refl, sym, ap, ◌∙◌}
+use Rattle.std.proofs.Common.{true, false, None, sym, ap, ◌∙◌}
 use Rattle.gup_frames.specs.Frames.{frames_of}
 use Rattle.gup_handles.specs.Handles.{handles_of}
 use Rattle.gup_turns.specs.Turn.{unpin_turn}
