@@ -1,16 +1,19 @@
 -- The text of a run: a line for each answer of its journal, in order, and one for each actor that is stuck.
-use Rattle.std.specs.Prelude.{◌≡◌, ℕ, ◌<◌, take, length, List, [], ◌++◌, codes, decimal, Option, Some, None}
-use Rattle.std.specs.List.{flat_map, filter_map}
+use Rattle.std.specs.Prelude.{◌≡◌, ℕ, ◌<◌, nat_lt, if◌then◌else◌, take, length, List, [], ◌∷◌, ◌++◌, codes, decimal, Option, Some, None}
+use Rattle.std.specs.List.{flat_map, cons_option}
+use Rattle.gup_plain.specs.Put.{put}
 use Rattle.gup_plain.specs.Note.{NoteValue}
 use Rattle.gup_plain.specs.declared.answer.Answer.{Answer}
 use Rattle.gup_plain.specs.declared.answer.Answer.TheVariants.{Plain, Value, Pinned, Short, Words, Missing, Forbidden, Unmovable, NoFrame, NotHeld, Range, Overlap, Full, Busy, Untouched, Stale, Unborn}
 use Rattle.gup_plain.specs.declared.answer.Cause.{Cause}
 use Rattle.gup_plain.specs.declared.answer.Cause.TheVariants as causes
+use Rattle.gup_plain.specs.declared.event.PlainEvent.{PlainEvent}
+use Rattle.gup_plain.specs.declared.event.PlainEvent.TheVariants as events
 use Rattle.gup_plain.specs.declared.note.What.{What}
 use Rattle.gup_plain.specs.declared.note.What.TheVariants.{Silent, Idle, Wait, Event, Done}
 use Rattle.gup_plain.specs.declared.note.Waiting.{Waiting}
 use Rattle.gup_plain.specs.declared.note.Waiting.TheVariants as waitings
-use Rattle.gup_script.specs.Script.{ScriptValue, Actor, Process, actor_at, process_at}
+use Rattle.gup_script.specs.Script.{ScriptValue, Actor, Process, actor_at, process_at, handle_at}
 use Rattle.gup_lines.specs.declared.outcome.Outcome.{Outcome}
 
 abbrev pub cause_text : Cause → List ℕ
@@ -60,10 +63,14 @@ abbrev pub process_name : Option Process → List ℕ
 process_name None = []
 process_name (Some process) = process.name
 
--- what an actor is stuck at; handles come with pins
+abbrev pub handle_name : Option (List ℕ) → List ℕ
+handle_name None = []
+handle_name (Some name) = name
+
+-- what an actor is stuck at
 abbrev pub waiting_text : ScriptValue → Waiting → List ℕ
 waiting_text script (waitings.Process p) = codes "process " ++ process_name (process_at script p)
-waiting_text script (waitings.Handle h) = []
+waiting_text script (waitings.Handle h) = codes "handle " ++ handle_name (handle_at script h)
 waiting_text script (waitings.Holder actor) = []
 
 -- the line of an actor that is stuck
@@ -71,25 +78,67 @@ abbrev pub stuck_line : ScriptValue → (actor : ℕ) → Waiting → List ℕ
 stuck_line script actor waiting =
     codes "stuck " ++ name_in (actor_at script actor) ++ (codes " " ++ waiting_text script waiting) ++ codes "\n"
 
--- it waits for a process of the script
-abbrev pub NamesProcess : ScriptValue → Waiting → Type 0
-NamesProcess script (waitings.Process p) = p < length script.processes
-NamesProcess script (waitings.Handle h) = ⊥
-NamesProcess script (waitings.Holder actor) = ⊥
+-- it waits for a process of the script, or for a handle of the script
+abbrev pub NamesWaiting : ScriptValue → Waiting → Type 0
+NamesWaiting script (waitings.Process p) = p < length script.processes
+NamesWaiting script (waitings.Handle h) = h < length script.handles
+NamesWaiting script (waitings.Holder actor) = ⊥
 
--- The outcome that a note tells, if it ends an operation. No operation that moves words is built yet.
-abbrev pub outcome_of : (actor op : ℕ) → What → Option Outcome
-outcome_of actor op (Done answer) = Some (record { actor = actor; op = op; answer = answer; words = [] })
-outcome_of actor op Silent = None
-outcome_of actor op Idle = None
-outcome_of actor op (Wait waiting) = None
-outcome_of actor op (Event event) = None
+-- the word that an event of a transfer moves
+abbrev pub word_in : PlainEvent → Option ℕ
+word_in (events.Map actor proc page n rights) = None
+word_in (events.Unmap actor proc page) = None
+word_in (events.Discard actor proc page) = None
+word_in (events.Protect actor proc page n rights) = None
+word_in (events.Load actor proc page word value) = None
+word_in (events.Store actor proc page word value) = None
+word_in (events.PinTry actor proc page write) = None
+word_in (events.PinDrop actor page) = None
+word_in (events.PinOk actor handle) = None
+word_in (events.Unpin actor handle) = None
+word_in (events.Give actor handle to) = None
+word_in (events.Take actor handle) = None
+word_in (events.MoveOut actor handle index slot value) = Some value
+word_in (events.MoveIn actor handle index slot value) = Some value
+word_in (events.MirrorFill actor mirror proc page) = None
+word_in (events.Look actor mirror word value) = None
+word_in (events.ForkBegin parent child) = None
+word_in (events.ForkPage parent child page) = None
+word_in (events.ForkWord parent child page word) = None
+word_in (events.ForkEnd parent child) = None
+word_in (events.ForkFail child) = None
 
-unfoldable pub told_of : NoteValue → Option Outcome
-told_of note = outcome_of note.actor note.op note.what
+-- the words with one more behind them; a transfer has at most 64
+abbrev pub moved_by : List ℕ → Option ℕ → List ℕ
+moved_by words None = words
+moved_by words (Some word) = if nat_lt (length words) 64 then words ++ word ∷ [] else words
+
+-- the words that an actor's operation has moved behind a note of it: none behind its end
+abbrev pub words_after : List ℕ → What → List ℕ
+words_after words Silent = words
+words_after words Idle = words
+words_after words (Wait waiting) = words
+words_after words (Event event) = moved_by words (word_in event)
+words_after words (Done answer) = []
+
+-- The outcome that a note tells, if it ends an operation; `words` are those that the operation has moved.
+abbrev pub outcome_of : (actor op : ℕ) (words : List ℕ) → What → Option Outcome
+outcome_of actor op words Silent = None
+outcome_of actor op words Idle = None
+outcome_of actor op words (Wait waiting) = None
+outcome_of actor op words (Event event) = None
+outcome_of actor op words (Done answer) =
+    Some (record { actor = actor; op = op; answer = answer; words = words })
+
+-- The outcomes that the notes tell, where each actor's operation has moved these words before them.
+abbrev pub outcomes_from : (moved : ℕ → List ℕ) → List NoteValue → List Outcome
+outcomes_from moved [] = []
+outcomes_from moved (note ∷ notes) =
+    cons_option (outcome_of note.actor note.op (moved note.actor) note.what)
+    (outcomes_from (put note.actor (words_after (moved note.actor) note.what) moved) notes)
 
 abbrev pub outcomes_of : List NoteValue → List Outcome
-outcomes_of notes = filter_map (λ (note : NoteValue). outcome_of note.actor note.op note.what) notes
+outcomes_of notes = outcomes_from (λ (actor : ℕ). []) notes
 
 abbrev pub text_of : ScriptValue → List NoteValue → List ℕ
 text_of script notes = flat_map (line_of script) (outcomes_of notes)

@@ -1,34 +1,18 @@
 //! The lines of a run.
-ghost use Rattle.std.specs.Prelude.{◌≡◌, ℕ, ◌<◌, List, [], ◌++◌, length, codes, decimal, IfOk, OnOk, OnErr};
-ghost use Rattle.std.specs.List.{flat_map, filter_map};
-ghost use Rattle.gup_script.specs.Script.{actor_at, process_at};
-ghost use Rattle.gup_lines.specs.Text.{name_in, process_name, cause_text, word_text, answer_text, head_of, line_of, waiting_text, stuck_line, told_of, outcomes_of, NamesProcess, BeginsWith};
+ghost use Rattle.std.specs.Prelude.{◌≡◌, ℕ, ◌<◌, List, [], ◌++◌, length, replicate, codes, decimal, IfOk, OnOk, OnErr};
+ghost use Rattle.std.specs.List.{flat_map};
+ghost use Rattle.gup_script.specs.Script.{actor_at, process_at, handle_at};
+ghost use Rattle.gup_lines.specs.Text.{name_in, process_name, handle_name, cause_text, word_text, answer_text, head_of, line_of, waiting_text, stuck_line, word_in, moved_by, words_after, outcome_of, outcomes_of, NamesWaiting, BeginsWith};
 
 use crate::outcome::{Outcome, Outcomes};
-use gup_base::{ActorNo, NoMemory, ProcNo, Words};
-use gup_plain::{Answer, Cause, Journal, Note, Waiting, What};
+use gup_base::{ActorNo, HandleNo, NoMemory, ProcNo, Words};
+use gup_plain::{Answer, Cause, Journal, Note, PlainEvent, Waiting, What};
 use gup_script::Script;
 use itoa::Buffer;
 use std::alloc::{AllocError, Global};
+use std::mem::replace;
 
-/// The outcome that a note tells, if it ends an operation.
-#[tactic(auto, unfolding(crate::specs::Text::told_of))]
-fn told_by(note: &Note) -> Option<Outcome>
-    ensures { result ≡ told_of note.now }
-{
-    match note.what() {
-        What::Done(answer) => Some(Outcome {
-            actor: note.actor(),
-            op: note.op(),
-            answer,
-            words: Words::new(),
-        }),
-        What::Silent | What::Idle | What::Wait(_) | What::Event(_) => None,
-    }
-}
-
-/// The answers of the script's journal, in order.
-#[tactic(auto, unfolding(crate::specs::Text::told_of))]
+/// The answers of the script's journal, in order, each with the words that its own actor's operation has moved.
 pub fn outcomes(alloc: Global, _script: &Script, journal: &Journal) -> Result<Outcomes, NoMemory>
     ensures { IfOk result (λ outcomes. outcomes ≡ outcomes_of journal.now.notes) }
 {
@@ -36,9 +20,69 @@ pub fn outcomes(alloc: Global, _script: &Script, journal: &Journal) -> Result<Ou
 }
 
 fn told_in(alloc: Global, notes: &[Note]) -> Result<Vec<Outcome>, AllocError>
-    ensures { IfOk result (λ found. found.items ≡ filter_map told_of notes.now) }
+    ensures { IfOk result (λ found. found.items ≡ outcomes_of notes.now) }
 {
-    notes.iter().filter_map(told_by).collect(alloc)
+    let mut moved = no_words(alloc)?;
+    let mut found = Vec::new(alloc);
+    for note in notes {
+        let words = &mut moved[note.actor().get() as usize];
+        if let Some(outcome) = told_by(note, words) {
+            found.push(outcome)?;
+        }
+    }
+    Ok(found)
+}
+
+// For each actor, no words.
+fn no_words(alloc: Global) -> Result<Vec<Words>, AllocError>
+    ensures { IfOk result (λ moved. moved.items ≡ replicate 81 []) }
+{
+    let mut moved = Vec::new(alloc);
+    for _ in 0_u8..81 {
+        moved.push(Words::new())?;
+    }
+    Ok(moved)
+}
+
+// The outcome that a note tells, if it ends an operation. The words that its actor's operation has moved go into it;
+// behind any other note they are those, and the word of the note.
+fn told_by(note: &Note, words: &mut Words) -> Option<Outcome>
+    ensures told { result ≡ outcome_of note.now.actor note.now.op words.old note.now.what }
+    ensures words { words.new ≡ words_after words.old note.now.what }
+{
+    match note.what() {
+        What::Silent | What::Idle | What::Wait(_) => None,
+        What::Event(event) => {
+            push_word(words, word_of(event));
+            None
+        }
+        What::Done(answer) => Some(Outcome {
+            actor: note.actor(),
+            op: note.op(),
+            answer,
+            words: replace(words, Words::new()),
+        }),
+    }
+}
+
+// The word that an event of a transfer moves.
+fn word_of(event: PlainEvent) -> Option<u64>
+    ensures { result ≡ word_in event }
+{
+    match event {
+        PlainEvent::MoveOut { value, .. } | PlainEvent::MoveIn { value, .. } => Some(value),
+        _ => None,
+    }
+}
+
+fn push_word(words: &mut Words, word: Option<u64>)
+    ensures { words.new ≡ moved_by words.old word }
+{
+    if let Some(word) = word {
+        if words.as_slice().len() < 64 {
+            words.push(word);
+        }
+    }
 }
 
 fn push_text(text: &mut Vec<u8>, piece: &str) -> Result<(), NoMemory>
@@ -165,6 +209,17 @@ fn process_name(script: &Script, p: ProcNo) -> &str
     }
 }
 
+// The handle's name; nothing where no such handle is declared.
+fn handle_name(script: &Script, h: HandleNo) -> &str
+    ensures { result.now ≡ handle_name (handle_at script.now h) }
+{
+    if h.get() < u64::from(script.handles()) {
+        script.handle_name(h)
+    } else {
+        ""
+    }
+}
+
 #[tactic(auto, using(crate::proofs::Fronts::fronts))]
 fn push_head(script: &Script, actor: ActorNo, op: u32, text: &mut Vec<u8>) -> Result<(), NoMemory>
     ensures ok { OnOk result (text.new.items ≡ text.old.items ++ head_of script.now actor op) }
@@ -199,10 +254,10 @@ pub fn push_line(script: &Script, o: &Outcome, text: &mut Vec<u8>) -> Result<(),
     written
 }
 
-// The process that an actor is stuck at.
+// The process or the handle that an actor is stuck at.
 #[tactic(auto, using(crate::proofs::Fronts::fronts))]
 fn push_waiting(script: &Script, waiting: Waiting, text: &mut Vec<u8>) -> Result<(), NoMemory>
-    requires { NamesProcess script.now waiting }
+    requires { NamesWaiting script.now waiting }
     ensures ok { OnOk result (text.new.items ≡ text.old.items ++ (codes " " ++ waiting_text script.now waiting)) }
     ensures err { OnErr result (BeginsWith text.new.items text.old.items) }
 {
@@ -212,8 +267,12 @@ fn push_waiting(script: &Script, waiting: Waiting, text: &mut Vec<u8>) -> Result
             push_text(text, "process ")?;
             push_text(text, process_name(script, p))
         }
-        // Nobody is stuck at a lock, and handles come with pins.
-        Waiting::Holder(_) | Waiting::Handle(_) => Ok(()),
+        Waiting::Handle(h) => {
+            push_text(text, "handle ")?;
+            push_text(text, handle_name(script, h))
+        }
+        // Nobody is stuck at a lock.
+        Waiting::Holder(_) => Ok(()),
     }
 }
 
@@ -224,7 +283,7 @@ fn write_stuck(
     waiting: Waiting,
     text: &mut Vec<u8>,
 ) -> Result<(), NoMemory>
-    requires { NamesProcess script.now waiting }
+    requires { NamesWaiting script.now waiting }
     ensures ok { OnOk result (text.new.items ≡ text.old.items ++ stuck_line script.now actor waiting) }
     ensures err { OnErr result (BeginsWith text.new.items text.old.items) }
 {
@@ -234,15 +293,15 @@ fn write_stuck(
     push_text(text, "\n")
 }
 
-/// Appends the line of an actor that is stuck: `stuck`, its name, and what it waits for, a process of the script.
-/// Where memory is wanted the text is as it was.
+/// Appends the line of an actor that is stuck: `stuck`, its name, and what it waits for, a process or a
+/// handle of the script. Where memory is wanted the text is as it was.
 pub fn push_stuck(
     script: &Script,
     actor: ActorNo,
     waiting: Waiting,
     text: &mut Vec<u8>,
 ) -> Result<(), NoMemory>
-    requires { NamesProcess script.now waiting }
+    requires { NamesWaiting script.now waiting }
     ensures ok { OnOk result (text.new.items ≡ text.old.items ++ stuck_line script.now actor waiting) }
     ensures err { OnErr result (text.new.items ≡ text.old.items) }
 {

@@ -6,5 +6,3 @@ pub mod Mapping
 pub mod Forking
 pub mod Readying
 pub mod Pinning
-pub mod Holding
-pub mod Moving

@@ -1,18 +1,18 @@
-//! Pins: they are made page by page, given from one actor to another, and given back page by page.
+//! Pins: they are made page by page.
 ghost use Rattle.std.specs.Prelude.{◌≡◌, ℕ, ◌+◌, ◌≤◌, ◌<◌, ◌^◌, true, false, [], OnOk, Some, None};
 ghost use Rattle.arrayvec.specs.ArrayVec.{array_vec_len};
 ghost use Rattle.gup_plain.specs.Put.{put};
-ghost use Rattle.gup_frames.specs.Frames.{FrameLists, frames_of};
+ghost use Rattle.gup_frames.specs.Frames.{frames_of};
 ghost use Rattle.gup_space.specs.Space.{space_of};
 ghost use Rattle.gup_space.specs.Shows.{change_of};
 ghost use Rattle.gup_fault.specs.Refused.{answer_of as answered, denial_of};
 ghost use Rattle.gup_fault.specs.Faults.{IsFault};
 ghost use Rattle.gup_slow.specs.Pins.{IsReady};
-ghost use Rattle.gup_handles.specs.Handles.{handles_of, unmade, held, IsGivenTo};
-ghost use Rattle.gup_turns.specs.Turn.{unpin_turn, give_turn, take_turn, cause_of as cause};
+ghost use Rattle.gup_handles.specs.Handles.{handles_of, unmade, held};
+ghost use Rattle.gup_turns.specs.Turn.{cause_of as cause};
 ghost use Rattle.gup_ops.specs.Tidy.{IsTidy};
 ghost use Rattle.gup_ops.specs.Said.{whats_of};
-ghost use Rattle.gup_ops.specs.Pins.{IsPinTurn, IsHandleTurn, IsWeighed, raised, fault_to_pin, want_of};
+ghost use Rattle.gup_ops.specs.Pins.{IsPinTurn, raised, fault_to_pin, want_of};
 
 use crate::loads::answer_of;
 use crate::mappings::page_behind;
@@ -25,9 +25,6 @@ use gup_handles::Handles;
 use gup_plain::{Answer, Cause, PlainEvent};
 use gup_slow::pin_page;
 use gup_space::Space;
-
-// What a pin adds to the count of its frame (`GUP_PIN_COUNTING_BIAS`).
-const BIAS: u64 = 1024;
 
 /// One page of a pin of `n` pages from `page` on, of which `far` are taken. The page is made ready and its frame gets the
 /// weight of a pin (Linux's `__get_user_pages`, `mm/gup.c`). The last page's turn makes the handle, and so does the turn of
@@ -191,76 +188,4 @@ fn happened(event: PlainEvent) -> Said
         next: None,
         answer: None,
     }
-}
-
-/// One page of an unpin: the last one that the pin still has, whose frame loses the weight of a pin (Linux's
-/// `unpin_user_page`, `mm/gup.c`). With the last of all the pin is gone. `NotHeld` is answered where the actor doesn't hold
-/// the pin.
-pub fn unpin(frames: &mut Frames, handles: &mut Handles, actor: ActorNo, handle: HandleNo) -> Said
-    requires { IsWeighed (frames_of frames.old) (handles_of handles.old handle) }
-    ensures { IsHandleTurn (record {
-      old_frames = frames_of frames.old;
-      new_frames = frames_of frames.new;
-      old_pins = handles_of handles.old;
-      new_pins = handles_of handles.new;
-      old_store = None;
-      new_store = None;
-    }) actor (λ s. unpin_turn s actor handle) (whats_of result) }
-{
-    // A got reference is held by a handle too, and is no pin.
-    if handles.pages(handle, actor).is_err() {
-        return refused(Answer::NotHeld);
-    }
-    let Ok(frame) = handles.drop_last(handle, actor) else {
-        return refused(Answer::NotHeld);
-    };
-    frames.put(frame, BIAS);
-    if handles.pages(handle, actor).is_ok() {
-        return silent();
-    }
-    done(PlainEvent::Unpin { actor, handle }, Answer::Plain)
-}
-
-// Neither an event nor an answer.
-fn silent() -> Said
-    ensures { result ≡ record { event = None; next = None; answer = None } }
-{
-    Said {
-        event: None,
-        next: None,
-        answer: None,
-    }
-}
-
-/// Gives the actor's pin to another, or to itself: `NotHeld` where the actor doesn't hold it.
-pub fn give(handles: &mut Handles, actor: ActorNo, handle: HandleNo, to: ActorNo) -> Said
-    ensures { (frames : FrameLists) → IsHandleTurn (record {
-      old_frames = frames_of frames;
-      new_frames = frames_of frames;
-      old_pins = handles_of handles.old;
-      new_pins = handles_of handles.new;
-      old_store = None;
-      new_store = None;
-    }) actor (λ s. give_turn s actor handle to) (whats_of result) }
-{
-    if handles.give(handle, actor, to).is_err() {
-        return refused(Answer::NotHeld);
-    }
-    done(PlainEvent::Give { actor, handle, to }, Answer::Plain)
-}
-
-/// Takes the pin that is given to the actor.
-pub fn take_over(handles: &mut Handles, actor: ActorNo, handle: HandleNo) -> Said
-    requires { IsGivenTo (handles_of handles.old handle) actor }
-    ensures { (frames : FrameLists) → IsHandleTurn (record {
-      old_frames = frames_of frames;
-      new_frames = frames_of frames;
-      old_pins = handles_of handles.old;
-      new_pins = handles_of handles.new;
-      old_store = None;
-      new_store = None;
-    }) actor (λ s. take_turn actor handle) (whats_of result) }
-{
-    handles.take(handle, actor);
-    done(PlainEvent::Take { actor, handle }, Answer::Plain)
 }

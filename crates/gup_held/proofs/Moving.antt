@@ -22,8 +22,9 @@ use Rattle.gup_follows.specs.Follows.{moves_word}
 use Rattle.gup_turns.specs.Turn.{frame_at, moves_value, moves_from, moved_if, word_turn, transfer_turn, transfer_turn_by}
 use Rattle.gup_ops.specs.declared.said.Said.{Said}
 use Rattle.gup_ops.specs.Said.{whats_of}
-use Rattle.gup_ops.specs.Pins.{IsPin, ShowsPins, ShowsStore, IsWeighed, IsWhole, HandleChange, LeadsHandle, IsTransferTurn, HasMoved, slots_in, frames_in, is_pin_of, writes_in, fits_in, refusal_in}
-use Rattle.gup_ops.proofs.Holding.{handle_change, leads_handle_alike}
+use Rattle.gup_ops.specs.Pins.{IsPin, ShowsPins, IsWeighed, frames_in}
+use Rattle.gup_held.specs.Held.{ShowsStore, IsWhole, HandleChange, LeadsHandle, IsTransferTurn, HasMoved, slots_in, is_pin_of, writes_in, fits_in, refusal_in}
+use Rattle.gup_held.proofs.Holding.{handle_change, leads_handle_alike}
 
 -- the same notes in other words
 pub transfer_alike : (c : HandleChange) (a handle : ℕ) (outward : Bool) (index slot n far : ℕ) (whats other : List What) → other ≡ whats → IsTransferTurn c a handle outward index slot n far whats → IsTransferTurn c a handle outward index slot n far other

@@ -1,5 +1,5 @@
 -- What an unpin, a give or a take makes of frames and pins is the turn's.
-use Rattle.std.proofs.Common.{◌≡◌, ℕ, ◌-◌, ◌≤◌, ◌==◌, Bool, true, false, cond, List, [], ◌∷◌, ◌++◌, length, slice_get, slice_index, Option, Some, None, Result, Ok, Err, IsOk, is_err, is_ok, refl, sym, ap, ◌∙◌, subst, eqb-true, length-append, arith}
+use Rattle.std.proofs.Common.{◌≡◌, ℕ, ◌-◌, ◌≤◌, ◌==◌, Bool, true, false, cond, List, [], ◌∷◌, ◌++◌, length, slice_get, slice_index, Option, Some, None, Result, Ok, Err, IsOk, OnOk, is_err, is_ok, refl, sym, ap, ◌∙◌, subst, eqb-true, length-append, arith}
 use Rattle.std.proofs.Math.Seq.{get_or-append_seam}
 use Rattle.std.proofs.lemmas.Bool.Decides.{nat_tests}
 use Rattle.gup_plain.specs.Denial.{is_held_by}
@@ -18,7 +18,8 @@ use Rattle.gup_handles.specs.Handles.{HandleValue, HandlesValue, unmade, held, g
 use Rattle.gup_events.specs.State.{CoreState}
 use Rattle.gup_events.specs.Event.{happens, unpin_page, give_handle, take_handle}
 use Rattle.gup_turns.specs.Turn.{Taken, last_of, unpinned, unpin_turn, unpin_turn_by, give_turn, give_turn_by, take_turn}
-use Rattle.gup_ops.specs.Pins.{IsPin, ShowsPins, IsWeighed, HandleChange, LeadsHandle, IsHandleTurn}
+use Rattle.gup_ops.specs.Pins.{IsPin, ShowsPins, IsWeighed}
+use Rattle.gup_held.specs.Held.{HandleChange, LeadsHandle, IsHandleTurn}
 
 abbrev pub handle_change : (F F' : FramesValue) (H H' : HandlesValue) (W W' : Option (List ℕ)) → HandleChange
 handle_change F F' H H' W W' =
@@ -31,6 +32,10 @@ handle_alike c a turn whats other same h = subst (λ (ws : List What). IsHandleT
 -- the same turn in other words
 pub leads_handle_alike : (c : HandleChange) (a : ℕ) (s : CoreState) (turn other : Taken) (whats : List What) → other ≡ turn → LeadsHandle c a s turn whats → LeadsHandle c a s other whats
 leads_handle_alike c a s turn other whats same h = subst (λ (t : Taken). LeadsHandle c a s t whats) (sym same) h
+
+pub on_ok : {E : Type 0} {P : Type 0} (r : Result (Unit {0}) E) → is_err r ≡ false → OnOk r P → P
+on_ok (Ok ok) is h = h
+on_ok (Err e) is h = absurd (cc)
 
 pub passed : {A E : Type 0} (r : Result A E) → is_err r ≡ false → IsOk r
 passed (Ok value) is = refl

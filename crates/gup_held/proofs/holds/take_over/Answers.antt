@@ -3,8 +3,8 @@ use Rattle.gup_frames.specs.Frames.{frames_of}
 use Rattle.gup_handles.specs.Handles.{handles_of}
 use Rattle.gup_turns.specs.Turn.{take_turn}
 use Rattle.gup_ops.specs.Said.{whats_of}
-use Rattle.gup_ops.proofs.Holding.{handle_change, handle_alike, pin_taken, taken_whats}
-use Rattle.gup_ops.proofs.pins.take_over.Goals as goal
+use Rattle.gup_held.proofs.Holding.{handle_change, handle_alike, pin_taken, taken_whats}
+use Rattle.gup_held.proofs.holds.take_over.Goals as goal
 
 pub returns : goal.returns
 returns c frames =

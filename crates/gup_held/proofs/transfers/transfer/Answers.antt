@@ -5,10 +5,10 @@ use Rattle.gup_frames.specs.Frames.{frames_of}
 use Rattle.gup_handles.specs.Handles.{handles_of}
 use Rattle.gup_ops.specs.Said.{whats_of}
 use Rattle.gup_follows.specs.Follows.{moves_word}
-use Rattle.gup_ops.specs.Pins.{IsTransferTurn, HasMoved, slots_in, refusal_in}
-use Rattle.gup_ops.proofs.Holding.{handle_change}
-use Rattle.gup_ops.proofs.Moving.{transfer_alike, transfer_refused, page_there, moved_whats, said_of, word_says, word_moved, slot_within}
-use Rattle.gup_ops.proofs.transfers.transfer.Goals as goal
+use Rattle.gup_held.specs.Held.{IsTransferTurn, HasMoved, slots_in, refusal_in}
+use Rattle.gup_held.proofs.Holding.{handle_change}
+use Rattle.gup_held.proofs.Moving.{transfer_alike, transfer_refused, page_there, moved_whats, said_of, word_says, word_moved, slot_within}
+use Rattle.gup_held.proofs.transfers.transfer.Goals as goal
 
 pub returns-in-Some : goal.returns-in-Some
 returns-in-Some c =

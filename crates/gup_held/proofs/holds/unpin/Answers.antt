@@ -3,8 +3,8 @@ use Rattle.gup_frames.specs.Frames.{frames_of}
 use Rattle.gup_handles.specs.Handles.{handles_of}
 use Rattle.gup_turns.specs.Turn.{unpin_turn}
 use Rattle.gup_ops.specs.Said.{whats_of}
-use Rattle.gup_ops.proofs.Holding.{handle_change, handle_alike, passed, failed, last_weighed, page_unpinned, unpinned_whats}
-use Rattle.gup_ops.proofs.pins.unpin.Goals as goal
+use Rattle.gup_held.proofs.Holding.{handle_change, handle_alike, passed, failed, last_weighed, page_unpinned, unpinned_whats}
+use Rattle.gup_held.proofs.holds.unpin.Goals as goal
 
 pub put-requires-clause-there : goal.put-requires-clause-there
 put-requires-clause-there c =

@@ -6,13 +6,14 @@ ghost use Rattle.gup_device.specs.Store.{store_of, IsSlot};
 ghost use Rattle.gup_handles.specs.Handles.{handles_of};
 ghost use Rattle.gup_follows.specs.Follows.{moves_word};
 ghost use Rattle.gup_ops.specs.Said.{whats_of};
-ghost use Rattle.gup_ops.specs.Pins.{IsTransferTurn, IsWeighed, HasMoved, slots_in, fits_in, refusal_in};
+ghost use Rattle.gup_ops.specs.Pins.{IsWeighed};
+ghost use Rattle.gup_held.specs.Held.{IsTransferTurn, HasMoved, slots_in, fits_in, refusal_in};
 
-use crate::said::{Said, refused};
 use gup_base::{ActorNo, FrameNo, HandleNo, WordNo};
 use gup_device::Store;
 use gup_frames::Frames;
 use gup_handles::Handles;
+use gup_ops::{Said, refused};
 use gup_plain::{Answer, PlainEvent};
 
 // The words of a page.

@@ -1,0 +1,89 @@
+//! What is done with a pin that is made: it is given from one actor to another, and given back page by page.
+ghost use Rattle.std.specs.Prelude.{◌≡◌, Some, None};
+ghost use Rattle.gup_frames.specs.Frames.{FrameLists, frames_of};
+ghost use Rattle.gup_handles.specs.Handles.{handles_of, IsGivenTo};
+ghost use Rattle.gup_turns.specs.Turn.{unpin_turn, give_turn, take_turn};
+ghost use Rattle.gup_ops.specs.Said.{whats_of};
+ghost use Rattle.gup_ops.specs.Pins.{IsWeighed};
+ghost use Rattle.gup_held.specs.Held.{IsHandleTurn};
+
+use gup_base::{ActorNo, HandleNo};
+use gup_frames::Frames;
+use gup_handles::Handles;
+use gup_ops::{Said, done, refused};
+use gup_plain::{Answer, PlainEvent};
+
+// What a pin adds to the count of its frame (`GUP_PIN_COUNTING_BIAS`).
+const BIAS: u64 = 1024;
+
+/// One page of an unpin: the last one that the pin still has, whose frame loses the weight of a pin (Linux's
+/// `unpin_user_page`, `mm/gup.c`). With the last of all the pin is gone. `NotHeld` is answered where the actor doesn't hold
+/// the pin.
+pub fn unpin(frames: &mut Frames, handles: &mut Handles, actor: ActorNo, handle: HandleNo) -> Said
+    requires { IsWeighed (frames_of frames.old) (handles_of handles.old handle) }
+    ensures { IsHandleTurn (record {
+      old_frames = frames_of frames.old;
+      new_frames = frames_of frames.new;
+      old_pins = handles_of handles.old;
+      new_pins = handles_of handles.new;
+      old_store = None;
+      new_store = None;
+    }) actor (λ s. unpin_turn s actor handle) (whats_of result) }
+{
+    // A got reference is held by a handle too, and is no pin.
+    if handles.pages(handle, actor).is_err() {
+        return refused(Answer::NotHeld);
+    }
+    let Ok(frame) = handles.drop_last(handle, actor) else {
+        return refused(Answer::NotHeld);
+    };
+    frames.put(frame, BIAS);
+    if handles.pages(handle, actor).is_ok() {
+        return silent();
+    }
+    done(PlainEvent::Unpin { actor, handle }, Answer::Plain)
+}
+
+// Neither an event nor an answer.
+fn silent() -> Said
+    ensures { result ≡ record { event = None; next = None; answer = None } }
+{
+    Said {
+        event: None,
+        next: None,
+        answer: None,
+    }
+}
+
+/// Gives the actor's pin to another, or to itself: `NotHeld` where the actor doesn't hold it.
+pub fn give(handles: &mut Handles, actor: ActorNo, handle: HandleNo, to: ActorNo) -> Said
+    ensures { (frames : FrameLists) → IsHandleTurn (record {
+      old_frames = frames_of frames;
+      new_frames = frames_of frames;
+      old_pins = handles_of handles.old;
+      new_pins = handles_of handles.new;
+      old_store = None;
+      new_store = None;
+    }) actor (λ s. give_turn s actor handle to) (whats_of result) }
+{
+    if handles.give(handle, actor, to).is_err() {
+        return refused(Answer::NotHeld);
+    }
+    done(PlainEvent::Give { actor, handle, to }, Answer::Plain)
+}
+
+/// Takes the pin that is given to the actor.
+pub fn take_over(handles: &mut Handles, actor: ActorNo, handle: HandleNo) -> Said
+    requires { IsGivenTo (handles_of handles.old handle) actor }
+    ensures { (frames : FrameLists) → IsHandleTurn (record {
+      old_frames = frames_of frames;
+      new_frames = frames_of frames;
+      old_pins = handles_of handles.old;
+      new_pins = handles_of handles.new;
+      old_store = None;
+      new_store = None;
+    }) actor (λ s. take_turn actor handle) (whats_of result) }
+{
+    handles.take(handle, actor);
+    done(PlainEvent::Take { actor, handle }, Answer::Plain)
+}
