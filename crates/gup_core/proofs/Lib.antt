@@ -1,7 +1,12 @@
 pub mod Owning
-pub mod Scripts
+pub mod Pinning
 pub mod Parting
+pub mod Notes
+pub mod Scripts
+pub mod Singles
 pub mod Waiting
 pub mod Resting
+pub mod Turning
 pub mod Taking
+pub mod Ready
 pub mod Starting

@@ -1,22 +1,24 @@
--- The events of a turn of one process are of frames and of that process. They bear no process, and leave forks where they
--- are.
+-- The events of a turn of one process are of frames and of that process. They bear no process, leave forks where they are,
+-- and are of no pin. Those of a fork are of no pin either.
 use Rattle.std.proofs.Common.{◌≡◌, ℕ, ◌+◌, ◌==◌, Bool, true, false, cond, List, [], ◌∷◌, ◌++◌, Option, Some, None, Ok, Err, zero, suc, refl, sym, ap, ◌∙◌, eqb-true, if◌then◌else◌}
 use Rattle.gup_base.specs.declared.entry.Entry.{Entry}
 use Rattle.gup_base.specs.declared.entry.Rights.{Rights}
 use Rattle.gup_base.specs.declared.entry.Rights.TheVariants.{R, RW}
 use Rattle.gup_plain.specs.Denial.{any_mapped, any_unmapped, map_denial, protect_denial}
 use Rattle.gup_plain.specs.Put.{put}
+use Rattle.gup_plain.specs.State.{Handle}
 use Rattle.gup_plain.specs.declared.answer.Answer.{Answer}
 use Rattle.gup_script.specs.declared.op.Op.{Op}
-use Rattle.gup_script.specs.declared.op.Op.TheVariants.{Map, Unmap, Protect, Discard, Load, Store, Fork, Exit}
+use Rattle.gup_script.specs.declared.op.Op.TheVariants.{Map, Unmap, Protect, Discard, Load, Store, Pin, Unpin, Give, Take, Transfer, Fork, Exit}
 use Rattle.gup_space.specs.After.{IsOf, AreOf, taking, filling, counting, marking_it, upgrading, breaking, putting, dropping, discarding, mapping, lowering, protecting, loading, storing}
-use Rattle.gup_fork.specs.ForkAfter.{AreOfFork, beginning, counting as counting_it, lowering as lowering_it, unmarking, giving, passing, ending}
-use Rattle.gup_events.specs.State.{CoreState, Job, idle, marking, moving, forking, walking, ForkStep, between, counted, lowered, cleared, copying, failing}
+use Rattle.gup_fork.specs.ForkAfter.{IsForkEvent, AreOfFork, beginning, counting as counting_it, lowering as lowering_it, unmarking, giving, passing, ending}
+use Rattle.gup_events.specs.State.{CoreState, Taken as TakenPage, Job, idle, marking, moving, forking, walking, ForkStep, between, counted, lowered, cleared, copying, failing}
 use Rattle.gup_events.specs.Event.{CoreEvent, happens, take_frame, fill, count_one, set_mark, upgrade, break_entry, put_entry, drop_entry, discard_entry, map_pages, lower_entry, protect_pages, load, store}
 use Rattle.gup_events.specs.Fault.{Fault, events_of, fills, fills_writable, breaks, marks, read_fault, makes_writable, write_fault, gives_back}
 use Rattle.gup_events.specs.Invariant.{run}
 use Rattle.gup_turns.specs.Turn.{op_turn, load_fault, loads_after, store_fault_by, stores_after, allows_store, free_frame, map_turn_by, unmap_turn_by, lowers_entry, lowers, lowers_for, protect_turn_by, discard_turn_by, exit_turn_by, lowest_page, page_turn, next_page, next_turn, fork_step_turn, fork_turn}
-use Rattle.gup_turns.specs.Reached.{fork_place, unbegun, IsNoFork}
+use Rattle.gup_turns.specs.Reached.{fork_place, unbegun}
+use Rattle.gup_ops.specs.Alone.{IsAlone}
 
 -- an event of a turn of actor a over process p
 pub data IsOwn (a p : ℕ) : CoreEvent → Type 0 where
@@ -35,11 +37,21 @@ pub data IsOwn (a p : ℕ) : CoreEvent → Type 0 where
   loads_it : (page word f value : ℕ) → IsOwn a p (load a p page word f value)
   stores_it : (page word f value : ℕ) → IsOwn a p (store a p page word f value)
 
-abbrev pub AreOwn : (a p : ℕ) → List CoreEvent → Type 0
-AreOwn a p [] = Unit {0}
-AreOwn a p (e ∷ es) = IsOwn a p e × AreOwn a p es
+-- each event is one of these
+abbrev pub AreAll : (CoreEvent → Type 0) → List CoreEvent → Type 0
+AreAll P [] = Unit {0}
+AreAll P (e ∷ es) = P e × AreAll P es
 
-is_of : (a p : ℕ) {e : CoreEvent} → IsOwn a p e → IsOf p e
+-- what each such event leaves, a list of them leaves
+pub through : {X : Type 0} (P : CoreEvent → Type 0) (read : CoreState → X) → ((s : CoreState) (e : CoreEvent) → P e → read (happens s e) ≡ read s)
+    → (s : CoreState) (es : List CoreEvent) → AreAll P es → read (run s es) ≡ read s
+through P read each s [] all = refl
+through P read each s (e ∷ es) all = through P read each (happens s e) es all.1 ∙ each s e all.0
+
+abbrev pub AreOwn : (a p : ℕ) → List CoreEvent → Type 0
+AreOwn a p es = AreAll (IsOwn a p) es
+
+pub is_of : (a p : ℕ) {e : CoreEvent} → IsOwn a p e → IsOf p e
 is_of a p (takes f) = taking a f
 is_of a p (fills_it page f) = filling a page f
 is_of a p (counts page f writable) = counting a page f writable
@@ -61,16 +73,19 @@ are_of a p (e ∷ es) own = (is_of a p own.0, are_of a p es own.1)
 
 -- ---- the turns
 
+pub two_lists : (P : CoreEvent → Type 0) (es fs : List CoreEvent) → AreAll P es → AreAll P fs → AreAll P (es ++ fs)
+two_lists P [] fs first second = second
+two_lists P (e ∷ es) fs first second = (first.0, two_lists P es fs first.1 second)
+
 both : (a p : ℕ) (es fs : List CoreEvent) → AreOwn a p es → AreOwn a p fs → AreOwn a p (es ++ fs)
-both a p [] fs first second = second
-both a p (e ∷ es) fs first second = (first.0, both a p es fs first.1 second)
+both a p es fs first second = two_lists (IsOwn a p) es fs first second
 
 -- an entry that went, and what is given back
 given_back : (a p : ℕ) (entry : Option Entry) → AreOwn a p (gives_back a entry)
 given_back a p None = tt
 given_back a p (Some e) = (puts e.frame, tt)
 
-fills_own : (a p page : ℕ) (free : Option ℕ) → AreOwn a p (events_of (fills a p page free))
+pub fills_own : (a p page : ℕ) (free : Option ℕ) → AreOwn a p (events_of (fills a p page free))
 fills_own a p page None = tt
 fills_own a p page (Some f) = (takes f, (fills_it page f, tt))
 
@@ -78,7 +93,7 @@ fills_writable_own : (a p page : ℕ) (free : Option ℕ) → AreOwn a p (events
 fills_writable_own a p page None = tt
 fills_writable_own a p page (Some f) = (takes f, (fills_it page f, (upgrades page f, tt)))
 
-breaks_own : (a p page : ℕ) (e : Entry) (writable : Bool) (free : Option ℕ) → AreOwn a p (events_of (breaks a p page e writable free))
+pub breaks_own : (a p page : ℕ) (e : Entry) (writable : Bool) (free : Option ℕ) → AreOwn a p (events_of (breaks a p page e writable free))
 breaks_own a p page e writable None = tt
 breaks_own a p page e writable (Some f) = (takes f, (breaks_it page e.frame f e.writable writable, (puts e.frame, tt)))
 
@@ -95,7 +110,7 @@ read_fault_own a p page None entry free = tt
 read_fault_own a p page (Some rights) None free = fills_own a p page free
 read_fault_own a p page (Some rights) (Some e) free = tt
 
-write_fault_own : (a p page : ℕ) (right : Option Rights) (entry : Option Entry) (mark : ℕ → Bool) (count : ℕ → ℕ) (free : Option ℕ) → AreOwn a p (events_of (write_fault a p page right entry mark count free))
+pub write_fault_own : (a p page : ℕ) (right : Option Rights) (entry : Option Entry) (mark : ℕ → Bool) (count : ℕ → ℕ) (free : Option ℕ) → AreOwn a p (events_of (write_fault a p page right entry mark count free))
 write_fault_own a p page None entry mark count free = tt
 write_fault_own a p page (Some R) entry mark count free = tt
 write_fault_own a p page (Some RW) None mark count free = fills_writable_own a p page free
@@ -159,22 +174,70 @@ exit_own : (s : CoreState) (a p : ℕ) (lowest : Option ℕ) → AreOwn a p (exi
 exit_own s a p None = tt
 exit_own s a p (Some page) = (drops page (s.entry p page), given_back a p (s.entry p page))
 
-pub turn_is_own : (s : CoreState) (a p far : ℕ) (op : Op) → IsNoFork (Some op) → AreOwn a p (op_turn s a p far op).events
-turn_is_own s a p far (Map page n rights) single = map_own (map_denial (any_mapped (s.right p) page n) (s.pages p) n) a p page n rights
-turn_is_own s a p far (Unmap page n) single = unmap_own (s.right p (page + far)) a p (page + far) (s.entry p (page + far)) _
-turn_is_own s a p far (Protect page n rights) single = protect_own (protect_denial (any_unmapped (s.right p) page n)) s a p page n rights
-turn_is_own s a p far (Discard page n) single = discard_own (s.right p (page + far)) a p (page + far) (s.entry p (page + far)) _
-turn_is_own s a p far (Load page word) single =
+pub turn_is_own : (s : CoreState) (a p slots far : ℕ) (op : Op) → IsAlone op → AreOwn a p (op_turn s a p slots far op).events
+turn_is_own s a p slots far (Map page n rights) alone = map_own (map_denial (any_mapped (s.right p) page n) (s.pages p) n) a p page n rights
+turn_is_own s a p slots far (Unmap page n) alone = unmap_own (s.right p (page + far)) a p (page + far) (s.entry p (page + far)) _
+turn_is_own s a p slots far (Protect page n rights) alone = protect_own (protect_denial (any_unmapped (s.right p) page n)) s a p page n rights
+turn_is_own s a p slots far (Discard page n) alone = discard_own (s.right p (page + far)) a p (page + far) (s.entry p (page + far)) _
+turn_is_own s a p slots far (Load page word) alone =
     load_own s (load_fault s a p page (s.entry p page)) a p page word (load_fault_own s a p page (s.entry p page))
-turn_is_own s a p far (Store page word value) single =
+turn_is_own s a p slots far (Store page word value) alone =
     store_own s (store_fault_by (allows_store (s.entry p page)) s a p page (s.entry p page)) a p page word value
     (store_fault_own (allows_store (s.entry p page)) s a p page (s.entry p page))
-turn_is_own s a p far (Fork child) single = absurd single
-turn_is_own s a p far Exit single = exit_own s a p (lowest_page (s.right p))
+turn_is_own s a p slots far (Pin handle page n write) alone = absurd alone
+turn_is_own s a p slots far (Unpin handle) alone = absurd alone
+turn_is_own s a p slots far (Give handle to) alone = absurd alone
+turn_is_own s a p slots far (Take handle) alone = absurd alone
+turn_is_own s a p slots far (Transfer handle outward index slot n) alone = absurd alone
+turn_is_own s a p slots far (Fork child) alone = absurd alone
+turn_is_own s a p slots far Exit alone = exit_own s a p (lowest_page (s.right p))
+
+-- ---- pins and stores
+
+-- pins, what running pins have taken, and the words of devices
+abbrev pub Pins : Type 0
+Pins = (ℕ → Handle) × (ℕ → List ℕ) × (ℕ → List TakenPage) × (ℕ → ℕ → ℕ)
+
+abbrev pub pins_of : CoreState → Pins
+pins_of s = (s.handle, s.pinned, s.taken, s.store)
+
+pub own_leaves_pins : (a p : ℕ) (s : CoreState) {e : CoreEvent} → IsOwn a p e → pins_of (happens s e) ≡ pins_of s
+own_leaves_pins a p s (takes f) = refl
+own_leaves_pins a p s (fills_it page f) = refl
+own_leaves_pins a p s (counts page f writable) = refl
+own_leaves_pins a p s (marks_it page f) = refl
+own_leaves_pins a p s (upgrades page f) = refl
+own_leaves_pins a p s (breaks_it page old new was writable) = refl
+own_leaves_pins a p s (puts f) = refl
+own_leaves_pins a p s (drops page was) = refl
+own_leaves_pins a p s (discards_it page was) = refl
+own_leaves_pins a p s (maps page n rights) = refl
+own_leaves_pins a p s (lowers_it page f) = refl
+own_leaves_pins a p s (protects page n rights) = refl
+own_leaves_pins a p s (loads_it page word f value) = refl
+own_leaves_pins a p s (stores_it page word f value) = refl
+
+pub own_leave_pins : (a p : ℕ) (s : CoreState) (es : List CoreEvent) → AreOwn a p es → pins_of (run s es) ≡ pins_of s
+own_leave_pins a p s es own = through (IsOwn a p) pins_of (λ x e is. own_leaves_pins a p x is) s es own
+
+-- so do the events of a fork
+
+fork_leaves_pins : (a p c : ℕ) (s : CoreState) {e : CoreEvent} → IsForkEvent a p c e → pins_of (happens s e) ≡ pins_of s
+fork_leaves_pins a p c s beginning = refl
+fork_leaves_pins a p c s (counting_it done page entry copies) = refl
+fork_leaves_pins a p c s (lowering_it done page f writable) = refl
+fork_leaves_pins a p c s (unmarking done page f writable) = refl
+fork_leaves_pins a p c s (giving done page f writable) = refl
+fork_leaves_pins a p c s (passing done page) = refl
+fork_leaves_pins a p c s (ending done) = refl
+
+pub fork_leave_pins : (a p c : ℕ) (s : CoreState) (es : List CoreEvent) → AreOfFork a p c es → pins_of (run s es) ≡ pins_of s
+fork_leave_pins a p c s [] own = refl
+fork_leave_pins a p c s (e ∷ es) own = fork_leave_pins a p c (happens s e) es own.1 ∙ fork_leaves_pins a p c s own.0
 
 -- ---- births and forks
 
-birth_stays : (a p : ℕ) (s : CoreState) {e : CoreEvent} → IsOwn a p e → (happens s e).birth ≡ s.birth
+pub birth_stays : (a p : ℕ) (s : CoreState) {e : CoreEvent} → IsOwn a p e → (happens s e).birth ≡ s.birth
 birth_stays a p s (takes f) = refl
 birth_stays a p s (fills_it page f) = refl
 birth_stays a p s (counts page f writable) = refl
@@ -202,7 +265,7 @@ job_put a b job jobs new old = go (b == a) refl
     go true is = new ∙ sym old ∙ ap (λ k. fork_place (jobs k)) (sym (eqb-true b a is))
     go false is = refl
 
-fork_stays : (a p b : ℕ) (s : CoreState) {e : CoreEvent} → IsOwn a p e → fork_place (s.job a) ≡ unbegun → fork_place ((happens s e).job b) ≡ fork_place (s.job b)
+pub fork_stays : (a p b : ℕ) (s : CoreState) {e : CoreEvent} → IsOwn a p e → fork_place (s.job a) ≡ unbegun → fork_place ((happens s e).job b) ≡ fork_place (s.job b)
 fork_stays a p b s (takes f) none = refl
 fork_stays a p b s (fills_it page f) none = refl
 fork_stays a p b s (counts page f writable) none = job_put a b (marking p page f) s.job refl none

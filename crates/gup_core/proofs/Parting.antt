@@ -79,13 +79,55 @@ back_there items low high n p d parts same many some =
     ap (λ xs. slice_get xs p) parts ∙ ap (λ k. slice_get (low ++ high) k) (sym same) ∙ back_is low high n d many some
 
 -- what holds of four elements, holds of those that are found in their places
-pub four : {A : Type 0} (T : A → A → A → A → Type 0) (a b c d a' b' c' d' : A) → Some a ≡ Some a' → Some b ≡ Some b' → Some c ≡ Some c' → Some d ≡ Some d' → T a b c d → T a' b' c' d'
+pub four : {A B : Type 0} (T : A → A → B → B → Type 0) (a b : A) (c d : B) (a' b' : A) (c' d' : B) → Some a ≡ Some a' → Some b ≡ Some b' → Some c ≡ Some c' → Some d ≡ Some d' → T a b c d → T a' b' c' d'
 four T a b c d a' b' c' d' first second third last h =
     let ae : a ≡ a' = cc first in
     let be : b ≡ b' = cc second in
     let ce : c ≡ c' = cc third in
     let de : d ≡ d' = cc last in
     subst (λ x. T x b' c' d') ae (subst (λ x. T a x c' d') be (subst (λ x. T a b x d') ce (subst (λ x. T a b c x) de h)))
+
+-- ---- one element that is replaced
+
+index_is : {A : Type 0} (xs : List A) (i : ℕ) (d : A) → i < length xs → slice_get xs i ≡ Some (get_or xs i d)
+index_is [] i d within = absurd (omega arith)
+index_is (x ∷ xs) zero d within = refl
+index_is (x ∷ xs) (suc i) d within = index_is xs i d (omega arith)
+
+set_is : {A : Type 0} (xs : List A) (i : ℕ) (x : A) → i < length xs → slice_get (slice_set xs i x) i ≡ Some x
+set_is [] i x within = absurd (omega arith)
+set_is (y ∷ xs) zero x within = refl
+set_is (y ∷ xs) (suc i) x within = set_is xs i x (omega arith)
+
+-- what was there, and what is there now
+pub was_there : {A : Type 0} (xs : List A) (i p : ℕ) (x : A) → x ≡ get_or xs i x → i ≡ p → p < length xs → slice_get xs p ≡ Some x
+was_there xs i p x is same within = index_is xs p x within ∙ ap (λ k. Some (get_or xs k x)) (sym same) ∙ ap (λ y. Some y) (sym is)
+
+pub now_there : {A : Type 0} (xs : List A) (i p : ℕ) (x : A) → i ≡ p → p < length xs → slice_get (slice_set xs i x) p ≡ Some x
+now_there xs i p x same within = ap (λ k. slice_get (slice_set xs k x) p) same ∙ set_is xs p x within
+
+-- what is true of the new element and the old one, and of each with itself, is true of the elements in each place
+pub kept_at : {A : Type 0} (T : A → A → Type 0) (xs : List A) (i p : ℕ) (old new : A) → old ≡ get_or xs i old → i ≡ p → p < length xs → ((x : A) → T x x) → T old new
+    → (a : ℕ) (was now : A) → slice_get xs a ≡ Some was → slice_get (slice_set xs i new) a ≡ Some now → T was now
+kept_at T [] i p old new is same within each here a was now was_there now_there = absurd (omega arith)
+kept_at T (x ∷ xs) zero p old new is same within each here zero was now was_there now_there =
+    let first : old ≡ was = is ∙ cc was_there in
+    let second : new ≡ now = cc now_there in
+    subst (λ y. T was y) second (subst (λ y. T y new) first here)
+kept_at T (x ∷ xs) zero p old new is same within each here (suc a) was now was_there now_there =
+    let equal : was ≡ now = cc (sym was_there ∙ now_there) in
+    subst (λ y. T was y) equal (each was)
+kept_at T (x ∷ xs) (suc i) p old new is same within each here zero was now was_there now_there =
+    let equal : was ≡ now = cc (sym was_there ∙ now_there) in
+    subst (λ y. T was y) equal (each was)
+kept_at T (x ∷ xs) (suc i) p old new is same within each here (suc a) was now was_there now_there =
+    kept_at T xs i i old new is refl (omega arith) each here a was now was_there now_there
+
+-- what is true of each with itself is true where a list stays
+pub all_kept : {A : Type 0} (T : A → A → Type 0) (xs : List A) → ((x : A) → T x x) → (a : ℕ) (was now : A) → slice_get xs a ≡ Some was → slice_get xs a ≡ Some now → T was now
+all_kept T xs each a was now was_there now_there =
+    let equal : was ≡ now = cc (sym was_there ∙ now_there) in
+    subst (λ y. T was y) equal (each was)
 
 -- one of two different numbers is below the other
 pub below_other : (i n : ℕ) → n ≤ i → (i ≡ n → ⊥) → n < i

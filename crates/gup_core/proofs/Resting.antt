@@ -1,26 +1,32 @@
 -- What is true of a machine between two turns, by the state that turns led to.
-use Rattle.std.proofs.Common.{◌≡◌, ℕ, ◌*◌, ◌<◌, ◌≤◌, ◌++◌, List, [], ◌∷◌, length, slice_get, Option, Some, None, IsSome, refl, sym, ap, ◌∙◌, subst}
+use Rattle.std.proofs.Common.{◌≡◌, ℕ, ◌+◌, ◌*◌, ◌<◌, ◌≤◌, ◌++◌, true, List, [], ◌∷◌, length, slice_get, Option, Some, None, IsSome, suc, refl, sym, ap, ◌∙◌, subst, eqb-true, arith}
 use Rattle.gup_base.specs.declared.entry.Entry.{Entry}
 use Rattle.gup_base.specs.declared.entry.Rights.{Rights}
+use Rattle.gup_plain.specs.Denial.{is_held_by}
 use Rattle.gup_plain.specs.Event.{page_numbers}
+use Rattle.gup_plain.specs.State.{Handle, unmade, held, given, gone, objects_of}
 use Rattle.gup_script.specs.declared.op.Op.{Op}
-use Rattle.gup_script.specs.declared.op.Op.TheVariants.{Map, Unmap, Protect, Discard, Load, Store, Fork, Exit}
+use Rattle.gup_script.specs.declared.op.Op.TheVariants.{Map, Unmap, Protect, Discard, Load, Store, Pin, Unpin, Give, Take, Transfer, Fork, Exit}
 use Rattle.gup_script.specs.Script.{ScriptValue}
 use Rattle.gup_script.specs.Valid.{IsScript}
 use Rattle.gup_follows.specs.Place.{ops_of, process_of, present_op}
 use Rattle.gup_frames.specs.Frames.{FramesValue, IsFrame, frames_of}
 use Rattle.gup_space.specs.Space.{SpaceValue, space_of}
 use Rattle.gup_space.specs.Shows.{ShowsFrames, ShowsSpace}
-use Rattle.gup_events.specs.State.{CoreState, Job, idle, marking, moving, forking, walking, between, counted, lowered, cleared, copying, failing}
+use Rattle.gup_handles.specs.Handles.{HandleValue, handles_of}
+use Rattle.gup_handles.specs.Handles as kept
+use Rattle.gup_events.specs.Event.{bias, frames_of as frames_taken}
+use Rattle.gup_events.specs.State.{CoreState, Taken, Job, idle, marking, moving, forking, walking, between, counted, lowered, cleared, copying, failing}
 use Rattle.gup_events.specs.Sound.{IsSound, keeps_table, keeps_structure}
 use Rattle.gup_turns.specs.Run.{RunState, run_start, run_after}
 use Rattle.gup_turns.specs.Turn.{first_behind}
-use Rattle.gup_turns.specs.Reached.{turned, ForkPlace, fork_place, IsStanding, IsNoFork, StandsFork, IsForking}
+use Rattle.gup_turns.specs.Reached.{turned, ForkPlace, fork_place, IsStanding, IsNoFork, StandsFork, IsForking, StandsHandle, given_back, back_in}
 use Rattle.gup_ops.specs.Far.{HasFar}
 use Rattle.gup_ops.specs.Forked.{IsReadyAt}
+use Rattle.gup_ops.specs.Pins.{IsPin, frames_in}
 use Rattle.gup_ops.specs.Tidy.{IsTidy}
 use Rattle.gup_core.specs.declared.seats.Seat.{Seat}
-use Rattle.gup_core.specs.Machine.{MachineValue, Shows, IsReached, IsMachine}
+use Rattle.gup_core.specs.Machine.{MachineValue, Shows, ShowsParts, IsReached, IsMachine}
 use Rattle.gup_core.specs.Goes.{StandsAt}
 use Rattle.gup_core.specs.Rest.{IsAtRest, HoldsNoLock, op_of_seat}
 use Rattle.gup_core.specs.Seats.{IsSeat}
@@ -46,15 +52,18 @@ reached_behind script r a reached = (
 
 -- ---- processes
 
-tidy_in : (script : ScriptValue) (r : RunState) (F : FramesValue) (S : SpaceValue) (p : ℕ) → IsStanding script r → ((f : ℕ) → (F.count f ≡ 0 → ⊥) → IsFrame F f) → ShowsFrames F r.core → ShowsSpace p S r.core → IsTidy F S
-tidy_in script r F S p h held frames space =
+tidy_in : (script : ScriptValue) (r : RunState) (F : FramesValue) (S : SpaceValue) (p : ℕ) → IsScript script → IsStanding script r → ((f : ℕ) → (F.count f ≡ 0 → ⊥) → IsFrame F f) → ShowsFrames F r.core → ShowsSpace p S r.core → IsTidy F S
+tidy_in script r F S p valid h there frames space =
     let counted_so : (page : ℕ) (e : Entry) → S.entry page ≡ Some e → F.count e.frame ≡ 0 → ⊥ =
     λ page e is none. h.counted p page e (space.entry page ∙ is) (frames.count e.frame ∙ none) in
     record {
       numbered = λ page rights is. h.sound.1.right_numbered p page rights (space.right page ∙ is);
       mapped = λ page e is. subst (λ (o : Option Rights). IsSome o) (space.right page) (h.mapped p page e (space.entry page ∙ is));
-      there = λ page e is. held e.frame (counted_so page e is);
+      there = λ page e is. there e.frame (counted_so page e is);
       counted = counted_so;
+      marked = λ page e is writable.
+          let sound = h.sound.1 in
+          sym (frames.mark e.frame) ∙ sound.entry_marked p page e (sound.whole_entry p page e (space.entry page ∙ is)) writable;
     }
 
 -- an actor that is in the middle of nothing holds no lock
@@ -104,6 +113,11 @@ far_fits script r a seat (Map page n rights) h at is = tt
 far_fits script r a seat (Protect page n rights) h at is = tt
 far_fits script r a seat (Load page word) h at is = tt
 far_fits script r a seat (Store page word value) h at is = tt
+far_fits script r a seat (Pin handle page n write) h at is = subst (λ (k : ℕ). k < n) (sym at.1) (h.pins a handle page n write is).within
+far_fits script r a seat (Unpin handle) h at is = tt
+far_fits script r a seat (Give handle to) h at is = tt
+far_fits script r a seat (Take handle) h at is = tt
+far_fits script r a seat (Transfer handle outward index slot n) h at is = subst (λ (k : ℕ). k < n) (sym at.1) (h.transfers a handle outward index slot n is)
 far_fits script r a seat (Fork child) h at is = tt
 far_fits script r a seat Exit h at is = tt
 
@@ -111,36 +125,92 @@ far_fits script r a seat Exit h at is = tt
 pub op_there : (m : MachineValue) (r : RunState) (a : ℕ) (seat : Seat) (op : Option Op) → Shows m r → slice_get m.seats a ≡ Some seat → op_of_seat m a seat ≡ op → present_op m.script a (r.places a) ≡ op
 op_there m r a seat op h here is = ap (λ k. slice_get (ops_of m.script a) k) (sym (h.seats a seat here).0) ∙ is
 
--- an actor stands so before a turn of its operation
-pub stands_at : (script : ScriptValue) (r : RunState) (a : ℕ) (op : Op) → IsStanding script r → present_op script a (r.places a) ≡ Some op → StandsAt r.core a (process_of script a) op
-stands_at script r a op h is = (
-  λ single. h.idle_jobs a (subst IsNoFork (sym is) single),
-  λ child same. h.forks a child (is ∙ ap (λ (x : Op). Some x) same),
-)
+-- ---- pins
 
-pub at_rest : (m : MachineValue) → IsScript m.script → IsMachine m → ((f : ℕ) → ((frames_of m.frames).count f ≡ 0 → ⊥) → IsFrame (frames_of m.frames) f) → Stand → IsAtRest m
-at_rest m valid is held stand =
+-- each page that a pin still has is there, and has the weight of one
+weighed_by : (F : FramesValue) (s : CoreState) (K : HandleValue) (handle : Handle) (pinned : List ℕ) → ((f : ℕ) → (F.count f ≡ 0 → ⊥) → IsFrame F f) → ShowsFrames F s
+    → IsPin K handle pinned → ((k f : ℕ) → slice_get pinned k ≡ Some f → bias ≤ s.count f) → (k f : ℕ) → slice_get (frames_in K) k ≡ Some f → IsFrame F f × (bias ≤ F.count f)
+weighed_by F s K handle pinned there shown is weighs k f found = go K is found
+  where
+    heavy : (frames : List ℕ) → pinned ≡ frames → slice_get frames k ≡ Some f → IsFrame F f × (bias ≤ F.count f)
+    heavy frames same at =
+        let weight : bias ≤ F.count f = subst (λ (n : ℕ). bias ≤ n) (shown.count f) (weighs k f (ap (λ fs. slice_get fs k) same ∙ at)) in
+        (there f (λ none. absurd (omega (arith, weight, none))), weight)
+
+    go : (L : HandleValue) → IsPin L handle pinned → slice_get (frames_in L) k ≡ Some f → IsFrame F f × (bias ≤ F.count f)
+    go kept.unmade is at = absurd (cc at)
+    go (kept.held by frames write) is at = heavy frames is.1 at
+    go (kept.given to frames write) is at = heavy frames is.1 at
+    go (kept.got by frame) is at = absurd is
+    go kept.gone is at = absurd (cc at)
+
+-- a pin that isn't made is kept so
+unmade_kept : (K : HandleValue) (handle : Handle) (pinned : List ℕ) → IsPin K handle pinned → handle ≡ unmade → K ≡ kept.unmade
+unmade_kept kept.unmade handle pinned is none = refl
+unmade_kept (kept.held by frames write) handle pinned is none = absurd (let no : held by is.0.0 write ≡ unmade = sym is.0.1 ∙ none in cc no)
+unmade_kept (kept.given to frames write) handle pinned is none = absurd (let no : given to is.0.0 write ≡ unmade = sym is.0.1 ∙ none in cc no)
+unmade_kept (kept.got by frame) handle pinned is none = absurd is
+unmade_kept kept.gone handle pinned is none = absurd (let no : gone ≡ unmade = sym is ∙ none in cc no)
+
+length_frames : (taken : List Taken) → length (frames_taken taken) ≡ length taken
+length_frames [] = refl
+length_frames (t ∷ taken) = ap (λ n. suc n) (length_frames taken)
+
+-- a pin whose words its holder moves has all its pages
+whole_by : (back : ℕ → ℕ) (a : ℕ) (pinned : List ℕ) (handle : Handle) → StandsHandle back pinned handle → back a ≡ 0 → is_held_by handle a ≡ true → length pinned ≡ length (objects_of handle)
+whole_by back a pinned unmade stands none holds = absurd (cc holds)
+whole_by back a pinned gone stands none holds = absurd (cc holds)
+whole_by back a pinned (given to objects write) stands none holds = absurd (cc holds)
+whole_by back a pinned (held by objects write) stands none holds =
+    let zero_back : back by ≡ 0 = ap back (eqb-true by a holds) ∙ none in
+    omega (arith, stands.2, zero_back)
+
+-- ---- before a turn
+
+-- an actor stands so before a turn of its operation
+pub stands_at : (script : ScriptValue) (r : RunState) (a : ℕ) (op : Op) → IsStanding script r → present_op script a (r.places a) ≡ Some op → StandsAt r.core a (process_of script a) (r.places a).far op
+stands_at script r a op h is =
+    record {
+      idle_job = λ single. h.idle_jobs a (subst IsNoFork (sym is) single);
+      fork = λ child same. h.forks a child (is ∙ ap (λ (x : Op). Some x) same);
+      pin = λ handle page n write same. h.pins a handle page n write (is ∙ ap (λ (x : Op). Some x) same);
+      pinned = λ handle page n write same some. h.flagged a handle page n write (is ∙ ap (λ (x : Op). Some x) same) some;
+      whole = λ handle index slot n outward same holds.
+          whole_by (back_in script r handle) a (r.core.pinned handle) (r.core.handle handle) (h.handles handle)
+          (ap (λ (o : Option Op). given_back o handle (r.places a).far) (is ∙ ap (λ (x : Op). Some x) same)) holds;
+    }
+
+pub at_rest : (m : MachineValue) → IsScript m.script → IsMachine m → ((f : ℕ) → ((frames_of m.parts.frames).count f ≡ 0 → ⊥) → IsFrame (frames_of m.parts.frames) f) → Stand → IsAtRest m
+at_rest m valid is there stand =
     let r : RunState = is.shown.0 in
     let shown : Shows m r = is.shown.1 in
+    let parts : ShowsParts m.parts r.core = shown.parts in
     let h : IsStanding m.script r = standing m r stand valid shown in
     record {
       valid = valid;
-      spaces = is.spaces;
-      births = is.births;
+      parts = is.parts;
       seats = is.seats;
-      tidy = λ p space here. tidy_in m.script r (frames_of m.frames) (space_of space) p h held shown.frames (shown.spaces p space here);
-      unpinned = λ p space here. sym (shown.spaces p space here).has_pinned ∙ h.unpinned p;
-      few_forks = λ p space here. subst (λ (k : ℕ). k ≤ 32) (shown.spaces p space here).sequence (h.few_forks p);
-      few_counts = λ f. subst (λ (k : ℕ). k ≤ 16 * page_numbers) (shown.frames.count f) (h.few_counts f);
+      tidy = λ p space here. tidy_in m.script r (frames_of m.parts.frames) (space_of space) p valid h there parts.frames (parts.spaces p space here);
+      unpinned = λ a k child forks p space here. sym (parts.spaces p space here).has_pinned ∙ h.unpinned a k child forks p;
+      few_forks = λ p space here. subst (λ (k : ℕ). k ≤ 32) (parts.spaces p space here).sequence (h.few_forks p);
+      few_counts = λ f. subst (λ (k : ℕ). k ≤ 16 * page_numbers + bias * 17680) (parts.frames.count f) (h.few_counts f);
       unlocked = λ p a space seat here sits single.
-          idle_unlocked r.core (space_of space) p a h.sound (h.idle_jobs a (subst IsNoFork (sym (op_there m r a seat (op_of_seat m a seat) shown sits refl)) single)) (shown.spaces p space here);
+          idle_unlocked r.core (space_of space) p a h.sound (h.idle_jobs a (subst IsNoFork (sym (op_there m r a seat (op_of_seat m a seat) shown sits refl)) single)) (parts.spaces p space here);
       forks = λ a child seat parent kid sits op parent_is kid_is.
           subst (λ (k : ForkPlace). IsReadyAt k (space_of parent) (space_of kid)) (sym (shown.forks a seat sits))
           (ready_at r.core (space_of parent) (space_of kid) a (process_of m.script a) child
-          (shown.spaces (process_of m.script a) parent parent_is) (shown.spaces child kid kid_is)
+          (parts.spaces (process_of m.script a) parent parent_is) (parts.spaces child kid kid_is)
           (h.forks a child (op_there m r a seat (Some (Fork child)) shown sits op)));
       answered = λ a seat here. subst (λ (k : ℕ). k ≤ length (ops_of m.script a)) (sym (shown.seats a seat here).0) (h.answered a);
       far = λ a seat op here present.
           let now : present_op m.script a (r.places a) ≡ Some op = op_there m r a seat (Some op) shown here present in
           far_fits m.script r a seat op h (subst (λ (o : Option Op). IsSeat o (r.places a) seat) now (shown.seats a seat here)) now;
+      weighed = λ k. weighed_by (frames_of m.parts.frames) r.core (handles_of m.parts.handles k) (r.core.handle k) (r.core.pinned k) there parts.frames (parts.pins k) (h.weighed k);
+      yet = λ a handle page n write seat here present.
+          unmade_kept (handles_of m.parts.handles handle) (r.core.handle handle) (r.core.pinned handle) (parts.pins handle)
+          (h.pins a handle page n write (op_there m r a seat (Some (Pin handle page n write)) shown here present)).yet;
+      taken = λ a handle page n write seat pages here taken present.
+          let now : present_op m.script a (r.places a) ≡ Some (Pin handle page n write) = op_there m r a seat (Some (Pin handle page n write)) shown here present in
+          let at : IsSeat (Some (Pin handle page n write)) (r.places a) seat = subst (λ (o : Option Op). IsSeat o (r.places a) seat) now (shown.seats a seat here) in
+          ap length (sym (parts.taken a pages taken)) ∙ length_frames (r.core.taken a) ∙ (h.pins a handle page n write now).taken.many ∙ sym at.1;
     }

@@ -1,15 +1,17 @@
 -- What is true of the actors of a script.
-use Rattle.std.proofs.Common.{◌≡◌, ℕ, Bool, ◌<◌, ◌≤◌, Option, Some, None, List, [], ◌∷◌, length, slice_get, All, sum_by, zero, suc, refl, sym, ap, ◌∙◌, inl, inr, arith}
+use Rattle.std.proofs.Common.{◌≡◌, ℕ, Bool, true, false, ◌<◌, ◌≤◌, Option, Some, None, IsSome, IfSome, MatchOption, List, [], ◌∷◌, length, slice_get, All, sum_by, zero, suc, refl, sym, ap, ◌∙◌, subst, inl, inr, arith}
 use Rattle.std.proofs.lemmas.Option.{slice_get_cases, slice_get_within}
 use Rattle.std.proofs.lemmas.List.Sums.{sum_by-cons}
 use Rattle.gup_script.specs.declared.op.Kind.{Kind}
 use Rattle.gup_script.specs.declared.op.Kind.TheVariants.{Thread, Device, Mover}
 use Rattle.gup_script.specs.declared.op.Op.{Op}
-use Rattle.gup_script.specs.declared.op.Op.TheVariants.{Map, Unmap, Protect, Discard, Load, Store, Fork, Exit}
+use Rattle.gup_script.specs.declared.op.Op.TheVariants.{Map, Unmap, Protect, Discard, Load, Store, Pin, Unpin, Give, Take, Transfer, Fork, Exit}
+use Rattle.gup_script.specs.Limits.{most_pinned, most_slots, most_words}
 use Rattle.gup_script.specs.Script.{ScriptValue, Process, Actor, actor_at, process_at}
-use Rattle.gup_script.specs.Valid.{IsScript, IsOp, IsChild, BringsChild, KindFits, OpsFit}
-use Rattle.gup_follows.specs.Place.{ops_in, ops_of, process_in, process_of, process_of_kind, is_born, starts_born}
-use Rattle.gup_turns.specs.ScriptLemmas.{all_at}
+use Rattle.gup_script.specs.Valid.{IsScript, IsOp, IsOfDevice, KindFits}
+use Rattle.gup_follows.specs.Place.{Doer, doer, is_thread, thread_in, slots_of_kind, slots_in, ops_in, ops_of, process_in, process_of, process_of_kind, is_born, starts_born}
+use Rattle.gup_turns.specs.ScriptLemmas.{all_at, is_of_thread}
+use Rattle.gup_core.specs.Doers.{HasProcess, IsProcessOf}
 use Rattle.gup_ops.specs.Far.{HasFar}
 use Rattle.gup_core.specs.Seats.{far_behind}
 
@@ -21,42 +23,86 @@ ops_found script a ops h each =
       | inr past ↦ absurd (omega (arith, past.0))
     ]
 
-pub process_found : (script : ScriptValue) (a : ℕ) (kind : Kind) → a < length script.actors → ((x : Actor) → actor_at script a ≡ Some x → kind ≡ x.kind) → process_of_kind kind ≡ process_of script a
-process_found script a kind h each =
+-- the process of a thread, and the store of a device
+pub process_found : (script : ScriptValue) (a : ℕ) (kind : Kind) (proc : Option ℕ) → a < length script.actors → ((x : Actor) → actor_at script a ≡ Some x → kind ≡ x.kind)
+    → MatchOption proc (is_thread kind ≡ false) (λ p. kind ≡ Thread p) → IsProcessOf (doer script a) proc
+process_found script a kind None h each named =
     elim (slice_get_cases script.actors a).1 [
-      | inl there ↦ ap process_of_kind (each there.0 there.2) ∙ ap process_in (sym there.2)
+      | inl there ↦ ap thread_in there.2 ∙ ap is_thread (sym (each there.0 there.2)) ∙ named
+      | inr past ↦ absurd (omega (arith, past.0))
+    ]
+process_found script a kind (Some p) h each named =
+    elim (slice_get_cases script.actors a).1 [
+      | inl there ↦
+          (ap thread_in there.2 ∙ ap is_thread (sym (each there.0 there.2) ∙ named), ap process_in there.2 ∙ ap process_of_kind (sym (each there.0 there.2) ∙ named))
       | inr past ↦ absurd (omega (arith, past.0))
     ]
 
--- an actor with an operation is a thread of a declared process
-kind_there : (script : ScriptValue) (kind : Kind) (ops : List Op) (k : ℕ) (op : Op) → KindFits script kind → OpsFit kind (length ops) → slice_get ops k ≡ Some op → process_of_kind kind < length script.processes
-kind_there script (Thread p) ops k op fits many is = fits
-kind_there script (Device slots) ops k op fits many is = let within = slice_get_within ops k op is in absurd (omega arith)
-kind_there script Mover ops k op fits many is = let within = slice_get_within ops k op is in absurd (omega arith)
+pub slots_found : (script : ScriptValue) (a : ℕ) (kind : Kind) → a < length script.actors → ((x : Actor) → actor_at script a ≡ Some x → kind ≡ x.kind) → slots_of_kind kind ≡ (doer script a).slots
+slots_found script a kind h each =
+    elim (slice_get_cases script.actors a).1 [
+      | inl there ↦ ap slots_of_kind (each there.0 there.2) ∙ ap slots_in (sym there.2)
+      | inr past ↦ absurd (omega (arith, past.0))
+    ]
 
-pub process_there : (script : ScriptValue) → IsScript script → (a k : ℕ) (op : Op) → slice_get (ops_of script a) k ≡ Some op → process_of script a < length script.processes
-process_there script valid a k op is = go (actor_at script a) refl is
+-- a device's store has slots, and not too many
+pub slots_fit : (script : ScriptValue) (a slots : ℕ) (kind : Kind) → IsScript script → a < length script.actors → ((x : Actor) → actor_at script a ≡ Some x → kind ≡ x.kind) → kind ≡ Device slots → (1 ≤ slots) × (slots ≤ most_slots)
+slots_fit script a slots kind valid h each is =
+    elim (slice_get_cases script.actors a).1 [
+      | inl there ↦
+          subst (λ (k : Kind). KindFits script k) (sym (each there.0 there.2) ∙ is) (all_at (λ (x : Actor). KindFits script x.kind) script.actors a there.0 valid.kinds there.2)
+      | inr past ↦ absurd (omega (arith, past.0))
+    ]
+
+-- an actor with an operation of a process is a thread of a declared one
+
+no_device : (op : Op) → HasProcess op → IsOfDevice op → ⊥
+no_device (Map page n rights) has of_device = of_device
+no_device (Unmap page n) has of_device = of_device
+no_device (Protect page n rights) has of_device = of_device
+no_device (Discard page n) has of_device = of_device
+no_device (Load page word) has of_device = of_device
+no_device (Store page word value) has of_device = of_device
+no_device (Pin handle page n write) has of_device = of_device
+no_device (Unpin handle) has of_device = has
+no_device (Give handle to) has of_device = has
+no_device (Take handle) has of_device = has
+no_device (Transfer handle outward index slot n) has of_device = has
+no_device (Fork child) has of_device = of_device
+no_device Exit has of_device = of_device
+
+pub thread_there : (script : ScriptValue) → IsScript script → (a k : ℕ) (op : Op) → slice_get (ops_of script a) k ≡ Some op → HasProcess op → (doer script a).thread ≡ true
+thread_there script valid a k op is has = is_of_thread script valid a k op is (no_device op has)
+
+kind_there : (script : ScriptValue) (kind : Kind) → KindFits script kind → is_thread kind ≡ true → process_of_kind kind < length script.processes
+kind_there script (Thread p) fits thread = fits
+kind_there script (Device slots) fits thread = absurd (cc thread)
+kind_there script Mover fits thread = absurd (cc thread)
+
+pub process_there : (script : ScriptValue) → IsScript script → (a : ℕ) → (doer script a).thread ≡ true → process_of script a < length script.processes
+process_there script valid a thread = go (actor_at script a) refl thread
   where
-    go : (actor : Option Actor) → actor_at script a ≡ actor → slice_get (ops_in actor) k ≡ Some op → process_in actor < length script.processes
-    go None at is = absurd (cc)
-    go (Some actor) at is =
-        kind_there script actor.kind actor.ops k op
-        (all_at (λ (x : Actor). KindFits script x.kind) script.actors a actor valid.kinds at)
-        (all_at (λ (x : Actor). OpsFit x.kind (length x.ops)) script.actors a actor valid.ops_fit at) is
+    go : (actor : Option Actor) → actor_at script a ≡ actor → thread_in actor ≡ true → process_in actor < length script.processes
+    go None at is = absurd (cc is)
+    go (Some actor) at is = kind_there script actor.kind (all_at (λ (x : Actor). KindFits script x.kind) script.actors a actor valid.kinds at) is
 
--- the child that a fork brings is declared
-child_declared : (script : ScriptValue) (child : ℕ) (found : Option Process) → process_at script child ≡ found → IsChild found → child < length script.processes
-child_declared script child None is unborn = absurd unborn
-child_declared script child (Some process) is unborn = slice_get_within script.processes child process is
+-- its process is the one that the machine finds
+pub own_process : (who : Doer) (proc : Option ℕ) (p : ℕ) → IsProcessOf who proc → who.thread ≡ true → IfSome proc (λ q. q ≡ p) → who.proc ≡ p
+own_process who None p of_who thread same = absurd (let no : true ≡ false = sym thread ∙ of_who in cc no)
+own_process who (Some q) p of_who thread same = of_who.1 ∙ same
 
-pub child_there : (script : ScriptValue) → IsScript script → (a k child : ℕ) → slice_get (ops_of script a) k ≡ Some (Fork child) → child < length script.processes
-child_there script valid a k child is = go (actor_at script a) refl is
-  where
-    go : (actor : Option Actor) → actor_at script a ≡ actor → slice_get (ops_in actor) k ≡ Some (Fork child) → child < length script.processes
-    go None at is = absurd (cc)
-    go (Some actor) at is =
-        child_declared script child (process_at script child) refl
-        (all_at (BringsChild script) actor.ops k (Fork child) (all_at (λ (x : Actor). All (BringsChild script) x.ops) script.actors a actor valid.children at) is)
+pub has_process : (who : Doer) (proc : Option ℕ) → IsProcessOf who proc → who.thread ≡ true → IsSome proc
+has_process who None of_who thread = absurd (let no : true ≡ false = sym thread ∙ of_who in cc no)
+has_process who (Some q) of_who thread = refl
+
+pub process_of_doer : (who : Doer) (proc : Option ℕ) → IsProcessOf who proc → IfSome proc (λ q. q ≡ who.proc)
+process_of_doer who None of_who = tt
+process_of_doer who (Some q) of_who = sym of_who.1
+
+-- where it is found, it is declared
+pub found_there : (script : ScriptValue) → IsScript script → (a n : ℕ) (proc : Option ℕ) → n ≡ length script.processes → IsProcessOf (doer script a) proc → IfSome proc (λ p. p < n)
+found_there script valid a n None many of_who = tt
+found_there script valid a n (Some p) many of_who = let within = process_there script valid a of_who.0 in omega (arith, within, of_who.1, many)
 
 -- no actor has more operations than all have together
 one_of_sum : (xs : List Actor) (k : ℕ) (x : Actor) → slice_get xs k ≡ Some x → length x.ops ≤ sum_by (λ (a : Actor). length a.ops) xs
@@ -84,7 +130,7 @@ born_found script p b h each =
       | inr past ↦ absurd (omega (arith, past.0))
     ]
 
--- an operation that goes over pages goes over 1,024 at most
+-- an operation that goes over pages or words goes over 1,024 at most
 pub far_below : (op : Op) (far : ℕ) → IsOp op → HasFar op far → far_behind op far ≤ 1024
 far_below (Unmap page n) far is has = let few : n ≤ 1024 = is.1 in omega arith
 far_below (Discard page n) far is has = let few : n ≤ 1024 = is.1 in omega arith
@@ -92,6 +138,11 @@ far_below (Map page n rights) far is has = omega arith
 far_below (Protect page n rights) far is has = omega arith
 far_below (Load page word) far is has = omega arith
 far_below (Store page word value) far is has = omega arith
+far_below (Pin handle page n write) far is has = let few : n ≤ most_pinned = is.1 in omega arith
+far_below (Unpin handle) far is has = omega arith
+far_below (Give handle to) far is has = omega arith
+far_below (Take handle) far is has = omega arith
+far_below (Transfer handle outward index slot n) far is has = let few : n ≤ most_words = is.1 in omega arith
 far_below (Fork child) far is has = omega arith
 far_below Exit far is has = omega arith
 

@@ -1,69 +1,53 @@
 -- The three kinds of turn of an actor: idle, waiting, and a turn of its operation.
-use Rattle.std.proofs.Common.{◌≡◌, ℕ, ◌+◌, ◌-◌, ◌*◌, ◌^◌, ◌<◌, ◌≤◌, ◌==◌, Bool, true, false, cond, List, [], ◌∷◌, length, min, slice_get, Option, Some, None, is_some, if◌then◌else◌, refl, sym, ap, ◌∙◌, subst, inl, inr, eqb-true, arith}
+use Rattle.std.proofs.Common.{◌≡◌, ℕ, ◌+◌, ◌-◌, ◌^◌, ◌==◌, Bool, true, false, cond, List, [], ◌∷◌, length, min, slice_get, Option, Some, None, IfSome, is_some, refl, sym, ap, ◌∙◌, subst, eqb-true, arith}
 use Rattle.std.proofs.lemmas.Bool.Decides.{nat_tests}
-use Rattle.std.proofs.lemmas.Option.{slice_get_cases}
-use Rattle.gup_plain.specs.Event.{page_numbers}
 use Rattle.gup_plain.specs.Note.{NoteValue}
-use Rattle.gup_plain.specs.State.{Birth as CoreBirth, growing, born}
+use Rattle.gup_plain.specs.State.{Birth as CoreBirth, failed, born}
 use Rattle.gup_plain.specs.declared.answer.Answer.{Answer}
 use Rattle.gup_plain.specs.declared.event.PlainEvent.{PlainEvent}
 use Rattle.gup_plain.specs.declared.note.Waiting.{Waiting}
 use Rattle.gup_plain.specs.declared.note.What.{What}
 use Rattle.gup_plain.specs.declared.note.What.TheVariants.{Idle, Wait}
 use Rattle.gup_script.specs.declared.op.Op.{Op}
-use Rattle.gup_script.specs.declared.op.Op.TheVariants.{Map, Unmap, Protect, Discard, Load, Store, Fork, Exit}
+use Rattle.gup_script.specs.declared.op.Op.TheVariants.{Map, Unmap, Protect, Discard, Load, Store, Pin, Unpin, Give, Take, Transfer, Fork, Exit}
 use Rattle.gup_script.specs.Script.{ScriptValue}
-use Rattle.gup_follows.specs.Place.{Place, place_behind, process_of, present_op}
+use Rattle.gup_follows.specs.Place.{Place, Doer, doer, place_behind, process_of, present_op, birth_by, birth_for}
 use Rattle.gup_follows.specs.Follows.{notes_of_turn}
 use Rattle.gup_follows.specs.Order.{Turn, places_behind, pointer_after}
-use Rattle.gup_frames.specs.Frames.{FrameLists, frames_of}
-use Rattle.gup_space.specs.Space.{SpaceParts, space_of}
-use Rattle.gup_space.specs.After.{AreOf}
-use Rattle.gup_space.specs.Shows.{ShowsFrames, ShowsSpace, change_of}
-use Rattle.gup_space.specs.ShowsLemmas.{leave_other}
-use Rattle.gup_fork.specs.Forks.{fork_change_of}
-use Rattle.gup_fork.specs.ForkAfter.{AreOfFork}
-use Rattle.gup_fork.specs.ForkLemmas.{leave_others, jobs_stay, births_stay as fork_births_stay}
-use Rattle.gup_events.specs.State.{CoreState, Job, idle, marking, moving, forking, walking, between, counted as counted_page, lowered, cleared, copying, failing}
-use Rattle.gup_events.specs.Event.{CoreEvent}
+use Rattle.gup_events.specs.State.{CoreState}
 use Rattle.gup_events.specs.Invariant.{run}
-use Rattle.gup_turns.specs.Turn.{Taken, op_turn, fork_turn, failed_turn, turn_at, waits_for_locks, locks_needed, waiting_for, both_if}
+use Rattle.gup_turns.specs.Turn.{Taken, op_turn, failed_turn, turn_at, waits_born, waiting_for}
 use Rattle.gup_turns.specs.Run.{RunState, op_in, waiting_with, waiting_in, taken_by, taken_in, run_after, written_in}
-use Rattle.gup_turns.specs.Reached.{IsStanding, IsNoFork, StandsFork, fork_place, unbegun}
-use Rattle.gup_turns.specs.ScriptLemmas.{op_is_op}
+use Rattle.gup_turns.specs.Reached.{IsStanding, fork_place}
 use Rattle.gup_ops.specs.declared.forks.ForkPlace.{ForkPlace}
 use Rattle.gup_ops.specs.declared.said.Said.{Said}
 use Rattle.gup_ops.specs.Far.{far_in}
-use Rattle.gup_ops.specs.Forked.{place_of, is_answered, LeadsFork, IsForkTurn}
-use Rattle.gup_ops.specs.Said.{whats_by, whats_of, Leads, IsTurnOf}
-use Rattle.gup_ops.specs.Tidy.{needs_table}
-use Rattle.gup_core.specs.declared.births.Birth.{Birth}
-use Rattle.gup_core.specs.declared.births.Birth.TheVariants.{Growing, Born}
+use Rattle.gup_ops.specs.Forked.{place_of}
+use Rattle.gup_ops.specs.Said.{whats_by, whats_of}
+use Rattle.gup_core.specs.declared.parts.Parts.{Parts}
 use Rattle.gup_core.specs.declared.seats.Seat.{Seat}
-use Rattle.gup_core.specs.Goes.{StandsAt, LeadsAll, IsTurnOfAll, IsForkReady, IsReady}
-use Rattle.gup_core.specs.Machine.{MachineValue, machine_of, counted, ShowsSpaces, IsBirth, ShowsBirths, Shows, TakesTurns, IsMachine}
+use Rattle.gup_core.specs.Doers.{IsProcessOf}
+use Rattle.gup_core.specs.Goes.{StandsAt, LeadsAll, IsTurnOfAll, HasSlots}
+use Rattle.gup_core.specs.Machine.{MachineValue, machine_of, counted, ShowsParts, Shows, TakesTurns}
 use Rattle.gup_core.specs.Rest.{IsAtRest, op_of_seat}
 use Rattle.gup_core.specs.Seats.{IsSeat, far_behind, seat_behind}
-use Rattle.gup_core.proofs.Owning.{AreOwn, turn_is_own, are_of, births_stay, forks_stay, fork_is_own}
+use Rattle.gup_core.proofs.Notes.{NoTwo, no_two}
 use Rattle.gup_core.proofs.Resting.{Stand, standing, reached_behind, op_there, stands_at}
-use Rattle.gup_core.proofs.Scripts.{process_there, child_there, few_answered}
-use Rattle.gup_core.proofs.Waiting.{single_needs, born_and_free, table_free}
+use Rattle.gup_core.proofs.Scripts.{process_of_doer}
+use Rattle.gup_core.proofs.Turning.{differ, replaced}
+use Rattle.gup_core.proofs.Waiting.{born_and_free}
 
 -- the number of the next turn
 counted_next : (m t : ℕ) → m ≡ min t (2 ^ 32 - 1) → counted m ≡ min (t + 1) (2 ^ 32 - 1)
 counted_next m t is = grind (arith, nat_tests)
 
-differ : (b a : ℕ) → (b == a) ≡ false → b ≡ a → ⊥
-differ b a other is = grind (arith, nat_tests)
-
 -- What the machine is behind a turn t of an actor shows the state behind it.
-shows_behind : (m : MachineValue) (frames : FrameLists) (spaces : List SpaceParts) (births : List Birth) (seats : List Seat) (turns : ℕ) (r : RunState) (a : ℕ) (t : Taken)
-    → taken_in m.script r a ≡ t → Shows m r → turns ≡ counted m.turns
-    → ShowsFrames (frames_of frames) (run r.core t.events) → ShowsSpaces spaces (run r.core t.events) → ShowsBirths births (run r.core t.events)
+shows_behind : (m : MachineValue) (parts : Parts) (seats : List Seat) (turns : ℕ) (r : RunState) (a : ℕ) (t : Taken)
+    → taken_in m.script r a ≡ t → Shows m r → turns ≡ counted m.turns → ShowsParts parts (run r.core t.events)
     → ((b : ℕ) (seat : Seat) → slice_get seats b ≡ Some seat → IsSeat (present_op m.script b (places_behind r.places (record { actor = a; whats = t.whats }) b)) (places_behind r.places (record { actor = a; whats = t.whats }) b) seat)
     → ((b : ℕ) (seat : Seat) → slice_get seats b ≡ Some seat → place_of seat.fork ≡ fork_place ((run r.core t.events).job b))
-    → Shows (machine_of m.script frames spaces births seats turns) (run_after m.script r a)
-shows_behind m frames spaces births seats turns r a t is h count new_frames new_spaces new_births places forks =
+    → Shows (machine_of m.script parts seats turns) (run_after m.script r a)
+shows_behind m parts seats turns r a t is h count shown places forks =
     let behind : Taken → RunState =
     λ u. record {
       core = run r.core u.events;
@@ -73,9 +57,7 @@ shows_behind m frames spaces births seats turns r a t is h count new_frames new_
     } in
     record {
       reached = reached_behind m.script r a h.reached;
-      frames = subst (λ (u : Taken). ShowsFrames (frames_of frames) (behind u).core) (sym is) new_frames;
-      spaces = subst (λ (u : Taken). ShowsSpaces spaces (behind u).core) (sym is) new_spaces;
-      births = subst (λ (u : Taken). ShowsBirths births (behind u).core) (sym is) new_births;
+      parts = subst (λ (u : Taken). ShowsParts parts (behind u).core) (sym is) shown;
       seats =
           subst (λ (u : Taken). (b : ℕ) (seat : Seat) → slice_get seats b ≡ Some seat → IsSeat (present_op m.script b ((behind u).places b)) ((behind u).places b) seat) (sym is) places;
       forks = subst (λ (u : Taken). (b : ℕ) (seat : Seat) → slice_get seats b ≡ Some seat → place_of seat.fork ≡ fork_place ((behind u).core.job b)) (sym is) forks;
@@ -109,17 +91,9 @@ forks_behind : (s t : CoreState) (seats others : List Seat) (a : ℕ) (seat : Se
     → ((b : ℕ) → (b ≡ a → ⊥) → slice_get others b ≡ slice_get seats b) → slice_get others a ≡ Some seat
     → place_of seat.fork ≡ fork_place (t.job a) → ((b : ℕ) → (b ≡ a → ⊥) → fork_place (t.job b) ≡ fork_place (s.job b))
     → (b : ℕ) (x : Seat) → slice_get others b ≡ Some x → place_of x.fork ≡ fork_place (t.job b)
-forks_behind s t seats others a seat old same here new stay b x found = go (b == a) refl
-  where
-    at_actor : b ≡ a → place_of x.fork ≡ fork_place (t.job b)
-    at_actor e =
-        let is : Some x ≡ Some seat = sym found ∙ ap (λ k. slice_get others k) e ∙ here in
-        let seats_are : seat ≡ x = cc in
-        ap (λ (y : Seat). place_of y.fork) (sym seats_are) ∙ new ∙ ap (λ k. fork_place (t.job k)) (sym e)
-
-    go : (c : Bool) → (b == a) ≡ c → place_of x.fork ≡ fork_place (t.job b)
-    go true e = at_actor (eqb-true b a e)
-    go false e = old b x (sym (same b (differ b a e)) ∙ found) ∙ sym (stay b (differ b a e))
+forks_behind s t seats others a seat old same here new stay =
+    replaced (λ b (x : Seat). place_of x.fork ≡ fork_place (t.job b)) seats others a seat here same new
+    (λ b x apart found. old b x found ∙ sym (stay b apart))
 
 -- the same notes
 pub notes_taken : (m n : MachineValue) (a : ℕ) (notes other : List NoteValue) → other ≡ notes → TakesTurns m n a notes → TakesTurns m n a other
@@ -130,9 +104,9 @@ notes_taken m n a notes other same h = subst (λ (ns : List NoteValue). TakesTur
 -- a turn without an event leaves all but its number
 stays : (m : MachineValue) (r : RunState) (a : ℕ) (seat : Seat) (turns : ℕ) (what : What) → Shows m r → slice_get m.seats a ≡ Some seat → turns ≡ counted m.turns
     → taken_in m.script r a ≡ record { events = []; whats = what ∷ [] } → place_behind (r.places a) (what ∷ []) ≡ r.places a
-    → Shows (machine_of m.script m.frames m.spaces m.births m.seats turns) (run_after m.script r a)
+    → Shows (machine_of m.script m.parts m.seats turns) (run_after m.script r a)
 stays m r a seat turns what h here count is same =
-    shows_behind m m.frames m.spaces m.births m.seats turns r a (record { events = []; whats = what ∷ [] }) is h count h.frames h.spaces h.births
+    shows_behind m m.parts m.seats turns r a (record { events = []; whats = what ∷ [] }) is h count h.parts
     (seats_behind m.script r.places m.seats m.seats a (record { actor = a; whats = what ∷ [] }) seat refl h.seats (λ b apart. refl) here
     (subst (λ (x : Place). IsSeat (present_op m.script a x) x seat) (sym same) (h.seats a seat here)))
     h.forks
@@ -146,38 +120,37 @@ says_so m r a seat turns t whats h here count is says =
     ∙ ap (λ (u : Taken). notes_of_turn (counted m.turns) a ((r.places a).answered + 1) u.whats) (sym is)
 
 pub idles : (m : MachineValue) (a : ℕ) (seat : Seat) (turns : ℕ) → slice_get m.seats a ≡ Some seat → op_of_seat m a seat ≡ None → turns ≡ counted m.turns
-    → TakesTurns m (machine_of m.script m.frames m.spaces m.births m.seats turns) a (notes_of_turn turns a (seat.answered + 1) (Idle ∷ []))
+    → TakesTurns m (machine_of m.script m.parts m.seats turns) a (notes_of_turn turns a (seat.answered + 1) (Idle ∷ []))
 idles m a seat turns here none count r h =
     let is : taken_in m.script r a ≡ record { events = []; whats = Idle ∷ [] } =
-    ap (λ o. taken_by r.core a (process_of m.script a) (r.places a).far o (waiting_in m.script r a)) (op_there m r a seat None h here none) in
+    ap (λ o. taken_by r.core (doer m.script a) (r.places a).far o (waiting_in m.script r a)) (op_there m r a seat None h here none) in
     record {
       said = says_so m r a seat turns (record { events = []; whats = Idle ∷ [] }) (Idle ∷ []) h here count is refl;
       shown = stays m r a seat turns Idle h here count is refl;
     }
 
 -- what is known of the actor's waiting from every state that the machine shows
-abbrev pub IsWaiting : MachineValue → (a p : ℕ) → Seat → Op → Option Waiting → Type 0
-IsWaiting m a p seat op waiting =
-    (s : CoreState) → ShowsSpaces m.spaces s → ShowsBirths m.births s → place_of seat.fork ≡ fork_place (s.job a) → StandsAt s a p op → waiting ≡ waiting_for s a p op
+abbrev pub IsWaiting : MachineValue → (a : ℕ) → (proc : Option ℕ) → Seat → Op → Option Waiting → Type 0
+IsWaiting m a proc seat op waiting =
+    (s : CoreState) (who : Doer) (far : ℕ) → ShowsParts m.parts s → who.actor ≡ a → IsProcessOf who proc
+    → place_of seat.fork ≡ fork_place (s.job a) → StandsAt s a who.proc far op → waiting ≡ waiting_for s who op
 
 -- it is what the core run says
-pub waiting_is : (m : MachineValue) (a p : ℕ) (seat : Seat) (op : Op) (waiting : Option Waiting) → Stand → IsAtRest m → p ≡ process_of m.script a → slice_get m.seats a ≡ Some seat → op_of_seat m a seat ≡ Some op → IsWaiting m a p seat op waiting
+pub waiting_is : (m : MachineValue) (a : ℕ) (proc : Option ℕ) (seat : Seat) (op : Op) (waiting : Option Waiting) → Stand → IsAtRest m → IsProcessOf (doer m.script a) proc → slice_get m.seats a ≡ Some seat → op_of_seat m a seat ≡ Some op → IsWaiting m a proc seat op waiting
     → (r : RunState) → Shows m r → waiting ≡ waiting_in m.script r a
-waiting_is m a p seat op waiting stand rest of_a here present is r h =
+waiting_is m a proc seat op waiting stand rest of_a here present is r h =
     let now : present_op m.script a (r.places a) ≡ Some op = op_there m r a seat (Some op) h here present in
-    let at : StandsAt r.core a p op = subst (λ (q : ℕ). StandsAt r.core a q op) (sym of_a) (stands_at m.script r a op (standing m r stand rest.valid h) now) in
-    is r.core h.spaces h.births (h.forks a seat here) at
-    ∙ ap (λ q. waiting_for r.core a q op) of_a
-    ∙ ap (λ o. waiting_with r.core a (process_of m.script a) o) (sym now)
+    let at : StandsAt r.core a (process_of m.script a) (r.places a).far op = stands_at m.script r a op (standing m r stand rest.valid h) now in
+    is r.core (doer m.script a) (r.places a).far h.parts refl of_a (h.forks a seat here) at
+    ∙ ap (λ o. waiting_with r.core (doer m.script a) o) (sym now)
 
 pub waits : (m : MachineValue) (a : ℕ) (seat : Seat) (op : Op) (turns : ℕ) (waiting : Waiting) → slice_get m.seats a ≡ Some seat → op_of_seat m a seat ≡ Some op → turns ≡ counted m.turns
     → ((r : RunState) → Shows m r → Some waiting ≡ waiting_in m.script r a)
-    → TakesTurns m (machine_of m.script m.frames m.spaces m.births m.seats turns) a (notes_of_turn turns a (seat.answered + 1) (Wait waiting ∷ []))
+    → TakesTurns m (machine_of m.script m.parts m.seats turns) a (notes_of_turn turns a (seat.answered + 1) (Wait waiting ∷ []))
 waits m a seat op turns waiting here present count waiting_so r h =
-    let p = process_of m.script a in
     let is : taken_in m.script r a ≡ record { events = []; whats = Wait waiting ∷ [] } =
-    ap (λ o. taken_by r.core a p (r.places a).far o (waiting_in m.script r a)) (op_there m r a seat (Some op) h here present)
-    ∙ ap (λ w. taken_by r.core a p (r.places a).far (Some op) w) (sym (waiting_so r h)) in
+    ap (λ o. taken_by r.core (doer m.script a) (r.places a).far o (waiting_in m.script r a)) (op_there m r a seat (Some op) h here present)
+    ∙ ap (λ w. taken_by r.core (doer m.script a) (r.places a).far (Some op) w) (sym (waiting_so r h)) in
     record {
       said = says_so m r a seat turns (record { events = []; whats = Wait waiting ∷ [] }) (Wait waiting ∷ []) h here count is refl;
       shown = stays m r a seat turns (Wait waiting) h here count is refl;
@@ -194,6 +167,11 @@ first_far (Some (Map page n rights)) = refl
 first_far (Some (Protect page n rights)) = refl
 first_far (Some (Load page word)) = refl
 first_far (Some (Store page word value)) = refl
+first_far (Some (Pin handle page n write)) = refl
+first_far (Some (Unpin handle)) = refl
+first_far (Some (Give handle to)) = refl
+first_far (Some (Take handle)) = refl
+first_far (Some (Transfer handle outward index slot n)) = refl
 first_far (Some (Fork child)) = refl
 first_far (Some Exit) = refl
 
@@ -204,271 +182,81 @@ far_next (Map page n rights) far at is = refl
 far_next (Protect page n rights) far at is = refl
 far_next (Load page word) far at is = refl
 far_next (Store page word value) far at is = refl
+far_next (Pin handle page n write) far at is = ap (λ k. k + 1) is
+far_next (Unpin handle) far at is = refl
+far_next (Give handle to) far at is = refl
+far_next (Take handle) far at is = refl
+far_next (Transfer handle outward index slot n) far at is = ap (λ k. k + 1) is
 far_next (Fork child) far at is = refl
 far_next Exit far at is = refl
 
 -- behind a turn of its operation the actor's seat is at its place
-seat_next : (script : ScriptValue) (a : ℕ) (place : Place) (seat : Seat) (op : Op) (fork : ForkPlace) (event : Option PlainEvent) (answer : Option Answer)
-    → present_op script a place ≡ Some op → IsSeat (Some op) place seat
-    → IsSeat (present_op script a (place_behind place (whats_by event answer))) (place_behind place (whats_by event answer)) (seat_behind seat op (is_some answer) fork)
-seat_next script a place seat op fork None None is at =
-    subst (λ (o : Option Op). IsSeat o (place_behind place (whats_by None None)) (seat_behind seat op false fork)) (sym is) (at.0, far_next op place.far seat.far at.1)
-seat_next script a place seat op fork (Some event) None is at =
-    subst (λ (o : Option Op). IsSeat o (place_behind place (whats_by (Some event) None)) (seat_behind seat op false fork)) (sym is) (at.0, far_next op place.far seat.far at.1)
-seat_next script a place seat op fork None (Some answer) is at = (ap (λ k. k + 1) at.0, first_far (present_op script a (place_behind place (whats_by None (Some answer)))))
-seat_next script a place seat op fork (Some event) (Some answer) is at = (ap (λ k. k + 1) at.0, first_far (present_op script a (place_behind place (whats_by (Some event) (Some answer)))))
+seat_next : (script : ScriptValue) (a : ℕ) (place : Place) (seat : Seat) (op : Op) (fork : ForkPlace) (event next : Option PlainEvent) (answer : Option Answer)
+    → present_op script a place ≡ Some op → IsSeat (Some op) place seat → NoTwo (whats_by event next answer)
+    → IsSeat (present_op script a (place_behind place (whats_by event next answer))) (place_behind place (whats_by event next answer)) (seat_behind seat op (is_some answer) fork)
+seat_next script a place seat op fork None None None is at two =
+    subst (λ (o : Option Op). IsSeat o (place_behind place (whats_by None None None)) (seat_behind seat op false fork)) (sym is) (at.0, far_next op place.far seat.far at.1)
+seat_next script a place seat op fork (Some event) None None is at two =
+    subst (λ (o : Option Op). IsSeat o (place_behind place (whats_by (Some event) None None)) (seat_behind seat op false fork)) (sym is) (at.0, far_next op place.far seat.far at.1)
+seat_next script a place seat op fork None (Some next) None is at two =
+    subst (λ (o : Option Op). IsSeat o (place_behind place (whats_by None (Some next) None)) (seat_behind seat op false fork)) (sym is) (at.0, far_next op place.far seat.far at.1)
+seat_next script a place seat op fork (Some event) (Some next) None is at two = absurd two
+seat_next script a place seat op fork None None (Some answer) is at two = (ap (λ k. k + 1) at.0, first_far (present_op script a (place_behind place (whats_by None None (Some answer)))))
+seat_next script a place seat op fork (Some event) None (Some answer) is at two =
+    (ap (λ k. k + 1) at.0, first_far (present_op script a (place_behind place (whats_by (Some event) None (Some answer)))))
+seat_next script a place seat op fork None (Some next) (Some answer) is at two =
+    (ap (λ k. k + 1) at.0, first_far (present_op script a (place_behind place (whats_by None (Some next) (Some answer)))))
+seat_next script a place seat op fork (Some event) (Some next) (Some answer) is at two =
+    (ap (λ k. k + 1) at.0, first_far (present_op script a (place_behind place (whats_by (Some event) (Some next) (Some answer)))))
 
 fork_of_seat : (seat : Seat) (op : Op) (answered : Bool) (fork : ForkPlace) → (seat_behind seat op answered fork).fork ≡ fork
 fork_of_seat seat op true fork = refl
 fork_of_seat seat op false fork = refl
 
+-- whoever is no thread needs no process that is born
+pub unfailed_for : (thread : Bool) (b : CoreBirth) → (b ≡ failed → ⊥) → birth_by thread b ≡ failed → ⊥
+unfailed_for true b other is = other is
+unfailed_for false b other is = absurd (cc is)
+
 -- the turn is that of the operation, of a process that is born
 taken_is : (m : MachineValue) (r : RunState) (a : ℕ) (op : Op) → IsStanding m.script r → op_in m.script r a ≡ Some op → waiting_in m.script r a ≡ None
-    → taken_in m.script r a ≡ op_turn r.core a (process_of m.script a) (r.places a).far op
+    → taken_in m.script r a ≡ op_turn r.core a (process_of m.script a) (doer m.script a).slots (r.places a).far op
 taken_is m r a op h is none =
-    let p : ℕ = process_of m.script a in
+    let who : Doer = doer m.script a in
     let far : ℕ = (r.places a).far in
-    let free : waiting_for r.core a p op ≡ None = ap (λ o. waiting_with r.core a p o) (sym is) ∙ none in
-    let is_born : r.core.birth p ≡ born =
-    (born_and_free (r.core.birth p) p (waits_for_locks (locks_needed r.core a p op) a (r.core.structure p) (r.core.table p)) (h.unfailed p) free).0 in
-    ap (λ o. taken_by r.core a p far o (waiting_in m.script r a)) is
-    ∙ ap (λ w. taken_by r.core a p far (Some op) w) none
-    ∙ ap (λ b. turn_at b (failed_turn a p op) (op_turn r.core a p far op)) is_born
+    let turn : Taken = op_turn r.core a who.proc who.slots far op in
+    let free : waiting_for r.core who op ≡ None = ap (λ o. waiting_with r.core who o) (sym is) ∙ none in
+    let is_born : birth_for r.core.birth who ≡ born =
+    (born_and_free (birth_for r.core.birth who) who.proc (waits_born r.core a who.proc op) (unfailed_for who.thread (r.core.birth who.proc) (h.unfailed who.proc)) free).0 in
+    ap (λ o. taken_by r.core who far o (waiting_in m.script r a)) is
+    ∙ ap (λ w. taken_by r.core who far (Some op) w) none
+    ∙ ap (λ b. turn_at b (failed_turn a who.proc op) turn) is_born
 
-pub goes : (m : MachineValue) (a p : ℕ) (seat next : Seat) (op : Op) (frames : FrameLists) (spaces : List SpaceParts) (births : List Birth) (seats : List Seat) (turns : ℕ) (said : Said) (fork : ForkPlace)
-    → Stand → IsAtRest m → p ≡ process_of m.script a → slice_get m.seats a ≡ Some seat → op_of_seat m a seat ≡ Some op → turns ≡ counted m.turns
+pub goes : (m : MachineValue) (a : ℕ) (proc : Option ℕ) (seat next : Seat) (op : Op) (parts : Parts) (seats : List Seat) (turns : ℕ) (said : Said) (fork : ForkPlace)
+    → Stand → IsAtRest m → IsProcessOf (doer m.script a) proc → slice_get m.seats a ≡ Some seat → op_of_seat m a seat ≡ Some op → turns ≡ counted m.turns
     → ((r : RunState) → Shows m r → None ≡ waiting_in m.script r a)
     → next ≡ seat_behind seat op (is_some said.answer) fork → slice_get seats a ≡ Some next → ((b : ℕ) → (b ≡ a → ⊥) → slice_get seats b ≡ slice_get m.seats b)
-    → IsTurnOfAll m.frames frames m.spaces spaces m.births births a p seat.far op seat.fork (whats_of said) fork
-    → TakesTurns m (machine_of m.script frames spaces births seats turns) a (notes_of_turn turns a (seat.answered + 1) (whats_of said))
-goes m a p seat next op frames spaces births seats turns said fork stand rest of_a here present count ready next_is seated unseated turn r h =
+    → ((p slots : ℕ) → IfSome proc (λ q. q ≡ p) → HasSlots m.parts a slots → IsTurnOfAll m.parts parts a p slots seat.far op seat.fork (whats_of said) fork)
+    → TakesTurns m (machine_of m.script parts seats turns) a (notes_of_turn turns a (seat.answered + 1) (whats_of said))
+goes m a proc seat next op parts seats turns said fork stand rest of_a here present count ready next_is seated unseated turn r h =
     let far : ℕ = (r.places a).far in
-    let own : ℕ = process_of m.script a in
+    let who : Doer = doer m.script a in
     let stands : IsStanding m.script r = standing m r stand rest.valid h in
     let op_is : op_in m.script r a ≡ Some op = op_there m r a seat (Some op) h here present in
     let at : IsSeat (Some op) (r.places a) seat = subst (λ (o : Option Op). IsSeat o (r.places a) seat) op_is (h.seats a seat here) in
-    let t : Taken = op_turn r.core a own far op in
+    let t : Taken = op_turn r.core a who.proc who.slots far op in
     let is : taken_in m.script r a ≡ t = taken_is m r a op stands op_is (sym (ready r h)) in
-    let turn_so : IsTurnOfAll m.frames frames m.spaces spaces m.births births a own seat.far op seat.fork (whats_of said) fork =
-    subst (λ (q : ℕ). IsTurnOfAll m.frames frames m.spaces spaces m.births births a q seat.far op seat.fork (whats_of said) fork) of_a turn in
-    let led : LeadsAll frames spaces births a r.core t (whats_of said) fork =
-    turn_so r.core far h.frames h.spaces h.births (h.forks a seat here) (stands_at m.script r a op stands op_is) at.1 in
+    let led : LeadsAll parts a r.core t (whats_of said) fork =
+    turn who.proc who.slots (process_of_doer who proc of_a) (rest.parts.slots a) r.core far h.parts (h.forks a seat here) (stands_at m.script r a op stands op_is) at.1 in
     let seated_so : slice_get seats a ≡ Some (seat_behind seat op (is_some said.answer) fork) = seated ∙ ap (λ (s : Seat). Some s) next_is in
+    let two : NoTwo (whats_of said) = subst (λ (ws : List What). NoTwo ws) led.says (no_two r.core a who.proc who.slots far op) in
     record {
       said = says_so m r a seat turns t (whats_of said) h here count is led.says;
       shown =
-          shows_behind m frames spaces births seats turns r a t is h count led.frames led.spaces led.births
+          shows_behind m parts seats turns r a t is h count led.parts
           (seats_behind m.script r.places m.seats seats a (record { actor = a; whats = t.whats }) (seat_behind seat op (is_some said.answer) fork) refl h.seats unseated seated_so
           (subst (λ (ws : List What). IsSeat (present_op m.script a (place_behind (r.places a) ws)) (place_behind (r.places a) ws) (seat_behind seat op (is_some said.answer) fork)) (sym led.says)
-          (seat_next m.script a (r.places a) seat op fork said.event said.answer op_is at)))
+          (seat_next m.script a (r.places a) seat op fork said.event said.next said.answer op_is at two)))
           (forks_behind r.core (run r.core t.events) m.seats seats a (seat_behind seat op (is_some said.answer) fork) h.forks unseated seated_so
           (ap place_of (fork_of_seat seat op (is_some said.answer) fork) ∙ led.fork) led.others);
     }
-
--- ---- a turn of one process
-
--- what the turn leaves of each process
-spaces_behind : (s : CoreState) (p : ℕ) (es : List CoreEvent) (before behind : List SpaceParts) (new : SpaceParts) → AreOf p es
-    → ShowsSpaces before s → ShowsSpace p (space_of new) (run s es) → slice_get behind p ≡ Some new
-    → ((q : ℕ) → (q ≡ p → ⊥) → slice_get behind q ≡ slice_get before q)
-    → ShowsSpaces behind (run s es)
-spaces_behind s p es before behind new own old shown now others q space found = go (q == p) refl
-  where
-    at_own : q ≡ p → ShowsSpace q (space_of space) (run s es)
-    at_own e =
-        let is : Some new ≡ Some space = sym now ∙ ap (λ k. slice_get behind k) (sym e) ∙ found in
-        let same : new ≡ space = cc in
-        subst (λ (k : ℕ). ShowsSpace k (space_of space) (run s es)) (sym e) (subst (λ (x : SpaceParts). ShowsSpace p (space_of x) (run s es)) same shown)
-
-    go : (c : Bool) → (q == p) ≡ c → ShowsSpace q (space_of space) (run s es)
-    go true e = at_own (eqb-true q p e)
-    go false e = leave_other p q (space_of space) s es (λ is. differ q p e (sym is)) own (old q space (sym (others q (differ q p e)) ∙ found))
-
-pub alone : (old_frames new_frames : FrameLists) (before behind : List SpaceParts) (births : List Birth) (a p far : ℕ) (op : Op) (fork : ForkPlace) (whats : List What)
-    → IsNoFork (Some op) → p < length before → length behind ≡ length before → ((q : ℕ) → (q ≡ p → ⊥) → slice_get behind q ≡ slice_get before q)
-    → ((old new : SpaceParts) (k : ℕ) → slice_get before p ≡ Some old → slice_get behind p ≡ Some new → far ≡ far_in (Some op) k → IsTurnOf (change_of old_frames new_frames old new) p (λ s. op_turn s a p k op) whats)
-    → IsTurnOfAll old_frames new_frames before behind births births a p far op fork whats fork
-alone old_frames new_frames before behind births a p far op fork whats single within many others turn s k frames spaces births_are place stands far_is =
-    elim (slice_get_cases before p).1 [
-      | inl old ↦
-          elim (slice_get_cases behind p).1 [
-            | inl new ↦ at old.0 new.0 old.2 new.2
-            | inr past ↦ absurd (omega (arith, past.0))
-          ]
-      | inr past ↦ absurd (omega (arith, past.0))
-    ]
-  where
-    none : fork_place (s.job a) ≡ unbegun
-    none = ap fork_place (stands.0 single)
-
-    at : (old new : SpaceParts) → slice_get before p ≡ Some old → slice_get behind p ≡ Some new → LeadsAll new_frames behind births a s (op_turn s a p k op) whats fork
-    at old new there now =
-        let es : List CoreEvent = (op_turn s a p k op).events in
-        let own : AreOwn a p es = turn_is_own s a p k op single in
-        let led : Leads (change_of old_frames new_frames old new) p s (op_turn s a p k op) whats = turn old new k there now far_is s frames (spaces p old there) in
-        record {
-          says = led.says;
-          frames = led.frames;
-          spaces = spaces_behind s p es before behind new (are_of a p es own) spaces led.space now others;
-          births = λ q birth here. subst (λ (f : ℕ → CoreBirth). IsBirth birth (f q)) (sym (births_stay a p s es own)) (births_are q birth here);
-          fork = place ∙ sym (forks_stay a p a s es own none);
-          others = λ b apart. forks_stay a p b s es own none;
-        }
-
--- ---- a turn of a fork
-
--- what the turn leaves of each process but the two
-others_behind : (s : CoreState) (a p c : ℕ) (es : List CoreEvent) (before behind : List SpaceParts) (new_parent new_child : SpaceParts) → AreOfFork a p c es
-    → ShowsSpaces before s → ShowsSpace p (space_of new_parent) (run s es) → slice_get behind p ≡ Some new_parent
-    → ShowsSpace c (space_of new_child) (run s es) → slice_get behind c ≡ Some new_child
-    → ((q : ℕ) → (q ≡ p → ⊥) → (q ≡ c → ⊥) → slice_get behind q ≡ slice_get before q)
-    → ShowsSpaces behind (run s es)
-others_behind s a p c es before behind new_parent new_child own old parent parent_now child child_now others q space found = go (q == p) refl (q == c) refl
-  where
-    at_one : (k : ℕ) (new : SpaceParts) → q ≡ k → ShowsSpace k (space_of new) (run s es) → slice_get behind k ≡ Some new → ShowsSpace q (space_of space) (run s es)
-    at_one k new e shown now =
-        let is : Some new ≡ Some space = sym now ∙ ap (λ j. slice_get behind j) (sym e) ∙ found in
-        let same : new ≡ space = cc in
-        subst (λ (j : ℕ). ShowsSpace j (space_of space) (run s es)) (sym e) (subst (λ (x : SpaceParts). ShowsSpace k (space_of x) (run s es)) same shown)
-
-    go : (b : Bool) → (q == p) ≡ b → (d : Bool) → (q == c) ≡ d → ShowsSpace q (space_of space) (run s es)
-    go true e d f = at_one p new_parent (eqb-true q p e) parent parent_now
-    go false e true f = at_one c new_child (eqb-true q c f) child child_now
-    go false e false f =
-        leave_others a p c q (space_of space) s es (λ is. differ q p e (sym is)) (λ is. differ q c f (sym is)) own (old q space (sym (others q (differ q p e) (differ q c f)) ∙ found))
-
--- the child's birth behind it
-birth_now : (p : ℕ) (event : Option PlainEvent) (answer : Option Answer) (b : CoreBirth) → b ≡ (if is_answered (whats_by event answer) then born else growing p) → IsBirth (if is_some answer then Born else Growing) b
-birth_now p None None b is = (p, is)
-birth_now p (Some event) None b is = (p, is)
-birth_now p None (Some answer) b is = is
-birth_now p (Some event) (Some answer) b is = is
-
-births_behind : (s : CoreState) (a p c : ℕ) (es : List CoreEvent) (before behind : List Birth) (new : Birth) → AreOfFork a p c es → ShowsBirths before s
-    → slice_get behind c ≡ Some new → ((q : ℕ) → (q ≡ c → ⊥) → slice_get behind q ≡ slice_get before q) → IsBirth new ((run s es).birth c) → ShowsBirths behind (run s es)
-births_behind s a p c es before behind new own old now others shown q birth found = go (q == c) refl
-  where
-    at_child : q ≡ c → IsBirth birth ((run s es).birth q)
-    at_child e =
-        let is : Some new ≡ Some birth = sym now ∙ ap (λ k. slice_get behind k) (sym e) ∙ found in
-        let same : new ≡ birth = cc in
-        subst (λ (x : Birth). IsBirth x ((run s es).birth q)) same (subst (λ (k : ℕ). IsBirth new ((run s es).birth k)) (sym e) shown)
-
-    go : (b : Bool) → (q == c) ≡ b → IsBirth birth ((run s es).birth q)
-    go true e = at_child (eqb-true q c e)
-    go false e =
-        subst (λ (x : CoreBirth). IsBirth birth x) (sym (fork_births_stay a p c q s es (λ is. differ q c e (sym is)) own))
-        (old q birth (sym (others q (differ q c e)) ∙ found))
-
-pub forked : (old_frames new_frames : FrameLists) (before behind : List SpaceParts) (births births_now : List Birth) (a p c far : ℕ) (place next : ForkPlace) (said : Said)
-    → (p ≡ c → ⊥) → p < length before → c < length before → length behind ≡ length before
-    → ((q : ℕ) → (q ≡ p → ⊥) → (q ≡ c → ⊥) → slice_get behind q ≡ slice_get before q)
-    → ((old_parent new_parent old_child new_child : SpaceParts) → slice_get before p ≡ Some old_parent → slice_get behind p ≡ Some new_parent → slice_get before c ≡ Some old_child → slice_get behind c ≡ Some new_child
-    → IsForkTurn (fork_change_of old_frames new_frames old_parent new_parent old_child new_child) a p c (place_of place) (place_of next) (whats_of said))
-    → slice_get births_now c ≡ Some (if is_some said.answer then Born else Growing) → ((q : ℕ) → (q ≡ c → ⊥) → slice_get births_now q ≡ slice_get births q)
-    → IsTurnOfAll old_frames new_frames before behind births births_now a p far (Fork c) place (whats_of said) next
-forked old_frames new_frames before behind births births_now a p c far place next said apart p_in c_in many others turn born_now unborn_others s k frames spaces births_are at stands far_is =
-    let old_parent = there before p p_in in
-    let old_child = there before c c_in in
-    let new_parent = there behind p (omega (arith, p_in, many)) in
-    let new_child = there behind c (omega (arith, c_in, many)) in
-    let t : Taken = fork_turn s a p c (s.job a) in
-    let own : AreOfFork a p c t.events = fork_is_own s a p c (s.job a) in
-    let led : LeadsFork (fork_change_of old_frames new_frames old_parent.0 new_parent.0 old_child.0 new_child.0) a p c s t (place_of next) (whats_of said) =
-    turn old_parent.0 new_parent.0 old_child.0 new_child.0 old_parent.1 new_parent.1 old_child.1 new_child.1 s apart frames (spaces p old_parent.0 old_parent.1) (spaces c old_child.0 old_child.1) (stands.1 c refl) (sym at) in
-    record {
-      says = led.says;
-      frames = led.frames;
-      spaces = others_behind s a p c t.events before behind new_parent.0 new_child.0 own spaces led.parent new_parent.1 led.child new_child.1 others;
-      births =
-          births_behind s a p c t.events births births_now (if is_some said.answer then Born else Growing) own births_are born_now unborn_others (birth_now p said.event said.answer ((run s t.events).birth c) led.birth);
-      fork = sym led.place;
-      others = λ b other. ap fork_place (jobs_stay a p c b s t.events (λ is. other (sym is)) own);
-    }
-  where
-    there : (xs : List SpaceParts) (q : ℕ) → q < length xs → (x : SpaceParts) × (slice_get xs q ≡ Some x)
-    there xs q within =
-        elim (slice_get_cases xs q).1 [
-          | inl found ↦ (found.0, found.2)
-          | inr past ↦ absurd (omega (arith, past.0))
-        ]
-
--- ---- before a turn of an operation
-
--- a process that is born is none that a fork brings
-unborn_child : (s : CoreState) (a p child : ℕ) (job : Job) → StandsFork s a p child job → s.birth child ≡ born → ⊥
-unborn_child s a p child idle h is = absurd (cc (sym h ∙ is))
-unborn_child s a p child (forking q c done between) h is = absurd (cc (sym h.birth ∙ is))
-unborn_child s a p child (forking q c done (counted_page page)) h is = absurd (cc (sym h.0.birth ∙ is))
-unborn_child s a p child (forking q c done (lowered page)) h is = absurd h
-unborn_child s a p child (forking q c done (cleared page)) h is = absurd h
-unborn_child s a p child (forking q c done (copying page n)) h is = absurd h
-unborn_child s a p child (forking q c done failing) h is = absurd h
-unborn_child s a p child (marking q page f) h is = absurd h
-unborn_child s a p child (moving q page e count) h is = absurd h
-unborn_child s a p child (walking q write long sequence step) h is = absurd h
-
-few_references : (n : ℕ) → n ≤ 16 * page_numbers → n < 2 ^ 40
-unfolding page_numbers
-few_references n within = omega arith
-
-fork_ready : (m : MachineValue) (r : RunState) (a p child : ℕ) (seat : Seat) → IsStanding m.script r → Shows m r → IsAtRest m → p ≡ process_of m.script a → slice_get m.seats a ≡ Some seat → op_of_seat m a seat ≡ Some (Fork child) → r.core.birth p ≡ born
-    → IsForkReady (frames_of m.frames) m.spaces m.births p child seat.fork
-fork_ready m r a p child seat stands h rest of_a here present is_born =
-    let declared : child < length m.script.processes = child_there m.script rest.valid a seat.answered child present in
-    let at : StandsFork r.core a (process_of m.script a) child (r.core.job a) = stands.forks a child (op_there m r a seat (Some (Fork child)) h here present) in
-    record {
-      apart = λ same. unborn_child r.core a (process_of m.script a) child (r.core.job a) at (ap r.core.birth (sym same) ∙ is_born);
-      there = omega (arith, declared, rest.spaces);
-      declared = omega (arith, declared, rest.births);
-      few_counts = λ f. few_references ((frames_of m.frames).count f) (rest.few_counts f);
-      few_forks = λ q space there. let forks = rest.few_forks q space there in omega arith;
-      unpinned = rest.unpinned;
-      stands = λ parent kid parent_is kid_is. rest.forks a child seat parent kid here present (ap (λ k. slice_get m.spaces k) (sym of_a) ∙ parent_is) kid_is;
-    }
-
-pub is_ready : (m : MachineValue) (a p : ℕ) (seat : Seat) (op : Op) → Stand → IsMachine m → IsAtRest m → p ≡ process_of m.script a → slice_get m.seats a ≡ Some seat → op_of_seat m a seat ≡ Some op → IsWaiting m a p seat op None
-    → IsReady (frames_of m.frames) m.spaces m.births p op seat
-is_ready m a p seat op stand machine rest of_a here present waiting =
-    let r : RunState = machine.shown.0 in
-    let h : Shows m r = machine.shown.1 in
-    let stands : IsStanding m.script r = standing m r stand rest.valid h in
-    let now : op_in m.script r a ≡ Some op = op_there m r a seat (Some op) h here present in
-    let at : StandsAt r.core a p op = subst (λ (q : ℕ). StandsAt r.core a q op) (sym of_a) (stands_at m.script r a op stands now) in
-    let free : waiting_for r.core a p op ≡ None = sym (waiting r.core h.spaces h.births (h.forks a seat here) at) in
-    let locks : Option Waiting = waits_for_locks (locks_needed r.core a p op) a (r.core.structure p) (r.core.table p) in
-    let born_free : (r.core.birth p ≡ born) × (locks ≡ None) = born_and_free (r.core.birth p) p locks (stands.unfailed p) free in
-    let within : process_of m.script a < length m.script.processes = process_there m.script rest.valid a seat.answered op present in
-    record {
-      there = omega (arith, of_a, within, rest.spaces);
-      tidy = rest.tidy;
-      table = λ space there single needed.
-          let shown : ShowsSpace p (space_of space) r.core = h.spaces p space there in
-          let same : waits_for_locks (both_if (needs_table (space_of space) op)) a (space_of space).structure (space_of space).table ≡ locks =
-          ap (λ o. waits_for_locks (both_if (needs_table (space_of space) op)) a o (space_of space).table) (sym shown.structure)
-          ∙ ap (λ o. waits_for_locks (both_if (needs_table (space_of space) op)) a (r.core.structure p) o) (sym shown.table)
-          ∙ ap (λ l. waits_for_locks l a (r.core.structure p) (r.core.table p)) (single_needs (space_of space) r.core a p op shown single) in
-          let none : IsNoFork (op_of_seat m a seat) = subst IsNoFork (sym present) single in
-          table_free (needs_table (space_of space) op) a (space_of space).structure (space_of space).table (rest.unlocked p a space seat there here none).1 (same ∙ born_free.1) needed;
-      in_range = op_is_op m.script rest.valid a seat.answered op present;
-      far = rest.far a seat op here present;
-      fork = λ child same. fork_ready m r a p child seat stands h rest of_a here (present ∙ ap (λ (x : Op). Some x) same) born_free.0;
-    }
-
--- the children that forks bring have spaces
-pub child_within : (m : MachineValue) (a child : ℕ) (seat : Seat) (op : Op) → IsAtRest m → op_of_seat m a seat ≡ Some op → op ≡ Fork child → child < length m.spaces
-child_within m a child seat op rest present same =
-    let declared : child < length m.script.processes = child_there m.script rest.valid a seat.answered child (present ∙ ap (λ (x : Op). Some x) same) in
-    omega (arith, declared, rest.spaces)
-
--- an actor with an operation is of a process that has a space and a birth
-pub process_within : (m : MachineValue) (a p : ℕ) (seat : Seat) (op : Op) → IsAtRest m → p ≡ process_of m.script a → op_of_seat m a seat ≡ Some op → (p < length m.spaces) × (p < length m.births)
-process_within m a p seat op rest of_a present =
-    let within : process_of m.script a < length m.script.processes = process_there m.script rest.valid a seat.answered op present in
-    (omega (arith, of_a, within, rest.spaces), omega (arith, of_a, within, rest.births))
-
--- the number of an operation fits
-pub few : (m : MachineValue) (a : ℕ) (seat : Seat) → IsAtRest m → slice_get m.seats a ≡ Some seat → seat.answered + 1 < 2 ^ 32
-few m a seat rest here =
-    let answered : seat.answered ≤ 16384 = few_answered m.script rest.valid a seat.answered (rest.answered a seat here) in
-    omega arith

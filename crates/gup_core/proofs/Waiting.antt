@@ -1,18 +1,24 @@
 -- What an actor waits for is what the state says.
-use Rattle.std.proofs.Common.{◌≡◌, ℕ, ◌+◌, ◌-◌, ◌==◌, Bool, true, false, not, cond, Option, Some, None, is_some, is_none, zero, suc, refl, sym, ap, ◌∙◌, eqb-true}
+use Rattle.std.proofs.Common.{◌≡◌, ℕ, ◌+◌, ◌-◌, ◌==◌, Bool, true, false, not, cond, Option, Some, None, is_some, is_none, List, zero, suc, refl, sym, ap, ◌∙◌, eqb-true, eq-eqb}
 use Rattle.gup_plain.specs.Event.{page_numbers}
 use Rattle.gup_plain.specs.Put.{lowest}
-use Rattle.gup_plain.specs.State.{Birth, unborn, growing, born, failed}
+use Rattle.gup_plain.specs.State.{Birth, Handle, unborn, growing, born, failed, unmade, held, given, gone}
 use Rattle.gup_plain.specs.declared.note.Waiting.{Waiting}
 use Rattle.gup_plain.specs.declared.note.Waiting.TheVariants as waitings
 use Rattle.gup_script.specs.declared.op.Op.{Op}
-use Rattle.gup_script.specs.declared.op.Op.TheVariants.{Map, Unmap, Protect, Discard, Load, Store, Fork, Exit}
+use Rattle.gup_script.specs.declared.op.Op.TheVariants.{Map, Unmap, Protect, Discard, Load, Store, Pin, Unpin, Give, Take, Transfer, Fork, Exit}
 use Rattle.gup_space.specs.Space.{SpaceValue}
 use Rattle.gup_space.specs.Shows.{ShowsSpace}
 use Rattle.gup_events.specs.State.{CoreState, Job, idle, marking, moving, forking, walking, between, counted, lowered, cleared, copying, failing}
-use Rattle.gup_turns.specs.Turn.{both_if, fork_locks, locks_needed, held_by_other, first_waiting, waits_for_locks, waits_at, waiting_for, first_behind, allows_store}
+use Rattle.gup_turns.specs.Turn.{both_if, fork_locks, locks_needed, held_by_other, first_waiting, waits_for_lock, waits_for_locks, waits_at, waits_born, waiting_for, first_behind, allows_store}
 use Rattle.gup_turns.specs.Reached.{ForkPlace, fork_place, IsNoFork, StandsFork}
+use Rattle.gup_handles.specs.Handles.{HandleValue, IsGivenTo as IsKeptFor}
+use Rattle.gup_handles.specs.Handles as kept
+use Rattle.gup_follows.specs.Order.{is_given_to, taking_waits, handle_waits}
+use Rattle.gup_follows.specs.Place.{Doer, birth_by, birth_for}
+use Rattle.gup_ops.specs.Pins.{IsPin}
 use Rattle.gup_ops.specs.Tidy.{needs_table}
+use Rattle.gup_core.specs.Doers.{HasProcess}
 use Rattle.gup_core.specs.Locks.{fork_needs, child_in}
 use Rattle.gup_core.specs.Goes.{StandsAt}
 
@@ -25,6 +31,11 @@ single (Protect page n rights) none = tt
 single (Discard page n) none = tt
 single (Load page word) none = tt
 single (Store page word value) none = tt
+single (Pin handle page n write) none = tt
+single (Unpin handle) none = tt
+single (Give handle to) none = tt
+single (Take handle) none = tt
+single (Transfer handle outward index slot n) none = tt
 single (Fork child) none = absurd (cc)
 single Exit none = tt
 
@@ -35,6 +46,11 @@ forks_into (Protect page n rights) child is = absurd (cc)
 forks_into (Discard page n) child is = absurd (cc)
 forks_into (Load page word) child is = absurd (cc)
 forks_into (Store page word value) child is = absurd (cc)
+forks_into (Pin handle page n write) child is = absurd (cc)
+forks_into (Unpin handle) child is = absurd (cc)
+forks_into (Give handle to) child is = absurd (cc)
+forks_into (Take handle) child is = absurd (cc)
+forks_into (Transfer handle outward index slot n) child is = absurd (cc)
 forks_into (Fork c) child is = cc
 forks_into Exit child is = absurd (cc)
 
@@ -53,6 +69,11 @@ single_needs S s a p (Protect page n rights) space none = refl
 single_needs S s a p (Discard page n) space none = refl
 single_needs S s a p (Load page word) space none = ap (λ o. both_if (is_none o)) (sym (space.entry page))
 single_needs S s a p (Store page word value) space none = ap (λ o. both_if (not (allows_store o))) (sym (space.entry page))
+single_needs S s a p (Pin handle page n write) space none = refl
+single_needs S s a p (Unpin handle) space none = refl
+single_needs S s a p (Give handle to) space none = refl
+single_needs S s a p (Take handle) space none = refl
+single_needs S s a p (Transfer handle outward index slot n) space none = refl
 single_needs S s a p (Fork child) space none = absurd none
 single_needs S s a p Exit space none = refl
 
@@ -97,25 +118,123 @@ second_free : (first second : Option Waiting) → first_waiting first second ≡
 second_free None second none = none
 second_free (Some waiting) second none = absurd (cc)
 
+-- whoever waits for nothing waits for no lock, and for no pin
+pub locks_free : (s : CoreState) (a p : ℕ) (op : Op) → waits_born s a p op ≡ None → waits_for_locks (locks_needed s a p op) a (s.structure p) (s.table p) ≡ None
+locks_free s a p op none = second_free (handle_waits s.handle a (Some op)) (waits_for_locks (locks_needed s a p op) a (s.structure p) (s.table p)) none
+
+pub given_free : (s : CoreState) (a p h : ℕ) (op : Op) → op ≡ Take h → waits_born s a p op ≡ None → is_given_to (s.handle h) a ≡ true
+given_free s a p h op is none = go (is_given_to (s.handle h) a) (ap (λ (x : Op). waits_born s a p x) (sym is) ∙ none)
+  where
+    go : (given_so : Bool) → first_waiting (taking_waits given_so h) (waits_for_locks (locks_needed s a p (Take h)) a (s.structure p) (s.table p)) ≡ None → given_so ≡ true
+    go true free = refl
+    go false free = absurd (cc free)
+
 pub table_free : (needed : Bool) (a : ℕ) (structure table : Option ℕ) → (table ≡ Some a → ⊥) → waits_for_locks (both_if needed) a structure table ≡ None → needed ≡ true → table ≡ None
 table_free true a structure table other none is = unheld a table other (second_free (held_by_other a structure) (held_by_other a table) none)
 table_free false a structure table other none is = absurd (cc)
 
-pub forked_needs : (S : SpaceValue) (s : CoreState) (a p child : ℕ) (place : ForkPlace) (op : Op) → op ≡ Fork child → ShowsSpace child S s → place ≡ fork_place (s.job a) → StandsAt s a p op
+pub forked_needs : (S : SpaceValue) (s : CoreState) (a p child far : ℕ) (place : ForkPlace) (op : Op) → op ≡ Fork child → ShowsSpace child S s → place ≡ fork_place (s.job a) → StandsAt s a p far op
     → fork_needs S.right place ≡ locks_needed s a p op
-forked_needs S s a p child place op same space is at =
-    fork_needs_by S s a p child place space is (at.1 child same) ∙ ap (λ (x : Op). locks_needed s a p x) (sym same)
+forked_needs S s a p child far place op same space is at =
+    fork_needs_by S s a p child place space is (at.fork child same) ∙ ap (λ (x : Op). locks_needed s a p x) (sym same)
 
 -- ---- a process that isn't born
 
-pub unborn_waits : (s : CoreState) (a p : ℕ) (op : Op) → s.birth p ≡ unborn → Some (waitings.Process p) ≡ waiting_for s a p op
-unborn_waits s a p op is =
-    sym (ap (λ b. waits_at b p (waits_for_locks (locks_needed s a p op) a (s.structure p) (s.table p))) is)
+abbrev pub at_birth : CoreState → Doer → Op → Birth → Option Waiting
+at_birth s who op birth = waits_at birth who.proc (waits_born s who.actor who.proc op)
 
-pub growing_waits : (s : CoreState) (a p parent : ℕ) (op : Op) → s.birth p ≡ growing parent → Some (waitings.Process p) ≡ waiting_for s a p op
-growing_waits s a p parent op is =
-    sym (ap (λ b. waits_at b p (waits_for_locks (locks_needed s a p op) a (s.structure p) (s.table p))) is)
+-- the birth that a thread waits for
+pub thread_waits : (s : CoreState) (who : Doer) (op : Op) (p : ℕ) (b : Birth) → who.thread ≡ true → who.proc ≡ p → s.birth p ≡ b → waiting_for s who op ≡ at_birth s who op b
+thread_waits s who op p b thread own is =
+    ap (λ (t : Bool). at_birth s who op (birth_by t (s.birth who.proc))) thread
+    ∙ ap (λ (q : ℕ). at_birth s who op (s.birth q)) own
+    ∙ ap (λ (x : Birth). at_birth s who op x) is
 
-pub born_waits : (s : CoreState) (a p : ℕ) (op : Op) → s.birth p ≡ born → waits_for_locks (locks_needed s a p op) a (s.structure p) (s.table p) ≡ waiting_for s a p op
-born_waits s a p op is =
-    sym (ap (λ b. waits_at b p (waits_for_locks (locks_needed s a p op) a (s.structure p) (s.table p))) is)
+pub unborn_waits : (s : CoreState) (who : Doer) (op : Op) (p : ℕ) → who.thread ≡ true → who.proc ≡ p → s.birth p ≡ unborn → Some (waitings.Process p) ≡ waiting_for s who op
+unborn_waits s who op p thread own is = ap (λ (q : ℕ). Some (waitings.Process q)) (sym own) ∙ sym (thread_waits s who op p unborn thread own is)
+
+pub growing_waits : (s : CoreState) (who : Doer) (op : Op) (p parent : ℕ) → who.thread ≡ true → who.proc ≡ p → s.birth p ≡ growing parent → Some (waitings.Process p) ≡ waiting_for s who op
+growing_waits s who op p parent thread own is = ap (λ (q : ℕ). Some (waitings.Process q)) (sym own) ∙ sym (thread_waits s who op p (growing parent) thread own is)
+
+pub born_waits : (s : CoreState) (who : Doer) (op : Op) (p : ℕ) → who.thread ≡ true → who.proc ≡ p → s.birth p ≡ born → waits_born s who.actor who.proc op ≡ waiting_for s who op
+born_waits s who op p thread own is = sym (thread_waits s who op p born thread own is)
+
+-- whoever is no thread waits for none
+pub other_waits : (s : CoreState) (who : Doer) (op : Op) → who.thread ≡ false → waits_born s who.actor who.proc op ≡ waiting_for s who op
+other_waits s who op other = sym (ap (λ (t : Bool). at_birth s who op (birth_by t (s.birth who.proc))) other)
+
+-- ---- pins that are given, and locks
+
+none_behind : (waiting : Option Waiting) → first_waiting waiting None ≡ waiting
+none_behind None = refl
+none_behind (Some waiting) = refl
+
+-- a take waits for its pin alone
+pub take_waits : (s : CoreState) (a p h : ℕ) (op : Op) → op ≡ Take h → taking_waits (is_given_to (s.handle h) a) h ≡ waits_born s a p op
+take_waits s a p h op is = sym (ap (λ (x : Op). waits_born s a p x) is ∙ none_behind (taking_waits (is_given_to (s.handle h) a) h))
+
+-- and no other operation for one
+no_pin : (handle : ℕ → Handle) (a : ℕ) (op : Op) → ((h : ℕ) → op ≡ Take h → ⊥) → None ≡ handle_waits handle a (Some op)
+no_pin handle a (Map page n rights) other = refl
+no_pin handle a (Unmap page n) other = refl
+no_pin handle a (Protect page n rights) other = refl
+no_pin handle a (Discard page n) other = refl
+no_pin handle a (Load page word) other = refl
+no_pin handle a (Store page word value) other = refl
+no_pin handle a (Pin h page n write) other = refl
+no_pin handle a (Unpin h) other = refl
+no_pin handle a (Give h to) other = refl
+no_pin handle a (Take h) other = absurd (other h refl)
+no_pin handle a (Transfer h outward index slot n) other = refl
+no_pin handle a (Fork child) other = refl
+no_pin handle a Exit other = refl
+
+pub lock_waits : (s : CoreState) (a p : ℕ) (op : Op) → ((h : ℕ) → op ≡ Take h → ⊥) → waits_for_locks (locks_needed s a p op) a (s.structure p) (s.table p) ≡ waits_born s a p op
+lock_waits s a p op other =
+    ap (λ w. first_waiting w (waits_for_locks (locks_needed s a p op) a (s.structure p) (s.table p))) (no_pin s.handle a op other)
+
+-- an operation of no process needs no lock
+unlocked_waits : (s : CoreState) (a p : ℕ) (op : Op) → (HasProcess op → ⊥) → None ≡ waits_for_locks (locks_needed s a p op) a (s.structure p) (s.table p)
+unlocked_waits s a p (Map page n rights) other = absurd (other tt)
+unlocked_waits s a p (Unmap page n) other = absurd (other tt)
+unlocked_waits s a p (Protect page n rights) other = absurd (other tt)
+unlocked_waits s a p (Discard page n) other = absurd (other tt)
+unlocked_waits s a p (Load page word) other = absurd (other tt)
+unlocked_waits s a p (Store page word value) other = absurd (other tt)
+unlocked_waits s a p (Pin h page n write) other = absurd (other tt)
+unlocked_waits s a p (Unpin h) other = refl
+unlocked_waits s a p (Give h to) other = refl
+unlocked_waits s a p (Take h) other = refl
+unlocked_waits s a p (Transfer h outward index slot n) other = refl
+unlocked_waits s a p (Fork child) other = absurd (other tt)
+unlocked_waits s a p Exit other = absurd (other tt)
+
+pub free_waits : (s : CoreState) (a p : ℕ) (op : Op) → (HasProcess op → ⊥) → ((h : ℕ) → op ≡ Take h → ⊥) → None ≡ waits_born s a p op
+free_waits s a p op process other = unlocked_waits s a p op process ∙ lock_waits s a p op other
+
+-- the pin is given to the actor where the machine has it so
+
+is_kept : (K : HandleValue) (handle : Handle) (pinned : List ℕ) (a : ℕ) → IsPin K handle pinned → IsKeptFor K a → is_given_to handle a ≡ true
+is_kept kept.unmade handle pinned a is given_so = absurd given_so
+is_kept (kept.held by frames write) handle pinned a is given_so = absurd given_so
+is_kept (kept.given to frames write) handle pinned a is given_so = ap (λ (h : Handle). is_given_to h a) is.0.1 ∙ eq-eqb to a given_so
+is_kept (kept.got by frame) handle pinned a is given_so = absurd given_so
+is_kept kept.gone handle pinned a is given_so = absurd given_so
+
+pub keeps_given : (K : HandleValue) (handle : Handle) (pinned : List ℕ) (a : ℕ) → IsPin K handle pinned → is_given_to handle a ≡ true → IsKeptFor K a
+keeps_given kept.unmade handle pinned a is given_so = absurd (let none : false ≡ true = ap (λ (h : Handle). is_given_to h a) (sym is) ∙ given_so in cc)
+keeps_given (kept.held by frames write) handle pinned a is given_so = absurd (let none : false ≡ true = ap (λ (h : Handle). is_given_to h a) (sym is.0.1) ∙ given_so in cc)
+keeps_given (kept.given to frames write) handle pinned a is given_so = eqb-true to a (ap (λ (h : Handle). is_given_to h a) (sym is.0.1) ∙ given_so)
+keeps_given (kept.got by frame) handle pinned a is given_so = absurd is
+keeps_given kept.gone handle pinned a is given_so = absurd (let none : false ≡ true = ap (λ (h : Handle). is_given_to h a) (sym is) ∙ given_so in cc)
+
+-- so what the machine waits for is what the state says
+pub given_waits : (K : HandleValue) (handle : Handle) (pinned : List ℕ) (a h : ℕ) → IsPin K handle pinned → IsKeptFor K a → None ≡ taking_waits (is_given_to handle a) h
+given_waits K handle pinned a h is so = ap (λ b. taking_waits b h) (sym (is_kept K handle pinned a is so))
+
+pub ungiven_waits : (K : HandleValue) (handle : Handle) (pinned : List ℕ) (a h : ℕ) → IsPin K handle pinned → (IsKeptFor K a → ⊥) → Some (waitings.Handle h) ≡ taking_waits (is_given_to handle a) h
+ungiven_waits K handle pinned a h is so = go (is_given_to handle a) refl
+  where
+    go : (b : Bool) → is_given_to handle a ≡ b → Some (waitings.Handle h) ≡ taking_waits b h
+    go true given_so = absurd (so (keeps_given K handle pinned a is given_so))
+    go false given_so = refl

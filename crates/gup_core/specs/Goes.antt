@@ -16,7 +16,8 @@ use Rattle.gup_turns.specs.Reached.{fork_place, IsNoFork, StandsFork, StandsPin}
 use Rattle.gup_ops.specs.declared.forks.ForkPlace.{ForkPlace}
 use Rattle.gup_ops.specs.Far.{HasFar, far_in}
 use Rattle.gup_ops.specs.Forked.{place_of, IsReadyAt}
-use Rattle.gup_ops.specs.Pins.{IsWeighed, IsWhole, slots_in}
+use Rattle.gup_ops.specs.Pins.{IsWeighed, PinChange}
+use Rattle.gup_held.specs.Held.{IsWhole, slots_in, HandleChange}
 use Rattle.gup_ops.specs.Tidy.{IsTidy, needs_table}
 use Rattle.gup_core.specs.declared.births.Birth.{Birth}
 use Rattle.gup_core.specs.declared.parts.Parts.{Parts}
@@ -49,6 +50,32 @@ IsTurnOfAll old new a p slots far op old_fork whats new_fork =
     → ShowsParts old s → place_of old_fork ≡ fork_place (s.job a) → StandsAt s a p k op → far ≡ far_in (Some op) k
     → LeadsAll new a s (op_turn s a p slots k op) whats new_fork
 
+-- what a turn of a pin changes: frames, this process, pins, and what the actor's running pin has taken
+abbrev pub pin_change : (old new : Parts) → (old_space new_space : SpaceParts) → (was now : ArrayVec ℕ) → PinChange
+pin_change old new old_space new_space was now =
+    record {
+      old_frames = frames_of old.frames;
+      new_frames = frames_of new.frames;
+      old_space = space_of old_space;
+      new_space = space_of new_space;
+      old_pins = handles_of old.handles;
+      new_pins = handles_of new.handles;
+      old_taken = was.items;
+      new_taken = now.items;
+    }
+
+-- what a turn of an operation on a pin changes: frames, pins, and this store
+abbrev pub handle_change : (old new : Parts) → (old_store new_store : Option (List ℕ)) → HandleChange
+handle_change old new old_store new_store =
+    record {
+      old_frames = frames_of old.frames;
+      new_frames = frames_of new.frames;
+      old_pins = handles_of old.handles;
+      new_pins = handles_of new.handles;
+      old_store = old_store;
+      new_store = new_store;
+    }
+
 -- What a turn of a fork of process p into this child needs: they are two processes, and what is true between two turns.
 pub record IsForkReady (frames : FramesValue) (spaces : List SpaceParts) (births : List Birth) (p child : ℕ) (fork : ForkPlace) : Type 0 where
   pub apart : p ≡ child → ⊥
@@ -58,9 +85,19 @@ pub record IsForkReady (frames : FramesValue) (spaces : List SpaceParts) (births
   pub unpinned : EachSpace (λ space. space.has_pinned ≡ false) spaces
   pub stands : (parent kid : SpaceParts) → slice_get spaces p ≡ Some parent → slice_get spaces child ≡ Some kid → IsReadyAt (place_of fork) (space_of parent) (space_of kid)
 
--- What a turn of an operation needs that has gone so far, and whose fork stands there: its numbers are in range, it is of process p where it is of one, each process is tidy,
--- counts are small, nobody holds a lock that it needs, and pins have the weight of their pages.
-pub record IsReady (parts : Parts) (a p slots : ℕ) (op : Op) (gone : ℕ) (place : ForkPlace) : Type 0 where
+-- the store of the actor has so many slots
+abbrev pub HasSlots : Parts → (a slots : ℕ) → Type 0
+HasSlots parts a slots = (store : Option (List ℕ)) → slice_get parts.stores.items a ≡ Some store → slots_in store ≡ slots
+
+-- each store has as many slots as before
+abbrev pub KeepsSlots : (old new : List (Option (List ℕ))) → Type 0
+KeepsSlots old new =
+    (a : ℕ) (was now : Option (List ℕ)) → slice_get old a ≡ Some was → slice_get new a ≡ Some now → slots_in now ≡ slots_in was
+
+-- What a turn of an operation needs that has gone so far, and whose fork stands there: its numbers are in range, it is of
+-- process p where it is of one, each process is tidy, counts are small, nobody holds a lock that it needs, and pins have
+-- the weight of their pages.
+pub record IsReady (parts : Parts) (a p : ℕ) (op : Op) (gone : ℕ) (place : ForkPlace) : Type 0 where
   pub there : HasProcess op → p < length parts.spaces.items
   pub tidy : EachSpace (IsTidy (frames_of parts.frames)) parts.spaces.items
   pub few_counts : (f : ℕ) → (frames_of parts.frames).count f < 2 ^ 40
@@ -74,4 +111,3 @@ pub record IsReady (parts : Parts) (a p slots : ℕ) (op : Op) (gone : ℕ) (pla
   pub given : (handle : ℕ) → op ≡ Take handle → IsKeptFor (handles_of parts.handles handle) a
   pub actor_taken : a < length parts.taken.items
   pub actor_store : a < length parts.stores.items
-  pub store_slots : (store : Option (List ℕ)) → slice_get parts.stores.items a ≡ Some store → slots_in store ≡ slots

@@ -15,7 +15,8 @@ use Rattle.gup_events.specs.Event.{frames_of as frames_taken}
 use Rattle.gup_turns.specs.Run.{RunState, run_start, run_after, taken_in}
 use Rattle.gup_turns.specs.Reached.{turned, fork_place}
 use Rattle.gup_ops.specs.Forked.{place_of}
-use Rattle.gup_ops.specs.Pins.{ShowsPins, ShowsStore, slots_in}
+use Rattle.gup_ops.specs.Pins.{ShowsPins}
+use Rattle.gup_held.specs.Held.{ShowsStore, slots_in}
 use Rattle.gup_core.specs.declared.births.Birth.{Birth as KeptBirth}
 use Rattle.gup_core.specs.declared.births.Birth.TheVariants.{Unborn, Growing, Born}
 use Rattle.gup_core.specs.declared.parts.Parts.{Parts}

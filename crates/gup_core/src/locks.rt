@@ -3,13 +3,16 @@ ghost use Rattle.std.specs.Prelude.{◌≡◌, ℕ, ◌<◌, length, slice_get, 
 ghost use Rattle.gup_script.specs.declared.op.Op.TheVariants.{Fork};
 ghost use Rattle.gup_events.specs.State.{CoreState};
 ghost use Rattle.gup_space.specs.Space.{space_of};
+ghost use Rattle.gup_handles.specs.Handles.{handles_of};
 ghost use Rattle.gup_turns.specs.Turn.{waits_for_lock as lock_waited, waits_for_locks as locks_waited};
 ghost use Rattle.gup_turns.specs.Turn.{held_by_other as other_holding, locks_needed as needed, waiting_for};
 ghost use Rattle.gup_turns.specs.Reached.{fork_place};
 ghost use Rattle.gup_ops.specs.Forked.{place_of};
+ghost use Rattle.gup_ops.specs.Pins.{ShowsPins};
 ghost use Rattle.gup_ops.specs.Tidy.{AreNumbered};
 ghost use Rattle.gup_core.specs.Locks.{locks_of, fork_needs, child_in};
 ghost use Rattle.gup_follows.specs.Place.{Doer};
+ghost use Rattle.gup_follows.specs.Order.{is_given_to, taking_waits};
 ghost use Rattle.gup_core.specs.Doers.{HasProcess, IsProcessOf};
 ghost use Rattle.gup_core.specs.Machine.{EachSpace, ShowsSpaces, ShowsParts};
 ghost use Rattle.gup_core.specs.Goes.{StandsAt};
@@ -63,7 +66,10 @@ pub fn waits_for(
 }
 
 // The actor waits until the pin is given to it.
-fn waits_for_pin(handles: &Handles, actor: ActorNo, handle: HandleNo) -> Option<Waiting> {
+fn waits_for_pin(handles: &Handles, actor: ActorNo, handle: HandleNo) -> Option<Waiting>
+    ensures { (s : CoreState) → ShowsPins (handles_of handles.now) s
+        → result ≡ taking_waits (is_given_to (s.handle handle) actor) handle }
+{
     if handles.given(handle, actor) {
         None
     } else {

@@ -1,10 +1,13 @@
 //! What a machine is made of.
-ghost use Rattle.std.specs.Prelude.{◌≡◌, ℕ, length, slice_get, Some, None, All, List, IfOk, Option};
+ghost use Rattle.std.specs.Prelude.{◌≡◌, ℕ, ◌<◌, ◌≤◌, length, slice_get, Some, None, All, List, IfOk, Option};
 ghost use Rattle.arrayvec.specs.ArrayVec.{ArrayVec as ArrayVecValue};
-ghost use Rattle.gup_follows.specs.Place.{doer};
+ghost use Rattle.gup_follows.specs.Place.{doer, slots_of_kind};
+ghost use Rattle.gup_script.specs.Limits.{most_slots};
+ghost use Rattle.gup_script.specs.declared.op.Kind.TheVariants.{Device};
 ghost use Rattle.gup_space.specs.Space.{SpaceParts, space_of, no_space};
-ghost use Rattle.gup_handles.specs.Handles.{handles_of, unmade};
-ghost use Rattle.gup_ops.specs.Pins.{slots_in};
+ghost use Rattle.gup_turns.specs.Run.{run_start};
+ghost use Rattle.gup_core.specs.Machine.{AreParts, ShowsParts};
+ghost use Rattle.gup_core.specs.Stores.{IsEmptyStore};
 
 use crate::births::{self, Birth};
 use arrayvec::ArrayVec;
@@ -30,7 +33,10 @@ pub struct Parts {
 }
 
 /// The parts of a machine at the start of the script.
-pub fn first(alloc: Global, script: &Script) -> Result<Parts, NoMemory> {
+pub fn first(alloc: Global, script: &Script) -> Result<Parts, NoMemory>
+    ensures parts { IfOk result (AreParts script.now) }
+    ensures shown { IfOk result (λ parts. ShowsParts parts (run_start script.now).core) }
+{
     let (movable, normal, _tables) = script.frames();
     Ok(Parts {
         frames: Frames::new(alloc, movable, normal)?,
@@ -67,17 +73,32 @@ fn empty_pins(alloc: Global, n: u8) -> Result<Vec<ArrayVec<FrameNo, 16>>, NoMemo
 }
 
 // The stores of the script's devices, all words 0.
-fn empty_stores(alloc: Global, script: &Script) -> Result<Vec<Option<Store>>, NoMemory> {
+fn empty_stores(alloc: Global, script: &Script) -> Result<Vec<Option<Store>>, NoMemory>
+    ensures many { IfOk result (λ stores. length stores.items ≡ length script.now.actors) }
+    ensures empty { IfOk result (λ stores. (a : ℕ) (store : Option (List ℕ))
+        → slice_get stores.items a ≡ Some store → IsEmptyStore (doer script.now a).slots store) }
+{
     let mut stores = Vec::new(alloc);
     for a in 0..script.actors() {
-        let actor = ActorNo::new(u64::from(a)).unwrap();
-        stores.push(empty_store(alloc, script.kind(actor))?)?;
+        stores.push(store_of(alloc, script, a)?)?;
     }
     Ok(stores)
 }
 
+// The store of the actor with this number, if it is a device.
+fn store_of(alloc: Global, script: &Script, a: u8) -> Result<Option<Store>, NoMemory>
+    requires { a < length script.now.actors }
+    ensures { IfOk result (IsEmptyStore (doer script.now a).slots) }
+{
+    let _actors = script.actors();
+    empty_store(alloc, script.kind(ActorNo::new(u64::from(a)).unwrap()))
+}
+
 // The store of a device.
-fn empty_store(alloc: Global, kind: Kind) -> Result<Option<Store>, NoMemory> {
+fn empty_store(alloc: Global, kind: Kind) -> Result<Option<Store>, NoMemory>
+    requires { (slots : ℕ) → kind ≡ Device slots → (1 ≤ slots) × (slots ≤ most_slots) }
+    ensures { IfOk result (IsEmptyStore (slots_of_kind kind)) }
+{
     match kind {
         Kind::Device(slots) => Ok(Some(Store::new(alloc, slots)?)),
         Kind::Thread(_) | Kind::Mover => Ok(None),

@@ -1,28 +1,34 @@
 //! A turn of an operation among all processes.
-ghost use Rattle.std.specs.Prelude.{◌≡◌, ℕ, ◌<◌, ◌^◌, true, false, length, slice_get, Some, None, IsSome, IfSome, if◌then◌else◌};
+ghost use Rattle.std.specs.Prelude.{◌≡◌, ℕ, ◌+◌, ◌<◌, ◌≤◌, ◌^◌, true, false, length, slice_get, List, Option, Some, None, IsSome, IfSome, if◌then◌else◌};
+ghost use Rattle.arrayvec.specs.ArrayVec.{ArrayVec as ArrayVecValue};
 ghost use Rattle.gup_script.specs.declared.op.Op.TheVariants.{Fork};
 ghost use Rattle.gup_script.specs.Valid.{IsOp};
 ghost use Rattle.gup_frames.specs.Frames.{frames_of};
 ghost use Rattle.gup_space.specs.Space.{SpaceParts, space_of};
 ghost use Rattle.gup_space.specs.Shows.{change_of};
 ghost use Rattle.gup_fork.specs.Forks.{fork_change_of};
+ghost use Rattle.gup_handles.specs.Handles.{handles_of, unmade};
 ghost use Rattle.gup_turns.specs.Turn.{op_turn};
 ghost use Rattle.gup_ops.specs.Alone.{IsAlone};
 ghost use Rattle.gup_ops.specs.Far.{HasFar, far_in};
 ghost use Rattle.gup_ops.specs.Forked.{place_of, IsReadyAt, IsForkTurn};
+ghost use Rattle.gup_ops.specs.Pins.{IsWeighed, IsPinTurn};
+ghost use Rattle.gup_held.specs.Held.{IsTransferTurn};
 ghost use Rattle.gup_ops.specs.Said.{whats_of, IsTurnOf};
 ghost use Rattle.gup_ops.specs.Tidy.{IsTidy, needs_table};
 ghost use Rattle.gup_core.specs.declared.births.Birth.TheVariants.{Growing, Born};
 ghost use Rattle.gup_core.specs.Doers.{HasProcess};
 ghost use Rattle.gup_core.specs.Machine.{EachSpace};
-ghost use Rattle.gup_core.specs.Goes.{IsTurnOfAll, IsReady};
+ghost use Rattle.gup_core.specs.Goes.{IsTurnOfAll, IsReady, IsForkReady, HasSlots, KeepsSlots, pin_change, handle_change};
+ghost use Rattle.gup_core.specs.Locks.{child_in};
 
 use crate::births::{Birth, set_birth};
 use crate::locks::child_of;
 use crate::parts::Parts;
 use gup_base::{ActorNo, HandleNo, PageNo, ProcNo};
 use gup_frames::Frames;
-use gup_ops::{ForkPlace, Said, fork, give, is_last, pin, take, take_over, transfer, unpin};
+use gup_held::{give, take_over, transfer, unpin};
+use gup_ops::{ForkPlace, Said, fork, is_last, pin, take};
 use gup_script::Op;
 use gup_space::Space;
 
@@ -37,13 +43,14 @@ pub fn take_op(
     op: &Op,
 ) -> (Said, ForkPlace)
     requires process { HasProcess op.now → IsSome proc }
-    requires ready { (p slots : ℕ) → IfSome proc (λ q. q ≡ p) → IsReady parts.old actor p slots op.now far place }
+    requires ready { (p : ℕ) → IfSome proc (λ q. q ≡ p) → IsReady parts.old actor p op.now far place }
     ensures spaces { length parts.new.spaces.items ≡ length parts.old.spaces.items }
     ensures births { length parts.new.births.items ≡ length parts.old.births.items }
     ensures taken { length parts.new.taken.items ≡ length parts.old.taken.items }
     ensures stores { length parts.new.stores.items ≡ length parts.old.stores.items }
-    ensures turn { (p slots : ℕ) → IfSome proc (λ q. q ≡ p) → IsTurnOfAll parts.old parts.new actor p slots far
-        op.now place (whats_of result.0) result.1 }
+    ensures slots { KeepsSlots parts.old.stores.items parts.new.stores.items }
+    ensures turn { (p slots : ℕ) → IfSome proc (λ q. q ≡ p) → HasSlots parts.old actor slots
+        → IsTurnOfAll parts.old parts.new actor p slots far op.now place (whats_of result.0) result.1 }
 {
     if let Some(child) = child_of(op) {
         return take_fork(parts, actor, proc.unwrap(), child, place);
@@ -52,14 +59,18 @@ pub fn take_op(
 }
 
 // Takes a turn of an operation that is no fork.
-fn take_single(
-    parts: &mut Parts,
-    actor: ActorNo,
-    proc: Option<ProcNo>,
-    far: u16,
-    op: &Op,
-) -> Said {
-    let place = actor.get() as usize;
+fn take_single(parts: &mut Parts, actor: ActorNo, proc: Option<ProcNo>, far: u16, op: &Op) -> Said
+    requires process { HasProcess op.now → IsSome proc }
+    requires ready { (p : ℕ) → IfSome proc (λ q. q ≡ p) → (place : ForkPlace) × IsReady parts.old actor p op.now far place }
+    requires single { child_in op.now ≡ None }
+    ensures spaces { length parts.new.spaces.items ≡ length parts.old.spaces.items }
+    ensures births { length parts.new.births.items ≡ length parts.old.births.items }
+    ensures taken { length parts.new.taken.items ≡ length parts.old.taken.items }
+    ensures stores { length parts.new.stores.items ≡ length parts.old.stores.items }
+    ensures slots { KeepsSlots parts.old.stores.items parts.new.stores.items }
+    ensures turn { (p slots : ℕ) (place : ForkPlace) → IfSome proc (λ q. q ≡ p) → HasSlots parts.old actor slots
+        → IsTurnOfAll parts.old parts.new actor p slots far op.now place (whats_of result) place }
+{
     match *op {
         Op::Pin {
             handle,
@@ -76,18 +87,7 @@ fn take_single(
             index,
             slot,
             n,
-        } => transfer(
-            &mut parts.frames,
-            &parts.handles,
-            &mut parts.stores[place],
-            actor,
-            handle,
-            outward,
-            index,
-            slot,
-            n,
-            far,
-        ),
+        } => take_transfer(parts, actor, handle, outward, index, slot, n, far),
         _ => take_alone(
             &mut parts.spaces,
             &mut parts.frames,
@@ -109,7 +109,33 @@ fn take_pin(
     n: u8,
     write: bool,
     far: u16,
-) -> Said {
+) -> Said
+    requires there { proc < length parts.old.spaces.items }
+    requires actor { actor < length parts.old.taken.items }
+    requires tidy { EachSpace (IsTidy (frames_of parts.old.frames)) parts.old.spaces.items }
+    requires table { (space : SpaceParts) → slice_get parts.old.spaces.items proc ≡ Some space
+        → (space_of space).table ≡ None }
+    requires few { (f : ℕ) → (frames_of parts.old.frames).count f < 2 ^ 40 }
+    requires unmade { handles_of parts.old.handles handle ≡ unmade }
+    requires taken { (pages : ArrayVecValue ℕ) → slice_get parts.old.taken.items actor ≡ Some pages
+        → length pages.items ≡ far }
+    requires within { far < n }
+    requires most { n ≤ 16 }
+    requires range { page + n ≤ 2 ^ 35 }
+    ensures spaces { length parts.new.spaces.items ≡ length parts.old.spaces.items }
+    ensures taken { length parts.new.taken.items ≡ length parts.old.taken.items }
+    ensures births { parts.new.births ≡ parts.old.births }
+    ensures stores { parts.new.stores ≡ parts.old.stores }
+    ensures other_spaces { (q : ℕ) → (q ≡ proc → ⊥)
+        → slice_get parts.new.spaces.items q ≡ slice_get parts.old.spaces.items q }
+    ensures others_taken { (b : ℕ) → (b ≡ actor → ⊥)
+        → slice_get parts.new.taken.items b ≡ slice_get parts.old.taken.items b }
+    ensures turn { (old new : SpaceParts) (was now : ArrayVecValue ℕ)
+        → slice_get parts.old.spaces.items proc ≡ Some old → slice_get parts.new.spaces.items proc ≡ Some new
+        → slice_get parts.old.taken.items actor ≡ Some was → slice_get parts.new.taken.items actor ≡ Some now
+        → IsPinTurn (pin_change parts.old parts.new old new was now)
+        actor proc handle page n write far (whats_of result) }
+{
     pin(
         &mut parts.spaces[proc.get() as usize],
         &mut parts.frames,
@@ -121,6 +147,47 @@ fn take_pin(
         page,
         n,
         write,
+        far,
+    )
+}
+
+// Takes a turn of a transfer.
+fn take_transfer(
+    parts: &mut Parts,
+    actor: ActorNo,
+    handle: HandleNo,
+    outward: bool,
+    index: u32,
+    slot: u32,
+    n: u8,
+    far: u16,
+) -> Said
+    requires actor { actor < length parts.old.stores.items }
+    requires weighed { IsWeighed (frames_of parts.old.frames) (handles_of parts.old.handles handle) }
+    requires within { far < n }
+    requires most { n ≤ 64 }
+    ensures stores { length parts.new.stores.items ≡ length parts.old.stores.items }
+    ensures slots { KeepsSlots parts.old.stores.items parts.new.stores.items }
+    ensures spaces { parts.new.spaces ≡ parts.old.spaces }
+    ensures births { parts.new.births ≡ parts.old.births }
+    ensures taken { parts.new.taken ≡ parts.old.taken }
+    ensures others { (b : ℕ) → (b ≡ actor → ⊥)
+        → slice_get parts.new.stores.items b ≡ slice_get parts.old.stores.items b }
+    ensures turn { (old new : Option (List ℕ))
+        → slice_get parts.old.stores.items actor ≡ Some old → slice_get parts.new.stores.items actor ≡ Some new
+        → IsTransferTurn (handle_change parts.old parts.new old new)
+        actor handle outward index slot n far (whats_of result) }
+{
+    transfer(
+        &mut parts.frames,
+        &parts.handles,
+        &mut parts.stores[actor.get() as usize],
+        actor,
+        handle,
+        outward,
+        index,
+        slot,
+        n,
         far,
     )
 }
@@ -166,7 +233,18 @@ fn take_fork(
     proc: ProcNo,
     child: ProcNo,
     place: ForkPlace,
-) -> (Said, ForkPlace) {
+) -> (Said, ForkPlace)
+    requires there { proc < length parts.old.spaces.items }
+    requires tidy { EachSpace (IsTidy (frames_of parts.old.frames)) parts.old.spaces.items }
+    requires few_counts { (f : ℕ) → (frames_of parts.old.frames).count f < 2 ^ 40 }
+    requires fork { IsForkReady (frames_of parts.old.frames) parts.old.spaces.items parts.old.births.items proc child place }
+    ensures spaces { length parts.new.spaces.items ≡ length parts.old.spaces.items }
+    ensures births { length parts.new.births.items ≡ length parts.old.births.items }
+    ensures taken { parts.new.taken ≡ parts.old.taken }
+    ensures stores { parts.new.stores ≡ parts.old.stores }
+    ensures turn { (slots far : ℕ) → IsTurnOfAll parts.old parts.new actor proc slots far
+        (Fork child) place (whats_of result.0) result.1 }
+{
     let (said, next) = fork_two(
         &mut parts.frames,
         &mut parts.spaces,

@@ -1,7 +1,8 @@
 //! A turn of an actor.
-ghost use Rattle.std.specs.Prelude.{◌≡◌, ◌+◌, ◌-◌, ◌<◌, [], ◌∷◌, length, slice_get, Some, Option};
+ghost use Rattle.std.specs.Prelude.{◌≡◌, ◌+◌, ◌-◌, ◌<◌, false, [], ◌∷◌, length, slice_get, Some, Option, MatchOption};
 ghost use Rattle.gup_follows.specs.Follows.{notes_of_turn};
-ghost use Rattle.gup_follows.specs.Place.{ops_of, doer};
+ghost use Rattle.gup_script.specs.declared.op.Kind.TheVariants.{Thread};
+ghost use Rattle.gup_follows.specs.Place.{ops_of, doer, is_thread};
 ghost use Rattle.gup_ops.specs.Said.{whats_of};
 ghost use Rattle.gup_core.specs.Doers.{IsProcessOf};
 ghost use Rattle.gup_core.specs.Machine.{machine_of, counted, AreParts, IsMachine, TakesTurns};
@@ -108,7 +109,9 @@ pub fn process(script: &Script, actor: ActorNo) -> Option<ProcNo>
     process_named(script.kind(actor))
 }
 
-fn process_named(kind: Kind) -> Option<ProcNo> {
+fn process_named(kind: Kind) -> Option<ProcNo>
+    ensures { MatchOption result (is_thread kind ≡ false) (λ p. kind ≡ Thread p) }
+{
     match kind {
         Kind::Thread(proc) => Some(proc),
         Kind::Device(_) | Kind::Mover => None,

@@ -159,3 +159,8 @@ slot_within v a outward slots index slot n far unrefused within =
 pub page_there : (F : FramesValue) (v : HandleValue) (pages : List ℕ) (by k f : ℕ) (write : Bool) → v ≡ held by pages write → IsWeighed F v → slice_get pages k ≡ Some f → IsFrame F f
 page_there F v pages by k f write is weighed at =
     (weighed k f (ap (λ (x : HandleValue). slice_get (frames_in x) k) is ∙ at)).0
+
+-- a word that moved leaves the store its slots
+pub moved_slots : (outward : Bool) (old new : FramesValue) (W W1 : List ℕ) (f word slot value : ℕ) → HasMoved outward old new W W1 f word slot value → length W1 ≡ length W
+moved_slots true old new W W1 f word slot value moved = ap (λ (x : StoreValue). x.words) moved.2
+moved_slots false old new W W1 f word slot value moved = ap (λ (x : StoreValue). x.words) moved.2

@@ -41,7 +41,8 @@ pub fn transfer(
     requires weighed { IsWeighed (frames_of frames.old) (handles_of handles.now handle) }
     requires within { far < n }
     requires most { n ≤ 64 }
-    ensures { IsTransferTurn (record {
+    ensures slots { slots_in store.new ≡ slots_in store.old }
+    ensures turn { IsTransferTurn (record {
       old_frames = frames_of frames.old;
       new_frames = frames_of frames.new;
       old_pins = handles_of handles.now;

@@ -1,23 +1,60 @@
-use Rattle.std.proofs.Common.{◌∙◌, subst, inl, inr}
+use Rattle.std.proofs.Common.{◌≡◌, ℕ, Option, Some, None, sym, ap, ◌∙◌, subst, inl, inr}
+use Rattle.gup_follows.specs.Place.{Doer}
+use Rattle.gup_turns.specs.Turn.{waits_born, waiting_for}
 use Rattle.gup_core.specs.declared.births.Birth.{Birth}
 use Rattle.gup_core.specs.declared.births.Birth.TheVariants.{Growing}
+use Rattle.gup_core.specs.Doers.{IsProcessOf}
+use Rattle.gup_core.specs.Goes.{StandsAt}
 use Rattle.gup_core.specs.Machine.{IsBirth}
-use Rattle.gup_core.proofs.Waiting.{unborn_waits, growing_waits, born_waits}
+use Rattle.gup_core.proofs.Waiting.{unborn_waits, growing_waits, born_waits, other_waits, take_waits, lock_waits}
 use Rattle.gup_core.proofs.locks.waits_for.Goals as goal
-
-pub returns-in-Born : goal.returns-in-Born
-returns-in-Born c s spaces births place at =
-    let a = c.args in
-    c.waits_for_holders.ensures s spaces place at
-    ∙ born_waits s a.actor a.proc a.op.now (subst (λ (b : Birth). IsBirth b (s.birth a.proc)) c.in-Born.is (births a.proc c.birth_of.result c.birth_of.ensures))
+use Rattle.gup_core.proofs.locks.waits_for.Goals.{in-Some+in-Born, in_default}
 
 pub returns-in-Unborn : goal.returns-in-Unborn
-returns-in-Unborn c s spaces births place at =
-    let a = c.args in
-    let birth : IsBirth c.birth_of.result (s.birth a.proc) = births a.proc c.birth_of.result c.birth_of.ensures in
+returns-in-Unborn c s who far shown actor of_who place at =
+    let op = c.args.op.now in
+    let p = c.in-Some.proc in
+    let of_p : IsProcessOf who (Some p) = subst (λ (o : Option ℕ). IsProcessOf who o) c.in-Some.is of_who in
+    let birth : IsBirth c.birth_of.result (s.birth p) = shown.births p c.birth_of.result c.birth_of.ensures in
     elim c.in-Unborn.is [
-      | inl is ↦ unborn_waits s a.actor a.proc a.op.now (subst (λ (b : Birth). IsBirth b (s.birth a.proc)) is birth)
+      | inl is ↦ unborn_waits s who op p of_p.0 of_p.1 (subst (λ (b : Birth). IsBirth b (s.birth p)) is birth)
       | inr is ↦
-          let grows : IsBirth Growing (s.birth a.proc) = subst (λ (b : Birth). IsBirth b (s.birth a.proc)) is birth in
-          growing_waits s a.actor a.proc grows.0 a.op.now grows.1
+          let grows : IsBirth Growing (s.birth p) = subst (λ (b : Birth). IsBirth b (s.birth p)) is birth in
+          growing_waits s who op p grows.0 of_p.0 of_p.1 grows.1
+    ]
+
+pub returns-in-Take-default : goal.returns-in-Take-default
+returns-in-Take-default c s who far shown actor of_who place at =
+    let op = c.args.op.now in
+    let first = c.waits_for_pin.ensures s shown.pins ∙ take_waits s c.args.actor who.proc c.in-Take-default.handle op c.in-Take-default.is-0 ∙ ap (λ b. waits_born s b who.proc op) (sym actor) in
+    elim c.match-proc.branch [
+      | in-Some+in-Born w ↦
+          let p = w.in-Some.proc in
+          let of_p : IsProcessOf who (Some p) = subst (λ (o : Option ℕ). IsProcessOf who o) w.in-Some.is of_who in
+          let birth : IsBirth w.birth_of.result (s.birth p) = shown.births p w.birth_of.result w.birth_of.ensures in
+          first ∙ born_waits s who op p of_p.0 of_p.1 (subst (λ (b : Birth). IsBirth b (s.birth p)) w.in-Born.is birth)
+      | in_default w ↦ first ∙ other_waits s who op (subst (λ (o : Option ℕ). IsProcessOf who o) w.in_default.is of_who)
+    ]
+
+pub returns-in_default-Some : goal.returns-in_default-Some
+returns-in_default-Some c s who far shown actor of_who place at =
+    let op = c.args.op.now in
+    let a = c.args.actor in
+    let q = c.in_default-Some.proc in
+    elim c.match-proc.branch [
+      | in-Some+in-Born w ↦
+          let p = w.in-Some.proc in
+          let found : Some q ≡ Some p = sym c.in_default-Some.is-1 ∙ w.proc-is in
+          let same : q ≡ p = cc found in
+          let of_p : IsProcessOf who (Some p) = subst (λ (o : Option ℕ). IsProcessOf who o) w.in-Some.is of_who in
+          let birth : IsBirth w.birth_of.result (s.birth p) = shown.births p w.birth_of.result w.birth_of.ensures in
+          let own : q ≡ who.proc = same ∙ sym of_p.1 in
+          c.waits_for_holders.ensures s far shown.spaces place (subst (λ (k : ℕ). StandsAt s a k far op) (sym own) at)
+          ∙ lock_waits s a q op c.in_default-Some.not-Take-0
+          ∙ ap (λ k. waits_born s k q op) (sym actor)
+          ∙ ap (λ k. waits_born s who.actor k op) own
+          ∙ born_waits s who op p of_p.0 of_p.1 (subst (λ (b : Birth). IsBirth b (s.birth p)) w.in-Born.is birth)
+      | in_default w ↦
+          let found : Some q ≡ None = sym c.in_default-Some.is-1 ∙ w.proc-is ∙ w.in_default.is in
+          absurd (cc found)
     ]

@@ -18,7 +18,7 @@ none_of None none is e = refl
 none_of (Some x) none is e = absurd (let some : true ≡ false = is ∙ ap not e in cc)
 
 pub returns-then-is_none-2 : goal.returns-then-is_none-2
-returns-then-is_none-2 c s spaces place at =
+returns-then-is_none-2 c s far spaces place at =
     let a = c.args.actor in
     let p = c.args.proc in
     let shown = spaces p c.space_at-space.result.now c.space_at-space.ensures in
@@ -30,11 +30,11 @@ returns-then-is_none-2 c s spaces place at =
     ∙ ap (λ o. waits_for_locks locks a (s.structure p) o) (sym table)
 
 pub returns : goal.returns
-returns c s spaces place at =
+returns c s far spaces place at =
     let a = c.args.actor in
     let p = c.args.proc in
     let shown = spaces p c.space_at-space.result.now c.space_at-space.ensures in
     c.waits_for_locks.ensures
-    ∙ ap (λ l. waits_for_locks l a c.structure-structure.result c.table-table.result) (c.locks_needed-locks.ensures s a spaces place at)
+    ∙ ap (λ l. waits_for_locks l a c.structure-structure.result c.table-table.result) (c.locks_needed-locks.ensures s a far spaces place at)
     ∙ ap (λ o. waits_for_locks (locks_needed s a p c.args.op.now) a o c.table-table.result) (c.structure-structure.ensures ∙ sym shown.structure)
     ∙ ap (λ o. waits_for_locks (locks_needed s a p c.args.op.now) a (s.structure p) o) (c.table-table.ensures ∙ sym shown.table)

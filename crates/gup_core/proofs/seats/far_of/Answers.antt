@@ -1,4 +1,4 @@
-use Rattle.std.proofs.Common.{◌≡◌, ◌+◌, ap, inl, inr, arith}
+use Rattle.std.proofs.Common.{◌≡◌, ◌+◌, ◌≤◌, refl, ap, ◌∙◌, inl, inr, arith}
 use Rattle.gup_script.specs.declared.op.Op.{Op}
 use Rattle.gup_core.specs.Seats.{far_behind}
 use Rattle.gup_core.proofs.Scripts.{far_below}
@@ -6,8 +6,19 @@ use Rattle.gup_core.proofs.seats.far_of.Goals as goal
 
 pub overflow_add-result : goal.overflow_add-result
 overflow_add-result c =
-    let below = far_below c.args.op.now c.args.far c.requires.op c.requires.far in
+    let far = c.args.far in
+    let below = far_below c.args.op.now far c.requires.op c.requires.far in
+    let fits : (op : Op) → c.args.op.now ≡ op → far_behind op far ≡ far + 1 → far + 1 ≤ 1024 =
+    λ op is one. let more : far_behind c.args.op.now far ≡ far + 1 = ap (λ (x : Op). far_behind x far) is ∙ one in omega (arith, below, more) in
     elim c.in-Unmap.is [
-      | inl one ↦ let more : far_behind c.args.op.now c.args.far ≡ c.args.far + 1 = ap (λ (op : Op). far_behind op c.args.far) one.2 in omega arith
-      | inr other ↦ let more : far_behind c.args.op.now c.args.far ≡ c.args.far + 1 = ap (λ (op : Op). far_behind op c.args.far) other.2 in omega arith
+      | inl unmap ↦ let few = fits _ unmap.2 refl in omega arith
+      | inr other ↦
+          elim other [
+            | inl discard ↦ let few = fits _ discard.2 refl in omega arith
+            | inr later ↦
+                elim later [
+                  | inl pin ↦ let few = fits _ pin.4 refl in omega arith
+                  | inr transfer ↦ let few = fits _ transfer.5 refl in omega arith
+                ]
+          ]
     ]

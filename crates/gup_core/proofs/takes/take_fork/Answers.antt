@@ -1,27 +1,37 @@
-use Rattle.std.proofs.Common.{◌<◌, List, length, Some, if◌then◌else◌, sym, ap, ◌∙◌, subst}
+use Rattle.std.proofs.Common.{◌≡◌, ℕ, List, length, slice_get, Some, if◌then◌else◌, refl, sym, ap, ◌∙◌, subst}
+use Rattle.std.specs.Vec.{with_items}
 use Rattle.gup_script.specs.declared.op.Op.TheVariants.{Fork}
 use Rattle.gup_space.specs.Space.{SpaceParts}
-use Rattle.gup_ops.specs.Said.{whats_of}
 use Rattle.gup_core.specs.declared.births.Birth.{Birth}
 use Rattle.gup_core.specs.declared.births.Birth.TheVariants.{Growing, Born}
-use Rattle.gup_core.specs.Goes.{IsTurnOfAll}
+use Rattle.gup_ops.specs.Said.{whats_of}
+use Rattle.gup_core.specs.declared.parts.Parts.{Parts}
 use Rattle.gup_core.proofs.Parting.{written_back}
-use Rattle.gup_core.proofs.Taking.{forked}
+use Rattle.gup_core.proofs.Turning.{IsForkTurns, forked}
 use Rattle.gup_core.proofs.takes.take_fork.Goals as goal
 
 pub returns-clause-turn : goal.returns-clause-turn
-returns-clause-turn c far =
+returns-clause-turn c slots far =
     let a = c.args in
+    let old = a.parts.now in
     let t = c.fork_two-said in
-    let items = a.spaces.now.items in
     let was = c.deref_mut.ensures.value in
+    let new : Parts =
+    record {
+      frames = t.new.frames;
+      spaces = with_items old.spaces t.new.spaces;
+      births = c.set_birth.new.births;
+      handles = old.handles;
+      taken = old.taken;
+      stores = old.stores;
+    } in
     let born_now = c.birth_behind.ensures ∙ ap (λ last. if last then Born else Growing) c.is_last.ensures in
-    let turn =
-    forked a.frames.now t.new.frames c.deref_mut.result.now t.new.spaces a.births.now.items c.set_birth.new.births.items a.actor a.proc a.child far a.place t.result.1 t.result.0
-    c.requires.fork.apart (subst (λ (ys : List SpaceParts). a.proc < length ys) (sym was) c.requires.there) (subst (λ (ys : List SpaceParts). a.child < length ys) (sym was) c.requires.fork.there)
-    t.ensures.many t.ensures.others t.ensures.turn (c.set_birth.ensures.here ∙ ap (λ (b : Birth). Some b) born_now) c.set_birth.ensures.others in
-    let made =
-    subst (λ (ys : List SpaceParts). IsTurnOfAll a.frames.now t.new.frames ys t.new.spaces a.births.now.items c.set_birth.new.births.items a.actor a.proc far (Fork a.child) a.place (whats_of t.result.0) t.result.1) was turn in
-    subst
-    (λ (xs : List SpaceParts). IsTurnOfAll a.frames.now t.new.frames items xs a.births.now.items c.set_birth.new.births.items a.actor a.proc far (Fork a.child) a.place (whats_of t.result.0) t.result.1)
-    (sym (written_back items t.new.spaces a.spaces.now.len (sym c.deref_mut.ensures.len ∙ ap length was) (t.ensures.many ∙ ap length was))) made
+    let many = t.ensures.many ∙ ap length was in
+    let back = sym (written_back old.spaces.items t.new.spaces old.spaces.len (sym c.deref_mut.ensures.len ∙ ap length was) many) in
+    let others = subst (λ (xs : List SpaceParts). (q : ℕ) → (q ≡ a.proc → ⊥) → (q ≡ a.child → ⊥) → slice_get xs q ≡ slice_get old.spaces.items q) back
+    (subst (λ (xs : List SpaceParts). (q : ℕ) → (q ≡ a.proc → ⊥) → (q ≡ a.child → ⊥) → slice_get t.new.spaces q ≡ slice_get xs q) was t.ensures.others) in
+    let turn = subst (λ (xs : List SpaceParts). IsForkTurns old.frames t.new.frames old.spaces.items xs a.actor a.proc a.child a.place t.result.1 (whats_of t.result.0)) back
+    (subst (λ (xs : List SpaceParts). IsForkTurns old.frames t.new.frames xs t.new.spaces a.actor a.proc a.child a.place t.result.1 (whats_of t.result.0)) was t.ensures.turn) in
+    forked old new a.actor a.proc a.child slots far a.place t.result.1 t.result.0
+    c.requires.fork.apart c.requires.there c.requires.fork.there (ap length (sym back) ∙ many) refl refl refl others turn
+    (c.set_birth.ensures.here ∙ ap (λ (b : Birth). Some b) born_now) c.set_birth.ensures.others

@@ -1,23 +1,36 @@
-use Rattle.std.proofs.Common.{sym, ◌∙◌, subst}
+use Rattle.std.proofs.Common.{◌≡◌, ℕ, Some, sym, ◌∙◌, subst}
 use Rattle.gup_script.specs.declared.op.Op.{Op}
+use Rattle.gup_script.specs.declared.op.Op.TheVariants.{Fork}
 use Rattle.gup_ops.specs.Said.{whats_of}
+use Rattle.gup_core.specs.Doers.{HasProcess}
 use Rattle.gup_core.specs.Goes.{IsTurnOfAll}
-use Rattle.gup_core.proofs.Taking.{alone}
-use Rattle.gup_core.proofs.Waiting.{single, forks_into}
+use Rattle.gup_core.proofs.Singles.{some_is, process_is}
+use Rattle.gup_core.proofs.Waiting.{forks_into}
 use Rattle.gup_core.proofs.takes.take_op.Goals as goal
 
-pub returns-in_default-clause-turn : goal.returns-in_default-clause-turn
-returns-in_default-clause-turn c =
-    let a = c.args in
-    let r = c.requires in
-    alone a.frames.now c.take_alone-said.new.frames a.spaces.now.items c.take_alone-said.new.spaces.items a.births.now.items a.actor a.proc a.seat.now.far a.op.now a.seat.now.fork (whats_of c.take_alone-said.result)
-    (single a.op.now (sym c.child_of.ensures ∙ c.in_default.is)) r.there c.take_alone-said.ensures.many c.take_alone-said.ensures.others c.take_alone-said.ensures.turn
+pub take_fork-requires-clause-there : goal.take_fork-requires-clause-there
+take_fork-requires-clause-there c =
+    let ready = c.requires.ready c.unwrap.result (process_is c.args.proc c.unwrap.result c.unwrap.ensures) in
+    ready.there (subst HasProcess (sym (forks_into c.args.op.now c.in-Some.child (sym c.child_of.ensures ∙ c.in-Some.is))) tt)
 
-pub returns-clause-turn : goal.returns-clause-turn
-returns-clause-turn c =
+pub take_fork-requires-clause-tidy : goal.take_fork-requires-clause-tidy
+take_fork-requires-clause-tidy c = (c.requires.ready c.unwrap.result (process_is c.args.proc c.unwrap.result c.unwrap.ensures)).tidy
+
+pub take_fork-requires-clause-few_counts : goal.take_fork-requires-clause-few_counts
+take_fork-requires-clause-few_counts c = (c.requires.ready c.unwrap.result (process_is c.args.proc c.unwrap.result c.unwrap.ensures)).few_counts
+
+pub take_fork-requires-clause-fork : goal.take_fork-requires-clause-fork
+take_fork-requires-clause-fork c =
+    let ready = c.requires.ready c.unwrap.result (process_is c.args.proc c.unwrap.result c.unwrap.ensures) in
+    ready.fork c.in-Some.child (forks_into c.args.op.now c.in-Some.child (sym c.child_of.ensures ∙ c.in-Some.is))
+
+pub returns-in-Some-clause-turn : goal.returns-in-Some-clause-turn
+returns-in-Some-clause-turn c p slots of_p has =
     let a = c.args in
     let t = c.take_fork in
     let is = forks_into a.op.now c.in-Some.child (sym c.child_of.ensures ∙ c.in-Some.is) in
-    subst
-    (λ (op : Op). IsTurnOfAll a.frames.now t.new.frames a.spaces.now.items t.new.spaces.items a.births.now.items t.new.births.items a.actor a.proc a.seat.now.far op a.seat.now.fork (whats_of t.result.0) t.result.1)
-    (sym is) (t.ensures.turn a.seat.now.far)
+    subst (λ (q : ℕ). IsTurnOfAll a.parts.now t.new.parts a.actor q slots a.far a.op.now a.place (whats_of t.result.0) t.result.1) (some_is a.proc c.unwrap.result p c.unwrap.ensures of_p)
+    (subst (λ (op : Op). IsTurnOfAll a.parts.now t.new.parts a.actor c.unwrap.result slots a.far op a.place (whats_of t.result.0) t.result.1) (sym is) (t.ensures.turn slots a.far))
+
+pub returns-clause-turn : goal.returns-clause-turn
+returns-clause-turn c p slots of_p has = c.take_single.ensures.turn p slots c.args.place of_p has

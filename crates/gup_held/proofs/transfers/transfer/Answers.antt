@@ -7,11 +7,11 @@ use Rattle.gup_ops.specs.Said.{whats_of}
 use Rattle.gup_follows.specs.Follows.{moves_word}
 use Rattle.gup_held.specs.Held.{IsTransferTurn, HasMoved, slots_in, refusal_in}
 use Rattle.gup_held.proofs.Holding.{handle_change}
-use Rattle.gup_held.proofs.Moving.{transfer_alike, transfer_refused, page_there, moved_whats, said_of, word_says, word_moved, slot_within}
+use Rattle.gup_held.proofs.Moving.{transfer_alike, transfer_refused, page_there, moved_whats, said_of, word_says, word_moved, moved_slots, slot_within}
 use Rattle.gup_held.proofs.transfers.transfer.Goals as goal
 
-pub returns-in-Some : goal.returns-in-Some
-returns-in-Some c =
+pub returns-in-Some-clause-turn : goal.returns-in-Some-clause-turn
+returns-in-Some-clause-turn c =
     let a = c.args in
     let F = frames_of a.frames.now in
     let H = handles_of a.handles.now in
@@ -24,8 +24,13 @@ move_word-value-requires-clause-there c =
     let a = c.args in
     page_there (frames_of a.frames.now) (handles_of a.handles.now a.handle) c.in-Ok.pages.now a.actor _ c.frame_at.result c.in-Ok.field-0-1 c.in-Ok.ensures.pages c.requires.weighed c.frame_at.ensures
 
-pub returns : goal.returns
-returns c =
+-- the store keeps its slots
+pub returns-clause-slots : goal.returns-clause-slots
+returns-clause-slots c =
+    moved_slots c.args.outward _ _ _ _ _ _ _ _ c.move_word-value.ensures ∙ sym (ap slots_in c.in-Some-store.is)
+
+pub returns-clause-turn : goal.returns-clause-turn
+returns-clause-turn c =
     let a = c.args in
     let F = frames_of a.frames.now in
     let F1 = frames_of c.move_word-value.new.frames in

@@ -1,27 +1,26 @@
-use Rattle.std.proofs.Common.{ℕ, length, sym, ap, ◌∙◌, refl, subst}
+use Rattle.std.proofs.Common.{length, sym, ap, ◌∙◌, refl, subst}
 use Rattle.std.proofs.Math.ListN.{length-replicate}
 use Rattle.gup_script.specs.Script.{ScriptValue}
-use Rattle.gup_frames.specs.Frames.{no_references}
 use Rattle.gup_turns.specs.Run.{run_start}
-use Rattle.gup_core.specs.Machine.{machine_of, Shows}
-use Rattle.gup_core.proofs.Starting.{no_turn, shows_start, new_machine}
+use Rattle.gup_core.specs.Machine.{machine_of, Shows, AreParts}
+use Rattle.gup_core.proofs.Starting.{no_turn, shows_start}
 use Rattle.gup_core.proofs.machine.Machine.new.Goals as goal
 
 -- what was made shows the start of the script
-starts : (c : goal.In_ok-script) → Shows (machine_of c.args.script.now c.in_ok-frames.frames c.in_ok-spaces.spaces.items c.in_ok-births.births.items c.in_ok-seats.seats.items 0) (run_start c.args.script.now)
-starts c =
-    shows_start c.args.script.now c.in_ok-frames.frames c.in_ok-spaces.spaces.items c.in_ok-births.births.items c.in_ok-seats.seats.items c.actors.result
-    (c.in_ok-frames.ensures ∙ ap (λ (t : ℕ × ℕ × ℕ). no_references t.0 t.1) c.frames-movable.ensures.counts)
-    c.in_ok-spaces.ensures.empty c.in_ok-births.ensures.many c.in_ok-births.ensures.births c.in_ok-seats.ensures
+starts : (c : goal.In_ok-script) → Shows (machine_of c.args.script.now c.in_ok-parts.parts c.in_ok-seats.seats.items 0) (run_start c.args.script.now)
+starts c = shows_start c.args.script.now c.in_ok-parts.parts c.in_ok-seats.seats.items c.actors.result c.in_ok-parts.ensures.shown c.in_ok-seats.ensures
 
 pub invariant_of-result : goal.invariant_of-result
 invariant_of-result c =
     let same = sym c.in_ok-script.ensures.equal in
-    new_machine c.in_ok-script.script c.in_ok-frames.frames c.in_ok-spaces.spaces.items c.in_ok-births.births.items c.in_ok-seats.seats.items
-    (c.in_ok-spaces.ensures.many ∙ c.processes.ensures ∙ ap (λ (s : ScriptValue). length s.processes) same)
-    (c.in_ok-births.ensures.many ∙ ap (λ (s : ScriptValue). length s.processes) same)
-    (ap length c.in_ok-seats.ensures ∙ length-replicate c.actors.result no_turn ∙ c.actors.ensures.count ∙ ap (λ (s : ScriptValue). length s.actors) same)
-    (subst (λ (s : ScriptValue). Shows (machine_of s c.in_ok-frames.frames c.in_ok-spaces.spaces.items c.in_ok-births.births.items c.in_ok-seats.seats.items 0) (run_start s)) same (starts c))
+    record {
+      parts = subst (λ (s : ScriptValue). AreParts s c.in_ok-parts.parts) same c.in_ok-parts.ensures.parts;
+      seats = ap length c.in_ok-seats.ensures ∙ length-replicate c.actors.result no_turn ∙ c.actors.ensures.count ∙ ap (λ (s : ScriptValue). length s.actors) same;
+      shown = (
+        run_start c.in_ok-script.script,
+        subst (λ (s : ScriptValue). Shows (machine_of s c.in_ok-parts.parts c.in_ok-seats.seats.items 0) (run_start s)) same (starts c),
+      );
+    }
 
 pub returns : goal.returns
 returns c =
@@ -29,6 +28,5 @@ returns c =
     record {
       script = c.in_ok-script.ensures.equal;
       turns = refl;
-      shown =
-          subst (λ (s : ScriptValue). Shows (machine_of s c.in_ok-frames.frames c.in_ok-spaces.spaces.items c.in_ok-births.births.items c.in_ok-seats.seats.items 0) (run_start c.args.script.now)) same (starts c);
+      shown = subst (λ (s : ScriptValue). Shows (machine_of s c.in_ok-parts.parts c.in_ok-seats.seats.items 0) (run_start c.args.script.now)) same (starts c);
     }

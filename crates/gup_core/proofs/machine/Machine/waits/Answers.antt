@@ -2,6 +2,7 @@ use Rattle.std.proofs.Common.{◌≡◌, Some, slice_get, sym, ap, ◌∙◌, su
 use Rattle.gup_turns.specs.Run.{RunState, waiting_in}
 use Rattle.gup_core.specs.Machine.{MachineValue, Shows, machine_of}
 use Rattle.gup_core.specs.Rest.{IsAtRest}
+use Rattle.gup_core.proofs.Ready.{process_found_so, process_within, child_within}
 use Rattle.gup_core.proofs.Taking.{waiting_is}
 use Rattle.gup_core.proofs.machine.Machine.waits.Goals as goal
 
@@ -9,7 +10,7 @@ pub returns : goal.returns
 returns c =
     let i = c.self.inside in
     let a = c.args.actor in
-    let m = machine_of i.script i.frames i.spaces.items i.births.items i.seats.items i.turns in
+    let m = machine_of i.script i.parts i.seats.items i.turns in
     let rest = subst (λ (x : MachineValue). IsAtRest x) (sym c.self.view_is) c.rests.ensures in
     let here = subst (λ (x : MachineValue). slice_get x.seats a ≡ Some c.seat-seat.result) (sym c.self.view_is) c.seat-seat.ensures in
     let op = sym (sym c.in-Some.is ∙ c.op_at.ensures ∙ ap (λ ops. slice_get ops c.seat-seat.result.answered) c.ops.ensures) in

@@ -1,6 +1,6 @@
 use Rattle.std.proofs.Common.{◌≡◌, length, All}
 use Rattle.gup_space.specs.Space.{SpaceParts, space_of, no_space}
-use Rattle.gup_core.proofs.machine.empty_spaces.Given as goal
+use Rattle.gup_core.proofs.parts.empty_spaces.Given as goal
 
 -- so many empty processes so far
 abbrev pub invariant-loop-p : goal.invariant-loop-p

@@ -1,0 +1,118 @@
+-- No turn has two events and no answer: an operation that goes on counts one page or word a turn.
+use Rattle.std.proofs.Common.{◌==◌, ℕ, ◌+◌, Bool, true, false, List, [], ◌∷◌, Option, Some, None, Ok, Err, zero, suc}
+use Rattle.gup_base.specs.declared.entry.Entry.{Entry}
+use Rattle.gup_base.specs.declared.entry.Rights.{Rights}
+use Rattle.gup_plain.specs.Denial.{any_mapped, any_unmapped, map_denial, protect_denial, is_held_by, transfer_denial}
+use Rattle.gup_plain.specs.declared.answer.Answer.{Answer}
+use Rattle.gup_plain.specs.declared.event.PlainEvent.TheVariants as events
+use Rattle.gup_plain.specs.declared.note.What.{What}
+use Rattle.gup_plain.specs.declared.note.What.TheVariants.{Event}
+use Rattle.gup_script.specs.declared.op.Op.{Op}
+use Rattle.gup_script.specs.declared.op.Op.TheVariants.{Map, Unmap, Protect, Discard, Load, Store, Pin, Unpin, Give, Take, Transfer, Fork, Exit}
+use Rattle.gup_events.specs.State.{CoreState, Job, idle, marking, moving, forking, walking, ForkStep, between, counted, lowered, cleared, copying, failing}
+use Rattle.gup_events.specs.Fault.{Fault}
+use Rattle.gup_turns.specs.Turn.{op_turn, load_fault, loads_after, store_fault, stores_after, map_turn_by, unmap_turn_by, protect_turn_by, discard_turn_by, exit_turn_by, lowest_page, pin_fault, pinned_if, ends_pin, pin_turn_by, but_last, unpinned, unpin_turn_by, give_turn_by, transfer_turn_by, page_turn, next_page, next_turn, fork_step_turn, fork_turn}
+
+abbrev pub NoTwo : List What → Type 0
+NoTwo (Event event ∷ Event next ∷ []) = ⊥
+NoTwo whats = Unit {0}
+
+load_two : (s : CoreState) (fault : Fault) (a p page word : ℕ) → NoTwo (loads_after s fault a p page word).whats
+load_two s (Err answer) a p page word = tt
+load_two s (Ok before) a p page word = tt
+
+store_two : (s : CoreState) (fault : Fault) (a p page word value : ℕ) → NoTwo (stores_after s fault a p page word value).whats
+store_two s (Err answer) a p page word value = tt
+store_two s (Ok before) a p page word value = tt
+
+map_two : (denied : Option Answer) (a p page n : ℕ) (rights : Rights) → NoTwo (map_turn_by denied a p page n rights).whats
+map_two (Some denied) a p page n rights = tt
+map_two None a p page n rights = tt
+
+protect_two : (denied : Option Answer) (s : CoreState) (a p page n : ℕ) (rights : Rights) → NoTwo (protect_turn_by denied s a p page n rights).whats
+protect_two (Some denied) s a p page n rights = tt
+protect_two None s a p page n rights = tt
+
+unmap_two : (rights : Option Rights) (a p page : ℕ) (entry : Option Entry) (last : Bool) → NoTwo (unmap_turn_by rights a p page entry last).whats
+unmap_two None a p page entry true = tt
+unmap_two None a p page entry false = tt
+unmap_two (Some rights) a p page entry true = tt
+unmap_two (Some rights) a p page entry false = tt
+
+discard_two : (rights : Option Rights) (a p page : ℕ) (entry : Option Entry) (last : Bool) → NoTwo (discard_turn_by rights a p page entry last).whats
+discard_two None a p page entry true = tt
+discard_two None a p page entry false = tt
+discard_two (Some rights) a p page entry true = tt
+discard_two (Some rights) a p page entry false = tt
+
+exit_two : (s : CoreState) (a p : ℕ) (lowest : Option ℕ) → NoTwo (exit_turn_by s a p lowest).whats
+exit_two s a p None = tt
+exit_two s a p (Some page) = tt
+
+ends_two : (a p handle n far : ℕ) (answer : Answer) → NoTwo (ends_pin a p handle n far answer).whats
+ends_two a p handle n zero answer = tt
+ends_two a p handle n (suc far) answer = tt
+
+pin_two : (fault : Fault) (s : CoreState) (a p handle page n far : ℕ) (write : Bool) → NoTwo (pin_turn_by fault s a p handle page n far write).whats
+pin_two (Err answer) s a p handle page n far write = ends_two a p handle n far answer
+pin_two (Ok before) s a p handle page n far write = go (far + 1 == n)
+  where
+    go : (last : Bool) → NoTwo (Event (events.PinTry a p page write) ∷ pinned_if last a handle n)
+    go true = tt
+    go false = tt
+
+unpinned_two : (left : List ℕ) (a handle : ℕ) → NoTwo (unpinned left a handle)
+unpinned_two [] a handle = tt
+unpinned_two (f ∷ left) a handle = tt
+
+unpin_two : (held : Bool) (a handle : ℕ) (pinned : List ℕ) → NoTwo (unpin_turn_by held a handle pinned).whats
+unpin_two false a handle pinned = tt
+unpin_two true a handle pinned = unpinned_two (but_last pinned) a handle
+
+give_two : (held : Bool) (a handle to : ℕ) → NoTwo (give_turn_by held a handle to).whats
+give_two false a handle to = tt
+give_two true a handle to = tt
+
+transfer_two : (denied : Option Answer) (s : CoreState) (a handle : ℕ) (outward last : Bool) (index slot : ℕ) → NoTwo (transfer_turn_by denied s a handle outward last index slot).whats
+transfer_two (Some denied) s a handle outward last index slot = tt
+transfer_two None s a handle outward true index slot = tt
+transfer_two None s a handle outward false index slot = tt
+
+page_two : (s : CoreState) (a p c : ℕ) (done : List ℕ) (page : ℕ) (entry : Option Entry) → NoTwo (page_turn s a p c done page entry).whats
+page_two s a p c done page None = tt
+page_two s a p c done page (Some e) = tt
+
+next_two : (s : CoreState) (a p c : ℕ) (done : List ℕ) (next : Option ℕ) → NoTwo (next_turn s a p c done next).whats
+next_two s a p c done None = tt
+next_two s a p c done (Some page) = page_two s a p c done page (s.entry p page)
+
+step_two : (s : CoreState) (a p c : ℕ) (done : List ℕ) (step : ForkStep) → NoTwo (fork_step_turn s a p c done step).whats
+step_two s a p c done between = next_two s a p c done (next_page (s.right c) done)
+step_two s a p c done (counted page) = tt
+step_two s a p c done (lowered page) = tt
+step_two s a p c done (cleared page) = tt
+step_two s a p c done (copying page n) = tt
+step_two s a p c done failing = tt
+
+fork_two : (s : CoreState) (a p c : ℕ) (job : Job) → NoTwo (fork_turn s a p c job).whats
+fork_two s a p c (forking q d done step) = step_two s a p c done step
+fork_two s a p c idle = tt
+fork_two s a p c (marking q page f) = tt
+fork_two s a p c (moving q page e count) = tt
+fork_two s a p c (walking q write long sequence step) = tt
+
+pub no_two : (s : CoreState) (a p slots far : ℕ) (op : Op) → NoTwo (op_turn s a p slots far op).whats
+no_two s a p slots far (Map page n rights) = map_two (map_denial (any_mapped (s.right p) page n) (s.pages p) n) a p page n rights
+no_two s a p slots far (Unmap page n) = unmap_two (s.right p (page + far)) a p (page + far) (s.entry p (page + far)) (far + 1 == n)
+no_two s a p slots far (Protect page n rights) = protect_two (protect_denial (any_unmapped (s.right p) page n)) s a p page n rights
+no_two s a p slots far (Discard page n) = discard_two (s.right p (page + far)) a p (page + far) (s.entry p (page + far)) (far + 1 == n)
+no_two s a p slots far (Load page word) = load_two s (load_fault s a p page (s.entry p page)) a p page word
+no_two s a p slots far (Store page word value) = store_two s (store_fault s a p page (s.entry p page)) a p page word value
+no_two s a p slots far (Pin handle page n write) = pin_two (pin_fault s a p (page + far) write) s a p handle (page + far) n far write
+no_two s a p slots far (Unpin handle) = unpin_two (is_held_by (s.handle handle) a) a handle (s.pinned handle)
+no_two s a p slots far (Give handle to) = give_two (is_held_by (s.handle handle) a) a handle to
+no_two s a p slots far (Take handle) = tt
+no_two s a p slots far (Transfer handle outward index slot n) =
+    transfer_two (transfer_denial (s.handle handle) a outward slots slot ((index, n) ∷ [])) s a handle outward (far + 1 == n) (index + far) (slot + far)
+no_two s a p slots far (Fork child) = fork_two s a p child (s.job a)
+no_two s a p slots far Exit = exit_two s a p (lowest_page (s.right p))

@@ -1,0 +1,145 @@
+-- What is true before a turn of an operation.
+use Rattle.std.proofs.Common.{◌≡◌, ℕ, ◌+◌, ◌*◌, ◌^◌, ◌<◌, ◌≤◌, true, length, slice_get, Option, Some, None, IsSome, IfSome, refl, sym, ap, ◌∙◌, subst, arith}
+use Rattle.std.proofs.lemmas.Option.{slice_get_within}
+use Rattle.gup_plain.specs.Event.{page_numbers}
+use Rattle.gup_plain.specs.State.{born, failed}
+use Rattle.gup_plain.specs.declared.note.Waiting.{Waiting}
+use Rattle.gup_script.specs.declared.op.Op.{Op}
+use Rattle.gup_script.specs.declared.op.Op.TheVariants.{Pin, Take, Fork}
+use Rattle.gup_script.specs.Script.{ScriptValue}
+use Rattle.gup_follows.specs.Order.{is_given_to}
+use Rattle.gup_follows.specs.Place.{Doer, doer, process_of, birth_for}
+use Rattle.gup_frames.specs.Frames.{frames_of}
+use Rattle.gup_space.specs.Space.{space_of}
+use Rattle.gup_space.specs.Shows.{ShowsSpace}
+use Rattle.gup_handles.specs.Handles.{handles_of}
+use Rattle.gup_events.specs.Event.{bias}
+use Rattle.gup_events.specs.State.{CoreState, Job, idle, marking, moving, forking, walking, between, counted as counted_page, lowered, cleared, copying, failing}
+use Rattle.gup_turns.specs.Turn.{waits_for_locks, locks_needed, waits_born, waiting_for, both_if}
+use Rattle.gup_turns.specs.Run.{RunState, op_in}
+use Rattle.gup_turns.specs.Reached.{IsStanding, IsNoFork, StandsFork}
+use Rattle.gup_turns.specs.ScriptLemmas.{op_is_op, child_declared, thread_birth, has_ops_declared}
+use Rattle.gup_ops.specs.Tidy.{needs_table}
+use Rattle.gup_core.specs.declared.seats.Seat.{Seat}
+use Rattle.gup_core.specs.Doers.{HasProcess, IsProcessOf}
+use Rattle.gup_core.specs.declared.parts.Parts.{Parts}
+use Rattle.gup_core.specs.Goes.{StandsAt, IsForkReady, IsReady, KeepsSlots}
+use Rattle.gup_core.specs.Machine.{MachineValue, Shows, AreParts, IsMachine}
+use Rattle.gup_core.specs.Rest.{IsAtRest, op_of_seat}
+use Rattle.gup_core.proofs.Resting.{Stand, standing, op_there, stands_at}
+use Rattle.gup_core.proofs.Scripts.{thread_there, process_there, own_process, found_there, has_process, few_answered}
+use Rattle.gup_core.proofs.Singles.{table_process}
+use Rattle.gup_core.proofs.Taking.{IsWaiting, unfailed_for}
+use Rattle.gup_core.proofs.Turning.{there}
+use Rattle.gup_core.proofs.Waiting.{single_needs, born_and_free, locks_free, given_free, keeps_given, table_free}
+
+-- a process that is born is none that a fork brings
+unborn_child : (s : CoreState) (a p child : ℕ) (job : Job) → StandsFork s a p child job → s.birth child ≡ born → ⊥
+unborn_child s a p child idle h is = absurd (cc (sym h ∙ is))
+unborn_child s a p child (forking q c done between) h is = absurd (cc (sym h.birth ∙ is))
+unborn_child s a p child (forking q c done (counted_page page)) h is = absurd (cc (sym h.0.birth ∙ is))
+unborn_child s a p child (forking q c done (lowered page)) h is = absurd h
+unborn_child s a p child (forking q c done (cleared page)) h is = absurd h
+unborn_child s a p child (forking q c done (copying page n)) h is = absurd h
+unborn_child s a p child (forking q c done failing) h is = absurd h
+unborn_child s a p child (marking q page f) h is = absurd h
+unborn_child s a p child (moving q page e count) h is = absurd h
+unborn_child s a p child (walking q write long sequence step) h is = absurd h
+
+few_references : (n : ℕ) → n ≤ 16 * page_numbers + bias * 17680 → n < 2 ^ 40
+unfolding page_numbers
+few_references n within = omega arith
+
+fork_ready : (m : MachineValue) (r : RunState) (a p child : ℕ) (seat : Seat) → IsStanding m.script r → Shows m r → IsAtRest m → process_of m.script a ≡ p → slice_get m.seats a ≡ Some seat → op_of_seat m a seat ≡ Some (Fork child) → r.core.birth (process_of m.script a) ≡ born
+    → IsForkReady (frames_of m.parts.frames) m.parts.spaces.items m.parts.births.items p child seat.fork
+fork_ready m r a p child seat stands h rest own here present is_born =
+    let declared : child < length m.script.processes = child_declared m.script rest.valid a seat.answered child present in
+    let at : StandsFork r.core a (process_of m.script a) child (r.core.job a) = stands.forks a child (op_there m r a seat (Some (Fork child)) h here present) in
+    record {
+      apart = λ same. unborn_child r.core a (process_of m.script a) child (r.core.job a) at (ap r.core.birth (sym (own ∙ same)) ∙ is_born);
+      there = omega (arith, declared, rest.parts.spaces);
+      declared = omega (arith, declared, rest.parts.births);
+      few_forks = λ q space there. let forks = rest.few_forks q space there in omega arith;
+      unpinned = rest.unpinned a seat.answered child present;
+      stands = λ parent kid parent_is kid_is. rest.forks a child seat parent kid here present (ap (λ k. slice_get m.parts.spaces.items k) own ∙ parent_is) kid_is;
+    }
+
+pub is_ready : (m : MachineValue) (a : ℕ) (asked proc : Option ℕ) (seat : Seat) (op : Op) → Stand → IsMachine m → IsAtRest m → IsProcessOf (doer m.script a) asked → IsProcessOf (doer m.script a) proc → slice_get m.seats a ≡ Some seat → op_of_seat m a seat ≡ Some op → IsWaiting m a asked seat op None
+    → (p : ℕ) → IfSome proc (λ q. q ≡ p) → IsReady m.parts a p op seat.far seat.fork
+is_ready m a asked proc seat op stand machine rest of_asked of_a here present waiting p of_p =
+    let who : Doer = doer m.script a in
+    let own : ℕ = process_of m.script a in
+    let r : RunState = machine.shown.0 in
+    let h : Shows m r = machine.shown.1 in
+    let stands : IsStanding m.script r = standing m r stand rest.valid h in
+    let now : op_in m.script r a ≡ Some op = op_there m r a seat (Some op) h here present in
+    let at : StandsAt r.core a own (r.places a).far op = stands_at m.script r a op stands now in
+    let free : waiting_for r.core who op ≡ None = sym (waiting r.core who (r.places a).far h.parts refl of_asked (h.forks a seat here) at) in
+    let locks : Option Waiting = waits_for_locks (locks_needed r.core a own op) a (r.core.structure own) (r.core.table own) in
+    let born_free : (birth_for r.core.birth who ≡ born) × (waits_born r.core a own op ≡ None) =
+    born_and_free (birth_for r.core.birth who) own (waits_born r.core a own op) (unfailed_for who.thread (r.core.birth own) (stands.unfailed own)) free in
+    let thread : HasProcess op → who.thread ≡ true = thread_there m.script rest.valid a seat.answered op present in
+    let same : HasProcess op → own ≡ p = λ has. own_process who proc p of_a (thread has) of_p in
+    let actor : a < length m.script.actors = has_ops_declared m.script a seat.answered op present in
+    record {
+      there = λ has. let within = process_there m.script rest.valid a (thread has) in let is = same has in omega (arith, within, is, rest.parts.spaces);
+      tidy = rest.tidy;
+      few_counts = λ f. few_references ((frames_of m.parts.frames).count f) (rest.few_counts f);
+      table = λ space there single needed.
+          let found : slice_get m.parts.spaces.items own ≡ Some space = ap (λ k. slice_get m.parts.spaces.items k) (same (table_process (space_of space) op needed)) ∙ there in
+          let shown : ShowsSpace own (space_of space) r.core = h.parts.spaces own space found in
+          let kept : waits_for_locks (both_if (needs_table (space_of space) op)) a (space_of space).structure (space_of space).table ≡ locks =
+          ap (λ o. waits_for_locks (both_if (needs_table (space_of space) op)) a o (space_of space).table) (sym shown.structure)
+          ∙ ap (λ o. waits_for_locks (both_if (needs_table (space_of space) op)) a (r.core.structure own) o) (sym shown.table)
+          ∙ ap (λ l. waits_for_locks l a (r.core.structure own) (r.core.table own)) (single_needs (space_of space) r.core a own op shown single) in
+          let none : IsNoFork (op_of_seat m a seat) = subst IsNoFork (sym present) single in
+          table_free (needs_table (space_of space) op) a (space_of space).structure (space_of space).table (rest.unlocked own a space seat found here none).1 (kept ∙ locks_free r.core a own op born_free.1) needed;
+      in_range = op_is_op m.script rest.valid a seat.answered op present;
+      far = rest.far a seat op here present;
+      fork = λ child is.
+          let forks : op_of_seat m a seat ≡ Some (Fork child) = present ∙ ap (λ (x : Op). Some x) is in
+          let has : HasProcess op = subst HasProcess (sym is) tt in
+          fork_ready m r a p child seat stands h rest (same has) here forks (sym (thread_birth who r.core.birth (thread has)) ∙ born_free.0);
+      weighed = rest.weighed;
+      yet = λ handle page n write is. rest.yet a handle page n write seat here (present ∙ ap (λ (x : Op). Some x) is);
+      taken = λ pages handle page n write there is. rest.taken a handle page n write seat pages here there (present ∙ ap (λ (x : Op). Some x) is);
+      given = λ handle is. keeps_given (handles_of m.parts.handles handle) (r.core.handle handle) (r.core.pinned handle) a (h.parts.pins handle) (given_free r.core a own handle op is born_free.1);
+      actor_taken = omega (arith, actor, rest.parts.taken);
+      actor_store = omega (arith, actor, rest.parts.stores);
+    }
+
+-- the parts are as many behind a turn, and stores have as many slots
+pub still_parts : (script : ScriptValue) (old new : Parts) → AreParts script old → length new.spaces.items ≡ length old.spaces.items → length new.births.items ≡ length old.births.items
+    → length new.taken.items ≡ length old.taken.items → length new.stores.items ≡ length old.stores.items → KeepsSlots old.stores.items new.stores.items → AreParts script new
+still_parts script old new are spaces births taken stores slots =
+    record {
+      spaces = spaces ∙ are.spaces;
+      births = births ∙ are.births;
+      taken = taken ∙ are.taken;
+      stores = stores ∙ are.stores;
+      slots = λ a store here.
+          let was = there old.stores.items a (omega (arith, slice_get_within new.stores.items a store here, stores)) in
+          slots a was.0 store was.1 here ∙ are.slots a was.0 was.1;
+    }
+
+-- the children that forks bring have spaces
+pub child_within : (m : MachineValue) (a child : ℕ) (seat : Seat) (op : Op) → IsAtRest m → op_of_seat m a seat ≡ Some op → op ≡ Fork child → child < length m.parts.spaces.items
+child_within m a child seat op rest present same =
+    let declared : child < length m.script.processes = child_declared m.script rest.valid a seat.answered child (present ∙ ap (λ (x : Op). Some x) same) in
+    omega (arith, declared, rest.parts.spaces)
+
+-- an operation of a process is a thread's, and that process has a space and a birth
+pub process_found_so : (m : MachineValue) (a : ℕ) (proc : Option ℕ) (seat : Seat) (op : Op) → IsAtRest m → IsProcessOf (doer m.script a) proc → op_of_seat m a seat ≡ Some op → HasProcess op → IsSome proc
+process_found_so m a proc seat op rest of_a present has = has_process (doer m.script a) proc of_a (thread_there m.script rest.valid a seat.answered op present has)
+
+pub process_within : (m : MachineValue) (a : ℕ) (proc : Option ℕ) → IsAtRest m → IsProcessOf (doer m.script a) proc → IfSome proc (λ p. p < length m.parts.spaces.items) × IfSome proc (λ p. p < length m.parts.births.items)
+process_within m a proc rest of_a = (
+  found_there m.script rest.valid a (length m.parts.spaces.items) proc rest.parts.spaces of_a,
+  found_there m.script rest.valid a (length m.parts.births.items) proc rest.parts.births of_a,
+)
+
+-- the number of an operation fits
+pub few : (m : MachineValue) (a : ℕ) (seat : Seat) → IsAtRest m → slice_get m.seats a ≡ Some seat → seat.answered + 1 < 2 ^ 32
+few m a seat rest here =
+    let answered : seat.answered ≤ 16384 = few_answered m.script rest.valid a seat.answered (rest.answered a seat here) in
+    omega arith

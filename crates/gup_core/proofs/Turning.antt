@@ -1,0 +1,316 @@
+-- A turn of an operation among all parts: of one process, of a pin, of an operation on a pin, and of a fork.
+use Rattle.std.proofs.Common.{◌≡◌, ℕ, ◌+◌, ◌<◌, ◌==◌, Bool, true, false, List, [], ◌∷◌, length, slice_get, Option, Some, None, is_some, if◌then◌else◌, refl, sym, ap, ◌∙◌, subst, inl, inr, eqb-true, arith}
+use Rattle.std.proofs.lemmas.Bool.Decides.{nat_tests}
+use Rattle.std.proofs.lemmas.Option.{slice_get_cases}
+use Rattle.arrayvec.specs.ArrayVec.{ArrayVec}
+use Rattle.gup_plain.specs.State.{Birth as CoreBirth, growing, born}
+use Rattle.gup_plain.specs.declared.answer.Answer.{Answer}
+use Rattle.gup_plain.specs.declared.event.PlainEvent.{PlainEvent}
+use Rattle.gup_plain.specs.declared.note.What.{What}
+use Rattle.gup_script.specs.declared.op.Op.{Op}
+use Rattle.gup_script.specs.declared.op.Op.TheVariants.{Pin, Fork}
+use Rattle.gup_frames.specs.Frames.{FrameLists, frames_of}
+use Rattle.gup_space.specs.Space.{SpaceParts, space_of}
+use Rattle.gup_space.specs.After.{AreOf}
+use Rattle.gup_space.specs.Shows.{ShowsFrames, ShowsSpace, change_of}
+use Rattle.gup_space.specs.ShowsLemmas.{leave_other}
+use Rattle.gup_fork.specs.Forks.{fork_change_of}
+use Rattle.gup_fork.specs.ForkAfter.{AreOfFork}
+use Rattle.gup_fork.specs.ForkLemmas.{leave_others, jobs_stay, births_stay as fork_births_stay}
+use Rattle.gup_handles.specs.Handles.{HandlesValue, handles_of}
+use Rattle.gup_events.specs.State.{CoreState, Taken as TakenPage}
+use Rattle.gup_events.specs.Event.{CoreEvent, frames_of as frames_taken}
+use Rattle.gup_events.specs.Invariant.{run}
+use Rattle.gup_turns.specs.Turn.{Taken, op_turn, fork_turn, pin_turn}
+use Rattle.gup_turns.specs.Reached.{IsNoFork, fork_place, unbegun}
+use Rattle.gup_ops.specs.declared.forks.ForkPlace.{ForkPlace}
+use Rattle.gup_ops.specs.declared.said.Said.{Said}
+use Rattle.gup_ops.specs.Alone.{IsAlone}
+use Rattle.gup_ops.specs.Far.{far_in}
+use Rattle.gup_ops.specs.Forked.{place_of, is_answered, LeadsFork, IsForkTurn}
+use Rattle.gup_ops.specs.Pins.{IsPin, ShowsPins, LeadsPin, IsPinTurn}
+use Rattle.gup_held.specs.Held.{ShowsStore, LeadsHandle}
+use Rattle.gup_ops.specs.Said.{whats_by, whats_of, Leads, IsTurnOf}
+use Rattle.gup_core.specs.declared.births.Birth.{Birth}
+use Rattle.gup_core.specs.declared.births.Birth.TheVariants.{Growing, Born}
+use Rattle.gup_core.specs.declared.parts.Parts.{Parts}
+use Rattle.gup_core.specs.Goes.{StandsAt, LeadsAll, IsTurnOfAll, pin_change, handle_change}
+use Rattle.gup_core.specs.Machine.{ShowsSpaces, IsBirth, ShowsBirths, ShowsTaken, ShowsStores, ShowsParts}
+use Rattle.gup_core.proofs.Owning.{AreOwn, are_of, turn_is_own, births_stay, forks_stay, fork_is_own, Pins, pins_of, own_leave_pins, fork_leave_pins}
+use Rattle.gup_core.proofs.Pinning.{ArePinning, pin_is_pinning, pinnings_of, pinnings_births, pinnings_stores, pinnings_taken, pinnings_forks, AreHandling, Rest, rest_of, handling_leave, handlings_of, handlings_stores}
+
+-- ---- one element of a list
+
+pub differ : (b a : ℕ) → (b == a) ≡ false → b ≡ a → ⊥
+differ b a other is = grind (arith, nat_tests)
+
+-- what holds of the new element and of the others holds of all
+pub replaced : {X : Type 0} (P : ℕ → X → Type 0) (old new : List X) (a : ℕ) (x : X) → slice_get new a ≡ Some x → ((b : ℕ) → (b ≡ a → ⊥) → slice_get new b ≡ slice_get old b)
+    → P a x → ((b : ℕ) (y : X) → (b ≡ a → ⊥) → slice_get old b ≡ Some y → P b y) → (b : ℕ) (y : X) → slice_get new b ≡ Some y → P b y
+replaced {X} P old new a x here others at still b y found = go (b == a) refl
+  where
+    at_own : b ≡ a → P b y
+    at_own e =
+        let is : Some x ≡ Some y = sym here ∙ ap (λ k. slice_get new k) (sym e) ∙ found in
+        let same : x ≡ y = cc in
+        subst (λ (k : ℕ). P k y) (sym e) (subst (λ (z : X). P a z) same at)
+
+    go : (c : Bool) → (b == a) ≡ c → P b y
+    go true e = at_own (eqb-true b a e)
+    go false e = still b y (differ b a e) (sym (others b (differ b a e)) ∙ found)
+
+-- a list has an element at each of its places
+pub there : {X : Type 0} (xs : List X) (q : ℕ) → q < length xs → (x : X) × (slice_get xs q ≡ Some x)
+there xs q within =
+    elim (slice_get_cases xs q).1 [
+      | inl found ↦ (found.0, found.2)
+      | inr past ↦ absurd (omega (arith, past.0))
+    ]
+
+-- ---- parts that stay
+
+births_shown : (old new : Parts) (s t : CoreState) → new.births ≡ old.births → t.birth ≡ s.birth → ShowsBirths old.births.items s → ShowsBirths new.births.items t
+births_shown old new s t same stay h q birth here =
+    subst (λ (f : ℕ → CoreBirth). IsBirth birth (f q)) (sym stay) (h q birth (ap (λ bs. slice_get bs.items q) (sym same) ∙ here))
+
+pins_shown : (old new : Parts) (s t : CoreState) → new.handles ≡ old.handles → pins_of t ≡ pins_of s → ShowsPins (handles_of old.handles) s → ShowsPins (handles_of new.handles) t
+pins_shown old new s t same stay h =
+    subst (λ hs. ShowsPins (handles_of hs) t) (sym same)
+    (subst (λ (k : Pins). (n : ℕ) → IsPin (handles_of old.handles n) (k.0 n) (k.1 n)) (sym stay) h)
+
+taken_shown : (old new : Parts) (s t : CoreState) → new.taken ≡ old.taken → t.taken ≡ s.taken → ShowsTaken old.taken.items s → ShowsTaken new.taken.items t
+taken_shown old new s t same stay h b pages here =
+    subst (λ (f : ℕ → List TakenPage). frames_taken (f b) ≡ pages.items) (sym stay) (h b pages (ap (λ ts. slice_get ts.items b) (sym same) ∙ here))
+
+store_shown : (b : ℕ) (store : Option (List ℕ)) (s t : CoreState) → ((slot : ℕ) → t.store b slot ≡ s.store b slot) → ShowsStore b store s → ShowsStore b store t
+store_shown b None s t same h = tt
+store_shown b (Some words) s t same h = λ slot within. same slot ∙ h slot within
+
+pub stores_shown : (old new : Parts) (s t : CoreState) → new.stores ≡ old.stores → t.store ≡ s.store → ShowsStores old.stores.items s → ShowsStores new.stores.items t
+stores_shown old new s t same stay h b store here =
+    store_shown b store s t (λ slot. ap (λ f. f b slot) stay) (h b store (ap (λ ws. slice_get ws.items b) (sym same) ∙ here))
+
+-- what events of one process leave of each process
+spaces_behind : (s : CoreState) (p : ℕ) (es : List CoreEvent) (before behind : List SpaceParts) (new : SpaceParts) → AreOf p es
+    → ShowsSpaces before s → ShowsSpace p (space_of new) (run s es) → slice_get behind p ≡ Some new
+    → ((q : ℕ) → (q ≡ p → ⊥) → slice_get behind q ≡ slice_get before q)
+    → ShowsSpaces behind (run s es)
+spaces_behind s p es before behind new own old shown now others =
+    replaced (λ q space. ShowsSpace q (space_of space) (run s es)) before behind p new now others shown
+    (λ q space apart found. leave_other p q (space_of space) s es (λ is. apart (sym is)) own (old q space found))
+
+-- ---- a turn of one process
+
+pub alone : (old new : Parts) (a p slots far : ℕ) (op : Op) (fork : ForkPlace) (whats : List What)
+    → IsAlone op → IsNoFork (Some op) → p < length old.spaces.items → length new.spaces.items ≡ length old.spaces.items
+    → new.births ≡ old.births → new.handles ≡ old.handles → new.taken ≡ old.taken → new.stores ≡ old.stores
+    → ((q : ℕ) → (q ≡ p → ⊥) → slice_get new.spaces.items q ≡ slice_get old.spaces.items q)
+    → ((was now : SpaceParts) (k : ℕ) → slice_get old.spaces.items p ≡ Some was → slice_get new.spaces.items p ≡ Some now → far ≡ far_in (Some op) k → IsTurnOf (change_of old.frames new.frames was now) p (λ s. op_turn s a p slots k op) whats)
+    → IsTurnOfAll old new a p slots far op fork whats fork
+alone old new a p slots far op fork whats by_itself single within many births handles taken stores others turn s k shown place stands far_is =
+    let was = there old.spaces.items p within in
+    let now = there new.spaces.items p (omega (arith, within, many)) in
+    let es : List CoreEvent = (op_turn s a p slots k op).events in
+    let own : AreOwn a p es = turn_is_own s a p slots k op by_itself in
+    let none : fork_place (s.job a) ≡ unbegun = ap fork_place (stands.idle_job single) in
+    let stay : pins_of (run s es) ≡ pins_of s = own_leave_pins a p s es own in
+    let led : Leads (change_of old.frames new.frames was.0 now.0) p s (op_turn s a p slots k op) whats = turn was.0 now.0 k was.1 now.1 far_is s shown.frames (shown.spaces p was.0 was.1) in
+    let parts : ShowsParts new (run s es) =
+    record {
+      frames = led.frames;
+      spaces = spaces_behind s p es old.spaces.items new.spaces.items now.0 (are_of a p es own) shown.spaces led.space now.1 others;
+      births = births_shown old new s (run s es) births (births_stay a p s es own) shown.births;
+      pins = pins_shown old new s (run s es) handles stay shown.pins;
+      taken = taken_shown old new s (run s es) taken (ap (λ (k : Pins). k.2) stay) shown.taken;
+      stores = stores_shown old new s (run s es) stores (ap (λ (k : Pins). k.3) stay) shown.stores;
+    } in
+    record {
+      says = led.says;
+      parts = parts;
+      fork = place ∙ sym (forks_stay a p a s es own none);
+      others = λ b apart. forks_stay a p b s es own none;
+    }
+
+-- ---- a turn of a pin
+
+pub pinned : (old new : Parts) (a p slots far handle page n : ℕ) (write : Bool) (fork : ForkPlace) (whats : List What)
+    → p < length old.spaces.items → length new.spaces.items ≡ length old.spaces.items
+    → a < length old.taken.items → length new.taken.items ≡ length old.taken.items
+    → new.births ≡ old.births → new.stores ≡ old.stores
+    → ((q : ℕ) → (q ≡ p → ⊥) → slice_get new.spaces.items q ≡ slice_get old.spaces.items q)
+    → ((b : ℕ) → (b ≡ a → ⊥) → slice_get new.taken.items b ≡ slice_get old.taken.items b)
+    → ((x y : SpaceParts) (was now : ArrayVec ℕ) → slice_get old.spaces.items p ≡ Some x → slice_get new.spaces.items p ≡ Some y → slice_get old.taken.items a ≡ Some was → slice_get new.taken.items a ≡ Some now
+    → IsPinTurn (pin_change old new x y was now) a p handle page n write far whats)
+    → IsTurnOfAll old new a p slots far (Pin handle page n write) fork whats fork
+pinned old new a p slots far handle page n write fork whats within many taker takers births stores others untaken turn s k shown place stands far_is =
+    let x = there old.spaces.items p within in
+    let y = there new.spaces.items p (omega (arith, within, many)) in
+    let was = there old.taken.items a taker in
+    let now = there new.taken.items a (omega (arith, taker, takers)) in
+    let es : List CoreEvent = (pin_turn s a p handle page n k write).events in
+    let own : ArePinning a p es = pin_is_pinning s a p handle page n k write in
+    let none : fork_place (s.job a) ≡ unbegun = ap fork_place (stands.idle_job tt) in
+    let turn_at : IsPinTurn (pin_change old new x.0 y.0 was.0 now.0) a p handle page n write k whats =
+    subst (λ (q : ℕ). IsPinTurn (pin_change old new x.0 y.0 was.0 now.0) a p handle page n write q whats) far_is (turn x.0 y.0 was.0 now.0 x.1 y.1 was.1 now.1) in
+    let led : LeadsPin (pin_change old new x.0 y.0 was.0 now.0) a p s (pin_turn s a p handle page n k write) whats =
+    turn_at s shown.frames (shown.spaces p x.0 x.1) shown.pins (shown.taken a was.0 was.1) (stands.pin handle page n write refl) (stands.pinned handle page n write refl) in
+    let parts : ShowsParts new (run s es) =
+    record {
+      frames = led.frames;
+      spaces = spaces_behind s p es old.spaces.items new.spaces.items y.0 (pinnings_of a p es own) shown.spaces led.space y.1 others;
+      births = births_shown old new s (run s es) births (pinnings_births a p s es own) shown.births;
+      pins = led.pins;
+      taken =
+          replaced (λ b (pages : ArrayVec ℕ). frames_taken ((run s es).taken b) ≡ pages.items) old.taken.items new.taken.items a now.0 now.1 untaken led.taken
+          (λ b pages apart found. ap frames_taken (pinnings_taken a p b s es apart own) ∙ shown.taken b pages found);
+      stores = stores_shown old new s (run s es) stores (pinnings_stores a p s es own) shown.stores;
+    } in
+    record {
+      says = led.says;
+      parts = parts;
+      fork = place ∙ sym (pinnings_forks a p a s es own none);
+      others = λ b apart. pinnings_forks a p b s es own none;
+    }
+
+-- ---- a turn of an operation on a pin
+
+-- what such a turn leads to
+pub record LeadsPart (new : Parts) (s : CoreState) (turn : Taken) (whats : List What) : Type 0 where
+  pub says : turn.whats ≡ whats
+  pub frames : ShowsFrames (frames_of new.frames) (run s turn.events)
+  pub pins : ShowsPins (handles_of new.handles) (run s turn.events)
+  pub stores : ShowsStores new.stores.items (run s turn.events)
+
+pub handled : (old new : Parts) (a p slots far : ℕ) (op : Op) (fork : ForkPlace) (whats : List What)
+    → IsNoFork (Some op) → new.spaces ≡ old.spaces → new.births ≡ old.births → new.taken ≡ old.taken
+    → ((s : CoreState) (k : ℕ) → AreHandling a (op_turn s a p slots k op).events)
+    → ((s : CoreState) (k : ℕ) → ShowsParts old s → StandsAt s a p k op → far ≡ far_in (Some op) k → LeadsPart new s (op_turn s a p slots k op) whats)
+    → IsTurnOfAll old new a p slots far op fork whats fork
+handled old new a p slots far op fork whats single spaces births taken handling turn s k shown place stands far_is =
+    let es : List CoreEvent = (op_turn s a p slots k op).events in
+    let own : AreHandling a es = handling s k in
+    let stay : rest_of (run s es) ≡ rest_of s = handling_leave a s es own in
+    let job : (run s es).job ≡ s.job = ap (λ (k : Rest). k.2) stay in
+    let led : LeadsPart new s (op_turn s a p slots k op) whats = turn s k shown stands far_is in
+    let parts : ShowsParts new (run s es) =
+    record {
+      frames = led.frames;
+      spaces = λ q space found.
+          leave_other (q + 1) q (space_of space) s es (λ is. absurd (omega (arith, is))) (handlings_of a (q + 1) es own)
+          (shown.spaces q space (ap (λ xs. slice_get xs.items q) (sym spaces) ∙ found));
+      births = births_shown old new s (run s es) births (ap (λ (k : Rest). k.0) stay) shown.births;
+      pins = led.pins;
+      taken = taken_shown old new s (run s es) taken (ap (λ (k : Rest). k.1) stay) shown.taken;
+      stores = led.stores;
+    } in
+    record {
+      says = led.says;
+      parts = parts;
+      fork = place ∙ ap (λ j. fork_place (j a)) (sym job);
+      others = λ b apart. ap (λ j. fork_place (j b)) job;
+    }
+
+-- an operation that leaves stores alone
+pub leads_part : (old new : Parts) (a : ℕ) (s : CoreState) (turn : Taken) (whats : List What)
+    → new.stores ≡ old.stores → (run s turn.events).store ≡ s.store → ShowsParts old s → LeadsHandle (handle_change old new None None) a s turn whats → LeadsPart new s turn whats
+leads_part old new a s turn whats same stay shown led =
+    record {
+      says = led.says;
+      frames = led.frames;
+      pins = led.pins;
+      stores = stores_shown old new s (run s turn.events) same stay shown.stores;
+    }
+
+-- one that changes the actor's own
+pub leads_store : (old new : Parts) (a : ℕ) (s : CoreState) (turn : Taken) (whats : List What) (was now : Option (List ℕ)) → slice_get new.stores.items a ≡ Some now
+    → ((b : ℕ) → (b ≡ a → ⊥) → slice_get new.stores.items b ≡ slice_get old.stores.items b)
+    → AreHandling a turn.events → ShowsParts old s → LeadsHandle (handle_change old new was now) a s turn whats → LeadsPart new s turn whats
+leads_store old new a s turn whats was now here others own shown led =
+    record {
+      says = led.says;
+      frames = led.frames;
+      pins = led.pins;
+      stores =
+          replaced (λ b store. ShowsStore b store (run s turn.events)) old.stores.items new.stores.items a now here others led.store
+          (λ b store apart found. store_shown b store s (run s turn.events) (λ slot. handlings_stores a b slot s turn.events apart own) (shown.stores b store found));
+    }
+
+-- ---- a turn of a fork
+
+-- what the turn leaves of each process but the two
+others_behind : (s : CoreState) (a p c : ℕ) (es : List CoreEvent) (before behind : List SpaceParts) (new_parent new_child : SpaceParts) → AreOfFork a p c es
+    → ShowsSpaces before s → ShowsSpace p (space_of new_parent) (run s es) → slice_get behind p ≡ Some new_parent
+    → ShowsSpace c (space_of new_child) (run s es) → slice_get behind c ≡ Some new_child
+    → ((q : ℕ) → (q ≡ p → ⊥) → (q ≡ c → ⊥) → slice_get behind q ≡ slice_get before q)
+    → ShowsSpaces behind (run s es)
+others_behind s a p c es before behind new_parent new_child own old parent parent_now child child_now others q space found = go (q == p) refl (q == c) refl
+  where
+    at_one : (k : ℕ) (new : SpaceParts) → q ≡ k → ShowsSpace k (space_of new) (run s es) → slice_get behind k ≡ Some new → ShowsSpace q (space_of space) (run s es)
+    at_one k new e shown now =
+        let is : Some new ≡ Some space = sym now ∙ ap (λ j. slice_get behind j) (sym e) ∙ found in
+        let same : new ≡ space = cc in
+        subst (λ (j : ℕ). ShowsSpace j (space_of space) (run s es)) (sym e) (subst (λ (x : SpaceParts). ShowsSpace k (space_of x) (run s es)) same shown)
+
+    go : (b : Bool) → (q == p) ≡ b → (d : Bool) → (q == c) ≡ d → ShowsSpace q (space_of space) (run s es)
+    go true e d f = at_one p new_parent (eqb-true q p e) parent parent_now
+    go false e true f = at_one c new_child (eqb-true q c f) child child_now
+    go false e false f =
+        leave_others a p c q (space_of space) s es (λ is. differ q p e (sym is)) (λ is. differ q c f (sym is)) own (old q space (sym (others q (differ q p e) (differ q c f)) ∙ found))
+
+-- the child's birth behind it
+birth_now : (p : ℕ) (event next : Option PlainEvent) (answer : Option Answer) (b : CoreBirth) → b ≡ (if is_answered (whats_by event next answer) then born else growing p) → IsBirth (if is_some answer then Born else Growing) b
+birth_now p None None None b is = (p, is)
+birth_now p None (Some next) None b is = (p, is)
+birth_now p (Some event) None None b is = (p, is)
+birth_now p (Some event) (Some next) None b is = (p, is)
+birth_now p None None (Some answer) b is = is
+birth_now p None (Some next) (Some answer) b is = is
+birth_now p (Some event) None (Some answer) b is = is
+birth_now p (Some event) (Some next) (Some answer) b is = is
+
+births_behind : (s : CoreState) (a p c : ℕ) (es : List CoreEvent) (before behind : List Birth) (new : Birth) → AreOfFork a p c es → ShowsBirths before s
+    → slice_get behind c ≡ Some new → ((q : ℕ) → (q ≡ c → ⊥) → slice_get behind q ≡ slice_get before q) → IsBirth new ((run s es).birth c) → ShowsBirths behind (run s es)
+births_behind s a p c es before behind new own old now others shown =
+    replaced (λ q birth. IsBirth birth ((run s es).birth q)) before behind c new now others shown
+    (λ q birth apart found. subst (λ (x : CoreBirth). IsBirth birth x) (sym (fork_births_stay a p c q s es (λ is. apart (sym is)) own)) (old q birth found))
+
+-- so it is from each two processes that stand in these places
+abbrev pub IsForkTurns : (old_frames new_frames : FrameLists) → (before behind : List SpaceParts) → (a p c : ℕ) → (place next : ForkPlace) → List What → Type 0
+IsForkTurns old_frames new_frames before behind a p c place next whats =
+    (old_parent new_parent old_child new_child : SpaceParts)
+    → slice_get before p ≡ Some old_parent → slice_get behind p ≡ Some new_parent → slice_get before c ≡ Some old_child → slice_get behind c ≡ Some new_child
+    → IsForkTurn (fork_change_of old_frames new_frames old_parent new_parent old_child new_child) a p c (place_of place) (place_of next) whats
+
+pub forked : (old new : Parts) (a p c slots far : ℕ) (place next : ForkPlace) (said : Said)
+    → (p ≡ c → ⊥) → p < length old.spaces.items → c < length old.spaces.items → length new.spaces.items ≡ length old.spaces.items
+    → new.handles ≡ old.handles → new.taken ≡ old.taken → new.stores ≡ old.stores
+    → ((q : ℕ) → (q ≡ p → ⊥) → (q ≡ c → ⊥) → slice_get new.spaces.items q ≡ slice_get old.spaces.items q)
+    → IsForkTurns old.frames new.frames old.spaces.items new.spaces.items a p c place next (whats_of said)
+    → slice_get new.births.items c ≡ Some (if is_some said.answer then Born else Growing) → ((q : ℕ) → (q ≡ c → ⊥) → slice_get new.births.items q ≡ slice_get old.births.items q)
+    → IsTurnOfAll old new a p slots far (Fork c) place (whats_of said) next
+forked old new a p c slots far place next said apart p_in c_in many handles taken stores others turn born_now unborn_others s k shown at stands far_is =
+    let old_parent = there old.spaces.items p p_in in
+    let old_child = there old.spaces.items c c_in in
+    let new_parent = there new.spaces.items p (omega (arith, p_in, many)) in
+    let new_child = there new.spaces.items c (omega (arith, c_in, many)) in
+    let t : Taken = fork_turn s a p c (s.job a) in
+    let own : AreOfFork a p c t.events = fork_is_own s a p c (s.job a) in
+    let stay : pins_of (run s t.events) ≡ pins_of s = fork_leave_pins a p c s t.events own in
+    let led : LeadsFork (fork_change_of old.frames new.frames old_parent.0 new_parent.0 old_child.0 new_child.0) a p c s t (place_of next) (whats_of said) =
+    turn old_parent.0 new_parent.0 old_child.0 new_child.0 old_parent.1 new_parent.1 old_child.1 new_child.1 s apart shown.frames (shown.spaces p old_parent.0 old_parent.1) (shown.spaces c old_child.0 old_child.1) (stands.fork c refl) (sym at) in
+    let parts : ShowsParts new (run s t.events) =
+    record {
+      frames = led.frames;
+      spaces = others_behind s a p c t.events old.spaces.items new.spaces.items new_parent.0 new_child.0 own shown.spaces led.parent new_parent.1 led.child new_child.1 others;
+      births =
+          births_behind s a p c t.events old.births.items new.births.items (if is_some said.answer then Born else Growing) own shown.births born_now unborn_others (birth_now p said.event said.next said.answer ((run s t.events).birth c) led.birth);
+      pins = pins_shown old new s (run s t.events) handles stay shown.pins;
+      taken = taken_shown old new s (run s t.events) taken (ap (λ (k : Pins). k.2) stay) shown.taken;
+      stores = stores_shown old new s (run s t.events) stores (ap (λ (k : Pins). k.3) stay) shown.stores;
+    } in
+    record {
+      says = led.says;
+      parts = parts;
+      fork = sym led.place;
+      others = λ b other. ap fork_place (jobs_stay a p c b s t.events (λ is. other (sym is)) own);
+    }

@@ -1,0 +1,33 @@
+use Rattle.std.proofs.Common.{ℕ, sym, ◌∙◌}
+use Rattle.std.specs.Vec.{with_item}
+use Rattle.arrayvec.specs.ArrayVec.{ArrayVec}
+use Rattle.gup_space.specs.Space.{SpaceParts}
+use Rattle.gup_ops.specs.Pins.{IsPinTurn}
+use Rattle.gup_ops.specs.Said.{whats_of}
+use Rattle.gup_core.specs.declared.parts.Parts.{Parts}
+use Rattle.gup_core.specs.Goes.{pin_change}
+use Rattle.gup_core.proofs.Parting.{was_there, now_there, four}
+use Rattle.gup_core.proofs.takes.take_pin.Goals as goal
+
+pub returns-clause-turn : goal.returns-clause-turn
+returns-clause-turn c old new was now was_space is_space was_taken is_taken =
+    let a = c.args in
+    let spaces = a.parts.now.spaces in
+    let taken = a.parts.now.taken in
+    let behind : Parts =
+    record {
+      frames = c.pin.new.frames;
+      spaces = with_item spaces c.get.result c.pin.new.space;
+      births = a.parts.now.births;
+      handles = c.pin.new.handles;
+      taken = with_item taken c.get-2.result c.pin.new.taken;
+      stores = a.parts.now.stores;
+    } in
+    four
+    (λ (x y : SpaceParts) (before after : ArrayVec ℕ). IsPinTurn (pin_change a.parts.now behind x y before after) a.actor a.proc a.handle a.page a.n a.write a.far (whats_of c.pin.result))
+    _ _ _ _ old new was now
+    (sym (was_there spaces.items c.get.result a.proc c.index_mut.result.now c.index_mut.ensures.value c.get.ensures.value c.requires.there) ∙ was_space)
+    (sym (now_there spaces.items c.get.result a.proc c.pin.new.space c.get.ensures.value c.requires.there) ∙ is_space)
+    (sym (was_there taken.items c.get-2.result a.actor c.index_mut-2.result.now c.index_mut-2.ensures.value c.get-2.ensures.value c.requires.actor) ∙ was_taken)
+    (sym (now_there taken.items c.get-2.result a.actor c.pin.new.taken c.get-2.ensures.value c.requires.actor) ∙ is_taken)
+    c.pin.ensures

@@ -1,0 +1,212 @@
+use Rattle.std.proofs.Common.{◌≡◌, ℕ, List, Bool, true, Option, Some, refl, sym, ap, ◌∙◌, subst, arith}
+use Rattle.gup_script.specs.declared.op.Op.{Op}
+use Rattle.gup_script.specs.declared.op.Op.TheVariants.{Pin, Unpin, Give, Take, Transfer}
+use Rattle.gup_script.specs.Valid.{IsOp}
+use Rattle.gup_space.specs.Space.{space_of}
+use Rattle.gup_handles.specs.Handles.{handles_of}
+use Rattle.gup_turns.specs.Turn.{op_turn}
+use Rattle.gup_turns.specs.Reached.{IsNoFork}
+use Rattle.gup_ops.specs.Far.{HasFar}
+use Rattle.gup_events.specs.State.{CoreState}
+use Rattle.gup_held.specs.Held.{LeadsHandle, slots_in}
+use Rattle.gup_ops.specs.Said.{whats_of}
+use Rattle.gup_ops.specs.Tidy.{needs_table}
+use Rattle.gup_core.specs.Doers.{HasProcess}
+use Rattle.gup_core.specs.Machine.{ShowsParts}
+use Rattle.gup_core.specs.Goes.{StandsAt, IsTurnOfAll, handle_change}
+use Rattle.gup_core.proofs.Pinning.{unpin_is_handling, give_is_handling, take_is_handling, transfer_is_handling, unpin_leaves_stores, give_leaves_stores, take_leaves_stores}
+use Rattle.gup_core.proofs.Parting.{all_kept}
+use Rattle.gup_core.proofs.Singles.{some_is, process_is, any_process, is_alone, alone_process}
+use Rattle.gup_core.proofs.Turning.{there, alone, pinned, handled, leads_part, leads_store}
+use Rattle.gup_core.proofs.Waiting.{single}
+use Rattle.gup_core.proofs.takes.take_single.Goals as goal
+
+-- ---- a pin
+
+pub take_pin-requires-clause-there : goal.take_pin-requires-clause-there
+take_pin-requires-clause-there c =
+    let ready = (c.requires.ready c.unwrap.result (process_is c.args.proc c.unwrap.result c.unwrap.ensures)).1 in
+    ready.there (subst HasProcess (sym c.in-Pin.is) tt)
+
+pub take_pin-requires-clause-actor : goal.take_pin-requires-clause-actor
+take_pin-requires-clause-actor c = (c.requires.ready c.unwrap.result (process_is c.args.proc c.unwrap.result c.unwrap.ensures)).1.actor_taken
+
+pub take_pin-requires-clause-tidy : goal.take_pin-requires-clause-tidy
+take_pin-requires-clause-tidy c = (c.requires.ready c.unwrap.result (process_is c.args.proc c.unwrap.result c.unwrap.ensures)).1.tidy
+
+pub take_pin-requires-clause-table : goal.take_pin-requires-clause-table
+take_pin-requires-clause-table c space here =
+    let ready = (c.requires.ready c.unwrap.result (process_is c.args.proc c.unwrap.result c.unwrap.ensures)).1 in
+    ready.table space here (single c.args.op.now c.requires.single) (ap (λ (op : Op). needs_table (space_of space) op) c.in-Pin.is)
+
+pub take_pin-requires-clause-few : goal.take_pin-requires-clause-few
+take_pin-requires-clause-few c = (c.requires.ready c.unwrap.result (process_is c.args.proc c.unwrap.result c.unwrap.ensures)).1.few_counts
+
+pub take_pin-requires-clause-unmade : goal.take_pin-requires-clause-unmade
+take_pin-requires-clause-unmade c =
+    let ready = (c.requires.ready c.unwrap.result (process_is c.args.proc c.unwrap.result c.unwrap.ensures)).1 in
+    ready.yet c.in-Pin.handle c.in-Pin.page c.in-Pin.n c.in-Pin.write c.in-Pin.is
+
+pub take_pin-requires-clause-taken : goal.take_pin-requires-clause-taken
+take_pin-requires-clause-taken c pages here =
+    let ready = (c.requires.ready c.unwrap.result (process_is c.args.proc c.unwrap.result c.unwrap.ensures)).1 in
+    ready.taken pages c.in-Pin.handle c.in-Pin.page c.in-Pin.n c.in-Pin.write here c.in-Pin.is
+
+pub take_pin-requires-clause-within : goal.take_pin-requires-clause-within
+take_pin-requires-clause-within c =
+    let ready = (c.requires.ready c.unwrap.result (process_is c.args.proc c.unwrap.result c.unwrap.ensures)).1 in
+    subst (λ (op : Op). HasFar op c.args.far) c.in-Pin.is ready.far
+
+pub take_pin-requires-clause-most : goal.take_pin-requires-clause-most
+take_pin-requires-clause-most c =
+    let ready = (c.requires.ready c.unwrap.result (process_is c.args.proc c.unwrap.result c.unwrap.ensures)).1 in
+    (subst (λ (op : Op). IsOp op) c.in-Pin.is ready.in_range).1
+
+pub take_pin-requires-clause-range : goal.take_pin-requires-clause-range
+take_pin-requires-clause-range c =
+    let ready = (c.requires.ready c.unwrap.result (process_is c.args.proc c.unwrap.result c.unwrap.ensures)).1 in
+    (subst (λ (op : Op). IsOp op) c.in-Pin.is ready.in_range).2
+
+pub returns-in-Pin-clause-turn : goal.returns-in-Pin-clause-turn
+returns-in-Pin-clause-turn c p slots place of_p has =
+    let a = c.args in
+    let t = c.take_pin in
+    let pin = c.in-Pin in
+    let ready = (c.requires.ready p of_p).1 in
+    let same : c.unwrap.result ≡ p = some_is a.proc c.unwrap.result p c.unwrap.ensures of_p in
+    let within = (c.requires.ready c.unwrap.result (process_is a.proc c.unwrap.result c.unwrap.ensures)).1.there (subst HasProcess (sym pin.is) tt) in
+    let turn =
+    pinned a.parts.now t.new.parts a.actor c.unwrap.result slots a.far pin.handle pin.page pin.n pin.write place (whats_of t.result)
+    within t.ensures.spaces ready.actor_taken t.ensures.taken t.ensures.births t.ensures.stores t.ensures.other_spaces t.ensures.others_taken t.ensures.turn in
+    subst (λ (op : Op). IsTurnOfAll a.parts.now t.new.parts a.actor p slots a.far op place (whats_of t.result) place) (sym pin.is)
+    (subst (λ (q : ℕ). IsTurnOfAll a.parts.now t.new.parts a.actor q slots a.far (Pin pin.handle pin.page pin.n pin.write) place (whats_of t.result) place) same turn)
+
+-- ---- operations on a pin
+
+pub unpin-requires : goal.unpin-requires
+unpin-requires c =
+    let any = any_process c.args.proc in
+    (c.requires.ready any.0 any.1).1.weighed c.in-Unpin.handle
+
+pub returns-in-Unpin-clause-turn : goal.returns-in-Unpin-clause-turn
+returns-in-Unpin-clause-turn c p slots place of_p has =
+    let a = c.args in
+    let old = a.parts.now in
+    let new = record old { frames = c.unpin.new.frames; handles = c.unpin.new.handles } in
+    let h = c.in-Unpin.handle in
+    let turn =
+    handled old new a.actor p slots a.far (Unpin h) place (whats_of c.unpin.result) tt refl refl refl
+    (λ s k. unpin_is_handling s a.actor h)
+    (λ s k shown stands far_is. leads_part old new a.actor s (op_turn s a.actor p slots k (Unpin h)) (whats_of c.unpin.result) refl (unpin_leaves_stores s a.actor h) shown (c.unpin.ensures s shown.frames shown.pins tt)) in
+    subst (λ (op : Op). IsTurnOfAll old new a.actor p slots a.far op place (whats_of c.unpin.result) place) (sym c.in-Unpin.is) turn
+
+pub returns-in-Give-clause-turn : goal.returns-in-Give-clause-turn
+returns-in-Give-clause-turn c p slots place of_p has =
+    let a = c.args in
+    let old = a.parts.now in
+    let new = record old { handles = c.give.new.handles } in
+    let h = c.in-Give.handle in
+    let to = c.in-Give.to in
+    let turn =
+    handled old new a.actor p slots a.far (Give h to) place (whats_of c.give.result) tt refl refl refl
+    (λ s k. give_is_handling s a.actor h to)
+    (λ s k shown stands far_is. leads_part old new a.actor s (op_turn s a.actor p slots k (Give h to)) (whats_of c.give.result) refl (give_leaves_stores s a.actor h to) shown (c.give.ensures old.frames s shown.frames shown.pins tt)) in
+    subst (λ (op : Op). IsTurnOfAll old new a.actor p slots a.far op place (whats_of c.give.result) place) (sym c.in-Give.is) turn
+
+pub take_over-requires : goal.take_over-requires
+take_over-requires c =
+    let any = any_process c.args.proc in
+    (c.requires.ready any.0 any.1).1.given c.in-Take.handle c.in-Take.is
+
+pub returns-in-Take-clause-turn : goal.returns-in-Take-clause-turn
+returns-in-Take-clause-turn c p slots place of_p has =
+    let a = c.args in
+    let old = a.parts.now in
+    let new = record old { handles = c.take_over.new.handles } in
+    let h = c.in-Take.handle in
+    let turn =
+    handled old new a.actor p slots a.far (Take h) place (whats_of c.take_over.result) tt refl refl refl
+    (λ s k. take_is_handling a.actor h)
+    (λ s k shown stands far_is. leads_part old new a.actor s (op_turn s a.actor p slots k (Take h)) (whats_of c.take_over.result) refl (take_leaves_stores s a.actor h) shown (c.take_over.ensures old.frames s shown.frames shown.pins tt)) in
+    subst (λ (op : Op). IsTurnOfAll old new a.actor p slots a.far op place (whats_of c.take_over.result) place) (sym c.in-Take.is) turn
+
+-- ---- a transfer
+
+pub take_transfer-requires-clause-actor : goal.take_transfer-requires-clause-actor
+take_transfer-requires-clause-actor c =
+    let any = any_process c.args.proc in
+    (c.requires.ready any.0 any.1).1.actor_store
+
+pub take_transfer-requires-clause-weighed : goal.take_transfer-requires-clause-weighed
+take_transfer-requires-clause-weighed c =
+    let any = any_process c.args.proc in
+    (c.requires.ready any.0 any.1).1.weighed c.in-Transfer.handle
+
+pub take_transfer-requires-clause-within : goal.take_transfer-requires-clause-within
+take_transfer-requires-clause-within c =
+    let any = any_process c.args.proc in
+    subst (λ (op : Op). HasFar op c.args.far) c.in-Transfer.is (c.requires.ready any.0 any.1).1.far
+
+pub take_transfer-requires-clause-most : goal.take_transfer-requires-clause-most
+take_transfer-requires-clause-most c =
+    let any = any_process c.args.proc in
+    (subst (λ (op : Op). IsOp op) c.in-Transfer.is (c.requires.ready any.0 any.1).1.in_range).1
+
+pub returns-in-Transfer-clause-turn : goal.returns-in-Transfer-clause-turn
+returns-in-Transfer-clause-turn c p slots place of_p has =
+    let a = c.args in
+    let old = a.parts.now in
+    let t = c.take_transfer in
+    let new = t.new.parts in
+    let x = c.in-Transfer in
+    let ready = (c.requires.ready p of_p).1 in
+    let was = there old.stores.items a.actor ready.actor_store in
+    let now = there new.stores.items a.actor (omega (arith, ready.actor_store, t.ensures.stores)) in
+    let op : Op = Transfer x.handle x.outward x.index x.slot x.n in
+    let led = λ (s : CoreState) (k : ℕ) (shown : ShowsParts old s) (stands : StandsAt s a.actor p k op) (far_is : a.far ≡ k).
+    leads_store old new a.actor s (op_turn s a.actor p slots k op) (whats_of t.result) was.0 now.0 now.1 t.ensures.others
+    (transfer_is_handling s a.actor slots x.handle x.outward x.index x.slot x.n k) shown
+    (subst (λ (n : ℕ). LeadsHandle (handle_change old new was.0 now.0) a.actor s (op_turn s a.actor p n k op) (whats_of t.result)) (has was.0 was.1)
+    (subst (λ (q : ℕ). LeadsHandle (handle_change old new was.0 now.0) a.actor s (op_turn s a.actor p (slots_in was.0) q op) (whats_of t.result)) far_is
+    (t.ensures.turn was.0 now.0 was.1 now.1 s shown.frames shown.pins (shown.stores a.actor was.0 was.1) (stands.whole x.handle x.index x.slot x.n x.outward refl)))) in
+    let turn =
+    handled old new a.actor p slots a.far op place (whats_of t.result) tt t.ensures.spaces t.ensures.births t.ensures.taken
+    (λ s k. transfer_is_handling s a.actor slots x.handle x.outward x.index x.slot x.n k) led in
+    subst (λ (o : Op). IsTurnOfAll old new a.actor p slots a.far o place (whats_of t.result) place) (sym x.is) turn
+
+-- ---- an operation of one process
+
+pub take_alone-requires : goal.take_alone-requires
+take_alone-requires c =
+    let op = c.args.op.now in
+    let alone_so = is_alone op (single op c.requires.single) c.in_default.not-Pin c.in_default.not-Unpin c.in_default.not-Give c.in_default.not-Take c.in_default.not-Transfer in
+    let ready = (c.requires.ready c.unwrap-in_default.result (process_is c.args.proc c.unwrap-in_default.result c.unwrap-in_default.ensures)).1 in
+    record {
+      there = ready.there (alone_process op alone_so);
+      tidy = ready.tidy;
+      table = λ space here needed. ready.table space here (single op c.requires.single) needed;
+      op = ready.in_range;
+      far = ready.far;
+      alone = alone_so;
+    }
+
+pub returns-in_default : goal.returns-in_default
+returns-in_default c =
+    let a = c.args in
+    let op = a.op.now in
+    let old = a.parts.now in
+    let t = c.take_alone in
+    let new = record old { frames = t.new.frames; spaces = t.new.spaces } in
+    let alone_so = is_alone op (single op c.requires.single) c.in_default.not-Pin c.in_default.not-Unpin c.in_default.not-Give c.in_default.not-Take c.in_default.not-Transfer in
+    let q = c.unwrap-in_default.result in
+    let within = (c.requires.ready q (process_is a.proc q c.unwrap-in_default.ensures)).1.there (alone_process op alone_so) in
+    record {
+      spaces = t.ensures.many;
+      births = refl;
+      taken = refl;
+      stores = refl;
+      slots = all_kept (λ (was now : Option (List ℕ)). slots_in now ≡ slots_in was) old.stores.items (λ x. refl);
+      turn = λ p slots place of_p has.
+          subst (λ (k : ℕ). IsTurnOfAll old new a.actor k slots a.far op place (whats_of t.result) place) (some_is a.proc q p c.unwrap-in_default.ensures of_p)
+          (alone old new a.actor q slots a.far op place (whats_of t.result) alone_so (single op c.requires.single) within t.ensures.many refl refl refl refl t.ensures.others (λ was now k. t.ensures.turn was now slots k));
+    }
