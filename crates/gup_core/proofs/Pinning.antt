@@ -1,23 +1,20 @@
 -- The events of a turn of a pin are of frames, of its process, of its handle and of what its actor has taken; those of a
 -- turn of an operation on a pin are of frames, of the pin and of the actor's store.
-use Rattle.std.proofs.Common.{◌≡◌, ℕ, ◌+◌, ◌==◌, Bool, true, false, cond, List, [], ◌∷◌, ◌++◌, Option, Some, None, Ok, Err, zero, suc, refl, sym, ap, ◌∙◌, eqb-true, if◌then◌else◌, arith}
+use Rattle.std.proofs.Common.{◌≡◌, ℕ, ◌+◌, ◌==◌, Bool, true, false, List, [], ◌∷◌, ◌++◌, Option, Some, None, Ok, Err, zero, suc, refl, ap, ◌∙◌, if◌then◌else◌, arith}
 use Rattle.std.proofs.lemmas.Bool.Decides.{nat_tests}
 use Rattle.gup_base.specs.declared.entry.Entry.{Entry}
 use Rattle.gup_base.specs.declared.entry.Rights.{Rights}
 use Rattle.gup_plain.specs.Denial.{is_held_by, transfer_denial}
 use Rattle.gup_plain.specs.State.{Birth}
 use Rattle.gup_plain.specs.declared.answer.Answer.{Answer}
-use Rattle.gup_space.specs.Space.{SpaceValue}
-use Rattle.gup_space.specs.Shows.{ShowsSpace}
 use Rattle.gup_space.specs.After.{IsOf, AreOf, flagging, pinning, making, unpinning, giving, taking_over, moving_out, moving_in}
-use Rattle.gup_space.specs.ShowsLemmas.{leaves_other}
 use Rattle.gup_events.specs.State.{CoreState, Taken as TakenPage, Job}
-use Rattle.gup_events.specs.Event.{CoreEvent, happens, upgrade, raise_flag, pin_page, make_handle, unpin_page, give_handle, take_handle, move_out, move_in}
+use Rattle.gup_events.specs.Event.{CoreEvent, happens, raise_flag, pin_page, make_handle, unpin_page, give_handle, take_handle, move_out, move_in}
 use Rattle.gup_events.specs.Fault.{Fault, events_of, unshare_fault, unshares, marks, breaks}
 use Rattle.gup_events.specs.Invariant.{run}
-use Rattle.gup_turns.specs.Turn.{op_turn, free_frame, raises, pin_fault, entry_in, makes_if, ends_pin, pin_turn_by, pin_turn, last_of, but_last, unpin_turn_by, unpin_turn, give_turn_by, give_turn, take_turn, moves, moves_value, moves_from, transfer_turn_by, transfer_turn, frame_at}
+use Rattle.gup_turns.specs.Turn.{free_frame, raises, pin_fault, makes_if, ends_pin, pin_turn_by, pin_turn, last_of, but_last, unpin_turn_by, unpin_turn, give_turn_by, give_turn, take_turn, moves, moves_value, transfer_turn_by, transfer_turn, frame_at}
 use Rattle.gup_turns.specs.Reached.{fork_place, unbegun}
-use Rattle.gup_core.proofs.Owning.{IsOwn, AreOwn, AreAll, through, two_lists, is_of, counts, marks_it, fills_own, breaks_own, write_fault_own, own_leave_pins, birth_stays, fork_stays, Pins, pins_of, own_leaves_pins}
+use Rattle.gup_core.proofs.Owning.{IsOwn, AreOwn, AreAll, through, two_lists, is_of, counts, marks_it, fills_own, breaks_own, write_fault_own, birth_stays, fork_stays, Pins, own_leaves_pins}
 
 -- ---- pins
 

@@ -1,43 +1,21 @@
 -- What is true of the actors of a script.
-use Rattle.std.proofs.Common.{◌≡◌, ℕ, Bool, true, false, ◌<◌, ◌≤◌, Option, Some, None, IsSome, IfSome, MatchOption, List, [], ◌∷◌, length, slice_get, All, sum_by, zero, suc, refl, sym, ap, ◌∙◌, subst, inl, inr, arith}
-use Rattle.std.proofs.lemmas.Option.{slice_get_cases, slice_get_within}
+use Rattle.std.proofs.Common.{◌≡◌, ℕ, true, false, ◌<◌, ◌≤◌, Option, Some, None, IsSome, IfSome, List, [], ◌∷◌, length, slice_get, sum_by, zero, suc, refl, sym, ap, ◌∙◌, subst, inl, inr, arith}
+use Rattle.std.proofs.lemmas.Option.{slice_get_cases}
 use Rattle.std.proofs.lemmas.List.Sums.{sum_by-cons}
 use Rattle.gup_script.specs.declared.op.Kind.{Kind}
 use Rattle.gup_script.specs.declared.op.Kind.TheVariants.{Thread, Device, Mover}
 use Rattle.gup_script.specs.declared.op.Op.{Op}
 use Rattle.gup_script.specs.declared.op.Op.TheVariants.{Map, Unmap, Protect, Discard, Load, Store, Pin, Unpin, Give, Take, Transfer, Fork, Exit}
 use Rattle.gup_script.specs.Limits.{most_pinned, most_slots, most_words}
-use Rattle.gup_script.specs.Script.{ScriptValue, Process, Actor, actor_at, process_at}
+use Rattle.gup_script.specs.Script.{ScriptValue, Actor, actor_at}
 use Rattle.gup_script.specs.Valid.{IsScript, IsOp, IsOfDevice, KindFits}
-use Rattle.gup_follows.specs.Place.{Doer, doer, is_thread, thread_in, slots_of_kind, slots_in, ops_in, ops_of, process_in, process_of, process_of_kind, is_born, starts_born}
+use Rattle.gup_follows.specs.Place.{Doer, doer, is_thread, thread_in, slots_of_kind, slots_in, ops_in, ops_of, process_in, process_of, process_of_kind}
 use Rattle.gup_turns.specs.ScriptLemmas.{all_at, is_of_thread}
 use Rattle.gup_core.specs.Doers.{HasProcess, IsProcessOf}
 use Rattle.gup_ops.specs.Far.{HasFar}
 use Rattle.gup_core.specs.Seats.{far_behind}
 
--- what is said of each declared actor holds of what the script has
-pub ops_found : (script : ScriptValue) (a : ℕ) (ops : List Op) → a < length script.actors → ((x : Actor) → actor_at script a ≡ Some x → ops ≡ x.ops) → ops ≡ ops_of script a
-ops_found script a ops h each =
-    elim (slice_get_cases script.actors a).1 [
-      | inl there ↦ each there.0 there.2 ∙ ap ops_in (sym there.2)
-      | inr past ↦ absurd (omega (arith, past.0))
-    ]
-
--- the process of a thread, and the store of a device
-pub process_found : (script : ScriptValue) (a : ℕ) (kind : Kind) (proc : Option ℕ) → a < length script.actors → ((x : Actor) → actor_at script a ≡ Some x → kind ≡ x.kind)
-    → MatchOption proc (is_thread kind ≡ false) (λ p. kind ≡ Thread p) → IsProcessOf (doer script a) proc
-process_found script a kind None h each named =
-    elim (slice_get_cases script.actors a).1 [
-      | inl there ↦ ap thread_in there.2 ∙ ap is_thread (sym (each there.0 there.2)) ∙ named
-      | inr past ↦ absurd (omega (arith, past.0))
-    ]
-process_found script a kind (Some p) h each named =
-    elim (slice_get_cases script.actors a).1 [
-      | inl there ↦
-          (ap thread_in there.2 ∙ ap is_thread (sym (each there.0 there.2) ∙ named), ap process_in there.2 ∙ ap process_of_kind (sym (each there.0 there.2) ∙ named))
-      | inr past ↦ absurd (omega (arith, past.0))
-    ]
-
+-- what is said of each declared actor holds of what the script has: how many slots its store has
 pub slots_found : (script : ScriptValue) (a : ℕ) (kind : Kind) → a < length script.actors → ((x : Actor) → actor_at script a ≡ Some x → kind ≡ x.kind) → slots_of_kind kind ≡ (doer script a).slots
 slots_found script a kind h each =
     elim (slice_get_cases script.actors a).1 [
@@ -121,14 +99,6 @@ few_ops script valid a = go (actor_at script a) refl
     go : (actor : Option Actor) → actor_at script a ≡ actor → length (ops_in actor) ≤ 16384
     go None at = omega arith
     go (Some actor) at = let one = one_of_sum script.actors a actor at in let all = valid.few_ops in omega arith
-
--- a process that the script declares is born at the start, or it isn't
-pub born_found : (script : ScriptValue) (p : ℕ) (b : Bool) → p < length script.processes → ((x : Process) → process_at script p ≡ Some x → b ≡ x.born) → b ≡ starts_born script p
-born_found script p b h each =
-    elim (slice_get_cases script.processes p).1 [
-      | inl there ↦ each there.0 there.2 ∙ ap is_born (sym there.2)
-      | inr past ↦ absurd (omega (arith, past.0))
-    ]
 
 -- an operation that goes over pages or words goes over 1,024 at most
 pub far_below : (op : Op) (far : ℕ) → IsOp op → HasFar op far → far_behind op far ≤ 1024

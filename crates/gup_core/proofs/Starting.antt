@@ -1,5 +1,5 @@
 -- A machine that has taken no turn shows the start.
-use Rattle.std.proofs.Common.{◌≡◌, ℕ, Bool, true, false, ◌<◌, if◌then◌else◌, List, [], ◌∷◌, ◌++◌, length, replicate, slice_get, Option, Some, None, All, ◌⊎◌, inl, inr, zero, suc, refl, sym, ap, ◌∙◌, subst, arith}
+use Rattle.std.proofs.Common.{◌≡◌, ℕ, Bool, true, false, ◌<◌, if◌then◌else◌, List, [], ◌∷◌, length, replicate, slice_get, Option, Some, None, All, zero, suc, refl, sym, ap, ◌∙◌, subst, arith}
 use Rattle.std.proofs.lemmas.Option.{slice_get_within}
 use Rattle.gup_plain.specs.State.{born, unborn}
 use Rattle.gup_script.specs.Script.{ScriptValue}
@@ -107,24 +107,3 @@ shows_start script parts seats n shown first =
       forks = λ a seat here. ap (λ (s : Seat). place_of s.fork) (one_of_first n seats a seat first here);
       turns = refl;
     }
-
--- ---- stores that are made one after another
-
--- the last one is new, and the others stay
-pushed_at : {X : Type 0} (xs : List X) (x : X) (k : ℕ) (y : X) → slice_get (xs ++ x ∷ []) k ≡ Some y → (slice_get xs k ≡ Some y) ⊎ ((k ≡ length xs) × (x ≡ y))
-pushed_at [] x zero y found = inr (refl, cc found)
-pushed_at [] x (suc k) y found = absurd (cc found)
-pushed_at (z ∷ xs) x zero y found = inl found
-pushed_at (z ∷ xs) x (suc k) y found =
-    elim (pushed_at xs x k y found) [
-      | inl before ↦ inl before
-      | inr last ↦ inr (ap (λ n. suc n) last.0, last.1)
-    ]
-
-pub one_more_store : (script : ScriptValue) (stores new : List (Option (List ℕ))) (a : ℕ) (store : Option (List ℕ)) → new ≡ stores ++ store ∷ [] → length stores ≡ a
-    → AreEmptyStores script stores → IsEmptyStore (doer script a).slots store → AreEmptyStores script new
-one_more_store script stores new a store is many before last b found here =
-    elim (pushed_at stores store b found (ap (λ xs. slice_get xs b) (sym is) ∙ here)) [
-      | inl old ↦ before b found old
-      | inr now ↦ subst (λ (x : Option (List ℕ)). IsEmptyStore (doer script b).slots x) now.1 (subst (λ (k : ℕ). IsEmptyStore (doer script k).slots store) (sym many ∙ sym now.0) last)
-    ]

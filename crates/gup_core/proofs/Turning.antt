@@ -1,5 +1,5 @@
 -- A turn of an operation among all parts: of one process, of a pin, of an operation on a pin, and of a fork.
-use Rattle.std.proofs.Common.{◌≡◌, ℕ, ◌+◌, ◌<◌, ◌==◌, Bool, true, false, List, [], ◌∷◌, length, slice_get, Option, Some, None, is_some, if◌then◌else◌, refl, sym, ap, ◌∙◌, subst, inl, inr, eqb-true, arith}
+use Rattle.std.proofs.Common.{◌≡◌, ℕ, ◌+◌, ◌<◌, ◌==◌, Bool, true, false, List, length, slice_get, Option, Some, None, is_some, if◌then◌else◌, refl, sym, ap, ◌∙◌, subst, inl, inr, eqb-true, arith}
 use Rattle.std.proofs.lemmas.Bool.Decides.{nat_tests}
 use Rattle.std.proofs.lemmas.Option.{slice_get_cases}
 use Rattle.arrayvec.specs.ArrayVec.{ArrayVec}
@@ -17,7 +17,7 @@ use Rattle.gup_space.specs.ShowsLemmas.{leave_other}
 use Rattle.gup_fork.specs.Forks.{fork_change_of}
 use Rattle.gup_fork.specs.ForkAfter.{AreOfFork}
 use Rattle.gup_fork.specs.ForkLemmas.{leave_others, jobs_stay, births_stay as fork_births_stay}
-use Rattle.gup_handles.specs.Handles.{HandlesValue, handles_of}
+use Rattle.gup_handles.specs.Handles.{handles_of}
 use Rattle.gup_events.specs.State.{CoreState, Taken as TakenPage}
 use Rattle.gup_events.specs.Event.{CoreEvent, frames_of as frames_taken}
 use Rattle.gup_events.specs.Invariant.{run}
@@ -34,7 +34,7 @@ use Rattle.gup_ops.specs.Said.{whats_by, whats_of, Leads, IsTurnOf}
 use Rattle.gup_core.specs.declared.births.Birth.{Birth}
 use Rattle.gup_core.specs.declared.births.Birth.TheVariants.{Growing, Born}
 use Rattle.gup_core.specs.declared.parts.Parts.{Parts}
-use Rattle.gup_core.specs.Goes.{StandsAt, LeadsAll, IsTurnOfAll, pin_change, handle_change}
+use Rattle.gup_core.specs.Goes.{StandsAt, IsTurnOfAll, pin_change, handle_change}
 use Rattle.gup_core.specs.Machine.{ShowsSpaces, IsBirth, ShowsBirths, ShowsTaken, ShowsStores, ShowsParts}
 use Rattle.gup_core.proofs.Owning.{AreOwn, are_of, turn_is_own, births_stay, forks_stay, fork_is_own, Pins, pins_of, own_leave_pins, fork_leave_pins}
 use Rattle.gup_core.proofs.Pinning.{ArePinning, pin_is_pinning, pinnings_of, pinnings_births, pinnings_stores, pinnings_taken, pinnings_forks, AreHandling, Rest, rest_of, handling_leave, handlings_of, handlings_stores}

@@ -1,8 +1,8 @@
 -- What an actor waits for is what the state says.
-use Rattle.std.proofs.Common.{◌≡◌, ℕ, ◌+◌, ◌-◌, ◌==◌, Bool, true, false, not, cond, Option, Some, None, is_some, is_none, List, zero, suc, refl, sym, ap, ◌∙◌, eqb-true, eq-eqb}
+use Rattle.std.proofs.Common.{◌≡◌, ℕ, ◌+◌, ◌-◌, ◌==◌, Bool, true, false, not, cond, Option, Some, None, is_some, is_none, List, zero, suc, refl, sym, ap, ◌∙◌, eqb-true}
 use Rattle.gup_plain.specs.Event.{page_numbers}
 use Rattle.gup_plain.specs.Put.{lowest}
-use Rattle.gup_plain.specs.State.{Birth, Handle, unborn, growing, born, failed, unmade, held, given, gone}
+use Rattle.gup_plain.specs.State.{Birth, Handle, unborn, growing, born, failed}
 use Rattle.gup_plain.specs.declared.note.Waiting.{Waiting}
 use Rattle.gup_plain.specs.declared.note.Waiting.TheVariants as waitings
 use Rattle.gup_script.specs.declared.op.Op.{Op}
@@ -10,15 +10,14 @@ use Rattle.gup_script.specs.declared.op.Op.TheVariants.{Map, Unmap, Protect, Dis
 use Rattle.gup_space.specs.Space.{SpaceValue}
 use Rattle.gup_space.specs.Shows.{ShowsSpace}
 use Rattle.gup_events.specs.State.{CoreState, Job, idle, marking, moving, forking, walking, between, counted, lowered, cleared, copying, failing}
-use Rattle.gup_turns.specs.Turn.{both_if, fork_locks, locks_needed, held_by_other, first_waiting, waits_for_lock, waits_for_locks, waits_at, waits_born, waiting_for, first_behind, allows_store}
+use Rattle.gup_turns.specs.Turn.{both_if, fork_locks, locks_needed, held_by_other, first_waiting, waits_for_locks, waits_at, waits_born, waiting_for, first_behind, allows_store}
 use Rattle.gup_turns.specs.Reached.{ForkPlace, fork_place, IsNoFork, StandsFork}
 use Rattle.gup_handles.specs.Handles.{HandleValue, IsGivenTo as IsKeptFor}
 use Rattle.gup_handles.specs.Handles as kept
 use Rattle.gup_follows.specs.Order.{is_given_to, taking_waits, handle_waits}
-use Rattle.gup_follows.specs.Place.{Doer, birth_by, birth_for}
+use Rattle.gup_follows.specs.Place.{Doer, birth_by}
 use Rattle.gup_ops.specs.Pins.{IsPin}
 use Rattle.gup_ops.specs.Tidy.{needs_table}
-use Rattle.gup_core.specs.Doers.{HasProcess}
 use Rattle.gup_core.specs.Locks.{fork_needs, child_in}
 use Rattle.gup_core.specs.Goes.{StandsAt}
 
@@ -193,48 +192,10 @@ pub lock_waits : (s : CoreState) (a p : ℕ) (op : Op) → ((h : ℕ) → op ≡
 lock_waits s a p op other =
     ap (λ w. first_waiting w (waits_for_locks (locks_needed s a p op) a (s.structure p) (s.table p))) (no_pin s.handle a op other)
 
--- an operation of no process needs no lock
-unlocked_waits : (s : CoreState) (a p : ℕ) (op : Op) → (HasProcess op → ⊥) → None ≡ waits_for_locks (locks_needed s a p op) a (s.structure p) (s.table p)
-unlocked_waits s a p (Map page n rights) other = absurd (other tt)
-unlocked_waits s a p (Unmap page n) other = absurd (other tt)
-unlocked_waits s a p (Protect page n rights) other = absurd (other tt)
-unlocked_waits s a p (Discard page n) other = absurd (other tt)
-unlocked_waits s a p (Load page word) other = absurd (other tt)
-unlocked_waits s a p (Store page word value) other = absurd (other tt)
-unlocked_waits s a p (Pin h page n write) other = absurd (other tt)
-unlocked_waits s a p (Unpin h) other = refl
-unlocked_waits s a p (Give h to) other = refl
-unlocked_waits s a p (Take h) other = refl
-unlocked_waits s a p (Transfer h outward index slot n) other = refl
-unlocked_waits s a p (Fork child) other = absurd (other tt)
-unlocked_waits s a p Exit other = absurd (other tt)
-
-pub free_waits : (s : CoreState) (a p : ℕ) (op : Op) → (HasProcess op → ⊥) → ((h : ℕ) → op ≡ Take h → ⊥) → None ≡ waits_born s a p op
-free_waits s a p op process other = unlocked_waits s a p op process ∙ lock_waits s a p op other
-
--- the pin is given to the actor where the machine has it so
-
-is_kept : (K : HandleValue) (handle : Handle) (pinned : List ℕ) (a : ℕ) → IsPin K handle pinned → IsKeptFor K a → is_given_to handle a ≡ true
-is_kept kept.unmade handle pinned a is given_so = absurd given_so
-is_kept (kept.held by frames write) handle pinned a is given_so = absurd given_so
-is_kept (kept.given to frames write) handle pinned a is given_so = ap (λ (h : Handle). is_given_to h a) is.0.1 ∙ eq-eqb to a given_so
-is_kept (kept.got by frame) handle pinned a is given_so = absurd given_so
-is_kept kept.gone handle pinned a is given_so = absurd given_so
-
+-- the machine has it so where a pin is given to the actor
 pub keeps_given : (K : HandleValue) (handle : Handle) (pinned : List ℕ) (a : ℕ) → IsPin K handle pinned → is_given_to handle a ≡ true → IsKeptFor K a
 keeps_given kept.unmade handle pinned a is given_so = absurd (let none : false ≡ true = ap (λ (h : Handle). is_given_to h a) (sym is) ∙ given_so in cc)
 keeps_given (kept.held by frames write) handle pinned a is given_so = absurd (let none : false ≡ true = ap (λ (h : Handle). is_given_to h a) (sym is.0.1) ∙ given_so in cc)
 keeps_given (kept.given to frames write) handle pinned a is given_so = eqb-true to a (ap (λ (h : Handle). is_given_to h a) (sym is.0.1) ∙ given_so)
 keeps_given (kept.got by frame) handle pinned a is given_so = absurd is
 keeps_given kept.gone handle pinned a is given_so = absurd (let none : false ≡ true = ap (λ (h : Handle). is_given_to h a) (sym is) ∙ given_so in cc)
-
--- so what the machine waits for is what the state says
-pub given_waits : (K : HandleValue) (handle : Handle) (pinned : List ℕ) (a h : ℕ) → IsPin K handle pinned → IsKeptFor K a → None ≡ taking_waits (is_given_to handle a) h
-given_waits K handle pinned a h is so = ap (λ b. taking_waits b h) (sym (is_kept K handle pinned a is so))
-
-pub ungiven_waits : (K : HandleValue) (handle : Handle) (pinned : List ℕ) (a h : ℕ) → IsPin K handle pinned → (IsKeptFor K a → ⊥) → Some (waitings.Handle h) ≡ taking_waits (is_given_to handle a) h
-ungiven_waits K handle pinned a h is so = go (is_given_to handle a) refl
-  where
-    go : (b : Bool) → is_given_to handle a ≡ b → Some (waitings.Handle h) ≡ taking_waits b h
-    go true given_so = absurd (so (keeps_given K handle pinned a is given_so))
-    go false given_so = refl

@@ -1,7 +1,6 @@
 -- What a turn of an operation leaves of all that the machine has.
 use Rattle.std.specs.Prelude.{◌≡◌, ℕ, ◌<◌, ◌^◌, Bool, true, false, length, slice_get, List, Option, Some, None}
 use Rattle.arrayvec.specs.ArrayVec.{ArrayVec}
-use Rattle.gup_plain.specs.Event.{IsGivenTo}
 use Rattle.gup_plain.specs.declared.note.What.{What}
 use Rattle.gup_script.specs.Valid.{IsOp}
 use Rattle.gup_script.specs.declared.op.Op.{Op}

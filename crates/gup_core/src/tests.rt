@@ -1,6 +1,6 @@
-ghost use Rattle.std.specs.Prelude.{◌≡◌, ◌<◌, ◌^◌, IsTrue, All, None, length, IfOk};
+ghost use Rattle.std.specs.Prelude.{◌≡◌, ◌<◌, ◌^◌, IsTrue, All, length, IfOk};
 ghost use Rattle.gup_script.specs.Valid.{IsOp, IsPages};
-ghost use Rattle.gup_core.specs.Locks.{child_in};
+ghost use Rattle.gup_ops.specs.Alone.{IsAlone};
 
 use super::*;
 use gup_base::{ActorNo, NoMemory, PageNo, ProcNo, Rights, WordNo, Zone};
@@ -10,10 +10,10 @@ use std::alloc::Global;
 use std::process::Abort;
 use std::test::Fail;
 
-// Whether the numbers of the operation are in range, and it is no fork.
+// Whether the numbers of the operation are in range, and it is of one process and no pin.
 fn is_op(op: &Op) -> bool
     ensures range { IsTrue result → IsOp op.now }
-    ensures single { IsTrue result → child_in op.now ≡ None }
+    ensures alone { IsTrue result → IsAlone op.now }
 {
     match op {
         Op::Map { page, n, .. } => are_pages(*page, *n),
@@ -22,7 +22,8 @@ fn is_op(op: &Op) -> bool
         Op::Discard { page, n } => are_pages(*page, *n),
         Op::Load { page, word } => is_word(*page, *word),
         Op::Store { page, word, value } => is_word(*page, *word) && is_value(*value),
-        Op::Fork { .. } => false,
+        Op::Pin { .. } | Op::Unpin { .. } | Op::Give { .. } => false,
+        Op::Take { .. } | Op::Transfer { .. } | Op::Fork { .. } => false,
         Op::Exit => true,
     }
 }
@@ -48,7 +49,7 @@ fn is_value(value: u64) -> bool
 
 fn are_ops(ops: &[Op]) -> bool
     ensures range { IsTrue result → All IsOp ops.now }
-    ensures single { IsTrue result → All (λ op. child_in op ≡ None) ops.now }
+    ensures alone { IsTrue result → All IsAlone ops.now }
 {
     for op in ops {
         if !is_op(op) {
@@ -107,6 +108,7 @@ fn script(alloc: Global, first: Vec<Op>, second: Vec<Op>, third: Vec<Op>) -> Res
         tables: 64,
         processes,
         actors,
+        handles: Vec::new(alloc),
         turns: Vec::new(alloc),
         seed: 0,
     }))

@@ -1,6 +1,5 @@
 use Rattle.std.proofs.Common.{◌≡◌, ℕ, List, length, slice_get, Some, if◌then◌else◌, refl, sym, ap, ◌∙◌, subst}
 use Rattle.std.specs.Vec.{with_items}
-use Rattle.gup_script.specs.declared.op.Op.TheVariants.{Fork}
 use Rattle.gup_space.specs.Space.{SpaceParts}
 use Rattle.gup_core.specs.declared.births.Birth.{Birth}
 use Rattle.gup_core.specs.declared.births.Birth.TheVariants.{Growing, Born}

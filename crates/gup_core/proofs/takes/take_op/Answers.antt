@@ -1,6 +1,5 @@
-use Rattle.std.proofs.Common.{◌≡◌, ℕ, Some, sym, ◌∙◌, subst}
+use Rattle.std.proofs.Common.{ℕ, sym, ◌∙◌, subst}
 use Rattle.gup_script.specs.declared.op.Op.{Op}
-use Rattle.gup_script.specs.declared.op.Op.TheVariants.{Fork}
 use Rattle.gup_ops.specs.Said.{whats_of}
 use Rattle.gup_core.specs.Doers.{HasProcess}
 use Rattle.gup_core.specs.Goes.{IsTurnOfAll}

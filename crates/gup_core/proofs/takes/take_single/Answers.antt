@@ -1,11 +1,9 @@
-use Rattle.std.proofs.Common.{◌≡◌, ℕ, List, Bool, true, Option, Some, refl, sym, ap, ◌∙◌, subst, arith}
+use Rattle.std.proofs.Common.{◌≡◌, ℕ, List, Option, refl, sym, ap, subst, arith}
 use Rattle.gup_script.specs.declared.op.Op.{Op}
 use Rattle.gup_script.specs.declared.op.Op.TheVariants.{Pin, Unpin, Give, Take, Transfer}
 use Rattle.gup_script.specs.Valid.{IsOp}
 use Rattle.gup_space.specs.Space.{space_of}
-use Rattle.gup_handles.specs.Handles.{handles_of}
 use Rattle.gup_turns.specs.Turn.{op_turn}
-use Rattle.gup_turns.specs.Reached.{IsNoFork}
 use Rattle.gup_ops.specs.Far.{HasFar}
 use Rattle.gup_events.specs.State.{CoreState}
 use Rattle.gup_held.specs.Held.{LeadsHandle, slots_in}

@@ -2,7 +2,6 @@ use Rattle.std.proofs.Common.{◌≡◌, Some, slice_get, sym, ap, ◌∙◌, su
 use Rattle.gup_turns.specs.Run.{RunState, waiting_in}
 use Rattle.gup_core.specs.Machine.{MachineValue, Shows, machine_of}
 use Rattle.gup_core.specs.Rest.{IsAtRest}
-use Rattle.gup_core.proofs.Ready.{process_found_so, process_within, child_within}
 use Rattle.gup_core.proofs.Taking.{waiting_is}
 use Rattle.gup_core.proofs.machine.Machine.waits.Goals as goal
 
