@@ -1,6 +1,6 @@
 //! The lines of a run.
 ghost use Rattle.std.specs.Prelude.{◌≡◌, ℕ, ◌<◌, List, [], ◌++◌, length, replicate, codes, decimal, IfOk, OnOk, OnErr};
-ghost use Rattle.std.specs.List.{flat_map};
+ghost use Rattle.std.specs.List.{cons_option, flat_map};
 ghost use Rattle.gup_script.specs.Script.{actor_at, process_at, handle_at};
 ghost use Rattle.gup_lines.specs.Text.{name_in, process_name, handle_name, cause_text, word_text, answer_text, head_of, line_of, waiting_text, stuck_line, word_in, moved_by, words_after, outcome_of, outcomes_of, NamesWaiting, BeginsWith};
 
@@ -26,9 +26,7 @@ fn told_in(alloc: Global, notes: &[Note]) -> Result<Vec<Outcome>, AllocError>
     let mut found = Vec::new(alloc);
     for note in notes {
         let words = &mut moved[note.actor().get() as usize];
-        if let Some(outcome) = told_by(note, words) {
-            found.push(outcome)?;
-        }
+        tell(note, words, &mut found)?;
     }
     Ok(found)
 }
@@ -44,24 +42,28 @@ fn no_words(alloc: Global) -> Result<Vec<Words>, AllocError>
     Ok(moved)
 }
 
-// The outcome that a note tells, if it ends an operation. The words that its actor's operation has moved go into it;
-// behind any other note they are those, and the word of the note.
-fn told_by(note: &Note, words: &mut Words) -> Option<Outcome>
-    ensures told { result ≡ outcome_of note.now.actor note.now.op words.old note.now.what }
-    ensures words { words.new ≡ words_after words.old note.now.what }
+// Puts the outcome on that a note tells, if it ends an operation: the words that its actor's operation has moved go into
+// it. Behind any other note they are those, and the word of the note.
+fn tell(note: &Note, words: &mut Words, found: &mut Vec<Outcome>) -> Result<(), AllocError>
+    ensures found { OnOk result (found.new.items
+        ≡ found.old.items ++ cons_option (outcome_of note.now.actor note.now.op words.old note.now.what) []) }
+    ensures words { OnOk result (words.new ≡ words_after words.old note.now.what) }
 {
     match note.what() {
-        What::Silent | What::Idle | What::Wait(_) => None,
+        What::Silent | What::Idle | What::Wait(_) => Ok(()),
         What::Event(event) => {
             push_word(words, word_of(event));
-            None
+            Ok(())
         }
-        What::Done(answer) => Some(Outcome {
-            actor: note.actor(),
-            op: note.op(),
-            answer,
-            words: replace(words, Words::new()),
-        }),
+        What::Done(answer) => {
+            found.push(Outcome {
+                actor: note.actor(),
+                op: note.op(),
+                answer,
+                words: replace(words, Words::new()),
+            })?;
+            Ok(())
+        }
     }
 }
 
