@@ -60,11 +60,22 @@ fn tell(note: &Note, words: &mut Words, found: &mut Vec<Outcome>) -> Result<(), 
                 actor: note.actor(),
                 op: note.op(),
                 answer,
-                words: replace(words, Words::new()),
+                words: taken(words),
             })?;
             Ok(())
         }
     }
+}
+
+// The words, which leaves none.
+fn taken(words: &mut Words) -> Words
+    ensures taken { result ≡ words.old }
+    ensures words { words.new ≡ [] }
+{
+    if words.as_slice().is_empty() {
+        return Words::new();
+    }
+    replace(words, Words::new())
 }
 
 // The word that an event of a transfer moves.
