@@ -11,7 +11,7 @@ use Rattle.gup_plain.specs.declared.answer.Answer.{Answer}
 use Rattle.gup_script.specs.declared.op.Op.{Op}
 use Rattle.gup_script.specs.declared.op.Op.TheVariants.{Map, Unmap, Protect, Discard, Load, Store, Pin, Unpin, Give, Take, Transfer, Fork, Exit}
 use Rattle.gup_space.specs.After.{IsOf, AreOf, taking, filling, counting, marking_it, upgrading, breaking, putting, dropping, discarding, mapping, lowering, protecting, loading, storing}
-use Rattle.gup_fork.specs.ForkAfter.{IsForkEvent, AreOfFork, beginning, counting as counting_it, lowering as lowering_it, unmarking, giving, passing, ending}
+use Rattle.gup_fork.specs.ForkAfter.{IsForkEvent, AreOfFork, beginning, counting as counting_it, lowering as lowering_it, unmarking, giving, passing, ending, writing, placing, failing_at, putting as putting_back, releasing}
 use Rattle.gup_events.specs.State.{CoreState, Taken as TakenPage, Job, idle, marking, moving, forking, walking, ForkStep, between, counted, lowered, cleared, copying, failing}
 use Rattle.gup_events.specs.Event.{CoreEvent, happens, take_frame, fill, count_one, set_mark, upgrade, break_entry, put_entry, drop_entry, discard_entry, map_pages, lower_entry, protect_pages, load, store}
 use Rattle.gup_events.specs.Fault.{Fault, events_of, fills, fills_writable, breaks, marks, read_fault, makes_writable, write_fault, gives_back}
@@ -230,6 +230,11 @@ fork_leaves_pins a p c s (unmarking done page f writable) = refl
 fork_leaves_pins a p c s (giving done page f writable) = refl
 fork_leaves_pins a p c s (passing done page) = refl
 fork_leaves_pins a p c s (ending done) = refl
+fork_leaves_pins a p c s (writing done page word to entry) = refl
+fork_leaves_pins a p c s (placing done page to rights) = refl
+fork_leaves_pins a p c s (failing_at done page word) = refl
+fork_leaves_pins a p c s (putting_back done page entry) = refl
+fork_leaves_pins a p c s (releasing done) = refl
 
 pub fork_leave_pins : (a p c : ℕ) (s : CoreState) (es : List CoreEvent) → AreOfFork a p c es → pins_of (run s es) ≡ pins_of s
 fork_leave_pins a p c s [] own = refl

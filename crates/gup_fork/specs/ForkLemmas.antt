@@ -6,11 +6,12 @@ use Rattle.std.proofs.lemmas.Bool.Decides.{nat_tests}
 use Rattle.gup_frames.specs.Frames.{FramesValue}
 use Rattle.gup_space.specs.Shows.{ShowsFrames, ShowsSpace}
 use Rattle.gup_space.specs.Space.{SpaceValue}
+use Rattle.gup_space.specs.ShowsLemmas.{shown_as}
 use Rattle.gup_events.specs.State.{CoreState}
 use Rattle.gup_events.specs.Event.{CoreEvent, happens}
 use Rattle.gup_events.specs.Invariant.{run}
 use Rattle.gup_fork.specs.Forks.{ForkChange, AreForkEvents}
-use Rattle.gup_fork.specs.ForkAfter.{IsForkEvent, beginning, counting, lowering, unmarking, giving, passing, ending, AreOfFork, frames_behind, parent_behind, child_behind, all_frames_behind, all_parent_behind, all_child_behind, IsMadeByFork}
+use Rattle.gup_fork.specs.ForkAfter.{IsForkEvent, beginning, counting, lowering, unmarking, giving, passing, ending, writing, placing, failing_at, putting, releasing, AreOfFork, frames_behind, parent_behind, child_behind, all_frames_behind, all_parent_behind, all_child_behind, IsMadeByFork, IsShownByFork}
 
 -- ---- other processes, other actors
 
@@ -29,6 +30,16 @@ leaves_others a p c q space s parent child (passing done page) h =
     record { right = h.right; pages = h.pages; entry = h.entry; sequence = h.sequence; has_pinned = h.has_pinned; structure = h.structure; table = h.table }
 leaves_others a p c q space s parent child (ending done) h =
     record { right = h.right; pages = h.pages; entry = h.entry; sequence = grind (arith, nat_tests, h.sequence); has_pinned = h.has_pinned; structure = grind (arith, nat_tests, h.structure); table = h.table }
+leaves_others a p c q space s parent child (writing done page word to e) h =
+    record { right = h.right; pages = h.pages; entry = h.entry; sequence = h.sequence; has_pinned = h.has_pinned; structure = h.structure; table = h.table }
+leaves_others a p c q space s parent child (placing done page to rights) h =
+    record { right = h.right; pages = h.pages; entry = λ g. grind (arith, nat_tests, h.entry g); sequence = h.sequence; has_pinned = h.has_pinned; structure = h.structure; table = grind (arith, nat_tests, h.table) }
+leaves_others a p c q space s parent child (failing_at done page word) h =
+    record { right = λ g. grind (arith, nat_tests, h.right g); pages = grind (arith, nat_tests, h.pages); entry = h.entry; sequence = grind (arith, nat_tests, h.sequence); has_pinned = h.has_pinned; structure = h.structure; table = grind (arith, nat_tests, h.table) }
+leaves_others a p c q space s parent child (putting done page e) h =
+    record { right = h.right; pages = h.pages; entry = λ g. grind (arith, nat_tests, h.entry g); sequence = h.sequence; has_pinned = h.has_pinned; structure = h.structure; table = h.table }
+leaves_others a p c q space s parent child (releasing done) h =
+    record { right = h.right; pages = h.pages; entry = h.entry; sequence = h.sequence; has_pinned = h.has_pinned; structure = grind (arith, nat_tests, h.structure); table = h.table }
 
 -- and so do lists of them
 pub leave_others : (a p c q : ℕ) (space : SpaceValue) (s : CoreState) (es : List CoreEvent) → (p ≡ q → ⊥) → (c ≡ q → ⊥) → AreOfFork a p c es → ShowsSpace q space s → ShowsSpace q space (run s es)
@@ -44,6 +55,11 @@ job_stays a p c b s other (unmarking done page f writable) = grind (arith, nat_t
 job_stays a p c b s other (giving done page f writable) = grind (arith, nat_tests)
 job_stays a p c b s other (passing done page) = grind (arith, nat_tests)
 job_stays a p c b s other (ending done) = grind (arith, nat_tests)
+job_stays a p c b s other (writing done page word to e) = grind (arith, nat_tests)
+job_stays a p c b s other (placing done page to rights) = grind (arith, nat_tests)
+job_stays a p c b s other (failing_at done page word) = grind (arith, nat_tests)
+job_stays a p c b s other (putting done page e) = refl
+job_stays a p c b s other (releasing done) = grind (arith, nat_tests)
 
 pub jobs_stay : (a p c b : ℕ) (s : CoreState) (es : List CoreEvent) → (a ≡ b → ⊥) → AreOfFork a p c es → (run s es).job b ≡ s.job b
 jobs_stay a p c b s [] other of = refl
@@ -57,6 +73,11 @@ birth_stays a p c q s other (unmarking done page f writable) = refl
 birth_stays a p c q s other (giving done page f writable) = refl
 birth_stays a p c q s other (passing done page) = refl
 birth_stays a p c q s other (ending done) = grind (arith, nat_tests)
+birth_stays a p c q s other (writing done page word to e) = refl
+birth_stays a p c q s other (placing done page to rights) = refl
+birth_stays a p c q s other (failing_at done page word) = grind (arith, nat_tests)
+birth_stays a p c q s other (putting done page e) = refl
+birth_stays a p c q s other (releasing done) = refl
 
 pub births_stay : (a p c q : ℕ) (s : CoreState) (es : List CoreEvent) → (c ≡ q → ⊥) → AreOfFork a p c es → (run s es).birth q ≡ s.birth q
 births_stay a p c q s [] other of = refl
@@ -79,6 +100,16 @@ shows_frames a p c frames s (passing done page) h =
     record { movable = h.movable; normal = h.normal; count = h.count; mark = h.mark; word = h.word }
 shows_frames a p c frames s (ending done) h =
     record { movable = h.movable; normal = h.normal; count = h.count; mark = h.mark; word = h.word }
+shows_frames a p c frames s (writing done page word to e) h =
+    record { movable = h.movable; normal = h.normal; count = h.count; mark = h.mark; word = λ g w. grind (arith, nat_tests, h.word g w, h.word e.frame word) }
+shows_frames a p c frames s (placing done page to rights) h =
+    record { movable = h.movable; normal = h.normal; count = h.count; mark = λ g. grind (arith, nat_tests, h.mark g); word = h.word }
+shows_frames a p c frames s (failing_at done page word) h =
+    record { movable = h.movable; normal = h.normal; count = h.count; mark = h.mark; word = h.word }
+shows_frames a p c frames s (putting done page e) h =
+    record { movable = h.movable; normal = h.normal; count = λ g. grind (arith, nat_tests, h.count g, h.count e.frame); mark = λ g. grind (arith, nat_tests, h.mark g, h.mark e.frame, h.count e.frame); word = h.word }
+shows_frames a p c frames s (releasing done) h =
+    record { movable = h.movable; normal = h.normal; count = h.count; mark = h.mark; word = h.word }
 
 pub shows_parent : (a p c : ℕ) (parent : SpaceValue) (s : CoreState) {e : CoreEvent} → (p ≡ c → ⊥) → IsForkEvent a p c e → ShowsSpace p parent s → ShowsSpace p (parent_behind e parent) (happens s e)
 shows_parent a p c parent s apart beginning h =
@@ -95,6 +126,16 @@ shows_parent a p c parent s apart (passing done page) h =
     record { right = h.right; pages = h.pages; entry = h.entry; sequence = h.sequence; has_pinned = h.has_pinned; structure = h.structure; table = h.table }
 shows_parent a p c parent s apart (ending done) h =
     record { right = h.right; pages = h.pages; entry = h.entry; sequence = grind (arith, nat_tests, h.sequence); has_pinned = h.has_pinned; structure = grind (arith, nat_tests, h.structure); table = h.table }
+shows_parent a p c parent s apart (writing done page word to e) h =
+    record { right = h.right; pages = h.pages; entry = h.entry; sequence = h.sequence; has_pinned = h.has_pinned; structure = h.structure; table = h.table }
+shows_parent a p c parent s apart (placing done page to rights) h =
+    record { right = h.right; pages = h.pages; entry = λ g. grind (arith, nat_tests, h.entry g); sequence = h.sequence; has_pinned = h.has_pinned; structure = h.structure; table = grind (arith, nat_tests, h.table) }
+shows_parent a p c parent s apart (failing_at done page word) h =
+    record { right = λ g. grind (arith, nat_tests, h.right g); pages = grind (arith, nat_tests, h.pages); entry = h.entry; sequence = grind (arith, nat_tests, h.sequence); has_pinned = h.has_pinned; structure = h.structure; table = grind (arith, nat_tests, h.table) }
+shows_parent a p c parent s apart (putting done page e) h =
+    record { right = h.right; pages = h.pages; entry = λ g. grind (arith, nat_tests, h.entry g); sequence = h.sequence; has_pinned = h.has_pinned; structure = h.structure; table = h.table }
+shows_parent a p c parent s apart (releasing done) h =
+    record { right = h.right; pages = h.pages; entry = h.entry; sequence = h.sequence; has_pinned = h.has_pinned; structure = grind (arith, nat_tests, h.structure); table = h.table }
 
 pub shows_child : (a p c : ℕ) (parent child : SpaceValue) (s : CoreState) {e : CoreEvent} → (p ≡ c → ⊥) → IsForkEvent a p c e → ShowsSpace p parent s → ShowsSpace c child s → ShowsSpace c (child_behind e parent child) (happens s e)
 shows_child a p c parent child s apart beginning of h =
@@ -111,6 +152,16 @@ shows_child a p c parent child s apart (passing done page) of h =
     record { right = h.right; pages = h.pages; entry = h.entry; sequence = h.sequence; has_pinned = h.has_pinned; structure = h.structure; table = h.table }
 shows_child a p c parent child s apart (ending done) of h =
     record { right = h.right; pages = h.pages; entry = h.entry; sequence = grind (arith, nat_tests, h.sequence); has_pinned = h.has_pinned; structure = grind (arith, nat_tests, h.structure); table = h.table }
+shows_child a p c parent child s apart (writing done page word to e) of h =
+    record { right = h.right; pages = h.pages; entry = h.entry; sequence = h.sequence; has_pinned = h.has_pinned; structure = h.structure; table = h.table }
+shows_child a p c parent child s apart (placing done page to rights) of h =
+    record { right = h.right; pages = h.pages; entry = λ g. grind (arith, nat_tests, h.entry g); sequence = h.sequence; has_pinned = h.has_pinned; structure = h.structure; table = grind (arith, nat_tests, h.table) }
+shows_child a p c parent child s apart (failing_at done page word) of h =
+    record { right = λ g. grind (arith, nat_tests, h.right g); pages = grind (arith, nat_tests, h.pages); entry = h.entry; sequence = grind (arith, nat_tests, h.sequence); has_pinned = h.has_pinned; structure = h.structure; table = grind (arith, nat_tests, h.table) }
+shows_child a p c parent child s apart (putting done page e) of h =
+    record { right = h.right; pages = h.pages; entry = λ g. grind (arith, nat_tests, h.entry g); sequence = h.sequence; has_pinned = h.has_pinned; structure = h.structure; table = h.table }
+shows_child a p c parent child s apart (releasing done) of h =
+    record { right = h.right; pages = h.pages; entry = h.entry; sequence = h.sequence; has_pinned = h.has_pinned; structure = grind (arith, nat_tests, h.structure); table = h.table }
 
 pub show_frames : (a p c : ℕ) (frames : FramesValue) (s : CoreState) (es : List CoreEvent) → AreOfFork a p c es → ShowsFrames frames s → ShowsFrames (all_frames_behind es frames) (run s es)
 show_frames a p c frames s [] own h = h
@@ -135,4 +186,14 @@ are_fork_events k a events made s p c apart frames parent child =
       subst (λ (f : FramesValue). ShowsFrames f behind) (sym by.frames) (show_frames a p c k.old_frames s (events p c) by.own frames),
       subst (λ (x : SpaceValue). ShowsSpace p x behind) (sym by.parent) (show_parent a p c k.old_parent s (events p c) apart by.own parent),
       subst (λ (x : SpaceValue). ShowsSpace c x behind) (sym by.child) (show_child a p c k.old_parent k.old_child s (events p c) apart by.own parent child),
+    )
+
+-- the same, where the child's count of entries may differ
+pub are_shown_fork_events : (k : ForkChange) (a : ℕ) (events : (p c : ℕ) → List CoreEvent) → ((p c : ℕ) → IsShownByFork k a p c (events p c)) → AreForkEvents k events
+are_shown_fork_events k a events made s p c apart frames parent child =
+    let by : IsShownByFork k a p c (events p c) = made p c in
+    let behind : CoreState = run s (events p c) in (
+      subst (λ (f : FramesValue). ShowsFrames f behind) (sym by.frames) (show_frames a p c k.old_frames s (events p c) by.own frames),
+      subst (λ (x : SpaceValue). ShowsSpace p x behind) (sym by.parent) (show_parent a p c k.old_parent s (events p c) apart by.own parent),
+      shown_as c (all_child_behind (events p c) k.old_parent k.old_child) k.new_child behind by.child (show_child a p c k.old_parent k.old_child s (events p c) apart by.own parent child),
     )

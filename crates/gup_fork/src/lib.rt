@@ -15,6 +15,12 @@ use gup_base::{Entry, FrameNo, PageNo};
 use gup_frames::Frames;
 use gup_space::Space;
 
+mod copying;
+mod fails;
+
+pub use copying::{copy_word, place_child};
+pub use fails::fail;
+
 /// The beginning of a fork: the parent's sequence gets odd, which tells lockless walks that its pages are being shared
 /// (Linux's `write_protect_seq`; that there is one pair of rises for the whole fork is this project's own, Linux has
 /// one for each area), and the child gets the parent's mappings. Who forks takes the parent's structure lock with it.

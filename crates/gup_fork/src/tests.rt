@@ -1,8 +1,9 @@
-ghost use Rattle.std.specs.Prelude.{◌≡◌, ◌<◌, ◌^◌, Some, None, IsSome};
+ghost use Rattle.std.specs.Prelude.{◌≡◌, ℕ, ◌<◌, ◌^◌, Some, None, IsSome};
 ghost use Rattle.gup_base.specs.declared.entry.Entry.{Entry as EntryValue};
 ghost use Rattle.gup_frames.specs.Frames.{frames_of, IsFrame};
 ghost use Rattle.gup_space.specs.Space.{space_of, HasRoom};
 ghost use Rattle.gup_space.specs.Counted.{IsCounted};
+ghost use Rattle.gup_fork.specs.Forks.{with_maps_of};
 
 use super::*;
 use gup_base::{Allowed, FrameNo, Rights, WordNo, Zone};
@@ -72,7 +73,9 @@ fn one_page(rt: &impl Abort, alloc: Global) -> Result<(Space, Frames), Fail> {
 }
 
 // Begins the fork where the sequence isn't too high.
-fn begin_here(rt: &impl Abort, parent: &mut Space, child: &mut Space) {
+fn begin_here(rt: &impl Abort, parent: &mut Space, child: &mut Space)
+    ensures { space_of child.new ≡ with_maps_of (space_of parent.old) (space_of child.old) }
+{
     assert!(rt; parent.sequence() < 1_099_511_627_776);
     begin(parent, child);
 }
@@ -192,5 +195,105 @@ fn shared_pages_are_read_only_in_both(rt: HostRuntime) -> Result<(), Fail> {
     assert_eq!(rt; entry_seen(&parent, page), Some((0, false)));
     assert_eq!(rt; entry_seen(&child, page), Some((0, false)));
     assert_eq!(rt; seen(&rt, &frames, 0), Some((2, false, 7, 0, 1)));
+    Ok(())
+}
+
+// Takes a frame for the copy of the page, which is the one with this number.
+fn take_copy(rt: &impl Abort, frames: &mut Frames, number: u64) -> Option<FrameNo> {
+    let copy = frames.take(Allowed::Any)?;
+    assert!(rt; copy.get() == number);
+    Some(copy)
+}
+
+// The frame is there, has references, and isn't the one of the page's entry.
+fn expect_copy(rt: &impl Abort, parent: &Space, frames: &Frames, page: PageNo, copy: FrameNo)
+    ensures there { IsFrame (frames_of frames.now) copy }
+    ensures held { (frames_of frames.now).count copy ≡ 0 → ⊥ }
+    ensures apart { (e : EntryValue) → (space_of parent.now).entry page ≡ Some e → copy ≡ e.frame → ⊥ }
+{
+    expect_frame(rt, frames, copy);
+    assert!(rt; frames.count(copy) > 0);
+    let Some(entry) = parent.entry(page) else {
+        return;
+    };
+    assert!(rt; copy.get() != entry.frame.get());
+}
+
+// Copies word 0 of the page, and places the copy.
+fn copy_here(
+    rt: &impl Abort,
+    parent: &Space,
+    child: &mut Space,
+    frames: &mut Frames,
+    page: PageNo,
+) -> Option<()> {
+    let copy = take_copy(rt, frames, 1)?;
+    let word = WordNo::new(0)?;
+    expect_entry(rt, parent, frames, page);
+    expect_copy(rt, parent, frames, page, copy);
+    copy_word(parent, frames, page, copy, word);
+    expect_entry(rt, parent, frames, page);
+    expect_copy(rt, parent, frames, page, copy);
+    expect_room(rt, child, page);
+    place_child(parent, child, frames, page, copy);
+    Some(())
+}
+
+#[test]
+fn a_copied_page_is_the_childs_own(rt: HostRuntime) -> Result<(), Fail> {
+    let (mut parent, mut frames) = one_page(&rt, rt.alloc())?;
+    let mut child = Space::new(rt.alloc()).or(Err("memory"))?;
+    let page = PageNo::new(3).ok_or("a page")?;
+    begin_here(&rt, &mut parent, &mut child);
+    let copied = copy_here(&rt, &parent, &mut child, &mut frames, page);
+    assert!(rt; copied.is_some());
+    assert_eq!(rt; entry_seen(&child, page), Some((1, true)));
+    assert_eq!(rt; seen(&rt, &frames, 1), Some((1, true, 7, 0, 0)));
+    Ok(())
+}
+
+// Shares the page with the child, which has no entry yet, and then the fork fails.
+fn fail_here(
+    rt: &impl Abort,
+    parent: &mut Space,
+    child: &mut Space,
+    frames: &mut Frames,
+    page: PageNo,
+)
+    requires { (g : ℕ) → (space_of child.old).entry g ≡ None }
+{
+    let Some(_entry) = parent.entry(page) else {
+        return;
+    };
+    expect_entry(rt, parent, frames, page);
+    expect_room(rt, child, page);
+    share(parent, child, frames, page);
+    assert!(rt; parent.sequence() < 1_099_511_627_776);
+    fail(parent, child, frames);
+}
+
+// The fork into a new child fails behind the share of the page; how many pages and entries the child then has.
+fn fail_child(
+    rt: &impl Abort,
+    alloc: Global,
+    parent: &mut Space,
+    frames: &mut Frames,
+    page: PageNo,
+) -> Option<(u16, u16)> {
+    let Ok(mut child) = Space::new(alloc) else {
+        return None;
+    };
+    begin_here(rt, parent, &mut child);
+    fail_here(rt, parent, &mut child, frames, page);
+    Some((child.len(), child.entries()))
+}
+
+#[test]
+fn a_failed_fork_gives_its_references_back(rt: HostRuntime) -> Result<(), Fail> {
+    let (mut parent, mut frames) = one_page(&rt, rt.alloc())?;
+    let page = PageNo::new(3).ok_or("a page")?;
+    let left = fail_child(&rt, rt.alloc(), &mut parent, &mut frames, page);
+    assert_eq!(rt; left, Some((0, 0)));
+    assert_eq!(rt; seen(&rt, &frames, 0), Some((1, false, 7, 0, 1)));
     Ok(())
 }
