@@ -3,3 +3,4 @@ pub mod Event
 pub mod Invariant
 pub mod Sound
 pub mod Fault
+pub mod Failure

@@ -8,7 +8,8 @@ use Rattle.gup_space.specs.Space.{SpaceValue, with_entry}
 use Rattle.gup_space.specs.After.{IsShownAs}
 use Rattle.gup_events.specs.State.{copying}
 use Rattle.gup_events.specs.Event.{CoreEvent, release_fork}
-use Rattle.gup_fork.specs.Forks.{with_structure, with_table, AreForkEvents, puts_entry, puts_entries, fails, without_entry, without_entries, without_maps, emptied}
+use Rattle.gup_events.specs.Failure.{puts_entry, puts_entries, fails}
+use Rattle.gup_fork.specs.Forks.{with_structure, with_table, AreForkEvents, without_entry, without_entries, without_maps, emptied}
 use Rattle.gup_fork.specs.ForkAfter.{AreOfFork, failing_at, putting, releasing, all_frames_behind, all_parent_behind, all_child_behind}
 use Rattle.gup_fork.specs.ForkLemmas.{are_shown_fork_events}
 use Rattle.gup_fork.proofs.Steps.{change}

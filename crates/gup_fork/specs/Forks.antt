@@ -1,12 +1,11 @@
 -- What a step of a fork does to frames, to the parent and to its child.
-use Rattle.std.specs.Prelude.{◌≡◌, ℕ, ◌+◌, ◌&&◌, nat_le, Bool, false, List, [], ◌∷◌, ◌++◌, Option, Some, None, zero, suc}
+use Rattle.std.specs.Prelude.{◌≡◌, ℕ, ◌+◌, ◌&&◌, nat_le, Bool, false, List, [], ◌∷◌, Option, Some, None, zero, suc}
 use Rattle.gup_base.specs.declared.entry.Entry.{Entry}
 use Rattle.gup_frames.specs.Frames.{FramesValue, FrameLists, frames_of, with_mark, with_references, without_references}
 use Rattle.gup_space.specs.Shows.{ShowsFrames, ShowsSpace}
 use Rattle.gup_space.specs.Space.{SpaceValue, SpaceParts, space_of, with_entry}
-use Rattle.gup_plain.specs.Event.{page_numbers}
-use Rattle.gup_events.specs.State.{CoreState, ForkStep}
-use Rattle.gup_events.specs.Event.{CoreEvent, bias, entry_of, share_entry, share_mark, share_child, fail_fork, put_child, release_fork}
+use Rattle.gup_events.specs.State.{CoreState}
+use Rattle.gup_events.specs.Event.{CoreEvent, bias, entry_of, share_entry, share_mark, share_child}
 use Rattle.gup_events.specs.Invariant.{run}
 
 -- frames, a parent and its child, before a call and behind it
@@ -67,22 +66,6 @@ abbrev pub with_shared : (page f : ℕ) → SpaceValue → SpaceValue
 with_shared page f space = with_entry page (Some (entry_of f false)) space
 
 -- ---- a fork that fails
-
--- the reference of a page's entry is given back
-abbrev pub puts_entry : (a p c : ℕ) → List ℕ → (page : ℕ) → Option Entry → List CoreEvent
-puts_entry a p c done page None = []
-puts_entry a p c done page (Some e) = put_child a p c done page e ∷ []
-
--- the references of the entries of the n pages from the first on are given back, from the lowest page up
-abbrev pub puts_entries : (a p c : ℕ) → List ℕ → (ℕ → Option Entry) → (first n : ℕ) → List CoreEvent
-puts_entries a p c done entry first zero = []
-puts_entries a p c done entry first (suc n) =
-    puts_entry a p c done first (entry first) ++ puts_entries a p c done entry (first + 1) n
-
--- the events of a failure at this step, where the child has these entries
-abbrev pub fails : (a p c : ℕ) → List ℕ → ForkStep → (ℕ → Option Entry) → List CoreEvent
-fails a p c done step entry =
-    fail_fork a p c done step ∷ (puts_entries a p c done entry 0 page_numbers ++ release_fork a p c done ∷ [])
 
 -- the frame of a page's entry has a reference less
 abbrev pub without_entry : Option Entry → FramesValue → FramesValue

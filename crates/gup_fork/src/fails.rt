@@ -4,10 +4,11 @@ ghost use Rattle.gup_base.specs.declared.entry.Entry.{Entry as EntryValue};
 ghost use Rattle.gup_plain.specs.Event.{page_numbers};
 ghost use Rattle.gup_frames.specs.Frames.{frames_of, IsFrame, without_references};
 ghost use Rattle.gup_events.specs.State.{copying};
+ghost use Rattle.gup_events.specs.Failure.{fails};
 ghost use Rattle.gup_maps.specs.Maps.{IsNextPage};
 ghost use Rattle.gup_space.specs.Space.{space_of, with_entry, without_page, AreMapped};
 ghost use Rattle.gup_space.specs.Counted.{AreCounted};
-ghost use Rattle.gup_fork.specs.Forks.{fork_change_of, with_structure, with_table, AreForkEvents, fails, without_entry, without_entries, emptied};
+ghost use Rattle.gup_fork.specs.Forks.{fork_change_of, with_structure, with_table, AreForkEvents, without_entry, without_entries, emptied};
 
 use gup_base::{FrameNo, PageNo};
 use gup_frames::Frames;
