@@ -11,7 +11,7 @@ use Rattle.gup_handles.specs.Handles.{handles_of, unmade, IsGivenTo as IsKeptFor
 use Rattle.gup_events.specs.State.{CoreState, idle}
 use Rattle.gup_events.specs.Invariant.{run}
 use Rattle.gup_turns.specs.Turn.{Taken, op_turn}
-use Rattle.gup_turns.specs.Reached.{fork_place, IsNoFork, StandsFork, StandsPin}
+use Rattle.gup_turns.specs.Reached.{place_in, IsNoFork, StandsFork, StandsPin}
 use Rattle.gup_ops.specs.declared.forks.ForkPlace.{ForkPlace}
 use Rattle.gup_ops.specs.Far.{HasFar, far_in}
 use Rattle.gup_ops.specs.Forked.{place_of, IsReadyAt}
@@ -28,7 +28,7 @@ use Rattle.gup_core.specs.Machine.{EachSpace, ShowsParts}
 -- one whose words it moves has all its pages.
 pub record StandsAt (s : CoreState) (a p far : ℕ) (op : Op) : Type 0 where
   pub idle_job : IsNoFork (Some op) → s.job a ≡ idle
-  pub fork : (child : ℕ) → op ≡ Fork child → StandsFork s a p child (s.job a)
+  pub fork : (child : ℕ) → op ≡ Fork child → StandsFork s a p child (s.job a) (s.prepared a)
   pub pin : (handle page n : ℕ) (write : Bool) → op ≡ Pin handle page n write → StandsPin s a p handle page n write far
   pub pinned : (handle page n : ℕ) (write : Bool) → op ≡ Pin handle page n write → 0 < far → s.has_pinned p ≡ true
   pub whole : (handle index slot n : ℕ) (outward : Bool) → op ≡ Transfer handle outward index slot n → IsWhole s a handle
@@ -38,15 +38,15 @@ pub record StandsAt (s : CoreState) (a p far : ℕ) (op : Op) : Type 0 where
 pub record LeadsAll (new : Parts) (a : ℕ) (s : CoreState) (turn : Taken) (whats : List What) (place : ForkPlace) : Type 0 where
   pub says : turn.whats ≡ whats
   pub parts : ShowsParts new (run s turn.events)
-  pub fork : place_of place ≡ fork_place ((run s turn.events).job a)
-  pub others : (b : ℕ) → (b ≡ a → ⊥) → fork_place ((run s turn.events).job b) ≡ fork_place (s.job b)
+  pub fork : place_of place ≡ place_in (run s turn.events) a
+  pub others : (b : ℕ) → (b ≡ a → ⊥) → place_in (run s turn.events) b ≡ place_in s b
 
 -- so it is from each state that shows what was, where an operation has gone over so many pages or words and its fork stood
 -- there
 abbrev pub IsTurnOfAll : (old new : Parts) → (a p slots far : ℕ) → Op → (old_fork : ForkPlace) → List What → (new_fork : ForkPlace) → Type 0
 IsTurnOfAll old new a p slots far op old_fork whats new_fork =
     (s : CoreState) (k : ℕ)
-    → ShowsParts old s → place_of old_fork ≡ fork_place (s.job a) → StandsAt s a p k op → far ≡ far_in (Some op) k
+    → ShowsParts old s → place_of old_fork ≡ place_in s a → StandsAt s a p k op → far ≡ far_in (Some op) k
     → LeadsAll new a s (op_turn s a p slots k op) whats new_fork
 
 -- what a turn of a pin changes: frames, this process, pins, and what the actor's running pin has taken
@@ -81,8 +81,7 @@ pub record IsForkReady (frames : FramesValue) (spaces : List SpaceParts) (births
   pub there : child < length spaces
   pub declared : child < length births
   pub few_forks : EachSpace (λ space. space.sequence < 2 ^ 40) spaces
-  pub unpinned : EachSpace (λ space. space.has_pinned ≡ false) spaces
-  pub stands : (parent kid : SpaceParts) → slice_get spaces p ≡ Some parent → slice_get spaces child ≡ Some kid → IsReadyAt (place_of fork) (space_of parent) (space_of kid)
+  pub stands : (parent kid : SpaceParts) → slice_get spaces p ≡ Some parent → slice_get spaces child ≡ Some kid → IsReadyAt frames (place_of fork) (space_of parent) (space_of kid)
 
 -- the store of the actor has so many slots
 abbrev pub HasSlots : Parts → (a slots : ℕ) → Type 0

@@ -2,7 +2,7 @@
 use Rattle.std.specs.Prelude.{◌≡◌, ℕ, ◌+◌, ◌-◌, ◌^◌, List, Option, Some, length, min, slice_get}
 use Rattle.arrayvec.specs.ArrayVec.{ArrayVec}
 use Rattle.gup_plain.specs.Note.{NoteValue}
-use Rattle.gup_plain.specs.State.{Birth, born, unborn, growing}
+use Rattle.gup_plain.specs.State.{Birth, born, unborn, growing, failed}
 use Rattle.gup_script.specs.Script.{ScriptValue}
 use Rattle.gup_follows.specs.Place.{present_op, doer}
 use Rattle.gup_follows.specs.Follows.{notes_of_turn}
@@ -13,12 +13,12 @@ use Rattle.gup_handles.specs.Handles.{handles_of}
 use Rattle.gup_events.specs.State.{CoreState}
 use Rattle.gup_events.specs.Event.{frames_of as frames_taken}
 use Rattle.gup_turns.specs.Run.{RunState, run_start, run_after, taken_in}
-use Rattle.gup_turns.specs.Reached.{turned, fork_place}
+use Rattle.gup_turns.specs.Reached.{turned, place_in}
 use Rattle.gup_ops.specs.Forked.{place_of}
 use Rattle.gup_ops.specs.Pins.{ShowsPins}
 use Rattle.gup_held.specs.Held.{ShowsStore, slots_in}
 use Rattle.gup_core.specs.declared.births.Birth.{Birth as KeptBirth}
-use Rattle.gup_core.specs.declared.births.Birth.TheVariants.{Unborn, Growing, Born}
+use Rattle.gup_core.specs.declared.births.Birth.TheVariants.{Unborn, Growing, Born, Failed}
 use Rattle.gup_core.specs.declared.parts.Parts.{Parts}
 use Rattle.gup_core.specs.declared.seats.Seat.{Seat}
 use Rattle.gup_core.specs.Seats.{IsSeat}
@@ -50,6 +50,7 @@ abbrev pub IsBirth : KeptBirth → Birth → Type 0
 IsBirth Unborn birth = birth ≡ unborn
 IsBirth Growing birth = (parent : ℕ) × (birth ≡ growing parent)
 IsBirth Born birth = birth ≡ born
+IsBirth Failed birth = birth ≡ failed
 
 -- and all are
 abbrev pub ShowsBirths : List KeptBirth → CoreState → Type 0
@@ -82,7 +83,7 @@ pub record Shows (m : MachineValue) (r : RunState) : Type 0 where
   pub reached : IsReached m.script r
   pub parts : ShowsParts m.parts r.core
   pub seats : (a : ℕ) (seat : Seat) → slice_get m.seats a ≡ Some seat → IsSeat (present_op m.script a (r.places a)) (r.places a) seat
-  pub forks : (a : ℕ) (seat : Seat) → slice_get m.seats a ≡ Some seat → place_of seat.fork ≡ fork_place (r.core.job a)
+  pub forks : (a : ℕ) (seat : Seat) → slice_get m.seats a ≡ Some seat → place_of seat.fork ≡ place_in r.core a
   pub turns : m.turns ≡ min r.turns (2 ^ 32 - 1)
 
 -- A turn of the machine is the actor's turn of the core run from r: the notes are its, and the machine shows the

@@ -4,7 +4,7 @@ use Rattle.arrayvec.specs.ArrayVec.{ArrayVec}
 use Rattle.gup_plain.specs.Event.{page_numbers}
 use Rattle.gup_script.specs.declared.op.Op.{Op}
 use Rattle.gup_script.specs.declared.op.Op.TheVariants.{Pin, Fork}
-use Rattle.gup_script.specs.Valid.{IsScript, ForksAt}
+use Rattle.gup_script.specs.Valid.{IsScript}
 use Rattle.gup_follows.specs.Place.{ops_of, process_of}
 use Rattle.gup_frames.specs.Frames.{frames_of}
 use Rattle.gup_space.specs.Space.{SpaceValue, SpaceParts, space_of}
@@ -26,9 +26,9 @@ op_of_seat m a seat = slice_get (ops_of m.script a) seat.answered
 abbrev pub HoldsNoLock : SpaceValue → (a : ℕ) → Type 0
 HoldsNoLock space a = (space.structure ≡ Some a → ⊥) × (space.table ≡ Some a → ⊥)
 
--- Its script is one, and it has its parts and a seat for each actor. Each process is tidy, and has never pinned where the
--- script has a fork; counts and sequences are small. An actor that does no fork holds no lock, what a fork has counted it
--- can share, and what a pin has taken are its first pages. No actor has answered more operations than it has, and one that
+-- Its script is one, and it has its parts and a seat for each actor. Each process is tidy; counts and sequences are small. An
+-- actor that does no fork holds no lock, what a fork has counted it can share or copy, and what a pin has taken are its first
+-- pages. No actor has answered more operations than it has, and one that
 -- goes over pages or words stands at one of them. Pins have the weight of their pages, and none is made before its
 -- operation.
 pub record IsAtRest (m : MachineValue) : Type 0 where
@@ -36,11 +36,10 @@ pub record IsAtRest (m : MachineValue) : Type 0 where
   pub parts : AreParts m.script m.parts
   pub seats : length m.seats ≡ length m.script.actors
   pub tidy : EachSpace (IsTidy (frames_of m.parts.frames)) m.parts.spaces.items
-  pub unpinned : (a k child : ℕ) → ForksAt m.script a k child → EachSpace (λ space. space.has_pinned ≡ false) m.parts.spaces.items
   pub few_forks : EachSpace (λ space. space.sequence ≤ 32) m.parts.spaces.items
   pub few_counts : (f : ℕ) → (frames_of m.parts.frames).count f ≤ 16 * page_numbers + bias * 17680
   pub unlocked : (p a : ℕ) (space : SpaceParts) (seat : Seat) → slice_get m.parts.spaces.items p ≡ Some space → slice_get m.seats a ≡ Some seat → IsNoFork (op_of_seat m a seat) → HoldsNoLock (space_of space) a
-  pub forks : (a child : ℕ) (seat : Seat) (parent kid : SpaceParts) → slice_get m.seats a ≡ Some seat → op_of_seat m a seat ≡ Some (Fork child) → slice_get m.parts.spaces.items (process_of m.script a) ≡ Some parent → slice_get m.parts.spaces.items child ≡ Some kid → IsReadyAt (place_of seat.fork) (space_of parent) (space_of kid)
+  pub forks : (a child : ℕ) (seat : Seat) (parent kid : SpaceParts) → slice_get m.seats a ≡ Some seat → op_of_seat m a seat ≡ Some (Fork child) → slice_get m.parts.spaces.items (process_of m.script a) ≡ Some parent → slice_get m.parts.spaces.items child ≡ Some kid → IsReadyAt (frames_of m.parts.frames) (place_of seat.fork) (space_of parent) (space_of kid)
   pub answered : (a : ℕ) (seat : Seat) → slice_get m.seats a ≡ Some seat → seat.answered ≤ length (ops_of m.script a)
   pub far : (a : ℕ) (seat : Seat) (op : Op) → slice_get m.seats a ≡ Some seat → op_of_seat m a seat ≡ Some op → HasFar op seat.far
   pub weighed : (h : ℕ) → IsWeighed (frames_of m.parts.frames) (handles_of m.parts.handles h)

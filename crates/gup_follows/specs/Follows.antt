@@ -1,6 +1,7 @@
 -- A journal follows its script where each actor's notes are those of its operations in order, and the notes of one
 -- operation have one of the shapes of its kind.
 use Rattle.std.specs.Prelude.{◌≡◌, ℕ, ◌+◌, ◌≤◌, ◌<◌, ◌==◌, ◌&&◌, ◌⊎◌, Bool, true, false, not, IsTrue, List, [], ◌∷◌, ◌++◌, map, filter, zero, suc}
+use Rattle.gup_plain.specs.Event.{words}
 use Rattle.gup_plain.specs.Note.{NoteValue}
 use Rattle.gup_plain.specs.declared.answer.Answer.{Answer}
 use Rattle.gup_plain.specs.declared.answer.Answer.TheVariants as answers
@@ -83,22 +84,46 @@ TakesDownWhole who (suc pages) notes =
     (page : ℕ) × (front rest : List NoteValue) × (notes ≡ front ++ rest)
     × IsTurn who front (Event (events.Unmap who.actor who.proc page) ∷ []) × TakesDownWhole who pages rest
 
--- a page of a fork: it is passed in one turn, or counted in one and shared in the next
+-- of a page that a fork copies so many words are left, from this one on, one a turn; then the copy is placed
+abbrev pub CopiesWords : Who → (child page word left : ℕ) → List NoteValue → Type 0
+CopiesWords who child page word zero notes = IsTurn who notes (Silent ∷ [])
+CopiesWords who child page word (suc left) notes =
+    (front rest : List NoteValue) × (notes ≡ front ++ rest)
+    × IsTurn who front (Event (events.ForkWord who.proc child page word) ∷ [])
+    × CopiesWords who child page (word + 1) left rest
+
+-- a frame is taken for a page, and then all its words are copied, from this one on
+abbrev pub CopiesFrom : Who → (child page word : ℕ) → List NoteValue → Type 0
+CopiesFrom who child page word notes = (left : ℕ) × (word + left ≡ words) × CopiesWords who child page word left notes
+
+abbrev pub CopiesPage : Who → (child page : ℕ) → List NoteValue → Type 0
+CopiesPage who child page notes =
+    (front rest : List NoteValue) × (notes ≡ front ++ rest) × IsTurn who front (Silent ∷ [])
+    × CopiesFrom who child page 0 rest
+
+-- a page of a fork: it is passed in one turn, or counted in one and shared in the next, or counted in one and copied in
+-- those behind it
 abbrev pub ForksPage : Who → (child page : ℕ) → List NoteValue → Type 0
 ForksPage who child page notes =
     IsTurn who notes (Event (events.ForkPage who.proc child page) ∷ [])
     ⊎ ((front rest : List NoteValue) × (notes ≡ front ++ rest) × IsTurn who front (Silent ∷ [])
-    × IsTurn who rest (Event (events.ForkPage who.proc child page) ∷ []))
+    × (IsTurn who rest (Event (events.ForkPage who.proc child page) ∷ []) ⊎ CopiesPage who child page rest))
 
--- so many pages of a fork, in rising order from this one on, and then its end
+-- behind a page that it counted a fork finds no frame for a copy
+abbrev pub FailsFork : Who → (child : ℕ) → List NoteValue → Type 0
+FailsFork who child notes =
+    (front rest : List NoteValue) × (notes ≡ front ++ rest) × IsTurn who front (Silent ∷ [])
+    × IsTurn who rest (Event (events.ForkFail child) ∷ Done answers.NoFrame ∷ [])
+
+-- so many pages of a fork, in rising order from this one on, and then its end, or its failure
 abbrev pub ForksPages : Who → (child from pages : ℕ) → List NoteValue → Type 0
 ForksPages who child from zero notes =
-    IsTurn who notes (Event (events.ForkEnd who.proc child) ∷ Done answers.Plain ∷ [])
+    IsTurn who notes (Event (events.ForkEnd who.proc child) ∷ Done answers.Plain ∷ []) ⊎ FailsFork who child notes
 ForksPages who child from (suc pages) notes =
     (page : ℕ) × (from ≤ page) × (front rest : List NoteValue) × (notes ≡ front ++ rest)
     × ForksPage who child page front × ForksPages who child (page + 1) pages rest
 
--- a fork: its beginning, its pages, its end
+-- a fork: its beginning, its pages, its end or its failure
 abbrev pub Forks : Who → (child : ℕ) → List NoteValue → Type 0
 Forks who child notes =
     (pages : ℕ) × (front rest : List NoteValue) × (notes ≡ front ++ rest)

@@ -1,22 +1,28 @@
 -- Where a fork stands between two turns, as the machine keeps it, and what a turn of one is.
-use Rattle.std.specs.Prelude.{◌≡◌, ℕ, Bool, true, false, if◌then◌else◌, List, [], ◌∷◌, None, IsSome}
-use Rattle.gup_plain.specs.State.{growing, born}
+use Rattle.std.specs.Prelude.{◌≡◌, ℕ, ◌≤◌, Bool, true, false, List, [], ◌∷◌, Some, None, IsSome}
+use Rattle.gup_plain.specs.Event.{words}
+use Rattle.gup_plain.specs.State.{Birth, growing, born, failed}
+use Rattle.gup_plain.specs.declared.event.PlainEvent.TheVariants as events
 use Rattle.gup_plain.specs.declared.note.What.{What}
 use Rattle.gup_plain.specs.declared.note.What.TheVariants.{Silent, Idle, Wait, Event, Done}
+use Rattle.gup_base.specs.declared.entry.Entry.{Entry}
+use Rattle.gup_frames.specs.Frames.{FramesValue, IsFrame}
 use Rattle.gup_space.specs.Space.{SpaceValue}
 use Rattle.gup_space.specs.Shows.{ShowsFrames, ShowsSpace}
 use Rattle.gup_fork.specs.Forks.{ForkChange}
 use Rattle.gup_events.specs.State.{CoreState}
 use Rattle.gup_events.specs.Invariant.{run}
 use Rattle.gup_turns.specs.Turn.{Taken, fork_turn}
-use Rattle.gup_turns.specs.Reached.{ForkPlace, unbegun, from_page, at_page, fork_place, StandsFork}
+use Rattle.gup_turns.specs.Reached.{ForkPlace, unbegun, from_page, at_page, wants_frame, at_word, place_in, StandsFork}
 use Rattle.gup_ops.specs.declared.forks.ForkPlace.{ForkPlace as KeptPlace}
-use Rattle.gup_ops.specs.declared.forks.ForkPlace.TheVariants.{Unbegun, From, At}
+use Rattle.gup_ops.specs.declared.forks.ForkPlace.TheVariants.{Unbegun, From, At, Wanting, Copying}
 
 abbrev pub place_of : KeptPlace → ForkPlace
 place_of Unbegun = unbegun
 place_of (From page) = from_page page
 place_of (At page) = at_page page
+place_of (Wanting page) = wants_frame page
+place_of (Copying page word to) = at_word page word to
 
 -- does a turn that says this end its operation?
 abbrev pub is_answered : List What → Bool
@@ -28,11 +34,27 @@ is_answered (Wait waiting ∷ whats) = is_answered whats
 is_answered (Idle ∷ whats) = is_answered whats
 
 -- a page that was counted has an entry of the parent, and none yet of the child, which has it mapped
-abbrev pub IsReadyAt : ForkPlace → (parent child : SpaceValue) → Type 0
-IsReadyAt unbegun parent child = Unit {0}
-IsReadyAt (from_page page) parent child = Unit {0}
-IsReadyAt (at_page page) parent child =
-    IsSome (parent.entry page) × IsSome (child.right page) × (child.entry page ≡ None)
+abbrev pub IsCountedIn : (page : ℕ) → (parent child : SpaceValue) → Type 0
+IsCountedIn page parent child = IsSome (parent.entry page) × IsSome (child.right page) × (child.entry page ≡ None)
+
+-- a frame that the page is copied into is there, is not free, and is not the page's own
+abbrev pub IsCopyOf : FramesValue → (page to : ℕ) → (parent : SpaceValue) → Type 0
+IsCopyOf frames page to parent =
+    IsFrame frames to × (frames.count to ≡ 0 → ⊥) × ((e : Entry) → parent.entry page ≡ Some e → to ≡ e.frame → ⊥)
+
+abbrev pub IsReadyAt : FramesValue → ForkPlace → (parent child : SpaceValue) → Type 0
+IsReadyAt frames unbegun parent child = Unit {0}
+IsReadyAt frames (from_page page) parent child = Unit {0}
+IsReadyAt frames (at_page page) parent child = IsCountedIn page parent child
+IsReadyAt frames (wants_frame page) parent child = IsCountedIn page parent child
+IsReadyAt frames (at_word page word to) parent child =
+    IsCountedIn page parent child × IsCopyOf frames page to parent × (word ≤ words)
+
+-- what the child is behind a turn that says this: it grows until the fork ends or fails
+abbrev pub birth_behind : (parent : ℕ) → List What → Birth
+birth_behind parent (Event (events.ForkEnd p c) ∷ whats) = born
+birth_behind parent (Event (events.ForkFail c) ∷ whats) = failed
+birth_behind parent whats = growing parent
 
 -- From this state the turn of a fork leads to frames, a parent and a child as they are behind the change, and says this.
 pub record LeadsFork (k : ForkChange) (a p c : ℕ) (s : CoreState) (turn : Taken) (new : ForkPlace) (whats : List What) : Type 0 where
@@ -40,13 +62,13 @@ pub record LeadsFork (k : ForkChange) (a p c : ℕ) (s : CoreState) (turn : Take
   pub frames : ShowsFrames k.new_frames (run s turn.events)
   pub parent : ShowsSpace p k.new_parent (run s turn.events)
   pub child : ShowsSpace c k.new_child (run s turn.events)
-  pub place : fork_place ((run s turn.events).job a) ≡ new
-  pub birth : (run s turn.events).birth c ≡ (if is_answered whats then born else growing p)
+  pub place : place_in (run s turn.events) a ≡ new
+  pub birth : (run s turn.events).birth c ≡ birth_behind p whats
 
 -- So it is in whatever state they stand as two processes, where the fork stands at this place.
 abbrev pub IsForkTurn : ForkChange → (a p child : ℕ) → (old new : ForkPlace) → List What → Type 0
 IsForkTurn k a p child old new whats =
     (s : CoreState)
     → (p ≡ child → ⊥) → ShowsFrames k.old_frames s → ShowsSpace p k.old_parent s → ShowsSpace child k.old_child s
-    → StandsFork s a p child (s.job a) → fork_place (s.job a) ≡ old
+    → StandsFork s a p child (s.job a) (s.prepared a) → place_in s a ≡ old
     → LeadsFork k a p child s (fork_turn s a p child (s.job a)) new whats

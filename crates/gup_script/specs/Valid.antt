@@ -115,8 +115,6 @@ pub record IsScript (s : ScriptValue) : Type 0 where
   -- no two forks bring one child, and no two pins make one handle
   pub forks_once : (a b j k child : ℕ) → ForksAt s a j child → ForksAt s b k child → (a ≡ b) × (j ≡ k)
   pub pins_once : (a b j k handle : ℕ) → PinsAt s a j handle → PinsAt s b k handle → (a ≡ b) × (j ≡ k)
-  -- forks copy no page so far: a script has pins, or forks, and not both
-  pub pins_or_forks : (a b j k child handle : ℕ) → ForksAt s a j child → PinsAt s b k handle → ⊥
   pub few_ops : sum_by (λ (a : Actor). length a.ops) s.actors ≤ most_operations
   pub turns : All (λ a. a < length s.actors) s.turns
   pub few_turns : length s.turns ≤ most_turns

@@ -1,8 +1,9 @@
 -- The shapes of a turn: what its notes say, by the operation and the plain state before it.
-use Rattle.std.proofs.Common.{◌≡◌, ℕ, ◌+◌, ◌<◌, ◌≤◌, Bool, true, false, IsTrue, List, [], ◌∷◌, length, Option, Some, None}
+use Rattle.std.proofs.Common.{◌≡◌, ℕ, ◌+◌, ◌<◌, ◌≤◌, Bool, true, false, IsTrue, List, [], ◌∷◌, length, Option, Some, None, subst}
 use Rattle.gup_base.specs.declared.entry.Rights.{Rights}
 use Rattle.gup_plain.specs.Denial.{is_held_by, transfer_denial}
-use Rattle.gup_plain.specs.State.{PlainState, born, objects_of}
+use Rattle.gup_plain.specs.Event.{words}
+use Rattle.gup_plain.specs.State.{PlainState, born, failed, objects_of}
 use Rattle.gup_plain.specs.declared.answer.Answer.{Answer}
 use Rattle.gup_plain.specs.declared.answer.Answer.TheVariants as answers
 use Rattle.gup_plain.specs.declared.answer.Cause.{Cause}
@@ -13,14 +14,14 @@ use Rattle.gup_plain.specs.declared.note.What.TheVariants.{Silent, Idle, Wait, E
 use Rattle.gup_plain.specs.declared.note.Waiting.{Waiting}
 use Rattle.gup_script.specs.declared.op.Op.{Op}
 use Rattle.gup_script.specs.declared.op.Op.TheVariants.{Map, Unmap, Protect, Discard, Load, Store, Pin, Unpin, Give, Take, Transfer, Fork, Exit}
-use Rattle.gup_events.specs.State.{CoreState, Job, idle, forking}
+use Rattle.gup_events.specs.State.{CoreState, Job, idle, marking, moving, forking, walking, between, counted, lowered, cleared, copying, failing}
 use Rattle.gup_events.specs.Invariant.{AllCan, run}
 use Rattle.gup_laws.specs.Law.{all_told}
 use Rattle.gup_follows.specs.Denial.{op_denial}
 use Rattle.gup_follows.specs.Place.{Place, Doer, birth_for}
 use Rattle.gup_follows.specs.Plain.{IsAnswerOf, Passes, refusal_of}
 use Rattle.gup_follows.specs.Follows.{refuses, EndsPin, moves_word}
-use Rattle.gup_turns.specs.Reached.{ForkPlace, unbegun, from_page, at_page, StandsFork, StandsPin}
+use Rattle.gup_turns.specs.Reached.{ForkPlace, unbegun, from_page, at_page, wants_frame, at_word, StandsFork, StandsPin}
 use Rattle.gup_turns.specs.Turn.{Taken}
 use Rattle.gup_turns.proofs.Through.{events_of}
 use Rattle.gup_turns.proofs.Calm.{Strand, of_pages, of_pin, of_handle, AreTurnEvents}
@@ -33,11 +34,14 @@ AtFirst place = (place.far ≡ 0) × (place.had ≡ false)
 abbrev pub IsBegun : Place → Type 0
 IsBegun place = (0 < place.far) × (place.had ≡ true)
 
--- where a fork may stand, by its actor's job
-abbrev pub FitsFork : CoreState → (a p child : ℕ) → Place → Job → Type 0
-FitsFork s a p child place idle = AtFirst place × StandsFork s a p child idle
-FitsFork s a p child place (forking q c done step) = IsBegun place × StandsFork s a p child (forking q c done step)
-FitsFork s a p child place job = ⊥
+-- where a fork may stand, by its actor's job and the frame that this has prepared
+abbrev pub FitsFork : CoreState → (a p child : ℕ) → Place → Job → (prepared : Option ℕ) → Type 0
+FitsFork s a p child place idle prepared = AtFirst place × StandsFork s a p child idle prepared
+FitsFork s a p child place (forking q c done step) prepared =
+    IsBegun place × StandsFork s a p child (forking q c done step) prepared
+FitsFork s a p child place (marking q page f) prepared = ⊥
+FitsFork s a p child place (moving q page e count) prepared = ⊥
+FitsFork s a p child place (walking q write long sequence step) prepared = ⊥
 
 -- an actor is in the middle of nothing, and has taken no page
 abbrev pub Rests : CoreState → ℕ → Type 0
@@ -73,7 +77,7 @@ FitsOp s who (Transfer handle outward index slot n) place =
     × (0 < place.far → transfer_denial (s.handle handle) who.actor outward who.slots slot ((index, n) ∷ []) ≡ None)
     × HasLeft s who.actor handle 0
 FitsOp s who (Fork child) place =
-    (s.taken who.actor ≡ []) × FitsFork s who.actor who.proc child place (s.job who.actor)
+    (s.taken who.actor ≡ []) × FitsFork s who.actor who.proc child place (s.job who.actor) (s.prepared who.actor)
 FitsOp s who Exit place = Rests s who.actor
 
 abbrev pub FitsAt : CoreState → Doer → Option Op → Place → Type 0
@@ -136,17 +140,59 @@ pub data TurnOf (s : PlainState) (who : Doer) (place : Place) : Op → ForkPlace
   counted_page : (child from page : ℕ) → IsBegun place → from ≤ page → TurnOf s who place (Fork child) (from_page from) (Silent ∷ []) (at_page page)
   shared_page : (child page : ℕ) → IsBegun place → TurnOf s who place (Fork child) (at_page page) (Event (events.ForkPage who.proc child page) ∷ []) (from_page (page + 1))
   ended : (child from : ℕ) → IsBegun place → TurnOf s who place (Fork child) (from_page from) (Event (events.ForkEnd who.proc child) ∷ Done answers.Plain ∷ []) unbegun
+  -- a page that it counts and then copies: it takes a frame, copies word by word, and places the copy; or it finds no frame
+  counted_copy : (child from page : ℕ) → IsBegun place → from ≤ page → TurnOf s who place (Fork child) (from_page from) (Silent ∷ []) (wants_frame page)
+  took_frame : (child page to : ℕ) → IsBegun place → TurnOf s who place (Fork child) (wants_frame page) (Silent ∷ []) (at_word page 0 to)
+  copied_word : (child page word to : ℕ) → IsBegun place → word < words → TurnOf s who place (Fork child) (at_word page word to) (Event (events.ForkWord who.proc child page word) ∷ []) (at_word page (word + 1) to)
+  placed_copy : (child page to : ℕ) → IsBegun place → TurnOf s who place (Fork child) (at_word page words to) (Silent ∷ []) (from_page (page + 1))
+  failed_fork : (child page : ℕ) → IsBegun place → TurnOf s who place (Fork child) (wants_frame page) (Event (events.ForkFail child) ∷ Done answers.NoFrame ∷ []) unbegun
 
--- The turns of an actor: idle where it has finished, waiting, or of its operation.
+-- The turns of an actor: idle where it has finished, waiting, of its operation, or refused since its process failed, which
+-- makes the child of a fork failed too.
 pub data TurnAt (s : PlainState) (who : Doer) (place : Place) : Option Op → Option Waiting → ForkPlace → List What → ForkPlace → Type 0 where
   idles : (waiting : Option Waiting) (at : ForkPlace) → TurnAt s who place None waiting at (Idle ∷ []) at
   waits : (op : Op) (waiting : Waiting) (at : ForkPlace) → TurnAt s who place (Some op) (Some waiting) at (Wait waiting ∷ []) at
   goes : (op : Op) (whats : List What) (from to : ForkPlace) → birth_for s.birth who ≡ born → (IsOfProcess op → s.birth who.proc ≡ born) → TurnOf s who place op from whats to → TurnAt s who place (Some op) None from whats to
+  unborn_refused : (op : Op) → birth_for s.birth who ≡ failed → AtFirst place → IsTrue (refuses op answers.Unborn) → TurnAt s who place (Some op) None unbegun (Done answers.Unborn ∷ []) unbegun
+  unborn_fork : (child : ℕ) → birth_for s.birth who ≡ failed → s.birth who.proc ≡ failed → AtFirst place → TurnAt s who place (Some (Fork child)) None unbegun (Event (events.ForkFail child) ∷ Done answers.Unborn ∷ []) unbegun
 
--- between two turns no actor keeps a frame
-pub record AtRest (s : CoreState) : Type 0 where
-  pub prepared : (a : ℕ) → s.prepared a ≡ None
-  pub owed : (a : ℕ) → s.owed a ≡ None
+-- an actor keeps a frame only where its fork copies a page
+abbrev pub KeepsFrame : Job → (prepared : Option ℕ) → Type 0
+KeepsFrame idle prepared = prepared ≡ None
+KeepsFrame (marking q page f) prepared = prepared ≡ None
+KeepsFrame (moving q page e count) prepared = prepared ≡ None
+KeepsFrame (walking q write long sequence step) prepared = prepared ≡ None
+KeepsFrame (forking q c done between) prepared = prepared ≡ None
+KeepsFrame (forking q c done (counted page)) prepared = prepared ≡ None
+KeepsFrame (forking q c done (lowered page)) prepared = prepared ≡ None
+KeepsFrame (forking q c done (cleared page)) prepared = prepared ≡ None
+KeepsFrame (forking q c done (copying page word)) prepared = Unit {0}
+KeepsFrame (forking q c done failing) prepared = prepared ≡ None
+
+-- between two turns an actor keeps no other frame, and owes no reference
+pub record AtRest (s : CoreState) (a : ℕ) : Type 0 where
+  pub prepared : KeepsFrame (s.job a) (s.prepared a)
+  pub owed : s.owed a ≡ None
+
+-- so one that is in the middle of nothing has prepared none
+pub unprepared : (s : CoreState) (a : ℕ) → AtRest s a → s.job a ≡ idle → s.prepared a ≡ None
+unprepared s a rest job = subst (λ (j : Job). KeepsFrame j (s.prepared a)) job rest.prepared
+
+-- one that has prepared none is at rest, whatever it is in the middle of
+pub keeps_none : (job : Job) (prepared : Option ℕ) → prepared ≡ None → KeepsFrame job prepared
+keeps_none idle prepared none = none
+keeps_none (marking q page f) prepared none = none
+keeps_none (moving q page e count) prepared none = none
+keeps_none (walking q write long sequence step) prepared none = none
+keeps_none (forking q c done between) prepared none = none
+keeps_none (forking q c done (counted page)) prepared none = none
+keeps_none (forking q c done (lowered page)) prepared none = none
+keeps_none (forking q c done (cleared page)) prepared none = none
+keeps_none (forking q c done (copying page word)) prepared none = tt
+keeps_none (forking q c done failing) prepared none = none
+
+pub at_rest : (s : CoreState) (a : ℕ) → s.prepared a ≡ None → s.owed a ≡ None → AtRest s a
+at_rest s a none owed = record { prepared = keeps_none (s.job a) (s.prepared a) none; owed = owed }
 
 -- the child that an operation of process p brings, or else p
 abbrev pub child_of : (p : ℕ) → Option Op → ℕ
@@ -182,10 +228,10 @@ strand_of (Some (Transfer handle outward index slot n)) = of_handle handle
 strand_of (Some (Fork child)) = of_pages
 strand_of (Some Exit) = of_pages
 
--- A turn's core events are the actor's own, they can happen, they leave the actors without frames, and the plain events
+-- A turn's core events are the actor's own, they can happen, they leave the actor at rest, and the plain events
 -- that stand at them are those of the notes.
 pub record IsDone (s : CoreState) (a p c : ℕ) (strand : Strand) (turn : Taken) : Type 0 where
   pub kinds : AreTurnEvents a p c strand turn.events
   pub can : AllCan s turn.events
-  pub rest : AtRest (run s turn.events)
+  pub rest : AtRest (run s turn.events) a
   pub told : all_told turn.events ≡ events_of turn.whats

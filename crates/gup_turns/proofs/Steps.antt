@@ -13,7 +13,7 @@ use Rattle.gup_events.specs.Invariant.{run}
 use Rattle.gup_events.specs.Sound.{IsSound}
 use Rattle.gup_follows.specs.Order.{handle_waits}
 use Rattle.gup_follows.specs.Place.{Place, Doer, doer, birth_by, birth_for}
-use Rattle.gup_turns.specs.Reached.{fork_place, StandsHandle, back_in}
+use Rattle.gup_turns.specs.Reached.{place_in, StandsHandle, back_in}
 use Rattle.gup_turns.specs.Run.{RunState, op_in, waiting_with, waiting_in, taken_by, taken_in, run_after}
 use Rattle.gup_turns.specs.Turn.{Taken, waits_at, waits_born, first_waiting, waits_for_locks, no_lock, failed_turn, turn_at, turn_of, op_turn}
 use Rattle.gup_turns.proofs.Calm.{IsCalm}
@@ -36,17 +36,17 @@ IsAhead place k = (place.answered < k) ⊎ ((place.answered ≡ k) × (place.far
 pub record Stands (script : ScriptValue) (r : RunState) : Type 0 where
   pub sound : IsSound r.core
   pub calm : IsCalm r.core
-  pub rest : AtRest r.core
+  pub rest : (a : ℕ) → AtRest r.core a
   pub few : IsFew (length script.processes) r.core
-  -- no process has failed, since a fork that shares wants no frame; all but unborn ones are declared
-  pub unfailed : (p : ℕ) → r.core.birth p ≡ failed → ⊥
+  -- a process that failed has given back its entries; all but unborn ones are declared
+  pub emptied : (p page : ℕ) → r.core.birth p ≡ failed → r.core.entry p page ≡ None
   pub declared : (p : ℕ) → (r.core.birth p ≡ unborn → ⊥) → p < length script.processes
   -- each actor stands where its operation can, and a thread in the middle of one only in a born process
   pub fits : (a : ℕ) → FitsAt r.core (doer script a) (op_in script r a) (r.places a)
   pub begun : (a : ℕ) → 0 < (r.places a).far → birth_for r.core.birth (doer script a) ≡ born
-  -- the child of a fork that has not begun is unborn, and where there is a fork nobody pins
+  pub fresh : (a : ℕ) → (r.places a).far ≡ 0 → (r.places a).had ≡ false
+  -- the child of a fork that has not begun is unborn
   pub unforked : (a k child : ℕ) → ForksAt script a k child → IsAhead (r.places a) k → r.core.birth child ≡ unborn
-  pub unpinned : (a k child : ℕ) → ForksAt script a k child → (p : ℕ) → r.core.has_pinned p ≡ false
   -- the handle of a pin that is not answered is unmade; those that are made are declared and have their pages
   pub yet_unmade : (a k h : ℕ) → PinsAt script a k h → (r.places a).answered ≤ k → r.core.handle h ≡ unmade
   pub made : (h : ℕ) → (r.core.handle h ≡ unmade → ⊥) → h < length script.handles
@@ -55,9 +55,11 @@ pub record Stands (script : ScriptValue) (r : RunState) : Type 0 where
 -- a turn can be done, it has its shape, and the actor stands right behind it
 pub record IsTaken (s : CoreState) (who : Doer) (place : Place) (op : Option Op) (waiting : Option Waiting) (turn : Taken) : Type 0 where
   pub done : IsDone s who.actor who.proc (child_of who.proc op) (strand_of op) turn
-  pub shape : TurnAt (plain_of s) who place op waiting (fork_place (s.job who.actor)) turn.whats (fork_place ((run s turn.events).job who.actor))
+  pub shape : TurnAt (plain_of s) who place op waiting (place_in s who.actor) turn.whats (place_in (run s turn.events) who.actor)
   pub next : FitsNext (run s turn.events) who op place turn.whats
   pub pin : (o : Op) → op ≡ Some o → waiting ≡ None → MakesPin s (run s turn.events) who.actor o
+  -- the child of a fork that fails has no entries behind it
+  pub emptied : (child page : ℕ) → op ≡ Some (Fork child) → (run s turn.events).birth child ≡ failed → (run s turn.events).entry child page ≡ None
 
 -- an actor that waits for no process goes on only once that is born
 born_of : (b : Birth) (p : ℕ) (others : Option Waiting) → waits_at b p others ≡ None → (b ≡ failed → ⊥) → b ≡ born

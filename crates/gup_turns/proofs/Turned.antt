@@ -10,13 +10,13 @@ use Rattle.gup_plain.specs.declared.note.Waiting.{Waiting}
 use Rattle.gup_plain.specs.declared.note.Waiting.TheVariants as waitings
 use Rattle.gup_script.specs.declared.op.Op.{Op}
 use Rattle.gup_script.specs.declared.op.Op.TheVariants.{Pin, Unpin, Give, Take, Transfer}
-use Rattle.gup_events.specs.State.{CoreState, idle, plain_of}
+use Rattle.gup_events.specs.State.{CoreState, Job, idle, plain_of}
 use Rattle.gup_events.specs.Event.{CoreEvent, AreUnlocked, happens, told}
 use Rattle.gup_events.specs.Invariant.{AllCan, run}
 use Rattle.gup_events.specs.Sound.{IsSound, keeps_table, keeps_structure}
 use Rattle.gup_laws.specs.Law.{with_told, all_told}
 use Rattle.gup_follows.specs.Place.{Place, Doer, place_after}
-use Rattle.gup_turns.specs.Reached.{ForkPlace, unbegun, fork_place, StandsHandle}
+use Rattle.gup_turns.specs.Reached.{ForkPlace, unbegun, fork_place, place_in, StandsHandle}
 use Rattle.gup_turns.specs.Turn.{Taken, held_by_other, waits_for_locks, first_waiting, both_locks}
 use Rattle.gup_turns.proofs.Calm.{IsCalm, Strand, AreTurnEvents}
 use Rattle.gup_turns.proofs.Shapes.{FitsAt, Rests, TurnOf, AtRest, IsDone, child_of, strand_of}
@@ -25,14 +25,14 @@ use Rattle.gup_turns.proofs.Shapes.{FitsAt, Rests, TurnOf, AtRest, IsDone, child
 pub record IsOpen (s : CoreState) (a p : ℕ) : Type 0 where
   pub sound : IsSound s
   pub calm : IsCalm s
-  pub rest : AtRest s
+  pub rest : AtRest s a
   pub birth : s.birth p ≡ born
 
 -- the same of an operation that is of no process
-pub record IsQuiet (s : CoreState) : Type 0 where
+pub record IsQuiet (s : CoreState) (a : ℕ) : Type 0 where
   pub sound : IsSound s
   pub calm : IsCalm s
-  pub rest : AtRest s
+  pub rest : AtRest s a
 
 -- Behind notes with an answer the actor is in the middle of nothing; behind others it stands where its operation can.
 abbrev pub FitsNext : CoreState → Doer → Option Op → Place → List What → Type 0
@@ -67,15 +67,19 @@ MakesPin s t a op = Unit {0}
 -- the turn can be done, it has its shape, and the actor stands right behind it
 pub record IsTurned (s : CoreState) (who : Doer) (place : Place) (op : Op) (turn : Taken) : Type 0 where
   pub done : IsDone s who.actor who.proc (child_of who.proc (Some op)) (strand_of (Some op)) turn
-  pub shape : TurnOf (plain_of s) who place op (fork_place (s.job who.actor)) turn.whats (fork_place ((run s turn.events).job who.actor))
+  pub shape : TurnOf (plain_of s) who place op (place_in s who.actor) turn.whats (place_in (run s turn.events) who.actor)
   pub next : FitsNext (run s turn.events) who (Some op) place turn.whats
   pub pin : MakesPin s (run s turn.events) who.actor op
 
+-- an actor that is in the middle of nothing has begun no fork
+pub idle_place : (s : CoreState) (a : ℕ) → s.job a ≡ idle → place_in s a ≡ unbegun
+idle_place s a job = ap (λ (j : Job). fork_place j (s.prepared a)) job
+
 -- where the actor is in the middle of nothing before and behind, the turn is none of a fork that has begun
-pub shape_idle : (s t : CoreState) (who : Doer) (place : Place) (op : Op) (whats : List What) → s.job who.actor ≡ idle → t.job who.actor ≡ idle → TurnOf (plain_of s) who place op unbegun whats unbegun → TurnOf (plain_of s) who place op (fork_place (s.job who.actor)) whats (fork_place (t.job who.actor))
+pub shape_idle : (s t : CoreState) (who : Doer) (place : Place) (op : Op) (whats : List What) → s.job who.actor ≡ idle → t.job who.actor ≡ idle → TurnOf (plain_of s) who place op unbegun whats unbegun → TurnOf (plain_of s) who place op (place_in s who.actor) whats (place_in t who.actor)
 shape_idle s t who place op whats before behind shape =
-    subst (λ (from : ForkPlace). TurnOf (plain_of s) who place op from whats (fork_place (t.job who.actor))) (sym (ap fork_place before))
-    (subst (λ (to : ForkPlace). TurnOf (plain_of s) who place op unbegun whats to) (sym (ap fork_place behind)) shape)
+    subst (λ (from : ForkPlace). TurnOf (plain_of s) who place op from whats (place_in t who.actor)) (sym (idle_place s who.actor before))
+    (subst (λ (to : ForkPlace). TurnOf (plain_of s) who place op unbegun whats to) (sym (idle_place t who.actor behind)) shape)
 
 -- locks
 

@@ -1,7 +1,7 @@
 -- How many turns a run has at most still to take, those aside that wait or are idle.
 use Rattle.std.specs.Prelude.{◌≡◌, ℕ, ◌+◌, ◌-◌, ◌*◌, ◌<◌, ◌⊎◌, false, IsSome, List, [], ◌∷◌, length, sum_by, Option, None, zero, suc}
 use Rattle.gup_base.specs.declared.entry.Rights.{Rights}
-use Rattle.gup_plain.specs.Event.{most_pages, page_numbers}
+use Rattle.gup_plain.specs.Event.{most_pages, page_numbers, words}
 use Rattle.gup_plain.specs.Put.{put}
 use Rattle.gup_script.specs.declared.op.Op.{Op}
 use Rattle.gup_script.specs.declared.op.Op.TheVariants.{Map, Unmap, Protect, Discard, Load, Store, Pin, Unpin, Give, Take, Transfer, Fork, Exit}
@@ -12,19 +12,23 @@ use Rattle.gup_follows.specs.Place.{Place, ops_of, process_of}
 use Rattle.gup_events.specs.State.{CoreState}
 use Rattle.gup_turns.specs.Pages.{sum_below, mapped_pages, pages_from}
 use Rattle.gup_turns.specs.Run.{RunState, run_after}
-use Rattle.gup_turns.specs.Reached.{ForkPlace, unbegun, from_page, at_page, fork_place}
+use Rattle.gup_turns.specs.Reached.{ForkPlace, unbegun, from_page, at_page, wants_frame, at_word, place_in}
 
--- the turns that a fork has at most still to take: two a page of the child, and its end
+-- the turns that a fork has at most still to take: 515 a page of the child that is copied, and its end
 abbrev pub fork_turns : (right : ℕ → Option Rights) → ForkPlace → ℕ
-fork_turns right unbegun = 2 * most_pages + 2
-fork_turns right (from_page page) = 2 * pages_from right page + 1
-fork_turns right (at_page page) = 2 * pages_from right (page + 1) + 2
+fork_turns right unbegun = 515 * most_pages + 2
+fork_turns right (from_page page) = 515 * pages_from right page + 1
+fork_turns right (at_page page) = 515 * pages_from right (page + 1) + 2
+fork_turns right (wants_frame page) = 515 * pages_from right (page + 1) + 515
+fork_turns right (at_word page word to) = 515 * pages_from right (page + 1) + (words - word) + 2
 
 -- those, with what the child's pages may cost an exit
 abbrev pub fork_left : (right : ℕ → Option Rights) → ForkPlace → ℕ
 fork_left right unbegun = fork_turns right unbegun + most_pages
 fork_left right (from_page page) = fork_turns right (from_page page)
 fork_left right (at_page page) = fork_turns right (at_page page)
+fork_left right (wants_frame page) = fork_turns right (wants_frame page)
+fork_left right (at_word page word to) = fork_turns right (at_word page word to)
 
 -- the turns of an operation, with those that the pages which it maps may cost an exit
 abbrev pub op_cost : Op → ℕ
@@ -39,7 +43,7 @@ op_cost (Unpin handle) = most_pinned
 op_cost (Give handle to) = 1
 op_cost (Take handle) = 1
 op_cost (Transfer handle outward index slot n) = n
-op_cost (Fork child) = 3 * most_pages + 2
+op_cost (Fork child) = 516 * most_pages + 2
 op_cost Exit = 1
 
 -- the same of one that actor a is in the middle of, of which so many turns are over
@@ -55,7 +59,7 @@ op_left s a (Unpin handle) far = most_pinned - far
 op_left s a (Give handle to) far = 1
 op_left s a (Take handle) far = 1
 op_left s a (Transfer handle outward index slot n) far = n - far
-op_left s a (Fork child) far = fork_left (s.right child) (fork_place (s.job a))
+op_left s a (Fork child) far = fork_left (s.right child) (place_in s a)
 op_left s a Exit far = 1
 
 -- of the operations behind those that are answered
@@ -114,7 +118,7 @@ IsWithinBound (Transfer handle outward index slot n) a p place next before after
 IsWithinBound (Fork child) a p place next before after =
     IsAnswered place next
     ⊎ (GoesOn place next
-    × (fork_turns (after.right child) (fork_place (after.job a)) < fork_turns (before.right child) (fork_place (before.job a))))
+    × (fork_turns (after.right child) (place_in after a) < fork_turns (before.right child) (place_in before a)))
 IsWithinBound Exit a p place next before after =
     IsAnswered place next ⊎ (GoesOn place next × LosesPage (before.right p) (after.right p))
 

@@ -1,13 +1,12 @@
 -- What is known of each state that turns lead to, whoever takes them.
 use Rattle.std.specs.Prelude.{◌≡◌, ℕ, ◌+◌, ◌*◌, ◌≤◌, ◌<◌, ◌==◌, Bool, true, false, if◌then◌else◌, List, [], ◌∷◌, length, slice_get, Contains, Option, Some, None, IsSome}
 use Rattle.gup_base.specs.declared.entry.Entry.{Entry}
-use Rattle.gup_plain.specs.Event.{page_numbers}
-use Rattle.gup_plain.specs.State.{unborn, growing, failed, Handle, unmade, held, given, gone}
+use Rattle.gup_plain.specs.Event.{page_numbers, words}
+use Rattle.gup_plain.specs.State.{unborn, growing, Handle, unmade, held, given, gone}
 use Rattle.gup_script.specs.declared.op.Op.{Op}
 use Rattle.gup_script.specs.declared.op.Op.TheVariants.{Map, Unmap, Protect, Discard, Load, Store, Pin, Unpin, Give, Take, Transfer, Fork, Exit}
 use Rattle.gup_script.specs.Limits.{most_pinned}
 use Rattle.gup_script.specs.Script.{ScriptValue}
-use Rattle.gup_script.specs.Valid.{ForksAt}
 use Rattle.gup_events.specs.State.{CoreState, Taken, Job, idle, marking, moving, forking, walking, between, counted, lowered, cleared, copying, failing}
 use Rattle.gup_events.specs.Event.{bias}
 use Rattle.gup_events.specs.Sound.{IsSound}
@@ -21,24 +20,35 @@ abbrev pub turned : ScriptValue → RunState → List ℕ → RunState
 turned script r [] = r
 turned script r (a ∷ actors) = turned script (run_after script r a) actors
 
--- Where a fork stands between two turns: it has not begun, it looks for its next page from this one on, or it has
--- counted this page.
+-- Where a fork stands between two turns: it has not begun; it looks for its next page from this one on; it has counted this
+-- page, and is to share it, or to copy it and wants a frame for that; or it has copied so many words of this page into that
+-- frame.
 pub data ForkPlace : Type 0 where
   unbegun : ForkPlace
   from_page : (page : ℕ) → ForkPlace
   at_page : (page : ℕ) → ForkPlace
+  wants_frame : (page : ℕ) → ForkPlace
+  at_word : (page word to : ℕ) → ForkPlace
 
-abbrev pub fork_place : Job → ForkPlace
-fork_place (forking p c done between) = from_page (first_behind done)
-fork_place (forking p c done (counted page)) = at_page page
-fork_place (forking p c done (lowered page)) = unbegun
-fork_place (forking p c done (cleared page)) = unbegun
-fork_place (forking p c done (copying page n)) = unbegun
-fork_place (forking p c done failing) = unbegun
-fork_place idle = unbegun
-fork_place (marking p page f) = unbegun
-fork_place (moving p page e count) = unbegun
-fork_place (walking p write long sequence step) = unbegun
+abbrev pub copying_place : (page word : ℕ) → (prepared : Option ℕ) → ForkPlace
+copying_place page word None = wants_frame page
+copying_place page word (Some to) = at_word page word to
+
+abbrev pub fork_place : Job → (prepared : Option ℕ) → ForkPlace
+fork_place (forking p c done between) prepared = from_page (first_behind done)
+fork_place (forking p c done (counted page)) prepared = at_page page
+fork_place (forking p c done (lowered page)) prepared = unbegun
+fork_place (forking p c done (cleared page)) prepared = unbegun
+fork_place (forking p c done (copying page word)) prepared = copying_place page word prepared
+fork_place (forking p c done failing) prepared = unbegun
+fork_place idle prepared = unbegun
+fork_place (marking p page f) prepared = unbegun
+fork_place (moving p page e count) prepared = unbegun
+fork_place (walking p write long sequence step) prepared = unbegun
+
+-- where the fork of this actor stands, if it does one
+abbrev pub place_in : CoreState → ℕ → ForkPlace
+place_in s a = fork_place (s.job a) (s.prepared a)
 
 -- Actor a is in the middle of a fork of process p into this child: it holds the structure lock; the child's pages below
 -- the place where it looks for the next one are done, and those from there on have no entry.
@@ -59,14 +69,31 @@ pub record HasCounted (s : CoreState) (a p child : ℕ) (done : List ℕ) (page 
   pub entry : IsSome (s.entry p page)
   pub mapped : IsSome (s.right child page)
 
--- where a fork of process p stands between two turns, by the job of its actor
-abbrev pub StandsFork : CoreState → (a p child : ℕ) → Job → Type 0
-StandsFork s a p child idle = s.birth child ≡ unborn
-StandsFork s a p child (forking q c done between) = IsForking s a p child q c done
-StandsFork s a p child (forking q c done (counted page)) =
+-- of a page that it copies it has copied some words, or none yet where it wants a frame
+abbrev pub HasCopied : (word : ℕ) → (prepared : Option ℕ) → Type 0
+HasCopied word None = word ≡ 0
+HasCopied word (Some to) = word ≤ words
+
+-- where a fork of process p stands between two turns, by the job of its actor and the frame that this has prepared
+abbrev pub StandsFork : CoreState → (a p child : ℕ) → Job → (prepared : Option ℕ) → Type 0
+StandsFork s a p child idle prepared = s.birth child ≡ unborn
+StandsFork s a p child (forking q c done between) prepared = IsForking s a p child q c done
+StandsFork s a p child (forking q c done (counted page)) prepared =
     IsForking s a p child q c done × HasCounted s a p child done page
-StandsFork s a p child (forking q c done step) = ⊥
-StandsFork s a p child job = ⊥
+StandsFork s a p child (forking q c done (copying page word)) prepared =
+    IsForking s a p child q c done × HasCounted s a p child done page × HasCopied word prepared
+StandsFork s a p child (forking q c done (lowered page)) prepared = ⊥
+StandsFork s a p child (forking q c done (cleared page)) prepared = ⊥
+StandsFork s a p child (forking q c done failing) prepared = ⊥
+StandsFork s a p child (marking q page f) prepared = ⊥
+StandsFork s a p child (moving q page e count) prepared = ⊥
+StandsFork s a p child (walking q write long sequence step) prepared = ⊥
+
+-- a frame that an actor has prepared is one of the machine, is not free, and stands in no entry
+pub record IsPrepared (s : CoreState) (f : ℕ) : Type 0 where
+  pub there : f < s.movable + s.normal
+  pub counted : s.count f ≡ 0 → ⊥
+  pub apart : (p page : ℕ) (e : Entry) → s.entry p page ≡ Some e → f ≡ e.frame → ⊥
 
 -- an actor that has no fork to do, or none at present, is in the middle of nothing
 abbrev pub IsNoFork : Option Op → Type 0
@@ -133,16 +160,14 @@ StandsHandle back pinned (given to objects write) =
 abbrev pub back_in : ScriptValue → RunState → (handle a : ℕ) → ℕ
 back_in script r handle a = given_back (present_op script a (r.places a)) handle (r.places a).far
 
--- The core state is sound. No process has failed, and where the script has a fork none has pinned; those that are born
--- or growing are declared. Each entry is of a mapped page, and its frame has a reference. No actor but one that forks
--- is in the middle of anything, none but one that pins has taken pages, an operation that goes over pages or words
+-- The core state is sound. Those that are not unborn are declared. Each entry is of a mapped page, and its frame has a
+-- reference. No actor but one that forks is in the middle of anything, none but one that pins has taken pages, and none but
+-- one that copies a page has prepared a frame. An operation that goes over pages or words
 -- stands at one of them, an unpin has given back fewer than the most pages of a pin, and no actor has answered more
 -- operations than it has. Pins are of declared handles, and the weight of each of their pages is in the count of its
 -- frame. Counts and sequences stay small.
 pub record IsStanding (script : ScriptValue) (r : RunState) : Type 0 where
   pub sound : IsSound r.core
-  pub unfailed : (p : ℕ) → r.core.birth p ≡ failed → ⊥
-  pub unpinned : (a k child : ℕ) → ForksAt script a k child → (p : ℕ) → r.core.has_pinned p ≡ false
   pub declared : (p : ℕ) → (r.core.birth p ≡ unborn → ⊥) → p < length script.processes
   pub mapped : (p page : ℕ) (e : Entry) → r.core.entry p page ≡ Some e → IsSome (r.core.right p page)
   pub counted : (p page : ℕ) (e : Entry) → r.core.entry p page ≡ Some e → r.core.count e.frame ≡ 0 → ⊥
@@ -150,7 +175,8 @@ pub record IsStanding (script : ScriptValue) (r : RunState) : Type 0 where
   pub few_counts : (f : ℕ) → r.core.count f ≤ 16 * page_numbers + bias * 17680
   pub few_forks : (p : ℕ) → r.core.sequence p ≤ 32
   pub idle_jobs : (a : ℕ) → IsNoFork (present_op script a (r.places a)) → r.core.job a ≡ idle
-  pub forks : (a child : ℕ) → present_op script a (r.places a) ≡ Some (Fork child) → StandsFork r.core a (process_of script a) child (r.core.job a)
+  pub forks : (a child : ℕ) → present_op script a (r.places a) ≡ Some (Fork child) → StandsFork r.core a (process_of script a) child (r.core.job a) (r.core.prepared a)
+  pub prepared : (a f : ℕ) → r.core.prepared a ≡ Some f → IsPrepared r.core f
   pub untaken : (a : ℕ) → IsNoPin (present_op script a (r.places a)) → r.core.taken a ≡ []
   pub pins : (a handle page n : ℕ) (write : Bool) → present_op script a (r.places a) ≡ Some (Pin handle page n write) → StandsPin r.core a (process_of script a) handle page n write (r.places a).far
   pub flagged : (a handle page n : ℕ) (write : Bool) → present_op script a (r.places a) ≡ Some (Pin handle page n write) → 0 < (r.places a).far → r.core.has_pinned (process_of script a) ≡ true

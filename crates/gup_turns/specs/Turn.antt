@@ -1,5 +1,5 @@
 -- The turn table: which core events a turn is, and what its notes say.
-use Rattle.std.specs.Prelude.{ℕ, ◌+◌, ◌-◌, ◌/◌, ◌%◌, ◌==◌, Bool, true, false, not, if◌then◌else◌, List, [], ◌∷◌, ◌++◌, length, take, slice_index, Option, Some, None, is_some, is_none, Ok, Err, zero, suc}
+use Rattle.std.specs.Prelude.{ℕ, ◌+◌, ◌-◌, ◌/◌, ◌%◌, ◌==◌, nat_lt, Bool, true, false, not, if◌then◌else◌, List, [], ◌∷◌, ◌++◌, length, take, slice_index, Option, Some, None, is_some, is_none, Ok, Err, zero, suc}
 use Rattle.gup_base.specs.declared.entry.Entry.{Entry}
 use Rattle.gup_base.specs.declared.entry.Rights.{Rights}
 use Rattle.gup_base.specs.declared.entry.Rights.TheVariants.{R, RW}
@@ -18,7 +18,8 @@ use Rattle.gup_plain.specs.declared.note.Waiting.TheVariants as waitings
 use Rattle.gup_script.specs.declared.op.Op.{Op}
 use Rattle.gup_script.specs.declared.op.Op.TheVariants.{Map, Unmap, Protect, Discard, Load, Store, Pin, Unpin, Give, Take, Transfer, Fork, Exit}
 use Rattle.gup_events.specs.State.{CoreState, Job, idle, marking, moving, forking, walking, ForkStep, between, counted, lowered, cleared, copying, failing}
-use Rattle.gup_events.specs.Event.{CoreEvent, map_pages, lower_entry, protect_pages, drop_entry, discard_entry, load, store, begin_fork, count_page, share_entry, share_mark, share_child, pass_page, end_fork, fail_unborn, copies_page, raise_flag, pin_page, make_handle, unpin_page, give_handle, take_handle, move_out, move_in}
+use Rattle.gup_events.specs.Event.{CoreEvent, map_pages, lower_entry, protect_pages, drop_entry, discard_entry, load, store, begin_fork, count_page, share_entry, share_mark, share_child, copy_word, place_child, pass_page, end_fork, fail_unborn, copies_page, raise_flag, pin_page, make_handle, unpin_page, give_handle, take_handle, move_out, move_in}
+use Rattle.gup_events.specs.Failure.{fails}
 use Rattle.gup_events.specs.Fault.{Fault, read_fault, write_fault, unshare_fault, gives_back}
 use Rattle.gup_events.specs.Invariant.{run}
 use Rattle.gup_plain.specs.Denial.{any_mapped, any_unmapped, map_denial, protect_denial, is_held_by, transfer_denial}
@@ -358,7 +359,8 @@ abbrev pub next_page : (right : ℕ → Option Rights) → (done : List ℕ) →
 next_page right done =
     lowest (first_behind done) (page_numbers - first_behind done) (λ page. is_some (right page))
 
--- A page without an entry is passed. The count of any other is read: no process has pinned yet, so none is copied.
+-- A page without an entry is passed. The count of any other is read: it is to be copied where its frame is exclusive, the
+-- process has pinned, and the frame may be pinned, and else to be shared.
 abbrev pub page_turn : CoreState → (a p c : ℕ) → List ℕ → (page : ℕ) → Option Entry → Taken
 page_turn s a p c done page None =
     record { events = pass_page a p c done page ∷ []; whats = Event (events.ForkPage p c page) ∷ [] }
@@ -382,13 +384,42 @@ share_turn a p c done page entry =
       whats = Event (events.ForkPage p c page) ∷ [];
     }
 
--- no turn ends within a share, and a page that is to be copied comes with pins
+-- The counted page is copied: first a frame is taken for it. Where none is free the fork fails, and gives back what its
+-- child has.
+abbrev pub frame_turn : CoreState → (a p c : ℕ) → List ℕ → (page word : ℕ) → (free : Option ℕ) → Taken
+frame_turn s a p c done page word None =
+    record {
+      events = fails a p c done (copying page word) (s.entry c);
+      whats = Event (events.ForkFail c) ∷ Done answers.NoFrame ∷ [];
+    }
+frame_turn s a p c done page word (Some f) = record { events = take_frame a f ∷ []; whats = Silent ∷ [] }
+
+abbrev pub rights_in : Option Rights → Rights
+rights_in None = R
+rights_in (Some rights) = rights
+
+-- then it is copied word by word, as each word is now, and at last the copy goes into the child's entry
+abbrev pub copy_turn : CoreState → (a p c : ℕ) → List ℕ → (page word to : ℕ) → (more : Bool) → Taken
+copy_turn s a p c done page word to true =
+    record {
+      events = copy_word a p c done page word to (entry_in (s.entry p page)) ∷ [];
+      whats = Event (events.ForkWord p c page word) ∷ [];
+    }
+copy_turn s a p c done page word to false =
+    record { events = place_child a p c done page to (rights_in (s.right c page)) ∷ []; whats = Silent ∷ [] }
+
+-- a page of which so many words are copied, into the frame that is taken for it
+abbrev pub copying_turn : CoreState → (a p c : ℕ) → List ℕ → (page word : ℕ) → (prepared : Option ℕ) → Taken
+copying_turn s a p c done page word None = frame_turn s a p c done page word (free_frame s)
+copying_turn s a p c done page word (Some to) = copy_turn s a p c done page word to (nat_lt word words)
+
+-- no turn ends within a share, nor within a failure
 abbrev pub fork_step_turn : CoreState → (a p c : ℕ) → List ℕ → ForkStep → Taken
 fork_step_turn s a p c done between = next_turn s a p c done (next_page (s.right c) done)
 fork_step_turn s a p c done (counted page) = share_turn a p c done page (s.entry p page)
 fork_step_turn s a p c done (lowered page) = record { events = []; whats = Silent ∷ [] }
 fork_step_turn s a p c done (cleared page) = record { events = []; whats = Silent ∷ [] }
-fork_step_turn s a p c done (copying page n) = record { events = []; whats = Silent ∷ [] }
+fork_step_turn s a p c done (copying page word) = copying_turn s a p c done page word (s.prepared a)
 fork_step_turn s a p c done failing = record { events = []; whats = Silent ∷ [] }
 
 abbrev pub fork_turn : CoreState → (a p child : ℕ) → Job → Taken
@@ -464,7 +495,7 @@ abbrev pub both_if : Bool → Locks
 both_if needed = record { structure = needed; table = needed }
 
 -- A fork needs both at its beginning. The first turn of each page needs the table lock, which it then has until the
--- page is done. Its end needs none.
+-- page is done, shared or copied. Its end needs none.
 abbrev pub fork_locks : (right : ℕ → Option Rights) → Job → Locks
 fork_locks right idle = both_locks
 fork_locks right (forking p c done between) = record { structure = false; table = is_some (next_page right done) }

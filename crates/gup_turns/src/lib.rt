@@ -60,15 +60,15 @@ pub fn reached_states_stand()
 }
 
 /// The turn of an actor that can go takes of the cost, and that of one that waits or has finished leaves it. At the
-/// start the cost is at most 3,074 for each operation of the script. So a run ends.
+/// start the cost is at most 528,386 for each operation of the script. So a run ends.
 pub fn turns_are_spent()
     ensures spent { (script : ScriptValue) (r : RunState) (a : ℕ) → IsScript script → IsStanding script r → can_go script r a ≡ true → cost script (run_after script r a) < cost script r }
     ensures kept { (script : ScriptValue) (r : RunState) (a : ℕ) → can_go script r a ≡ false → cost script (run_after script r a) ≡ cost script r }
-    ensures start { (script : ScriptValue) → IsScript script → cost script (run_start script) ≤ 3074 * operations script }
+    ensures start { (script : ScriptValue) → IsScript script → cost script (run_start script) ≤ 528386 * operations script }
 {}
 
 /// How many turns an operation has at most: a mapping, a protection, a load, a store, a give and a take one, what goes over
-/// n pages or words n, an unpin of n pages n, a fork 2,050; each turn of an exit but the one that answers it takes a page of
+/// n pages or words n, an unpin of n pages n, a fork 527,362; each turn of an exit but the one that answers it takes a page of
 /// its process.
 pub fn turns_are_bounded()
     ensures { (script : ScriptValue) (r : RunState) (a : ℕ) (op : Op) → IsScript script → IsStanding script r → op_in script r a ≡ Some op → waiting_in script r a ≡ None → IsBoundedTurn script r a op }
