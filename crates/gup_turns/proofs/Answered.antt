@@ -27,7 +27,8 @@ use Rattle.gup_turns.proofs.Rightness.{unrefused_short, not_both}
 use Rattle.gup_turns.specs.ScriptLemmas.{has_ops_declared}
 use Rattle.gup_turns.proofs.Shapes.{TurnOf, refused, mapped, protected, loaded, stored, gave, took_over, took, took_last, passed, passed_last, took_lowest, took_all, pinned_page, pinned_all, pinned_short, unpinned_page, unpinned_last, moved_word, moved_last, began, passed_page, counted_page, shared_page, ended, TurnAt, idles, waits, goes}
 use Rattle.gup_turns.proofs.Stands.{stands_on}
-use Rattle.gup_turns.proofs.Steps.{Stands, taken}
+use Rattle.gup_turns.proofs.Standing.{Stands}
+use Rattle.gup_turns.proofs.Steps.{taken}
 use Rattle.gup_turns.proofs.Sums.{sum_at, sum_zero, sum_of_list}
 use Rattle.gup_turns.proofs.Through.{Law}
 

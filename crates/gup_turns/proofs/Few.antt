@@ -14,23 +14,9 @@ use Rattle.gup_turns.specs.Pages.{sum_below, mapped_pages}
 use Rattle.gup_turns.proofs.Calm.{Strand, AreTurnEvents, IsTurnEvent, taking, filling, counting_one, marking_it, upgrading, breaking, putting, mapping, lowering, protecting, dropping, discarding, loading, storing, raising, pinning, making, handling, IsHandleEvent, AreHandleEvents, unpinning, giving, taking_over, moving_out, moving_in, beginning, counting, sharing_entry, sharing_mark, sharing_child, passing, ending}
 use Rattle.gup_turns.proofs.Mapped.{mapped_spread, mapped_same, mapped_lost, mapped_none}
 use Rattle.gup_turns.proofs.Puts.{put_same, put_other}
+use Rattle.gup_turns.proofs.Standing.{brought, all_brought, IsFew}
 use Rattle.gup_turns.proofs.Sums.{sum_at, sum_ones}
 use Rattle.gup_turns.proofs.Through.{Law}
-
--- one of a process that is not unborn any more, and how many of the first n processes are so
-abbrev pub brought : Birth → ℕ
-brought unborn = 0
-brought (growing parent) = 1
-brought born = 1
-brought failed = 1
-
-abbrev pub all_brought : (n : ℕ) → (ℕ → Birth) → ℕ
-all_brought n birth = sum_below n (λ p. brought (birth p))
-
-pub record IsFew (n : ℕ) (s : CoreState) : Type 0 where
-  pub mapped : (p : ℕ) → mapped_pages (s.right p) ≤ s.pages p
-  pub pages : (p : ℕ) → s.pages p ≤ most_pages
-  pub forked : (p : ℕ) → s.sequence p ≤ 2 * all_brought n s.birth
 
 -- births
 

@@ -21,7 +21,8 @@ use Rattle.gup_turns.proofs.Pointer.{PointerFits, none_can_go, pointer_fits}
 use Rattle.gup_turns.specs.ScriptLemmas.{has_ops_declared}
 use Rattle.gup_turns.proofs.Shapes.{FitsAt}
 use Rattle.gup_turns.proofs.Stands.{stands_on}
-use Rattle.gup_turns.proofs.Steps.{Stands, taken, jobs_stay}
+use Rattle.gup_turns.proofs.Standing.{Stands}
+use Rattle.gup_turns.proofs.Steps.{taken}
 use Rattle.gup_turns.proofs.Through.{Law}
 
 -- what is left of an actor of the script

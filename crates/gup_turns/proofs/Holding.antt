@@ -14,7 +14,7 @@ use Rattle.gup_turns.specs.Run.{RunState, op_in, waiting_with, waiting_in}
 use Rattle.gup_turns.specs.Turn.{Locks, locks_needed, held_by_other, waits_for_lock, first_waiting, waits_for_locks, waits_at}
 use Rattle.gup_turns.proofs.Puts.{some_same}
 use Rattle.gup_turns.proofs.Shapes.{FitsFork, FitsAt, IsBegun}
-use Rattle.gup_turns.proofs.Steps.{Stands}
+use Rattle.gup_turns.proofs.Standing.{Stands}
 
 -- what a lock is waited for
 

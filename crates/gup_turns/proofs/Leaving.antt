@@ -24,11 +24,14 @@ abbrev pub of_process : CoreState → ℕ → OfProcess
 of_process s q =
     record { right = s.right q; entry = s.entry q; birth = s.birth q; structure = s.structure q; table = s.table q }
 
--- Another process stays, all births but the child's stay, and so do the jobs of other actors.
+-- Another process stays, all births but the child's stay, and so do the jobs of other actors, and what they have prepared
+-- and owe.
 pub record Leaves (a p c : ℕ) (s t : CoreState) : Type 0 where
   pub process : (q : ℕ) → (q == p) ≡ false → (q == c) ≡ false → of_process t q ≡ of_process s q
   pub birth : (q : ℕ) → (q == c) ≡ false → t.birth q ≡ s.birth q
   pub job : (b : ℕ) → (b == a) ≡ false → t.job b ≡ s.job b
+  pub prepared : (b : ℕ) → (b == a) ≡ false → t.prepared b ≡ s.prepared b
+  pub owed : (b : ℕ) → (b == a) ≡ false → t.owed b ≡ s.owed b
 
 -- the entries and locks of the process stay, and the actor's job
 pub record IsBarred (a p : ℕ) (s t : CoreState) : Type 0 where

@@ -22,7 +22,8 @@ use Rattle.gup_turns.proofs.Pointer.{PointerFits, IsFirstToGo, pointed_some, non
 use Rattle.gup_turns.proofs.Puts.{some_same}
 use Rattle.gup_turns.proofs.Shapes.{TurnOf, refused, mapped, protected, loaded, stored, gave, took_over, took, took_last, passed, passed_last, took_lowest, took_all, pinned_page, pinned_all, pinned_short, unpinned_page, unpinned_last, moved_word, moved_last, began, passed_page, counted_page, shared_page, ended, TurnAt, idles, waits, goes}
 use Rattle.gup_turns.proofs.Stands.{stands_on, same_plain}
-use Rattle.gup_turns.proofs.Steps.{Stands, taken}
+use Rattle.gup_turns.proofs.Standing.{Stands}
+use Rattle.gup_turns.proofs.Steps.{taken}
 use Rattle.gup_turns.proofs.Through.{Law}
 
 -- an actor has finished where it has no operation behind those that it has answered

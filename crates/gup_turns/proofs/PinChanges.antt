@@ -25,7 +25,7 @@ use Rattle.gup_turns.proofs.Places.{IsBehindTurn, stays_there, goes_by, goes_on,
 use Rattle.gup_turns.proofs.Puts.{put_same}
 use Rattle.gup_turns.proofs.Scripts.{fresh_place}
 use Rattle.gup_turns.proofs.Shapes.{TurnAt, goes, child_of, strand_of}
-use Rattle.gup_turns.proofs.Steps.{IsTaken}
+use Rattle.gup_turns.proofs.Standing.{IsTaken}
 
 -- What may come of a pin in a turn of an actor, which has given back so many of its pages before it, and so many behind
 -- it.

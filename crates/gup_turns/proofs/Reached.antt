@@ -28,7 +28,8 @@ use Rattle.gup_turns.proofs.PinBounds.{unpin_short}
 use Rattle.gup_turns.proofs.Places.{op_behind, answered_more}
 use Rattle.gup_turns.proofs.Shapes.{FitsFork, FitsOp, FitsAt, TurnAt, idles, waits, goes}
 use Rattle.gup_turns.proofs.Stands.{Starts, at_each, stands_on, stands_first}
-use Rattle.gup_turns.proofs.Steps.{Stands, taken}
+use Rattle.gup_turns.proofs.Standing.{Stands}
+use Rattle.gup_turns.proofs.Steps.{taken}
 use Rattle.gup_turns.proofs.Through.{Law}
 
 -- an actor has answered no more operations than it has

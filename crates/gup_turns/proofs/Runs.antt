@@ -11,7 +11,8 @@ use Rattle.gup_turns.specs.Run.{RunState, Runs, turn_in, run_after, taken_in, op
 use Rattle.gup_turns.proofs.Puts.{some_same}
 use Rattle.gup_turns.proofs.Rightness.{had_in_pin, turn_right, plain_append}
 use Rattle.gup_turns.proofs.Stands.{stands_on, same_plain, plain_can}
-use Rattle.gup_turns.proofs.Steps.{Stands, taken}
+use Rattle.gup_turns.proofs.Standing.{Stands}
+use Rattle.gup_turns.proofs.Steps.{taken}
 use Rattle.gup_turns.proofs.Through.{Law}
 
 -- from one state there is one run

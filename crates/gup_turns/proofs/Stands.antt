@@ -22,11 +22,12 @@ use Rattle.gup_events.specs.Invariant.{run}
 use Rattle.gup_events.specs.Sound.{IsSound}
 use Rattle.gup_follows.specs.Order.{plain_behind}
 use Rattle.gup_follows.specs.Place.{Place, Doer, doer, place_behind, process_of, ops_of, present_op, birth_by, birth_for, is_born, starts_born}
-use Rattle.gup_turns.specs.Reached.{ForkPlace, IsForking, HasCounted, HasTaken, StandsPin, StandsHandle, given_back, back_in}
+use Rattle.gup_turns.specs.Reached.{ForkPlace, fork_place, place_in, IsForking, HasCounted, HasTaken, StandsPin, StandsHandle, given_back, back_in}
 use Rattle.gup_turns.specs.Run.{RunState, run_start, run_after, op_in, waiting_in, taken_by, taken_in}
 use Rattle.gup_turns.specs.Turn.{Taken, turn_at, failed_turn, unpin_turn, unpin_turn_by, last_of, but_last, give_turn, give_turn_by, take_turn, transfer_turn, transfer_turn_by, word_turn, frame_at, moves_value}
 use Rattle.gup_turns.proofs.Calm.{starts_calm, Strand, of_pages, of_pin, of_handle, AreHandleEvents, unpinning, giving, taking_over, moving_out, moving_in}
-use Rattle.gup_turns.proofs.Few.{IsFew, few_kept, few_handles, few_first}
+use Rattle.gup_turns.proofs.Standing.{IsFew}
+use Rattle.gup_turns.proofs.Few.{few_kept, few_handles, few_first}
 use Rattle.gup_turns.proofs.Leaving.{OfProcess, of_process, Leaves, IsBarred, apart, same_or_apart, put_apart, leaves, stays_calm, stays_born, failed_before, stays_barred, LeavesAll, handles_leave, LeavesPinsOf, leaves_pins, one_holder, held_ungiven, held_made}
 use Rattle.gup_turns.proofs.PinChanges.{Change, changed_stands, first_back, same_pin, same_handle, turn_changes}
 use Rattle.gup_turns.proofs.Places.{next_place, IsBehind, goes_on, is_over, IsBehindTurn, stays_there, goes_by, op_behind, turn_behind}
@@ -34,7 +35,8 @@ use Rattle.gup_turns.proofs.Puts.{some_same, put_same}
 use Rattle.gup_turns.specs.ScriptLemmas.{ops_at, child_is, child_declared, is_of_thread, thread_birth}
 use Rattle.gup_turns.proofs.Scripts.{fresh_place, fresh_fits}
 use Rattle.gup_turns.proofs.Shapes.{FitsFork, FitsAt, Rests, HasLeft, IsOfProcess, TurnAt, idles, waits, goes, child_of, strand_of}
-use Rattle.gup_turns.proofs.Steps.{Stands, IsAhead, IsTaken, taken}
+use Rattle.gup_turns.proofs.Standing.{Stands, IsAhead, IsTaken}
+use Rattle.gup_turns.proofs.Steps.{taken}
 use Rattle.gup_turns.proofs.Through.{Law, leads, plain_through, plain_behind-through, AllCanHappen, events_of}
 use Rattle.gup_turns.proofs.Turned.{FitsNext}
 
@@ -707,6 +709,16 @@ module _ (script : ScriptValue) (valid : IsScript script) (r : RunState) (h : St
 
 pub stands_on : Law → (script : ScriptValue) → IsScript script → (r : RunState) → Stands script r → (a : ℕ) → Stands script (run_after script r a)
 stands_on law script valid r h a = stands script valid r h a law
+
+-- where others stand in their forks stays
+pub places_stay : (script : ScriptValue) → IsScript script → (r : RunState) → Stands script r → (a b : ℕ) → (b ≡ a → ⊥) → place_in (run_after script r a).core b ≡ place_in r.core b
+places_stay script valid r h a b other =
+    let turn = taken script valid r h a in
+    let op : Option Op = op_in script r a in
+    let p : ℕ = (doer script a).proc in
+    let left = leaves r.core a p (child_of p op) (strand_of op) (taken_in script r a).events turn.done.kinds in
+    ap (λ (j : Job). fork_place j ((run_after script r a).core.prepared b)) (left.job b (apart b a other))
+    ∙ ap (fork_place (r.core.job b)) (left.prepared b (apart b a other))
 
 -- the plain state behind a turn is the one that its notes lead to
 pub same_plain : Law → (script : ScriptValue) → IsScript script → (r : RunState) → Stands script r → (a : ℕ) → plain_of (run_after script r a).core ≡ plain_behind (plain_of r.core) (taken_in script r a).whats

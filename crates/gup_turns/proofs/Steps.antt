@@ -1,4 +1,4 @@
--- A run's turns: what stands between two of them, and that each can be done and has one of the shapes.
+-- A run's turns: each can be done and has one of the shapes.
 use Rattle.std.proofs.Common.{◌≡◌, ℕ, ◌≤◌, ◌<◌, Bool, true, false, length, Option, Some, None, refl, ap, sym, subst, ◌∙◌}
 use Rattle.std.specs.Prelude.{◌⊎◌}
 use Rattle.gup_plain.specs.State.{Birth, unborn, growing, born, failed, unmade}
@@ -17,49 +17,15 @@ use Rattle.gup_turns.specs.Reached.{place_in, StandsHandle, back_in}
 use Rattle.gup_turns.specs.Run.{RunState, op_in, waiting_with, waiting_in, taken_by, taken_in, run_after}
 use Rattle.gup_turns.specs.Turn.{Taken, waits_at, waits_born, first_waiting, waits_for_locks, no_lock, failed_turn, turn_at, turn_of, op_turn}
 use Rattle.gup_turns.proofs.Calm.{IsCalm}
-use Rattle.gup_turns.proofs.Few.{IsFew}
 use Rattle.gup_turns.proofs.ForkOps.{fork_turned}
-use Rattle.gup_turns.proofs.Leaving.{leaves, apart}
 use Rattle.gup_turns.proofs.HandleOps.{unpin_turned, give_turned, take_turned, transfer_turned}
 use Rattle.gup_turns.proofs.Ops.{map_turned, unmap_turned, load_turned, store_turned, protect_turned, discard_turned, exit_turned}
 use Rattle.gup_turns.proofs.PinOps.{pin_turned}
 use Rattle.gup_turns.proofs.Puts.{some_same}
 use Rattle.gup_turns.specs.ScriptLemmas.{op_is_op, is_of_thread, thread_birth, few_slots}
 use Rattle.gup_turns.proofs.Shapes.{FitsOp, FitsAt, IsOfProcess, TurnAt, idles, waits, goes, AtRest, IsDone, child_of, strand_of}
+use Rattle.gup_turns.proofs.Standing.{Stands, IsTaken}
 use Rattle.gup_turns.proofs.Turned.{IsOpen, IsQuiet, FitsNext, MakesPin, IsTurned}
-
--- an actor has not begun the operation with this number
-abbrev pub IsAhead : Place → (k : ℕ) → Type 0
-IsAhead place k = (place.answered < k) ⊎ ((place.answered ≡ k) × (place.far ≡ 0))
-
--- what holds of a run between two turns
-pub record Stands (script : ScriptValue) (r : RunState) : Type 0 where
-  pub sound : IsSound r.core
-  pub calm : IsCalm r.core
-  pub rest : (a : ℕ) → AtRest r.core a
-  pub few : IsFew (length script.processes) r.core
-  -- a process that failed has given back its entries; all but unborn ones are declared
-  pub emptied : (p page : ℕ) → r.core.birth p ≡ failed → r.core.entry p page ≡ None
-  pub declared : (p : ℕ) → (r.core.birth p ≡ unborn → ⊥) → p < length script.processes
-  -- each actor stands where its operation can, and a thread in the middle of one only in a born process
-  pub fits : (a : ℕ) → FitsAt r.core (doer script a) (op_in script r a) (r.places a)
-  pub begun : (a : ℕ) → 0 < (r.places a).far → birth_for r.core.birth (doer script a) ≡ born
-  pub fresh : (a : ℕ) → (r.places a).far ≡ 0 → (r.places a).had ≡ false
-  -- the child of a fork that has not begun is unborn
-  pub unforked : (a k child : ℕ) → ForksAt script a k child → IsAhead (r.places a) k → r.core.birth child ≡ unborn
-  -- the handle of a pin that is not answered is unmade; those that are made are declared and have their pages
-  pub yet_unmade : (a k h : ℕ) → PinsAt script a k h → (r.places a).answered ≤ k → r.core.handle h ≡ unmade
-  pub made : (h : ℕ) → (r.core.handle h ≡ unmade → ⊥) → h < length script.handles
-  pub handles : (h : ℕ) → StandsHandle (back_in script r h) (r.core.pinned h) (r.core.handle h)
-
--- a turn can be done, it has its shape, and the actor stands right behind it
-pub record IsTaken (s : CoreState) (who : Doer) (place : Place) (op : Option Op) (waiting : Option Waiting) (turn : Taken) : Type 0 where
-  pub done : IsDone s who.actor who.proc (child_of who.proc op) (strand_of op) turn
-  pub shape : TurnAt (plain_of s) who place op waiting (place_in s who.actor) turn.whats (place_in (run s turn.events) who.actor)
-  pub next : FitsNext (run s turn.events) who op place turn.whats
-  pub pin : (o : Op) → op ≡ Some o → waiting ≡ None → MakesPin s (run s turn.events) who.actor o
-  -- the child of a fork that fails has no entries behind it
-  pub emptied : (child page : ℕ) → op ≡ Some (Fork child) → (run s turn.events).birth child ≡ failed → (run s turn.events).entry child page ≡ None
 
 -- an actor that waits for no process goes on only once that is born
 born_of : (b : Birth) (p : ℕ) (others : Option Waiting) → waits_at b p others ≡ None → (b ≡ failed → ⊥) → b ≡ born
@@ -189,12 +155,3 @@ taken script valid r h a =
       fits = h.fits a;
     })
     refl
-
--- the jobs of other actors stay
-pub jobs_stay : (script : ScriptValue) → IsScript script → (r : RunState) → Stands script r → (a b : ℕ) → (b ≡ a → ⊥) → (run_after script r a).core.job b ≡ r.core.job b
-jobs_stay script valid r h a b other =
-    let turn = taken script valid r h a in
-    let op : Option Op = op_in script r a in
-    let p : ℕ = (doer script a).proc in
-    let left = leaves r.core a p (child_of p op) (strand_of op) (taken_in script r a).events turn.done.kinds in
-    left.job b (apart b a other)

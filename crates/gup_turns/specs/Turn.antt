@@ -18,7 +18,7 @@ use Rattle.gup_plain.specs.declared.note.Waiting.TheVariants as waitings
 use Rattle.gup_script.specs.declared.op.Op.{Op}
 use Rattle.gup_script.specs.declared.op.Op.TheVariants.{Map, Unmap, Protect, Discard, Load, Store, Pin, Unpin, Give, Take, Transfer, Fork, Exit}
 use Rattle.gup_events.specs.State.{CoreState, Job, idle, marking, moving, forking, walking, ForkStep, between, counted, lowered, cleared, copying, failing}
-use Rattle.gup_events.specs.Event.{CoreEvent, map_pages, lower_entry, protect_pages, drop_entry, discard_entry, load, store, begin_fork, count_page, share_entry, share_mark, share_child, copy_word, place_child, pass_page, end_fork, fail_unborn, copies_page, raise_flag, pin_page, make_handle, unpin_page, give_handle, take_handle, move_out, move_in}
+use Rattle.gup_events.specs.Event.{CoreEvent, take_frame, map_pages, lower_entry, protect_pages, drop_entry, discard_entry, load, store, begin_fork, count_page, share_entry, share_mark, share_child, copy_word, place_child, pass_page, end_fork, fail_unborn, copies_page, raise_flag, pin_page, make_handle, unpin_page, give_handle, take_handle, move_out, move_in}
 use Rattle.gup_events.specs.Failure.{fails}
 use Rattle.gup_events.specs.Fault.{Fault, read_fault, write_fault, unshare_fault, gives_back}
 use Rattle.gup_events.specs.Invariant.{run}
