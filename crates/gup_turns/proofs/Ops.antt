@@ -30,7 +30,7 @@ use Rattle.gup_turns.specs.Reached.{unbegun}
 use Rattle.gup_turns.specs.Turn.{Taken, answers_with, free_frame, loads, loads_after, load_turn, stores, stores_after, store_fault_by, allows_store, frame_in, map_turn_by, done_if, silent_or_done, unmap_turn_by, lowers_entry, lowers, lowers_for, protect_turn_by, discard_turn_by, lowest_page, exit_turn_by, op_turn, waits_for_locks, locks_needed, both_if}
 use Rattle.gup_turns.proofs.Calm.{Strand, of_pages, AreTurnEvents, putting, mapping, lowering, protecting, dropping, discarding, loading, storing}
 use Rattle.gup_turns.proofs.Faults.{IsReady, MayFault, may_fault, RefusesPage, missing, forbidden, no_frame, LeadsTo, write_leads, entry_there, writable_there, no_mirror, needs_none, filled}
-use Rattle.gup_turns.proofs.Leaving.{pages_leave}
+use Rattle.gup_turns.proofs.PagesLeave.{pages_leave}
 use Rattle.gup_turns.proofs.Puts.{put_same, put2_same, some_same, none_of}
 use Rattle.gup_turns.proofs.Searches.{lowest_some, lowest_none, none_below, undenied_map, denied_map, undenied_protect, denied_protect}
 use Rattle.gup_turns.proofs.Shapes.{AtFirst, FitsOp, TurnOf, refused, mapped, protected, loaded, stored, took, took_last, passed, passed_last, took_lowest, took_all, GoesOver, unmaps, discards, AtRest, IsDone, Rests, child_of, strand_of}

@@ -26,7 +26,7 @@ use Rattle.gup_turns.specs.Reached.{unbegun, HasTaken, IsTakenPage, StandsPin, S
 use Rattle.gup_turns.specs.Turn.{entry_in, cause_of, pin_fault, pins, pins_behind, ends_pin, pin_turn_by, pin_turn, waits_for_locks, locks_needed}
 use Rattle.gup_turns.proofs.Calm.{of_pages, of_pin, AreTurnEvents, raising, pinning, making}
 use Rattle.gup_turns.proofs.Faults.{IsReady, Allows, MayFault, may_fault, RefusesPage, missing, forbidden, no_frame, LeadsTo, pin_leads}
-use Rattle.gup_turns.proofs.Leaving.{pages_leave}
+use Rattle.gup_turns.proofs.PagesLeave.{pages_leave}
 use Rattle.gup_turns.proofs.Puts.{put_same}
 use Rattle.gup_turns.proofs.Shapes.{FitsOp, TurnOf, refused, pinned_page, pinned_all, pinned_short, AtRest, Rests}
 use Rattle.gup_turns.proofs.Turned.{IsOpen, MakesPin, IsTurned, shape_idle, both_free, kinds_behind, run_behind, can_behind, told_behind}
