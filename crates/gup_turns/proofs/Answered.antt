@@ -25,7 +25,7 @@ use Rattle.gup_turns.specs.Run.{RunState, Runs, run_start, run_after, taken_by, 
 use Rattle.gup_turns.proofs.Puts.{by_points, put_same, put_other, put_own}
 use Rattle.gup_turns.proofs.Rightness.{unrefused_short, not_both}
 use Rattle.gup_turns.specs.ScriptLemmas.{has_ops_declared}
-use Rattle.gup_turns.proofs.Shapes.{TurnOf, refused, mapped, protected, loaded, stored, gave, took_over, took, took_last, passed, passed_last, took_lowest, took_all, pinned_page, pinned_all, pinned_short, unpinned_page, unpinned_last, moved_word, moved_last, began, passed_page, counted_page, shared_page, ended, TurnAt, idles, waits, goes}
+use Rattle.gup_turns.proofs.Shapes.{TurnOf, refused, mapped, protected, loaded, stored, gave, took_over, took, took_last, passed, passed_last, took_lowest, took_all, pinned_page, pinned_all, pinned_short, unpinned_page, unpinned_last, moved_word, moved_last, began, passed_page, counted_page, shared_page, ended, counted_copy, took_frame, copied_word, placed_copy, failed_fork, TurnAt, idles, waits, goes, unborn_refused, unborn_fork}
 use Rattle.gup_turns.proofs.Stands.{stands_on}
 use Rattle.gup_turns.proofs.Standing.{Stands}
 use Rattle.gup_turns.proofs.Steps.{taken}
@@ -104,11 +104,18 @@ known_turn (passed_page child first page begun up) = (tt, tt)
 known_turn (counted_page child first page begun up) = (tt, tt)
 known_turn (shared_page child page begun) = (tt, tt)
 known_turn (ended child first begun) = (tt, (tt, tt))
+known_turn (counted_copy child first page begun up) = (tt, tt)
+known_turn (took_frame child page to begun) = (tt, tt)
+known_turn (copied_word child page word to begun less) = (tt, tt)
+known_turn (placed_copy child page to begun) = (tt, tt)
+known_turn (failed_fork child page begun) = (tt, (tt, tt))
 
 known_taken : {s : PlainState} {who : Doer} {place : Place} {op : Option Op} {waiting : Option Waiting} {from to : ForkPlace} {whats : List What} → TurnAt s who place op waiting from whats to → AreKnownWhats whats
 known_taken (idles waiting at) = (tt, tt)
 known_taken (waits op waiting at) = (tt, tt)
 known_taken (goes op whats from to birth own turn) = known_turn turn
+known_taken (unborn_refused op birth first refusal) = (tt, tt)
+known_taken (unborn_fork child birth fails first) = (tt, (tt, tt))
 
 known_notes : (number actor op : ℕ) (whats : List What) (rest : List NoteValue) → AreKnownWhats whats → AreKnown rest → AreKnown (notes_of_turn number actor op whats ++ rest)
 known_notes number actor op [] rest known later = later

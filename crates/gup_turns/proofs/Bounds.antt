@@ -85,10 +85,19 @@ StandsShort s a (Transfer handle outward index slot n) place = place.far < n
 StandsShort s a (Fork child) place = ⊥
 StandsShort s a Exit place = Unit {0}
 
--- the actor is in the middle of nothing, and other actors' jobs stay
+-- the actor is in the middle of nothing, and other actors' jobs stay, and what these have prepared
 pub record KeepsJobs (s : CoreState) (a : ℕ) (t : CoreState) : Type 0 where
   pub idle : t.job a ≡ idle
   pub others : (b : ℕ) → (b == a) ≡ false → t.job b ≡ s.job b
+  pub prepared : (b : ℕ) → (b == a) ≡ false → t.prepared b ≡ s.prepared b
+
+-- what others have prepared stays where the actor prepares nothing, and where it uses the frame that it prepares
+pub same_prepared : (a : ℕ) (f g : ℕ → Option ℕ) → g ≡ f → (b : ℕ) → (b == a) ≡ false → g b ≡ f b
+same_prepared a f g same b other = ap (λ (h : ℕ → Option ℕ). h b) same
+
+pub used_prepared : (a frame : ℕ) (f g : ℕ → Option ℕ) → g ≡ put a None (put a (Some frame) f) → (b : ℕ) → (b == a) ≡ false → g b ≡ f b
+used_prepared a frame f g used b other =
+    ap (λ (h : ℕ → Option ℕ). h b) used ∙ put_other a b None (put a (Some frame) f) other ∙ put_other a b (Some frame) f other
 
 -- A turn leaves the pages of other processes, adds no more pages than the operation maps, and is within its bound.
 pub record IsMoved (s : CoreState) (a p : ℕ) (place : Place) (op : Op) (turn : Taken) : Type 0 where
@@ -98,20 +107,26 @@ pub record IsMoved (s : CoreState) (a p : ℕ) (place : Place) (op : Op) (turn :
   pub bound : IsWithinBound op a p place (place_behind place turn.whats) s (run s turn.events)
 
 module _ (s : CoreState) (a p : ℕ) (place : Place) (rests : s.job a ≡ idle) where
-  -- all jobs stay
-  pub same_jobs : (t : CoreState) → t.job ≡ s.job → KeepsJobs s a t
-  same_jobs t same =
+  -- all jobs stay, and what others have prepared
+  kept_jobs : (t : CoreState) → t.job ≡ s.job → ((b : ℕ) → (b == a) ≡ false → t.prepared b ≡ s.prepared b) → KeepsJobs s a t
+  kept_jobs t same prepared =
       record {
         idle = ap (λ (f : ℕ → Job). f a) same ∙ rests;
         others = λ b other. ap (λ (f : ℕ → Job). f b) same;
+        prepared = prepared;
       }
 
+  -- all jobs stay, and whatever is prepared
+  pub same_jobs : (t : CoreState) → t.job ≡ s.job → t.prepared ≡ s.prepared → KeepsJobs s a t
+  same_jobs t same prepared = kept_jobs t same (same_prepared a s.prepared t.prepared prepared)
+
   -- the frame of a page is marked
-  marked_jobs : (page f : ℕ) (t : CoreState) → t.job ≡ put a idle (put a (marking p page f) s.job) → KeepsJobs s a t
-  marked_jobs page f t is =
+  marked_jobs : (page f : ℕ) (t : CoreState) → t.job ≡ put a idle (put a (marking p page f) s.job) → t.prepared ≡ s.prepared → KeepsJobs s a t
+  marked_jobs page f t is prepared =
       record {
         idle = ap (λ (j : ℕ → Job). j a) is ∙ put_same a idle (put a (marking p page f) s.job);
         others = λ b other. ap (λ (j : ℕ → Job). j b) is ∙ put_other a b idle (put a (marking p page f) s.job) other ∙ put_other a b (marking p page f) s.job other;
+        prepared = same_prepared a s.prepared t.prepared prepared;
       }
 
   -- a turn that leaves all mappings as they were, and goes on or answers
@@ -125,64 +140,69 @@ module _ (s : CoreState) (a p : ℕ) (place : Place) (rests : s.job a ≡ idle) 
         bound = bound;
       }
 
-  -- one that answers, and leaves jobs too
-  pub still : (op : Op) (turn : Taken) → (run s turn.events).right ≡ s.right → (run s turn.events).job ≡ s.job → IsAnswered place (place_behind place turn.whats) → IsMoved s a p place op turn
-  still op turn same jobs answered =
-      keeping op turn same (same_jobs (run s turn.events) jobs) (answer_bound op a p place (place_behind place turn.whats) s (run s turn.events) answered)
+  -- one that answers, and leaves jobs and prepared frames too
+  pub still : (op : Op) (turn : Taken) → (run s turn.events).right ≡ s.right → (run s turn.events).job ≡ s.job → (run s turn.events).prepared ≡ s.prepared → IsAnswered place (place_behind place turn.whats) → IsMoved s a p place op turn
+  still op turn same jobs prepared answered =
+      keeping op turn same (same_jobs (run s turn.events) jobs prepared) (answer_bound op a p place (place_behind place turn.whats) s (run s turn.events) answered)
+
+  -- one that answers, and uses the frame that it prepares
+  still_using : (f : ℕ) (op : Op) (turn : Taken) → (run s turn.events).right ≡ s.right → (run s turn.events).job ≡ s.job → (run s turn.events).prepared ≡ put a None (put a (Some f) s.prepared) → IsAnswered place (place_behind place turn.whats) → IsMoved s a p place op turn
+  still_using f op turn same jobs prepared answered =
+      keeping op turn same (kept_jobs (run s turn.events) jobs (used_prepared a f s.prepared (run s turn.events).prepared prepared)) (answer_bound op a p place (place_behind place turn.whats) s (run s turn.events) answered)
 
   pub load_moved : (page word : ℕ) (entry : Option Entry) → IsMoved s a p place (Load page word) (load_turn s a p page word entry)
-  load_moved page word (Some e) = still (Load page word) (load_turn s a p page word (Some e)) refl refl refl
+  load_moved page word (Some e) = still (Load page word) (load_turn s a p page word (Some e)) refl refl refl refl
   load_moved page word None = fault (s.right p page) (free_frame s)
     where
       fault : (rights : Option Rights) (free : Option ℕ) → IsMoved s a p place (Load page word) (loads_after s (read_fault a p page rights None free) a p page word)
-      fault None free = still (Load page word) (answers_with answers.Missing) refl refl refl
-      fault (Some rights) None = still (Load page word) (answers_with answers.NoFrame) refl refl refl
-      fault (Some rights) (Some f) = still (Load page word) (loads_after s (fills a p page (Some f)) a p page word) refl refl refl
+      fault None free = still (Load page word) (answers_with answers.Missing) refl refl refl refl
+      fault (Some rights) None = still (Load page word) (answers_with answers.NoFrame) refl refl refl refl
+      fault (Some rights) (Some f) = still_using f (Load page word) (loads_after s (fills a p page (Some f)) a p page word) refl refl refl refl
 
   pub store_moved : (page word value : ℕ) (entry : Option Entry) (allowed : Bool) → IsMoved s a p place (Store page word value) (stores_after s (store_fault_by allowed s a p page entry) a p page word value)
-  store_moved page word value entry true = still (Store page word value) (stores_after s (Ok []) a p page word value) refl refl refl
+  store_moved page word value entry true = still (Store page word value) (stores_after s (Ok []) a p page word value) refl refl refl refl
   store_moved page word value entry false = fault (s.right p page) entry
     where
       stores_by : Fault → Taken
       stores_by before = stores_after s before a p page word value
 
       by_fill : (free : Option ℕ) → IsMoved s a p place (Store page word value) (stores_after s (fills_writable a p page free) a p page word value)
-      by_fill None = still (Store page word value) (answers_with answers.NoFrame) refl refl refl
-      by_fill (Some f) = still (Store page word value) (stores_after s (fills_writable a p page (Some f)) a p page word value) refl refl refl
+      by_fill None = still (Store page word value) (answers_with answers.NoFrame) refl refl refl refl
+      by_fill (Some f) = still_using f (Store page word value) (stores_after s (fills_writable a p page (Some f)) a p page word value) refl refl refl refl
 
       by_break : (e : Entry) (free : Option ℕ) → IsMoved s a p place (Store page word value) (stores_after s (breaks a p page e true free) a p page word value)
-      by_break e None = still (Store page word value) (answers_with answers.NoFrame) refl refl refl
-      by_break e (Some f) = still (Store page word value) (stores_after s (breaks a p page e true (Some f)) a p page word value) refl refl refl
+      by_break e None = still (Store page word value) (answers_with answers.NoFrame) refl refl refl refl
+      by_break e (Some f) = still_using f (Store page word value) (stores_after s (breaks a p page e true (Some f)) a p page word value) refl refl refl refl
 
       by_count : (e : Entry) (one : Bool) → IsMoved s a p place (Store page word value) (stores_after s (if one then Ok (marks a p page e ++ upgrade a p page e.frame ∷ []) else breaks a p page e true (free_frame s)) a p page word value)
       by_count e true =
           let turn : Taken = stores_by (Ok (marks a p page e ++ upgrade a p page e.frame ∷ [])) in
-          keeping (Store page word value) turn refl (marked_jobs page e.frame (run s turn.events) refl) refl
+          keeping (Store page word value) turn refl (marked_jobs page e.frame (run s turn.events) refl refl) refl
       by_count e false = by_break e (free_frame s)
 
       by_mark : (e : Entry) (mark : Bool) (count : ℕ) → IsMoved s a p place (Store page word value) (stores_after s (makes_writable a p page e mark count (free_frame s)) a p page word value)
-      by_mark e true count = still (Store page word value) (stores_after s (makes_writable a p page e true count (free_frame s)) a p page word value) refl refl refl
+      by_mark e true count = still (Store page word value) (stores_after s (makes_writable a p page e true count (free_frame s)) a p page word value) refl refl refl refl
       by_mark e false count = by_count e (count == 1)
 
       by_entry : (e : Entry) (writable : Bool) → IsMoved s a p place (Store page word value) (stores_after s (if writable then Ok [] else makes_writable a p page e (s.mark e.frame) (s.count e.frame) (free_frame s)) a p page word value)
-      by_entry e true = still (Store page word value) (stores_by (Ok [])) refl refl refl
+      by_entry e true = still (Store page word value) (stores_by (Ok [])) refl refl refl refl
       by_entry e false = by_mark e (s.mark e.frame) (s.count e.frame)
 
       fault : (rights : Option Rights) (was : Option Entry) → IsMoved s a p place (Store page word value) (stores_after s (write_fault a p page rights was s.mark s.count (free_frame s)) a p page word value)
-      fault None was = still (Store page word value) (answers_with answers.Missing) refl refl refl
-      fault (Some R) was = still (Store page word value) (answers_with answers.Forbidden) refl refl refl
+      fault None was = still (Store page word value) (answers_with answers.Missing) refl refl refl refl
+      fault (Some R) was = still (Store page word value) (answers_with answers.Forbidden) refl refl refl refl
       fault (Some RW) None = by_fill (free_frame s)
       fault (Some RW) (Some e) = by_entry e e.writable
 
   pub map_moved : (page n : ℕ) (rights : Rights) (denied : Option Answer) → IsMoved s a p place (Map page n rights) (map_turn_by denied a p page n rights)
-  map_moved page n rights (Some answer) = still (Map page n rights) (answers_with answer) refl refl refl
+  map_moved page n rights (Some answer) = still (Map page n rights) (answers_with answer) refl refl refl refl
   map_moved page n rights None =
       let new : ℕ → Option Rights = spread page n (λ _. Some rights) (s.right p) in
       let turn : Taken = map_turn_by None a p page n rights in
       record {
         others = λ q other. put_other p q new s.right other;
         gained = subst (λ (f : ℕ → Option Rights). mapped_pages f ≤ mapped_pages (s.right p) + n) (sym (put_same p new s.right)) (mapped_spread page n rights (s.right p));
-        jobs = same_jobs (run s turn.events) refl;
+        jobs = same_jobs (run s turn.events) refl refl;
         bound = refl;
       }
 
@@ -191,17 +211,18 @@ module _ (s : CoreState) (a p : ℕ) (place : Place) (rests : s.job a ≡ idle) 
     pub leads : run t es ≡ run u rest
     pub right : u.right ≡ t.right
     pub job : u.job ≡ t.job
+    pub prepared : u.prepared ≡ t.prepared
 
   lower_one : (t : CoreState) (page f : ℕ) (writable : Bool) (rest : List CoreEvent) → (u : CoreState) × IsLowered t ((if writable then lower_entry a p page f ∷ [] else []) ++ rest) rest u
-  lower_one t page f true rest = (happens t (lower_entry a p page f), record { leads = refl; right = refl; job = refl })
-  lower_one t page f false rest = (t, record { leads = refl; right = refl; job = refl })
+  lower_one t page f true rest = (happens t (lower_entry a p page f), record { leads = refl; right = refl; job = refl; prepared = refl })
+  lower_one t page f false rest = (t, record { leads = refl; right = refl; job = refl; prepared = refl })
 
   lower_page : (t : CoreState) (page : ℕ) (entry : Option Entry) (rest : List CoreEvent) → (u : CoreState) × IsLowered t (lowers_entry a p page entry ++ rest) rest u
-  lower_page t page None rest = (t, record { leads = refl; right = refl; job = refl })
+  lower_page t page None rest = (t, record { leads = refl; right = refl; job = refl; prepared = refl })
   lower_page t page (Some e) rest = lower_one t page e.frame e.writable rest
 
   lower_all : (t : CoreState) (entry : ℕ → Option Entry) (g j : ℕ) (rest : List CoreEvent) → (u : CoreState) × IsLowered t (lowers entry a p g j ++ rest) rest u
-  lower_all t entry g zero rest = (t, record { leads = refl; right = refl; job = refl })
+  lower_all t entry g zero rest = (t, record { leads = refl; right = refl; job = refl; prepared = refl })
   lower_all t entry g (suc j) rest =
       let one = lower_page t g (entry g) (lowers entry a p (g + 1) j ++ rest) in
       let more = lower_all one.0 entry (g + 1) j rest in
@@ -211,15 +232,16 @@ module _ (s : CoreState) (a p : ℕ) (place : Place) (rests : s.job a ≡ idle) 
           leads = ap (run t) whole ∙ one.1.leads ∙ more.1.leads;
           right = more.1.right ∙ one.1.right;
           job = more.1.job ∙ one.1.job;
+          prepared = more.1.prepared ∙ one.1.prepared;
         },
       )
 
   lower_for : (rights : Rights) (page n : ℕ) (rest : List CoreEvent) → (u : CoreState) × IsLowered s (lowers_for rights (s.entry p) a p page n ++ rest) rest u
   lower_for R page n rest = lower_all s (s.entry p) page n rest
-  lower_for RW page n rest = (s, record { leads = refl; right = refl; job = refl })
+  lower_for RW page n rest = (s, record { leads = refl; right = refl; job = refl; prepared = refl })
 
   pub protect_moved : (page n : ℕ) (rights : Rights) (denied : Option Answer) → protect_denial (any_unmapped (s.right p) page n) ≡ denied → IsMoved s a p place (Protect page n rights) (protect_turn_by denied s a p page n rights)
-  protect_moved page n rights (Some answer) is = still (Protect page n rights) (answers_with answer) refl refl refl
+  protect_moved page n rights (Some answer) is = still (Protect page n rights) (answers_with answer) refl refl refl refl
   protect_moved page n rights None is =
       let turn : Taken = protect_turn_by None s a p page n rights in
       let new : ℕ → Option Rights = spread page n (λ _. Some rights) (s.right p) in
@@ -227,13 +249,14 @@ module _ (s : CoreState) (a p : ℕ) (place : Place) (rests : s.job a ≡ idle) 
       let all : (run s turn.events).right ≡ put p new s.right =
       ap (λ (t : CoreState). t.right) low.1.leads ∙ ap (λ (f : ℕ → ℕ → Option Rights). put p (spread page n (λ _. Some rights) (f p)) f) low.1.right in
       let jobs : (run s turn.events).job ≡ s.job = ap (λ (t : CoreState). t.job) low.1.leads ∙ low.1.job in
+      let prepared : (run s turn.events).prepared ≡ s.prepared = ap (λ (t : CoreState). t.prepared) low.1.leads ∙ low.1.prepared in
       let row : (run s turn.events).right p ≡ new = ap (λ (f : ℕ → ℕ → Option Rights). f p) all ∙ put_same p new s.right in
       let few = mapped_same page n rights (s.right p) (undenied_protect (s.right p) page n is) in
       let pages : mapped_pages ((run s turn.events).right p) ≡ mapped_pages new = ap mapped_pages row in
       record {
         others = λ q other. ap (λ (f : ℕ → ℕ → Option Rights). f q) all ∙ put_other p q new s.right other;
         gained = omega (arith, few, pages);
-        jobs = same_jobs (run s turn.events) jobs;
+        jobs = same_jobs (run s turn.events) jobs prepared;
         bound = refl;
       }
 
@@ -246,6 +269,10 @@ module _ (s : CoreState) (a p : ℕ) (place : Place) (rests : s.job a ≡ idle) 
   back_jobs : (t : CoreState) (entry : Option Entry) → (run t (gives_back a entry)).job ≡ t.job
   back_jobs t None = refl
   back_jobs t (Some e) = refl
+
+  back_prepared : (t : CoreState) (entry : Option Entry) → (run t (gives_back a entry)).prepared ≡ t.prepared
+  back_prepared t None = refl
+  back_prepared t (Some e) = refl
 
   -- what the turn of a page that is taken down does
   abbrev drops : (page : ℕ) → Option Entry → List CoreEvent
@@ -263,7 +290,7 @@ module _ (s : CoreState) (a p : ℕ) (place : Place) (rests : s.job a ≡ idle) 
       record {
         others = λ q other. ap (λ (f : ℕ → ℕ → Option Rights). f q) all ∙ put2_other p page q None s.right other;
         gained = omega (arith, pages, few);
-        jobs = same_jobs (run s (drops page entry)) (back_jobs (happens s (drop_entry a p page entry)) entry);
+        jobs = same_jobs (run s (drops page entry)) (back_jobs (happens s (drop_entry a p page entry)) entry) (back_prepared (happens s (drop_entry a p page entry)) entry);
         bound = bound;
       }
 
@@ -271,10 +298,10 @@ module _ (s : CoreState) (a p : ℕ) (place : Place) (rests : s.job a ≡ idle) 
   discard_kept op page entry whats bound =
       let turn : Taken = record { events = discard_entry a p page entry ∷ gives_back a entry; whats = whats } in
       let behind : CoreState = happens s (discard_entry a p page entry) in
-      keeping op turn (back_rights behind entry) (same_jobs (run s turn.events) (back_jobs behind entry)) bound
+      keeping op turn (back_rights behind entry) (same_jobs (run s turn.events) (back_jobs behind entry) (back_prepared behind entry)) bound
 
   passed : (op : Op) (whats : List What) → IsWithinBound op a p place (place_behind place whats) s s → IsMoved s a p place op (record { events = []; whats = whats })
-  passed op whats bound = keeping op (record { events = []; whats = whats }) refl (same_jobs s refl) bound
+  passed op whats bound = keeping op (record { events = []; whats = whats }) refl (same_jobs s refl refl) bound
 
   pub goes_less : (far n : ℕ) → far < n → (far + 1 == n) ≡ false → far + 1 < n
   goes_less far n less e = grind (arith, nat_tests)
@@ -292,7 +319,7 @@ module _ (s : CoreState) (a p : ℕ) (place : Place) (rests : s.job a ≡ idle) 
   discard_moved page n (Some rights) entry false far test = discard_kept (Discard page n) (page + place.far) entry (Event (events.Discard a p (page + place.far)) ∷ done_if false) (inr ((refl, refl), goes_less place.far n far test))
 
   pub exit_moved : (found : Option ℕ) → lowest_page (s.right p) ≡ found → IsMoved s a p place Exit (exit_turn_by s a p found)
-  exit_moved None is = still Exit (answers_with answers.Plain) refl refl refl
+  exit_moved None is = still Exit (answers_with answers.Plain) refl refl refl refl
   exit_moved (Some page) is =
       let found = lowest_some 0 page_numbers page (λ g. is_some (s.right p g)) is in
       drop_moved Exit page (s.entry p page) (Event (events.Unmap a p page) ∷ []) (inr ((refl, refl), (page, omega (arith, found.below), found.passes, dropped page (s.entry p page))))

@@ -1,5 +1,5 @@
 -- Where a turn answers that there is no frame, or ends a short pin so, it has found none free.
-use Rattle.std.proofs.Common.{◌≡◌, ℕ, ◌+◌, ◌<◌, ◌==◌, Bool, true, false, if◌then◌else◌, IsTrue, List, [], ◌∷◌, ◌++◌, length, slice_index_or, Option, Some, None, refl, sym, subst, inl, inr, ◌&&◌, zero, suc, arith}
+use Rattle.std.proofs.Common.{◌≡◌, ℕ, ◌+◌, ◌<◌, ◌==◌, nat_lt, Bool, true, false, if◌then◌else◌, IsTrue, List, [], ◌∷◌, ◌++◌, length, slice_index_or, Option, Some, None, refl, sym, subst, inl, inr, ◌&&◌, zero, suc, arith}
 use Rattle.std.specs.Prelude.{Ok, Err}
 use Rattle.gup_base.specs.declared.entry.Entry.{Entry}
 use Rattle.gup_base.specs.declared.entry.Rights.{Rights}
@@ -13,7 +13,7 @@ use Rattle.gup_plain.specs.declared.answer.Cause.TheVariants as causes
 use Rattle.gup_plain.specs.declared.note.What.TheVariants.{Silent, Idle, Wait, Event, Done}
 use Rattle.gup_plain.specs.declared.note.Waiting.{Waiting}
 use Rattle.gup_plain.specs.Denial.{any_mapped, any_unmapped, map_denial, protect_denial, is_held_by, has_words, has_slots, range_denial, transfer_denial_by, transfer_denial}
-use Rattle.gup_plain.specs.Event.{may_write}
+use Rattle.gup_plain.specs.Event.{may_write, words}
 use Rattle.gup_script.specs.declared.op.Op.{Op}
 use Rattle.gup_script.specs.declared.op.Op.TheVariants.{Map, Unmap, Protect, Discard, Load, Store, Pin, Unpin, Give, Take, Transfer, Fork, Exit}
 use Rattle.gup_script.specs.Script.{ScriptValue}
@@ -25,7 +25,7 @@ use Rattle.gup_follows.specs.Order.{Turn}
 use Rattle.gup_follows.specs.Place.{Doer, doer, birth_for}
 use Rattle.gup_turns.specs.Cause.{LacksFrame, FindNoFrame}
 use Rattle.gup_turns.specs.Run.{RunState, Runs, run_after, op_in, waiting_in, taken_by, taken_in}
-use Rattle.gup_turns.specs.Turn.{Taken, free_frame, loads_after, load_turn, stores_after, allows_store, store_fault_by, store_turn, map_turn_by, silent_or_done, unmap_turn_by, protect_turn_by, discard_turn_by, lowest_page, exit_turn_by, next_page, page_turn, next_turn, fork_step_turn, fork_turn, op_turn, failed_turn, turn_at, pin_fault, pinned_if, cause_of, ends_pin, pin_turn_by, but_last, unpinned, unpin_turn_by, give_turn_by, transfer_turn_by}
+use Rattle.gup_turns.specs.Turn.{Taken, free_frame, loads_after, load_turn, stores_after, allows_store, store_fault_by, store_turn, map_turn_by, silent_or_done, unmap_turn_by, protect_turn_by, discard_turn_by, lowest_page, exit_turn_by, next_page, page_turn, next_turn, frame_turn, copy_turn, copying_turn, fork_step_turn, fork_turn, op_turn, failed_turn, turn_at, pin_fault, pinned_if, cause_of, ends_pin, pin_turn_by, but_last, unpinned, unpin_turn_by, give_turn_by, transfer_turn_by}
 use Rattle.gup_turns.proofs.Puts.{some_same}
 use Rattle.gup_turns.proofs.Rightness.{unrefused_short, not_both}
 use Rattle.gup_turns.proofs.Searches.{no_frame_free, denied_map, denied_protect}
@@ -271,7 +271,7 @@ module _ (s : CoreState) (a p : ℕ) where
   exit_cause None = ((λ e. absurd e), tt)
   exit_cause (Some page) = ((λ e. absurd e), tt)
 
-  -- a fork that shares wants no frame
+  -- a fork wants a frame only for a page that it copies, and fails only where none is free
 
   page_cause : (c : ℕ) (done : List ℕ) (page : ℕ) (entry : Option Entry) → HasCause s (page_turn s a p c done page entry)
   page_cause c done page None = ((λ e. absurd e), tt)
@@ -281,12 +281,24 @@ module _ (s : CoreState) (a p : ℕ) where
   next_cause c done None = ((λ e. absurd e), ((λ e. absurd e), tt))
   next_cause c done (Some page) = page_cause c done page (s.entry p page)
 
+  frame_cause : (c : ℕ) (done : List ℕ) (page word : ℕ) (free : Option ℕ) → free_frame s ≡ free → HasCause s (frame_turn s a p c done page word free)
+  frame_cause c done page word None is = ((λ e. absurd e), ((λ e. is), tt))
+  frame_cause c done page word (Some f) is = ((λ e. absurd e), tt)
+
+  copy_cause : (c : ℕ) (done : List ℕ) (page word to : ℕ) (more : Bool) → HasCause s (copy_turn s a p c done page word to more)
+  copy_cause c done page word to true = ((λ e. absurd e), tt)
+  copy_cause c done page word to false = ((λ e. absurd e), tt)
+
+  copying_cause : (c : ℕ) (done : List ℕ) (page word : ℕ) (prepared : Option ℕ) → HasCause s (copying_turn s a p c done page word prepared)
+  copying_cause c done page word None = frame_cause c done page word (free_frame s) refl
+  copying_cause c done page word (Some to) = copy_cause c done page word to (nat_lt word words)
+
   step_cause : (c : ℕ) (done : List ℕ) (step : ForkStep) → HasCause s (fork_step_turn s a p c done step)
   step_cause c done between = next_cause c done (next_page (s.right c) done)
   step_cause c done (counted page) = ((λ e. absurd e), tt)
   step_cause c done (lowered page) = ((λ e. absurd e), tt)
   step_cause c done (cleared page) = ((λ e. absurd e), tt)
-  step_cause c done (copying page n) = ((λ e. absurd e), tt)
+  step_cause c done (copying page n) = copying_cause c done page n (s.prepared a)
   step_cause c done failing = ((λ e. absurd e), tt)
 
   fork_cause : (child : ℕ) (job : Job) → HasCause s (fork_turn s a p child job)

@@ -70,17 +70,17 @@ held_by_self a = go (a == a) refl
     go false is = absurd (let no : ⊥ = grind (arith, nat_tests) in no)
 
 -- a fork in the middle of a process keeps its structure lock
-fork_keeps : (s : CoreState) (b p child q : ℕ) (job : Job) → StandsFork s b p child job → keeps_table job ≡ Some q → keeps_structure job ≡ Some q
-fork_keeps s b p child q idle stands keeps = absurd (cc keeps)
-fork_keeps s b p child q (marking k page f) stands keeps = absurd stands
-fork_keeps s b p child q (moving k page e count) stands keeps = absurd stands
-fork_keeps s b p child q (walking k write long sequence step) stands keeps = absurd stands
-fork_keeps s b p child q (forking k c done between) stands keeps = absurd (cc keeps)
-fork_keeps s b p child q (forking k c done (counted page)) stands keeps = keeps
-fork_keeps s b p child q (forking k c done (lowered page)) stands keeps = keeps
-fork_keeps s b p child q (forking k c done (cleared page)) stands keeps = keeps
-fork_keeps s b p child q (forking k c done (copying page n)) stands keeps = keeps
-fork_keeps s b p child q (forking k c done failing) stands keeps = absurd (cc keeps)
+fork_keeps : (s : CoreState) (b p child q : ℕ) (job : Job) (prepared : Option ℕ) → StandsFork s b p child job prepared → keeps_table job ≡ Some q → keeps_structure job ≡ Some q
+fork_keeps s b p child q idle prepared stands keeps = absurd (cc keeps)
+fork_keeps s b p child q (marking k page f) prepared stands keeps = absurd stands
+fork_keeps s b p child q (moving k page e count) prepared stands keeps = absurd stands
+fork_keeps s b p child q (walking k write long sequence step) prepared stands keeps = absurd stands
+fork_keeps s b p child q (forking k c done between) prepared stands keeps = absurd (cc keeps)
+fork_keeps s b p child q (forking k c done (counted page)) prepared stands keeps = keeps
+fork_keeps s b p child q (forking k c done (lowered page)) prepared stands keeps = keeps
+fork_keeps s b p child q (forking k c done (cleared page)) prepared stands keeps = keeps
+fork_keeps s b p child q (forking k c done (copying page n)) prepared stands keeps = keeps
+fork_keeps s b p child q (forking k c done failing) prepared stands keeps = absurd (cc keeps)
 
 fork_kept : (s : CoreState) (b q : ℕ) (job : Job) → ((k : Forking) → forking_of job ≡ Some k → s.structure k.proc ≡ Some b) → keeps_structure job ≡ Some q → s.structure q ≡ Some b
 fork_kept s b q idle locked keeps = absurd (cc keeps)
@@ -163,7 +163,7 @@ module _ (script : ScriptValue) (r : RunState) (h : IsStanding script r) where
   holds_both p d locked =
       let keeps : keeps_table (r.core.job d) ≡ Some p = h.sound.1.table_held p d locked in
       let forks = keeper_forks d p (inr keeps) in
-      let both = fork_keeps r.core d (process_of script d) forks.0 p (r.core.job d) (h.forks d forks.0 forks.1) keeps in
+      let both = fork_keeps r.core d (process_of script d) forks.0 p (r.core.job d) (r.core.prepared d) (h.forks d forks.0 forks.1) keeps in
       fork_kept r.core d p (r.core.job d) (λ k is. h.sound.1.forks_structure d k (h.sound.1.forks_are d ∙ is)) both
 
   -- so the table lock of a process is free for whoever holds its structure lock
@@ -178,7 +178,7 @@ module _ (script : ScriptValue) (r : RunState) (h : IsStanding script r) where
   table_unwaited b p false locked = refl
 
   -- a fork in the middle waits for nobody
-  middle_goes : (b child : ℕ) (job : Job) → r.core.job b ≡ job → StandsFork r.core b (process_of script b) child job → (job ≡ idle → ⊥) → waiting_for r.core (doer script b) (Fork child) ≡ None
+  middle_goes : (b child : ℕ) (job : Job) → r.core.job b ≡ job → StandsFork r.core b (process_of script b) child job (r.core.prepared b) → (job ≡ idle → ⊥) → waiting_for r.core (doer script b) (Fork child) ≡ None
   middle_goes b child job is stands busy = go job is stands busy
     where
       p : ℕ
@@ -194,7 +194,7 @@ module _ (script : ScriptValue) (r : RunState) (h : IsStanding script r) where
       unlocked birth free =
           ap (λ (x : Birth). waits_at x p (waits_for_locks (fork_locks (r.core.right child) (r.core.job b)) b (r.core.structure p) (r.core.table p))) birth ∙ free
 
-      go : (j : Job) → r.core.job b ≡ j → StandsFork r.core b p child j → (j ≡ idle → ⊥) → waiting_for r.core (doer script b) (Fork child) ≡ None
+      go : (j : Job) → r.core.job b ≡ j → StandsFork r.core b p child j (r.core.prepared b) → (j ≡ idle → ⊥) → waiting_for r.core (doer script b) (Fork child) ≡ None
       go idle is stands busy = absurd (busy refl)
       go (marking q page f) is stands busy = absurd stands
       go (moving q page e count) is stands busy = absurd stands
@@ -207,7 +207,9 @@ module _ (script : ScriptValue) (r : RunState) (h : IsStanding script r) where
           (ap (λ (j : Job). waits_for_locks (fork_locks (r.core.right child) j) b (r.core.structure p) (r.core.table p)) is)
       go (forking q c done (lowered page)) is stands busy = absurd stands
       go (forking q c done (cleared page)) is stands busy = absurd stands
-      go (forking q c done (copying page n)) is stands busy = absurd stands
+      go (forking q c done (copying page word)) is stands busy =
+          unlocked (is_born q c done (copying page word) is stands.0.parent)
+          (ap (λ (j : Job). waits_for_locks (fork_locks (r.core.right child) j) b (r.core.structure p) (r.core.table p)) is)
       go (forking q c done failing) is stands busy = absurd stands
 
   -- whoever keeps a lock can go

@@ -5,14 +5,14 @@ use Rattle.gup_script.specs.Valid.{IsScript}
 use Rattle.gup_plain.specs.Note.{NoteValue}
 use Rattle.gup_plain.specs.declared.note.Waiting.{Waiting}
 use Rattle.gup_plain.specs.State.{Birth, Handle}
-use Rattle.gup_events.specs.State.{CoreState, Job}
+use Rattle.gup_events.specs.State.{CoreState}
 use Rattle.gup_script.specs.Script.{ScriptValue}
 use Rattle.gup_script.specs.declared.op.Op.{Op}
 use Rattle.gup_script.specs.declared.op.Op.TheVariants.{Map, Unmap, Protect, Discard, Load, Store, Pin, Unpin, Give, Take, Transfer, Fork, Exit}
 use Rattle.gup_follows.specs.Follows.{own_notes, notes_of_turn}
 use Rattle.gup_follows.specs.Order.{Turn, journal_of, waiting_at, waiting_of, finished_in, handle_waits, IsOverAt}
 use Rattle.gup_follows.specs.Place.{Place, Doer, doer, place_behind, process_of, ops_of}
-use Rattle.gup_turns.specs.Reached.{ForkPlace, fork_place}
+use Rattle.gup_turns.specs.Reached.{ForkPlace, place_in}
 use Rattle.gup_turns.specs.Run.{RunState, Runs, run_after, op_in, taken_in, can_go}
 use Rattle.gup_turns.proofs.Following.{LeftAt, Left, ops_split, ops_over, turn_left, other_left}
 use Rattle.gup_turns.proofs.Ordering.{ordered_of, is_over, finished_is}
@@ -20,7 +20,7 @@ use Rattle.gup_turns.proofs.Owning.{own_append}
 use Rattle.gup_turns.proofs.Pointer.{PointerFits, none_can_go, pointer_fits}
 use Rattle.gup_turns.specs.ScriptLemmas.{has_ops_declared}
 use Rattle.gup_turns.proofs.Shapes.{FitsAt}
-use Rattle.gup_turns.proofs.Stands.{stands_on}
+use Rattle.gup_turns.proofs.Stands.{stands_on, places_stay}
 use Rattle.gup_turns.proofs.Standing.{Stands}
 use Rattle.gup_turns.proofs.Steps.{taken}
 use Rattle.gup_turns.proofs.Through.{Law}
@@ -71,7 +71,7 @@ end_left script valid r h stopped a (Some op) is at =
 
 -- where a fork of an actor stands
 abbrev stands_at : RunState → ℕ → ForkPlace
-stands_at r a = fork_place (r.core.job a)
+stands_at r a = place_in r.core a
 
 -- what a turn of actor b does to what is left of actor a
 turn_of_any : (script : ScriptValue) (valid : IsScript script) (r : RunState) (h : Stands script r) (b t a : ℕ) (later : List NoteValue) (own : Bool) → (a == b) ≡ own → LeftOf script a (if own then place_behind (r.places b) (taken_in script r b).whats else r.places a) (stands_at (run_after script r b) a) later → LeftOf script a (r.places a) (stands_at r a) (own_notes a (notes_of_turn t b ((r.places b).answered + 1) (taken_in script r b).whats) ++ later)
@@ -84,8 +84,7 @@ turn_of_any script valid r h b t a later true e left =
     subst (λ (k : ℕ). LeftOf script k (r.places k) (stands_at r k) (own_notes k (notes_of_turn t b ((r.places b).answered + 1) whats) ++ later)) (sym same) before
 turn_of_any script valid r h b t a later false e left =
     let apart : a ≡ b → ⊥ = λ same. let yes = eq-eqb a b same in cc in
-    let stays = jobs_stay script valid r h b a apart in
-    let here : LeftOf script a (r.places a) (stands_at r a) later = subst (λ (job : Job). LeftOf script a (r.places a) (fork_place job) later) stays left in
+    let here : LeftOf script a (r.places a) (stands_at r a) later = subst (λ (at : ForkPlace). LeftOf script a (r.places a) at later) (places_stay script valid r h b a apart) left in
     other_left a (process_of script a) b t ((r.places b).answered + 1) (r.places a) (stands_at r a) (ops_of script a) (taken_in script r b).whats later (grind (arith, nat_tests)) here
 
 pub follows_run : Law → (script : ScriptValue) → IsScript script → (turns : List Turn) (number : ℕ) (r end : RunState) → Stands script r → PointerFits script r → Runs script r turns end → (a : ℕ) → LeftOf script a (r.places a) (stands_at r a) (own_notes a (journal_of number r.places turns))

@@ -1,6 +1,7 @@
 -- A run follows its script: what an actor's notes are from a state on, backwards from the end.
 use Rattle.std.proofs.Common.{◌≡◌, ℕ, ◌+◌, ◌-◌, ◌<◌, ◌≤◌, ◌==◌, ◌++◌, ◌⊎◌, inl, inr, Bool, false, IsTrue, List, [], ◌∷◌, Option, Some, None, slice_get, drop, refl, sym, ap, ◌∙◌, subst, append_assoc, zero, suc, arith}
 use Rattle.std.proofs.Math.Seq.{drop-nil}
+use Rattle.gup_plain.specs.Event.{words}
 use Rattle.gup_plain.specs.Note.{NoteValue}
 use Rattle.gup_plain.specs.State.{PlainState}
 use Rattle.gup_plain.specs.declared.answer.Answer.{Answer}
@@ -8,16 +9,17 @@ use Rattle.gup_plain.specs.declared.answer.Answer.TheVariants as answers
 use Rattle.gup_plain.specs.declared.event.PlainEvent.{PlainEvent}
 use Rattle.gup_plain.specs.declared.event.PlainEvent.TheVariants as events
 use Rattle.gup_plain.specs.declared.note.What.{What}
-use Rattle.gup_plain.specs.declared.note.What.TheVariants.{Silent, Idle, Wait, Event}
+use Rattle.gup_plain.specs.declared.note.What.TheVariants.{Silent, Idle, Wait, Event, Done}
 use Rattle.gup_plain.specs.declared.note.Waiting.{Waiting}
 use Rattle.gup_script.specs.declared.op.Op.{Op}
 use Rattle.gup_script.specs.declared.op.Op.TheVariants.{Map, Unmap, Protect, Discard, Load, Store, Pin, Unpin, Give, Take, Transfer, Fork, Exit}
-use Rattle.gup_follows.specs.Follows.{Who, IsTurn, IsRefused, TakesDown, TakesDownLast, TakesDownAll, TakesDownWhole, ForksPages, EndsShort, PinsPages, Unpins, moves_word, MovesWords, Shape, Shapes, refuses, own_notes, notes_of_turn, is_of_operation}
+use Rattle.gup_follows.specs.Follows.{Who, IsTurn, IsRefused, TakesDown, TakesDownLast, TakesDownAll, TakesDownWhole, CopiesFrom, CopiesPage, ForksPages, EndsShort, PinsPages, Unpins, moves_word, MovesWords, Shape, Shapes, refuses, own_notes, notes_of_turn, is_of_operation}
+use Rattle.gup_follows.specs.Order.{Moves}
 use Rattle.gup_follows.specs.Place.{Place, Doer, place_behind}
-use Rattle.gup_turns.specs.Reached.{ForkPlace, unbegun, from_page, at_page}
+use Rattle.gup_turns.specs.Reached.{ForkPlace, unbegun, from_page, at_page, wants_frame, at_word}
 use Rattle.gup_turns.proofs.Puts.{some_same}
-use Rattle.gup_turns.proofs.Shapes.{TurnOf, refused, mapped, protected, loaded, stored, gave, took_over, took, took_last, passed, passed_last, took_lowest, took_all, pinned_page, pinned_all, pinned_short, unpinned_page, unpinned_last, moved_word, moved_last, began, passed_page, counted_page, shared_page, ended, GoesOver, unmaps, discards, TurnAt, idles, waits, goes}
-use Rattle.gup_turns.proofs.Ordering.{op_moves}
+use Rattle.gup_turns.proofs.Shapes.{TurnOf, refused, mapped, protected, loaded, stored, gave, took_over, took, took_last, passed, passed_last, took_lowest, took_all, pinned_page, pinned_all, pinned_short, unpinned_page, unpinned_last, moved_word, moved_last, began, passed_page, counted_page, shared_page, ended, counted_copy, took_frame, copied_word, placed_copy, failed_fork, GoesOver, unmaps, discards, TurnAt, idles, waits, goes, unborn_refused, unborn_fork}
+use Rattle.gup_turns.proofs.Ordering.{op_moves, refusal_moves, failure_moves}
 use Rattle.gup_turns.proofs.Owning.{own_other, own_same, own_idle}
 
 -- What is left of an operation of which so many turns are over: of one that goes over pages, those behind; of an exit,
@@ -26,13 +28,22 @@ use Rattle.gup_turns.proofs.Owning.{own_other, own_same, own_idle}
 abbrev pub RestOver : Who → Op → (page n : ℕ) → (ℕ → PlainEvent) → (far : ℕ) → List NoteValue → Type 0
 RestOver who op page n event far notes = TakesDownAll who event (page + far) (n - far) notes ⊎ ((far ≡ 0) × IsRefused who op notes)
 
--- of a fork that looks for its next page, the pages from there on; of one that has counted a page, also that one's share
+-- Of a fork that looks for its next page, the pages from there on; of one that has counted a page, also that one's share;
+-- of one that wants a frame, also that one's copy, or its failure; and of one that has copied some words, also those that
+-- are left.
 abbrev pub RestOfFork : Who → (child : ℕ) → ForkPlace → List NoteValue → Type 0
 RestOfFork who child unbegun notes = Shape who (Fork child) notes
 RestOfFork who child (from_page page) notes = (pages : ℕ) × ForksPages who child page pages notes
 RestOfFork who child (at_page page) notes =
     (pages : ℕ) × (front rest : List NoteValue) × (notes ≡ front ++ rest)
     × IsTurn who front (Event (events.ForkPage who.proc child page) ∷ []) × ForksPages who child (page + 1) pages rest
+RestOfFork who child (wants_frame page) notes =
+    ((pages : ℕ) × (front rest : List NoteValue) × (notes ≡ front ++ rest) × CopiesPage who child page front
+    × ForksPages who child (page + 1) pages rest)
+    ⊎ IsTurn who notes (Event (events.ForkFail child) ∷ Done answers.NoFrame ∷ [])
+RestOfFork who child (at_word page word to) notes =
+    (pages : ℕ) × (front rest : List NoteValue) × (notes ≡ front ++ rest) × CopiesFrom who child page word front
+    × ForksPages who child (page + 1) pages rest
 
 abbrev pub RestOf : Who → Op → (far : ℕ) → ForkPlace → List NoteValue → Type 0
 RestOf who (Unmap page n) far at notes = RestOver who (Unmap page n) page n (events.Unmap who.actor who.proc) far notes
@@ -196,6 +207,13 @@ last_rest who op page n event far now last down =
     let one : 1 ≡ n - far = omega arith in
     inl (subst (λ (k : ℕ). TakesDownAll who event (page + far) k now) one down)
 
+-- of so many words one is copied, and none is left of all
+word_more : (word left all : ℕ) → word + 1 + left ≡ all → word + suc left ≡ all
+word_more word left all sum = omega arith
+
+none_left : (all : ℕ) → all + 0 ≡ all
+none_left all = omega arith
+
 -- from behind turn t of the actor to before it
 module _ (who : Doer) (t : ℕ) (place : Place) (ops : List Op) (later : List NoteValue) where
   abbrev present : Who
@@ -285,7 +303,31 @@ module _ (who : Doer) (t : ℕ) (place : Place) (ops : List Op) (later : List No
   counted_before : (child first page : ℕ) (whats : List What) → IsTurn present (now whats) (Silent ∷ []) → first ≤ page → (front : List NoteValue) → RestOfFork present child (at_page page) front → RestOfFork present child (from_page first) (now whats ++ front)
   counted_before child first page whats silent up front (pages, share, rest, is, shares, all) =
       let split : now whats ++ front ≡ (now whats ++ share) ++ rest = ap (λ (ns : List NoteValue). now whats ++ ns) is ∙ sym (append_assoc (now whats) share rest) in
-      (suc pages, (page, up, now whats ++ share, rest, split, inr (now whats, share, refl, silent, shares), all))
+      (suc pages, (page, up, now whats ++ share, rest, split, inr (now whats, share, refl, silent, inl shares), all))
+
+  -- the silent turn that counts a page is in front of its copy, or of the failure
+  counted_copy_before : (child first page : ℕ) (whats : List What) → IsTurn present (now whats) (Silent ∷ []) → first ≤ page → (front : List NoteValue) → RestOfFork present child (wants_frame page) front → RestOfFork present child (from_page first) (now whats ++ front)
+  counted_copy_before child first page whats silent up front (inl (pages, copy, rest, is, copies, all)) =
+      let split : now whats ++ front ≡ (now whats ++ copy) ++ rest = ap (λ (ns : List NoteValue). now whats ++ ns) is ∙ sym (append_assoc (now whats) copy rest) in
+      (suc pages, (page, up, now whats ++ copy, rest, split, inr (now whats, copy, refl, silent, inr copies), all))
+  counted_copy_before child first page whats silent up front (inr fails) = (zero, inr (now whats, front, refl, silent, fails))
+
+  -- the one that takes a frame is in front of all words
+  took_before : (child page to : ℕ) (whats : List What) → IsTurn present (now whats) (Silent ∷ []) → (front : List NoteValue) → RestOfFork present child (at_word page 0 to) front → RestOfFork present child (wants_frame page) (now whats ++ front)
+  took_before child page to whats silent front (pages, copy, rest, is, copies, all) =
+      let split : now whats ++ front ≡ (now whats ++ copy) ++ rest = ap (λ (ns : List NoteValue). now whats ++ ns) is ∙ sym (append_assoc (now whats) copy rest) in
+      inl (pages, now whats ++ copy, rest, split, (now whats, copy, refl, silent, copies), all)
+
+  -- a word is in front of those that are left
+  copied_before : (child page word to : ℕ) (whats : List What) → IsTurn present (now whats) (Event (events.ForkWord who.proc child page word) ∷ []) → (front : List NoteValue) → RestOfFork present child (at_word page (word + 1) to) front → RestOfFork present child (at_word page word to) (now whats ++ front)
+  copied_before child page word to whats first front (pages, copy, rest, is, (left, sum, copies), all) =
+      let split : now whats ++ front ≡ (now whats ++ copy) ++ rest = ap (λ (ns : List NoteValue). now whats ++ ns) is ∙ sym (append_assoc (now whats) copy rest) in
+      let whole : word + suc left ≡ words = word_more word left words sum in
+      (pages, now whats ++ copy, rest, split, (suc left, whole, (now whats, copy, refl, first, copies)), all)
+
+  -- where none is left, the turn that places the copy ends the page
+  placed_before : (child page to : ℕ) (whats : List What) → IsTurn present (now whats) (Silent ∷ []) → (front : List NoteValue) → RestOfFork present child (from_page (page + 1)) front → RestOfFork present child (at_word page words to) (now whats ++ front)
+  placed_before child page to whats silent front (pages, all) = (pages, now whats, front, refl, (zero, none_left words, silent), all)
 
   op_left : {s : PlainState} (op : Op) {from to : ForkPlace} (whats : List What) → TurnOf s who place op from whats to → drop place.answered ops ≡ op ∷ ops_behind → LeftAt who.actor who.proc ops (place_behind place whats) to later → LeftBefore op from (now whats ++ later)
   op_left op whats (refused o answer first refusal right passes) is left = ends op unbegun whats (refused_rest present op place.far (now whats) first.0 (answer, refusal, (t, refl))) left
@@ -329,22 +371,39 @@ module _ (who : Doer) (t : ℕ) (place : Place) (ops : List Op) (later : List No
       forks_on child (from_page first) (at_page page) whats (counted_before child first page whats (t, refl) up) (subst (λ (os : List Op). Left who.actor who.proc (place.answered + 1) os (place.far + 1) (at_page page) later) is left)
   op_left op whats (shared_page child page begun) is left =
       forks_on child (at_page page) (from_page (page + 1)) whats (λ front h. (h.0, now whats, front, refl, (t, refl), h.1)) (subst (λ (os : List Op). Left who.actor who.proc (place.answered + 1) os (place.far + 1) (from_page (page + 1)) later) is left)
-  op_left op whats (ended child first begun) is left = ends op (from_page first) whats (zero, (t, refl)) left
+  op_left op whats (ended child first begun) is left = ends op (from_page first) whats (zero, inl (t, refl)) left
+  op_left op whats (counted_copy child first page begun up) is left =
+      forks_on child (from_page first) (wants_frame page) whats (counted_copy_before child first page whats (t, refl) up) (subst (λ (os : List Op). Left who.actor who.proc (place.answered + 1) os (place.far + 1) (wants_frame page) later) is left)
+  op_left op whats (took_frame child page to begun) is left =
+      forks_on child (wants_frame page) (at_word page 0 to) whats (took_before child page to whats (t, refl)) (subst (λ (os : List Op). Left who.actor who.proc (place.answered + 1) os (place.far + 1) (at_word page 0 to) later) is left)
+  op_left op whats (copied_word child page word to begun less) is left =
+      forks_on child (at_word page word to) (at_word page (word + 1) to) whats (copied_before child page word to whats (t, refl)) (subst (λ (os : List Op). Left who.actor who.proc (place.answered + 1) os (place.far + 1) (at_word page (word + 1) to) later) is left)
+  op_left op whats (placed_copy child page to begun) is left =
+      forks_on child (at_word page words to) (from_page (page + 1)) whats (placed_before child page to whats (t, refl)) (subst (λ (os : List Op). Left who.actor who.proc (place.answered + 1) os (place.far + 1) (from_page (page + 1)) later) is left)
+  op_left op whats (failed_fork child page begun) is left = ends op (wants_frame page) whats (inr (t, refl)) left
 
   -- a turn without notes of an operation
   same_left : (at : ForkPlace) (what : What) → is_of_operation what ≡ false → LeftAt who.actor who.proc ops place at later → LeftAt who.actor who.proc ops place at (own_notes who.actor (now (what ∷ [])) ++ later)
   same_left at what other left = subst (λ (ns : List NoteValue). LeftAt who.actor who.proc ops place at (ns ++ later)) (sym (own_idle who.actor t (place.answered + 1) what other)) left
+
+  -- one of the operation at which it stands
+  own_left : (op : Op) (at : ForkPlace) (whats : List What) → slice_get ops place.answered ≡ Some op → Moves whats → LeftBefore op at (now whats ++ later) → LeftAt who.actor who.proc ops place at (own_notes who.actor (now whats) ++ later)
+  own_left op at whats is moves here =
+      subst (λ (ns : List NoteValue). LeftAt who.actor who.proc ops place at (ns ++ later)) (sym (own_same who.actor t (place.answered + 1) whats moves.2))
+      (subst (λ (os : List Op). Left who.actor who.proc (place.answered + 1) os place.far at (now whats ++ later)) (sym (ops_split ops place.answered op is)) here)
 
   -- any turn of the actor's
   pub turn_left : {s : PlainState} {op : Option Op} {waiting : Option Waiting} {from to : ForkPlace} {whats : List What} → TurnAt s who place op waiting from whats to → slice_get ops place.answered ≡ op → LeftAt who.actor who.proc ops (place_behind place whats) to later → LeftAt who.actor who.proc ops place from (own_notes who.actor (now whats) ++ later)
   turn_left (idles waiting at) is left = same_left at Idle refl left
   turn_left (waits op waiting at) is left = same_left at (Wait waiting) refl left
   turn_left (goes op whats from to birth own turn) is left =
-      let split = ops_split ops place.answered op is in
-      let own = own_same who.actor t (place.answered + 1) whats (op_moves turn).2 in
-      let here = op_left op whats turn split left in
-      subst (λ (ns : List NoteValue). LeftAt who.actor who.proc ops place from (ns ++ later)) (sym own)
-      (subst (λ (os : List Op). Left who.actor who.proc (place.answered + 1) os place.far from (now whats ++ later)) (sym split) here)
+      own_left op from whats is (op_moves turn) (op_left op whats turn (ops_split ops place.answered op is) left)
+  turn_left (unborn_refused op birth first refusal) is left =
+      let whats : List What = Done answers.Unborn ∷ [] in
+      own_left op unbegun whats is refusal_moves (ends op unbegun whats (refused_rest present op place.far (now whats) first.0 (answers.Unborn, refusal, (t, refl))) left)
+  turn_left (unborn_fork child birth fails first) is left =
+      let whats : List What = Event (events.ForkFail child) ∷ Done answers.Unborn ∷ [] in
+      own_left (Fork child) unbegun whats is (failure_moves child) (ends (Fork child) unbegun whats (inr (t, refl)) left)
 
 -- a turn of another actor changes nothing
 pub other_left : (a p b t n : ℕ) (place : Place) (at : ForkPlace) (ops : List Op) (whats : List What) (later : List NoteValue) → (b == a) ≡ false → LeftAt a p ops place at later → LeftAt a p ops place at (own_notes a (notes_of_turn t b n whats) ++ later)

@@ -1,34 +1,42 @@
 -- What a turn of any operation does to mapped pages and jobs, and what it takes of the cost: a fork's, and the others'.
-use Rattle.std.proofs.Common.{◌≡◌, ℕ, ◌+◌, ◌-◌, ◌*◌, ◌<◌, ◌≤◌, ◌==◌, Bool, true, false, is_some, if◌then◌else◌, List, [], ◌∷◌, Option, Some, None, inl, inr, refl, ap, sym, subst, ◌∙◌, arith}
+use Rattle.std.proofs.Common.{◌≡◌, ℕ, ◌+◌, ◌-◌, ◌*◌, ◌<◌, ◌≤◌, ◌==◌, ◌++◌, Bool, true, false, is_some, List, [], ◌∷◌, Option, Some, None, inl, inr, refl, ap, sym, subst, ◌∙◌, zero, suc, arith, nat_lt}
+use Rattle.std.specs.Prelude.{◌⊎◌}
 use Rattle.std.proofs.lemmas.Bool.Decides.{nat_tests}
 use Rattle.gup_base.specs.declared.entry.Entry.{Entry}
 use Rattle.gup_base.specs.declared.entry.Rights.{Rights}
 use Rattle.gup_plain.specs.Put.{put}
-use Rattle.gup_plain.specs.Event.{page_numbers}
-use Rattle.gup_plain.specs.State.{Birth, unborn, growing, born}
+use Rattle.gup_plain.specs.Event.{page_numbers, words}
+use Rattle.gup_plain.specs.State.{Birth, unborn, growing, born, failed}
+use Rattle.gup_plain.specs.declared.answer.Answer.TheVariants as answers
+use Rattle.gup_plain.specs.declared.note.What.TheVariants.{Silent}
 use Rattle.gup_script.specs.declared.op.Op.{Op}
 use Rattle.gup_script.specs.declared.op.Op.TheVariants.{Map, Unmap, Protect, Discard, Load, Store, Pin, Unpin, Give, Take, Transfer, Fork, Exit}
-use Rattle.gup_events.specs.State.{CoreState, Job, idle, marking, moving, forking, walking, between, counted, lowered, cleared, copying, failing}
-use Rattle.gup_events.specs.Event.{happens, begin_fork, copies_page}
+use Rattle.gup_events.specs.State.{CoreState, Job, idle, marking, moving, forking, walking, ForkStep, between, counted, lowered, cleared, copying, failing}
+use Rattle.gup_events.specs.Event.{CoreEvent, happens, begin_fork, count_page, copies_page, fail_fork, release_fork, fail_unborn}
+use Rattle.gup_events.specs.Failure.{puts_entry, puts_entries, fails}
 use Rattle.gup_events.specs.Invariant.{run}
-use Rattle.gup_follows.specs.Place.{Place, Doer, birth_for, place_behind}
+use Rattle.gup_events.specs.Sound.{Forking, forking_of}
+use Rattle.gup_follows.specs.Place.{Place, Doer, birth_by, birth_for, place_behind}
 use Rattle.gup_turns.specs.Cost.{fork_turns, fork_left, GoesOn, IsWithinBound}
 use Rattle.gup_turns.specs.Pages.{mapped_pages, pages_from}
-use Rattle.gup_turns.specs.Reached.{ForkPlace, unbegun, from_page, at_page, fork_place, StandsFork}
-use Rattle.gup_turns.specs.Turn.{Taken, first_behind, next_page, page_turn, next_turn, share_turn, fork_turn, op_turn, turn_at, failed_turn, turn_of}
-use Rattle.gup_turns.proofs.Bounds.{StandsShort, IsMoved, TakesCost, takes_cost}
+use Rattle.gup_turns.specs.Reached.{ForkPlace, unbegun, from_page, at_page, wants_frame, at_word, copying_place, fork_place, place_in, IsForking, StandsFork}
+use Rattle.gup_turns.specs.Turn.{Taken, answers_with, free_frame, first_behind, next_page, page_turn, next_turn, share_turn, frame_turn, copy_turn, copying_turn, fork_turn, op_turn, turn_at, failed_turn, turn_of}
+use Rattle.gup_turns.proofs.Bounds.{StandsShort, IsMoved, still, TakesCost, takes_cost}
 use Rattle.gup_turns.proofs.PinBounds.{op_moved, kept_rights}
-use Rattle.gup_turns.proofs.Mapped.{pages_few, pages_behind}
-use Rattle.gup_turns.proofs.Puts.{put_same, put_other}
+use Rattle.gup_turns.proofs.Mapped.{mapped_none, pages_few, pages_behind}
+use Rattle.gup_turns.proofs.Puts.{put_same, put_other, some_same}
 use Rattle.gup_turns.proofs.Searches.{IsLowest, lowest_some}
 use Rattle.gup_turns.proofs.Shapes.{IsOfProcess, child_of}
+use Rattle.gup_turns.proofs.Turned.{idle_place, run_behind}
 
--- A turn leaves the pages of all processes but its own, or the child that it brings, and those of each that grows. It
--- leaves the jobs of other actors, takes of the cost, and is within its bound.
+-- A turn leaves the pages of all processes but its own, or the child that it brings, and those of each that grows while
+-- another actor keeps its parent's structure lock. It leaves the jobs of other actors and what these have prepared, takes
+-- of the cost, and is within its bound.
 pub record IsSpent (s : CoreState) (a p : ℕ) (place : Place) (op : Op) (turn : Taken) : Type 0 where
   pub others : (q : ℕ) → (q == child_of p (Some op)) ≡ false → (run s turn.events).right q ≡ s.right q
-  pub grown : (q parent : ℕ) → s.birth q ≡ growing parent → (run s turn.events).right q ≡ s.right q
+  pub grown : (q parent b : ℕ) → s.birth q ≡ growing parent → s.structure parent ≡ Some b → (b == a) ≡ false → (run s turn.events).right q ≡ s.right q
   pub jobs : (b : ℕ) → (b == a) ≡ false → (run s turn.events).job b ≡ s.job b
+  pub prepared : (b : ℕ) → (b == a) ≡ false → (run s turn.events).prepared b ≡ s.prepared b
   pub takes : TakesCost s (run s turn.events) a op place (place_behind place turn.whats) (mapped_pages (s.right (child_of p (Some op)))) (mapped_pages ((run s turn.events).right (child_of p (Some op))))
   pub bound : IsWithinBound op a p place (place_behind place turn.whats) s (run s turn.events)
 
@@ -48,17 +56,97 @@ born_grown parent is = cc is
 unborn_grown : (parent : ℕ) → unborn ≡ growing parent → ⊥
 unborn_grown parent is = cc is
 
+same_parent : {p q : ℕ} → growing p ≡ growing q → p ≡ q
+same_parent is = cc
+
+-- two that grow while different actors keep their parents' structure locks
+apart_locked : (s : CoreState) (p q parent a b : ℕ) → s.birth p ≡ growing parent → s.structure parent ≡ Some a → (other : ℕ) → s.birth q ≡ growing other → s.structure other ≡ Some b → (b == a) ≡ false → (q == p) ≡ false
+apart_locked s p q parent a b grows locked other grows_too locked_too apart = go (q == p) refl
+  where
+    go : (c : Bool) → (q == p) ≡ c → c ≡ false
+    go true same =
+        let one : q ≡ p = grind (arith, nat_tests) in
+        let parents : parent ≡ other = same_parent (sym grows ∙ sym (ap s.birth one) ∙ grows_too) in
+        let holders : a ≡ b = some_same (sym locked ∙ ap s.structure parents ∙ locked_too) in
+        absurd (let no : ⊥ = grind (arith, nat_tests) in no)
+    go false same = refl
+
 -- a fork stands in the middle
 abbrev IsMiddle : ForkPlace → Type 0
 IsMiddle unbegun = ⊥
 IsMiddle (from_page page) = Unit {0}
 IsMiddle (at_page page) = Unit {0}
+IsMiddle (wants_frame page) = Unit {0}
+IsMiddle (at_word page word to) = Unit {0}
 
 -- there its turns are all that it costs
 left_turns : (right : ℕ → Option Rights) (x : ForkPlace) → IsMiddle x → fork_left right x ≡ fork_turns right x
 left_turns right unbegun middle = absurd middle
 left_turns right (from_page page) middle = refl
 left_turns right (at_page page) middle = refl
+left_turns right (wants_frame page) middle = refl
+left_turns right (at_word page word to) middle = refl
+
+-- a copy that has begun is in the middle, and costs at most as much as one that wants its frame
+copying_middle : (page word : ℕ) (prepared : Option ℕ) → IsMiddle (copying_place page word prepared)
+copying_middle page word None = tt
+copying_middle page word (Some to) = tt
+
+copying_few : (right : ℕ → Option Rights) (page word : ℕ) (prepared : Option ℕ) → fork_turns right (copying_place page word prepared) ≤ 515 * pages_from right (page + 1) + 515
+copying_few right page word None = omega arith
+copying_few right page word (Some to) = omega arith
+
+-- where a fork stands, by its actor's job and the frame that this has prepared
+pub place_by : (t : CoreState) (a : ℕ) (job : Job) (prepared : Option ℕ) → t.job a ≡ job → t.prepared a ≡ prepared → place_in t a ≡ fork_place job prepared
+place_by t a job prepared is has = ap (λ (j : Job). fork_place j (t.prepared a)) is ∙ ap (fork_place job) has
+
+-- The references of a failed child that are given back leave all mappings, all jobs, and what actors have prepared.
+record GivesBack (s t : CoreState) : Type 0 where
+  right : t.right ≡ s.right
+  job : t.job ≡ s.job
+  prepared : t.prepared ≡ s.prepared
+
+gives_both : (s t u : CoreState) → GivesBack s t → GivesBack t u → GivesBack s u
+gives_both s t u now later =
+    record {
+      right = later.right ∙ now.right;
+      job = later.job ∙ now.job;
+      prepared = later.prepared ∙ now.prepared;
+    }
+
+module _ (a p c : ℕ) (done : List ℕ) where
+  puts_one : (s : CoreState) (page : ℕ) (entry : Option Entry) → GivesBack s (run s (puts_entry a p c done page entry))
+  puts_one s page None = record { right = refl; job = refl; prepared = refl }
+  puts_one s page (Some e) = record { right = refl; job = refl; prepared = refl }
+
+  puts_all : (s : CoreState) (entry : ℕ → Option Entry) (first n : ℕ) → GivesBack s (run s (puts_entries a p c done entry first n))
+  puts_all s entry first zero = record { right = refl; job = refl; prepared = refl }
+  puts_all s entry first (suc n) =
+      let one : List CoreEvent = puts_entry a p c done first (entry first) in
+      let more : List CoreEvent = puts_entries a p c done entry (first + 1) n in
+      let t : CoreState = run s one in
+      subst (GivesBack s) (sym (run_behind s one more)) (gives_both s t (run t more) (puts_one s first (entry first)) (puts_all t entry (first + 1) n))
+
+  -- the failure of a fork: its child has no mappings, and its actor is in the middle of nothing
+  record IsFailed (s t : CoreState) : Type 0 where
+    right : t.right ≡ put c (λ _. None) s.right
+    job : t.job ≡ put a idle (put a (forking p c done failing) s.job)
+    prepared : t.prepared ≡ s.prepared
+
+  fails_by : (s : CoreState) (step : ForkStep) (entry : ℕ → Option Entry) (n : ℕ) → IsFailed s (run (happens s (fail_fork a p c done step)) (puts_entries a p c done entry 0 n ++ release_fork a p c done ∷ []))
+  fails_by s step entry n =
+      let t : CoreState = happens s (fail_fork a p c done step) in
+      let puts : List CoreEvent = puts_entries a p c done entry 0 n in
+      let back = puts_all t entry 0 n in
+      subst (IsFailed s) (sym (run_behind t puts (release_fork a p c done ∷ [])))
+      (record {
+        right = back.right;
+        job = ap (put a idle) back.job;
+        prepared = back.prepared;
+      })
+
+  fails_so : (s : CoreState) (step : ForkStep) (entry : ℕ → Option Entry) → IsFailed s (run s (fails a p c done step entry))
+  fails_so s step entry = fails_by s step entry page_numbers
 
 module _ (s : CoreState) (a p : ℕ) (place : Place) where
   -- an operation that isn't a fork
@@ -68,8 +156,9 @@ module _ (s : CoreState) (a p : ℕ) (place : Place) where
       let takes = takes_cost op a p place (place_behind place turn.whats) s t short moved.jobs.idle moved.gained moved.bound in
       record {
         others = λ q other. moved.others q (subst (λ (k : ℕ). (q == k) ≡ false) own other);
-        grown = grown;
+        grown = λ q parent b grows locked apart. grown q parent grows;
         jobs = moved.jobs.others;
+        prepared = moved.jobs.prepared;
         takes = subst (λ (k : ℕ). TakesCost s t a op place (place_behind place turn.whats) (mapped_pages (s.right k)) (mapped_pages (t.right k))) (sym own) takes;
         bound = moved.bound;
       }
@@ -86,24 +175,30 @@ module _ (s : CoreState) (a p : ℕ) (place : Place) where
       let same = kept_rights s a p slots place.far op none in
       moved_spent op (op_turn s a p slots place.far op) own (λ q parent grows. ap (λ (f : ℕ → ℕ → Option Rights). f q) same) stands.1 (op_moved s a p place stands.0 slots op stands.1)
 
+  -- of a failed process: it is refused
+  refused_spent : (op : Op) → child_of p (Some op) ≡ p → (s.job a ≡ idle) × StandsShort s a op place → IsSpent s a p place op (answers_with answers.Unborn)
+  refused_spent op own stands =
+      moved_spent op (answers_with answers.Unborn) own (λ q parent grows. refl) stands.1 (still s a p place stands.0 op (answers_with answers.Unborn) refl refl refl refl)
+
   -- forks
 
   module _ (child : ℕ) where
     -- a fork goes on from one place in the middle to another, and leaves all mappings
-    fork_goes : (turn : Taken) (x y : ForkPlace) → IsMiddle x → IsMiddle y → fork_place (s.job a) ≡ x → fork_place ((run s turn.events).job a) ≡ y → (run s turn.events).right ≡ s.right → ((b : ℕ) → (b == a) ≡ false → (run s turn.events).job b ≡ s.job b) → GoesOn place (place_behind place turn.whats) → fork_turns (s.right child) y < fork_turns (s.right child) x → IsSpent s a p place (Fork child) turn
-    fork_goes turn x y from to was is same jobs goes less =
+    fork_goes : (turn : Taken) (x y : ForkPlace) → IsMiddle x → IsMiddle y → place_in s a ≡ x → place_in (run s turn.events) a ≡ y → (run s turn.events).right ≡ s.right → ((b : ℕ) → (b == a) ≡ false → (run s turn.events).job b ≡ s.job b) → ((b : ℕ) → (b == a) ≡ false → (run s turn.events).prepared b ≡ s.prepared b) → GoesOn place (place_behind place turn.whats) → fork_turns (s.right child) y < fork_turns (s.right child) x → IsSpent s a p place (Fork child) turn
+    fork_goes turn x y from to was is same jobs prepared goes less =
         let t : CoreState = run s turn.events in
-        let before : fork_turns (s.right child) (fork_place (s.job a)) ≡ fork_turns (s.right child) x = ap (fork_turns (s.right child)) was in
-        let after : fork_turns (t.right child) (fork_place (t.job a)) ≡ fork_turns (s.right child) y =
+        let before : fork_turns (s.right child) (place_in s a) ≡ fork_turns (s.right child) x = ap (fork_turns (s.right child)) was in
+        let after : fork_turns (t.right child) (place_in t a) ≡ fork_turns (s.right child) y =
         ap (fork_turns (t.right child)) is ∙ ap (λ (f : ℕ → ℕ → Option Rights). fork_turns (f child) y) same in
-        let left_before : fork_left (s.right child) (fork_place (s.job a)) ≡ fork_turns (s.right child) x = ap (fork_left (s.right child)) was ∙ left_turns (s.right child) x from in
-        let left_after : fork_left (t.right child) (fork_place (t.job a)) ≡ fork_turns (s.right child) y =
+        let left_before : fork_left (s.right child) (place_in s a) ≡ fork_turns (s.right child) x = ap (fork_left (s.right child)) was ∙ left_turns (s.right child) x from in
+        let left_after : fork_left (t.right child) (place_in t a) ≡ fork_turns (s.right child) y =
         ap (fork_left (t.right child)) is ∙ ap (λ (f : ℕ → ℕ → Option Rights). fork_left (f child) y) same ∙ left_turns (s.right child) y to in
         let pages : mapped_pages (t.right child) ≡ mapped_pages (s.right child) = ap (λ (f : ℕ → ℕ → Option Rights). mapped_pages (f child)) same in
         record {
           others = λ q other. ap (λ (f : ℕ → ℕ → Option Rights). f q) same;
-          grown = λ q parent grows. ap (λ (f : ℕ → ℕ → Option Rights). f q) same;
+          grown = λ q parent b grows locked apart. ap (λ (f : ℕ → ℕ → Option Rights). f q) same;
           jobs = jobs;
+          prepared = prepared;
           takes = inr (goes.0, omega (arith, left_before, left_after, pages, less));
           bound = inr (goes, omega (arith, before, after, less));
         }
@@ -113,19 +208,21 @@ module _ (s : CoreState) (a p : ℕ) (place : Place) where
     begin_spent rests birth few =
         let t : CoreState = happens s (begin_fork a p child) in
         let right : t.right child ≡ s.right p = put_same child (s.right p) s.right in
-        let job : t.job a ≡ forking p child [] between = put_same a (forking p child [] between) s.job in
+        let was : place_in s a ≡ unbegun = idle_place s a rests in
+        let is : place_in t a ≡ from_page 0 = place_by t a (forking p child [] between) (s.prepared a) (put_same a (forking p child [] between) s.job) refl in
         let most = pages_few 0 (s.right p) in
-        let before : fork_turns (s.right child) (fork_place (s.job a)) ≡ 2050 = ap (λ (j : Job). fork_turns (s.right child) (fork_place j)) rests in
-        let after : fork_turns (t.right child) (fork_place (t.job a)) ≡ 2 * pages_from (s.right p) 0 + 1 =
-        ap (λ (j : Job). fork_turns (t.right child) (fork_place j)) job ∙ ap (λ (f : ℕ → Option Rights). 2 * pages_from f 0 + 1) right in
-        let left_before : fork_left (s.right child) (fork_place (s.job a)) ≡ 3074 = ap (λ (j : Job). fork_left (s.right child) (fork_place j)) rests in
-        let left_after : fork_left (t.right child) (fork_place (t.job a)) ≡ 2 * pages_from (s.right p) 0 + 1 =
-        ap (λ (j : Job). fork_left (t.right child) (fork_place j)) job ∙ ap (λ (f : ℕ → Option Rights). 2 * pages_from f 0 + 1) right in
+        let before : fork_turns (s.right child) (place_in s a) ≡ 527362 = ap (fork_turns (s.right child)) was in
+        let after : fork_turns (t.right child) (place_in t a) ≡ 515 * pages_from (s.right p) 0 + 1 =
+        ap (fork_turns (t.right child)) is ∙ ap (λ (f : ℕ → Option Rights). 515 * pages_from f 0 + 1) right in
+        let left_before : fork_left (s.right child) (place_in s a) ≡ 528386 = ap (fork_left (s.right child)) was in
+        let left_after : fork_left (t.right child) (place_in t a) ≡ 515 * pages_from (s.right p) 0 + 1 =
+        ap (fork_left (t.right child)) is ∙ ap (λ (f : ℕ → Option Rights). 515 * pages_from f 0 + 1) right in
         let pages : mapped_pages (t.right child) ≡ mapped_pages (s.right p) = ap mapped_pages right in
         record {
           others = λ q other. put_other child q (s.right p) s.right other;
-          grown = λ q parent grows. put_other child q (s.right p) s.right (apart_grown s.birth child q parent unborn birth (unborn_grown parent) grows);
+          grown = λ q parent b grows locked apart. put_other child q (s.right p) s.right (apart_grown s.birth child q parent unborn birth (unborn_grown parent) grows);
           jobs = λ b other. put_other a b (forking p child [] between) s.job other;
+          prepared = λ b other. refl;
           takes = inr (refl, omega (arith, left_before, left_after, pages, most, few));
           bound = inr ((refl, refl), omega (arith, before, after, most, few));
         }
@@ -134,18 +231,19 @@ module _ (s : CoreState) (a p : ℕ) (place : Place) where
     end_spent : (q c : ℕ) (done : List ℕ) → s.job a ≡ forking q c done between → IsSpent s a p place (Fork child) (next_turn s a p child done None)
     end_spent q c done is =
         let t : CoreState = run s (next_turn s a p child done None).events in
-        let left : fork_left (s.right child) (fork_place (s.job a)) ≡ 2 * pages_from (s.right child) (first_behind done) + 1 = ap (λ (j : Job). fork_left (s.right child) (fork_place j)) is in
+        let left : fork_left (s.right child) (place_in s a) ≡ 515 * pages_from (s.right child) (first_behind done) + 1 = ap (λ (j : Job). fork_left (s.right child) (fork_place j (s.prepared a))) is in
         record {
           others = λ q other. refl;
-          grown = λ q parent grows. refl;
+          grown = λ q parent b grows locked apart. refl;
           jobs = λ b other. put_other a b idle s.job other;
+          prepared = λ b other. refl;
           takes = inl (refl, put_same a idle s.job, omega (arith, left));
           bound = inl refl;
         }
 
     -- the page that is next
-    page_spent : (q c : ℕ) (done : List ℕ) (page : ℕ) (entry : Option Entry) → s.has_pinned p ≡ false → s.job a ≡ forking q c done between → next_page (s.right child) done ≡ Some page → IsSpent s a p place (Fork child) (page_turn s a p child done page entry)
-    page_spent q c done page entry unpinned is next =
+    page_spent : (q c : ℕ) (done : List ℕ) (page : ℕ) (entry : Option Entry) → s.job a ≡ forking q c done between → next_page (s.right child) done ≡ Some page → IsSpent s a p place (Fork child) (page_turn s a p child done page entry)
+    page_spent q c done page entry is next =
         let found : IsLowest (first_behind done) (page_numbers - first_behind done) (λ (g : ℕ). is_some (s.right child g)) page =
         lowest_some (first_behind done) (page_numbers - first_behind done) page (λ (g : ℕ). is_some (s.right child g)) next in
         let least : first_behind done ≤ page = found.from in
@@ -153,69 +251,200 @@ module _ (s : CoreState) (a p : ℕ) (place : Place) where
         let fewer = pages_behind (first_behind done) page (s.right child) least (omega arith) found.passes in
         go entry fewer
       where
-        was : fork_place (s.job a) ≡ from_page (first_behind done)
-        was = ap fork_place is
+        was : place_in s a ≡ from_page (first_behind done)
+        was = ap (λ (j : Job). fork_place j (s.prepared a)) is
 
-        unpinned_shares : (copies : Bool) (e : Entry) → copies_page s p e.frame ≡ copies → copies ≡ false
-        unpinned_shares copies e same = sym same ∙ grind arith
+        -- whether it is to be copied or to be shared
+        counts : (e : Entry) (copies : Bool) → pages_from (s.right child) (page + 1) < pages_from (s.right child) (first_behind done) → IsSpent s a p place (Fork child) (record { events = count_page a p child done page e copies ∷ []; whats = Silent ∷ [] })
+        counts e true fewer =
+            let turn : Taken = record { events = count_page a p child done page e true ∷ []; whats = Silent ∷ [] } in
+            let job : Job = forking p child done (copying page 0) in
+            let few = copying_few (s.right child) page 0 (s.prepared a) in
+            fork_goes turn (from_page (first_behind done)) (copying_place page 0 (s.prepared a)) tt (copying_middle page 0 (s.prepared a)) was
+            (place_by (run s turn.events) a job (s.prepared a) (put_same a job s.job) refl) refl (λ b other. put_other a b job s.job other) (λ b other. refl) (refl, refl) (omega (arith, few, fewer))
+        counts e false fewer =
+            let turn : Taken = record { events = count_page a p child done page e false ∷ []; whats = Silent ∷ [] } in
+            let job : Job = forking p child done (counted page) in
+            fork_goes turn (from_page (first_behind done)) (at_page page) tt tt was
+            (place_by (run s turn.events) a job (s.prepared a) (put_same a job s.job) refl) refl (λ b other. put_other a b job s.job other) (λ b other. refl) (refl, refl) (omega (arith, fewer))
 
         go : (entry : Option Entry) → pages_from (s.right child) (page + 1) < pages_from (s.right child) (first_behind done) → IsSpent s a p place (Fork child) (page_turn s a p child done page entry)
         go None fewer =
+            let turn : Taken = page_turn s a p child done page None in
             let job : Job = forking p child (page ∷ done) between in
-            fork_goes (page_turn s a p child done page None) (from_page (first_behind done)) (from_page (page + 1)) tt tt was (ap fork_place (put_same a job s.job)) refl (λ b other. put_other a b job s.job other) (refl, refl) (omega arith)
-        go (Some e) fewer =
-            let shares : copies_page s p e.frame ≡ false = unpinned_shares (copies_page s p e.frame) e refl in
-            let job : Job = forking p child done (if copies_page s p e.frame then copying page 0 else counted page) in
-            let place_is : fork_place job ≡ at_page page = ap (λ (b : Bool). fork_place (forking p child done (if b then copying page 0 else counted page))) shares in
-            fork_goes (page_turn s a p child done page (Some e)) (from_page (first_behind done)) (at_page page) tt tt was (ap fork_place (put_same a job s.job) ∙ place_is) refl (λ b other. put_other a b job s.job other) (refl, refl) (omega arith)
+            fork_goes turn (from_page (first_behind done)) (from_page (page + 1)) tt tt was
+            (place_by (run s turn.events) a job (s.prepared a) (put_same a job s.job) refl) refl (λ b other. put_other a b job s.job other) (λ b other. refl) (refl, refl) (omega (arith, fewer))
+        go (Some e) fewer = counts e (copies_page s p e.frame) fewer
 
     -- the page that was counted is shared
     share_spent : (q c : ℕ) (done : List ℕ) (page : ℕ) (entry : Option Entry) → s.job a ≡ forking q c done (counted page) → IsSpent s a p place (Fork child) (share_turn a p child done page entry)
     share_spent q c done page entry is =
+        let turn : Taken = share_turn a p child done page entry in
         let one : Job = forking p child done (lowered page) in
         let two : Job = forking p child done (cleared page) in
         let job : Job = forking p child (page ∷ done) between in
         let last : ℕ → Job = put a two (put a one s.job) in
-        fork_goes (share_turn a p child done page entry) (at_page page) (from_page (page + 1)) tt tt (ap fork_place is) (ap fork_place (put_same a job last)) refl
-        (λ b other. put_other a b job last other ∙ put_other a b two (put a one s.job) other ∙ put_other a b one s.job other) (refl, refl) (omega arith)
+        fork_goes turn (at_page page) (from_page (page + 1)) tt tt (ap (λ (j : Job). fork_place j (s.prepared a)) is)
+        (place_by (run s turn.events) a job (s.prepared a) (put_same a job last) refl) refl
+        (λ b other. put_other a b job last other ∙ put_other a b two (put a one s.job) other ∙ put_other a b one s.job other) (λ b other. refl) (refl, refl) (omega arith)
 
-    fork_spent : (job : Job) → s.job a ≡ job → StandsFork s a p child job → s.has_pinned p ≡ false → mapped_pages (s.right p) ≤ 1024 → IsSpent s a p place (Fork child) (fork_turn s a p child job)
-    fork_spent idle is stands unpinned few = begin_spent is stands few
-    fork_spent (marking q page f) is stands unpinned few = absurd stands
-    fork_spent (moving q page e count) is stands unpinned few = absurd stands
-    fork_spent (walking q write long sequence step) is stands unpinned few = absurd stands
-    fork_spent (forking q c done between) is stands unpinned few = next (next_page (s.right child) done) refl
+    -- where no frame is free for its copy the fork fails
+    fail_spent : (q c : ℕ) (done : List ℕ) (page word : ℕ) → IsForking s a p child q c done → IsSpent s a p place (Fork child) (frame_turn s a p child done page word None)
+    fail_spent q c done page word forks =
+        let turn : Taken = frame_turn s a p child done page word None in
+        let t : CoreState = run s turn.events in
+        let lost = fails_so a p child done s (copying page word) (s.entry child) in
+        let none : ℕ → Option Rights = λ _. None in
+        let one : Job = forking p child done failing in
+        let row : t.right child ≡ none = ap (λ (f : ℕ → ℕ → Option Rights). f child) lost.right ∙ put_same child none s.right in
+        let pages : mapped_pages (t.right child) ≡ 0 = ap mapped_pages row ∙ mapped_none none (λ k. refl) in
+        let left = some_left (s.right child) (place_in s a) in
+        record {
+          others = λ q other. ap (λ (f : ℕ → ℕ → Option Rights). f q) lost.right ∙ put_other child q none s.right other;
+          grown = λ q parent b grows locked apart.
+              ap (λ (f : ℕ → ℕ → Option Rights). f q) lost.right ∙ put_other child q none s.right (apart_locked s child q p a b forks.birth forks.locked parent grows locked apart);
+          jobs = λ b other. ap (λ (j : ℕ → Job). j b) lost.job ∙ put_other a b idle (put a one s.job) other ∙ put_other a b one s.job other;
+          prepared = λ b other. ap (λ (f : ℕ → Option ℕ). f b) lost.prepared;
+          takes = inl (refl, ap (λ (j : ℕ → Job). j a) lost.job ∙ put_same a idle (put a one s.job), omega (arith, pages, left));
+          bound = inl refl;
+        }
+      where
+        some_left : (right : ℕ → Option Rights) (x : ForkPlace) → 0 < fork_left right x
+        some_left right unbegun = omega arith
+        some_left right (from_page page) = omega arith
+        some_left right (at_page page) = omega arith
+        some_left right (wants_frame page) = omega arith
+        some_left right (at_word page word to) = omega arith
+
+    -- the counted page is copied: the frame for it, its words, and its place in the child
+    copying_spent : (q c : ℕ) (done : List ℕ) (page word : ℕ) (prepared : Option ℕ) → s.job a ≡ forking q c done (copying page word) → s.prepared a ≡ prepared → IsForking s a p child q c done → IsSpent s a p place (Fork child) (copying_turn s a p child done page word prepared)
+    copying_spent q c done page word None is has forks = takes (free_frame s)
+      where
+        takes : (free : Option ℕ) → IsSpent s a p place (Fork child) (frame_turn s a p child done page word free)
+        takes None = fail_spent q c done page word forks
+        takes (Some f) =
+            let turn : Taken = frame_turn s a p child done page word (Some f) in
+            fork_goes turn (wants_frame page) (at_word page word f) tt tt (place_by s a (forking q c done (copying page word)) None is has)
+            (place_by (run s turn.events) a (forking q c done (copying page word)) (Some f) is (put_same a (Some f) s.prepared)) refl (λ b other. refl) (λ b other. put_other a b (Some f) s.prepared other) (refl, refl) (omega arith)
+    copying_spent q c done page word (Some to) is has forks = copies (nat_lt word words) refl
+      where
+        was : place_in s a ≡ at_word page word to
+        was = place_by s a (forking q c done (copying page word)) (Some to) is has
+
+        copies : (more : Bool) → nat_lt word words ≡ more → IsSpent s a p place (Fork child) (copy_turn s a p child done page word to more)
+        copies true test =
+            let turn : Taken = copy_turn s a p child done page word to true in
+            let job : Job = forking p child done (copying page (word + 1)) in
+            let inside : word < words = grind (arith, nat_tests) in
+            fork_goes turn (at_word page word to) (at_word page (word + 1) to) tt tt was
+            (place_by (run s turn.events) a job (Some to) (put_same a job s.job) has) refl (λ b other. put_other a b job s.job other) (λ b other. refl) (refl, refl) (omega (arith, inside))
+        copies false test =
+            let turn : Taken = copy_turn s a p child done page word to false in
+            let job : Job = forking p child (page ∷ done) between in
+            fork_goes turn (at_word page word to) (from_page (page + 1)) tt tt was
+            (place_by (run s turn.events) a job None (put_same a job s.job) (put_same a None s.prepared)) refl (λ b other. put_other a b job s.job other) (λ b other. put_other a b None s.prepared other) (refl, refl) (omega arith)
+
+    fork_spent : (job : Job) → s.job a ≡ job → StandsFork s a p child job (s.prepared a) → mapped_pages (s.right p) ≤ 1024 → IsSpent s a p place (Fork child) (fork_turn s a p child job)
+    fork_spent idle is stands few = begin_spent is stands few
+    fork_spent (marking q page f) is stands few = absurd stands
+    fork_spent (moving q page e count) is stands few = absurd stands
+    fork_spent (walking q write long sequence step) is stands few = absurd stands
+    fork_spent (forking q c done between) is stands few = next (next_page (s.right child) done) refl
       where
         next : (found : Option ℕ) → next_page (s.right child) done ≡ found → IsSpent s a p place (Fork child) (next_turn s a p child done found)
         next None same = end_spent q c done is
-        next (Some page) same = page_spent q c done page (s.entry p page) unpinned is same
-    fork_spent (forking q c done (counted page)) is stands unpinned few = share_spent q c done page (s.entry p page) is
-    fork_spent (forking q c done (lowered page)) is stands unpinned few = absurd stands
-    fork_spent (forking q c done (cleared page)) is stands unpinned few = absurd stands
-    fork_spent (forking q c done (copying page n)) is stands unpinned few = absurd stands
-    fork_spent (forking q c done failing) is stands unpinned few = absurd stands
+        next (Some page) same = page_spent q c done page (s.entry p page) is same
+    fork_spent (forking q c done (counted page)) is stands few = share_spent q c done page (s.entry p page) is
+    fork_spent (forking q c done (lowered page)) is stands few = absurd stands
+    fork_spent (forking q c done (cleared page)) is stands few = absurd stands
+    fork_spent (forking q c done (copying page word)) is stands few = copying_spent q c done page word (s.prepared a) is refl stands.0
+    fork_spent (forking q c done failing) is stands few = absurd stands
+
+    -- one of a failed process makes its child failed too
+    unborn_spent : s.job a ≡ idle → s.birth child ≡ unborn → IsSpent s a p place (Fork child) (failed_turn a p (Fork child))
+    unborn_spent rests birth =
+        let t : CoreState = happens s (fail_unborn a p child) in
+        let none : ℕ → Option Rights = λ _. None in
+        let pages : mapped_pages (t.right child) ≡ 0 = ap mapped_pages (put_same child none s.right) ∙ mapped_none none (λ k. refl) in
+        let left : fork_left (s.right child) (place_in s a) ≡ 528386 = ap (fork_left (s.right child)) (idle_place s a rests) in
+        record {
+          others = λ q other. put_other child q none s.right other;
+          grown = λ q parent b grows locked apart. put_other child q none s.right (apart_grown s.birth child q parent unborn birth (unborn_grown parent) grows);
+          jobs = λ b other. refl;
+          prepared = λ b other. refl;
+          takes = inl (refl, rests, omega (arith, pages, left));
+          bound = inl refl;
+        }
+
+    -- no fork of a failed process is in the middle
+    unborn_by : (job : Job) → s.job a ≡ job → StandsFork s a p child job (s.prepared a) → ((k : Forking) → forking_of job ≡ Some k → s.birth k.proc ≡ born) → s.birth p ≡ failed → IsSpent s a p place (Fork child) (failed_turn a p (Fork child))
+    unborn_by idle is stands parent lost = unborn_spent is stands
+    unborn_by (marking q page f) is stands parent lost = absurd stands
+    unborn_by (moving q page e count) is stands parent lost = absurd stands
+    unborn_by (walking q write long sequence step) is stands parent lost = absurd stands
+    unborn_by (forking q c done step) is stands parent lost = absurd (born_failed step stands)
+      where
+        not_both : q ≡ p → ⊥
+        not_both own =
+            let birth : s.birth q ≡ born = parent (record { proc = q; child = c; done = done; step = step }) refl in
+            cc (sym birth ∙ ap s.birth own ∙ lost)
+
+        born_failed : (x : ForkStep) → StandsFork s a p child (forking q c done x) (s.prepared a) → ⊥
+        born_failed between there = not_both there.parent
+        born_failed (counted page) there = not_both there.0.parent
+        born_failed (lowered page) there = there
+        born_failed (cleared page) there = there
+        born_failed (copying page word) there = not_both there.0.parent
+        born_failed failing there = there
 
   -- where an operation stands: its actor is idle, unless it forks
   abbrev pub StandsAt : Op → Type 0
-  StandsAt (Fork child) = StandsFork s a p child (s.job a)
+  StandsAt (Fork child) = StandsFork s a p child (s.job a) (s.prepared a)
   StandsAt op = (s.job a ≡ idle) × StandsShort s a op place
 
-  -- every operation of a born process, or of whoever waits for no birth; where there is a fork, nobody has pinned
-  op_spent : (slots : ℕ) (op : Op) → (IsOfProcess op → s.birth p ≡ born) → ((child : ℕ) → op ≡ Fork child → s.has_pinned p ≡ false) → mapped_pages (s.right p) ≤ 1024 → StandsAt op → IsSpent s a p place op (op_turn s a p slots place.far op)
-  op_spent slots (Fork child) birth unpinned few stands = fork_spent child (s.job a) refl stands (unpinned child refl) few
-  op_spent slots (Map page n rights) birth unpinned few stands = page_op_spent slots (Map page n rights) refl (birth tt) stands
-  op_spent slots (Unmap page n) birth unpinned few stands = page_op_spent slots (Unmap page n) refl (birth tt) stands
-  op_spent slots (Protect page n rights) birth unpinned few stands = page_op_spent slots (Protect page n rights) refl (birth tt) stands
-  op_spent slots (Discard page n) birth unpinned few stands = page_op_spent slots (Discard page n) refl (birth tt) stands
-  op_spent slots (Load page word) birth unpinned few stands = page_op_spent slots (Load page word) refl (birth tt) stands
-  op_spent slots (Store page word value) birth unpinned few stands = page_op_spent slots (Store page word value) refl (birth tt) stands
-  op_spent slots (Pin handle page n write) birth unpinned few stands = page_op_spent slots (Pin handle page n write) refl (birth tt) stands
-  op_spent slots (Unpin handle) birth unpinned few stands = handle_op_spent slots (Unpin handle) refl (λ e. e) stands
-  op_spent slots (Give handle to) birth unpinned few stands = handle_op_spent slots (Give handle to) refl (λ e. e) stands
-  op_spent slots (Take handle) birth unpinned few stands = handle_op_spent slots (Take handle) refl (λ e. e) stands
-  op_spent slots (Transfer handle outward index slot n) birth unpinned few stands = handle_op_spent slots (Transfer handle outward index slot n) refl (λ e. e) stands
-  op_spent slots Exit birth unpinned few stands = page_op_spent slots Exit refl (birth tt) stands
+  -- every operation of a born process, or of whoever waits for no birth
+  op_spent : (slots : ℕ) (op : Op) → (IsOfProcess op → s.birth p ≡ born) → mapped_pages (s.right p) ≤ 1024 → StandsAt op → IsSpent s a p place op (op_turn s a p slots place.far op)
+  op_spent slots (Fork child) birth few stands = fork_spent child (s.job a) refl stands few
+  op_spent slots (Map page n rights) birth few stands = page_op_spent slots (Map page n rights) refl (birth tt) stands
+  op_spent slots (Unmap page n) birth few stands = page_op_spent slots (Unmap page n) refl (birth tt) stands
+  op_spent slots (Protect page n rights) birth few stands = page_op_spent slots (Protect page n rights) refl (birth tt) stands
+  op_spent slots (Discard page n) birth few stands = page_op_spent slots (Discard page n) refl (birth tt) stands
+  op_spent slots (Load page word) birth few stands = page_op_spent slots (Load page word) refl (birth tt) stands
+  op_spent slots (Store page word value) birth few stands = page_op_spent slots (Store page word value) refl (birth tt) stands
+  op_spent slots (Pin handle page n write) birth few stands = page_op_spent slots (Pin handle page n write) refl (birth tt) stands
+  op_spent slots (Unpin handle) birth few stands = handle_op_spent slots (Unpin handle) refl (λ e. e) stands
+  op_spent slots (Give handle to) birth few stands = handle_op_spent slots (Give handle to) refl (λ e. e) stands
+  op_spent slots (Take handle) birth few stands = handle_op_spent slots (Take handle) refl (λ e. e) stands
+  op_spent slots (Transfer handle outward index slot n) birth few stands = handle_op_spent slots (Transfer handle outward index slot n) refl (λ e. e) stands
+  op_spent slots Exit birth few stands = page_op_spent slots Exit refl (birth tt) stands
 
-pub turn_spent : (s : CoreState) (who : Doer) (place : Place) (op : Op) → birth_for s.birth who ≡ born → (IsOfProcess op → s.birth who.proc ≡ born) → ((child : ℕ) → op ≡ Fork child → s.has_pinned who.proc ≡ false) → mapped_pages (s.right who.proc) ≤ 1024 → StandsAt s who.actor who.proc place op → IsSpent s who.actor who.proc place op (turn_of s who place.far op)
-turn_spent s who place op birth own unpinned few stands =
-    subst (λ (b : Birth). IsSpent s who.actor who.proc place op (turn_at b (failed_turn who.actor who.proc op) (op_turn s who.actor who.proc who.slots place.far op))) (sym birth) (op_spent s who.actor who.proc place who.slots op own unpinned few stands)
+  -- every operation of a thread of a failed process
+  failed_spent : (op : Op) → s.birth p ≡ failed → ((k : Forking) → forking_of (s.job a) ≡ Some k → s.birth k.proc ≡ born) → StandsAt op → IsSpent s a p place op (failed_turn a p op)
+  failed_spent (Fork child) lost parent stands = unborn_by child (s.job a) refl stands parent lost
+  failed_spent (Map page n rights) lost parent stands = refused_spent (Map page n rights) refl stands
+  failed_spent (Unmap page n) lost parent stands = refused_spent (Unmap page n) refl stands
+  failed_spent (Protect page n rights) lost parent stands = refused_spent (Protect page n rights) refl stands
+  failed_spent (Discard page n) lost parent stands = refused_spent (Discard page n) refl stands
+  failed_spent (Load page word) lost parent stands = refused_spent (Load page word) refl stands
+  failed_spent (Store page word value) lost parent stands = refused_spent (Store page word value) refl stands
+  failed_spent (Pin handle page n write) lost parent stands = refused_spent (Pin handle page n write) refl stands
+  failed_spent (Unpin handle) lost parent stands = refused_spent (Unpin handle) refl stands
+  failed_spent (Give handle to) lost parent stands = refused_spent (Give handle to) refl stands
+  failed_spent (Take handle) lost parent stands = refused_spent (Take handle) refl stands
+  failed_spent (Transfer handle outward index slot n) lost parent stands = refused_spent (Transfer handle outward index slot n) refl stands
+  failed_spent Exit lost parent stands = refused_spent Exit refl stands
+
+-- only a thread is of a failed process
+failed_proc : (who : Doer) (births : ℕ → Birth) → birth_for births who ≡ failed → births who.proc ≡ failed
+failed_proc who births is = go who.thread is
+  where
+    go : (t : Bool) → birth_by t (births who.proc) ≡ failed → births who.proc ≡ failed
+    go true lost = lost
+    go false lost = absurd (cc lost)
+
+-- the turn of whoever is of a born process, or of a failed one
+pub turn_spent : (s : CoreState) (who : Doer) (place : Place) (op : Op) → (birth_for s.birth who ≡ born) ⊎ (birth_for s.birth who ≡ failed) → (IsOfProcess op → s.birth who.proc ≡ birth_for s.birth who) → ((k : Forking) → forking_of (s.job who.actor) ≡ Some k → s.birth k.proc ≡ born) → mapped_pages (s.right who.proc) ≤ 1024 → StandsAt s who.actor who.proc place op → IsSpent s who.actor who.proc place op (turn_of s who place.far op)
+turn_spent s who place op (inl birth) own parent few stands =
+    subst (λ (b : Birth). IsSpent s who.actor who.proc place op (turn_at b (failed_turn who.actor who.proc op) (op_turn s who.actor who.proc who.slots place.far op))) (sym birth) (op_spent s who.actor who.proc place who.slots op (λ of. own of ∙ birth) few stands)
+turn_spent s who place op (inr lost) own parent few stands =
+    subst (λ (b : Birth). IsSpent s who.actor who.proc place op (turn_at b (failed_turn who.actor who.proc op) (op_turn s who.actor who.proc who.slots place.far op))) (sym lost) (failed_spent s who.actor who.proc place op (failed_proc who s.birth lost) parent stands)

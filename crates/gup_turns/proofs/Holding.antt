@@ -67,32 +67,33 @@ keeps_none (inr e) = absurd (cc e)
 keeps_idle : {p : ℕ} {X : Type 0} {job : Job} → job ≡ idle → Keeps job p → X
 keeps_idle {p = p} e keeps = keeps_none (subst (λ (j : Job). Keeps j p) e keeps)
 
-fork_keeps : (s : CoreState) (b q child p : ℕ) (place : Place) (job : Job) → FitsFork s b q child place job → Keeps job p → IsForkOf s b q p place
-fork_keeps s b q child p place idle fits keeps = keeps_none keeps
-fork_keeps s b q child p place (forking k c done between) fits (inl e) = fork_of fits.1 fits.0 (some_same e)
-fork_keeps s b q child p place (forking k c done between) fits (inr e) = absurd (cc e)
-fork_keeps s b q child p place (forking k c done (counted page)) fits (inl e) = fork_of fits.1.0 fits.0 (some_same e)
-fork_keeps s b q child p place (forking k c done (counted page)) fits (inr e) = fork_of fits.1.0 fits.0 (some_same e)
-fork_keeps s b q child p place (forking k c done (lowered page)) fits keeps = absurd fits.1
-fork_keeps s b q child p place (forking k c done (cleared page)) fits keeps = absurd fits.1
-fork_keeps s b q child p place (forking k c done (copying page n)) fits keeps = absurd fits.1
-fork_keeps s b q child p place (forking k c done failing) fits keeps = absurd fits.1
-fork_keeps s b q child p place (marking k page f) fits keeps = absurd fits
-fork_keeps s b q child p place (moving k page e count) fits keeps = absurd fits
-fork_keeps s b q child p place (walking k write long sequence step) fits keeps = absurd fits
+fork_keeps : (s : CoreState) (b q child p : ℕ) (place : Place) (job : Job) (prepared : Option ℕ) → FitsFork s b q child place job prepared → Keeps job p → IsForkOf s b q p place
+fork_keeps s b q child p place idle prepared fits keeps = keeps_none keeps
+fork_keeps s b q child p place (forking k c done between) prepared fits (inl e) = fork_of fits.1 fits.0 (some_same e)
+fork_keeps s b q child p place (forking k c done between) prepared fits (inr e) = absurd (cc e)
+fork_keeps s b q child p place (forking k c done (counted page)) prepared fits (inl e) = fork_of fits.1.0 fits.0 (some_same e)
+fork_keeps s b q child p place (forking k c done (counted page)) prepared fits (inr e) = fork_of fits.1.0 fits.0 (some_same e)
+fork_keeps s b q child p place (forking k c done (lowered page)) prepared fits keeps = absurd fits.1
+fork_keeps s b q child p place (forking k c done (cleared page)) prepared fits keeps = absurd fits.1
+fork_keeps s b q child p place (forking k c done (copying page n)) prepared fits (inl e) = fork_of fits.1.0 fits.0 (some_same e)
+fork_keeps s b q child p place (forking k c done (copying page n)) prepared fits (inr e) = fork_of fits.1.0 fits.0 (some_same e)
+fork_keeps s b q child p place (forking k c done failing) prepared fits keeps = absurd fits.1
+fork_keeps s b q child p place (marking k page f) prepared fits keeps = absurd fits
+fork_keeps s b q child p place (moving k page e count) prepared fits keeps = absurd fits
+fork_keeps s b q child p place (walking k write long sequence step) prepared fits keeps = absurd fits
 
 -- a fork that has begun has the structure lock of its process
-fork_locked : (s : CoreState) (b q child : ℕ) (place : Place) (job : Job) → FitsFork s b q child place job → 0 < place.far → s.structure q ≡ Some b
-fork_locked s b q child place idle fits far = absurd (let first = fits.0.0 in omega arith)
-fork_locked s b q child place (forking k c done between) fits far = fits.1.locked
-fork_locked s b q child place (forking k c done (counted page)) fits far = fits.1.0.locked
-fork_locked s b q child place (forking k c done (lowered page)) fits far = absurd fits.1
-fork_locked s b q child place (forking k c done (cleared page)) fits far = absurd fits.1
-fork_locked s b q child place (forking k c done (copying page n)) fits far = absurd fits.1
-fork_locked s b q child place (forking k c done failing) fits far = absurd fits.1
-fork_locked s b q child place (marking k page f) fits far = absurd fits
-fork_locked s b q child place (moving k page e count) fits far = absurd fits
-fork_locked s b q child place (walking k write long sequence step) fits far = absurd fits
+fork_locked : (s : CoreState) (b q child : ℕ) (place : Place) (job : Job) (prepared : Option ℕ) → FitsFork s b q child place job prepared → 0 < place.far → s.structure q ≡ Some b
+fork_locked s b q child place idle prepared fits far = absurd (let first = fits.0.0 in omega arith)
+fork_locked s b q child place (forking k c done between) prepared fits far = fits.1.locked
+fork_locked s b q child place (forking k c done (counted page)) prepared fits far = fits.1.0.locked
+fork_locked s b q child place (forking k c done (lowered page)) prepared fits far = absurd fits.1
+fork_locked s b q child place (forking k c done (cleared page)) prepared fits far = absurd fits.1
+fork_locked s b q child place (forking k c done (copying page n)) prepared fits far = fits.1.0.locked
+fork_locked s b q child place (forking k c done failing) prepared fits far = absurd fits.1
+fork_locked s b q child place (marking k page f) prepared fits far = absurd fits
+fork_locked s b q child place (moving k page e count) prepared fits far = absurd fits
+fork_locked s b q child place (walking k write long sequence step) prepared fits far = absurd fits
 
 -- the actor's present operation is a fork of process p, of which some turns are over
 pub record IsInFork (script : ScriptValue) (r : RunState) (b p : ℕ) : Type 0 where
@@ -106,7 +107,7 @@ pub record IsInFork (script : ScriptValue) (r : RunState) (b p : ℕ) : Type 0 w
 op_keeps : (s : CoreState) (who : Doer) (p : ℕ) (op : Option Op) (place : Place) → FitsAt s who op place → Keeps (s.job who.actor) p → (child : ℕ) × (op ≡ Some (Fork child)) × IsForkOf s who.actor who.proc p place
 op_keeps s who p None place fits keeps = keeps_idle fits.0.0 keeps
 op_keeps s who p (Some (Fork child)) place fits keeps =
-    (child, refl, fork_keeps s who.actor who.proc child p place (s.job who.actor) fits.1 keeps)
+    (child, refl, fork_keeps s who.actor who.proc child p place (s.job who.actor) (s.prepared who.actor) fits.1 keeps)
 op_keeps s who p (Some (Map page n rights)) place fits keeps = keeps_idle fits.0.0 keeps
 op_keeps s who p (Some (Unmap page n)) place fits keeps = keeps_idle fits.0.0 keeps
 op_keeps s who p (Some (Protect page n rights)) place fits keeps = keeps_idle fits.0.0 keeps
@@ -149,7 +150,7 @@ module _ (script : ScriptValue) (r : RunState) (h : Stands script r) where
       let who : Doer = doer script b in
       let p = process_of script b in
       let fits : FitsAt r.core who (Some (Fork child)) (r.places b) = subst (λ (o : Option Op). FitsAt r.core who o (r.places b)) is (h.fits b) in
-      let locked : r.core.structure p ≡ Some b = fork_locked r.core b p child (r.places b) (r.core.job b) fits.1 far in
+      let locked : r.core.structure p ≡ Some b = fork_locked r.core b p child (r.places b) (r.core.job b) (r.core.prepared b) fits.1 far in
       let alone : (waiting : Waiting) → locks_of b (Fork child) ≡ Some waiting → ⊥ =
       λ waiting held. let other = waits_for_fork b (Fork child) waiting held in other.2 (some_same (sym locked ∙ other.3.locked)) in
       let free : locks_of b (Fork child) ≡ None = none_by (locks_of b (Fork child)) alone in

@@ -3,8 +3,10 @@ use Rattle.std.proofs.Common.{◌≡◌, ℕ, ◌<◌, ◌⊎◌, inl, inr, ap�
 use Rattle.std.proofs.Math.Dec.{leb-zero, leb-suc-zero, leb-suc-suc}
 use Rattle.gup_script.specs.Valid.{IsScript}
 use Rattle.gup_plain.specs.State.{PlainState, Birth, unborn, growing, born, failed}
+use Rattle.gup_plain.specs.declared.answer.Answer.TheVariants as answers
+use Rattle.gup_plain.specs.declared.event.PlainEvent.TheVariants as events
 use Rattle.gup_plain.specs.declared.note.What.{What}
-use Rattle.gup_plain.specs.declared.note.What.TheVariants.{Wait}
+use Rattle.gup_plain.specs.declared.note.What.TheVariants.{Wait, Event, Done}
 use Rattle.gup_plain.specs.declared.note.Waiting.{Waiting}
 use Rattle.gup_plain.specs.declared.note.Waiting.TheVariants as waitings
 use Rattle.gup_script.specs.Script.{ScriptValue}
@@ -12,7 +14,7 @@ use Rattle.gup_script.specs.declared.op.Op.{Op}
 use Rattle.gup_script.specs.declared.op.Op.TheVariants.{Map, Unmap, Protect, Discard, Load, Store, Pin, Unpin, Give, Take, Transfer, Fork, Exit}
 use Rattle.gup_events.specs.State.{plain_of}
 use Rattle.gup_follows.specs.Order.{Turn, Ordered, Moves, IsWrittenTurn, IsOverAt, IsOver, IsPassed, MayHold, KeepsLock, IsPointedTurn, IsNextTurn, AreInOrder, behind_by, written_turn, waiting_at, waiting_of, finished_in, handle_waits}
-use Rattle.gup_follows.specs.Place.{Place, Doer, doer, birth_by, birth_for, process_of, ops_of}
+use Rattle.gup_follows.specs.Place.{Place, Doer, doer, birth_for, process_of, ops_of}
 use Rattle.gup_turns.specs.Reached.{ForkPlace}
 use Rattle.gup_turns.specs.Turn.{waits_at, waits_born, first_waiting}
 use Rattle.gup_turns.specs.Run.{RunState, Runs, next_actor, next_by, written_in, turn_in, run_after, op_in, waiting_with, waiting_in, taken_in, is_ready, can_go}
@@ -20,7 +22,7 @@ use Rattle.gup_turns.proofs.Holding.{IsInFork, locks_of, waits_for_fork, fork_ca
 use Rattle.gup_turns.specs.ScriptLemmas.{has_ops_declared}
 use Rattle.gup_turns.proofs.Pointer.{PointerFits, IsFirstToGo, pointed_some, none_can_go, pointer_fits}
 use Rattle.gup_turns.proofs.Puts.{some_same}
-use Rattle.gup_turns.proofs.Shapes.{TurnOf, refused, mapped, protected, loaded, stored, gave, took_over, took, took_last, passed, passed_last, took_lowest, took_all, pinned_page, pinned_all, pinned_short, unpinned_page, unpinned_last, moved_word, moved_last, began, passed_page, counted_page, shared_page, ended, TurnAt, idles, waits, goes}
+use Rattle.gup_turns.proofs.Shapes.{TurnOf, refused, mapped, protected, loaded, stored, gave, took_over, took, took_last, passed, passed_last, took_lowest, took_all, pinned_page, pinned_all, pinned_short, unpinned_page, unpinned_last, moved_word, moved_last, began, passed_page, counted_page, shared_page, ended, counted_copy, took_frame, copied_word, placed_copy, failed_fork, TurnAt, idles, waits, goes, unborn_refused, unborn_fork}
 use Rattle.gup_turns.proofs.Stands.{stands_on, same_plain}
 use Rattle.gup_turns.proofs.Standing.{Stands}
 use Rattle.gup_turns.proofs.Steps.{taken}
@@ -59,6 +61,18 @@ op_moves (passed_page child from page begun up) = (omega arith, omega arith, (re
 op_moves (counted_page child from page begun up) = (omega arith, omega arith, (refl, tt))
 op_moves (shared_page child page begun) = (omega arith, omega arith, (refl, tt))
 op_moves (ended child from begun) = (omega arith, omega arith, (refl, (refl, tt)))
+op_moves (counted_copy child from page begun up) = (omega arith, omega arith, (refl, tt))
+op_moves (took_frame child page to begun) = (omega arith, omega arith, (refl, tt))
+op_moves (copied_word child page word to begun less) = (omega arith, omega arith, (refl, tt))
+op_moves (placed_copy child page to begun) = (omega arith, omega arith, (refl, tt))
+op_moves (failed_fork child page begun) = (omega arith, omega arith, (refl, (refl, tt)))
+
+-- so has one of an operation whose process failed
+pub refusal_moves : Moves (Done answers.Unborn ∷ [])
+refusal_moves = (omega arith, omega arith, (refl, tt))
+
+pub failure_moves : (child : ℕ) → Moves (Event (events.ForkFail child) ∷ Done answers.Unborn ∷ [])
+failure_moves child = (omega arith, omega arith, (refl, (refl, tt)))
 
 -- The order sees what an actor waits for, unless it waits for one that may hold a lock.
 abbrev pub SeesWaiting : (holder : ℕ → Type 0) (seen waiting : Option Waiting) → Type 0
@@ -83,12 +97,18 @@ written_right : {s : PlainState} {who : Doer} {place : Place} {op : Option Op} {
 written_right (idles waiting at) h = rw h.finishes refl
 written_right {holder = holder} {seen = seen} (waits op waiting at) h = rw h.finishes (wait_written holder seen waiting (h.waits_so op refl))
 written_right {holder = holder} {seen = seen} (goes op whats from to birth own turn) h = rw h.finishes (free_written holder seen whats (h.waits_so op refl) (op_moves turn))
+written_right {holder = holder} {seen = seen} (unborn_refused op birth first refusal) h =
+    rw h.finishes (free_written holder seen (Done answers.Unborn ∷ []) (h.waits_so op refl) refusal_moves)
+written_right {holder = holder} {seen = seen} (unborn_fork child birth fails first) h =
+    rw h.finishes (free_written holder seen (Event (events.ForkFail child) ∷ Done answers.Unborn ∷ []) (h.waits_so (Fork child) refl) (failure_moves child))
 
 -- the turn of an actor that can go moves it on
 goes_moves : {s : PlainState} {who : Doer} {place : Place} {op : Option Op} {waiting : Option Waiting} {from to : ForkPlace} {whats : List What} → TurnAt s who place op waiting from whats to → is_ready op waiting ≡ true → Moves whats
 goes_moves (idles waiting at) is = absurd (cc is)
 goes_moves (waits op waiting at) is = absurd (cc is)
 goes_moves (goes op whats from to birth own turn) is = op_moves turn
+goes_moves (unborn_refused op birth first refusal) is = refusal_moves
+goes_moves (unborn_fork child birth fails first) is = failure_moves child
 
 -- an actor that can't go has finished or waits for its process or for a pin, or waits for one that may hold a lock
 passed_over : (op : Option Op) (waiting : Option Waiting) {finished : Bool} {holder : ℕ → Type 0} {seen : Option Waiting} → Sees finished holder seen op waiting → is_ready op waiting ≡ false → IsOverAt finished seen ⊎ ((b : ℕ) × holder b × (waiting ≡ Some (waitings.Holder b)))
@@ -135,14 +155,6 @@ kept_fork (Some (Take handle)) keeps = absurd keeps
 kept_fork (Some (Transfer handle outward index slot n)) keeps = absurd keeps
 kept_fork (Some Exit) keeps = absurd keeps
 
--- whoever is no thread waits for no process that failed
-pub unfailed_for : (who : Doer) (births : ℕ → Birth) → (births who.proc ≡ failed → ⊥) → birth_for births who ≡ failed → ⊥
-unfailed_for who births never is = go who.thread is
-  where
-    go : (t : Bool) → birth_by t (births who.proc) ≡ failed → ⊥
-    go true fails = never fails
-    go false fails = cc fails
-
 module _ (script : ScriptValue) (valid : IsScript script) (r : RunState) (h : Stands script r) where
   -- one that is in the middle of a fork of this actor's process may hold a lock of it
   may_hold : (a b : ℕ) → (a ≡ b → ⊥) → IsInFork script r b (process_of script a) → MayHold script (ordered_of r) a b
@@ -163,8 +175,7 @@ module _ (script : ScriptValue) (valid : IsScript script) (r : RunState) (h : St
   sees_waiting a op unborn is = inl refl
   sees_waiting a op (growing parent) is = inl refl
   sees_waiting a op born is = sees_born a op (handle_waits r.core.handle a (Some op))
-  sees_waiting a op failed is =
-      absurd (unfailed_for (doer script a) r.core.birth (h.unfailed (process_of script a)) is)
+  sees_waiting a op failed is = inl refl
 
   pub sees : (a : ℕ) → Sees (finished_in script (ordered_of r) a) (MayHold script (ordered_of r) a) (waiting_of script (ordered_of r) a) (op_in script r a) (waiting_in script r a)
   sees a =

@@ -22,12 +22,12 @@ use Rattle.gup_follows.specs.Place.{Place, place_behind}
 use Rattle.gup_turns.specs.Cost.{IsWithinBound}
 use Rattle.gup_turns.specs.Reached.{StandsHandle}
 use Rattle.gup_turns.specs.Turn.{Taken, answers_with, free_frame, allows_store, lowest_page, raises, pin_fault, entry_in, makes_if, pins_behind, ends_pin, pin_turn_by, but_last, unpinned, unpin_turn_by, give_turn_by, take_turn, frame_at, moves_from, transfer_turn_by, op_turn}
-use Rattle.gup_turns.proofs.Bounds.{StandsShort, KeepsJobs, IsMoved, same_jobs, keeping, still, goes_less, load_moved, store_moved, map_moved, protect_moved, unmap_moved, discard_moved, exit_moved}
+use Rattle.gup_turns.proofs.Bounds.{StandsShort, KeepsJobs, IsMoved, same_prepared, used_prepared, same_jobs, keeping, still, goes_less, load_moved, store_moved, map_moved, protect_moved, unmap_moved, discard_moved, exit_moved}
 use Rattle.gup_turns.proofs.Puts.{put_same, put_other}
 use Rattle.gup_turns.proofs.Shapes.{HasLeft, IsOfProcess}
 use Rattle.gup_turns.proofs.Turned.{run_behind}
 
--- Events leave all mappings, and the jobs of other actors; their own is in the middle of nothing.
+-- Events leave all mappings, the jobs of other actors, and what these have prepared; their own is in the middle of nothing.
 record LeavesPages (s : CoreState) (a : ℕ) (t : CoreState) : Type 0 where
   right : t.right ≡ s.right
   jobs : KeepsJobs s a t
@@ -39,18 +39,27 @@ leaves_both s a t u now later =
       jobs = record {
         idle = later.jobs.idle;
         others = λ b other. later.jobs.others b other ∙ now.jobs.others b other;
+        prepared = λ b other. later.jobs.prepared b other ∙ now.jobs.prepared b other;
       };
     }
 
-leaves_same : (s : CoreState) (a : ℕ) (t : CoreState) → s.job a ≡ idle → t.right ≡ s.right → t.job ≡ s.job → LeavesPages s a t
-leaves_same s a t rests right job =
+leaves_kept : (s : CoreState) (a : ℕ) (t : CoreState) → s.job a ≡ idle → t.right ≡ s.right → t.job ≡ s.job → ((b : ℕ) → (b == a) ≡ false → t.prepared b ≡ s.prepared b) → LeavesPages s a t
+leaves_kept s a t rests right job prepared =
     record {
       right = right;
       jobs = record {
         idle = ap (λ (f : ℕ → Job). f a) job ∙ rests;
         others = λ b other. ap (λ (f : ℕ → Job). f b) job;
+        prepared = prepared;
       };
     }
+
+leaves_same : (s : CoreState) (a : ℕ) (t : CoreState) → s.job a ≡ idle → t.right ≡ s.right → t.job ≡ s.job → t.prepared ≡ s.prepared → LeavesPages s a t
+leaves_same s a t rests right job prepared = leaves_kept s a t rests right job (same_prepared a s.prepared t.prepared prepared)
+
+-- the actor uses the frame that it prepares
+leaves_used : (f : ℕ) (s : CoreState) (a : ℕ) (t : CoreState) → s.job a ≡ idle → t.right ≡ s.right → t.job ≡ s.job → t.prepared ≡ put a None (put a (Some f) s.prepared) → LeavesPages s a t
+leaves_used f s a t rests right job prepared = leaves_kept s a t rests right job (used_prepared a f s.prepared t.prepared prepared)
 
 -- the events of a fault do
 abbrev FaultLeaves : (a : ℕ) → Fault → Type 0
@@ -58,43 +67,44 @@ FaultLeaves a (Ok es) = (s : CoreState) → s.job a ≡ idle → LeavesPages s a
 FaultLeaves a (Err answer) = Unit {0}
 
 module _ (a p page : ℕ) where
-  leaves_marked : (f : ℕ) (s t : CoreState) → t.right ≡ s.right → t.job ≡ put a idle (put a (marking p page f) s.job) → LeavesPages s a t
-  leaves_marked f s t right job =
+  leaves_marked : (f : ℕ) (s t : CoreState) → t.right ≡ s.right → t.job ≡ put a idle (put a (marking p page f) s.job) → t.prepared ≡ s.prepared → LeavesPages s a t
+  leaves_marked f s t right job prepared =
       record {
         right = right;
         jobs = record {
           idle = ap (λ (j : ℕ → Job). j a) job ∙ put_same a idle (put a (marking p page f) s.job);
           others = λ b other. ap (λ (j : ℕ → Job). j b) job ∙ put_other a b idle (put a (marking p page f) s.job) other ∙ put_other a b (marking p page f) s.job other;
+          prepared = same_prepared a s.prepared t.prepared prepared;
         };
       }
 
   fills_leave : (free : Option ℕ) → FaultLeaves a (fills a p page free)
   fills_leave None = tt
-  fills_leave (Some f) = λ s rests. leaves_same s a (run s (take_frame a f ∷ fill a p page f ∷ [])) rests refl refl
+  fills_leave (Some f) = λ s rests. leaves_used f s a (run s (take_frame a f ∷ fill a p page f ∷ [])) rests refl refl refl
 
   fills_writable_leave : (free : Option ℕ) → FaultLeaves a (fills_writable a p page free)
   fills_writable_leave None = tt
-  fills_writable_leave (Some f) = λ s rests. leaves_same s a (run s (take_frame a f ∷ fill a p page f ∷ upgrade a p page f ∷ [])) rests refl refl
+  fills_writable_leave (Some f) = λ s rests. leaves_used f s a (run s (take_frame a f ∷ fill a p page f ∷ upgrade a p page f ∷ [])) rests refl refl refl
 
   breaks_leave : (e : Entry) (writable : Bool) (free : Option ℕ) → FaultLeaves a (breaks a p page e writable free)
   breaks_leave e writable None = tt
   breaks_leave e writable (Some f) =
-      λ s rests. leaves_same s a (run s (take_frame a f ∷ break_entry a p page e.frame f e.writable writable ∷ put_entry a e.frame ∷ [])) rests refl refl
+      λ s rests. leaves_used f s a (run s (take_frame a f ∷ break_entry a p page e.frame f e.writable writable ∷ put_entry a e.frame ∷ [])) rests refl refl refl
 
   unshares_leave : (e : Entry) (mark : Bool) (count : ℕ) (free : Option ℕ) → FaultLeaves a (unshares a p page e mark count free)
-  unshares_leave e true count free = λ s rests. leaves_same s a s rests refl refl
+  unshares_leave e true count free = λ s rests. leaves_same s a s rests refl refl refl
   unshares_leave e false count free = go (count == 1)
     where
       go : (one : Bool) → FaultLeaves a (if one then Ok (marks a p page e) else breaks a p page e false free)
-      go true = λ s rests. leaves_marked e.frame s (run s (marks a p page e)) refl refl
+      go true = λ s rests. leaves_marked e.frame s (run s (marks a p page e)) refl refl refl
       go false = breaks_leave e false free
 
   makes_leave : (e : Entry) (mark : Bool) (count : ℕ) (free : Option ℕ) → FaultLeaves a (makes_writable a p page e mark count free)
-  makes_leave e true count free = λ s rests. leaves_same s a (run s (upgrade a p page e.frame ∷ [])) rests refl refl
+  makes_leave e true count free = λ s rests. leaves_same s a (run s (upgrade a p page e.frame ∷ [])) rests refl refl refl
   makes_leave e false count free = go (count == 1)
     where
       go : (one : Bool) → FaultLeaves a (if one then Ok (marks a p page e ++ upgrade a p page e.frame ∷ []) else breaks a p page e true free)
-      go true = λ s rests. leaves_marked e.frame s (run s (marks a p page e ++ upgrade a p page e.frame ∷ [])) refl refl
+      go true = λ s rests. leaves_marked e.frame s (run s (marks a p page e ++ upgrade a p page e.frame ∷ [])) refl refl refl
       go false = breaks_leave e true free
 
   unshare_leaves : (rights : Option Rights) (entry : Option Entry) (mark : ℕ → Bool) (count : ℕ → ℕ) (free : Option ℕ) → FaultLeaves a (unshare_fault a p page rights entry mark count free)
@@ -109,7 +119,7 @@ module _ (a p page : ℕ) where
   write_leaves (Some RW) (Some e) mark count free = go e.writable
     where
       go : (writable : Bool) → FaultLeaves a (if writable then Ok [] else makes_writable a p page e (mark e.frame) (count e.frame) free)
-      go true = λ s rests. leaves_same s a s rests refl refl
+      go true = λ s rests. leaves_same s a s rests refl refl refl
       go false = makes_leave e (mark e.frame) (count e.frame) free
 
 pin_fault_leaves : (s : CoreState) (a p page : ℕ) (write : Bool) → FaultLeaves a (pin_fault s a p page write)
@@ -120,17 +130,17 @@ module _ (s : CoreState) (a p : ℕ) (place : Place) (rests : s.job a ≡ idle) 
   -- a pin
 
   raises_leave : (far : ℕ) → LeavesPages s a (run s (raises a p far))
-  raises_leave zero = leaves_same s a (run s (raises a p 0)) rests refl refl
-  raises_leave (suc far) = leaves_same s a s rests refl refl
+  raises_leave zero = leaves_same s a (run s (raises a p 0)) rests refl refl refl
+  raises_leave (suc far) = leaves_same s a s rests refl refl refl
 
   pinned_leaves : (t : CoreState) → t.job a ≡ idle → (page handle : ℕ) (e : Entry) (write last : Bool) → LeavesPages t a (run t (pin_page a p page e write false ∷ makes_if last a handle))
-  pinned_leaves t idles page handle e write true = leaves_same t a (run t (pin_page a p page e write false ∷ makes_if true a handle)) idles refl refl
-  pinned_leaves t idles page handle e write false = leaves_same t a (run t (pin_page a p page e write false ∷ makes_if false a handle)) idles refl refl
+  pinned_leaves t idles page handle e write true = leaves_same t a (run t (pin_page a p page e write false ∷ makes_if true a handle)) idles refl refl refl
+  pinned_leaves t idles page handle e write false = leaves_same t a (run t (pin_page a p page e write false ∷ makes_if false a handle)) idles refl refl refl
 
   -- the turn that ends a pin
   ends_moved : (handle page n : ℕ) (write : Bool) (got : ℕ) (answer : Answer) → IsMoved s a p place (Pin handle page n write) (ends_pin a p handle n got answer)
-  ends_moved handle page n write zero answer = still s a p place rests (Pin handle page n write) (ends_pin a p handle n zero answer) refl refl refl
-  ends_moved handle page n write (suc got) answer = still s a p place rests (Pin handle page n write) (ends_pin a p handle n (suc got) answer) refl refl refl
+  ends_moved handle page n write zero answer = still s a p place rests (Pin handle page n write) (ends_pin a p handle n zero answer) refl refl refl refl
+  ends_moved handle page n write (suc got) answer = still s a p place rests (Pin handle page n write) (ends_pin a p handle n (suc got) answer) refl refl refl refl
 
   pinned_moved : (handle page n g : ℕ) (write last : Bool) (before : List CoreEvent) (e : Entry) → place.far < n → (place.far + 1 == n) ≡ last → LeavesPages s a (run s before) → IsMoved s a p place (Pin handle page n write) (pins_behind before a p handle g n write last e)
   pinned_moved handle page n g write last before e less test leaves =
@@ -165,10 +175,10 @@ module _ (s : CoreState) (a p : ℕ) (place : Place) (rests : s.job a ≡ idle) 
       omega (arith, many, same, some)
 
   unpin_moved : (handle : ℕ) (held : Bool) → is_held_by (s.handle handle) a ≡ held → HasLeft s a handle place.far → IsMoved s a p place (Unpin handle) (unpin_turn_by held a handle (s.pinned handle))
-  unpin_moved handle false is left = still s a p place rests (Unpin handle) (answers_with answers.NotHeld) refl refl refl
+  unpin_moved handle false is left = still s a p place rests (Unpin handle) (answers_with answers.NotHeld) refl refl refl refl
   unpin_moved handle true is left =
       let turn : Taken = unpin_turn_by true a handle (s.pinned handle) in
-      keeping s a p place rests (Unpin handle) turn refl (same_jobs s a p place rests (run s turn.events) refl) (bound (but_last (s.pinned handle)) refl)
+      keeping s a p place rests (Unpin handle) turn refl (same_jobs s a p place rests (run s turn.events) refl refl) (bound (but_last (s.pinned handle)) refl)
     where
       bound : (rest : List ℕ) → but_last (s.pinned handle) ≡ rest → IsWithinBound (Unpin handle) a p place (place_behind place (unpinned rest a handle)) s (run s (unpin_turn_by true a handle (s.pinned handle)).events)
       bound [] none = inl refl
@@ -178,21 +188,21 @@ module _ (s : CoreState) (a p : ℕ) (place : Place) (rests : s.job a ≡ idle) 
           inr ((refl, refl), omega (arith, has.1, more))
 
   give_moved : (handle to : ℕ) (held : Bool) → IsMoved s a p place (Give handle to) (give_turn_by held a handle to)
-  give_moved handle to false = still s a p place rests (Give handle to) (give_turn_by false a handle to) refl refl refl
-  give_moved handle to true = still s a p place rests (Give handle to) (give_turn_by true a handle to) refl refl refl
+  give_moved handle to false = still s a p place rests (Give handle to) (give_turn_by false a handle to) refl refl refl refl
+  give_moved handle to true = still s a p place rests (Give handle to) (give_turn_by true a handle to) refl refl refl refl
 
   word_moved : (handle : ℕ) (outward : Bool) (index slot n i j f : ℕ) (last : Bool) → place.far < n → (place.far + 1 == n) ≡ last → IsMoved s a p place (Transfer handle outward index slot n) (moves_from s a handle outward last i j f)
-  word_moved handle true index slot n i j f true less test = still s a p place rests (Transfer handle true index slot n) (moves_from s a handle true true i j f) refl refl refl
-  word_moved handle false index slot n i j f true less test = still s a p place rests (Transfer handle false index slot n) (moves_from s a handle false true i j f) refl refl refl
+  word_moved handle true index slot n i j f true less test = still s a p place rests (Transfer handle true index slot n) (moves_from s a handle true true i j f) refl refl refl refl
+  word_moved handle false index slot n i j f true less test = still s a p place rests (Transfer handle false index slot n) (moves_from s a handle false true i j f) refl refl refl refl
   word_moved handle true index slot n i j f false less test =
       let turn : Taken = moves_from s a handle true false i j f in
-      keeping s a p place rests (Transfer handle true index slot n) turn refl (same_jobs s a p place rests (run s turn.events) refl) (inr ((refl, refl), goes_less s a p place rests place.far n less test))
+      keeping s a p place rests (Transfer handle true index slot n) turn refl (same_jobs s a p place rests (run s turn.events) refl refl) (inr ((refl, refl), goes_less s a p place rests place.far n less test))
   word_moved handle false index slot n i j f false less test =
       let turn : Taken = moves_from s a handle false false i j f in
-      keeping s a p place rests (Transfer handle false index slot n) turn refl (same_jobs s a p place rests (run s turn.events) refl) (inr ((refl, refl), goes_less s a p place rests place.far n less test))
+      keeping s a p place rests (Transfer handle false index slot n) turn refl (same_jobs s a p place rests (run s turn.events) refl refl) (inr ((refl, refl), goes_less s a p place rests place.far n less test))
 
   transfer_moved : (handle : ℕ) (outward : Bool) (index slot n : ℕ) (denied : Option Answer) (last : Bool) → place.far < n → (place.far + 1 == n) ≡ last → IsMoved s a p place (Transfer handle outward index slot n) (transfer_turn_by denied s a handle outward last (index + place.far) (slot + place.far))
-  transfer_moved handle outward index slot n (Some answer) last less test = still s a p place rests (Transfer handle outward index slot n) (answers_with answer) refl refl refl
+  transfer_moved handle outward index slot n (Some answer) last less test = still s a p place rests (Transfer handle outward index slot n) (answers_with answer) refl refl refl refl
   transfer_moved handle outward index slot n None last less test =
       word_moved handle outward index slot n (index + place.far) (slot + place.far) (frame_at (s.pinned handle) (index + place.far)) last less test
 
@@ -208,7 +218,7 @@ module _ (s : CoreState) (a p : ℕ) (place : Place) (rests : s.job a ≡ idle) 
       pin_moved handle page n write short (pin_fault s a p (page + place.far) write) (pin_fault_leaves s a p (page + place.far) write)
   op_moved slots (Unpin handle) short = unpin_moved handle (is_held_by (s.handle handle) a) refl short.1
   op_moved slots (Give handle to) short = give_moved handle to (is_held_by (s.handle handle) a)
-  op_moved slots (Take handle) short = still s a p place rests (Take handle) (take_turn a handle) refl refl refl
+  op_moved slots (Take handle) short = still s a p place rests (Take handle) (take_turn a handle) refl refl refl refl
   op_moved slots (Transfer handle outward index slot n) short =
       transfer_moved handle outward index slot n (transfer_denial (s.handle handle) a outward slots slot ((index, n) ∷ [])) (place.far + 1 == n) short refl
   op_moved slots (Fork child) short = absurd short

@@ -1,9 +1,9 @@
 -- The notes of a turn are right in the plain state.
-use Rattle.std.proofs.Common.{◌≡◌, ℕ, ◌+◌, ◌<◌, ◌==◌, ◌++◌, cond, Bool, true, false, IsTrue, inl, List, [], ◌∷◌, Option, Some, None, slice_get, refl, sym, ap, ◌∙◌, subst, arith}
-use Rattle.gup_plain.specs.Event.{CanHappen, happened}
+use Rattle.std.proofs.Common.{◌≡◌, ℕ, ◌+◌, ◌<◌, ◌==◌, ◌++◌, cond, Bool, true, false, IsTrue, inl, List, [], ◌∷◌, Option, Some, None, slice_get, refl, sym, ap, ◌∙◌, subst, eqb-true, inr, arith}
+use Rattle.gup_plain.specs.Event.{CanHappen, happened, IsUnbornOrGrowing}
 use Rattle.gup_plain.specs.Note.{NoteValue}
 use Rattle.gup_plain.specs.Put.{put}
-use Rattle.gup_plain.specs.State.{PlainState, Birth, born}
+use Rattle.gup_plain.specs.State.{PlainState, Birth, born, failed}
 use Rattle.gup_plain.specs.declared.answer.Answer.{Answer}
 use Rattle.gup_plain.specs.declared.answer.Answer.TheVariants as answers
 use Rattle.gup_plain.specs.declared.answer.Cause.{Cause}
@@ -24,7 +24,7 @@ use Rattle.gup_follows.specs.Place.{Place, Doer, doer, birth_by, birth_for, plac
 use Rattle.gup_follows.specs.Plain.{Judged, judged_after, ArePlain, IsRightAt, IsRightOf, IsSettled, IsAnswerAfter, IsAnswerOf, IsUndeniedAt, judged_before, Passes, IsDue, refusal_of, refusal_in, judged_far, plain_after}
 use Rattle.gup_turns.proofs.Puts.{put_same, put_twice, put_own}
 use Rattle.gup_turns.specs.Reached.{ForkPlace}
-use Rattle.gup_turns.proofs.Shapes.{TurnOf, refused, mapped, protected, loaded, stored, gave, took_over, took, took_last, passed, passed_last, took_lowest, took_all, pinned_page, pinned_all, pinned_short, unpinned_page, unpinned_last, moved_word, moved_last, began, passed_page, counted_page, shared_page, ended, GoesOver, unmaps, discards, TurnAt, idles, waits, goes, FitsAt}
+use Rattle.gup_turns.proofs.Shapes.{TurnOf, refused, mapped, protected, loaded, stored, gave, took_over, took, took_last, passed, passed_last, took_lowest, took_all, pinned_page, pinned_all, pinned_short, unpinned_page, unpinned_last, moved_word, moved_last, began, passed_page, counted_page, shared_page, ended, counted_copy, took_frame, copied_word, placed_copy, failed_fork, GoesOver, unmaps, discards, TurnAt, idles, waits, goes, unborn_refused, unborn_fork, FitsAt, AtFirst}
 use Rattle.gup_turns.proofs.Through.{events_of, AllCanHappen}
 
 -- the notes of one turn are right, each in what those before it have led to
@@ -92,6 +92,83 @@ stays_born births who child birth = go who.thread (who.proc == child) birth
     go false c now = refl
     go true true now = refl
     go true false now = now
+
+-- where a fork fails, what was born stays so, since its child wasn't
+stays_unfailed : (births : ℕ → Birth) (who : Doer) (child : ℕ) → birth_for births who ≡ born → IsUnbornOrGrowing (births child) → birth_for (put child failed births) who ≡ born
+stays_unfailed births who child birth yet = go who.thread (who.proc == child) refl birth
+  where
+    go : (t c : Bool) → (who.proc == child) ≡ c → birth_by t (births who.proc) ≡ born → birth_by t (cond c failed (births who.proc)) ≡ born
+    go false c e now = refl
+    go true false e now = now
+    go true true e now =
+        let same : births child ≡ born = sym (ap births (eqb-true who.proc child e)) ∙ now in
+        absurd (subst IsUnbornOrGrowing same yet)
+
+-- where whoever does it is of a process that failed
+
+-- no page of a failed process is named
+abbrev pub IsFailedUnmapped : PlainState → Type 0
+IsFailedUnmapped s = (p page : ℕ) → s.birth p ≡ failed → s.right p page ≡ None
+
+settled_failed : (b : Birth) → b ≡ failed → IsSettled b
+settled_failed b e = subst IsSettled (sym e) tt
+
+denial_failed : (s : PlainState) (who : Doer) (far : ℕ) (op : Op) → birth_for s.birth who ≡ failed → denial s who far op ≡ Some answers.Unborn
+denial_failed s who far op e = ap (λ (b : Birth). denial_at b (op_denial s who far op)) e
+
+-- it is a thread
+failed_thread : (births : ℕ → Birth) (who : Doer) → birth_for births who ≡ failed → births who.proc ≡ failed
+failed_thread births who birth = go who.thread birth
+  where
+    go : (t : Bool) → birth_by t (births who.proc) ≡ failed → births who.proc ≡ failed
+    go true now = now
+    go false now = absurd (cc now)
+
+-- and stays one of a failed process where its fork fails
+stays_failed : (births : ℕ → Birth) (who : Doer) (child : ℕ) → birth_for births who ≡ failed → birth_for (put child failed births) who ≡ failed
+stays_failed births who child birth = go who.thread (who.proc == child) birth
+  where
+    go : (t c : Bool) → birth_by t (births who.proc) ≡ failed → birth_by t (cond c failed (births who.proc)) ≡ failed
+    go false c now = now
+    go true true now = refl
+    go true false now = now
+
+-- an operation of a process without named pages passes them in silence
+unnamed_passes : (s : PlainState) (p : ℕ) (op : Op) (far : ℕ) → ((page : ℕ) → s.right p page ≡ None) → Passes s p op far
+unnamed_passes s p (Unmap page n) far none = λ less. none (page + far)
+unnamed_passes s p (Discard page n) far none = λ less. none (page + far)
+unnamed_passes s p Exit far none = none
+unnamed_passes s p (Map page n rights) far none = tt
+unnamed_passes s p (Protect page n rights) far none = tt
+unnamed_passes s p (Load page word) far none = tt
+unnamed_passes s p (Store page word value) far none = tt
+unnamed_passes s p (Pin handle page n write) far none = tt
+unnamed_passes s p (Unpin handle) far none = tt
+unnamed_passes s p (Give handle to) far none = tt
+unnamed_passes s p (Take handle) far none = tt
+unnamed_passes s p (Transfer handle outward index slot n) far none = tt
+unnamed_passes s p (Fork child) far none = tt
+
+module _ (ops : List Op) (s : PlainState) (who : Doer) (place : Place) (birth : birth_for s.birth who ≡ failed) where
+  -- it is refused in its first turn
+  refusal_right : (op : Op) → AtFirst place → IsFailedUnmapped s → slice_get ops place.answered ≡ Some op → AreRight ops who s place (Done answers.Unborn ∷ [])
+  refusal_right op first unmapped is =
+      let here : IsAnswerOf (denial s who place.far op) answers.Unborn = subst (λ (d : Option Answer). IsAnswerOf d answers.Unborn) (sym (denial_failed s who place.far op birth)) refl in
+      let judged : IsAnswerAfter (judged_before op place.had answers.Unborn) (denial s who place.far op) answers.Unborn =
+      subst (λ (b : Bool). IsAnswerAfter b (denial s who place.far op) answers.Unborn) (sym (ap (λ (h : Bool). judged_before op h answers.Unborn) first.1 ∙ judged_first op answers.Unborn)) here in
+      let passes = unnamed_passes s who.proc op place.far (λ page. unmapped who.proc page (failed_thread s.birth who birth)) in
+      (subst (λ (o : Option Op). IsRightAt s who place o (Done answers.Unborn)) (sym is) (settled_failed (birth_for s.birth who) birth, judged, passes), tt)
+
+  -- a fork makes its child failed too
+  failure_right : (child : ℕ) → CanHappen s (events.ForkFail child) → slice_get ops place.answered ≡ Some (Fork child) → AreRight ops who s place (Event (events.ForkFail child) ∷ Done answers.Unborn ∷ [])
+  failure_right child can is =
+      let e : PlainEvent = events.ForkFail child in
+      let t : PlainState = happened s e in
+      let still : birth_for t.birth who ≡ failed = stays_failed s.birth who child birth in
+      let judged : IsAnswerOf (denial t who (place.far + 1) (Fork child)) answers.Unborn = subst (λ (d : Option Answer). IsAnswerOf d answers.Unborn) (sym (denial_failed t who (place.far + 1) (Fork child) still)) refl in
+      let first = subst (λ (o : Option Op). IsRightAt s who place o (Event e)) (sym is) (can, inr (denial_failed s who place.far (Fork child) birth, refl), tt) in
+      let second = subst (λ (o : Option Op). IsRightAt t who (place_after place (Event e)) o (Done answers.Unborn)) (sym is) (settled_failed (birth_for t.birth who) still, judged, tt) in
+      (first, (second, tt))
 
 -- a pin that is in the middle had an event
 abbrev pub HadInPin : Option Op → Place → Type 0
@@ -229,11 +306,23 @@ module _ (ops : List Op) (s : PlainState) (who : Doer) (place : Place) (birth : 
       let still = stays_born s.birth who child birth in
       let judged = answers_undenied false (denial (happened s e) who (place.far + 1) op) answers.Plain (denial_born (happened s e) who (place.far + 1) op still) refl in
       then_right op e answers.Plain is (event_right op e can.0 refl tt) still judged tt
+  op_right op whats (counted_copy child from page begun up) is had can = one_right op Silent is tt
+  op_right op whats (took_frame child page to begun) is had can = one_right op Silent is tt
+  op_right op whats (copied_word child page word to begun less) is had can =
+      let e = events.ForkWord who.proc child page word in one_right op (Event e) is (event_right op e can.0 refl tt)
+  op_right op whats (placed_copy child page to begun) is had can = one_right op Silent is tt
+  op_right op whats (failed_fork child page begun) is had can =
+      let e : PlainEvent = events.ForkFail child in
+      let still = stays_unfailed s.birth who child birth can.0 in
+      let judged = answers_undenied false (denial (happened s e) who (place.far + 1) op) answers.NoFrame (denial_born (happened s e) who (place.far + 1) op still) refl in
+      then_right op e answers.NoFrame is (event_right op e can.0 refl tt) still judged tt
 
-pub turn_right : (ops : List Op) {s : PlainState} {who : Doer} {place : Place} {op : Option Op} {waiting : Option Waiting} {from to : ForkPlace} {whats : List What} → TurnAt s who place op waiting from whats to → slice_get ops place.answered ≡ op → HadInPin op place → AllCanHappen s (events_of whats) → AreRight ops who s place whats
-turn_right ops {s = s} {who = who} {place = place} (idles waiting at) is had can = (subst (λ (o : Option Op). IsRightAt s who place o Idle) (sym is) tt, tt)
-turn_right ops {s = s} {who = who} {place = place} (waits op waiting at) is had can = (subst (λ (o : Option Op). IsRightAt s who place o (Wait waiting)) (sym is) tt, tt)
-turn_right ops {s = s} {who = who} {place = place} (goes op whats from to birth own turn) is had can = op_right ops s who place birth op whats turn is had can
+pub turn_right : (ops : List Op) {s : PlainState} {who : Doer} {place : Place} {op : Option Op} {waiting : Option Waiting} {from to : ForkPlace} {whats : List What} → TurnAt s who place op waiting from whats to → slice_get ops place.answered ≡ op → HadInPin op place → IsFailedUnmapped s → AllCanHappen s (events_of whats) → AreRight ops who s place whats
+turn_right ops {s = s} {who = who} {place = place} (idles waiting at) is had unmapped can = (subst (λ (o : Option Op). IsRightAt s who place o Idle) (sym is) tt, tt)
+turn_right ops {s = s} {who = who} {place = place} (waits op waiting at) is had unmapped can = (subst (λ (o : Option Op). IsRightAt s who place o (Wait waiting)) (sym is) tt, tt)
+turn_right ops {s = s} {who = who} {place = place} (goes op whats from to birth own turn) is had unmapped can = op_right ops s who place birth op whats turn is had can
+turn_right ops {s = s} {who = who} {place = place} (unborn_refused op birth first refusal) is had unmapped can = refusal_right ops s who place birth op first unmapped is
+turn_right ops {s = s} {who = who} {place = place} (unborn_fork child birth fails first) is had unmapped can = failure_right ops s who place birth child can.0 is
 
 -- what has been judged behind notes of one actor
 abbrev pub judged_behind : Judged → ℕ → List What → Judged

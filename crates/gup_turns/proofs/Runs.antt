@@ -42,7 +42,7 @@ plain_run law script valid (turn ∷ turns) number r end h run =
     let a = turn.actor in
     let here = taken script valid r h a in
     let whats = (taken_in script r a).whats in
-    let right = turn_right (ops_of script a) here.shape refl (had_in_pin r.core (doer script a) (op_in script r a) (r.places a) (h.fits a)) (plain_can law script valid r h a) in
+    let right = turn_right (ops_of script a) here.shape refl (had_in_pin r.core (doer script a) (op_in script r a) (r.places a) (h.fits a)) h.sound.1.failed_unmapped (plain_can law script valid r h a) in
     let next = run_after script r a in
     let later = plain_run law script valid turns (number + 1) next end (stands_on law script valid r h a) run.2 in
     let after = subst (λ (s : PlainState). ArePlain script (record { plain = s; places = next.places }) (journal_of (number + 1) next.places turns)) (same_plain law script valid r h a) later in

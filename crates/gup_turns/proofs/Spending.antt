@@ -17,20 +17,21 @@ use Rattle.gup_script.specs.Valid.{IsScript, IsOp, IsOfDevice, KindFits}
 use Rattle.gup_events.specs.State.{CoreState, Job, idle, marking, moving, forking, walking, between, counted, lowered, cleared, copying, failing}
 use Rattle.gup_events.specs.Event.{CoreEvent}
 use Rattle.gup_events.specs.Invariant.{run}
+use Rattle.gup_events.specs.Sound.{Forking, forking_of}
 use Rattle.gup_follows.specs.Place.{Place, Doer, doer, birth_for, is_thread, thread_in, place_behind, process_of, process_in, process_of_kind, ops_of, ops_in}
 use Rattle.gup_turns.specs.Cost.{fork_left, op_cost, op_left, left_cost, actor_cost, cost, operations, IsBoundedTurn, IsWithinBound}
 use Rattle.gup_turns.specs.Pages.{sum_below, mapped_pages}
-use Rattle.gup_turns.specs.Reached.{IsStanding, IsNoFork, StandsFork, StandsHandle, given_back, back_in, fork_place}
+use Rattle.gup_turns.specs.Reached.{ForkPlace, fork_place, place_in, IsForking, StandsFork, IsStanding, IsNoFork, StandsHandle, given_back, back_in}
 use Rattle.gup_turns.specs.Run.{RunState, run_start, run_after, op_in, waiting_in, waiting_with, taken_by, taken_in, is_ready, can_go}
 use Rattle.gup_turns.specs.Turn.{waits_at, waits_born, turn_at, failed_turn, op_turn}
 use Rattle.gup_turns.proofs.Bounds.{TakesCost}
-use Rattle.gup_turns.proofs.ForkBounds.{IsSpent, StandsAt, turn_spent}
+use Rattle.gup_turns.proofs.ForkBounds.{IsSpent, StandsAt, place_by, turn_spent}
 use Rattle.gup_turns.proofs.Mapped.{mapped_none}
 use Rattle.gup_turns.proofs.Puts.{put_same, put_other, put_own}
-use Rattle.gup_turns.proofs.Ordering.{unfailed_for}
 use Rattle.gup_turns.proofs.PinBounds.{kept_rights}
 use Rattle.gup_turns.specs.ScriptLemmas.{all_at, has_ops_declared, child_declared, is_of_thread, thread_birth}
 use Rattle.gup_turns.proofs.Shapes.{HasLeft, IsOfProcess, child_of}
+use Rattle.gup_turns.proofs.Turned.{idle_place}
 use Rattle.gup_turns.proofs.Sums.{sum_at, sum_same, sum_zero, sum_of_list}
 
 -- what an actor has left
@@ -58,7 +59,7 @@ left_op s a rests (Unpin handle) = omega arith
 left_op s a rests (Give handle to) = refl
 left_op s a rests (Take handle) = refl
 left_op s a rests (Transfer handle outward index slot n) = omega arith
-left_op s a rests (Fork child) = ap (λ (j : Job). fork_left (s.right child) (fork_place j)) rests
+left_op s a rests (Fork child) = ap (fork_left (s.right child)) (idle_place s a rests)
 left_op s a rests Exit = refl
 
 left_idle : (s : CoreState) (a : ℕ) → s.job a ≡ idle → (ops : List Op) (k : ℕ) → left_cost s a ops k 0 ≡ cost_from ops k
@@ -99,39 +100,44 @@ left_same s t a [] k far same = refl
 left_same s t a (op ∷ ops) zero far same = ap (λ (n : ℕ). n + sum_by op_cost ops) (same op refl)
 left_same s t a (op ∷ ops) (suc k) far same = left_same s t a ops k far same
 
--- a fork's turns stay, if its actor's job does, and the rights of the child that grows
-fork_stays : (s t : CoreState) (a p child : ℕ) (job : Job) → StandsFork s a p child job → s.job a ≡ job → t.job a ≡ s.job a → (s.birth child ≡ growing p → t.right child ≡ s.right child) → fork_left (t.right child) (fork_place (t.job a)) ≡ fork_left (s.right child) (fork_place (s.job a))
-fork_stays s t a p child job stands is same rights =
-    ap (λ (j : Job). fork_left (t.right child) (fork_place j)) (same ∙ is) ∙ go job stands ∙ sym (ap (λ (j : Job). fork_left (s.right child) (fork_place j)) is)
+-- a fork's turns stay, if its actor's job and prepared frame do, and the rights of the child that grows
+fork_stays : (s t : CoreState) (b p child : ℕ) (job : Job) (prepared : Option ℕ) → StandsFork s b p child job prepared → s.job b ≡ job → s.prepared b ≡ prepared → t.job b ≡ s.job b → t.prepared b ≡ s.prepared b → (s.birth child ≡ growing p → s.structure p ≡ Some b → t.right child ≡ s.right child) → fork_left (t.right child) (place_in t b) ≡ fork_left (s.right child) (place_in s b)
+fork_stays s t b p child job prepared stands is has same kept rights =
+    ap (fork_left (t.right child)) (place_by t b job prepared (same ∙ is) (kept ∙ has)) ∙ go job prepared stands
+    ∙ sym (ap (fork_left (s.right child)) (place_by s b job prepared is has))
   where
-    go : (j : Job) → StandsFork s a p child j → fork_left (t.right child) (fork_place j) ≡ fork_left (s.right child) (fork_place j)
-    go idle stands = refl
-    go (marking q page f) stands = absurd stands
-    go (moving q page e count) stands = absurd stands
-    go (walking q write long sequence step) stands = absurd stands
-    go (forking q c done between) stands = ap (λ (f : ℕ → Option Rights). fork_left f (fork_place (forking q c done between))) (rights stands.birth)
-    go (forking q c done (counted page)) stands = ap (λ (f : ℕ → Option Rights). fork_left f (fork_place (forking q c done (counted page)))) (rights stands.0.birth)
-    go (forking q c done (lowered page)) stands = absurd stands
-    go (forking q c done (cleared page)) stands = absurd stands
-    go (forking q c done (copying page n)) stands = absurd stands
-    go (forking q c done failing) stands = absurd stands
+    grows : (x : ForkPlace) (q c : ℕ) (done : List ℕ) → IsForking s b p child q c done → fork_left (t.right child) x ≡ fork_left (s.right child) x
+    grows x q c done forks = ap (λ (f : ℕ → Option Rights). fork_left f x) (rights forks.birth forks.locked)
+
+    go : (j : Job) (o : Option ℕ) → StandsFork s b p child j o → fork_left (t.right child) (fork_place j o) ≡ fork_left (s.right child) (fork_place j o)
+    go idle o stands = refl
+    go (marking q page f) o stands = absurd stands
+    go (moving q page e count) o stands = absurd stands
+    go (walking q write long sequence step) o stands = absurd stands
+    go (forking q c done between) o stands = grows (fork_place (forking q c done between) o) q c done stands
+    go (forking q c done (counted page)) o stands = grows (fork_place (forking q c done (counted page)) o) q c done stands.0
+    go (forking q c done (lowered page)) o stands = absurd stands
+    go (forking q c done (cleared page)) o stands = absurd stands
+    go (forking q c done (copying page word)) o stands = grows (fork_place (forking q c done (copying page word)) o) q c done stands.0
+    go (forking q c done failing) o stands = absurd stands
 
 -- the operation of another actor has as much left
-op_stays : (script : ScriptValue) (r : RunState) → IsStanding script r → (t : CoreState) (b : ℕ) → t.job b ≡ r.core.job b → ((q parent : ℕ) → r.core.birth q ≡ growing parent → t.right q ≡ r.core.right q) → (op : Op) → op_in script r b ≡ Some op → op_left t b op (r.places b).far ≡ op_left r.core b op (r.places b).far
-op_stays script r h t b job grown (Map page n rights) is = refl
-op_stays script r h t b job grown (Unmap page n) is = refl
-op_stays script r h t b job grown (Protect page n rights) is = refl
-op_stays script r h t b job grown (Discard page n) is = refl
-op_stays script r h t b job grown (Load page word) is = refl
-op_stays script r h t b job grown (Store page word value) is = refl
-op_stays script r h t b job grown (Pin handle page n write) is = refl
-op_stays script r h t b job grown (Unpin handle) is = refl
-op_stays script r h t b job grown (Give handle to) is = refl
-op_stays script r h t b job grown (Take handle) is = refl
-op_stays script r h t b job grown (Transfer handle outward index slot n) is = refl
-op_stays script r h t b job grown (Fork child) is =
-    fork_stays r.core t b (process_of script b) child (r.core.job b) (h.forks b child is) refl job (grown child (process_of script b))
-op_stays script r h t b job grown Exit is = refl
+op_stays : (script : ScriptValue) (r : RunState) → IsStanding script r → (t : CoreState) (b : ℕ) → t.job b ≡ r.core.job b → t.prepared b ≡ r.core.prepared b → ((q parent : ℕ) → r.core.birth q ≡ growing parent → r.core.structure parent ≡ Some b → t.right q ≡ r.core.right q) → (op : Op) → op_in script r b ≡ Some op → op_left t b op (r.places b).far ≡ op_left r.core b op (r.places b).far
+op_stays script r h t b job kept grown (Map page n rights) is = refl
+op_stays script r h t b job kept grown (Unmap page n) is = refl
+op_stays script r h t b job kept grown (Protect page n rights) is = refl
+op_stays script r h t b job kept grown (Discard page n) is = refl
+op_stays script r h t b job kept grown (Load page word) is = refl
+op_stays script r h t b job kept grown (Store page word value) is = refl
+op_stays script r h t b job kept grown (Pin handle page n write) is = refl
+op_stays script r h t b job kept grown (Unpin handle) is = refl
+op_stays script r h t b job kept grown (Give handle to) is = refl
+op_stays script r h t b job kept grown (Take handle) is = refl
+op_stays script r h t b job kept grown (Transfer handle outward index slot n) is = refl
+op_stays script r h t b job kept grown (Fork child) is =
+    let p : ℕ = process_of script b in
+    fork_stays r.core t b p child (r.core.job b) (r.core.prepared b) (h.forks b child is) refl refl job kept (grown child p)
+op_stays script r h t b job kept grown Exit is = refl
 
 -- the process of a thread is declared
 process_declared : (script : ScriptValue) → IsScript script → (a : ℕ) (actor : Option Actor) → actor_at script a ≡ actor → thread_in actor ≡ true → process_in actor < length script.processes
@@ -215,18 +221,22 @@ stands_at script r h a op is = go op is
     go (Fork child) is = h.forks a child is
     go Exit is = (rests Exit tt is, tt)
 
--- an actor whose process hasn't failed goes on only once it waits for no birth
-born_of : (b : Birth) (p : ℕ) (others : Option Waiting) → waits_at b p others ≡ None → (b ≡ failed → ⊥) → b ≡ born
-born_of unborn p others free unfailed = absurd (cc free)
-born_of (growing parent) p others free unfailed = absurd (cc free)
-born_of born p others free unfailed = refl
-born_of failed p others free unfailed = absurd (unfailed refl)
+-- an actor goes on only once it waits for no birth: its process is born, or failed
+waits_no_birth : (b : Birth) (p : ℕ) (others : Option Waiting) → waits_at b p others ≡ None → (b ≡ born) ⊎ (b ≡ failed)
+waits_no_birth unborn p others free = absurd (cc free)
+waits_no_birth (growing parent) p others free = absurd (cc free)
+waits_no_birth born p others free = inl refl
+waits_no_birth failed p others free = inr refl
 
-goes_born : (script : ScriptValue) (r : RunState) → IsStanding script r → (a : ℕ) (op : Op) → op_in script r a ≡ Some op → waiting_in script r a ≡ None → birth_for r.core.birth (doer script a) ≡ born
-goes_born script r h a op is free =
+goes_by : (script : ScriptValue) (r : RunState) (a : ℕ) (op : Op) → op_in script r a ≡ Some op → waiting_in script r a ≡ None → (birth_for r.core.birth (doer script a) ≡ born) ⊎ (birth_for r.core.birth (doer script a) ≡ failed)
+goes_by script r a op is free =
     let who : Doer = doer script a in
     let unwaiting : waiting_with r.core who (Some op) ≡ None = subst (λ (o : Option Op). waiting_with r.core who o ≡ None) is free in
-    born_of (birth_for r.core.birth who) who.proc (waits_born r.core who.actor who.proc op) unwaiting (unfailed_for who r.core.birth (h.unfailed who.proc))
+    waits_no_birth (birth_for r.core.birth who) who.proc (waits_born r.core who.actor who.proc op) unwaiting
+
+-- the process that an actor forks is born
+forked_born : (script : ScriptValue) (r : RunState) → IsStanding script r → (a : ℕ) (k : Forking) → forking_of (r.core.job a) ≡ Some k → r.core.birth k.proc ≡ born
+forked_born script r h a k is = h.sound.1.fork_parent a k (h.sound.1.forks_are a ∙ is)
 
 pub spent_turn : (script : ScriptValue) → IsScript script → (r : RunState) → IsStanding script r → (a : ℕ) (op : Op) → op_in script r a ≡ Some op → waiting_in script r a ≡ None → IsSpent r.core a (process_of script a) (r.places a) op (taken_in script r a)
 spent_turn script valid r h a op is free =
@@ -234,23 +244,39 @@ spent_turn script valid r h a op is free =
     let p : ℕ = process_of script a in
     let k : ℕ = (r.places a).answered in
     let P : Option Op → Option Waiting → Type 0 = λ o w. IsSpent r.core a p (r.places a) op (taken_by r.core who (r.places a).far o w) in
-    let birth = goes_born script r h a op is free in
-    let own : IsOfProcess op → r.core.birth p ≡ born =
-    λ of. sym (thread_birth who r.core.birth (is_of_thread script valid a k op is (process_no_device op of))) ∙ birth in
-    let unpinned : (child : ℕ) → op ≡ Fork child → r.core.has_pinned p ≡ false =
-    λ child same. h.unpinned a k child (is ∙ ap (λ (o : Op). Some o) same) p in
-    let spent : P (Some op) None = turn_spent r.core who (r.places a) op birth own unpinned (h.few_pages p) (stands_at script r h a op is) in
+    let own : IsOfProcess op → r.core.birth p ≡ birth_for r.core.birth who =
+    λ of. sym (thread_birth who r.core.birth (is_of_thread script valid a k op is (process_no_device op of))) in
+    let spent : P (Some op) None = turn_spent r.core who (r.places a) op (goes_by script r a op is free) own (forked_born script r h a) (h.few_pages p) (stands_at script r h a op is) in
     subst (λ (w : Option Waiting). P (op_in script r a) w) (sym free) (subst (λ (o : Option Op). P o None) (sym is) spent)
 
--- what is of no process leaves all mappings
-kept_turn : (script : ScriptValue) (r : RunState) → IsStanding script r → (a : ℕ) (op : Op) → op_in script r a ≡ Some op → waiting_in script r a ≡ None → (IsOfProcess op → ⊥) → (run r.core (taken_in script r a).events).right ≡ r.core.right
-kept_turn script r h a op is free none =
+-- what is of no process leaves all mappings, whether it is refused since its process failed or not
+kept_failed : (s : CoreState) (a p : ℕ) (op : Op) → (IsOfProcess op → ⊥) → (run s (failed_turn a p op).events).right ≡ s.right
+kept_failed s a p (Map page n rights) none = absurd (none tt)
+kept_failed s a p (Unmap page n) none = absurd (none tt)
+kept_failed s a p (Protect page n rights) none = absurd (none tt)
+kept_failed s a p (Discard page n) none = absurd (none tt)
+kept_failed s a p (Load page word) none = absurd (none tt)
+kept_failed s a p (Store page word value) none = absurd (none tt)
+kept_failed s a p (Pin handle page n write) none = absurd (none tt)
+kept_failed s a p (Unpin handle) none = refl
+kept_failed s a p (Give handle to) none = refl
+kept_failed s a p (Take handle) none = refl
+kept_failed s a p (Transfer handle outward index slot n) none = refl
+kept_failed s a p (Fork child) none = absurd (none tt)
+kept_failed s a p Exit none = absurd (none tt)
+
+kept_at : (s : CoreState) (who : Doer) (far : ℕ) (op : Op) (b : Birth) → (IsOfProcess op → ⊥) → (run s (turn_at b (failed_turn who.actor who.proc op) (op_turn s who.actor who.proc who.slots far op)).events).right ≡ s.right
+kept_at s who far op unborn none = kept_rights s who.actor who.proc who.slots far op none
+kept_at s who far op (growing parent) none = kept_rights s who.actor who.proc who.slots far op none
+kept_at s who far op born none = kept_rights s who.actor who.proc who.slots far op none
+kept_at s who far op failed none = kept_failed s who.actor who.proc op none
+
+kept_turn : (script : ScriptValue) (r : RunState) (a : ℕ) (op : Op) → op_in script r a ≡ Some op → waiting_in script r a ≡ None → (IsOfProcess op → ⊥) → (run r.core (taken_in script r a).events).right ≡ r.core.right
+kept_turn script r a op is free none =
     let who : Doer = doer script a in
     let far : ℕ = (r.places a).far in
     let P : Option Op → Option Waiting → Type 0 = λ o w. (run r.core (taken_by r.core who far o w).events).right ≡ r.core.right in
-    let birth = goes_born script r h a op is free in
-    let kept : P (Some op) None =
-    subst (λ (b : Birth). (run r.core (turn_at b (failed_turn who.actor who.proc op) (op_turn r.core who.actor who.proc who.slots far op)).events).right ≡ r.core.right) (sym birth) (kept_rights r.core who.actor who.proc who.slots far op none) in
+    let kept : P (Some op) None = kept_at r.core who far op (birth_for r.core.birth who) none in
     subst (λ (w : Option Waiting). P (op_in script r a) w) (sym free) (subst (λ (o : Option Op). P o None) (sym is) kept)
 
 -- the mapped pages of all processes change as those of the one process do
@@ -278,11 +304,11 @@ spent_by script valid r h a op is free =
     let less = actor_takes r.core t a (ops_of script a) op (r.places a) next (mapped_pages (r.core.right q)) (mapped_pages (t.right q)) is spent.takes in
     let there : a < length script.actors = has_ops_declared script a (r.places a).answered op is in
     let named : (q < length script.processes) ⊎ (t.right ≡ r.core.right) =
-    elim (has_child script valid a (r.places a).answered op is) [ inl declared ↦ inl declared | inr none ↦ inr (kept_turn script r h a op is free none) ] in
+    elim (has_child script valid a (r.places a).answered op is) [ inl declared ↦ inl declared | inr none ↦ inr (kept_turn script r a op is free none) ] in
     let other : (b : ℕ) → (b == a) ≡ false → actor_cost script after b ≡ actor_cost script r b =
     λ b apart.
     ap (λ (place : Place). left_cost t b (ops_of script b) place.answered place.far) (put_other a b next r.places apart)
-    ∙ left_same r.core t b (ops_of script b) (r.places b).answered (r.places b).far (op_stays script r h t b (spent.jobs b apart) spent.grown) in
+    ∙ left_same r.core t b (ops_of script b) (r.places b).answered (r.places b).far (op_stays script r h t b (spent.jobs b apart) (spent.prepared b apart) (λ q parent grows locked. spent.grown q parent b grows locked apart)) in
     let here : actor_cost script after a ≡ left_cost t a (ops_of script a) next.answered next.far = ap (λ (place : Place). left_cost t a (ops_of script a) place.answered place.far) (put_same a next r.places) in
     let actors = sum_at (length script.actors) (actor_cost script after) (actor_cost script r) a there other in
     let pages = pages_change (length script.processes) q r.core t named spent.others in
@@ -322,7 +348,7 @@ kept_cost script r a stays =
 
 -- at the start
 
-most_of : (op : Op) → IsOp op → op_cost op ≤ 3074
+most_of : (op : Op) → IsOp op → op_cost op ≤ 528386
 most_of (Map page n rights) range = let few = range.1 in omega arith
 most_of (Unmap page n) range = let few = range.1 in omega arith
 most_of (Protect page n rights) range = omega arith
@@ -337,17 +363,17 @@ most_of (Transfer handle outward index slot n) range = let few = range.1 in omeg
 most_of (Fork child) range = omega arith
 most_of Exit range = omega arith
 
-most_of_all : (actors : List Actor) → All (λ (a : Actor). All IsOp a.ops) actors → sum_by (λ (a : Actor). sum_by op_cost a.ops) actors ≤ 3074 * sum_by (λ (a : Actor). length a.ops) actors
+most_of_all : (actors : List Actor) → All (λ (a : Actor). All IsOp a.ops) actors → sum_by (λ (a : Actor). sum_by op_cost a.ops) actors ≤ 528386 * sum_by (λ (a : Actor). length a.ops) actors
 most_of_all [] range = omega arith
 most_of_all (actor ∷ actors) range =
     let first : All IsOp actor.ops = range 0 actor (omega arith) in
-    let here = sum_by-le op_cost 3074 actor.ops (λ k d less. most_of (get_or actor.ops k d) (first k d less)) in
+    let here = sum_by-le op_cost 528386 actor.ops (λ k d less. most_of (get_or actor.ops k d) (first k d less)) in
     let rest = most_of_all actors (λ k d less. range (suc k) d (omega arith)) in
     let costs = sum_by-cons (λ (a : Actor). sum_by op_cost a.ops) actor actors in
     let counts = sum_by-cons (λ (a : Actor). length a.ops) actor actors in
     omega (arith, here, rest, costs, counts)
 
-pub first_cost : (script : ScriptValue) → IsScript script → cost script (run_start script) ≤ 3074 * operations script
+pub first_cost : (script : ScriptValue) → IsScript script → cost script (run_start script) ≤ 528386 * operations script
 unfolding cost
 first_cost script valid =
     let s : CoreState = (run_start script).core in
