@@ -1,6 +1,7 @@
--- Counts stay small: where nobody but pages' entries, handles and running pins holds a frame, its count is at most the
--- number of pages of all processes, and the weight of all pages that may be pinned.
-use Rattle.std.proofs.Common.{◌≡◌, ℕ, ◌+◌, ◌*◌, ◌≤◌, ◌<◌, ◌==◌, Bool, true, false, if◌then◌else◌, List, [], ◌∷◌, slice_get, Contains, Option, Some, None, refl, ap, sym, subst, ◌∙◌, eqb-true, arith}
+-- Counts stay small: a frame that an actor has prepared has one reference; where nobody but pages' entries, handles and
+-- running pins holds a frame, its count is at most the number of pages of all processes, and the weight of all pages that
+-- may be pinned.
+use Rattle.std.proofs.Common.{◌≡◌, ℕ, ◌+◌, ◌*◌, ◌≤◌, ◌<◌, ◌⊎◌, inl, inr, ◌==◌, Bool, true, false, if◌then◌else◌, List, [], ◌∷◌, slice_get, Contains, Option, Some, None, refl, ap, sym, subst, ◌∙◌, eqb-true, arith}
 use Rattle.std.specs.Prelude.{sum_by}
 use Rattle.std.proofs.lemmas.Bool.Decides.{nat_tests}
 use Rattle.std.proofs.lemmas.List.Elements.{Contains-append_right}
@@ -233,7 +234,7 @@ pub record ArePinsFew (s : CoreState) : Type 0 where
   pub made : (h k f : ℕ) → slice_get (s.pinned h) k ≡ Some f → (h < 1024) × (k < 16)
   pub taken : (a k : ℕ) (t : Taken) → slice_get (s.taken a) k ≡ Some t → (a < 81) × (k < 16)
 
-module _ (s : CoreState) (sound : IsSound s) (calm : IsCalm s) (rest : AtRest s) (free : (a : ℕ) → HoldsNoFrame (s.job a)) (unfailed : (p : ℕ) → s.birth p ≡ failed → ⊥) (few : (p page : ℕ) (e : Entry) → s.entry p page ≡ Some e → p < 16) (pins : ArePinsFew s) where
+module _ (s : CoreState) (sound : IsSound s) (calm : IsCalm s) (rest : (a : ℕ) → AtRest s a) (free : (a : ℕ) → HoldsNoFrame (s.job a)) (emptied : (p page : ℕ) → s.birth p ≡ failed → s.entry p page ≡ None) (few : (p page : ℕ) (e : Entry) → s.entry p page ≡ Some e → p < 16) (pins : ArePinsFew s) where
   abbrev holding : Holder → Option ℕ
   holding = held s.entry sound.0.moves s.prepared s.owed s.got s.pinned s.taken
 
@@ -245,7 +246,7 @@ module _ (s : CoreState) (sound : IsSound s) (calm : IsCalm s) (rest : AtRest s)
       whole = sound.1.whole_entry p page e is
 
       mapped : (o : Option Rights) → s.right p page ≡ o → page < page_numbers
-      mapped None none = absurd (unfailed p (sound.1.entry_mapped p page e whole none))
+      mapped None none = absurd (let gone : s.entry p page ≡ None = emptied p page (sound.1.entry_mapped p page e whole none) in cc)
       mapped (Some rights) some = sound.1.right_numbered p page rights some
 
   made_is : (h k f : ℕ) → slice_get (s.pinned h) k ≡ Some f → IsPlace (page_of_pin h k)
@@ -255,18 +256,22 @@ module _ (s : CoreState) (sound : IsSound s) (calm : IsCalm s) (rest : AtRest s)
   taken_is a k f None is has = absurd (cc has)
   taken_is a k f (Some t) is has = let at = pins.taken a k t is in of_taken a k at.0 at.1
 
-  -- nobody but a page's entry, a handle and a pin holds a frame
-  holder_is_place : (x : Holder) (f : ℕ) → holding x ≡ Some f → IsPlace x
+  -- the frame has one reference alone
+  abbrev IsOnce : ℕ → Type 0
+  IsOnce f = sound.0.references f ≡ 1
+
+  -- nobody but a page's entry, a handle and a pin holds a frame that isn't prepared
+  holder_is_place : (x : Holder) (f : ℕ) → holding x ≡ Some f → IsPlace x ⊎ IsOnce f
   unfolding held
-  holder_is_place (entry_of_page p page) f is = entry_is p page f (s.entry p page) refl is
+  holder_is_place (entry_of_page p page) f is = inl (entry_is p page f (s.entry p page) refl is)
   holder_is_place (cleared_by a) f is =
       let none : moved_frame (sound.0.moves a) ≡ None = ap moved_frame (sound.1.moves_are a) ∙ moved_same (s.job a) ∙ (free a).0 in
       absurd (cc)
-  holder_is_place (prepared_by a) f is = let none = rest.prepared a in absurd (cc)
-  holder_is_place (owed_by a) f is = let none = rest.owed a in absurd (cc)
+  holder_is_place (prepared_by a) f is = inr (sound.1.prepared_once a f is)
+  holder_is_place (owed_by a) f is = let none = (rest a).owed in absurd (cc)
   holder_is_place (got_as k) f is = let none : got_frame (s.got k) ≡ None = ap got_frame (calm.no_gets k) in absurd (cc)
-  holder_is_place (page_of_pin h k) f is = made_is h k f is
-  holder_is_place (page_taken a k) f is = taken_is a k f (slice_get (s.taken a) k) refl is
+  holder_is_place (page_of_pin h k) f is = inl (made_is h k f is)
+  holder_is_place (page_taken a k) f is = inl (taken_is a k f (slice_get (s.taken a) k) refl is)
   holder_is_place (grabbed_by a) f is = absurd (cc)
 
   -- and no walk does
@@ -283,25 +288,38 @@ module _ (s : CoreState) (sound : IsSound s) (calm : IsCalm s) (rest : AtRest s)
   no_grab (page_of_pin h k) f is = absurd (cc)
   no_grab (page_taken a k) f is = absurd (cc)
 
-  each_place : (f : ℕ) (xs : List Holder) → ((x : Holder) → Contains xs x → holding x ≡ Some f) → ArePlaces xs
-  each_place f [] hold = tt
+  each_place : (f : ℕ) (xs : List Holder) → ((x : Holder) → Contains xs x → holding x ≡ Some f) → ArePlaces xs ⊎ IsOnce f
+  each_place f [] hold = inl tt
   each_place f (x ∷ xs) hold =
-      (holder_is_place x f (hold x (first_element x xs)), each_place f xs (λ y has. hold y (later_element x xs y has)))
+      elim (holder_is_place x f (hold x (first_element x xs))) [
+        | inl first ↦ elim (each_place f xs (λ y has. hold y (later_element x xs y has))) [
+          | inl places ↦ inl (first, places)
+          | inr once ↦ inr once
+        ]
+        | inr once ↦ inr once
+      ]
 
   none_listed : (f : ℕ) (xs : List Holder) → ((x : Holder) → Contains xs x → held_by_walk sound.0.walks x ≡ Some f) → sum_by weight xs ≡ 0
   none_listed f [] hold = refl
   none_listed f (x ∷ xs) hold = absurd (no_grab x f (hold x (first_element x xs)))
 
+  few_references : (f : ℕ) → sound.0.references f ≤ 16 * page_numbers + bias * 17680
+  few_references f =
+      let tally = sound.1.references f in
+      elim (each_place f tally.0 (λ x. (tally.2 x).1)) [
+        | inl places ↦ (let most = places_weigh tally.0 places tally.1 in omega (arith, most, tally.3))
+        | inr once ↦ omega (arith, once)
+      ]
+
   pub few_counts_by : (f : ℕ) → s.count f ≤ 16 * page_numbers + bias * 17680
   few_counts_by f =
-      let tally = sound.1.references f in
       let grabs = sound.1.grabs f in
-      let most = places_weigh tally.0 (each_place f tally.0 (λ x. (tally.2 x).1)) tally.1 in
+      let most = few_references f in
       let none = none_listed f grabs.0 (λ x. (grabs.2 x).1) in
       let sum = sound.1.count_is f in
-      omega (arith, most, none, sum, tally.3, grabs.3)
+      omega (arith, most, none, sum, grabs.3)
 
 -- each frame's count is at most the number of pages of 16 processes, and the weight of the pages of 1,024 handles and of
 -- those that 81 actors may have taken
-pub few_counts : (s : CoreState) → IsSound s → IsCalm s → AtRest s → ((a : ℕ) → HoldsNoFrame (s.job a)) → ((p : ℕ) → s.birth p ≡ failed → ⊥) → ((p page : ℕ) (e : Entry) → s.entry p page ≡ Some e → p < 16) → ArePinsFew s → (f : ℕ) → s.count f ≤ 16 * page_numbers + bias * 17680
-few_counts s sound calm rest free unfailed few pins f = few_counts_by s sound calm rest free unfailed few pins f
+pub few_counts : (s : CoreState) → IsSound s → IsCalm s → ((a : ℕ) → AtRest s a) → ((a : ℕ) → HoldsNoFrame (s.job a)) → ((p page : ℕ) → s.birth p ≡ failed → s.entry p page ≡ None) → ((p page : ℕ) (e : Entry) → s.entry p page ≡ Some e → p < 16) → ArePinsFew s → (f : ℕ) → s.count f ≤ 16 * page_numbers + bias * 17680
+few_counts s sound calm rest free emptied few pins f = few_counts_by s sound calm rest free emptied few pins f

@@ -1,17 +1,17 @@
 -- Few pages are mapped, and few forks begin.
-use Rattle.std.proofs.Common.{◌≡◌, ℕ, ◌+◌, ◌-◌, ◌*◌, ◌≤◌, ◌<◌, ◌==◌, ◌%◌, Bool, true, false, if◌then◌else◌, List, [], ◌∷◌, Option, Some, None, IsSome, refl, ap, sym, subst, ◌∙◌, arith}
+use Rattle.std.proofs.Common.{◌≡◌, ℕ, ◌+◌, ◌-◌, ◌*◌, ◌≤◌, ◌<◌, ◌==◌, ◌%◌, Bool, true, false, not, if◌then◌else◌, List, [], ◌∷◌, Option, Some, None, IsSome, refl, ap, sym, subst, ◌∙◌, arith}
 use Rattle.std.proofs.lemmas.Bool.Decides.{nat_tests}
 use Rattle.gup_base.specs.declared.entry.Entry.{Entry}
 use Rattle.gup_base.specs.declared.entry.Rights.{Rights}
 use Rattle.gup_plain.specs.Put.{put, put2, spread}
 use Rattle.gup_plain.specs.Event.{most_pages, page_numbers}
 use Rattle.gup_plain.specs.State.{Birth, unborn, growing, born, failed}
-use Rattle.gup_events.specs.State.{CoreState, start, between}
-use Rattle.gup_events.specs.Event.{CoreEvent, Can, happens, is_odd, map_pages, protect_pages, drop_entry, begin_fork, end_fork}
+use Rattle.gup_events.specs.State.{CoreState, start, ForkStep, between, counted, lowered, cleared, copying, failing}
+use Rattle.gup_events.specs.Event.{CoreEvent, Can, happens, MayFail, is_odd, map_pages, protect_pages, drop_entry, begin_fork, end_fork, fail_fork, fail_unborn}
 use Rattle.gup_events.specs.Invariant.{AllCan, run}
-use Rattle.gup_events.specs.Sound.{IsSound, Forking, forking_of}
-use Rattle.gup_turns.specs.Pages.{sum_below, mapped_pages}
-use Rattle.gup_turns.proofs.Calm.{Strand, AreTurnEvents, IsTurnEvent, taking, filling, counting_one, marking_it, upgrading, breaking, putting, mapping, lowering, protecting, dropping, discarding, loading, storing, raising, pinning, making, handling, IsHandleEvent, AreHandleEvents, unpinning, giving, taking_over, moving_out, moving_in, beginning, counting, sharing_entry, sharing_mark, sharing_child, passing, ending}
+use Rattle.gup_events.specs.Sound.{IsSound, Forking, forking_of, is_failing}
+use Rattle.gup_turns.specs.Pages.{mapped_pages}
+use Rattle.gup_turns.proofs.Calm.{Strand, AreTurnEvents, IsTurnEvent, taking, filling, counting_one, marking_it, upgrading, breaking, putting, mapping, lowering, protecting, dropping, discarding, loading, storing, raising, pinning, making, handling, IsHandleEvent, AreHandleEvents, unpinning, giving, taking_over, moving_out, moving_in, beginning, counting, sharing_entry, sharing_mark, sharing_child, passing, ending, copying_word, placing, failing_at, putting_child, releasing, failing_unborn}
 use Rattle.gup_turns.proofs.Mapped.{mapped_spread, mapped_same, mapped_lost, mapped_none}
 use Rattle.gup_turns.proofs.Puts.{put_same, put_other}
 use Rattle.gup_turns.proofs.Standing.{brought, all_brought, IsFew}
@@ -126,6 +126,45 @@ few_end n s a p c done below sound can h =
       forked = at_put (λ (k j : ℕ). k ≤ 2 * all_brought n (put c born s.birth)) p (s.sequence p + 1) (s.sequence p + 1) s.sequence s.sequence (omega (arith, was, same, less)) (λ q. omega (arith, was, same, h.forked q));
     }
 
+-- a fork that may fail has not failed
+unfailing : (step : ForkStep) → MayFail step → is_failing step ≡ false
+unfailing between may = refl
+unfailing (counted page) may = refl
+unfailing (lowered page) may = refl
+unfailing (cleared page) may = refl
+unfailing (copying page n) may = refl
+unfailing failing may = absurd may
+
+-- the child of one that fails has no mappings, and the sequence was odd, as at an end
+few_fail : (n : ℕ) (s : CoreState) (a p c : ℕ) (done : List ℕ) (step : ForkStep) → c < n → IsSound s → Can s (fail_fork a p c done step) → IsFew n s → IsFew n (happens s (fail_fork a p c done step))
+few_fail n s a p c done step below sound can h =
+    let k : Forking = record { proc = p; child = c; done = done; step = step } in
+    let forks : sound.0.forks a ≡ Some k = sound.1.forks_are a ∙ ap forking_of can.0 in
+    let runs : is_failing step ≡ false = unfailing step can.1 in
+    let birth : s.birth c ≡ growing p = sound.1.fork_birth a k forks ∙ ap (λ (b : Bool). if b then failed else growing p) runs in
+    let odd : is_odd (s.sequence p) ≡ true = sound.1.fork_odd a k forks ∙ ap not runs in
+    let was : brought (s.birth c) ≡ 1 = ap brought birth in
+    let same = brought_change n s.birth c failed below in
+    let less = odd_less (s.sequence p) (all_brought n s.birth) odd (h.forked p) in
+    let none = mapped_none (λ _. None) (λ k. refl) in
+    record {
+      mapped = at_put (λ (f : ℕ → Option Rights) (k : ℕ). mapped_pages f ≤ k) c (λ _. None) 0 s.right s.pages (omega (arith, none)) h.mapped;
+      pages = at_put (λ (k j : ℕ). k ≤ most_pages) c 0 0 s.pages s.pages (omega arith) h.pages;
+      forked = at_put (λ (k j : ℕ). k ≤ 2 * all_brought n (put c failed s.birth)) p (s.sequence p + 1) (s.sequence p + 1) s.sequence s.sequence (omega (arith, was, same, less)) (λ q. omega (arith, was, same, h.forked q));
+    }
+
+-- nor has the child of a failed process any
+few_unborn : (n : ℕ) (s : CoreState) (a p c : ℕ) → c < n → Can s (fail_unborn a p c) → IsFew n s → IsFew n (happens s (fail_unborn a p c))
+few_unborn n s a p c below can h =
+    let was : brought (s.birth c) ≡ 0 = ap brought can.1 in
+    let more = brought_change n s.birth c failed below in
+    let none = mapped_none (λ _. None) (λ k. refl) in
+    record {
+      mapped = at_put (λ (f : ℕ → Option Rights) (k : ℕ). mapped_pages f ≤ k) c (λ _. None) 0 s.right s.pages (omega (arith, none)) h.mapped;
+      pages = at_put (λ (k j : ℕ). k ≤ most_pages) c 0 0 s.pages s.pages (omega arith) h.pages;
+      forked = λ q. omega (arith, was, more, h.forked q);
+    }
+
 pub few_handle : (n : ℕ) (s : CoreState) (a handle : ℕ) (e : CoreEvent) → IsHandleEvent a handle e → IsFew n s → IsFew n (happens s e)
 few_handle n s a handle e (unpinning f left) h = few_same n s (happens s e) refl refl refl refl h
 few_handle n s a handle e (giving to) h = few_same n s (happens s e) refl refl refl refl h
@@ -159,6 +198,12 @@ few_event n s a p c strand e (sharing_mark done page f writable) below sound can
 few_event n s a p c strand e (sharing_child done page f writable) below sound can h = few_same n s (happens s e) refl refl refl refl h
 few_event n s a p c strand e (passing done page) below sound can h = few_same n s (happens s e) refl refl refl refl h
 few_event n s a p c strand e (ending done) below sound can h = few_end n s a p c done below sound can h
+few_event n s a p c strand e (copying_word done page word to entry) below sound can h = few_same n s (happens s e) refl refl refl refl h
+few_event n s a p c strand e (placing done page to rights) below sound can h = few_same n s (happens s e) refl refl refl refl h
+few_event n s a p c strand e (failing_at done step) below sound can h = few_fail n s a p c done step below sound can h
+few_event n s a p c strand e (putting_child done page entry) below sound can h = few_same n s (happens s e) refl refl refl refl h
+few_event n s a p c strand e (releasing done) below sound can h = few_same n s (happens s e) refl refl refl refl h
+few_event n s a p c strand e failing_unborn below sound can h = few_unborn n s a p c below can h
 
 -- events of a turn keep it
 pub few_kept : Law → (n : ℕ) (s : CoreState) (a p c : ℕ) (strand : Strand) (es : List CoreEvent) → AreTurnEvents a p c strand es → c < n → IsSound s → AllCan s es → IsFew n s → IsFew n (run s es)

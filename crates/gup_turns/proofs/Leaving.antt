@@ -1,16 +1,18 @@
 -- What the events of a turn leave as it is.
-use Rattle.std.proofs.Common.{◌≡◌, ℕ, ◌==◌, ◌⊎◌, inl, inr, Bool, true, false, List, [], ◌∷◌, ◌++◌, Option, Some, refl, sym, ap, subst, ◌∙◌, eqb-true, arith}
+use Rattle.std.proofs.Common.{◌≡◌, ℕ, ◌==◌, ◌⊎◌, inl, inr, Bool, true, false, if◌then◌else◌, List, [], ◌∷◌, ◌++◌, Option, Some, refl, sym, ap, subst, ◌∙◌, eqb-true, arith}
 use Rattle.std.proofs.lemmas.Bool.Decides.{nat_tests}
 use Rattle.gup_base.specs.declared.entry.Entry.{Entry}
 use Rattle.gup_base.specs.declared.entry.Rights.{Rights}
 use Rattle.gup_plain.specs.Event.{IsHeldBy, IsGivenTo, given_to, held_by}
 use Rattle.gup_plain.specs.Put.{put}
-use Rattle.gup_plain.specs.State.{Birth, unborn, born, failed, Handle, unmade, held, given, gone}
+use Rattle.gup_plain.specs.State.{Birth, unborn, growing, born, failed, Handle, unmade, held, given, gone}
 use Rattle.gup_events.specs.State.{CoreState, Taken, idle}
 use Rattle.gup_events.specs.Event.{CoreEvent, Can, happens, raise_flag, pin_page, make_handle, unpin_page, give_handle, take_handle, frames_of, objects_taken, writes_taken}
 use Rattle.gup_events.specs.Invariant.{AllCan, run}
-use Rattle.gup_turns.proofs.Calm.{IsCalm, Strand, of_pages, of_pin, of_handle, IsTurnEvent, AreTurnEvents, taking, filling, counting_one, marking_it, upgrading, breaking, putting, mapping, lowering, protecting, dropping, discarding, loading, storing, raising, pinning, making, handling, IsHandleEvent, AreHandleEvents, unpinning, giving, taking_over, moving_out, moving_in, beginning, counting, sharing_entry, sharing_mark, sharing_child, passing, ending}
+use Rattle.gup_events.specs.Sound.{IsSound, Forking, forking_of, birth_of_child, is_failing}
+use Rattle.gup_turns.proofs.Calm.{IsCalm, Strand, of_pin, of_handle, IsTurnEvent, AreTurnEvents, taking, filling, counting_one, marking_it, upgrading, breaking, putting, mapping, lowering, protecting, dropping, discarding, loading, storing, raising, pinning, making, handling, IsHandleEvent, AreHandleEvents, unpinning, giving, taking_over, moving_out, moving_in, beginning, counting, sharing_entry, sharing_mark, sharing_child, passing, ending, copying_word, placing, failing_at, putting_child, releasing, failing_unborn}
 use Rattle.gup_turns.proofs.Puts.{put_same, put_other}
+use Rattle.gup_turns.proofs.Through.{Law}
 
 -- what is of one process
 pub record OfProcess : Type 0 where
@@ -40,40 +42,59 @@ pub record IsBarred (a p : ℕ) (s t : CoreState) : Type 0 where
   pub table : t.table p ≡ s.table p
   pub job : t.job a ≡ s.job a
 
+-- a value that isn't the changed number's stays
+put_kept : {X : Type 0} (c q : ℕ) (x : X) (f : ℕ → X) (y : X) → (q ≡ c → ⊥) → f q ≡ y → put c x f q ≡ y
+put_kept c q x f y other is = go (q == c) refl
+  where
+    go : (t : Bool) → (q == c) ≡ t → (if t then x else f q) ≡ y
+    go true same = absurd (other (eqb-true q c same))
+    go false apart = is
+
+-- the child of a fork is not born before its end
+child_unborn : (p : ℕ) (failing : Bool) → (if failing then failed else growing p) ≡ born → ⊥
+child_unborn p true e = cc e
+child_unborn p false e = cc e
+
 module _ (s : CoreState) (a p c : ℕ) (strand : Strand) where
   leaves_handle : {e : CoreEvent} (h : ℕ) → IsHandleEvent a h e → Leaves a p c s (happens s e)
-  leaves_handle h (unpinning f left) = record { process = λ q other child. refl; birth = λ q child. refl; job = λ b other. refl }
-  leaves_handle h (giving to) = record { process = λ q other child. refl; birth = λ q child. refl; job = λ b other. refl }
-  leaves_handle h taking_over = record { process = λ q other child. refl; birth = λ q child. refl; job = λ b other. refl }
-  leaves_handle h (moving_out index slot f value) = record { process = λ q other child. refl; birth = λ q child. refl; job = λ b other. refl }
-  leaves_handle h (moving_in index slot f value) = record { process = λ q other child. refl; birth = λ q child. refl; job = λ b other. refl }
+  leaves_handle h (unpinning f left) = record { process = λ q other child. refl; birth = λ q child. refl; job = λ b other. refl; prepared = λ b other. refl; owed = λ b other. refl }
+  leaves_handle h (giving to) = record { process = λ q other child. refl; birth = λ q child. refl; job = λ b other. refl; prepared = λ b other. refl; owed = λ b other. refl }
+  leaves_handle h taking_over = record { process = λ q other child. refl; birth = λ q child. refl; job = λ b other. refl; prepared = λ b other. refl; owed = λ b other. refl }
+  leaves_handle h (moving_out index slot f value) = record { process = λ q other child. refl; birth = λ q child. refl; job = λ b other. refl; prepared = λ b other. refl; owed = λ b other. refl }
+  leaves_handle h (moving_in index slot f value) = record { process = λ q other child. refl; birth = λ q child. refl; job = λ b other. refl; prepared = λ b other. refl; owed = λ b other. refl }
 
   leaves_event : {e : CoreEvent} → IsTurnEvent a p c strand e → Leaves a p c s (happens s e)
-  leaves_event (taking f) = record { process = λ q other child. refl; birth = λ q child. refl; job = λ b other. refl }
-  leaves_event (filling page f) = record { process = λ q other child. rw other refl; birth = λ q child. refl; job = λ b other. refl }
-  leaves_event (counting_one page f writable) = record { process = λ q other child. rw other refl; birth = λ q child. refl; job = λ b other. rw other refl }
-  leaves_event (marking_it page f) = record { process = λ q other child. rw other refl; birth = λ q child. refl; job = λ b other. rw other refl }
-  leaves_event (upgrading page f) = record { process = λ q other child. rw other refl; birth = λ q child. refl; job = λ b other. refl }
-  leaves_event (breaking page old new was writable) = record { process = λ q other child. rw other refl; birth = λ q child. refl; job = λ b other. refl }
-  leaves_event (putting f) = record { process = λ q other child. refl; birth = λ q child. refl; job = λ b other. refl }
-  leaves_event (mapping page n rights) = record { process = λ q other child. rw other refl; birth = λ q child. refl; job = λ b other. refl }
-  leaves_event (lowering page f) = record { process = λ q other child. rw other refl; birth = λ q child. refl; job = λ b other. refl }
-  leaves_event (protecting page n rights) = record { process = λ q other child. rw other refl; birth = λ q child. refl; job = λ b other. refl }
-  leaves_event (dropping page was) = record { process = λ q other child. rw other refl; birth = λ q child. refl; job = λ b other. refl }
-  leaves_event (discarding page was) = record { process = λ q other child. rw other refl; birth = λ q child. refl; job = λ b other. refl }
-  leaves_event (loading page word f value) = record { process = λ q other child. refl; birth = λ q child. refl; job = λ b other. refl }
-  leaves_event (storing page word f value) = record { process = λ q other child. refl; birth = λ q child. refl; job = λ b other. refl }
-  leaves_event (raising h is) = record { process = λ q other child. refl; birth = λ q child. refl; job = λ b other. refl }
-  leaves_event (pinning h is page e write) = record { process = λ q other child. refl; birth = λ q child. refl; job = λ b other. refl }
-  leaves_event (making h is) = record { process = λ q other child. refl; birth = λ q child. refl; job = λ b other. refl }
+  leaves_event (taking f) = record { process = λ q other child. refl; birth = λ q child. refl; job = λ b other. refl; prepared = λ b other. rw other refl; owed = λ b other. refl }
+  leaves_event (filling page f) = record { process = λ q other child. rw other refl; birth = λ q child. refl; job = λ b other. refl; prepared = λ b other. rw other refl; owed = λ b other. refl }
+  leaves_event (counting_one page f writable) = record { process = λ q other child. rw other refl; birth = λ q child. refl; job = λ b other. rw other refl; prepared = λ b other. refl; owed = λ b other. refl }
+  leaves_event (marking_it page f) = record { process = λ q other child. rw other refl; birth = λ q child. refl; job = λ b other. rw other refl; prepared = λ b other. refl; owed = λ b other. refl }
+  leaves_event (upgrading page f) = record { process = λ q other child. rw other refl; birth = λ q child. refl; job = λ b other. refl; prepared = λ b other. refl; owed = λ b other. refl }
+  leaves_event (breaking page old new was writable) = record { process = λ q other child. rw other refl; birth = λ q child. refl; job = λ b other. refl; prepared = λ b other. rw other refl; owed = λ b other. rw other refl }
+  leaves_event (putting f) = record { process = λ q other child. refl; birth = λ q child. refl; job = λ b other. refl; prepared = λ b other. refl; owed = λ b other. rw other refl }
+  leaves_event (mapping page n rights) = record { process = λ q other child. rw other refl; birth = λ q child. refl; job = λ b other. refl; prepared = λ b other. refl; owed = λ b other. refl }
+  leaves_event (lowering page f) = record { process = λ q other child. rw other refl; birth = λ q child. refl; job = λ b other. refl; prepared = λ b other. refl; owed = λ b other. refl }
+  leaves_event (protecting page n rights) = record { process = λ q other child. rw other refl; birth = λ q child. refl; job = λ b other. refl; prepared = λ b other. refl; owed = λ b other. refl }
+  leaves_event (dropping page was) = record { process = λ q other child. rw other refl; birth = λ q child. refl; job = λ b other. refl; prepared = λ b other. refl; owed = λ b other. rw other refl }
+  leaves_event (discarding page was) = record { process = λ q other child. rw other refl; birth = λ q child. refl; job = λ b other. refl; prepared = λ b other. refl; owed = λ b other. rw other refl }
+  leaves_event (loading page word f value) = record { process = λ q other child. refl; birth = λ q child. refl; job = λ b other. refl; prepared = λ b other. refl; owed = λ b other. refl }
+  leaves_event (storing page word f value) = record { process = λ q other child. refl; birth = λ q child. refl; job = λ b other. refl; prepared = λ b other. refl; owed = λ b other. refl }
+  leaves_event (raising h is) = record { process = λ q other child. refl; birth = λ q child. refl; job = λ b other. refl; prepared = λ b other. refl; owed = λ b other. refl }
+  leaves_event (pinning h is page e write) = record { process = λ q other child. refl; birth = λ q child. refl; job = λ b other. refl; prepared = λ b other. refl; owed = λ b other. refl }
+  leaves_event (making h is) = record { process = λ q other child. refl; birth = λ q child. refl; job = λ b other. refl; prepared = λ b other. refl; owed = λ b other. refl }
   leaves_event (handling h is event) = leaves_handle h event
-  leaves_event beginning = record { process = λ q other child. rw (other, child) refl; birth = λ q child. rw child refl; job = λ b other. rw other refl }
-  leaves_event (counting done page e copies) = record { process = λ q other child. rw other refl; birth = λ q child. refl; job = λ b other. rw other refl }
-  leaves_event (sharing_entry done page f writable) = record { process = λ q other child. rw other refl; birth = λ q child. refl; job = λ b other. rw other refl }
-  leaves_event (sharing_mark done page f writable) = record { process = λ q other child. refl; birth = λ q child. refl; job = λ b other. rw other refl }
-  leaves_event (sharing_child done page f writable) = record { process = λ q other child. rw (other, child) refl; birth = λ q child. refl; job = λ b other. rw other refl }
-  leaves_event (passing done page) = record { process = λ q other child. refl; birth = λ q child. refl; job = λ b other. rw other refl }
-  leaves_event (ending done) = record { process = λ q other child. rw (other, child) refl; birth = λ q child. rw child refl; job = λ b other. rw other refl }
+  leaves_event beginning = record { process = λ q other child. rw (other, child) refl; birth = λ q child. rw child refl; job = λ b other. rw other refl; prepared = λ b other. refl; owed = λ b other. refl }
+  leaves_event (counting done page e copies) = record { process = λ q other child. rw other refl; birth = λ q child. refl; job = λ b other. rw other refl; prepared = λ b other. refl; owed = λ b other. refl }
+  leaves_event (sharing_entry done page f writable) = record { process = λ q other child. rw other refl; birth = λ q child. refl; job = λ b other. rw other refl; prepared = λ b other. refl; owed = λ b other. refl }
+  leaves_event (sharing_mark done page f writable) = record { process = λ q other child. refl; birth = λ q child. refl; job = λ b other. rw other refl; prepared = λ b other. refl; owed = λ b other. refl }
+  leaves_event (sharing_child done page f writable) = record { process = λ q other child. rw (other, child) refl; birth = λ q child. refl; job = λ b other. rw other refl; prepared = λ b other. refl; owed = λ b other. refl }
+  leaves_event (passing done page) = record { process = λ q other child. refl; birth = λ q child. refl; job = λ b other. rw other refl; prepared = λ b other. refl; owed = λ b other. refl }
+  leaves_event (ending done) = record { process = λ q other child. rw (other, child) refl; birth = λ q child. rw child refl; job = λ b other. rw other refl; prepared = λ b other. refl; owed = λ b other. refl }
+  leaves_event (copying_word done page word to e) = record { process = λ q other child. refl; birth = λ q child. refl; job = λ b other. rw other refl; prepared = λ b other. refl; owed = λ b other. refl }
+  leaves_event (placing done page to rights) = record { process = λ q other child. rw (other, child) refl; birth = λ q child. refl; job = λ b other. rw other refl; prepared = λ b other. rw other refl; owed = λ b other. refl }
+  leaves_event (failing_at done step) = record { process = λ q other child. rw (other, child) refl; birth = λ q child. rw child refl; job = λ b other. rw other refl; prepared = λ b other. refl; owed = λ b other. refl }
+  leaves_event (putting_child done page e) = record { process = λ q other child. rw child refl; birth = λ q child. refl; job = λ b other. refl; prepared = λ b other. refl; owed = λ b other. refl }
+  leaves_event (releasing done) = record { process = λ q other child. rw other refl; birth = λ q child. refl; job = λ b other. rw other refl; prepared = λ b other. refl; owed = λ b other. refl }
+  leaves_event failing_unborn = record { process = λ q other child. rw child refl; birth = λ q child. rw child refl; job = λ b other. refl; prepared = λ b other. refl; owed = λ b other. refl }
 
   -- nothing of a turn gets or mirrors
 
@@ -110,40 +131,58 @@ module _ (s : CoreState) (a p c : ℕ) (strand : Strand) where
   calm_event (sharing_child done page f writable) h = assumption
   calm_event (passing done page) h = assumption
   calm_event (ending done) h = assumption
+  calm_event (copying_word done page word to e) h = assumption
+  calm_event (placing done page to rights) h = assumption
+  calm_event (failing_at done step) h = assumption
+  calm_event (putting_child done page e) h = assumption
+  calm_event (releasing done) h = assumption
+  calm_event failing_unborn h = assumption
 
-  -- a born process stays born, and none fails
-  births_event : {e : CoreEvent} → IsTurnEvent a p c strand e → Can s e → (q : ℕ) → (s.birth q ≡ born → (happens s e).birth q ≡ born) × ((happens s e).birth q ≡ failed → s.birth q ≡ failed)
-  births_event (taking f) can q = (λ is. is, λ is. is)
-  births_event (filling page f) can q = (λ is. is, λ is. is)
-  births_event (counting_one page f writable) can q = (λ is. is, λ is. is)
-  births_event (marking_it page f) can q = (λ is. is, λ is. is)
-  births_event (upgrading page f) can q = (λ is. is, λ is. is)
-  births_event (breaking page old new was writable) can q = (λ is. is, λ is. is)
-  births_event (putting f) can q = (λ is. is, λ is. is)
-  births_event (mapping page n rights) can q = (λ is. is, λ is. is)
-  births_event (lowering page f) can q = (λ is. is, λ is. is)
-  births_event (protecting page n rights) can q = (λ is. is, λ is. is)
-  births_event (dropping page was) can q = (λ is. is, λ is. is)
-  births_event (discarding page was) can q = (λ is. is, λ is. is)
-  births_event (loading page word f value) can q = (λ is. is, λ is. is)
-  births_event (storing page word f value) can q = (λ is. is, λ is. is)
-  births_event (raising h is) can q = (λ is. is, λ is. is)
-  births_event (pinning h is page e write) can q = (λ is. is, λ is. is)
-  births_event (making h is) can q = (λ is. is, λ is. is)
-  births_event (handling h is (unpinning f left)) can q = (λ is. is, λ is. is)
-  births_event (handling h is (giving to)) can q = (λ is. is, λ is. is)
-  births_event (handling h is taking_over) can q = (λ is. is, λ is. is)
-  births_event (handling h is (moving_out index slot f value)) can q = (λ is. is, λ is. is)
-  births_event (handling h is (moving_in index slot f value)) can q = (λ is. is, λ is. is)
-  births_event beginning can q =
-      let child : s.birth c ≡ unborn = can.1 in
-      ((λ is. grind (arith, nat_tests, child)), λ is. grind (arith, nat_tests))
-  births_event (counting done page e copies) can q = (λ is. is, λ is. is)
-  births_event (sharing_entry done page f writable) can q = (λ is. is, λ is. is)
-  births_event (sharing_mark done page f writable) can q = (λ is. is, λ is. is)
-  births_event (sharing_child done page f writable) can q = (λ is. is, λ is. is)
-  births_event (passing done page) can q = (λ is. is, λ is. is)
-  births_event (ending done) can q = ((λ is. grind (arith, nat_tests)), λ is. grind (arith, nat_tests))
+  -- a born process stays born: the child of a fork that fails was growing, and that of a failed process was unborn
+  births_event : {e : CoreEvent} → IsTurnEvent a p c strand e → IsSound s → Can s e → (q : ℕ) → s.birth q ≡ born → (happens s e).birth q ≡ born
+  births_event (taking f) sound can q lives = lives
+  births_event (filling page f) sound can q lives = lives
+  births_event (counting_one page f writable) sound can q lives = lives
+  births_event (marking_it page f) sound can q lives = lives
+  births_event (upgrading page f) sound can q lives = lives
+  births_event (breaking page old new was writable) sound can q lives = lives
+  births_event (putting f) sound can q lives = lives
+  births_event (mapping page n rights) sound can q lives = lives
+  births_event (lowering page f) sound can q lives = lives
+  births_event (protecting page n rights) sound can q lives = lives
+  births_event (dropping page was) sound can q lives = lives
+  births_event (discarding page was) sound can q lives = lives
+  births_event (loading page word f value) sound can q lives = lives
+  births_event (storing page word f value) sound can q lives = lives
+  births_event (raising h is) sound can q lives = lives
+  births_event (pinning h is page e write) sound can q lives = lives
+  births_event (making h is) sound can q lives = lives
+  births_event (handling h is (unpinning f left)) sound can q lives = lives
+  births_event (handling h is (giving to)) sound can q lives = lives
+  births_event (handling h is taking_over) sound can q lives = lives
+  births_event (handling h is (moving_out index slot f value)) sound can q lives = lives
+  births_event (handling h is (moving_in index slot f value)) sound can q lives = lives
+  births_event beginning sound can q lives = let child : s.birth c ≡ unborn = can.1 in put_kept c q (growing p) s.birth born (λ same. cc) lives
+  births_event (counting done page e copies) sound can q lives = lives
+  births_event (sharing_entry done page f writable) sound can q lives = lives
+  births_event (sharing_mark done page f writable) sound can q lives = lives
+  births_event (sharing_child done page f writable) sound can q lives = lives
+  births_event (passing done page) sound can q lives = lives
+  births_event (ending done) sound can q lives = go (q == c)
+    where
+      go : (t : Bool) → (if t then born else s.birth q) ≡ born
+      go true = refl
+      go false = lives
+  births_event (copying_word done page word to e) sound can q lives = lives
+  births_event (placing done page to rights) sound can q lives = lives
+  births_event (failing_at done step) sound can q lives =
+      let k : Forking = record { proc = p; child = c; done = done; step = step } in
+      let forks : sound.0.forks a ≡ Some k = sound.1.forks_are a ∙ ap forking_of can.0 in
+      let birth : s.birth c ≡ birth_of_child k = sound.1.fork_birth a k forks in
+      put_kept c q failed s.birth born (λ same. child_unborn p (is_failing step) (sym birth ∙ (ap s.birth (sym same) ∙ lives))) lives
+  births_event (putting_child done page e) sound can q lives = lives
+  births_event (releasing done) sound can q lives = lives
+  births_event failing_unborn sound can q lives = let child : s.birth c ≡ unborn = can.1 in put_kept c q failed s.birth born (λ same. cc) lives
 
   -- Where the structure is locked, and the actor is in the middle of nothing, it changes neither entries nor locks.
   barred_event : {e : CoreEvent} (b : ℕ) → IsTurnEvent a p c strand e → s.structure p ≡ Some b → s.job a ≡ idle → Can s e → IsBarred a p s (happens s e)
@@ -176,6 +215,12 @@ module _ (s : CoreState) (a p c : ℕ) (strand : Strand) where
   barred_event b (sharing_child done page f writable) locked job can = absurd (let other = can.0 in cc)
   barred_event b (passing done page) locked job can = absurd (let other = can.0 in cc)
   barred_event b (ending done) locked job can = absurd (let other = can.0 in cc)
+  barred_event b (copying_word done page word to e) locked job can = absurd (let other = can.0 in cc)
+  barred_event b (placing done page to rights) locked job can = absurd (let other = can.0 in cc)
+  barred_event b (failing_at done step) locked job can = absurd (let other = can.0 in cc)
+  barred_event b (putting_child done page e) locked job can = absurd (let other = can.0 in cc)
+  barred_event b (releasing done) locked job can = absurd (let other = can.0 in cc)
+  barred_event b failing_unborn locked job can = record { entry = refl; structure = refl; table = refl; job = refl }
 
 -- numbers that aren't equal are found so
 pub apart : (b a : ℕ) → (b ≡ a → ⊥) → (b == a) ≡ false
@@ -188,7 +233,7 @@ apart b a other = go (b == a) refl
 -- one event after another
 
 pub leaves : (s : CoreState) (a p c : ℕ) (strand : Strand) (es : List CoreEvent) → AreTurnEvents a p c strand es → Leaves a p c s (run s es)
-leaves s a p c strand [] kinds = record { process = λ q other child. refl; birth = λ q child. refl; job = λ b other. refl }
+leaves s a p c strand [] kinds = record { process = λ q other child. refl; birth = λ q child. refl; job = λ b other. refl; prepared = λ b other. refl; owed = λ b other. refl }
 leaves s a p c strand (e ∷ es) kinds =
     let first = leaves_event s a p c strand kinds.0 in
     let later = leaves (happens s e) a p c strand es kinds.1 in
@@ -196,21 +241,19 @@ leaves s a p c strand (e ∷ es) kinds =
       process = λ q other child. later.process q other child ∙ first.process q other child;
       birth = λ q child. later.birth q child ∙ first.birth q child;
       job = λ b other. later.job b other ∙ first.job b other;
+      prepared = λ b other. later.prepared b other ∙ first.prepared b other;
+      owed = λ b other. later.owed b other ∙ first.owed b other;
     }
 
 pub stays_calm : (s : CoreState) (a p c : ℕ) (strand : Strand) (es : List CoreEvent) → AreTurnEvents a p c strand es → IsCalm s → IsCalm (run s es)
 stays_calm s a p c strand [] kinds h = h
 stays_calm s a p c strand (e ∷ es) kinds h = stays_calm (happens s e) a p c strand es kinds.1 (calm_event s a p c strand kinds.0 h)
 
-pub stays_born : (s : CoreState) (a p c : ℕ) (strand : Strand) (es : List CoreEvent) → AreTurnEvents a p c strand es → AllCan s es → (q : ℕ) → s.birth q ≡ born → (run s es).birth q ≡ born
-stays_born s a p c strand [] kinds can q is = is
-stays_born s a p c strand (e ∷ es) kinds can q is =
-    stays_born (happens s e) a p c strand es kinds.1 can.1 q ((births_event s a p c strand kinds.0 can.0 q).0 is)
-
-pub failed_before : (s : CoreState) (a p c : ℕ) (strand : Strand) (es : List CoreEvent) → AreTurnEvents a p c strand es → AllCan s es → (q : ℕ) → (run s es).birth q ≡ failed → s.birth q ≡ failed
-failed_before s a p c strand [] kinds can q is = is
-failed_before s a p c strand (e ∷ es) kinds can q is =
-    (births_event s a p c strand kinds.0 can.0 q).1 (failed_before (happens s e) a p c strand es kinds.1 can.1 q is)
+pub stays_born : Law → (s : CoreState) (a p c : ℕ) (strand : Strand) (es : List CoreEvent) → AreTurnEvents a p c strand es → IsSound s → AllCan s es → (q : ℕ) → s.birth q ≡ born → (run s es).birth q ≡ born
+stays_born law s a p c strand [] kinds sound can q is = is
+stays_born law s a p c strand (e ∷ es) kinds sound can q is =
+    let now = law s e sound can.0 in
+    stays_born law (happens s e) a p c strand es kinds.1 now.sound can.1 q (births_event s a p c strand kinds.0 sound can.0 q is)
 
 pub stays_barred : (s : CoreState) (a p c b : ℕ) (strand : Strand) (es : List CoreEvent) → AreTurnEvents a p c strand es → AllCan s es → s.structure p ≡ Some b → s.job a ≡ idle → IsBarred a p s (run s es)
 stays_barred s a p c b strand [] kinds can locked job = record { entry = refl; structure = refl; table = refl; job = refl }
@@ -406,6 +449,12 @@ module _ (s : CoreState) (a : ℕ) (strand : Strand) where
   pins_event p c e (sharing_child done page f writable) can = same_pins a strand s (happens s e) refl refl refl refl
   pins_event p c e (passing done page) can = same_pins a strand s (happens s e) refl refl refl refl
   pins_event p c e (ending done) can = same_pins a strand s (happens s e) refl refl refl refl
+  pins_event p c e (copying_word done page word to entry) can = same_pins a strand s (happens s e) refl refl refl refl
+  pins_event p c e (placing done page to rights) can = same_pins a strand s (happens s e) refl refl refl refl
+  pins_event p c e (failing_at done step) can = same_pins a strand s (happens s e) refl refl refl refl
+  pins_event p c e (putting_child done page entry) can = same_pins a strand s (happens s e) refl refl refl refl
+  pins_event p c e (releasing done) can = same_pins a strand s (happens s e) refl refl refl refl
+  pins_event p c e failing_unborn can = same_pins a strand s (happens s e) refl refl refl refl
 
 pins_on : (a : ℕ) (strand : Strand) (s t u : CoreState) → LeavesPinsOf a strand s t → LeavesPinsOf a strand t u → LeavesPinsOf a strand s u
 pins_on a strand s t u first later =

@@ -6,25 +6,25 @@ use Rattle.std.proofs.lemmas.List.{length-append}
 use Rattle.gup_plain.specs.Denial.{is_held_by}
 use Rattle.gup_plain.specs.Event.{IsHeldBy, IsGivenTo, given_to, held_by}
 use Rattle.gup_plain.specs.Put.{put}
-use Rattle.gup_plain.specs.State.{PlainState, Birth, Handle, unmade, held, given, gone, born}
+use Rattle.gup_plain.specs.State.{Birth, Handle, unmade, held, given, gone, born, failed}
 use Rattle.gup_plain.specs.declared.note.What.{What}
 use Rattle.gup_plain.specs.declared.note.Waiting.{Waiting}
 use Rattle.gup_script.specs.Script.{ScriptValue}
 use Rattle.gup_script.specs.declared.op.Op.{Op}
 use Rattle.gup_script.specs.declared.op.Op.TheVariants.{Map, Unmap, Protect, Discard, Load, Store, Pin, Unpin, Give, Take, Transfer, Fork, Exit}
-use Rattle.gup_events.specs.State.{CoreState}
+use Rattle.gup_events.specs.State.{CoreState, plain_of}
 use Rattle.gup_events.specs.Event.{unpin_page}
 use Rattle.gup_events.specs.Invariant.{AllCan, run}
 use Rattle.gup_follows.specs.Place.{Place, Doer, birth_for, place_behind, present_op}
 use Rattle.gup_turns.specs.Reached.{ForkPlace, StandsHandle, given_back}
 use Rattle.gup_turns.specs.Run.{taken_by}
-use Rattle.gup_turns.specs.Turn.{Taken, turn_at, failed_turn, unpin_turn, unpin_turn_by, unpinned, last_of, but_last}
+use Rattle.gup_turns.specs.Turn.{Taken, turn_at, failed_turn, op_turn, unpin_turn, unpin_turn_by, unpinned, last_of, but_last}
 use Rattle.gup_turns.proofs.Calm.{of_pages, of_pin, of_handle}
-use Rattle.gup_turns.proofs.Leaving.{same_or_apart, leaves_pins}
+use Rattle.gup_turns.proofs.Leaving.{same_or_apart, KeepsPin, leaves_pins}
 use Rattle.gup_turns.proofs.Places.{IsBehindTurn, stays_there, goes_by, goes_on, is_over, turn_behind}
 use Rattle.gup_turns.proofs.Puts.{put_same}
 use Rattle.gup_turns.proofs.Scripts.{fresh_place}
-use Rattle.gup_turns.proofs.Shapes.{TurnAt, goes, child_of, strand_of}
+use Rattle.gup_turns.proofs.Shapes.{TurnAt, goes, unborn_refused, unborn_fork, child_of, strand_of}
 use Rattle.gup_turns.proofs.Standing.{IsTaken}
 
 -- What may come of a pin in a turn of an actor, which has given back so many of its pages before it, and so many behind
@@ -172,33 +172,33 @@ module _ (script : ScriptValue) (s : CoreState) (who : Doer) (place : Place) whe
 
   -- the pin that the operation makes, gives or takes, or moves words of
 
-  pin_change : (handle page n : ℕ) (write : Bool) (turn : Taken) → present_op script who.actor place ≡ Some (Pin handle page n write) → IsTaken s who place (Some (Pin handle page n write)) None turn → ChangeBy handle (Some (Pin handle page n write)) turn
-  pin_change handle page n write turn is turns =
+  pin_change : (handle page n : ℕ) (write : Bool) (turn : Taken) → birth_for s.birth who ≡ born → present_op script who.actor place ≡ Some (Pin handle page n write) → IsTaken s who place (Some (Pin handle page n write)) None turn → ChangeBy handle (Some (Pin handle page n write)) turn
+  pin_change handle page n write turn birth is turns =
       let behind = none_behind (run s turn.events) handle (Some (Pin handle page n write)) turn.whats is (λ far. refl) (turn_behind (run s turn.events) turns.shape) in
-      elim (turns.pin (Pin handle page n write) refl refl) [
+      elim (turns.pin (Pin handle page n write) refl refl birth) [
         | inl same ↦ is_kept same.0 same.1 (λ holds. behind)
         | inr makes ↦ is_made makes.0 makes.1 behind
       ]
 
-  give_change : (handle to : ℕ) (turn : Taken) → present_op script who.actor place ≡ Some (Give handle to) → IsTaken s who place (Some (Give handle to)) None turn → ChangeBy handle (Some (Give handle to)) turn
-  give_change handle to turn is turns =
+  give_change : (handle to : ℕ) (turn : Taken) → birth_for s.birth who ≡ born → present_op script who.actor place ≡ Some (Give handle to) → IsTaken s who place (Some (Give handle to)) None turn → ChangeBy handle (Some (Give handle to)) turn
+  give_change handle to turn birth is turns =
       let behind = none_behind (run s turn.events) handle (Some (Give handle to)) turn.whats is (λ far. refl) (turn_behind (run s turn.events) turns.shape) in
-      let pin = turns.pin (Give handle to) refl refl in
+      let pin = turns.pin (Give handle to) refl refl birth in
       elim pin.1 [
         | inl same ↦ is_kept same pin.0 (λ holds. behind)
         | inr gives ↦ is_given to gives.0 gives.1 pin.0 refl
       ]
 
-  take_change : (handle : ℕ) (turn : Taken) → present_op script who.actor place ≡ Some (Take handle) → IsTaken s who place (Some (Take handle)) None turn → ChangeBy handle (Some (Take handle)) turn
-  take_change handle turn is turns =
+  take_change : (handle : ℕ) (turn : Taken) → birth_for s.birth who ≡ born → present_op script who.actor place ≡ Some (Take handle) → IsTaken s who place (Some (Take handle)) None turn → ChangeBy handle (Some (Take handle)) turn
+  take_change handle turn birth is turns =
       let behind = none_behind (run s turn.events) handle (Some (Take handle)) turn.whats is (λ far. refl) (turn_behind (run s turn.events) turns.shape) in
-      let pin = turns.pin (Take handle) refl refl in
+      let pin = turns.pin (Take handle) refl refl birth in
       is_taken pin.1 pin.2 pin.0 behind
 
-  transfer_change : (handle : ℕ) (outward : Bool) (index slot n : ℕ) (turn : Taken) → present_op script who.actor place ≡ Some (Transfer handle outward index slot n) → IsTaken s who place (Some (Transfer handle outward index slot n)) None turn → ChangeBy handle (Some (Transfer handle outward index slot n)) turn
-  transfer_change handle outward index slot n turn is turns =
+  transfer_change : (handle : ℕ) (outward : Bool) (index slot n : ℕ) (turn : Taken) → birth_for s.birth who ≡ born → present_op script who.actor place ≡ Some (Transfer handle outward index slot n) → IsTaken s who place (Some (Transfer handle outward index slot n)) None turn → ChangeBy handle (Some (Transfer handle outward index slot n)) turn
+  transfer_change handle outward index slot n turn birth is turns =
       let behind = none_behind (run s turn.events) handle (Some (Transfer handle outward index slot n)) turn.whats is (λ far. refl) (turn_behind (run s turn.events) turns.shape) in
-      let pin = turns.pin (Transfer handle outward index slot n) refl refl in
+      let pin = turns.pin (Transfer handle outward index slot n) refl refl birth in
       is_kept (ap (λ (f : ℕ → Handle). f handle) pin.0) (ap (λ (f : ℕ → List ℕ). f handle) pin.1) (λ holds. behind)
 
   -- the pin that it gives back
@@ -217,12 +217,9 @@ module _ (script : ScriptValue) (s : CoreState) (who : Doer) (place : Place) whe
   unpin_by handle false lacks is can = is_kept refl refl (λ holds. absurd (cc))
   unpin_by handle true holds is can = unpin_left handle (last_of (s.pinned handle)) (but_last (s.pinned handle)) is can.0.0 can.0.1
 
-  birth_of : {pl : PlainState} {op : Op} {whats : List What} {from to : ForkPlace} → TurnAt pl who place (Some op) None from whats to → birth_for pl.birth who ≡ born
-  birth_of (goes op whats from to birth own turn) = birth
-
-  unpin_change : (handle : ℕ) → present_op script who.actor place ≡ Some (Unpin handle) → IsTaken s who place (Some (Unpin handle)) None (taken_by s who place.far (Some (Unpin handle)) None) → ChangeBy handle (Some (Unpin handle)) (taken_by s who place.far (Some (Unpin handle)) None)
-  unpin_change handle is turns =
-      let same : taken_by s who place.far (Some (Unpin handle)) None ≡ unpin_turn s who.actor handle = ap (λ (b : Birth). turn_at b (failed_turn who.actor who.proc (Unpin handle)) (unpin_turn s who.actor handle)) (birth_of turns.shape) in
+  unpin_change : (handle : ℕ) → birth_for s.birth who ≡ born → present_op script who.actor place ≡ Some (Unpin handle) → IsTaken s who place (Some (Unpin handle)) None (taken_by s who place.far (Some (Unpin handle)) None) → ChangeBy handle (Some (Unpin handle)) (taken_by s who place.far (Some (Unpin handle)) None)
+  unpin_change handle birth is turns =
+      let same : taken_by s who place.far (Some (Unpin handle)) None ≡ unpin_turn s who.actor handle = ap (λ (b : Birth). turn_at b (failed_turn who.actor who.proc (Unpin handle)) (unpin_turn s who.actor handle)) birth in
       let can = subst (λ (turn : Taken). AllCan s turn.events) same turns.done.can in
       subst (ChangeBy handle (Some (Unpin handle))) (sym same) (unpin_by handle (is_held_by (s.handle handle) who.actor) refl is can)
 
@@ -246,37 +243,67 @@ module _ (script : ScriptValue) (s : CoreState) (who : Doer) (place : Place) whe
         | inr other ↦ other_change h (Some op) None (going op) is (none other) (λ e. cc (sym about ∙ e)) (λ e. other (sym (same_handle (sym about ∙ e)))) turns
       ]
 
-  pin_or_other : (h handle page n : ℕ) (write : Bool) → present_op script who.actor place ≡ Some (Pin handle page n write) → IsGoing (Pin handle page n write) → ChangeBy h (Some (Pin handle page n write)) (going (Pin handle page n write))
-  pin_or_other h handle page n write is turns =
+  pin_or_other : (h handle page n : ℕ) (write : Bool) → birth_for s.birth who ≡ born → present_op script who.actor place ≡ Some (Pin handle page n write) → IsGoing (Pin handle page n write) → ChangeBy h (Some (Pin handle page n write)) (going (Pin handle page n write))
+  pin_or_other h handle page n write birth is turns =
       let op : Op = Pin handle page n write in
       elim (same_or_apart h handle) [
-        | inl same ↦ subst (λ (k : ℕ). ChangeBy k (Some op) (going op)) (sym same) (pin_change handle page n write (going op) is turns)
+        | inl same ↦ subst (λ (k : ℕ). ChangeBy k (Some op) (going op)) (sym same) (pin_change handle page n write (going op) birth is turns)
         | inr other ↦ other_change h (Some op) None (going op) is (λ far. refl) (λ e. other (sym (same_pin e))) (λ e. cc e) turns
       ]
 
   -- so what comes of it depends on the operation
-  op_changes : (h : ℕ) (op : Op) → present_op script who.actor place ≡ Some op → IsGoing op → ChangeBy h (Some op) (going op)
-  op_changes h (Map page n rights) is turns = pages_change h (Map page n rights) (λ far. refl) refl is turns
-  op_changes h (Unmap page n) is turns = pages_change h (Unmap page n) (λ far. refl) refl is turns
-  op_changes h (Protect page n rights) is turns = pages_change h (Protect page n rights) (λ far. refl) refl is turns
-  op_changes h (Discard page n) is turns = pages_change h (Discard page n) (λ far. refl) refl is turns
-  op_changes h (Load page word) is turns = pages_change h (Load page word) (λ far. refl) refl is turns
-  op_changes h (Store page word value) is turns = pages_change h (Store page word value) (λ far. refl) refl is turns
-  op_changes h (Pin handle page n write) is turns = pin_or_other h handle page n write is turns
-  op_changes h (Unpin handle) is turns =
-      about_change h handle (Unpin handle) refl (λ other far. other_back handle h far other) (unpin_change handle is turns) is turns
-  op_changes h (Give handle to) is turns =
-      about_change h handle (Give handle to) refl (λ other far. refl) (give_change handle to (going (Give handle to)) is turns) is turns
-  op_changes h (Take handle) is turns =
-      about_change h handle (Take handle) refl (λ other far. refl) (take_change handle (going (Take handle)) is turns) is turns
-  op_changes h (Transfer handle outward index slot n) is turns =
+  op_changes : (h : ℕ) (op : Op) → birth_for s.birth who ≡ born → present_op script who.actor place ≡ Some op → IsGoing op → ChangeBy h (Some op) (going op)
+  op_changes h (Map page n rights) birth is turns = pages_change h (Map page n rights) (λ far. refl) refl is turns
+  op_changes h (Unmap page n) birth is turns = pages_change h (Unmap page n) (λ far. refl) refl is turns
+  op_changes h (Protect page n rights) birth is turns = pages_change h (Protect page n rights) (λ far. refl) refl is turns
+  op_changes h (Discard page n) birth is turns = pages_change h (Discard page n) (λ far. refl) refl is turns
+  op_changes h (Load page word) birth is turns = pages_change h (Load page word) (λ far. refl) refl is turns
+  op_changes h (Store page word value) birth is turns = pages_change h (Store page word value) (λ far. refl) refl is turns
+  op_changes h (Pin handle page n write) birth is turns = pin_or_other h handle page n write birth is turns
+  op_changes h (Unpin handle) birth is turns =
+      about_change h handle (Unpin handle) refl (λ other far. other_back handle h far other) (unpin_change handle birth is turns) is turns
+  op_changes h (Give handle to) birth is turns =
+      about_change h handle (Give handle to) refl (λ other far. refl) (give_change handle to (going (Give handle to)) birth is turns) is turns
+  op_changes h (Take handle) birth is turns =
+      about_change h handle (Take handle) refl (λ other far. refl) (take_change handle (going (Take handle)) birth is turns) is turns
+  op_changes h (Transfer handle outward index slot n) birth is turns =
       about_change h handle (Transfer handle outward index slot n) refl (λ other far. refl)
-      (transfer_change handle outward index slot n (going (Transfer handle outward index slot n)) is turns) is turns
-  op_changes h (Fork child) is turns = pages_change h (Fork child) (λ far. refl) refl is turns
-  op_changes h Exit is turns = pages_change h Exit (λ far. refl) refl is turns
+      (transfer_change handle outward index slot n (going (Transfer handle outward index slot n)) birth is turns) is turns
+  op_changes h (Fork child) birth is turns = pages_change h (Fork child) (λ far. refl) refl is turns
+  op_changes h Exit birth is turns = pages_change h Exit (λ far. refl) refl is turns
+
+  -- the turn of a failed process changes no pin
+  failed_keeps : (h : ℕ) (op : Op) → KeepsPin h s (run s (failed_turn who.actor who.proc op).events)
+  failed_keeps h (Map page n rights) = record { handle = refl; pinned = refl }
+  failed_keeps h (Unmap page n) = record { handle = refl; pinned = refl }
+  failed_keeps h (Protect page n rights) = record { handle = refl; pinned = refl }
+  failed_keeps h (Discard page n) = record { handle = refl; pinned = refl }
+  failed_keeps h (Load page word) = record { handle = refl; pinned = refl }
+  failed_keeps h (Store page word value) = record { handle = refl; pinned = refl }
+  failed_keeps h (Pin handle page n write) = record { handle = refl; pinned = refl }
+  failed_keeps h (Unpin handle) = record { handle = refl; pinned = refl }
+  failed_keeps h (Give handle to) = record { handle = refl; pinned = refl }
+  failed_keeps h (Take handle) = record { handle = refl; pinned = refl }
+  failed_keeps h (Transfer handle outward index slot n) = record { handle = refl; pinned = refl }
+  failed_keeps h (Fork child) = record { handle = refl; pinned = refl }
+  failed_keeps h Exit = record { handle = refl; pinned = refl }
+
+  -- and it answers its operation, of which nothing was given back
+  failed_changes : (h : ℕ) (op : Op) → birth_for s.birth who ≡ failed → place.far ≡ 0 → place_behind place (going op).whats ≡ fresh_place (place.answered + 1) → ChangeBy h (Some op) (going op)
+  failed_changes h op birth first over =
+      let same : going op ≡ failed_turn who.actor who.proc op = ap (λ (b : Birth). turn_at b (failed_turn who.actor who.proc op) (op_turn s who.actor who.proc who.slots place.far op)) birth in
+      let kept = subst (λ (turn : Taken). KeepsPin h s (run s turn.events)) (sym same) (failed_keeps h op) in
+      let before : given_back (Some op) h place.far ≡ 0 = ap (given_back (Some op) h) first ∙ first_back (Some op) h in
+      let behind : back_behind h (going op).whats ≡ 0 = ap (λ (q : Place). given_back (present_op script who.actor q) h q.far) over ∙ first_back (present_op script who.actor (fresh_place (place.answered + 1))) h in
+      is_kept kept.handle kept.pinned (λ holds. behind ∙ sym before)
+
+  shape_changes : {from to : ForkPlace} {whats : List What} (h : ℕ) (op : Op) → (going op).whats ≡ whats → present_op script who.actor place ≡ Some op → IsGoing op → TurnAt (plain_of s) who place (Some op) None from whats to → ChangeBy h (Some op) (going op)
+  shape_changes h op same is turns (goes o whats from to birth own turn) = op_changes h op birth is turns
+  shape_changes h op same is turns (unborn_refused o birth first refusal) = failed_changes h op birth first.0 (ap (place_behind place) same)
+  shape_changes h op same is turns (unborn_fork child birth own first) = failed_changes h op birth first.0 (ap (place_behind place) same)
 
   -- one that is idle or waits changes nothing
   pub turn_changes : (h : ℕ) (op : Option Op) (waiting : Option Waiting) → present_op script who.actor place ≡ op → IsTaken s who place op waiting (taken_by s who place.far op waiting) → ChangeBy h op (taken_by s who place.far op waiting)
   turn_changes h None waiting is turns = is_kept refl refl (λ holds. ap (λ (o : Option Op). given_back o h place.far) is)
   turn_changes h (Some op) (Some waiting) is turns = is_kept refl refl (λ holds. ap (λ (o : Option Op). given_back o h place.far) is)
-  turn_changes h (Some op) None is turns = op_changes h op is turns
+  turn_changes h (Some op) None is turns = shape_changes h op refl is turns turns.shape

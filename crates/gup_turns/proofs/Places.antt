@@ -8,7 +8,7 @@ use Rattle.gup_events.specs.State.{CoreState}
 use Rattle.gup_follows.specs.Place.{Place, Doer, place_behind}
 use Rattle.gup_turns.specs.Reached.{ForkPlace}
 use Rattle.gup_turns.proofs.Scripts.{fresh_place}
-use Rattle.gup_turns.proofs.Shapes.{FitsAt, Rests, TurnOf, refused, mapped, protected, loaded, stored, gave, took_over, took, took_last, passed, passed_last, took_lowest, took_all, pinned_page, pinned_all, pinned_short, unpinned_page, unpinned_last, moved_word, moved_last, began, passed_page, counted_page, shared_page, ended, TurnAt, idles, waits, goes}
+use Rattle.gup_turns.proofs.Shapes.{FitsAt, Rests, TurnOf, refused, mapped, protected, loaded, stored, gave, took_over, took, took_last, passed, passed_last, took_lowest, took_all, pinned_page, pinned_all, pinned_short, unpinned_page, unpinned_last, moved_word, moved_last, began, passed_page, counted_page, shared_page, ended, counted_copy, took_frame, copied_word, placed_copy, failed_fork, TurnAt, idles, waits, goes, unborn_refused, unborn_fork}
 use Rattle.gup_turns.proofs.Turned.{FitsNext}
 
 -- at the next turn of the same operation
@@ -51,11 +51,18 @@ op_behind t o (passed_page child from page begun least) = goes_on true refl (λ 
 op_behind t o {place = place} (counted_page child from page begun least) = goes_on place.had refl (λ next. next)
 op_behind t o (shared_page child page begun) = goes_on true refl (λ next. next)
 op_behind t o (ended child from begun) = is_over refl (λ next. next)
+op_behind t o {place = place} (counted_copy child from page begun least) = goes_on place.had refl (λ next. next)
+op_behind t o {place = place} (took_frame child page to begun) = goes_on place.had refl (λ next. next)
+op_behind t o (copied_word child page word to begun more) = goes_on true refl (λ next. next)
+op_behind t o {place = place} (placed_copy child page to begun) = goes_on place.had refl (λ next. next)
+op_behind t o (failed_fork child page begun) = is_over refl (λ next. next)
 
 pub turn_behind : (t : CoreState) {s : PlainState} {who : Doer} {place : Place} {op : Option Op} {waiting : Option Waiting} {whats : List What} {from to : ForkPlace} → TurnAt s who place op waiting from whats to → IsBehindTurn t who op place whats
 turn_behind t (idles waiting at) = stays_there refl (λ next. next)
 turn_behind t (waits op waiting at) = stays_there refl (λ next. next)
 turn_behind t (goes op whats from to birth own turn) = goes_by (op_behind t (Some op) turn)
+turn_behind t (unborn_refused op birth first refusal) = goes_by (is_over refl (λ next. next))
+turn_behind t (unborn_fork child birth own first) = goes_by (is_over refl (λ next. next))
 
 -- a turn of an operation that is there answers it at most
 pub answered_more : {t : CoreState} {who : Doer} {op : Option Op} {place : Place} {whats : List What} → IsBehind t who op place whats → (n : ℕ) → place.answered < n → (place_behind place whats).answered ≤ n

@@ -26,7 +26,8 @@ use Rattle.gup_turns.proofs.Counting.{HoldsNoFrame, ArePinsFew, few_counts}
 use Rattle.gup_turns.proofs.Few.{few_sequence}
 use Rattle.gup_turns.proofs.PinBounds.{unpin_short}
 use Rattle.gup_turns.proofs.Places.{op_behind, answered_more}
-use Rattle.gup_turns.proofs.Shapes.{FitsFork, FitsOp, FitsAt, TurnAt, idles, waits, goes}
+use Rattle.gup_turns.proofs.Prepared.{ArePreparedThere, there_on, is_prepared}
+use Rattle.gup_turns.proofs.Shapes.{FitsFork, FitsOp, FitsAt, TurnAt, idles, waits, goes, unborn_refused, unborn_fork, child_of, strand_of}
 use Rattle.gup_turns.proofs.Stands.{Starts, at_each, stands_on, stands_first}
 use Rattle.gup_turns.proofs.Standing.{Stands}
 use Rattle.gup_turns.proofs.Steps.{taken}
@@ -36,9 +37,10 @@ use Rattle.gup_turns.proofs.Through.{Law}
 abbrev pub HasAnswered : ScriptValue → ℕ → Place → Type 0
 HasAnswered script a place = place.answered ≤ length (ops_of script a)
 
--- what stands between two turns, and how much is answered
+-- what stands between two turns, which frames are prepared, and how much is answered
 pub record IsReached (script : ScriptValue) (r : RunState) : Type 0 where
   pub stands : Stands script r
+  pub there : ArePreparedThere r.core
   pub answered : (a : ℕ) → HasAnswered script a (r.places a)
 
 -- entries
@@ -54,15 +56,16 @@ entry_counted s p page e sound is none =
     let sum = sound.1.count_is e.frame in
     omega (arith, some, here, sum, none, tally.3)
 
--- an entry is of a mapped page, since no process has failed
-entry_mapped : (s : CoreState) (p page : ℕ) (e : Entry) → IsSound s → (s.birth p ≡ failed → ⊥) → s.entry p page ≡ Some e → (rights : Option Rights) → s.right p page ≡ rights → IsSome rights
-entry_mapped s p page e sound unfailed is None right = absurd (unfailed (sound.1.entry_mapped p page e (sound.1.whole_entry p page e is) right))
-entry_mapped s p page e sound unfailed is (Some r) right = refl
+-- an entry is of a mapped page, since a process that has failed has none
+entry_mapped : (s : CoreState) (p page : ℕ) (e : Entry) → IsSound s → (s.birth p ≡ failed → s.entry p page ≡ None) → s.entry p page ≡ Some e → (rights : Option Rights) → s.right p page ≡ rights → IsSome rights
+entry_mapped s p page e sound emptied is None right =
+    absurd (let gone : s.entry p page ≡ None = emptied (sound.1.entry_mapped p page e (sound.1.whole_entry p page e is) right) in cc)
+entry_mapped s p page e sound emptied is (Some r) right = refl
 
 -- and of a process that is not unborn
-entry_brought : (s : CoreState) (p page : ℕ) (e : Entry) → IsSound s → (s.birth p ≡ failed → ⊥) → s.entry p page ≡ Some e → s.birth p ≡ unborn → ⊥
-entry_brought s p page e sound unfailed is yet =
-    unfailed (sound.1.entry_mapped p page e (sound.1.whole_entry p page e is) (sound.1.unborn_unmapped p page yet))
+entry_brought : (s : CoreState) (p page : ℕ) (e : Entry) → IsSound s → (s.birth p ≡ failed → s.entry p page ≡ None) → s.entry p page ≡ Some e → s.birth p ≡ unborn → ⊥
+entry_brought s p page e sound emptied is yet =
+    let gone : s.entry p page ≡ None = emptied (sound.1.entry_mapped p page e (sound.1.whole_entry p page e is) (sound.1.unborn_unmapped p page yet)) in cc
 
 -- a process has at most 1,024 mapped pages
 few_mapped : (s : CoreState) (p : ℕ) → mapped_pages (s.right p) ≤ s.pages p → s.pages p ≤ most_pages → mapped_pages (s.right p) ≤ 1024
@@ -70,17 +73,17 @@ few_mapped s p within most = omega (arith, within, most)
 
 -- jobs
 
-fork_stands : (s : CoreState) (a p child : ℕ) (place : Place) (job : Job) → FitsFork s a p child place job → StandsFork s a p child job × HoldsNoFrame job
-fork_stands s a p child place idle fits = (fits.1, (refl, refl))
-fork_stands s a p child place (forking q c done between) fits = (fits.1, (refl, refl))
-fork_stands s a p child place (forking q c done (counted page)) fits = (fits.1, (refl, refl))
-fork_stands s a p child place (forking q c done (lowered page)) fits = absurd fits.1
-fork_stands s a p child place (forking q c done (cleared page)) fits = absurd fits.1
-fork_stands s a p child place (forking q c done (copying page n)) fits = absurd fits.1
-fork_stands s a p child place (forking q c done failing) fits = absurd fits.1
-fork_stands s a p child place (marking q page f) fits = absurd fits
-fork_stands s a p child place (moving q page e count) fits = absurd fits
-fork_stands s a p child place (walking q write long sequence step) fits = absurd fits
+fork_stands : (s : CoreState) (a p child : ℕ) (place : Place) (job : Job) (prepared : Option ℕ) → FitsFork s a p child place job prepared → StandsFork s a p child job prepared × HoldsNoFrame job
+fork_stands s a p child place idle prepared fits = (fits.1, (refl, refl))
+fork_stands s a p child place (forking q c done between) prepared fits = (fits.1, (refl, refl))
+fork_stands s a p child place (forking q c done (counted page)) prepared fits = (fits.1, (refl, refl))
+fork_stands s a p child place (forking q c done (lowered page)) prepared fits = absurd fits.1
+fork_stands s a p child place (forking q c done (cleared page)) prepared fits = absurd fits.1
+fork_stands s a p child place (forking q c done (copying page n)) prepared fits = (fits.1, (refl, refl))
+fork_stands s a p child place (forking q c done failing) prepared fits = absurd fits.1
+fork_stands s a p child place (marking q page f) prepared fits = absurd fits
+fork_stands s a p child place (moving q page e count) prepared fits = absurd fits
+fork_stands s a p child place (walking q write long sequence step) prepared fits = absurd fits
 
 idle_stands : (job : Job) → job ≡ idle → HoldsNoFrame job
 idle_stands job is = rw is (refl, refl)
@@ -98,7 +101,7 @@ no_frame s who (Some (Unpin handle)) place fits = idle_stands (s.job who.actor) 
 no_frame s who (Some (Give handle to)) place fits = idle_stands (s.job who.actor) fits.0.0
 no_frame s who (Some (Take handle)) place fits = idle_stands (s.job who.actor) fits.0.0
 no_frame s who (Some (Transfer handle outward index slot n)) place fits = idle_stands (s.job who.actor) fits.0.0
-no_frame s who (Some (Fork child)) place fits = (fork_stands s who.actor who.proc child place (s.job who.actor) fits.1).1
+no_frame s who (Some (Fork child)) place fits = (fork_stands s who.actor who.proc child place (s.job who.actor) (s.prepared who.actor) fits.1).1
 no_frame s who (Some Exit) place fits = idle_stands (s.job who.actor) fits.0
 
 idle_job : (s : CoreState) (who : Doer) (op : Option Op) (place : Place) → IsNoFork op → FitsAt s who op place → s.job who.actor ≡ idle
@@ -225,19 +228,18 @@ is_standing script valid r h =
     let at : (a : ℕ) (op : Op) → present_op script a (r.places a) ≡ Some op → FitsOp s (doer script a) op (r.places a) =
     λ a op is. subst (λ (o : Option Op). FitsAt s (doer script a) o (r.places a)) is (k.fits a) in
     let few : (p page : ℕ) (e : Entry) → s.entry p page ≡ Some e → p < 16 =
-    λ p page e is. let below : p < length script.processes = k.declared p (entry_brought s p page e k.sound (k.unfailed p) is) in let most = valid.few_processes in omega (arith, below, most) in
+    λ p page e is. let below : p < length script.processes = k.declared p (entry_brought s p page e k.sound (k.emptied p page) is) in let most = valid.few_processes in omega (arith, below, most) in
     record {
       sound = k.sound;
-      unfailed = k.unfailed;
-      unpinned = k.unpinned;
       declared = k.declared;
-      mapped = λ p page e is. entry_mapped s p page e k.sound (k.unfailed p) is (s.right p page) refl;
+      mapped = λ p page e is. entry_mapped s p page e k.sound (k.emptied p page) is (s.right p page) refl;
       counted = λ p page e is none. entry_counted s p page e k.sound is none;
       few_pages = λ p. few_mapped s p (k.few.mapped p) (k.few.pages p);
-      few_counts = few_counts s k.sound k.calm k.rest (λ a. no_frame s (doer script a) (present_op script a (r.places a)) (r.places a) (k.fits a)) k.unfailed few (few_pins script valid r k);
+      few_counts = few_counts s k.sound k.calm k.rest (λ a. no_frame s (doer script a) (present_op script a (r.places a)) (r.places a) (k.fits a)) k.emptied few (few_pins script valid r k);
       few_forks = few_sequence (length script.processes) valid.few_processes s k.few;
       idle_jobs = λ a no_fork. idle_job s (doer script a) (present_op script a (r.places a)) (r.places a) no_fork (k.fits a);
-      forks = λ a child is. (fork_stands s a (process_of script a) child (r.places a) (s.job a) (at a (Fork child) is).1).0;
+      forks = λ a child is. (fork_stands s a (process_of script a) child (r.places a) (s.job a) (s.prepared a) (at a (Fork child) is).1).0;
+      prepared = λ a f is. is_prepared s k.sound h.there a f is;
       untaken = λ a no_pin. untaken s (doer script a) (present_op script a (r.places a)) (r.places a) no_pin (k.fits a);
       pins = λ a handle page n write is. (at a (Pin handle page n write) is).2;
       flagged = λ a handle page n write is. pin_flagged s a (process_of script a) page (r.places a).far write k.sound (at a (Pin handle page n write) is).2.taken;
@@ -257,6 +259,10 @@ answered_on script t (idles waiting at) is within = within
 answered_on script t (waits op waiting at) is within = within
 answered_on script t {who = who} {place = place} (goes op whats from to birth own turn) is within =
     answered_more (op_behind t (Some op) turn) (length (ops_of script who.actor)) (slice_get_within (ops_of script who.actor) place.answered op is)
+answered_on script t {who = who} {place = place} (unborn_refused op birth first refusal) is within =
+    (let one = slice_get_within (ops_of script who.actor) place.answered op is in omega (arith, one))
+answered_on script t {who = who} {place = place} (unborn_fork child birth own first) is within =
+    (let one = slice_get_within (ops_of script who.actor) place.answered (Fork child) is in omega (arith, one))
 
 reached_on : Law → (script : ScriptValue) → IsScript script → (r : RunState) → IsReached script r → (a : ℕ) → IsReached script (run_after script r a)
 reached_on law script valid r h a =
@@ -264,6 +270,7 @@ reached_on law script valid r h a =
     let behind = place_behind (r.places a) (taken_in script r a).whats in
     record {
       stands = stands_on law script valid r h.stands a;
+      there = there_on r.core a (process_of script a) (child_of (process_of script a) (op_in script r a)) (strand_of (op_in script r a)) (taken_in script r a).events turn.done.kinds turn.done.can h.there;
       answered = at_each (HasAnswered script) a behind r.places (answered_on script r.core turn.shape refl (h.answered a)) h.answered;
     }
 
@@ -275,5 +282,6 @@ pub starts_reached : Starts → (script : ScriptValue) → IsScript script → I
 starts_reached starts script valid =
     record {
       stands = stands_first starts script valid;
+      there = λ a f is. absurd (cc is);
       answered = λ a. omega arith;
     }

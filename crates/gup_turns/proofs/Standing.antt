@@ -1,5 +1,5 @@
 -- What stands between two turns of a run, and what each turn is.
-use Rattle.std.proofs.Common.{◌≡◌, ℕ, ◌*◌, ◌≤◌, ◌<◌, Bool, false, length, Option, Some, None}
+use Rattle.std.proofs.Common.{◌≡◌, ℕ, ◌*◌, ◌≤◌, ◌<◌, false, length, Option, Some, None}
 use Rattle.std.specs.Prelude.{◌⊎◌}
 use Rattle.gup_plain.specs.Event.{most_pages}
 use Rattle.gup_plain.specs.State.{Birth, unborn, growing, born, failed, unmade}
@@ -64,6 +64,6 @@ pub record IsTaken (s : CoreState) (who : Doer) (place : Place) (op : Option Op)
   pub done : IsDone s who.actor who.proc (child_of who.proc op) (strand_of op) turn
   pub shape : TurnAt (plain_of s) who place op waiting (place_in s who.actor) turn.whats (place_in (run s turn.events) who.actor)
   pub next : FitsNext (run s turn.events) who op place turn.whats
-  pub pin : (o : Op) → op ≡ Some o → waiting ≡ None → MakesPin s (run s turn.events) who.actor o
+  pub pin : (o : Op) → op ≡ Some o → waiting ≡ None → birth_for s.birth who ≡ born → MakesPin s (run s turn.events) who.actor o
   -- the child of a fork that fails has no entries behind it
   pub emptied : (child page : ℕ) → op ≡ Some (Fork child) → (run s turn.events).birth child ≡ failed → (run s turn.events).entry child page ≡ None
