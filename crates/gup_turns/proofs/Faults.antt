@@ -1,5 +1,5 @@
 -- Faults: their events can happen between two turns, and the page gets an entry that allows the access.
-use Rattle.std.proofs.Common.{◌≡◌, ℕ, ◌+◌, ◌==◌, Bool, true, false, if◌then◌else◌, IsSome, List, [], ◌∷◌, ◌++◌, Contains, Option, Some, None, Ok, Err, eqb-true, refl, ap, sym, subst, ◌∙◌, arith}
+use Rattle.std.proofs.Common.{◌≡◌, ℕ, ◌==◌, Bool, true, false, if◌then◌else◌, IsSome, List, [], ◌∷◌, ◌++◌, Contains, Option, Some, None, Ok, Err, eqb-true, refl, ap, sym, subst, ◌∙◌, arith}
 use Rattle.std.proofs.lemmas.Bool.Decides.{nat_tests}
 use Rattle.std.proofs.lemmas.List.Sums.{get_or-le-sum_by}
 use Rattle.gup_base.specs.declared.entry.Entry.{Entry}
@@ -21,7 +21,7 @@ use Rattle.gup_turns.specs.Turn.{free_frame, frame_in, allows_store, pin_fault}
 use Rattle.gup_turns.proofs.Calm.{IsCalm, Strand, AreTurnEvents, taking, filling, counting_one, marking_it, upgrading, breaking, putting}
 use Rattle.gup_turns.proofs.Puts.{put_same, put_other, put2_same}
 use Rattle.gup_turns.proofs.Searches.{free_frame_free}
-use Rattle.gup_turns.proofs.Shapes.{AtRest}
+use Rattle.gup_turns.proofs.Shapes.{AtRest, unprepared, at_rest}
 use Rattle.gup_turns.proofs.Turned.{IsOpen}
 
 -- a page with an entry, seen as that
@@ -47,7 +47,7 @@ entry_counted s p page e sound is none =
 -- What a fault of a page needs: a state between two turns, a born process, and an actor in the middle of nothing. The
 -- frame of an entry has a reference, and that of a writable one is marked.
 pub record MayFault (s : CoreState) (a p : ℕ) : Type 0 where
-  pub rest : AtRest s
+  pub rest : AtRest s a
   pub calm : IsCalm s
   pub birth : s.birth p ≡ born
   pub job : s.job a ≡ idle
@@ -69,7 +69,7 @@ may_fault s a p h job =
 pub record IsReady (s : CoreState) (a p : ℕ) (es : List CoreEvent) : Type 0 where
   pub kinds : (strand : Strand) → AreTurnEvents a p p strand es
   pub can : AllCan s es
-  pub rest : AtRest (run s es)
+  pub rest : AtRest (run s es) a
   pub job : (run s es).job a ≡ idle
   pub birth : (run s es).birth p ≡ born
   pub told : all_told es ≡ []
@@ -112,13 +112,17 @@ module _ (s : CoreState) (a p : ℕ) (h : MayFault s a p) where
   pub no_mirror : (g : ℕ) → IsUnmirrored s p g
   no_mirror g = no_mirror_at s p g h.calm
 
+  -- it has prepared no frame
+  unprepared_here : s.prepared a ≡ None
+  unprepared_here = unprepared s a h.rest h.job
+
   -- no fault
   pub needs_none : IsReady s a p []
   needs_none = record { kinds = λ strand. tt; can = tt; rest = h.rest; job = h.job; birth = h.birth; told = refl }
 
   module _ (free : AreUnlocked s p) (page : ℕ) where
     can_take : (f : ℕ) → free_frame s ≡ Some f → Can s (take_frame a f)
-    can_take f found = let at = free_frame_free s f found in (may_prepare, h.rest.prepared a, at.0, at.1)
+    can_take f found = let at = free_frame_free s f found in (may_prepare, unprepared_here, at.0, at.1)
 
     -- the page gets a fresh frame
     pub filled : (f : ℕ) → free_frame s ≡ Some f → IsSome (s.right p page) → s.entry p page ≡ None → IsReady s a p (take_frame a f ∷ fill a p page f ∷ [])
@@ -126,7 +130,7 @@ module _ (s : CoreState) (a p : ℕ) (h : MayFault s a p) where
         record {
           kinds = λ strand. (taking f, (filling page f, tt));
           can = (can_take f found, ((h.birth, free, h.job, named, none, put_same a (Some f) s.prepared), tt));
-          rest = record { prepared = λ b. grind (arith, nat_tests, h.rest.prepared b); owed = h.rest.owed };
+          rest = at_rest (run s (take_frame a f ∷ fill a p page f ∷ [])) a (put_same a None (put a (Some f) s.prepared)) h.rest.owed;
           job = h.job;
           birth = h.birth;
           told = refl;
@@ -138,7 +142,7 @@ module _ (s : CoreState) (a p : ℕ) (h : MayFault s a p) where
         record {
           kinds = λ strand. (taking f, (filling page f, (upgrading page f, tt)));
           can = (fills.can.0, (fills.can.1.0, ((h.birth, free, right, put2_same p page (Some (entry_of f false)) s.entry, put_same f true (put f false s.mark)), tt)));
-          rest = record { prepared = fills.rest.prepared; owed = h.rest.owed };
+          rest = at_rest (run s (take_frame a f ∷ fill a p page f ∷ upgrade a p page f ∷ [])) a (put_same a None (put a (Some f) s.prepared)) h.rest.owed;
           job = h.job;
           birth = h.birth;
           told = refl;
@@ -162,13 +166,13 @@ module _ (s : CoreState) (a p : ℕ) (h : MayFault s a p) where
         record {
           kinds = λ strand. (counting_one page e.frame e.writable, (marking_it page e.frame, (upgrading page e.frame, tt)));
           can = (
-            (h.birth, free, (h.job, h.rest.prepared a), there, unmarked, once),
+            (h.birth, free, (h.job, unprepared_here), there, unmarked, once),
             (
               put_same a (marking p page e.frame) s.job,
               ((h.birth, (free.0, put_same p None (put p (Some a) s.table)), right, there ∙ ap (λ (b : Bool). Some (entry_of e.frame b)) barred, put_same e.frame true s.mark), tt),
             ),
           );
-          rest = record { prepared = h.rest.prepared; owed = h.rest.owed };
+          rest = at_rest (run s (marks a p page e ++ upgrade a p page e.frame ∷ [])) a unprepared_here h.rest.owed;
           job = put_same a idle (put a (marking p page e.frame) s.job);
           birth = h.birth;
           told = refl;
@@ -178,8 +182,8 @@ module _ (s : CoreState) (a p : ℕ) (h : MayFault s a p) where
     marked_once e there unmarked once =
         record {
           kinds = λ strand. (counting_one page e.frame e.writable, (marking_it page e.frame, tt));
-          can = ((h.birth, free, (h.job, h.rest.prepared a), there, unmarked, once), (put_same a (marking p page e.frame) s.job, tt));
-          rest = record { prepared = h.rest.prepared; owed = h.rest.owed };
+          can = ((h.birth, free, (h.job, unprepared_here), there, unmarked, once), (put_same a (marking p page e.frame) s.job, tt));
+          rest = at_rest (run s (marks a p page e)) a unprepared_here h.rest.owed;
           job = put_same a idle (put a (marking p page e.frame) s.job);
           birth = h.birth;
           told = refl;
@@ -193,14 +197,12 @@ module _ (s : CoreState) (a p : ℕ) (h : MayFault s a p) where
           can = (
             can_take new found,
             (
-              (h.birth, free, h.job, put_same a (Some new) s.prepared, h.rest.owed a, there, grind (arith, nat_tests), right, no_mirror page),
+              (h.birth, free, h.job, put_same a (Some new) s.prepared, h.rest.owed, there, grind (arith, nat_tests), right, no_mirror page),
               (put_same a (Some e.frame) s.owed, tt),
             ),
           );
-          rest = record {
-            prepared = λ b. grind (arith, nat_tests, h.rest.prepared b);
-            owed = λ b. grind (arith, nat_tests, h.rest.owed b);
-          };
+          rest = at_rest (run s (take_frame a new ∷ break_entry a p page e.frame new e.writable write ∷ put_entry a e.frame ∷ [])) a
+              (put_same a None (put a (Some new) s.prepared)) (put_same a None (put a (Some e.frame) s.owed));
           job = h.job;
           birth = h.birth;
           told = refl;

@@ -84,7 +84,7 @@ denied_by handle false index slot n true true true answer is = absurd (cc is)
 denied_by handle false index slot n true true false answer is =
     subst (λ (x : Answer). IsTrue (refuses (Transfer handle false index slot n) x)) (some_same is) refl
 
-module _ (s : CoreState) (who : Doer) (place : Place) (h : IsQuiet s) (still : Rests s who.actor) where
+module _ (s : CoreState) (who : Doer) (place : Place) (h : IsQuiet s who.actor) (still : Rests s who.actor) where
   abbrev a : ℕ
   a = who.actor
 
@@ -99,7 +99,7 @@ module _ (s : CoreState) (who : Doer) (place : Place) (h : IsQuiet s) (still : R
       }
 
   -- a turn of one event of the handle, in which the actor goes on to be in the middle of nothing
-  one_event : (op : Op) (handle : ℕ) (e : CoreEvent) (whats : List What) → strand_of (Some op) ≡ of_handle handle → IsHandleEvent a handle e → Can s e → AtRest (happens s e) → all_told (e ∷ []) ≡ events_of whats → (happens s e).job a ≡ idle → TurnOf (plain_of s) who place op unbegun whats unbegun → FitsNext (happens s e) who (Some op) place whats → MakesPin s (happens s e) a op → IsTurned s who place op (record { events = e ∷ []; whats = whats })
+  one_event : (op : Op) (handle : ℕ) (e : CoreEvent) (whats : List What) → strand_of (Some op) ≡ of_handle handle → IsHandleEvent a handle e → Can s e → AtRest (happens s e) a → all_told (e ∷ []) ≡ events_of whats → (happens s e).job a ≡ idle → TurnOf (plain_of s) who place op unbegun whats unbegun → FitsNext (happens s e) who (Some op) place whats → MakesPin s (happens s e) a op → IsTurned s who place op (record { events = e ∷ []; whats = whats })
   one_event op handle e whats own kind can rest told behind shape next pin =
       record {
         done = record { kinds = (handling handle own kind, tt); can = (can, tt); rest = rest; told = told };
@@ -256,17 +256,17 @@ module _ (s : CoreState) (who : Doer) (place : Place) (h : IsQuiet s) (still : R
         answered (Transfer handle outward index slot n) answer (first, fits.1.0 first)
         (denied_by handle outward index slot n (is_held_by (s.handle handle) a) (may_write (s.handle handle)) has_all answer is) (rw is refl) tt (refl, refl)
 
-pub unpin_turned : (s : CoreState) (who : Doer) (place : Place) → IsQuiet s → (handle : ℕ) → FitsOp s who (Unpin handle) place → IsTurned s who place (Unpin handle) (unpin_turn s who.actor handle)
+pub unpin_turned : (s : CoreState) (who : Doer) (place : Place) → IsQuiet s who.actor → (handle : ℕ) → FitsOp s who (Unpin handle) place → IsTurned s who place (Unpin handle) (unpin_turn s who.actor handle)
 unpin_turned s who place h handle fits = unpin_by s who place h fits.0 handle (is_held_by (s.handle handle) who.actor) refl fits
 
-pub give_turned : (s : CoreState) (who : Doer) (place : Place) → IsQuiet s → (handle to : ℕ) → FitsOp s who (Give handle to) place → IsTurned s who place (Give handle to) (give_turn s who.actor handle to)
+pub give_turned : (s : CoreState) (who : Doer) (place : Place) → IsQuiet s who.actor → (handle to : ℕ) → FitsOp s who (Give handle to) place → IsTurned s who place (Give handle to) (give_turn s who.actor handle to)
 give_turned s who place h handle to fits = give_by s who place h fits.0 handle to (is_held_by (s.handle handle) who.actor) refl fits.1
 
 -- a take that doesn't wait
-pub take_turned : (s : CoreState) (who : Doer) (place : Place) → IsQuiet s → (handle : ℕ) → FitsOp s who (Take handle) place → handle_waits s.handle who.actor (Some (Take handle)) ≡ None → IsTurned s who place (Take handle) (take_turn who.actor handle)
+pub take_turned : (s : CoreState) (who : Doer) (place : Place) → IsQuiet s who.actor → (handle : ℕ) → FitsOp s who (Take handle) place → handle_waits s.handle who.actor (Some (Take handle)) ≡ None → IsTurned s who place (Take handle) (take_turn who.actor handle)
 take_turned s who place h handle fits free =
     take_by s who place h fits.0 handle (is_given_to (s.handle handle) who.actor) refl free fits.1
 
-pub transfer_turned : (s : CoreState) (who : Doer) (place : Place) → IsQuiet s → (handle : ℕ) (outward : Bool) (index slot n : ℕ) → who.slots ≤ most_slots → FitsOp s who (Transfer handle outward index slot n) place → IsTurned s who place (Transfer handle outward index slot n) (transfer_turn s who.actor who.slots handle outward index slot n place.far)
+pub transfer_turned : (s : CoreState) (who : Doer) (place : Place) → IsQuiet s who.actor → (handle : ℕ) (outward : Bool) (index slot n : ℕ) → who.slots ≤ most_slots → FitsOp s who (Transfer handle outward index slot n) place → IsTurned s who place (Transfer handle outward index slot n) (transfer_turn s who.actor who.slots handle outward index slot n place.far)
 transfer_turned s who place h handle outward index slot n few fits =
     transfer_by s who place h fits.0 handle index slot n few outward (transfer_denial (s.handle handle) who.actor outward who.slots slot ((index, n) ∷ [])) refl fits

@@ -33,7 +33,7 @@ use Rattle.gup_turns.proofs.Faults.{IsReady, MayFault, may_fault, RefusesPage, m
 use Rattle.gup_turns.proofs.PagesLeave.{pages_leave}
 use Rattle.gup_turns.proofs.Puts.{put_same, put2_same, some_same, none_of}
 use Rattle.gup_turns.proofs.Searches.{lowest_some, lowest_none, none_below, undenied_map, denied_map, undenied_protect, denied_protect}
-use Rattle.gup_turns.proofs.Shapes.{AtFirst, FitsOp, TurnOf, refused, mapped, protected, loaded, stored, took, took_last, passed, passed_last, took_lowest, took_all, GoesOver, unmaps, discards, AtRest, IsDone, Rests, child_of, strand_of}
+use Rattle.gup_turns.proofs.Shapes.{AtFirst, FitsOp, TurnOf, refused, mapped, protected, loaded, stored, took, took_last, passed, passed_last, took_lowest, took_all, GoesOver, unmaps, discards, AtRest, unprepared, at_rest, IsDone, Rests, child_of, strand_of}
 use Rattle.gup_turns.proofs.Through.{events_of}
 use Rattle.gup_turns.proofs.Turned.{IsOpen, FitsNext, MakesPin, IsTurned, shape_idle, both_free, kinds_behind, run_behind, can_behind, told_behind}
 
@@ -103,7 +103,7 @@ module _ (s : CoreState) (who : Doer) (place : Place) (h : IsOpen s who.actor wh
       (record {
         kinds = kinds_behind a p p of_pages before last (ready.kinds of_pages) (loading page word f (t.word f word), tt);
         can = can_behind s before last ready.can ((ready.birth, (allows_store (t.entry p page), entry_there (t.entry p page) there), within, refl), tt);
-        rest = subst AtRest (sym same) ready.rest;
+        rest = subst (λ (u : CoreState). AtRest u a) (sym same) ready.rest;
         told = told_behind before last ready.told;
       })
       (refl, refl, tt) (ap (λ (u : CoreState). u.job a) same ∙ ready.job)
@@ -136,7 +136,7 @@ module _ (s : CoreState) (who : Doer) (place : Place) (h : IsOpen s who.actor wh
       (record {
         kinds = kinds_behind a p p of_pages before last (ready.kinds of_pages) (storing page word f value, tt);
         can = can_behind s before last ready.can ((ready.birth, writable_there (t.entry p page) may, within), tt);
-        rest = subst AtRest (sym same) (record { prepared = ready.rest.prepared; owed = ready.rest.owed });
+        rest = subst (λ (u : CoreState). AtRest u a) (sym same) (record { prepared = ready.rest.prepared; owed = ready.rest.owed });
         told = told_behind before last ready.told;
       })
       (refl, refl, tt) (ap (λ (u : CoreState). u.job a) same ∙ ready.job)
@@ -276,21 +276,15 @@ module _ (s : CoreState) (who : Doer) (place : Place) (h : IsOpen s who.actor wh
     -- unmap, discard and exit
 
     -- the reference of the entry that an event took out is given back
-    given_back : (t : CoreState) (entry : Option Entry) → t.prepared ≡ s.prepared → t.owed ≡ put a (option_map (λ (e : Entry). e.frame) entry) s.owed → AllCan t (gives_back a entry) × AtRest (run t (gives_back a entry)) × ((run t (gives_back a entry)).job ≡ t.job)
+    given_back : (t : CoreState) (entry : Option Entry) → t.prepared ≡ s.prepared → t.owed ≡ put a (option_map (λ (e : Entry). e.frame) entry) s.owed → AllCan t (gives_back a entry) × AtRest (run t (gives_back a entry)) a × ((run t (gives_back a entry)).job ≡ t.job)
     given_back t None prepared owed = (
       tt,
-      record {
-        prepared = λ b. ap (λ (f : ℕ → Option ℕ). f b) prepared ∙ h.rest.prepared b;
-        owed = λ b. ap (λ (f : ℕ → Option ℕ). f b) owed ∙ grind (arith, nat_tests, h.rest.owed b);
-      },
+      at_rest t a (ap (λ (f : ℕ → Option ℕ). f a) prepared ∙ unprepared s a h.rest job) (ap (λ (f : ℕ → Option ℕ). f a) owed ∙ put_same a None s.owed),
       refl,
     )
     given_back t (Some e) prepared owed = (
       (ap (λ (f : ℕ → Option ℕ). f a) owed ∙ put_same a (Some e.frame) s.owed, tt),
-      record {
-        prepared = λ b. ap (λ (f : ℕ → Option ℕ). f b) prepared ∙ h.rest.prepared b;
-        owed = λ b. let was : t.owed b ≡ put a (Some e.frame) s.owed b = ap (λ (f : ℕ → Option ℕ). f b) owed in grind (arith, nat_tests, was, h.rest.owed b);
-      },
+      at_rest (run t (gives_back a (Some e))) a (ap (λ (f : ℕ → Option ℕ). f a) prepared ∙ unprepared s a h.rest job) (put_same a None t.owed),
       refl,
     )
 
@@ -314,7 +308,7 @@ module _ (s : CoreState) (who : Doer) (place : Place) (h : IsOpen s who.actor wh
         let back = given_back (happens s (drop_entry a p page entry)) entry refl refl in (
           record {
             kinds = (dropping page entry, gives_events entry);
-            can = ((h.birth, unlocked, job, named, here, h.rest.owed a, no_mirror s a p may page), back.0);
+            can = ((h.birth, unlocked, job, named, here, h.rest.owed, no_mirror s a p may page), back.0);
             rest = back.1;
             told = tells_alone (events.Unmap a p page) entry last;
           },
@@ -326,7 +320,7 @@ module _ (s : CoreState) (who : Doer) (place : Place) (h : IsOpen s who.actor wh
         let back = given_back (happens s (discard_entry a p page entry)) entry refl refl in (
           record {
             kinds = (discarding page entry, gives_events entry);
-            can = ((h.birth, unlocked, job, named, here, h.rest.owed a, no_mirror s a p may page), back.0);
+            can = ((h.birth, unlocked, job, named, here, h.rest.owed, no_mirror s a p may page), back.0);
             rest = back.1;
             told = tells_alone (events.Discard a p page) entry last;
           },

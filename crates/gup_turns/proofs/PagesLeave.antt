@@ -3,7 +3,7 @@ use Rattle.std.proofs.Common.{◌≡◌, ℕ, List, [], ◌∷◌, refl, ◌∙�
 use Rattle.gup_events.specs.State.{CoreState}
 use Rattle.gup_events.specs.Event.{CoreEvent, happens}
 use Rattle.gup_events.specs.Invariant.{run}
-use Rattle.gup_turns.proofs.Calm.{Strand, of_pages, of_pin, of_handle, IsTurnEvent, AreTurnEvents, taking, filling, counting_one, marking_it, upgrading, breaking, putting, mapping, lowering, protecting, dropping, discarding, loading, storing, raising, pinning, making, handling, beginning, counting, sharing_entry, sharing_mark, sharing_child, passing, ending, copying_word, placing, failing_at, putting_child, releasing, failing_unborn}
+use Rattle.gup_turns.proofs.Calm.{of_pages, IsTurnEvent, AreTurnEvents, taking, filling, counting_one, marking_it, upgrading, breaking, putting, mapping, lowering, protecting, dropping, discarding, loading, storing, raising, pinning, making, handling, beginning, counting, sharing_entry, sharing_mark, sharing_child, passing, ending, copying_word, placing, failing_at, putting_child, releasing, failing_unborn}
 
 -- the pins and what actors have taken are as they were
 pub record LeavesPins (s t : CoreState) : Type 0 where

@@ -28,7 +28,7 @@ use Rattle.gup_turns.proofs.Calm.{of_pages, of_pin, AreTurnEvents, raising, pinn
 use Rattle.gup_turns.proofs.Faults.{IsReady, Allows, MayFault, may_fault, RefusesPage, missing, forbidden, no_frame, LeadsTo, pin_leads}
 use Rattle.gup_turns.proofs.PagesLeave.{pages_leave}
 use Rattle.gup_turns.proofs.Puts.{put_same}
-use Rattle.gup_turns.proofs.Shapes.{FitsOp, TurnOf, refused, pinned_page, pinned_all, pinned_short, AtRest, Rests}
+use Rattle.gup_turns.proofs.Shapes.{FitsOp, TurnOf, refused, pinned_page, pinned_all, pinned_short, AtRest, unprepared, Rests}
 use Rattle.gup_turns.proofs.Turned.{IsOpen, MakesPin, IsTurned, shape_idle, both_free, kinds_behind, run_behind, can_behind, told_behind}
 
 -- lists by index
@@ -49,7 +49,7 @@ longer_some (y ∷ ys) x is = absurd (cc)
 
 -- the pages that a pin has taken
 
-none_taken : (taken : List Taken) → length taken ≡ 0 → taken ≡ []
+pub none_taken : (taken : List Taken) → length taken ≡ 0 → taken ≡ []
 none_taken [] none = refl
 none_taken (t ∷ taken) some = absurd (omega (arith, some))
 
@@ -111,7 +111,7 @@ ends_with no_frame = (tt, refl)
 record IsPinReady (s : CoreState) (a p handle page : ℕ) (write : Bool) (es : List CoreEvent) : Type 0 where
   kinds : AreTurnEvents a p p (of_pin handle) es
   can : AllCan s es
-  rest : AtRest (run s es)
+  rest : AtRest (run s es) a
   job : (run s es).job a ≡ idle
   birth : (run s es).birth p ≡ born
   told : all_told es ≡ []
@@ -159,7 +159,7 @@ module _ (s : CoreState) (who : Doer) (place : Place) (h : IsOpen s who.actor wh
     can_pin = (
       ready.birth,
       ready.allows.free,
-      (ready.job, ready.rest.prepared a),
+      (ready.job, unprepared t a ready.rest ready.job),
       ready.flag,
       ready.allows.there,
       (ready.allows.marked, ready.allows.may, λ is. absurd (cc is)),
@@ -187,7 +187,7 @@ module _ (s : CoreState) (who : Doer) (place : Place) (h : IsOpen s who.actor wh
           done = record {
             kinds = kinds_behind a p p (of_pin handle) es (pinning_it ∷ []) ready.kinds (pinning handle refl here entry write, tt);
             can = can_behind s es (pinning_it ∷ []) ready.can (can_pin, tt);
-            rest = subst AtRest (sym same) (record { prepared = ready.rest.prepared; owed = ready.rest.owed });
+            rest = subst (λ (x : CoreState). AtRest x a) (sym same) (record { prepared = ready.rest.prepared; owed = ready.rest.owed });
             told = told_behind es (pinning_it ∷ []) ready.told;
           };
           shape = shape_idle s (run s (es ++ pinning_it ∷ [])) who place (Pin handle page n write) (Event (events.PinTry a p here write) ∷ []) job (ap (λ (x : CoreState). x.job a) same ∙ ready.job) (pinned_page handle page n write more undenied);
@@ -216,7 +216,7 @@ module _ (s : CoreState) (who : Doer) (place : Place) (h : IsOpen s who.actor wh
           done = record {
             kinds = kinds_behind a p p (of_pin handle) es making_it ready.kinds (pinning handle refl here entry write, (making handle refl, tt));
             can = can_behind s es making_it ready.can (can_pin, ((ready.job, handle_unmade, λ none. longer_some (t.taken a) new (sym now_taken ∙ none)), tt));
-            rest = subst AtRest (sym same) (record { prepared = ready.rest.prepared; owed = ready.rest.owed });
+            rest = subst (λ (x : CoreState). AtRest x a) (sym same) (record { prepared = ready.rest.prepared; owed = ready.rest.owed });
             told = told_behind es making_it ready.told;
           };
           shape = shape_idle s (run s (es ++ making_it)) who place (Pin handle page n write) (Event (events.PinTry a p here write) ∷ Event (events.PinOk a handle) ∷ Done (answers.Pinned n) ∷ []) job (ap (λ (x : CoreState). x.job a) same ∙ ready.job) (pinned_all handle page n write last undenied);
