@@ -64,13 +64,13 @@ underway_end script m notes r stop u = subst (λ (ns : List NoteValue). IsCoreRu
 pub record HasCosts (script : ScriptValue) : Type 0 where
   pub spent : (r : RunState) (a : ℕ) → IsStanding script r → can_go script r a ≡ true → cost script (run_after script r a) < cost script r
   pub kept : (r : RunState) (a : ℕ) → can_go script r a ≡ false → cost script (run_after script r a) ≡ cost script r
-  pub start : cost script (run_start script) ≤ 3074 * operations script
+  pub start : cost script (run_start script) ≤ 528386 * operations script
   pub stand : (actors : List ℕ) → IsStanding script (turned script (run_start script) actors)
 
 pub has_costs : (script : ScriptValue) → IsScript script
     → ((s : ScriptValue) (r : RunState) (a : ℕ) → IsScript s → IsStanding s r → can_go s r a ≡ true → cost s (run_after s r a) < cost s r)
     → ((s : ScriptValue) (r : RunState) (a : ℕ) → can_go s r a ≡ false → cost s (run_after s r a) ≡ cost s r)
-    → ((s : ScriptValue) → IsScript s → cost s (run_start s) ≤ 3074 * operations s)
+    → ((s : ScriptValue) → IsScript s → cost s (run_start s) ≤ 528386 * operations s)
     → ((s : ScriptValue) (actors : List ℕ) → IsScript s → IsStanding s (turned s (run_start s) actors))
     → HasCosts script
 has_costs script valid spent kept start stand =
@@ -174,7 +174,7 @@ pointed_end script m notes pointer r none h =
     underway_end script m notes r (ap (next_by script r) written ∙ found) h.underway
 
 -- and the turns are few
-pub few_turns : (script : ScriptValue) (m : MachineValue) (notes : List NoteValue) (from : ℕ) (r : RunState) → HasCosts script → IsPointed script m notes from r → r.turns ≤ length script.turns + 3074 * operations script
+pub few_turns : (script : ScriptValue) (m : MachineValue) (notes : List NoteValue) (from : ℕ) (r : RunState) → HasCosts script → IsPointed script m notes from r → r.turns ≤ length script.turns + 528386 * operations script
 few_turns script m notes from r costs h =
     let cheap = h.cheap in
     let start = costs.start in

@@ -26,12 +26,12 @@ pub struct Run {
 /// Runs the machine to the end of the script: first the written turns, then those that the pointer gives, the first
 /// actor at or behind it, in a circle, that has operations left and doesn't wait, until there is none. The journal is
 /// that of the script's core run, and the machine shows its end. Every run ends: behind its written turns it has at
-/// most 3,074 turns for each operation of the script. The journal may want memory.
+/// most 528,386 turns for each operation of the script. The journal may want memory.
 pub fn run_all(alloc: Global, machine: Machine, script: &Script) -> Result<Run, NoMemory>
     requires { IsNew script.now machine }
     ensures core { IfOk result (λ run. (end : RunState) × IsCoreRun script.now run.journal.notes end
         × Shows run.machine end × SaysStuck run.stuck script.now end
-        × (end.turns ≤ length script.now.turns + 3074 * operations script.now)) }
+        × (end.turns ≤ length script.now.turns + 528386 * operations script.now)) }
     ensures script { IfOk result (λ run. run.machine.script ≡ script.now) }
 {
     reached_states_stand();
