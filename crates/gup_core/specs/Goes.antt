@@ -11,7 +11,7 @@ use Rattle.gup_handles.specs.Handles.{handles_of, unmade, IsGivenTo as IsKeptFor
 use Rattle.gup_events.specs.State.{CoreState, idle}
 use Rattle.gup_events.specs.Invariant.{run}
 use Rattle.gup_turns.specs.Turn.{Taken, op_turn}
-use Rattle.gup_turns.specs.Reached.{place_in, IsNoFork, StandsFork, StandsPin}
+use Rattle.gup_turns.specs.Reached.{place_in, IsNoFork, KeepsFrame, StandsFork, StandsPin}
 use Rattle.gup_ops.specs.declared.forks.ForkPlace.{ForkPlace}
 use Rattle.gup_ops.specs.Far.{HasFar, far_in}
 use Rattle.gup_ops.specs.Forked.{place_of, IsReadyAt}
@@ -24,10 +24,11 @@ use Rattle.gup_core.specs.Doers.{HasProcess}
 use Rattle.gup_core.specs.Machine.{EachSpace, ShowsParts}
 
 -- The actor of process p stands before a turn of this operation, of which so many turns are over: it is in the middle of
--- nothing but, where the operation is one, a fork; a pin has taken its first pages, a pin that is taken is given to it, and
+-- nothing but, where the operation is one, a fork, and keeps no frame but where that copies a page; a pin has taken its first pages, a pin that is taken is given to it, and
 -- one whose words it moves has all its pages.
 pub record StandsAt (s : CoreState) (a p far : ℕ) (op : Op) : Type 0 where
   pub idle_job : IsNoFork (Some op) → s.job a ≡ idle
+  pub keeps : KeepsFrame (s.job a) (s.prepared a)
   pub fork : (child : ℕ) → op ≡ Fork child → StandsFork s a p child (s.job a) (s.prepared a)
   pub pin : (handle page n : ℕ) (write : Bool) → op ≡ Pin handle page n write → StandsPin s a p handle page n write far
   pub pinned : (handle page n : ℕ) (write : Bool) → op ≡ Pin handle page n write → 0 < far → s.has_pinned p ≡ true

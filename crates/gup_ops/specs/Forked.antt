@@ -13,7 +13,7 @@ use Rattle.gup_fork.specs.Forks.{ForkChange}
 use Rattle.gup_events.specs.State.{CoreState}
 use Rattle.gup_events.specs.Invariant.{run}
 use Rattle.gup_turns.specs.Turn.{Taken, fork_turn}
-use Rattle.gup_turns.specs.Reached.{ForkPlace, unbegun, from_page, at_page, wants_frame, at_word, place_in, StandsFork}
+use Rattle.gup_turns.specs.Reached.{ForkPlace, unbegun, from_page, at_page, wants_frame, at_word, place_in, KeepsFrame, StandsFork}
 use Rattle.gup_ops.specs.declared.forks.ForkPlace.{ForkPlace as KeptPlace}
 use Rattle.gup_ops.specs.declared.forks.ForkPlace.TheVariants.{Unbegun, From, At, Wanting, Copying}
 
@@ -70,5 +70,5 @@ abbrev pub IsForkTurn : ForkChange → (a p child : ℕ) → (old new : ForkPlac
 IsForkTurn k a p child old new whats =
     (s : CoreState)
     → (p ≡ child → ⊥) → ShowsFrames k.old_frames s → ShowsSpace p k.old_parent s → ShowsSpace child k.old_child s
-    → StandsFork s a p child (s.job a) (s.prepared a) → place_in s a ≡ old
+    → KeepsFrame (s.job a) (s.prepared a) → StandsFork s a p child (s.job a) (s.prepared a) → place_in s a ≡ old
     → LeadsFork k a p child s (fork_turn s a p child (s.job a)) new whats

@@ -18,7 +18,7 @@ use Rattle.gup_events.specs.Failure.{fails}
 use Rattle.gup_events.specs.Invariant.{run}
 use Rattle.gup_events.specs.Sound.{keeps_table}
 use Rattle.gup_follows.specs.Place.{Place, Doer}
-use Rattle.gup_turns.specs.Reached.{ForkPlace, unbegun, from_page, at_page, wants_frame, at_word, fork_place, place_in, IsForking, HasCounted, HasCopied, StandsFork}
+use Rattle.gup_turns.specs.Reached.{ForkPlace, unbegun, from_page, at_page, wants_frame, at_word, fork_place, place_in, IsForking, HasCounted, HasCopied, StandsFork, KeepsFrame}
 use Rattle.gup_turns.specs.Turn.{frame_in, allows_store, first_behind, next_page, page_turn, next_turn, share_turn, frame_turn, copy_turn, copying_turn, entry_in, rights_in, free_frame, fork_turn, fork_locks, held_by_other, waits_for_lock, waits_for_locks, locks_needed, op_turn}
 use Rattle.gup_turns.proofs.Calm.{beginning, counting, sharing_entry, sharing_mark, sharing_child, passing, ending, taking, copying_word, placing}
 use Rattle.gup_turns.proofs.Faults.{entry_there, no_mirror_at}
@@ -26,7 +26,7 @@ use Rattle.gup_turns.proofs.ForkFails.{below_or_from, unborn_empty, fork_fails}
 use Rattle.gup_turns.proofs.PagesLeave.{pages_leave}
 use Rattle.gup_turns.proofs.Puts.{put_same, put2_same, none_of}
 use Rattle.gup_turns.proofs.Searches.{free_frame_free, lowest_some, lowest_none, IsLowest}
-use Rattle.gup_turns.proofs.Shapes.{AtFirst, IsBegun, FitsFork, FitsOp, TurnOf, began, passed_page, counted_page, shared_page, ended, counted_copy, took_frame, copied_word, placed_copy, failed_fork, KeepsFrame, AtRest, unprepared, at_rest}
+use Rattle.gup_turns.proofs.Shapes.{AtFirst, IsBegun, FitsFork, FitsOp, TurnOf, began, passed_page, counted_page, shared_page, ended, counted_copy, took_frame, copied_word, placed_copy, failed_fork, AtRest, unprepared, at_rest}
 use Rattle.gup_turns.proofs.Turned.{IsOpen, IsTurned, both_free, table_free}
 
 -- a fork's shape, by the places where it stands before and behind the turn

@@ -240,6 +240,7 @@ is_standing script valid r h =
       idle_jobs = λ a no_fork. idle_job s (doer script a) (present_op script a (r.places a)) (r.places a) no_fork (k.fits a);
       forks = λ a child is. (fork_stands s a (process_of script a) child (r.places a) (s.job a) (s.prepared a) (at a (Fork child) is).1).0;
       prepared = λ a f is. is_prepared s k.sound h.there a f is;
+      keeps = λ a. (k.rest a).prepared;
       untaken = λ a no_pin. untaken s (doer script a) (present_op script a (r.places a)) (r.places a) no_pin (k.fits a);
       pins = λ a handle page n write is. (at a (Pin handle page n write) is).2;
       flagged = λ a handle page n write is. pin_flagged s a (process_of script a) page (r.places a).far write k.sound (at a (Pin handle page n write) is).2.taken;

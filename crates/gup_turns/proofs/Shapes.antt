@@ -21,7 +21,7 @@ use Rattle.gup_follows.specs.Denial.{op_denial}
 use Rattle.gup_follows.specs.Place.{Place, Doer, birth_for}
 use Rattle.gup_follows.specs.Plain.{IsAnswerOf, Passes, refusal_of}
 use Rattle.gup_follows.specs.Follows.{refuses, EndsPin, moves_word}
-use Rattle.gup_turns.specs.Reached.{ForkPlace, unbegun, from_page, at_page, wants_frame, at_word, StandsFork, StandsPin}
+use Rattle.gup_turns.specs.Reached.{ForkPlace, unbegun, from_page, at_page, wants_frame, at_word, KeepsFrame, StandsFork, StandsPin}
 use Rattle.gup_turns.specs.Turn.{Taken}
 use Rattle.gup_turns.proofs.Through.{events_of}
 use Rattle.gup_turns.proofs.Calm.{Strand, of_pages, of_pin, of_handle, AreTurnEvents}
@@ -155,19 +155,6 @@ pub data TurnAt (s : PlainState) (who : Doer) (place : Place) : Option Op → Op
   goes : (op : Op) (whats : List What) (from to : ForkPlace) → birth_for s.birth who ≡ born → (IsOfProcess op → s.birth who.proc ≡ born) → TurnOf s who place op from whats to → TurnAt s who place (Some op) None from whats to
   unborn_refused : (op : Op) → birth_for s.birth who ≡ failed → AtFirst place → IsTrue (refuses op answers.Unborn) → TurnAt s who place (Some op) None unbegun (Done answers.Unborn ∷ []) unbegun
   unborn_fork : (child : ℕ) → birth_for s.birth who ≡ failed → s.birth who.proc ≡ failed → AtFirst place → TurnAt s who place (Some (Fork child)) None unbegun (Event (events.ForkFail child) ∷ Done answers.Unborn ∷ []) unbegun
-
--- an actor keeps a frame only where its fork copies a page
-abbrev pub KeepsFrame : Job → (prepared : Option ℕ) → Type 0
-KeepsFrame idle prepared = prepared ≡ None
-KeepsFrame (marking q page f) prepared = prepared ≡ None
-KeepsFrame (moving q page e count) prepared = prepared ≡ None
-KeepsFrame (walking q write long sequence step) prepared = prepared ≡ None
-KeepsFrame (forking q c done between) prepared = prepared ≡ None
-KeepsFrame (forking q c done (counted page)) prepared = prepared ≡ None
-KeepsFrame (forking q c done (lowered page)) prepared = prepared ≡ None
-KeepsFrame (forking q c done (cleared page)) prepared = prepared ≡ None
-KeepsFrame (forking q c done (copying page word)) prepared = Unit {0}
-KeepsFrame (forking q c done failing) prepared = prepared ≡ None
 
 -- between two turns an actor keeps no other frame, and owes no reference
 pub record AtRest (s : CoreState) (a : ℕ) : Type 0 where

@@ -19,7 +19,7 @@ use Rattle.gup_events.specs.Invariant.{run}
 use Rattle.gup_events.specs.Sound.{IsSound}
 use Rattle.gup_follows.specs.Order.{plain_behind}
 use Rattle.gup_follows.specs.Place.{Place, Doer, doer, place_behind, process_of, ops_of, present_op, birth_by, birth_for, is_born, starts_born}
-use Rattle.gup_turns.specs.Reached.{fork_place, place_in, IsForking, HasCounted, HasTaken, StandsPin, StandsHandle, given_back, back_in}
+use Rattle.gup_turns.specs.Reached.{fork_place, place_in, IsForking, HasCounted, HasTaken, StandsPin, StandsHandle, given_back, back_in, KeepsFrame}
 use Rattle.gup_turns.specs.Run.{RunState, run_start, run_after, op_in, waiting_in, taken_in}
 use Rattle.gup_turns.specs.Turn.{Taken}
 use Rattle.gup_turns.proofs.Calm.{starts_calm}
@@ -33,7 +33,7 @@ use Rattle.gup_turns.proofs.Places.{next_place, goes_on, is_over, IsBehindTurn, 
 use Rattle.gup_turns.proofs.Puts.{some_same, put_same}
 use Rattle.gup_turns.specs.ScriptLemmas.{child_is, child_declared, is_of_thread, thread_birth}
 use Rattle.gup_turns.proofs.Scripts.{fresh_place, fresh_fits}
-use Rattle.gup_turns.proofs.Shapes.{FitsFork, FitsAt, KeepsFrame, AtRest, Rests, HasLeft, child_of, strand_of}
+use Rattle.gup_turns.proofs.Shapes.{FitsFork, FitsAt, AtRest, Rests, HasLeft, child_of, strand_of}
 use Rattle.gup_turns.proofs.Standing.{Stands, IsAhead, IsTaken}
 use Rattle.gup_turns.proofs.Steps.{taken}
 use Rattle.gup_turns.proofs.Through.{Law, leads, plain_through, plain_behind-through, AllCanHappen, events_of}

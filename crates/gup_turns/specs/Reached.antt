@@ -89,6 +89,19 @@ StandsFork s a p child (marking q page f) prepared = ⊥
 StandsFork s a p child (moving q page e count) prepared = ⊥
 StandsFork s a p child (walking q write long sequence step) prepared = ⊥
 
+-- an actor keeps a frame only where its fork copies a page
+abbrev pub KeepsFrame : Job → (prepared : Option ℕ) → Type 0
+KeepsFrame idle prepared = prepared ≡ None
+KeepsFrame (marking q page f) prepared = prepared ≡ None
+KeepsFrame (moving q page e count) prepared = prepared ≡ None
+KeepsFrame (walking q write long sequence step) prepared = prepared ≡ None
+KeepsFrame (forking q c done between) prepared = prepared ≡ None
+KeepsFrame (forking q c done (counted page)) prepared = prepared ≡ None
+KeepsFrame (forking q c done (lowered page)) prepared = prepared ≡ None
+KeepsFrame (forking q c done (cleared page)) prepared = prepared ≡ None
+KeepsFrame (forking q c done (copying page word)) prepared = Unit {0}
+KeepsFrame (forking q c done failing) prepared = prepared ≡ None
+
 -- a frame that an actor has prepared is one of the machine, is not free, and stands in no entry
 pub record IsPrepared (s : CoreState) (f : ℕ) : Type 0 where
   pub there : f < s.movable + s.normal
@@ -176,6 +189,7 @@ pub record IsStanding (script : ScriptValue) (r : RunState) : Type 0 where
   pub few_forks : (p : ℕ) → r.core.sequence p ≤ 32
   pub idle_jobs : (a : ℕ) → IsNoFork (present_op script a (r.places a)) → r.core.job a ≡ idle
   pub forks : (a child : ℕ) → present_op script a (r.places a) ≡ Some (Fork child) → StandsFork r.core a (process_of script a) child (r.core.job a) (r.core.prepared a)
+  pub keeps : (a : ℕ) → KeepsFrame (r.core.job a) (r.core.prepared a)
   pub prepared : (a f : ℕ) → r.core.prepared a ≡ Some f → IsPrepared r.core f
   pub untaken : (a : ℕ) → IsNoPin (present_op script a (r.places a)) → r.core.taken a ≡ []
   pub pins : (a handle page n : ℕ) (write : Bool) → present_op script a (r.places a) ≡ Some (Pin handle page n write) → StandsPin r.core a (process_of script a) handle page n write (r.places a).far
