@@ -4,5 +4,6 @@ pub mod Loading
 pub mod Unmapping
 pub mod Mapping
 pub mod Forking
+pub mod Copying
 pub mod Readying
 pub mod Pinning

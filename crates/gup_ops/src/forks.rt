@@ -1,19 +1,21 @@
 //! Forks: their beginning, and then page by page.
-ghost use Rattle.std.specs.Prelude.{◌≡◌, ℕ, ◌-◌, ◌<◌, ◌^◌, false, is_some, Some, None, IsSome};
+ghost use Rattle.std.specs.Prelude.{◌≡◌, ℕ, ◌-◌, ◌<◌, ◌≤◌, ◌^◌, is_some, Some, None, IsSome};
+ghost use Rattle.gup_base.specs.declared.entry.Allowed.TheVariants.{Any};
 ghost use Rattle.gup_base.specs.declared.entry.Rights.{Rights as RightsValue};
-ghost use Rattle.gup_plain.specs.Event.{page_numbers};
+ghost use Rattle.gup_plain.specs.Event.{page_numbers, words};
 ghost use Rattle.gup_plain.specs.Put.{lowest};
-ghost use Rattle.gup_frames.specs.Frames.{FrameLists, frames_of};
-ghost use Rattle.gup_space.specs.Space.{SpaceParts, space_of};
+ghost use Rattle.gup_frames.specs.Frames.{FrameLists, frames_of, free_frame};
+ghost use Rattle.gup_space.specs.Space.{SpaceParts, space_of, AreMapped};
+ghost use Rattle.gup_space.specs.Counted.{AreCounted};
 ghost use Rattle.gup_fork.specs.Forks.{fork_change_of};
-ghost use Rattle.gup_turns.specs.Reached.{unbegun, from_page, at_page};
+ghost use Rattle.gup_turns.specs.Reached.{unbegun, from_page, at_page, wants_frame, at_word};
 ghost use Rattle.gup_ops.specs.Tidy.{IsTidy};
 ghost use Rattle.gup_ops.specs.Said.{whats_of};
-ghost use Rattle.gup_ops.specs.Forked.{place_of, IsReadyAt, IsForkTurn};
+ghost use Rattle.gup_ops.specs.Forked.{place_of, IsCountedIn, IsCopyOf, IsReadyAt, IsForkTurn};
 
-use crate::said::{Said, done};
-use gup_base::{ActorNo, PageNo, ProcNo};
-use gup_fork::{begin, copies, end, share};
+use crate::said::{Said, done, happened, silent};
+use gup_base::{ActorNo, Allowed, FrameNo, PageNo, ProcNo, WordNo};
+use gup_fork::{begin, copies, copy_word, end, fail, place_child, share};
 use gup_frames::Frames;
 use gup_plain::{Answer, PlainEvent};
 use gup_space::Space;
@@ -27,13 +29,29 @@ pub enum ForkPlace {
     From(u64),
     /// It has counted this page, and is about to share it.
     At(PageNo),
+    /// It has counted this page, and is about to take a frame for a copy of it.
+    Wanting(PageNo),
+    /// It has copied so many words of this page, of 512, into that frame.
+    Copying {
+        page: PageNo,
+        word: u16,
+        to: FrameNo,
+    },
 }
 
 /// Takes a turn of a fork of process `proc` into `child_no`, and answers what it says and where the fork stands then.
 ///
 /// The first turn gives the child its parent's mappings, and takes the parent's structure lock. Then come the child's
-/// pages, from the lowest on: one without an entry of the parent is passed, and any other is counted in one turn, which
-/// takes the table lock, and shared in the next. Where no page is left the fork ends.
+/// pages, from the lowest on: one without an entry of the parent is passed, and any other is counted in one turn,
+/// which takes the table lock. Most pages are shared in the next turn. One that may be pinned is copied instead, so
+/// that the parent keeps the frame that it pinned (Linux's `copy_present_page` in mm/memory.c): a turn takes the
+/// lowest free frame, each of 512 turns copies a word, and one more gives the copy to the child. That others have
+/// turns between the words, and that the table lock is kept while a frame is taken, is this project's own: Linux lets
+/// it go to allocate one. Where no page is left the fork ends.
+///
+/// Where no frame is free for a copy the fork fails in that turn, with the answer `NoFrame`: the child loses its
+/// mappings and its entries, and the parent's locks are free again (of Linux's `dup_mmap`, which fails with `ENOMEM`
+/// then).
 pub fn fork(
     parent: &mut Space,
     child: &mut Space,
@@ -45,10 +63,9 @@ pub fn fork(
 ) -> (Said, ForkPlace)
     requires parent { IsTidy (frames_of frames.old) (space_of parent.old) }
     requires child { IsTidy (frames_of frames.old) (space_of child.old) }
-    requires unpinned { (space_of parent.old).has_pinned ≡ false }
     requires sequence { (space_of parent.old).sequence < 2 ^ 40 }
     requires few { (f : ℕ) → (frames_of frames.old).count f < 2 ^ 40 }
-    requires place { IsReadyAt (place_of place) (space_of parent.old) (space_of child.old) }
+    requires place { IsReadyAt (frames_of frames.old) (place_of place) (space_of parent.old) (space_of child.old) }
     ensures { IsForkTurn (fork_change_of frames.old frames.new parent.old parent.new child.old child.new)
         actor proc child_no (place_of place) (place_of result.1) (whats_of result.0) }
 {
@@ -56,6 +73,10 @@ pub fn fork(
         ForkPlace::Unbegun => first_turn(parent, child, actor, proc, child_no),
         ForkPlace::From(from) => next_turn(parent, child, frames, actor, proc, child_no, from),
         ForkPlace::At(page) => share_turn(parent, child, frames, proc, child_no, page),
+        ForkPlace::Wanting(page) => frame_turn(parent, child, frames, proc, child_no, page),
+        ForkPlace::Copying { page, word, to } => {
+            copy_turn(parent, child, frames, proc, child_no, page, word, to)
+        }
     }
 }
 
@@ -93,7 +114,6 @@ fn next_turn(
 ) -> (Said, ForkPlace)
     requires parent { IsTidy (frames_of frames.now) (space_of parent.old) }
     requires child { IsTidy (frames_of frames.now) (space_of child.now) }
-    requires unpinned { (space_of parent.old).has_pinned ≡ false }
     requires sequence { (space_of parent.old).sequence < 2 ^ 40 }
     ensures { IsForkTurn (fork_change_of frames.now frames.now parent.old parent.new child.now child.now)
         actor proc child_no (from_page from) (place_of result.1) (whats_of result.0) }
@@ -110,7 +130,7 @@ fn next_turn(
     count_turn(parent, frames, actor, page)
 }
 
-// The page's count is read, and the table lock taken. No process has pinned, so the page is to be shared.
+// The page's count is read, and the table lock taken: the page is to be copied, or to be shared.
 fn count_turn(
     parent: &mut Space,
     frames: &Frames,
@@ -118,7 +138,6 @@ fn count_turn(
     page: PageNo,
 ) -> (Said, ForkPlace)
     requires parent { IsTidy (frames_of frames.now) (space_of parent.old) }
-    requires unpinned { (space_of parent.old).has_pinned ≡ false }
     requires entry { IsSome ((space_of parent.old).entry page) }
     ensures { (p c from : ℕ) (child : SpaceParts)
         → lowest from (page_numbers - from) (λ g. is_some ((space_of child).right g)) ≡ Some page
@@ -126,9 +145,12 @@ fn count_turn(
         (from_page from) (place_of result.1) (whats_of result.0) }
 {
     let copied = copies(parent, frames, page);
-    prove!(!copied);
     parent.set_table(Some(actor));
-    (silent(), ForkPlace::At(page))
+    if copied {
+        (silent(), ForkPlace::Wanting(page))
+    } else {
+        (silent(), ForkPlace::At(page))
+    }
 }
 
 /// The child's lowest mapped page at or above this number, the next one of a fork that stands there.
@@ -171,7 +193,7 @@ fn share_turn(
     requires parent { IsTidy (frames_of frames.old) (space_of parent.old) }
     requires child { IsTidy (frames_of frames.old) (space_of child.old) }
     requires few { (f : ℕ) → (frames_of frames.old).count f < 2 ^ 40 }
-    requires ready { IsReadyAt (at_page page) (space_of parent.old) (space_of child.old) }
+    requires ready { IsCountedIn page (space_of parent.old) (space_of child.old) }
     ensures { (a : ℕ) → IsForkTurn (fork_change_of frames.old frames.new parent.old parent.new child.old child.new)
         a proc child_no (at_page page) (place_of result.1) (whats_of result.0) }
 {
@@ -184,6 +206,101 @@ fn share_turn(
     )
 }
 
+// A page that is to be copied gets a frame; where none is free the fork fails.
+fn frame_turn(
+    parent: &mut Space,
+    child: &mut Space,
+    frames: &mut Frames,
+    proc: ProcNo,
+    child_no: ProcNo,
+    page: PageNo,
+) -> (Said, ForkPlace)
+    requires child { IsTidy (frames_of frames.old) (space_of child.old) }
+    requires sequence { (space_of parent.old).sequence < 2 ^ 40 }
+    ensures { (a : ℕ) → IsForkTurn (fork_change_of frames.old frames.new parent.old parent.new child.old child.new)
+        a proc child_no (wants_frame page) (place_of result.1) (whats_of result.0) }
+{
+    let Some(to) = frames.take(Allowed::Any) else {
+        return fail_turn(parent, child, frames, proc, child_no);
+    };
+    (silent(), ForkPlace::Copying { page, word: 0, to })
+}
+
+// The failure, which frees both locks of the parent.
+fn fail_turn(
+    parent: &mut Space,
+    child: &mut Space,
+    frames: &mut Frames,
+    proc: ProcNo,
+    child_no: ProcNo,
+) -> (Said, ForkPlace)
+    requires child { AreCounted (frames_of frames.old) (space_of child.old) }
+    requires mapped { AreMapped (space_of child.old) }
+    requires sequence { (space_of parent.old).sequence < 2 ^ 40 }
+    ensures { (a page : ℕ) → free_frame (frames_of frames.old) Any ≡ None
+        → IsForkTurn (fork_change_of frames.old frames.new parent.old parent.new child.old child.new)
+        a proc child_no (wants_frame page) (place_of result.1) (whats_of result.0) }
+{
+    fail(parent, child, frames);
+    parent.set_table(None);
+    parent.set_structure(None);
+    let event = PlainEvent::ForkFail { child: child_no };
+    (done(event, Answer::NoFrame), ForkPlace::Unbegun)
+}
+
+// The next word of the page is copied, or, where all are, the child gets the copy.
+fn copy_turn(
+    parent: &mut Space,
+    child: &mut Space,
+    frames: &mut Frames,
+    proc: ProcNo,
+    child_no: ProcNo,
+    page: PageNo,
+    word: u16,
+    to: FrameNo,
+) -> (Said, ForkPlace)
+    requires parent { IsTidy (frames_of frames.old) (space_of parent.old) }
+    requires child { IsTidy (frames_of frames.old) (space_of child.old) }
+    requires ready { IsReadyAt (frames_of frames.old) (at_word page word to) (space_of parent.old)
+        (space_of child.old) }
+    ensures { (a : ℕ) → IsForkTurn (fork_change_of frames.old frames.new parent.old parent.new child.old child.new)
+        a proc child_no (at_word page word to) (place_of result.1) (whats_of result.0) }
+{
+    let Some(next) = WordNo::new(u64::from(word)) else {
+        return place_turn(parent, child, frames, page, to);
+    };
+    copy_word(parent, frames, page, to, next);
+    let event = PlainEvent::ForkWord {
+        parent: proc,
+        child: child_no,
+        page,
+        word: next,
+    };
+    let word = word + 1;
+    (happened(event), ForkPlace::Copying { page, word, to })
+}
+
+// All words are copied: the child gets the copy, and the table lock is free again.
+fn place_turn(
+    parent: &mut Space,
+    child: &mut Space,
+    frames: &mut Frames,
+    page: PageNo,
+    to: FrameNo,
+) -> (Said, ForkPlace)
+    requires child { IsTidy (frames_of frames.old) (space_of child.old) }
+    requires ready { IsCountedIn page (space_of parent.old) (space_of child.old) }
+    requires copy { IsCopyOf (frames_of frames.old) page to (space_of parent.old) }
+    ensures { (a p c word : ℕ) → words ≤ word
+        → IsForkTurn (fork_change_of frames.old frames.new parent.old parent.new child.old child.new)
+        a p c (at_word page word to) (place_of result.1) (whats_of result.0) }
+{
+    child.has_room(page);
+    place_child(parent, child, frames, page, to);
+    parent.set_table(None);
+    (silent(), ForkPlace::From(page.get() + 1))
+}
+
 // The page is done: the child has what the parent has there.
 fn page_done(proc: ProcNo, child_no: ProcNo, page: PageNo) -> Said
     ensures { result ≡ record { event = Some (PlainEvent.ForkPage proc child_no page); next = None; answer = None } }
@@ -193,26 +310,4 @@ fn page_done(proc: ProcNo, child_no: ProcNo, page: PageNo) -> Said
         child: child_no,
         page,
     })
-}
-
-// An event, and no answer yet.
-fn happened(event: PlainEvent) -> Said
-    ensures { result ≡ record { event = Some event; next = None; answer = None } }
-{
-    Said {
-        event: Some(event),
-        next: None,
-        answer: None,
-    }
-}
-
-// Neither an event nor an answer.
-fn silent() -> Said
-    ensures { result ≡ record { event = None; next = None; answer = None } }
-{
-    Said {
-        event: None,
-        next: None,
-        answer: None,
-    }
 }

@@ -16,7 +16,7 @@ ghost use Rattle.gup_ops.specs.Pins.{IsPinTurn, raised, fault_to_pin, want_of};
 
 use crate::loads::answer_of;
 use crate::mappings::page_behind;
-use crate::said::{Said, done, refused};
+use crate::said::{Said, done, happened, refused};
 use arrayvec::ArrayVec;
 use gup_base::{ActorNo, Allowed, FrameNo, HandleNo, PageNo, ProcNo, Want};
 use gup_fault::{Denied, ready_write, unshare};
@@ -176,16 +176,5 @@ fn cause_of(denied: Denied) -> Cause
         Denied::Missing => Cause::Missing,
         Denied::Forbidden => Cause::Forbidden,
         Denied::NoFrame => Cause::NoFrame,
-    }
-}
-
-// An event, and no answer yet.
-fn happened(event: PlainEvent) -> Said
-    ensures { result ≡ record { event = Some event; next = None; answer = None } }
-{
-    Said {
-        event: Some(event),
-        next: None,
-        answer: None,
     }
 }

@@ -34,6 +34,28 @@ pub fn done(event: PlainEvent, answer: Answer) -> Said
     }
 }
 
+/// An event, and no answer yet.
+pub fn happened(event: PlainEvent) -> Said
+    ensures { result ≡ record { event = Some event; next = None; answer = None } }
+{
+    Said {
+        event: Some(event),
+        next: None,
+        answer: None,
+    }
+}
+
+/// Neither an event nor an answer.
+pub fn silent() -> Said
+    ensures { result ≡ record { event = None; next = None; answer = None } }
+{
+    Said {
+        event: None,
+        next: None,
+        answer: None,
+    }
+}
+
 /// Whether the turn ends its operation.
 pub fn is_last(said: &Said) -> bool
     ensures { result ≡ is_some said.now.answer }

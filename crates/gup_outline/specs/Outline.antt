@@ -1,5 +1,5 @@
 -- What the lines so far have made: the script up to here, its names, and what counts and comes once.
-use Rattle.std.specs.Prelude.{ℕ, ◌+◌, ◌*◌, ◌/◌, ◌%◌, ◌^◌, ◌==◌, ◌||◌, nat_lt, Bool, true, false, not, if◌then◌else◌, List, [], ◌∷◌, ◌++◌, length, count_by, slice_get, Option, Some, None, zero, suc}
+use Rattle.std.specs.Prelude.{ℕ, ◌+◌, ◌*◌, ◌/◌, ◌%◌, ◌^◌, ◌==◌, nat_lt, Bool, true, false, not, if◌then◌else◌, List, [], ◌∷◌, ◌++◌, length, count_by, slice_get, Option, Some, None, zero, suc}
 use Rattle.std.specs.List.{list_any}
 use Rattle.gup_names.specs.Names.{Entry, declared}
 use Rattle.gup_names.specs.declared.names.Named.TheVariants as named
@@ -18,8 +18,6 @@ pub record Outline : Type 0 where
   pub operations : ℕ
   -- is there a `seed` line?
   pub seeded : Bool
-  -- is there a `fork` line?
-  pub forked : Bool
 
 -- the three numbers of a `frames` line
 abbrev pub frame_counts : ℕ × ℕ × ℕ → FrameCounts
@@ -32,7 +30,6 @@ empty_outline counts =
       names = [];
       operations = 0;
       seeded = false;
-      forked = false;
     }
 
 -- one more process, actor, handle or operation; more written turns; the seed
@@ -59,21 +56,6 @@ with_handle name st =
       names = declared st.names name (named.Pin (length st.script.handles));
     }
 
-abbrev pub is_fork : Op → Bool
-is_fork (Fork child) = true
-is_fork (Map page n rights) = false
-is_fork (Unmap page n) = false
-is_fork (Protect page n rights) = false
-is_fork (Discard page n) = false
-is_fork (Load page word) = false
-is_fork (Store page word value) = false
-is_fork (Pin handle page n write) = false
-is_fork (Unpin handle) = false
-is_fork (Give handle to) = false
-is_fork (Take handle) = false
-is_fork (Transfer handle outward index slot n) = false
-is_fork Exit = false
-
 abbrev pub with_op : ℕ → Op → List Actor → List Actor
 with_op k op [] = []
 with_op zero op (a ∷ actors) = record a { ops = a.ops ++ op ∷ [] } ∷ actors
@@ -84,7 +66,6 @@ with_operation a op st =
     record st {
       script = record st.script { actors = with_op a op st.script.actors };
       operations = st.operations + 1;
-      forked = st.forked || is_fork op;
     }
 
 abbrev pub with_turns : List ℕ → Outline → Outline
@@ -146,9 +127,6 @@ is_forked st p = list_any (λ (a : Actor). list_any (forks_child p) a.ops) st.sc
 -- the number of the next handle, if there may be one more
 abbrev pub next_handle : Outline → Option ℕ
 next_handle st = if nat_lt (length st.script.handles) most_handles then Some (length st.script.handles) else None
-
-abbrev pub has_handles : Outline → Bool
-has_handles st = nat_lt 0 (length st.script.handles)
 
 -- an actor to which a handle can be given: a thread or a device
 abbrev pub is_receiver_at : Option Actor → Bool

@@ -11,7 +11,6 @@ outline_value r =
       names = r.names;
       operations = r.operations;
       seeded = r.seeded;
-      forked = r.forked;
     }
 
 abbrev pub IsWithinLimits : Inside → Type 0

@@ -3,7 +3,7 @@ ghost use Rattle.std.specs.Prelude.{◌≡◌, ◌↔◌, ◌<◌, ◌≤◌, �
 ghost use Rattle.std.specs.List.{list_any};
 ghost use Rattle.gup_names.specs.Names.{find, is_unused};
 ghost use Rattle.gup_script.specs.Script.{actor_at, process_at};
-ghost use Rattle.gup_outline.specs.Outline.{frame_counts, empty_outline, with_process, with_actor, with_handle, with_operation, with_turns, with_seed, draws, is_thread, is_device, is_mover, how_many, has_mover, is_child, is_fork, forks_child, is_forked, next_handle, has_handles, is_receiver};
+ghost use Rattle.gup_outline.specs.Outline.{frame_counts, empty_outline, with_process, with_actor, with_handle, with_operation, with_turns, with_seed, draws, is_thread, is_device, is_mover, how_many, has_mover, is_child, forks_child, is_forked, next_handle, is_receiver};
 ghost use Rattle.gup_outline.specs.Room.{HasRoomFor};
 ghost use Rattle.gup_outline.specs.Named.{process_of, actor_of, pin_of, is_got_name, is_mirror_of, may_mirror};
 
@@ -25,7 +25,6 @@ pub struct Reader {
     names: Names,
     operations: u32,
     seeded: bool,
-    forked: bool,
 }
 
 impl Model for Reader {
@@ -50,12 +49,6 @@ fn forks(ops: &[Op], p: ProcNo) -> bool
         .any(|op| matches!(op, Op::Fork { child } if *child == p))
 }
 
-fn is_fork(op: &Op) -> bool
-    ensures { result ≡ is_fork op.now }
-{
-    matches!(op, Op::Fork { .. })
-}
-
 impl Reader {
     ghost use Rattle.gup_script.specs.Views.{script_value};
 
@@ -78,7 +71,6 @@ impl Reader {
             names: Names::new(alloc),
             operations: 0,
             seeded: false,
-            forked: false,
         }
     }
 
@@ -91,7 +83,6 @@ impl Reader {
             names: _,
             operations: _,
             seeded: _,
-            forked: _,
         } = self;
         contents
     }
@@ -200,25 +191,11 @@ impl Reader {
             .any(|actor| forks(actor.ops.as_slice(), p))
     }
 
-    /// Whether there is a `fork` line.
-    pub fn has_forks(&self) -> bool
-        ensures { result ≡ self.now.forked }
-    {
-        self.forked
-    }
-
     /// The number of the next handle; `None` where there may be no more.
     pub fn next_handle(&self) -> Option<HandleNo>
         ensures { result ≡ next_handle self.now }
     {
         HandleNo::new(self.contents.handles.len() as u64)
-    }
-
-    /// Whether there is a handle.
-    pub fn has_handles(&self) -> bool
-        ensures { result ≡ has_handles self.now }
-    {
-        !self.contents.handles.is_empty()
     }
 
     /// Whether a handle can be given to the actor: a thread or a device.
@@ -343,11 +320,9 @@ impl Reader {
         requires room { self.old.operations < 16384 }
         ensures { OnOk result (self.new ≡ with_operation actor op self.old) }
     {
-        let forks = is_fork(&op);
         let actor = &mut self.contents.actors[actor.get() as usize];
         actor.ops.push(op)?;
         self.operations += 1;
-        self.forked |= forks;
         Ok(())
     }
 

@@ -107,7 +107,7 @@ abbrev Done : Outline → (actor : ℕ) → Action → Result Outline Reason →
 Done st a action result = (op : Op) × Means st action op × (result ≡ Ok (with_operation a op (with_declared action st)))
 
 abbrev Limited : Outline → (actor : ℕ) → Action → Result Outline Reason → Type 0
-Limited st a action = Tried reasons.Limit (ActionLimits st action) (Tried reasons.Later (IsBuilt st action) (Done st a action))
+Limited st a action = Tried reasons.Limit (ActionLimits st action) (Tried reasons.Later (IsBuilt action) (Done st a action))
 
 abbrev pub Acts : Outline → (actor : ℕ) → Action → Result Outline Reason → Type 0
 Acts st a action =
@@ -121,12 +121,12 @@ abbrev pub placed : Outline → (actor : ℕ) → (fields : List Word) → Optio
 placed st a fields op =
     check reasons.Limit (nat_lt st.operations most_operations) >>= λ _. need reasons.Later op >>= λ o. Ok (with_operation a o (with_pinned o fields st))
 
-ended : (st : Outline) (a : ℕ) (action : Action) (word : Word) (fields : List Word) (result : Result (Option Op) Reason) → word ∷ fields ≡ action_words action → Ends st action result → Tried reasons.Limit (st.operations < most_operations) (Tried reasons.Later (IsBuilt st action) (Done st a action)) (result >>= placed st a fields)
+ended : (st : Outline) (a : ℕ) (action : Action) (word : Word) (fields : List Word) (result : Result (Option Op) Reason) → word ∷ fields ≡ action_words action → Ends st action result → Tried reasons.Limit (st.operations < most_operations) (Tried reasons.Later (IsBuilt action) (Done st a action)) (result >>= placed st a fields)
 ended st a action word fields result same (built op given now means) =
-    subst (λ (r : Result (Option Op) Reason). Tried reasons.Limit (st.operations < most_operations) (Tried reasons.Later (IsBuilt st action) (Done st a action)) (r >>= placed st a fields)) (sym given)
+    subst (λ (r : Result (Option Op) Reason). Tried reasons.Limit (st.operations < most_operations) (Tried reasons.Later (IsBuilt action) (Done st a action)) (r >>= placed st a fields)) (sym given)
     (checked _ (Decides-ltb st.operations most_operations) (λ l. goes now (op, means, ap (λ (next : Outline). Ok (with_operation a op next)) (pinned_declared st action op word fields means same))))
 ended st a action word fields result same (later given unbuilt) =
-    subst (λ (r : Result (Option Op) Reason). Tried reasons.Limit (st.operations < most_operations) (Tried reasons.Later (IsBuilt st action) (Done st a action)) (r >>= placed st a fields)) (sym given)
+    subst (λ (r : Result (Option Op) Reason). Tried reasons.Limit (st.operations < most_operations) (Tried reasons.Later (IsBuilt action) (Done st a action)) (r >>= placed st a fields)) (sym given)
     (checked _ (Decides-ltb st.operations most_operations) (λ l. stops refl unbuilt))
 
 pub acts : (st : Outline) (a : ℕ) (action : Action) (word : Word) (fields : List Word) (result : Result (Option Op) Reason) → word ∷ fields ≡ action_words action → Judged st a action result → Acts st a action (result >>= placed st a fields)
@@ -164,7 +164,7 @@ pub acts_err : (st : Outline) (a : ℕ) (action : Action) (result : Result Outli
 acts_err st a action result q t e =
     tried_err t e (λ numbers. tried_err numbers e (λ names. tried_err names e (λ once.
     tried_err once e (λ limits. tried_err limits e (λ all. late all))))) where
-      late : Tried reasons.Later (IsBuilt st action) (Done st a action) result → (q ≡ reasons.Later) × (IsBuilt st action → ⊥)
+      late : Tried reasons.Later (IsBuilt action) (Done st a action) result → (q ≡ reasons.Later) × (IsBuilt action → ⊥)
       late (stops because failed) = (cc, failed)
       late (goes passed on) = absurd (cc (on.2))
 
@@ -172,6 +172,6 @@ pub acts_stop : (st : Outline) (a : ℕ) (action : Action) (result : Result Outl
 acts_stop st a action result q t f =
     tried_stop t f (λ numbers f1. tried_stop numbers f1 (λ names f2. tried_stop names f2 (λ once f3.
     tried_stop once f3 (λ limits f4. tried_stop limits f4 (λ all f5. late all f5))))) where
-      late : Tried reasons.Later (IsBuilt st action) (Done st a action) result → (q ≡ reasons.Later) × (IsBuilt st action → ⊥) → result ≡ Err q
+      late : Tried reasons.Later (IsBuilt action) (Done st a action) result → (q ≡ reasons.Later) × (IsBuilt action → ⊥) → result ≡ Err q
       late (stops because failed) f = cc
       late (goes passed on) f = absurd (f.1 passed)

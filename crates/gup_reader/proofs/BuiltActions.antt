@@ -8,12 +8,11 @@ use Rattle.gup_text.specs.Text.{range_in}
 use Rattle.gup_script.specs.declared.op.Op.TheVariants as ops
 use Rattle.gup_reader.specs.declared.refusal.Reason.TheVariants as reasons
 use Rattle.gup_reader.specs.Said.{Word, maps, unmaps, protects, discards, loads, stores, forks, exits, rights_word}
-use Rattle.gup_outline.specs.Outline.{Outline, has_handles}
-use Rattle.gup_reader.specs.Grammar.{NamesProcess}
+use Rattle.gup_outline.specs.Outline.{Outline}
 use Rattle.gup_reader.specs.Reading.{◌>>=◌, need, rights_in, map_in, unmap_in, protect_in, discard_in, load_in, store_in, fork_in, exit_in}
 use Rattle.gup_reader.proofs.Chains.{goes, checked, both, same_word}
 use Rattle.gup_reader.proofs.ActionWords.{said_with}
-use Rattle.gup_reader.proofs.Judged.{Ends, built, later, Told, number_step, address_step, range_step, child_step, unforked_Decides}
+use Rattle.gup_reader.proofs.Judged.{built, Told, number_step, address_step, range_step, child_step, unforked_Decides}
 
 -- ---- rights
 
@@ -89,12 +88,8 @@ fork_told st a (child ∷ []) =
     inl (
       forks child,
       refl,
-      goes tt (goes tt (child_step st child _ (λ p h. checked _ (unforked_Decides st child p h) (λ u. goes tt (ends p h (has_handles st) refl))))),
+      goes tt (goes tt (child_step st child _ (λ p h. checked _ (unforked_Decides st child p h) (λ u. goes tt (built (ops.Fork p) refl tt (p, h, refl)))))),
     )
-  where
-    ends : (p : ℕ) → NamesProcess st child p → (b : Bool) → has_handles st ≡ b → Ends st (forks child) (Ok (cond b None (Some (ops.Fork p))))
-    ends p h true e = later refl (λ none. absurd (cc (e, none)))
-    ends p h false e = built (ops.Fork p) refl e (p, h, refl)
 fork_told st a _ = inr (refl, refl)
 
 pub exit_told : (st : Outline) (a : ℕ) (fields : List Word) → Told st a (codes "exit" ∷ fields) (exit_in fields)

@@ -1,5 +1,5 @@
 -- What the words of the operations of pins come to: pin, unpin, take, give, and a device's transfers.
-use Rattle.std.proofs.Common.{◌≡◌, ℕ, ◌&&◌, Bool, true, false, not, cond, List, [], ◌∷◌, length, Option, Some, None, Ok, Err, refl, sym, ap, subst, ◌∙◌, inl, inr, lit<}
+use Rattle.std.proofs.Common.{◌≡◌, ℕ, Bool, true, false, not, cond, List, [], ◌∷◌, length, Option, Some, None, Ok, Err, refl, sym, ap, subst, ◌∙◌, inl, inr, lit<}
 use Rattle.std.specs.Prelude.{codes}
 use Rattle.std.specs.Str.{bytes_eq}
 use Rattle.gup_text.specs.Spelling.{IsRange}
@@ -28,20 +28,17 @@ unfolding way_in
 way_again true = refl
 way_again false = refl
 
--- is a pin built, where its script has no forks?
+-- is a pin built?
 abbrev is_plain : (fast long : Bool) → Bool
 is_plain fast true = false
 is_plain fast false = not fast
 
 -- a pin is built, or later, once all else of it is right
-pin_ends : (st : Outline) (fast long write : Bool) (handle first count : Word) (page n : ℕ) → IsRange most_pinned first count page n → Ends st (pins fast handle first count write long) (Ok (cond (is_plain fast long && not st.forked) (Some (ops.Pin (length st.script.handles) page n write)) None))
+pin_ends : (st : Outline) (fast long write : Bool) (handle first count : Word) (page n : ℕ) → IsRange most_pinned first count page n → Ends st (pins fast handle first count write long) (Ok (cond (is_plain fast long) (Some (ops.Pin (length st.script.handles) page n write)) None))
 pin_ends st true true write handle first count page n h = later refl (λ b. b)
 pin_ends st true false write handle first count page n h = later refl (λ b. b)
 pin_ends st false true write handle first count page n h = later refl (λ b. b)
-pin_ends st false false write handle first count page n h = way st.forked refl where
-  way : (b : Bool) → st.forked ≡ b → Ends st (pins false handle first count write false) (Ok (cond (not b) (Some (ops.Pin (length st.script.handles) page n write)) None))
-  way true e = later refl (λ none. absurd (cc (e, none)))
-  way false e = built (ops.Pin (length st.script.handles) page n write) refl e (page, n, h, refl)
+pin_ends st false false write handle first count page n h = built (ops.Pin (length st.script.handles) page n write) refl tt (page, n, h, refl)
 
 pin_judged : (st : Outline) (a : ℕ) (fast long write : Bool) (handle first count : Word) → Judged st a (pins fast handle first count write long) (pinned_in (is_plain fast long) st handle first count (write_word write))
 unfolding pinned_in

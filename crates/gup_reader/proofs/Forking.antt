@@ -1,5 +1,5 @@
--- The forks and the pins of a script: what they name is declared, no two forks bring one child, no two pins make one
--- handle, and there are not both. This stays so while lines add processes, actors, handles and operations.
+-- The forks and the pins of a script: what they name is declared, no two forks bring one child, and no two pins make
+-- one handle. This stays so while lines add processes, actors, handles and operations.
 use Rattle.std.proofs.Common.{◌≡◌, ◌⊎◌, ◌==◌, ℕ, ◌<◌, ◌≤◌, zero, suc, Bool, true, false, List, [], ◌∷◌, ◌++◌, length, slice_get, All, Option, Some, None, refl, sym, ap, subst, ◌∙◌, inl, inr, arith}
 use Rattle.std.specs.List.{AllByRecursion, list_any}
 use Rattle.std.proofs.lemmas.Bool.{not-true}
@@ -68,14 +68,6 @@ AreOnce Brings actors = (a b j k number : ℕ) → At Brings actors a j number �
 abbrev pub IsFresh : (Op → ℕ → Type 0) → List Actor → Op → Type 0
 IsFresh Brings actors op = (a k number : ℕ) → Brings op number → At Brings actors a k number → ⊥
 
--- none brings anything
-abbrev pub AreNone : (Op → ℕ → Type 0) → List Actor → Type 0
-AreNone Brings actors = (a k number : ℕ) → At Brings actors a k number → ⊥
-
--- there are forks, or pins, and not both
-abbrev pub AreApart : List Actor → Type 0
-AreApart actors = (a b j k child handle : ℕ) → At IsForkOf actors a j child → At IsPinOf actors b k handle → ⊥
-
 -- an operation behind one more actor, which has none, was there before
 before_actor : (actors : List Actor) (actor : Actor) → actor.ops ≡ [] → (a k : ℕ) (op : Op) → OpAt (actors ++ actor ∷ []) a k op → OpAt actors a k op
 before_actor [] actor none zero k op e =
@@ -91,13 +83,6 @@ before_actor_at Brings actors actor none a k number e = (e.0, before_actor actor
 pub actor_once : (Brings : Op → ℕ → Type 0) (actors : List Actor) (actor : Actor) → actor.ops ≡ [] → AreOnce Brings actors → AreOnce Brings (actors ++ actor ∷ [])
 actor_once Brings actors actor none h a b j k number e f =
     h a b j k number (before_actor_at Brings actors actor none a j number e) (before_actor_at Brings actors actor none b k number f)
-
-pub actor_none : (Brings : Op → ℕ → Type 0) (actors : List Actor) (actor : Actor) → actor.ops ≡ [] → AreNone Brings actors → AreNone Brings (actors ++ actor ∷ [])
-actor_none Brings actors actor none h a k number e = h a k number (before_actor_at Brings actors actor none a k number e)
-
-pub actor_apart : (actors : List Actor) (actor : Actor) → actor.ops ≡ [] → AreApart actors → AreApart (actors ++ actor ∷ [])
-actor_apart actors actor none h a b j k child handle e f =
-    h a b j k child handle (before_actor_at IsForkOf actors actor none a j child e) (before_actor_at IsPinOf actors actor none b k handle f)
 
 -- an operation behind one more of an actor was there before, or is this one, at the end of the actor's
 at_end : (ops : List Op) (new : Op) (k : ℕ) (op : Op) → slice_get (ops ++ new ∷ []) k ≡ Some op → (slice_get ops k ≡ Some op) ⊎ ((k ≡ length ops) × (op ≡ new))
@@ -137,27 +122,8 @@ op_once Brings actors c new fresh h a b j k number e f =
     way (inr x) (inl y) = absurd (fresh b k number x.2 y)
     way (inr x) (inr y) = (x.0 ∙ sym y.0, x.1 ∙ sym y.1)
 
-pub op_none : (Brings : Op → ℕ → Type 0) (actors : List Actor) (c : ℕ) (new : Op) → ((number : ℕ) → Brings new number → ⊥) → AreNone Brings actors → AreNone Brings (with_op c new actors)
-op_none Brings actors c new other h a k number e =
-    elim (before_op_at Brings actors c new a k number e) [ inl old ↦ h a k number old | inr here ↦ other number here.2 ]
-
--- a fork where there are no pins, or a pin where there are no forks
-abbrev pub IsApart : List Actor → Op → Type 0
-IsApart actors op =
-    ((child : ℕ) → IsForkOf op child → AreNone IsPinOf actors) × ((handle : ℕ) → IsPinOf op handle → AreNone IsForkOf actors)
-
 pub fork_no_pin : (op : Op) (child handle : ℕ) → IsForkOf op child → IsPinOf op handle → ⊥
 fork_no_pin op child handle f p = absurd (cc (f, p.3))
-
-pub op_apart : (actors : List Actor) (c : ℕ) (new : Op) → IsApart actors new → AreApart actors → AreApart (with_op c new actors)
-op_apart actors c new apart h a b j k child handle e f =
-    way (before_op_at IsForkOf actors c new a j child e) (before_op_at IsPinOf actors c new b k handle f)
-  where
-    way : At IsForkOf actors a j child ⊎ IsNew IsForkOf actors c new a j child → At IsPinOf actors b k handle ⊎ IsNew IsPinOf actors c new b k handle → ⊥
-    way (inl x) (inl y) = h a b j k child handle x y
-    way (inl x) (inr y) = apart.1 handle y.2 a j child x
-    way (inr x) (inl y) = apart.0 child x.2 b k handle y
-    way (inr x) (inr y) = fork_no_pin new child handle x.2 y.2
 
 -- what is true of each operation is true of one at its place
 op_is : (P : Op → Type 0) (actors : List Actor) → AllByRecursion (λ (a : Actor). All P a.ops) actors → (a k : ℕ) (op : Op) → OpAt actors a k op → P op
@@ -168,10 +134,6 @@ op_is P (actor ∷ actors) h (suc a) k op e = op_is P actors h.1 a k op e
 -- the handle of a pin is declared
 pub pin_declared : (s : ScriptValue) → AllByRecursion (λ (a : Actor). All (AreDeclared s) a.ops) s.actors → (a k handle : ℕ) → At IsPinOf s.actors a k handle → handle < length s.handles
 pin_declared s h a k handle p = subst (AreDeclared s) p.2.3 (op_is (AreDeclared s) s.actors h a k p.0 p.1)
-
--- where no handle is declared, nothing pins
-pub none_pinned : (s : ScriptValue) → length s.handles ≡ 0 → AllByRecursion (λ (a : Actor). All (AreDeclared s) a.ops) s.actors → AreNone IsPinOf s.actors
-none_pinned s none h a k handle p = let lt = pin_declared s h a k handle p in absurd (omega arith)
 
 -- ---- a child that no fork brings so far
 

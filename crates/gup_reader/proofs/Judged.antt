@@ -27,8 +27,8 @@ use Rattle.gup_reader.proofs.ActionWords.{action_in}
 -- ---- what an action comes to
 
 pub data Ends (st : Outline) (action : Action) (result : Result (Option Op) Reason) : Type 0 where
-  built : (op : Op) → (given : result ≡ Ok (Some op)) → (now : IsBuilt st action) → (means : Means st action op) → Ends st action result
-  later : (given : result ≡ Ok None) → (unbuilt : IsBuilt st action → ⊥) → Ends st action result
+  built : (op : Op) → (given : result ≡ Ok (Some op)) → (now : IsBuilt action) → (means : Means st action op) → Ends st action result
+  later : (given : result ≡ Ok None) → (unbuilt : IsBuilt action → ⊥) → Ends st action result
 
 abbrev pub Judged : Outline → (actor : ℕ) → Action → Result (Option Op) Reason → Type 0
 Judged st a action =

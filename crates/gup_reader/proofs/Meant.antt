@@ -2,19 +2,18 @@
 -- no handle that another does, and it is one of its actor's kind.
 use Rattle.std.proofs.Common.{◌≡◌, ℕ, Bool, true, false, List, length, slice_get, Contains, refl, sym, subst, Option, Some, None, arith}
 use Rattle.std.specs.Prelude.{codes}
-use Rattle.std.proofs.lemmas.Bool.{ltb-false}
 use Rattle.std.proofs.lemmas.List.{length_push}
 use Rattle.gup_script.specs.declared.op.Kind.{Kind}
 use Rattle.gup_script.specs.declared.op.Kind.TheVariants.{Thread, Device, Mover}
 use Rattle.gup_script.specs.declared.op.Op.{Op}
 use Rattle.gup_script.specs.declared.op.Op.TheVariants.{Pin, Fork}
 use Rattle.gup_script.specs.Script.{Actor, process_at}
-use Rattle.gup_outline.specs.Outline.{Outline, with_handle, is_child, is_forked, has_handles}
+use Rattle.gup_outline.specs.Outline.{Outline, with_handle, is_child, is_forked}
 use Rattle.gup_reader.specs.Said.{Word, Action, maps, unmaps, protects, discards, loads, stores, exits, pins, forks, unpins, takes, gives, transfers, action_words, op_words, op_words_of}
-use Rattle.gup_reader.specs.Grammar.{NamesProcess, ActionNames, ActionOnce, Means, IsBuilt, with_declared, first_word}
+use Rattle.gup_reader.specs.Grammar.{NamesProcess, ActionNames, ActionOnce, Means, with_declared, first_word}
 use Rattle.gup_script.specs.Valid.{IsOp, FitsKind, IsOfThread, IsOfDevice, AreDeclared}
 use Rattle.gup_reader.proofs.Following.{none_among}
-use Rattle.gup_reader.proofs.Forking.{IsForkOf, IsPinOf, IsFresh, IsApart, child_is, fork_no_pin, pin_declared, none_pinned, unforked}
+use Rattle.gup_reader.proofs.Forking.{IsForkOf, IsPinOf, IsFresh, child_is, fork_no_pin, pin_declared, unforked}
 use Rattle.gup_reader.proofs.Standing.{Stands}
 
 -- ---- what is true of the operation
@@ -64,34 +63,29 @@ declared st a _ op h m names = absurd m
 abbrev IsOther : Op → Type 0
 IsOther op = ((child : ℕ) → IsForkOf op child → ⊥) × ((handle : ℕ) → IsPinOf op handle → ⊥)
 
--- the operation is fresh among the actors' others, and apart from them
+-- the operation is fresh among the actors' others
 pub record Fits (actors : List Actor) (op : Op) : Type 0 where
   pub fresh_fork : IsFresh IsForkOf actors op
   pub fresh_pin : IsFresh IsPinOf actors op
-  pub apart : IsApart actors op
 
 other_fits : (actors : List Actor) (op : Op) → IsOther op → Fits actors op
-other_fits actors op h = record {
-  fresh_fork = λ a k child is at. h.0 child is;
-  fresh_pin = λ a k handle is at. h.1 handle is;
-  apart = (λ child is. absurd (h.0 child is), λ handle is. absurd (h.1 handle is));
-}
+other_fits actors op h =
+    record {
+      fresh_fork = λ a k child is at. h.0 child is;
+      fresh_pin = λ a k handle is at. h.1 handle is;
+    }
 
-fork_fits : (st : Outline) (child : Word) (p : ℕ) → Stands st → NamesProcess st child p → ActionOnce st (forks child) → has_handles st ≡ false → Fits st.script.actors (Fork p)
-fork_fits st child p h named once none =
+fork_fits : (st : Outline) (child : Word) (p : ℕ) → NamesProcess st child p → ActionOnce st (forks child) → Fits st.script.actors (Fork p)
+fork_fits st child p named once =
     record {
       fresh_fork = λ a k number is at.
           let same : once.0 ≡ number = cc (once.1, named, is) in
           unforked st.script.actors number a k (subst (λ (q : ℕ). is_forked st q ≡ false) same once.2) (rw at.2 at at.1);
       fresh_pin = λ a k handle is at. absurd (fork_no_pin (Fork p) p handle refl is);
-      apart = (
-        λ number is. none_pinned st.script (omega (arith, ltb-false 0 (length st.script.handles) none)) h.declared,
-        λ handle is. absurd (fork_no_pin (Fork p) p handle refl is),
-      );
     }
 
-pin_fits : (st : Outline) (page n : ℕ) (write : Bool) → Stands st → st.forked ≡ false → Fits st.script.actors (Pin (length st.script.handles) page n write)
-pin_fits st page n write h none =
+pin_fits : (st : Outline) (page n : ℕ) (write : Bool) → Stands st → Fits st.script.actors (Pin (length st.script.handles) page n write)
+pin_fits st page n write h =
     let pin : Op = Pin (length st.script.handles) page n write in
     record {
       fresh_fork = λ a k child is at. absurd (fork_no_pin pin child (length st.script.handles) is (page, n, write, refl));
@@ -99,27 +93,23 @@ pin_fits st page n write h none =
           let same : length st.script.handles ≡ handle = cc is.3 in
           let lt = pin_declared st.script h.declared a k handle at in
           omega arith;
-      apart = (
-        λ child is. absurd (fork_no_pin pin child (length st.script.handles) is (page, n, write, refl)),
-        λ handle is. h.unforked none,
-      );
     }
 
-pub fits : (st : Outline) (action : Action) (op : Op) → Stands st → Means st action op → ActionOnce st action → IsBuilt st action → Fits (with_declared action st).script.actors op
-fits st (maps first count rights) op h m once now = other_fits st.script.actors op (λ child is. absurd (cc (m.3, is)), λ handle is. absurd (cc (m.3, is.3)))
-fits st (unmaps first count) op h m once now = other_fits st.script.actors op (λ child is. absurd (cc (m.3, is)), λ handle is. absurd (cc (m.3, is.3)))
-fits st (protects first count rights) op h m once now = other_fits st.script.actors op (λ child is. absurd (cc (m.3, is)), λ handle is. absurd (cc (m.3, is.3)))
-fits st (discards first count) op h m once now = other_fits st.script.actors op (λ child is. absurd (cc (m.3, is)), λ handle is. absurd (cc (m.3, is.3)))
-fits st (loads address) op h m once now = other_fits st.script.actors op (λ child is. absurd (cc (m.3, is)), λ handle is. absurd (cc (m.3, is.3)))
-fits st (stores address value) op h m once now = other_fits st.script.actors op (λ child is. absurd (cc (m.5, is)), λ handle is. absurd (cc (m.5, is.3)))
-fits st exits op h m once now = other_fits st.script.actors op (λ child is. absurd (cc (m, is)), λ handle is. absurd (cc (m, is.3)))
-fits st (pins false handle first count write false) op h m once now = subst (Fits st.script.actors) (sym m.3) (pin_fits st m.0 m.1 write h now)
-fits st (forks child) op h m once now = subst (Fits st.script.actors) (sym m.2) (fork_fits st child m.0 h m.1 once now)
-fits st (unpins handle) op h m once now = other_fits st.script.actors op (λ child is. absurd (cc (m.2, is)), λ number is. absurd (cc (m.2, is.3)))
-fits st (takes handle) op h m once now = other_fits st.script.actors op (λ child is. absurd (cc (m.2, is)), λ number is. absurd (cc (m.2, is.3)))
-fits st (gives handle to) op h m once now = other_fits st.script.actors op (λ child is. absurd (cc (m.4, is)), λ number is. absurd (cc (m.4, is.3)))
-fits st (transfers outward handle index slot count) op h m once now = other_fits st.script.actors op (λ child is. absurd (cc (m.8, is)), λ number is. absurd (cc (m.8, is.3)))
-fits st _ op h m once now = absurd m
+pub fits : (st : Outline) (action : Action) (op : Op) → Stands st → Means st action op → ActionOnce st action → Fits (with_declared action st).script.actors op
+fits st (maps first count rights) op h m once = other_fits st.script.actors op (λ child is. absurd (cc (m.3, is)), λ handle is. absurd (cc (m.3, is.3)))
+fits st (unmaps first count) op h m once = other_fits st.script.actors op (λ child is. absurd (cc (m.3, is)), λ handle is. absurd (cc (m.3, is.3)))
+fits st (protects first count rights) op h m once = other_fits st.script.actors op (λ child is. absurd (cc (m.3, is)), λ handle is. absurd (cc (m.3, is.3)))
+fits st (discards first count) op h m once = other_fits st.script.actors op (λ child is. absurd (cc (m.3, is)), λ handle is. absurd (cc (m.3, is.3)))
+fits st (loads address) op h m once = other_fits st.script.actors op (λ child is. absurd (cc (m.3, is)), λ handle is. absurd (cc (m.3, is.3)))
+fits st (stores address value) op h m once = other_fits st.script.actors op (λ child is. absurd (cc (m.5, is)), λ handle is. absurd (cc (m.5, is.3)))
+fits st exits op h m once = other_fits st.script.actors op (λ child is. absurd (cc (m, is)), λ handle is. absurd (cc (m, is.3)))
+fits st (pins false handle first count write false) op h m once = subst (Fits st.script.actors) (sym m.3) (pin_fits st m.0 m.1 write h)
+fits st (forks child) op h m once = subst (Fits st.script.actors) (sym m.2) (fork_fits st child m.0 m.1 once)
+fits st (unpins handle) op h m once = other_fits st.script.actors op (λ child is. absurd (cc (m.2, is)), λ number is. absurd (cc (m.2, is.3)))
+fits st (takes handle) op h m once = other_fits st.script.actors op (λ child is. absurd (cc (m.2, is)), λ number is. absurd (cc (m.2, is.3)))
+fits st (gives handle to) op h m once = other_fits st.script.actors op (λ child is. absurd (cc (m.4, is)), λ number is. absurd (cc (m.4, is.3)))
+fits st (transfers outward handle index slot count) op h m once = other_fits st.script.actors op (λ child is. absurd (cc (m.8, is)), λ number is. absurd (cc (m.8, is.3)))
+fits st _ op h m once = absurd m
 
 -- ---- the operation is one of its actor's kind
 

@@ -1,5 +1,5 @@
 -- One more operation of an actor: what is true of every outline stays so.
-use Rattle.std.proofs.Common.{◌≡◌, ℕ, zero, suc, ◌+◌, ◌<◌, Bool, false, cond, List, [], ◌∷◌, ◌++◌, length, append-nil, All, sum_by, count_by, refl, sym, ap, subst, ◌∙◌, arith}
+use Rattle.std.proofs.Common.{◌≡◌, ℕ, zero, suc, ◌+◌, ◌<◌, Bool, cond, List, [], ◌∷◌, ◌++◌, length, append-nil, All, sum_by, count_by, refl, sym, ap, subst, ◌∙◌, arith}
 use Rattle.std.specs.List.{AllByRecursion}
 use Rattle.std.proofs.lemmas.List.{length_push}
 use Rattle.std.proofs.lemmas.List.Elements.{All-push}
@@ -7,21 +7,18 @@ use Rattle.std.proofs.lemmas.List.Sums.{sum_by-cons}
 use Rattle.gup_script.specs.declared.op.Kind.{Kind}
 use Rattle.gup_script.specs.declared.op.Op.{Op}
 use Rattle.gup_script.specs.Script.{Actor, actor_at}
-use Rattle.gup_outline.specs.Outline.{Outline, with_op, with_operation, is_fork, is_thread, is_device, is_mover}
+use Rattle.gup_outline.specs.Outline.{Outline, with_op, with_operation, is_thread, is_device, is_mover}
 use Rattle.gup_script.specs.Limits.{most_operations}
 use Rattle.gup_reader.specs.Said.{Action, pins, action_words}
 use Rattle.gup_reader.specs.Grammar.{HandleLimits, with_declared, IsOpOf, Does, first_word}
 use Rattle.gup_script.specs.Valid.{IsOp, KindFits, FitsKind, AreDeclared}
 use Rattle.gup_reader.proofs.Verdicts.{same_given}
-use Rattle.gup_reader.proofs.Lists.{each_like, neither}
-use Rattle.gup_reader.proofs.Forking.{IsForkOf, IsPinOf, declared_stay, op_once, op_none, op_apart}
+use Rattle.gup_reader.proofs.Lists.{each_like}
+use Rattle.gup_reader.proofs.Forking.{IsForkOf, IsPinOf, declared_stay, op_once}
 use Rattle.gup_reader.proofs.Standing.{Stands, kind_fits, stands_handle}
 use Rattle.gup_reader.proofs.Meant.{Fits, FitsAt, is_op, declared, fits, fits_at}
 
 -- ---- the actors with one more operation
-
-no_fork : (op : Op) → is_fork op ≡ false → (child : ℕ) → IsForkOf op child → ⊥
-no_fork op none child is = absurd (cc (none, ap is_fork is))
 
 with_op_length : (k : ℕ) (op : Op) (actors : List Actor) → length (with_op k op actors) ≡ length actors
 with_op_length k op [] = refl
@@ -84,8 +81,6 @@ stands_operation st k op h is here fit t few =
       declared = declared_stay st.script next.script [] (sym (append-nil st.script.processes)) (omega arith) (omega arith) next.script.actors (with_op_ops (AreDeclared st.script) k op actors here h.declared);
       forks_once = op_once IsForkOf actors k op fit.fresh_fork h.forks_once;
       pins_once = op_once IsPinOf actors k op fit.fresh_pin h.pins_once;
-      pins_or_forks = op_apart actors k op fit.apart h.pins_or_forks;
-      unforked = λ none. let both = neither st.forked (is_fork op) none in op_none IsForkOf actors k op (no_fork op both.1) (h.unforked both.0);
       counted = let sum = with_op_sum k op actors t in let old = h.counted in omega arith;
       few_ops = omega arith;
       turns = each_like (λ a. a < length actors) (λ a. a < length next.script.actors) st.script.turns (λ a lt. omega arith) h.turns;
@@ -113,5 +108,5 @@ stands_does st next a action h of d =
     let t = fits_at st action op.0 (actor_at st.script a) op.1 of in
     let at : FitsAt after.script.actors a op.0 = subst (λ (actors : List Actor). FitsAt actors a op.0) (sym (same_actors st action)) t in
     let few : after.operations < most_operations = subst (λ (n : ℕ). n < most_operations) (sym (same_operations st action)) d.4.1 in
-    let fit : Fits after.script.actors op.0 = fits st action op.0 h op.1 d.3 d.5 in
+    let fit : Fits after.script.actors op.0 = fits st action op.0 h op.1 d.3 in
     subst Stands (sym op.2) (stands_operation after a op.0 (handle_stands st action h d.4.0) (is_op st action op.0 op.1) (declared st a action op.0 h op.1 d.2) fit at few)

@@ -19,7 +19,7 @@ use Rattle.gup_reader.specs.Grammar.{NamesProcess, NamesActor, NamesPin, AreFram
 use Rattle.gup_script.specs.Valid.{IsOp, KindFits, FitsKind, AreDeclared}
 use Rattle.gup_reader.proofs.Verdicts.{given, same_given}
 use Rattle.gup_reader.proofs.Lists.{each_append, each_like}
-use Rattle.gup_reader.proofs.Forking.{OpAt, IsForkOf, IsPinOf, AreOnce, AreNone, AreApart, declared_stay, actor_once, actor_none, actor_apart}
+use Rattle.gup_reader.proofs.Forking.{OpAt, IsForkOf, IsPinOf, AreOnce, declared_stay, actor_once}
 
 pub record Stands (st : Outline) : Type 0 where
   pub processes_in : (word : Word) (p : ℕ) → NamesProcess st word p → p < length st.script.processes
@@ -38,8 +38,6 @@ pub record Stands (st : Outline) : Type 0 where
   pub declared : AllByRecursion (λ (a : Actor). All (AreDeclared st.script) a.ops) st.script.actors
   pub forks_once : AreOnce IsForkOf st.script.actors
   pub pins_once : AreOnce IsPinOf st.script.actors
-  pub pins_or_forks : AreApart st.script.actors
-  pub unforked : st.forked ≡ false → AreNone IsForkOf st.script.actors
   pub counted : sum_by (λ (a : Actor). length a.ops) st.script.actors ≡ st.operations
   pub few_ops : st.operations ≤ most_operations
   pub turns : AllByRecursion (λ a. a < length st.script.actors) st.script.turns
@@ -63,8 +61,6 @@ stands_empty counts h = record {
   declared = tt;
   forks_once = λ a b j k child e f. absurd (nothing a j e.0 e.1);
   pins_once = λ a b j k handle e f. absurd (nothing a j e.0 e.1);
-  pins_or_forks = λ a b j k child handle e f. nothing a j e.0 e.1;
-  unforked = λ none a k child e. nothing a k e.0 e.1;
   counted = refl;
   few_ops = omega arith;
   turns = tt;
@@ -145,8 +141,6 @@ stands_process st name born h few =
       declared = declared_stay st.script next.script (process ∷ []) refl (omega arith) (omega arith) st.script.actors h.declared;
       forks_once = h.forks_once;
       pins_once = h.pins_once;
-      pins_or_forks = h.pins_or_forks;
-      unforked = h.unforked;
       counted = h.counted;
       few_ops = h.few_ops;
       turns = h.turns;
@@ -187,8 +181,6 @@ stands_actor st name kind h fits threads devices movers =
       declared = declared_stay st.script next.script [] (sym (append-nil st.script.processes)) (omega arith) (omega arith) next.script.actors (each_append (λ (a : Actor). All (AreDeclared st.script) a.ops) actors (actor ∷ []) h.declared (All-nil (AreDeclared st.script), tt));
       forks_once = actor_once IsForkOf actors actor refl h.forks_once;
       pins_once = actor_once IsPinOf actors actor refl h.pins_once;
-      pins_or_forks = actor_apart actors actor refl h.pins_or_forks;
-      unforked = λ none. actor_none IsForkOf actors actor refl (h.unforked none);
       counted = let sum = sum_by_push (λ (a : Actor). length a.ops) actors actor in let old = h.counted in omega arith;
       few_ops = h.few_ops;
       turns = each_like (λ a. a < length actors) (λ a. a < length next.script.actors) st.script.turns (λ a lt. omega arith) h.turns;
@@ -228,8 +220,6 @@ stands_handle st name h few =
       declared = declared_stay st.script next.script [] (sym (append-nil st.script.processes)) (omega arith) (omega arith) st.script.actors h.declared;
       forks_once = h.forks_once;
       pins_once = h.pins_once;
-      pins_or_forks = h.pins_or_forks;
-      unforked = h.unforked;
       counted = h.counted;
       few_ops = h.few_ops;
       turns = h.turns;
@@ -256,8 +246,6 @@ stands_seed st seed h = record {
   declared = h.declared;
   forks_once = h.forks_once;
   pins_once = h.pins_once;
-  pins_or_forks = h.pins_or_forks;
-  unforked = h.unforked;
   counted = h.counted;
   few_ops = h.few_ops;
   turns = h.turns;
@@ -282,8 +270,6 @@ stands_turns st turns h of_actors few = record {
   declared = h.declared;
   forks_once = h.forks_once;
   pins_once = h.pins_once;
-  pins_or_forks = h.pins_or_forks;
-  unforked = h.unforked;
   counted = h.counted;
   few_ops = h.few_ops;
   turns = each_append (λ a. a < length st.script.actors) st.script.turns turns h.turns of_actors;

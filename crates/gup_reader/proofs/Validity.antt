@@ -136,7 +136,6 @@ stands_script st h =
       declared = All-from_recursion (λ (a : Actor). All (AreDeclared st.script) a.ops) actors h.declared;
       forks_once = λ a b j k child e f. h.forks_once a b j k child (Fork child, e, refl) (Fork child, f, refl);
       pins_once = λ a b j k handle e f. h.pins_once a b j k handle (pin_at st.script a j handle e) (pin_at st.script b k handle f);
-      pins_or_forks = λ a b j k child handle e f. h.pins_or_forks a b j k child handle (Fork child, e, refl) (pin_at st.script b k handle f);
       few_ops = let counted = h.counted in let few = h.few_ops in omega arith;
       turns = All-from_recursion (λ a. a < length actors) st.script.turns h.turns;
       few_turns = h.few_turns;

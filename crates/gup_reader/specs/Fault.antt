@@ -42,7 +42,7 @@ ActionFault st a action reason =
     (Unless Name (ActionNames st a action) reason
     (Unless Twice (ActionOnce st action) reason
     (Unless Limit (ActionLimits st action) reason
-    (Fails Later (IsBuilt st action) reason)))))
+    (Fails Later (IsBuilt action) reason)))))
 
 abbrev pub OpFault : Outline → (actor : ℕ) → List Letters → Reason → Type 0
 OpFault st a words reason =

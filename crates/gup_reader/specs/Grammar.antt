@@ -12,7 +12,7 @@ use Rattle.gup_script.specs.declared.op.Op.{Op}
 use Rattle.gup_script.specs.declared.op.Op.TheVariants as ops
 use Rattle.gup_script.specs.Script.{ScriptValue, FrameCounts, actor_at}
 use Rattle.gup_reader.specs.Said.{Word, Said, a_process, a_child, a_thread, a_device, a_mover, a_seed, some_turns, random_turns, said_words, Action, maps, unmaps, protects, discards, loads, stores, exits, pins, gets, puts, forks, unpins, takes, gives, transfers, transfers_parts, mirrors, looks, moves, action_words, IsShaped, op_words_of}
-use Rattle.gup_outline.specs.Outline.{Outline, empty_outline, with_process, with_actor, with_handle, with_operation, with_turns, with_seed, is_thread, is_device, how_many, has_mover, is_child, is_forked, has_handles, is_receiver, draws}
+use Rattle.gup_outline.specs.Outline.{Outline, empty_outline, with_process, with_actor, with_handle, with_operation, with_turns, with_seed, is_thread, is_device, how_many, has_mover, is_child, is_forked, is_receiver, draws}
 use Rattle.gup_script.specs.Limits.{most_processes, most_threads, most_devices, most_handles, most_pinned, most_words, most_operations, most_turns, most_slots, most_frames, most_tables}
 
 -- 1. Numbers: those that a line has are spelled right and in range
@@ -178,23 +178,22 @@ Means st (transfers outward handle index slot count) op =
     × (op ≡ ops.Transfer h outward i s n)
 Means st action op = ⊥
 
--- Is the action an operation that is built? A script has pins, or forks, and not both so far: the first line of the
--- second kind comes later.
-abbrev pub IsBuilt : Outline → Action → Type 0
-IsBuilt st (maps first count rights) = Unit {0}
-IsBuilt st (unmaps first count) = Unit {0}
-IsBuilt st (protects first count rights) = Unit {0}
-IsBuilt st (discards first count) = Unit {0}
-IsBuilt st (loads address) = Unit {0}
-IsBuilt st (stores address value) = Unit {0}
-IsBuilt st exits = Unit {0}
-IsBuilt st (pins false handle first count write false) = st.forked ≡ false
-IsBuilt st (forks child) = has_handles st ≡ false
-IsBuilt st (unpins handle) = Unit {0}
-IsBuilt st (takes handle) = Unit {0}
-IsBuilt st (gives handle to) = Unit {0}
-IsBuilt st (transfers outward handle index slot count) = Unit {0}
-IsBuilt st action = ⊥
+-- is the action an operation that is built?
+abbrev pub IsBuilt : Action → Type 0
+IsBuilt (maps first count rights) = Unit {0}
+IsBuilt (unmaps first count) = Unit {0}
+IsBuilt (protects first count rights) = Unit {0}
+IsBuilt (discards first count) = Unit {0}
+IsBuilt (loads address) = Unit {0}
+IsBuilt (stores address value) = Unit {0}
+IsBuilt exits = Unit {0}
+IsBuilt (pins false handle first count write false) = Unit {0}
+IsBuilt (forks child) = Unit {0}
+IsBuilt (unpins handle) = Unit {0}
+IsBuilt (takes handle) = Unit {0}
+IsBuilt (gives handle to) = Unit {0}
+IsBuilt (transfers outward handle index slot count) = Unit {0}
+IsBuilt action = ⊥
 
 -- the outline with what the action declares: the handle of a pin
 abbrev pub with_declared : Action → Outline → Outline
@@ -222,7 +221,7 @@ Declares st said next =
 abbrev pub Does : Outline → (actor : ℕ) → Action → Outline → Type 0
 Does st a action next =
     IsShaped action × ActionNumbers action × ActionNames st a action × ActionOnce st action × ActionLimits st action
-    × IsBuilt st action × ((op : Op) × Means st action op × (next ≡ with_operation a op (with_declared action st)))
+    × IsBuilt action × ((op : Op) × Means st action op × (next ≡ with_operation a op (with_declared action st)))
 
 -- is the operation with this word one of the actor's kind?
 abbrev pub IsOpOf : Outline → (actor : ℕ) → Word → Type 0

@@ -16,7 +16,7 @@ use Rattle.gup_reader.specs.declared.refusal.Reason.TheVariants as reasons
 use Rattle.gup_reader.specs.declared.refusal.ScriptFault.{ScriptFault}
 use Rattle.gup_script.specs.Script.{Actor, FrameCounts, actor_at}
 use Rattle.gup_reader.specs.Grammar.{Stage, before_head, before_frames, open_at, most_bytes}
-use Rattle.gup_outline.specs.Outline.{Outline, frame_counts, empty_outline, with_process, with_actor, with_handle, with_operation, with_turns, with_seed, is_thread, is_device, how_many, has_mover, is_child, is_forked, next_handle, has_handles, is_receiver, draws}
+use Rattle.gup_outline.specs.Outline.{Outline, frame_counts, empty_outline, with_process, with_actor, with_handle, with_operation, with_turns, with_seed, is_thread, is_device, how_many, has_mover, is_child, is_forked, next_handle, is_receiver, draws}
 use Rattle.gup_outline.specs.Named.{process_of, actor_of, pin_of, is_got_name, is_mirror_of, may_mirror}
 use Rattle.gup_script.specs.Limits.{most_processes, most_threads, most_devices, most_pinned, most_words, most_operations, most_turns, most_slots, most_frames, most_tables}
 
@@ -98,7 +98,7 @@ unfoldable pub exit_in : List (List ℕ) → Result (Option Op) Reason
 exit_in [] = Ok (Some ops.Exit)
 exit_in _ = Err reasons.Shape
 
--- a pin, which is built in a script without forks, and later where it is fast or long
+-- a pin, which comes later where it is fast or long
 unfoldable pub pinned_in : (built : Bool) → Outline → (handle first count way : List ℕ) → Result (Option Op) Reason
 pinned_in built st handle first count way = do
   write ← need reasons.Shape (way_in way)
@@ -106,7 +106,7 @@ pinned_in built st handle first count way = do
   _ ← check reasons.Name (is_name handle)
   _ ← check reasons.Twice (is_unused st.names handle)
   h ← need reasons.Limit (next_handle st)
-  Ok (if built && not st.forked then Some (ops.Pin h range.0 range.1 write) else None)
+  Ok (if built then Some (ops.Pin h range.0 range.1 write) else None)
 
 unfoldable pub pin_in : (fast : Bool) → Outline → List (List ℕ) → Result (Option Op) Reason
 pin_in fast st (handle ∷ first ∷ count ∷ way ∷ []) = pinned_in (not fast) st handle first count way
@@ -135,7 +135,7 @@ fork_in st (child ∷ []) = do
   p ← need reasons.Name (process_of (find st.names child))
   _ ← check reasons.Name (is_child st p)
   _ ← check reasons.Twice (not (is_forked st p))
-  Ok (if has_handles st then None else Some (ops.Fork p))
+  Ok (Some (ops.Fork p))
 fork_in st _ = Err reasons.Shape
 
 unfoldable pub unpin_in : Outline → List (List ℕ) → Result (Option Op) Reason

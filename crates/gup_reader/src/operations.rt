@@ -134,7 +134,7 @@ fn pinned_range(first: &str, count: &str) -> Option<(PageNo, u8)>
     Some((page, n as u8))
 }
 
-/// The words of a pin but for `long`. A pin is built unless it is fast or long, in a script without forks.
+/// The words of a pin but for `long`. A pin is built unless it is fast or long.
 #[tactic(auto, unfolding(crate::specs::Reading::pinned_in))]
 fn pinned_pages(
     reader: &Reader,
@@ -151,7 +151,7 @@ fn pinned_pages(
     check(is_name(handle), Reason::Name)?;
     check(reader.is_unused(handle), Reason::Twice)?;
     let handle = reader.next_handle().ok_or(Reason::Limit)?;
-    if built && !reader.has_forks() {
+    if built {
         Ok(Some(Op::Pin {
             handle,
             page,
@@ -203,7 +203,6 @@ fn put_op(reader: &Reader, fields: &[&str]) -> Result<Option<Op>, Reason>
     Ok(None)
 }
 
-/// A fork is built in a script without pins.
 #[tactic(auto, unfolding(crate::specs::Reading::fork_in))]
 fn fork_op(reader: &Reader, fields: &[&str]) -> Result<Option<Op>, Reason>
     ensures { result ≡ fork_in reader.now (map (λ word. word.now) fields.now) }
@@ -214,11 +213,7 @@ fn fork_op(reader: &Reader, fields: &[&str]) -> Result<Option<Op>, Reason>
     let child = reader.process(child).ok_or(Reason::Name)?;
     check(reader.is_child(child), Reason::Name)?;
     check(!reader.is_forked(child), Reason::Twice)?;
-    if reader.has_handles() {
-        Ok(None)
-    } else {
-        Ok(Some(Op::Fork { child }))
-    }
+    Ok(Some(Op::Fork { child }))
 }
 
 #[tactic(auto, unfolding(crate::specs::Reading::unpin_in))]

@@ -146,8 +146,16 @@ const LINES: [(&str, u32, Reason); 143] = [
         9,
         Reason::Later,
     ),
-    ("on t pin h 0 1 read\non t fork c\n", 9, Reason::Later),
-    ("on t fork c\non t pin h 0 1 read\n", 9, Reason::Later),
+    (
+        "on t pin h 0 1 read\non t fork c\nwrong\n",
+        10,
+        Reason::Word,
+    ),
+    (
+        "on t fork c\non t pin h 0 1 read\nwrong\n",
+        10,
+        Reason::Word,
+    ),
     ("on t fork c\non t pin t 0 1 read\n", 9, Reason::Twice),
     ("on t pin h 0 1 read\non t fork p\n", 9, Reason::Name),
     (
@@ -293,8 +301,8 @@ const LIMITS: [(u32, &str, &str, &str, Reason); 12] = [
         1_024,
         "on t pin h",
         " 0 1 read",
-        "on t fork c\n",
-        Reason::Later,
+        "on t pinfast g 0 1 write long\n",
+        Reason::Limit,
     ),
 ];
 

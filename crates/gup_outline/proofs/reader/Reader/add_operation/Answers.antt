@@ -17,7 +17,7 @@ invariant_of-self c =
     same_actors (outline_value c.self.inside) _ e c.self.invariant
 
 -- the actors with one more operation
-more : (c : goal.After-self-3-1) → map actor_value (set c.self.inside.contents.actors.items c.get.result (record { name = c.index_mut-actor.result.now.name; kind = c.index_mut-actor.result.now.kind; ops = c.push.new.self })) ≡ with_op c.args.actor c.args.op (map actor_value c.self.inside.contents.actors.items)
+more : (c : goal.After-self-2-1) → map actor_value (set c.self.inside.contents.actors.items c.get.result (record { name = c.index_mut-actor.result.now.name; kind = c.index_mut-actor.result.now.kind; ops = c.push.new.self })) ≡ with_op c.args.actor c.args.op (map actor_value c.self.inside.contents.actors.items)
 more c =
     let x = c.index_mut-actor.result.now in
     let y : Fields = record { name = x.name; kind = x.kind; ops = c.push.new.self } in
@@ -32,4 +32,4 @@ invariant_of-self-2 c =
     same_actors (with_operation c.args.actor c.args.op (outline_value c.self.inside)) _ (more c) (operation_added c.args.actor c.args.op (outline_value c.self.inside) c.self.invariant)
 
 pub returns : goal.returns
-returns c = rw (more c, c.is_fork-forks.ensures) (ap (with_operation c.args.actor c.args.op) c.self.view_is)
+returns c = rw (more c) (ap (with_operation c.args.actor c.args.op) c.self.view_is)
