@@ -1,4 +1,5 @@
 pub mod Owning
+pub mod Forking
 pub mod Pinning
 pub mod Parting
 pub mod Notes
@@ -7,6 +8,7 @@ pub mod Singles
 pub mod Waiting
 pub mod Resting
 pub mod Turning
+pub mod Refusing
 pub mod Taking
 pub mod Ready
 pub mod Starting

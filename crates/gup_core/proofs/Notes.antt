@@ -1,8 +1,10 @@
 -- No turn has two events and no answer: an operation that goes on counts one page or word a turn.
-use Rattle.std.proofs.Common.{◌==◌, ℕ, ◌+◌, Bool, true, false, List, [], ◌∷◌, Option, Some, None, Ok, Err, zero, suc}
+use Rattle.std.proofs.Common.{◌==◌, ℕ, ◌+◌, Bool, true, false, List, [], ◌∷◌, nat_lt, Option, Some, None, Ok, Err, zero, suc}
 use Rattle.gup_base.specs.declared.entry.Entry.{Entry}
 use Rattle.gup_base.specs.declared.entry.Rights.{Rights}
 use Rattle.gup_plain.specs.Denial.{any_mapped, any_unmapped, map_denial, protect_denial, is_held_by, transfer_denial}
+use Rattle.gup_plain.specs.Event.{words}
+use Rattle.gup_plain.specs.State.{Birth, unborn, growing, born, failed}
 use Rattle.gup_plain.specs.declared.answer.Answer.{Answer}
 use Rattle.gup_plain.specs.declared.event.PlainEvent.TheVariants as events
 use Rattle.gup_plain.specs.declared.note.What.{What}
@@ -11,7 +13,7 @@ use Rattle.gup_script.specs.declared.op.Op.{Op}
 use Rattle.gup_script.specs.declared.op.Op.TheVariants.{Map, Unmap, Protect, Discard, Load, Store, Pin, Unpin, Give, Take, Transfer, Fork, Exit}
 use Rattle.gup_events.specs.State.{CoreState, Job, idle, marking, moving, forking, walking, ForkStep, between, counted, lowered, cleared, copying, failing}
 use Rattle.gup_events.specs.Fault.{Fault}
-use Rattle.gup_turns.specs.Turn.{op_turn, load_fault, loads_after, store_fault, stores_after, map_turn_by, unmap_turn_by, protect_turn_by, discard_turn_by, exit_turn_by, lowest_page, pin_fault, pinned_if, ends_pin, pin_turn_by, but_last, unpinned, unpin_turn_by, give_turn_by, transfer_turn_by, page_turn, next_page, next_turn, fork_step_turn, fork_turn}
+use Rattle.gup_turns.specs.Turn.{op_turn, load_fault, loads_after, store_fault, stores_after, map_turn_by, unmap_turn_by, protect_turn_by, discard_turn_by, exit_turn_by, lowest_page, pin_fault, pinned_if, ends_pin, pin_turn_by, but_last, unpinned, unpin_turn_by, give_turn_by, transfer_turn_by, page_turn, next_page, next_turn, frame_turn, copy_turn, copying_turn, free_frame, fork_step_turn, fork_turn, failed_turn, turn_at}
 
 abbrev pub NoTwo : List What → Type 0
 NoTwo (Event event ∷ Event next ∷ []) = ⊥
@@ -86,12 +88,24 @@ next_two : (s : CoreState) (a p c : ℕ) (done : List ℕ) (next : Option ℕ) �
 next_two s a p c done None = tt
 next_two s a p c done (Some page) = page_two s a p c done page (s.entry p page)
 
+frame_two : (s : CoreState) (a p c : ℕ) (done : List ℕ) (page word : ℕ) (free : Option ℕ) → NoTwo (frame_turn s a p c done page word free).whats
+frame_two s a p c done page word None = tt
+frame_two s a p c done page word (Some f) = tt
+
+copy_two : (s : CoreState) (a p c : ℕ) (done : List ℕ) (page word to : ℕ) (more : Bool) → NoTwo (copy_turn s a p c done page word to more).whats
+copy_two s a p c done page word to true = tt
+copy_two s a p c done page word to false = tt
+
+copying_two : (s : CoreState) (a p c : ℕ) (done : List ℕ) (page word : ℕ) (prepared : Option ℕ) → NoTwo (copying_turn s a p c done page word prepared).whats
+copying_two s a p c done page word None = frame_two s a p c done page word (free_frame s)
+copying_two s a p c done page word (Some to) = copy_two s a p c done page word to (nat_lt word words)
+
 step_two : (s : CoreState) (a p c : ℕ) (done : List ℕ) (step : ForkStep) → NoTwo (fork_step_turn s a p c done step).whats
 step_two s a p c done between = next_two s a p c done (next_page (s.right c) done)
 step_two s a p c done (counted page) = tt
 step_two s a p c done (lowered page) = tt
 step_two s a p c done (cleared page) = tt
-step_two s a p c done (copying page n) = tt
+step_two s a p c done (copying page word) = copying_two s a p c done page word (s.prepared a)
 step_two s a p c done failing = tt
 
 fork_two : (s : CoreState) (a p c : ℕ) (job : Job) → NoTwo (fork_turn s a p c job).whats
@@ -101,7 +115,7 @@ fork_two s a p c (marking q page f) = tt
 fork_two s a p c (moving q page e count) = tt
 fork_two s a p c (walking q write long sequence step) = tt
 
-pub no_two : (s : CoreState) (a p slots far : ℕ) (op : Op) → NoTwo (op_turn s a p slots far op).whats
+no_two : (s : CoreState) (a p slots far : ℕ) (op : Op) → NoTwo (op_turn s a p slots far op).whats
 no_two s a p slots far (Map page n rights) = map_two (map_denial (any_mapped (s.right p) page n) (s.pages p) n) a p page n rights
 no_two s a p slots far (Unmap page n) = unmap_two (s.right p (page + far)) a p (page + far) (s.entry p (page + far)) (far + 1 == n)
 no_two s a p slots far (Protect page n rights) = protect_two (protect_denial (any_unmapped (s.right p) page n)) s a p page n rights
@@ -116,3 +130,24 @@ no_two s a p slots far (Transfer handle outward index slot n) =
     transfer_two (transfer_denial (s.handle handle) a outward slots slot ((index, n) ∷ [])) s a handle outward (far + 1 == n) (index + far) (slot + far)
 no_two s a p slots far (Fork child) = fork_two s a p child (s.job a)
 no_two s a p slots far Exit = exit_two s a p (lowest_page (s.right p))
+
+refused_two : (a p : ℕ) (op : Op) → NoTwo (failed_turn a p op).whats
+refused_two a p (Map page n rights) = tt
+refused_two a p (Unmap page n) = tt
+refused_two a p (Protect page n rights) = tt
+refused_two a p (Discard page n) = tt
+refused_two a p (Load page word) = tt
+refused_two a p (Store page word value) = tt
+refused_two a p (Pin handle page n write) = tt
+refused_two a p (Unpin handle) = tt
+refused_two a p (Give handle to) = tt
+refused_two a p (Take handle) = tt
+refused_two a p (Transfer handle outward index slot n) = tt
+refused_two a p (Fork child) = tt
+refused_two a p Exit = tt
+
+pub turn_two : (b : Birth) (s : CoreState) (a p slots far : ℕ) (op : Op) → NoTwo (turn_at b (failed_turn a p op) (op_turn s a p slots far op)).whats
+turn_two failed s a p slots far op = refused_two a p op
+turn_two born s a p slots far op = no_two s a p slots far op
+turn_two unborn s a p slots far op = no_two s a p slots far op
+turn_two (growing parent) s a p slots far op = no_two s a p slots far op

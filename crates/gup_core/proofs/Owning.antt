@@ -1,5 +1,5 @@
 -- The events of a turn of one process are of frames and of that process. They bear no process, leave forks where they are,
--- and are of no pin. Those of a fork are of no pin either.
+-- and are of no pin.
 use Rattle.std.proofs.Common.{◌≡◌, ℕ, ◌+◌, ◌==◌, Bool, true, false, cond, List, [], ◌∷◌, ◌++◌, Option, Some, None, Ok, Err, zero, suc, refl, sym, ap, ◌∙◌, eqb-true, if◌then◌else◌}
 use Rattle.gup_base.specs.declared.entry.Entry.{Entry}
 use Rattle.gup_base.specs.declared.entry.Rights.{Rights}
@@ -11,13 +11,12 @@ use Rattle.gup_plain.specs.declared.answer.Answer.{Answer}
 use Rattle.gup_script.specs.declared.op.Op.{Op}
 use Rattle.gup_script.specs.declared.op.Op.TheVariants.{Map, Unmap, Protect, Discard, Load, Store, Pin, Unpin, Give, Take, Transfer, Fork, Exit}
 use Rattle.gup_space.specs.After.{IsOf, AreOf, taking, filling, counting, marking_it, upgrading, breaking, putting, dropping, discarding, mapping, lowering, protecting, loading, storing}
-use Rattle.gup_fork.specs.ForkAfter.{IsForkEvent, AreOfFork, beginning, counting as counting_it, lowering as lowering_it, unmarking, giving, passing, ending, writing, placing, failing_at, putting as putting_back, releasing}
-use Rattle.gup_events.specs.State.{CoreState, Taken as TakenPage, Job, idle, marking, moving, forking, walking, ForkStep, between, counted, lowered, cleared, copying, failing}
+use Rattle.gup_events.specs.State.{CoreState, Taken as TakenPage, Job, idle, marking}
 use Rattle.gup_events.specs.Event.{CoreEvent, happens, take_frame, fill, count_one, set_mark, upgrade, break_entry, put_entry, drop_entry, discard_entry, map_pages, lower_entry, protect_pages, load, store}
 use Rattle.gup_events.specs.Fault.{Fault, events_of, fills, fills_writable, breaks, marks, read_fault, makes_writable, write_fault, gives_back}
 use Rattle.gup_events.specs.Invariant.{run}
-use Rattle.gup_turns.specs.Turn.{op_turn, load_fault, loads_after, store_fault_by, stores_after, allows_store, free_frame, map_turn_by, unmap_turn_by, lowers_entry, lowers, lowers_for, protect_turn_by, discard_turn_by, exit_turn_by, lowest_page, page_turn, next_page, next_turn, fork_step_turn, fork_turn}
-use Rattle.gup_turns.specs.Reached.{fork_place, unbegun}
+use Rattle.gup_turns.specs.Turn.{op_turn, load_fault, loads_after, store_fault_by, stores_after, allows_store, free_frame, map_turn_by, unmap_turn_by, lowers_entry, lowers, lowers_for, protect_turn_by, discard_turn_by, exit_turn_by, lowest_page}
+use Rattle.gup_turns.specs.Reached.{fork_place, place_in, unbegun}
 use Rattle.gup_ops.specs.Alone.{IsAlone}
 
 -- an event of a turn of actor a over process p
@@ -222,24 +221,6 @@ own_leave_pins a p s es own = through (IsOwn a p) pins_of (λ x e is. own_leaves
 
 -- so do the events of a fork
 
-fork_leaves_pins : (a p c : ℕ) (s : CoreState) {e : CoreEvent} → IsForkEvent a p c e → pins_of (happens s e) ≡ pins_of s
-fork_leaves_pins a p c s beginning = refl
-fork_leaves_pins a p c s (counting_it done page entry copies) = refl
-fork_leaves_pins a p c s (lowering_it done page f writable) = refl
-fork_leaves_pins a p c s (unmarking done page f writable) = refl
-fork_leaves_pins a p c s (giving done page f writable) = refl
-fork_leaves_pins a p c s (passing done page) = refl
-fork_leaves_pins a p c s (ending done) = refl
-fork_leaves_pins a p c s (writing done page word to entry) = refl
-fork_leaves_pins a p c s (placing done page to rights) = refl
-fork_leaves_pins a p c s (failing_at done page word) = refl
-fork_leaves_pins a p c s (putting_back done page entry) = refl
-fork_leaves_pins a p c s (releasing done) = refl
-
-pub fork_leave_pins : (a p c : ℕ) (s : CoreState) (es : List CoreEvent) → AreOfFork a p c es → pins_of (run s es) ≡ pins_of s
-fork_leave_pins a p c s [] own = refl
-fork_leave_pins a p c s (e ∷ es) own = fork_leave_pins a p c (happens s e) es own.1 ∙ fork_leaves_pins a p c s own.0
-
 -- ---- births and forks
 
 pub birth_stays : (a p : ℕ) (s : CoreState) {e : CoreEvent} → IsOwn a p e → (happens s e).birth ≡ s.birth
@@ -262,56 +243,65 @@ pub births_stay : (a p : ℕ) (s : CoreState) (es : List CoreEvent) → AreOwn a
 births_stay a p s [] own = refl
 births_stay a p s (e ∷ es) own = births_stay a p (happens s e) es own.1 ∙ birth_stays a p s own.0
 
+-- whatever frame its actor has prepared, the job is no fork
+abbrev pub IsUnforked : Job → Type 0
+IsUnforked job = (prepared : Option ℕ) → fork_place job prepared ≡ unbegun
+
 -- a job that is no fork, in the place of one that is none
-job_put : (a b : ℕ) (job : Job) (jobs : ℕ → Job) → fork_place job ≡ unbegun → fork_place (jobs a) ≡ unbegun → fork_place (put a job jobs b) ≡ fork_place (jobs b)
-job_put a b job jobs new old = go (b == a) refl
+job_put : (a b : ℕ) (job : Job) (jobs : ℕ → Job) (prepared : Option ℕ) → IsUnforked job → IsUnforked (jobs a) → fork_place (put a job jobs b) prepared ≡ fork_place (jobs b) prepared
+job_put a b job jobs prepared new old = go (b == a) refl
   where
-    go : (here : Bool) → (b == a) ≡ here → fork_place (cond here job (jobs b)) ≡ fork_place (jobs b)
-    go true is = new ∙ sym old ∙ ap (λ k. fork_place (jobs k)) (sym (eqb-true b a is))
+    go : (here : Bool) → (b == a) ≡ here → fork_place (cond here job (jobs b)) prepared ≡ fork_place (jobs b) prepared
+    go true is = new prepared ∙ sym (old prepared) ∙ ap (λ k. fork_place (jobs k) prepared) (sym (eqb-true b a is))
     go false is = refl
 
-pub fork_stays : (a p b : ℕ) (s : CoreState) {e : CoreEvent} → IsOwn a p e → fork_place (s.job a) ≡ unbegun → fork_place ((happens s e).job b) ≡ fork_place (s.job b)
-fork_stays a p b s (takes f) none = refl
-fork_stays a p b s (fills_it page f) none = refl
-fork_stays a p b s (counts page f writable) none = job_put a b (marking p page f) s.job refl none
-fork_stays a p b s (marks_it page f) none = job_put a b idle s.job refl none
-fork_stays a p b s (upgrades page f) none = refl
-fork_stays a p b s (breaks_it page old new was writable) none = refl
-fork_stays a p b s (puts f) none = refl
-fork_stays a p b s (drops page was) none = refl
-fork_stays a p b s (discards_it page was) none = refl
-fork_stays a p b s (maps page n rights) none = refl
-fork_stays a p b s (lowers_it page f) none = refl
-fork_stays a p b s (protects page n rights) none = refl
-fork_stays a p b s (loads_it page word f value) none = refl
-fork_stays a p b s (stores_it page word f value) none = refl
+-- what an actor that does no fork has prepared
+frame_put : (a b : ℕ) (frame : Option ℕ) (jobs : ℕ → Job) (prepared : ℕ → Option ℕ) → IsUnforked (jobs a) → fork_place (jobs b) (put a frame prepared b) ≡ fork_place (jobs b) (prepared b)
+frame_put a b frame jobs prepared none = go (b == a) refl
+  where
+    at : (f : Option ℕ) → b ≡ a → fork_place (jobs b) f ≡ unbegun
+    at f e = ap (λ k. fork_place (jobs k) f) e ∙ none f
 
-pub forks_stay : (a p b : ℕ) (s : CoreState) (es : List CoreEvent) → AreOwn a p es → fork_place (s.job a) ≡ unbegun → fork_place ((run s es).job b) ≡ fork_place (s.job b)
+    go : (here : Bool) → (b == a) ≡ here → fork_place (jobs b) (cond here frame (prepared b)) ≡ fork_place (jobs b) (prepared b)
+    go true is = at frame (eqb-true b a is) ∙ sym (at (prepared b) (eqb-true b a is))
+    go false is = refl
+
+pub job_stays : (a p b : ℕ) (s : CoreState) {e : CoreEvent} (prepared : Option ℕ) → IsOwn a p e → IsUnforked (s.job a) → fork_place ((happens s e).job b) prepared ≡ fork_place (s.job b) prepared
+job_stays a p b s prepared (takes f) none = refl
+job_stays a p b s prepared (fills_it page f) none = refl
+job_stays a p b s prepared (counts page f writable) none = job_put a b (marking p page f) s.job prepared (λ f. refl) none
+job_stays a p b s prepared (marks_it page f) none = job_put a b idle s.job prepared (λ f. refl) none
+job_stays a p b s prepared (upgrades page f) none = refl
+job_stays a p b s prepared (breaks_it page old new was writable) none = refl
+job_stays a p b s prepared (puts f) none = refl
+job_stays a p b s prepared (drops page was) none = refl
+job_stays a p b s prepared (discards_it page was) none = refl
+job_stays a p b s prepared (maps page n rights) none = refl
+job_stays a p b s prepared (lowers_it page f) none = refl
+job_stays a p b s prepared (protects page n rights) none = refl
+job_stays a p b s prepared (loads_it page word f value) none = refl
+job_stays a p b s prepared (stores_it page word f value) none = refl
+
+frame_stays : (a p b : ℕ) (s : CoreState) {e : CoreEvent} → IsOwn a p e → IsUnforked (s.job a) → fork_place (s.job b) ((happens s e).prepared b) ≡ place_in s b
+frame_stays a p b s (takes f) none = frame_put a b (Some f) s.job s.prepared none
+frame_stays a p b s (fills_it page f) none = frame_put a b None s.job s.prepared none
+frame_stays a p b s (counts page f writable) none = refl
+frame_stays a p b s (marks_it page f) none = refl
+frame_stays a p b s (upgrades page f) none = refl
+frame_stays a p b s (breaks_it page old new was writable) none = frame_put a b None s.job s.prepared none
+frame_stays a p b s (puts f) none = refl
+frame_stays a p b s (drops page was) none = refl
+frame_stays a p b s (discards_it page was) none = refl
+frame_stays a p b s (maps page n rights) none = refl
+frame_stays a p b s (lowers_it page f) none = refl
+frame_stays a p b s (protects page n rights) none = refl
+frame_stays a p b s (loads_it page word f value) none = refl
+frame_stays a p b s (stores_it page word f value) none = refl
+
+pub fork_stays : (a p b : ℕ) (s : CoreState) {e : CoreEvent} → IsOwn a p e → IsUnforked (s.job a) → place_in (happens s e) b ≡ place_in s b
+fork_stays a p b s {e} own none = job_stays a p b s ((happens s e).prepared b) own none ∙ frame_stays a p b s own none
+
+pub forks_stay : (a p b : ℕ) (s : CoreState) (es : List CoreEvent) → AreOwn a p es → IsUnforked (s.job a) → place_in (run s es) b ≡ place_in s b
 forks_stay a p b s [] own none = refl
 forks_stay a p b s (e ∷ es) own none =
-    forks_stay a p b (happens s e) es own.1 (fork_stays a p a s own.0 none ∙ none) ∙ fork_stays a p b s own.0 none
-
--- ---- the turns of a fork
-
-page_turn_own : (s : CoreState) (a p c : ℕ) (done : List ℕ) (page : ℕ) (entry : Option Entry) → AreOfFork a p c (page_turn s a p c done page entry).events
-page_turn_own s a p c done page None = (passing done page, tt)
-page_turn_own s a p c done page (Some e) = (counting_it done page e _, tt)
-
-next_turn_own : (s : CoreState) (a p c : ℕ) (done : List ℕ) (next : Option ℕ) → AreOfFork a p c (next_turn s a p c done next).events
-next_turn_own s a p c done None = (ending done, tt)
-next_turn_own s a p c done (Some page) = page_turn_own s a p c done page (s.entry p page)
-
-step_own : (s : CoreState) (a p c : ℕ) (done : List ℕ) (step : ForkStep) → AreOfFork a p c (fork_step_turn s a p c done step).events
-step_own s a p c done between = next_turn_own s a p c done (next_page (s.right c) done)
-step_own s a p c done (counted page) = (lowering_it done page _ _, (unmarking done page _ false, (giving done page _ false, tt)))
-step_own s a p c done (lowered page) = tt
-step_own s a p c done (cleared page) = tt
-step_own s a p c done (copying page n) = tt
-step_own s a p c done failing = tt
-
-pub fork_is_own : (s : CoreState) (a p c : ℕ) (job : Job) → AreOfFork a p c (fork_turn s a p c job).events
-fork_is_own s a p c (forking q d done step) = step_own s a p c done step
-fork_is_own s a p c idle = (beginning, tt)
-fork_is_own s a p c (marking q page f) = tt
-fork_is_own s a p c (moving q page e count) = tt
-fork_is_own s a p c (walking q write long sequence step) = tt
+    forks_stay a p b (happens s e) es own.1 (λ f. job_stays a p a s f own.0 none ∙ none f) ∙ fork_stays a p b s own.0 none

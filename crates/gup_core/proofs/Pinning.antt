@@ -13,8 +13,8 @@ use Rattle.gup_events.specs.Event.{CoreEvent, happens, raise_flag, pin_page, mak
 use Rattle.gup_events.specs.Fault.{Fault, events_of, unshare_fault, unshares, marks, breaks}
 use Rattle.gup_events.specs.Invariant.{run}
 use Rattle.gup_turns.specs.Turn.{free_frame, raises, pin_fault, makes_if, ends_pin, pin_turn_by, pin_turn, last_of, but_last, unpin_turn_by, unpin_turn, give_turn_by, give_turn, take_turn, moves, moves_value, transfer_turn_by, transfer_turn, frame_at}
-use Rattle.gup_turns.specs.Reached.{fork_place, unbegun}
-use Rattle.gup_core.proofs.Owning.{IsOwn, AreOwn, AreAll, through, two_lists, is_of, counts, marks_it, fills_own, breaks_own, write_fault_own, birth_stays, fork_stays, Pins, own_leaves_pins}
+use Rattle.gup_turns.specs.Reached.{fork_place, place_in}
+use Rattle.gup_core.proofs.Owning.{IsOwn, AreOwn, AreAll, through, two_lists, is_of, counts, marks_it, fills_own, breaks_own, write_fault_own, birth_stays, IsUnforked, job_stays, fork_stays, Pins, own_leaves_pins}
 
 -- ---- pins
 
@@ -111,16 +111,22 @@ pinning_taken a p b s other (makes h) = grind (arith, nat_tests)
 pub pinnings_taken : (a p b : ℕ) (s : CoreState) (es : List CoreEvent) → (b ≡ a → ⊥) → ArePinning a p es → (run s es).taken b ≡ s.taken b
 pinnings_taken a p b s es other all = through (IsPinning a p) (λ x. x.taken b) (λ x e is. pinning_taken a p b x other is) s es all
 
-pinning_forks : (a p b : ℕ) (s : CoreState) {e : CoreEvent} → IsPinning a p e → fork_place (s.job a) ≡ unbegun → fork_place ((happens s e).job b) ≡ fork_place (s.job b)
+pinning_jobs : (a p b : ℕ) (s : CoreState) {e : CoreEvent} (prepared : Option ℕ) → IsPinning a p e → IsUnforked (s.job a) → fork_place ((happens s e).job b) prepared ≡ fork_place (s.job b) prepared
+pinning_jobs a p b s prepared (readies e own) none = job_stays a p b s prepared own none
+pinning_jobs a p b s prepared flags none = refl
+pinning_jobs a p b s prepared (pins_it page e write long) none = refl
+pinning_jobs a p b s prepared (makes h) none = refl
+
+pinning_forks : (a p b : ℕ) (s : CoreState) {e : CoreEvent} → IsPinning a p e → IsUnforked (s.job a) → place_in (happens s e) b ≡ place_in s b
 pinning_forks a p b s (readies e own) none = fork_stays a p b s own none
 pinning_forks a p b s flags none = refl
 pinning_forks a p b s (pins_it page e write long) none = refl
 pinning_forks a p b s (makes h) none = refl
 
-pub pinnings_forks : (a p b : ℕ) (s : CoreState) (es : List CoreEvent) → ArePinning a p es → fork_place (s.job a) ≡ unbegun → fork_place ((run s es).job b) ≡ fork_place (s.job b)
+pub pinnings_forks : (a p b : ℕ) (s : CoreState) (es : List CoreEvent) → ArePinning a p es → IsUnforked (s.job a) → place_in (run s es) b ≡ place_in s b
 pinnings_forks a p b s [] all none = refl
 pinnings_forks a p b s (e ∷ es) all none =
-    pinnings_forks a p b (happens s e) es all.1 (pinning_forks a p a s all.0 none ∙ none) ∙ pinning_forks a p b s all.0 none
+    pinnings_forks a p b (happens s e) es all.1 (λ f. pinning_jobs a p a s f all.0 none ∙ none f) ∙ pinning_forks a p b s all.0 none
 
 -- ---- operations on pins
 
@@ -185,12 +191,12 @@ transfer_is_handling s a slots handle outward index slot n far =
 
 -- what they leave
 
--- births, what actors have taken, and their jobs
+-- births, what actors have taken, their jobs, and the frames that they have prepared
 abbrev pub Rest : Type 0
-Rest = (ℕ → Birth) × (ℕ → List TakenPage) × (ℕ → Job)
+Rest = (ℕ → Birth) × (ℕ → List TakenPage) × (ℕ → Job) × (ℕ → Option ℕ)
 
 abbrev pub rest_of : CoreState → Rest
-rest_of s = (s.birth, s.taken, s.job)
+rest_of s = (s.birth, s.taken, s.job, s.prepared)
 
 handling_rest : (a : ℕ) (s : CoreState) {e : CoreEvent} → IsHandling a e → rest_of (happens s e) ≡ rest_of s
 handling_rest a s (unpins h f left) = refl

@@ -20,6 +20,7 @@ use Rattle.gup_turns.specs.Reached.{IsStanding, IsNoFork, StandsFork}
 use Rattle.gup_turns.specs.ScriptLemmas.{op_is_op, child_declared, thread_birth, has_ops_declared}
 use Rattle.gup_ops.specs.Tidy.{needs_table}
 use Rattle.gup_core.specs.declared.seats.Seat.{Seat}
+use Rattle.gup_core.specs.Births.{HasFailed}
 use Rattle.gup_core.specs.Doers.{HasProcess, IsProcessOf}
 use Rattle.gup_core.specs.declared.parts.Parts.{Parts}
 use Rattle.gup_core.specs.Goes.{StandsAt, IsForkReady, IsReady, KeepsSlots}
@@ -28,22 +29,23 @@ use Rattle.gup_core.specs.Rest.{IsAtRest, op_of_seat}
 use Rattle.gup_core.proofs.Resting.{Stand, standing, op_there, stands_at}
 use Rattle.gup_core.proofs.Scripts.{thread_there, process_there, own_process, found_there, has_process, few_answered}
 use Rattle.gup_core.proofs.Singles.{table_process}
-use Rattle.gup_core.proofs.Taking.{IsWaiting, unfailed_for}
+use Rattle.gup_core.proofs.Refusing.{birth_unfailed}
+use Rattle.gup_core.proofs.Taking.{IsWaiting}
 use Rattle.gup_core.proofs.Turning.{there}
 use Rattle.gup_core.proofs.Waiting.{single_needs, born_and_free, locks_free, given_free, keeps_given, table_free}
 
 -- a process that is born is none that a fork brings
-unborn_child : (s : CoreState) (a p child : ℕ) (job : Job) → StandsFork s a p child job → s.birth child ≡ born → ⊥
-unborn_child s a p child idle h is = absurd (cc (sym h ∙ is))
-unborn_child s a p child (forking q c done between) h is = absurd (cc (sym h.birth ∙ is))
-unborn_child s a p child (forking q c done (counted_page page)) h is = absurd (cc (sym h.0.birth ∙ is))
-unborn_child s a p child (forking q c done (lowered page)) h is = absurd h
-unborn_child s a p child (forking q c done (cleared page)) h is = absurd h
-unborn_child s a p child (forking q c done (copying page n)) h is = absurd h
-unborn_child s a p child (forking q c done failing) h is = absurd h
-unborn_child s a p child (marking q page f) h is = absurd h
-unborn_child s a p child (moving q page e count) h is = absurd h
-unborn_child s a p child (walking q write long sequence step) h is = absurd h
+unborn_child : (s : CoreState) (a p child : ℕ) (job : Job) (prepared : Option ℕ) → StandsFork s a p child job prepared → s.birth child ≡ born → ⊥
+unborn_child s a p child idle prepared h is = absurd (cc (sym h ∙ is))
+unborn_child s a p child (forking q c done between) prepared h is = absurd (cc (sym h.birth ∙ is))
+unborn_child s a p child (forking q c done (counted_page page)) prepared h is = absurd (cc (sym h.0.birth ∙ is))
+unborn_child s a p child (forking q c done (lowered page)) prepared h is = absurd h
+unborn_child s a p child (forking q c done (cleared page)) prepared h is = absurd h
+unborn_child s a p child (forking q c done (copying page word)) prepared h is = absurd (cc (sym h.0.birth ∙ is))
+unborn_child s a p child (forking q c done failing) prepared h is = absurd h
+unborn_child s a p child (marking q page f) prepared h is = absurd h
+unborn_child s a p child (moving q page e count) prepared h is = absurd h
+unborn_child s a p child (walking q write long sequence step) prepared h is = absurd h
 
 few_references : (n : ℕ) → n ≤ 16 * page_numbers + bias * 17680 → n < 2 ^ 40
 unfolding page_numbers
@@ -53,19 +55,18 @@ fork_ready : (m : MachineValue) (r : RunState) (a p child : ℕ) (seat : Seat) �
     → IsForkReady (frames_of m.parts.frames) m.parts.spaces.items m.parts.births.items p child seat.fork
 fork_ready m r a p child seat stands h rest own here present is_born =
     let declared : child < length m.script.processes = child_declared m.script rest.valid a seat.answered child present in
-    let at : StandsFork r.core a (process_of m.script a) child (r.core.job a) = stands.forks a child (op_there m r a seat (Some (Fork child)) h here present) in
+    let at : StandsFork r.core a (process_of m.script a) child (r.core.job a) (r.core.prepared a) = stands.forks a child (op_there m r a seat (Some (Fork child)) h here present) in
     record {
-      apart = λ same. unborn_child r.core a (process_of m.script a) child (r.core.job a) at (ap r.core.birth (sym (own ∙ same)) ∙ is_born);
+      apart = λ same. unborn_child r.core a (process_of m.script a) child (r.core.job a) (r.core.prepared a) at (ap r.core.birth (sym (own ∙ same)) ∙ is_born);
       there = omega (arith, declared, rest.parts.spaces);
       declared = omega (arith, declared, rest.parts.births);
       few_forks = λ q space there. let forks = rest.few_forks q space there in omega arith;
-      unpinned = rest.unpinned a seat.answered child present;
       stands = λ parent kid parent_is kid_is. rest.forks a child seat parent kid here present (ap (λ k. slice_get m.parts.spaces.items k) own ∙ parent_is) kid_is;
     }
 
 pub is_ready : (m : MachineValue) (a : ℕ) (asked proc : Option ℕ) (seat : Seat) (op : Op) → Stand → IsMachine m → IsAtRest m → IsProcessOf (doer m.script a) asked → IsProcessOf (doer m.script a) proc → slice_get m.seats a ≡ Some seat → op_of_seat m a seat ≡ Some op → IsWaiting m a asked seat op None
-    → (p : ℕ) → IfSome proc (λ q. q ≡ p) → IsReady m.parts a p op seat.far seat.fork
-is_ready m a asked proc seat op stand machine rest of_asked of_a here present waiting p of_p =
+    → (HasFailed m.parts.births.items proc → ⊥) → (p : ℕ) → IfSome proc (λ q. q ≡ p) → IsReady m.parts a p op seat.far seat.fork
+is_ready m a asked proc seat op stand machine rest of_asked of_a here present waiting unfailed p of_p =
     let who : Doer = doer m.script a in
     let own : ℕ = process_of m.script a in
     let r : RunState = machine.shown.0 in
@@ -76,7 +77,7 @@ is_ready m a asked proc seat op stand machine rest of_asked of_a here present wa
     let free : waiting_for r.core who op ≡ None = sym (waiting r.core who (r.places a).far h.parts refl of_asked (h.forks a seat here) at) in
     let locks : Option Waiting = waits_for_locks (locks_needed r.core a own op) a (r.core.structure own) (r.core.table own) in
     let born_free : (birth_for r.core.birth who ≡ born) × (waits_born r.core a own op ≡ None) =
-    born_and_free (birth_for r.core.birth who) own (waits_born r.core a own op) (unfailed_for who.thread (r.core.birth own) (stands.unfailed own)) free in
+    born_and_free (birth_for r.core.birth who) own (waits_born r.core a own op) (birth_unfailed m.parts.births.items proc who r.core unfailed (found_there m.script rest.valid a (length m.parts.births.items) proc rest.parts.births of_a) of_a h.parts.births) free in
     let thread : HasProcess op → who.thread ≡ true = thread_there m.script rest.valid a seat.answered op present in
     let same : HasProcess op → own ≡ p = λ has. own_process who proc p of_a (thread has) of_p in
     let actor : a < length m.script.actors = has_ops_declared m.script a seat.answered op present in
@@ -121,11 +122,11 @@ still_parts script old new are spaces births taken stores slots =
           slots a was.0 store was.1 here ∙ are.slots a was.0 was.1;
     }
 
--- the children that forks bring have spaces
-pub child_within : (m : MachineValue) (a child : ℕ) (seat : Seat) (op : Op) → IsAtRest m → op_of_seat m a seat ≡ Some op → op ≡ Fork child → child < length m.parts.spaces.items
+-- the children that forks bring have spaces and births
+pub child_within : (m : MachineValue) (a child : ℕ) (seat : Seat) (op : Op) → IsAtRest m → op_of_seat m a seat ≡ Some op → op ≡ Fork child → (child < length m.parts.spaces.items) × (child < length m.parts.births.items)
 child_within m a child seat op rest present same =
     let declared : child < length m.script.processes = child_declared m.script rest.valid a seat.answered child (present ∙ ap (λ (x : Op). Some x) same) in
-    omega (arith, declared, rest.parts.spaces)
+    (omega (arith, declared, rest.parts.spaces), omega (arith, declared, rest.parts.births))
 
 -- an operation of a process is a thread's, and that process has a space and a birth
 pub process_found_so : (m : MachineValue) (a : ℕ) (proc : Option ℕ) (seat : Seat) (op : Op) → IsAtRest m → IsProcessOf (doer m.script a) proc → op_of_seat m a seat ≡ Some op → HasProcess op → IsSome proc

@@ -20,9 +20,9 @@ use Rattle.gup_events.specs.State.{CoreState, Taken, Job, idle, marking, moving,
 use Rattle.gup_events.specs.Sound.{IsSound, keeps_table, keeps_structure}
 use Rattle.gup_turns.specs.Run.{RunState, run_start, run_after}
 use Rattle.gup_turns.specs.Turn.{first_behind}
-use Rattle.gup_turns.specs.Reached.{turned, ForkPlace, fork_place, IsStanding, IsNoFork, StandsFork, IsForking, StandsHandle, given_back, back_in}
+use Rattle.gup_turns.specs.Reached.{turned, ForkPlace, fork_place, place_in, IsStanding, IsNoFork, StandsFork, IsForking, HasCounted, IsPrepared, StandsHandle, given_back, back_in}
 use Rattle.gup_ops.specs.Far.{HasFar}
-use Rattle.gup_ops.specs.Forked.{IsReadyAt}
+use Rattle.gup_ops.specs.Forked.{IsCountedIn, IsCopyOf, IsReadyAt}
 use Rattle.gup_ops.specs.Pins.{IsPin, frames_in}
 use Rattle.gup_ops.specs.Tidy.{IsTidy}
 use Rattle.gup_core.specs.declared.seats.Seat.{Seat}
@@ -84,25 +84,38 @@ idle_unlocked s S p a sound none space = (
 fresh_at : (s : CoreState) (C : SpaceValue) (a p child q c : ℕ) (done : List ℕ) (page : ℕ) → IsForking s a p child q c done → ShowsSpace child C s → first_behind done ≤ page → C.entry page ≡ None
 fresh_at s C a p child q c done page h kid above = sym (kid.entry page) ∙ h.fresh page above
 
--- what a fork has counted it can share
-pub ready_at : (s : CoreState) (P C : SpaceValue) (a p child : ℕ) → ShowsSpace p P s → ShowsSpace child C s → StandsFork s a p child (s.job a) → IsReadyAt (fork_place (s.job a)) P C
-ready_at s P C a p child parent kid stands = go (s.job a) stands
+counted_in : (s : CoreState) (P C : SpaceValue) (a p child q c : ℕ) (done : List ℕ) (page : ℕ) → ShowsSpace p P s → ShowsSpace child C s → IsForking s a p child q c done → HasCounted s a p child done page → IsCountedIn page P C
+counted_in s P C a p child q c done page parent kid forks counted_so = (
+  subst (λ (o : Option Entry). IsSome o) (parent.entry page) counted_so.entry,
+  subst (λ (o : Option Rights). IsSome o) (kid.right page) counted_so.mapped,
+  fresh_at s C a p child q c done page forks kid counted_so.above,
+)
+
+copy_of : (s : CoreState) (F : FramesValue) (P : SpaceValue) (p page to : ℕ) → ShowsFrames F s → ShowsSpace p P s → IsPrepared s to → IsCopyOf F page to P
+copy_of s F P p page to frames parent h = (
+  let within : to < s.movable + s.normal = h.there in omega (arith, within, frames.movable, frames.normal),
+  λ none. h.counted (frames.count to ∙ none),
+  λ e is. h.apart p page e (parent.entry page ∙ is),
+)
+
+-- what a fork has counted it can share or copy
+pub ready_at : (s : CoreState) (F : FramesValue) (P C : SpaceValue) (a p child : ℕ) → ShowsFrames F s → ShowsSpace p P s → ShowsSpace child C s
+    → StandsFork s a p child (s.job a) (s.prepared a) → ((f : ℕ) → s.prepared a ≡ Some f → IsPrepared s f) → IsReadyAt F (place_in s a) P C
+ready_at s F P C a p child frames parent kid stands prepares = go (s.job a) (s.prepared a) stands prepares
   where
-    go : (job : Job) → StandsFork s a p child job → IsReadyAt (fork_place job) P C
-    go idle h = tt
-    go (forking q c done between) h = tt
-    go (forking q c done (counted page)) h = (
-      subst (λ (o : Option Entry). IsSome o) (parent.entry page) h.1.entry,
-      subst (λ (o : Option Rights). IsSome o) (kid.right page) h.1.mapped,
-      fresh_at s C a p child q c done page h.0 kid h.1.above,
-    )
-    go (forking q c done (lowered page)) h = absurd h
-    go (forking q c done (cleared page)) h = absurd h
-    go (forking q c done (copying page n)) h = absurd h
-    go (forking q c done failing) h = absurd h
-    go (marking q page f) h = absurd h
-    go (moving q page e count) h = absurd h
-    go (walking q write long sequence step) h = absurd h
+    go : (job : Job) (prepared : Option ℕ) → StandsFork s a p child job prepared → ((f : ℕ) → prepared ≡ Some f → IsPrepared s f) → IsReadyAt F (fork_place job prepared) P C
+    go idle prepared h kept_so = tt
+    go (forking q c done between) prepared h kept_so = tt
+    go (forking q c done (counted page)) prepared h kept_so = counted_in s P C a p child q c done page parent kid h.0 h.1
+    go (forking q c done (copying page word)) None h kept_so = counted_in s P C a p child q c done page parent kid h.0 h.1
+    go (forking q c done (copying page word)) (Some to) h kept_so =
+        (counted_in s P C a p child q c done page parent kid h.0 h.1, copy_of s F P p page to frames parent (kept_so to refl), h.2)
+    go (forking q c done (lowered page)) prepared h kept_so = absurd h
+    go (forking q c done (cleared page)) prepared h kept_so = absurd h
+    go (forking q c done failing) prepared h kept_so = absurd h
+    go (marking q page f) prepared h kept_so = absurd h
+    go (moving q page e count) prepared h kept_so = absurd h
+    go (walking q write long sequence step) prepared h kept_so = absurd h
 
 -- ---- actors
 
@@ -172,6 +185,7 @@ pub stands_at : (script : ScriptValue) (r : RunState) (a : ℕ) (op : Op) → Is
 stands_at script r a op h is =
     record {
       idle_job = λ single. h.idle_jobs a (subst IsNoFork (sym is) single);
+      keeps = h.keeps a;
       fork = λ child same. h.forks a child (is ∙ ap (λ (x : Op). Some x) same);
       pin = λ handle page n write same. h.pins a handle page n write (is ∙ ap (λ (x : Op). Some x) same);
       pinned = λ handle page n write same some. h.flagged a handle page n write (is ∙ ap (λ (x : Op). Some x) same) some;
@@ -191,16 +205,15 @@ at_rest m valid is there stand =
       parts = is.parts;
       seats = is.seats;
       tidy = λ p space here. tidy_in m.script r (frames_of m.parts.frames) (space_of space) p valid h there parts.frames (parts.spaces p space here);
-      unpinned = λ a k child forks p space here. sym (parts.spaces p space here).has_pinned ∙ h.unpinned a k child forks p;
       few_forks = λ p space here. subst (λ (k : ℕ). k ≤ 32) (parts.spaces p space here).sequence (h.few_forks p);
       few_counts = λ f. subst (λ (k : ℕ). k ≤ 16 * page_numbers + bias * 17680) (parts.frames.count f) (h.few_counts f);
       unlocked = λ p a space seat here sits single.
           idle_unlocked r.core (space_of space) p a h.sound (h.idle_jobs a (subst IsNoFork (sym (op_there m r a seat (op_of_seat m a seat) shown sits refl)) single)) (parts.spaces p space here);
       forks = λ a child seat parent kid sits op parent_is kid_is.
-          subst (λ (k : ForkPlace). IsReadyAt k (space_of parent) (space_of kid)) (sym (shown.forks a seat sits))
-          (ready_at r.core (space_of parent) (space_of kid) a (process_of m.script a) child
+          subst (λ (k : ForkPlace). IsReadyAt (frames_of m.parts.frames) k (space_of parent) (space_of kid)) (sym (shown.forks a seat sits))
+          (ready_at r.core (frames_of m.parts.frames) (space_of parent) (space_of kid) a (process_of m.script a) child parts.frames
           (parts.spaces (process_of m.script a) parent parent_is) (parts.spaces child kid kid_is)
-          (h.forks a child (op_there m r a seat (Some (Fork child)) shown sits op)));
+          (h.forks a child (op_there m r a seat (Some (Fork child)) shown sits op)) (h.prepared a));
       answered = λ a seat here. subst (λ (k : ℕ). k ≤ length (ops_of m.script a)) (sym (shown.seats a seat here).0) (h.answered a);
       far = λ a seat op here present.
           let now : present_op m.script a (r.places a) ≡ Some op = op_there m r a seat (Some op) shown here present in

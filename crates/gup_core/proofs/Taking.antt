@@ -1,8 +1,7 @@
 -- The three kinds of turn of an actor: idle, waiting, and a turn of its operation.
-use Rattle.std.proofs.Common.{◌≡◌, ℕ, ◌+◌, ◌-◌, ◌^◌, ◌==◌, Bool, true, false, cond, List, [], ◌∷◌, length, min, slice_get, Option, Some, None, IfSome, is_some, refl, sym, ap, ◌∙◌, subst, eqb-true, arith}
+use Rattle.std.proofs.Common.{◌≡◌, ℕ, ◌+◌, ◌-◌, ◌^◌, ◌==◌, Bool, true, false, cond, List, [], ◌∷◌, length, min, slice_get, Option, Some, None, is_some, refl, sym, ap, ◌∙◌, subst, eqb-true, arith}
 use Rattle.std.proofs.lemmas.Bool.Decides.{nat_tests}
 use Rattle.gup_plain.specs.Note.{NoteValue}
-use Rattle.gup_plain.specs.State.{Birth as CoreBirth, failed, born}
 use Rattle.gup_plain.specs.declared.answer.Answer.{Answer}
 use Rattle.gup_plain.specs.declared.event.PlainEvent.{PlainEvent}
 use Rattle.gup_plain.specs.declared.note.Waiting.{Waiting}
@@ -11,14 +10,14 @@ use Rattle.gup_plain.specs.declared.note.What.TheVariants.{Idle, Wait}
 use Rattle.gup_script.specs.declared.op.Op.{Op}
 use Rattle.gup_script.specs.declared.op.Op.TheVariants.{Map, Unmap, Protect, Discard, Load, Store, Pin, Unpin, Give, Take, Transfer, Fork, Exit}
 use Rattle.gup_script.specs.Script.{ScriptValue}
-use Rattle.gup_follows.specs.Place.{Place, Doer, doer, place_behind, process_of, present_op, birth_by, birth_for}
+use Rattle.gup_follows.specs.Place.{Place, Doer, doer, place_behind, process_of, present_op, birth_for}
 use Rattle.gup_follows.specs.Follows.{notes_of_turn}
 use Rattle.gup_follows.specs.Order.{Turn, places_behind, pointer_after}
 use Rattle.gup_events.specs.State.{CoreState}
 use Rattle.gup_events.specs.Invariant.{run}
-use Rattle.gup_turns.specs.Turn.{Taken, op_turn, failed_turn, turn_at, waits_born, waiting_for}
+use Rattle.gup_turns.specs.Turn.{Taken, turn_of, waiting_for}
 use Rattle.gup_turns.specs.Run.{RunState, op_in, waiting_with, waiting_in, taken_by, taken_in, run_after, written_in}
-use Rattle.gup_turns.specs.Reached.{IsStanding, fork_place}
+use Rattle.gup_turns.specs.Reached.{IsStanding, place_in}
 use Rattle.gup_ops.specs.declared.forks.ForkPlace.{ForkPlace}
 use Rattle.gup_ops.specs.declared.said.Said.{Said}
 use Rattle.gup_ops.specs.Far.{far_in}
@@ -27,15 +26,13 @@ use Rattle.gup_ops.specs.Said.{whats_by, whats_of}
 use Rattle.gup_core.specs.declared.parts.Parts.{Parts}
 use Rattle.gup_core.specs.declared.seats.Seat.{Seat}
 use Rattle.gup_core.specs.Doers.{IsProcessOf}
-use Rattle.gup_core.specs.Goes.{StandsAt, LeadsAll, IsTurnOfAll, HasSlots}
+use Rattle.gup_core.specs.Goes.{StandsAt, LeadsAll, IsTurnBy}
 use Rattle.gup_core.specs.Machine.{MachineValue, machine_of, counted, ShowsParts, Shows, TakesTurns}
 use Rattle.gup_core.specs.Rest.{IsAtRest, op_of_seat}
 use Rattle.gup_core.specs.Seats.{IsSeat, far_behind, seat_behind}
-use Rattle.gup_core.proofs.Notes.{NoTwo, no_two}
+use Rattle.gup_core.proofs.Notes.{NoTwo, turn_two}
 use Rattle.gup_core.proofs.Resting.{Stand, standing, reached_behind, op_there, stands_at}
-use Rattle.gup_core.proofs.Scripts.{process_of_doer}
 use Rattle.gup_core.proofs.Turning.{differ, replaced}
-use Rattle.gup_core.proofs.Waiting.{born_and_free}
 
 -- the number of the next turn
 counted_next : (m t : ℕ) → m ≡ min t (2 ^ 32 - 1) → counted m ≡ min (t + 1) (2 ^ 32 - 1)
@@ -45,7 +42,7 @@ counted_next m t is = grind (arith, nat_tests)
 shows_behind : (m : MachineValue) (parts : Parts) (seats : List Seat) (turns : ℕ) (r : RunState) (a : ℕ) (t : Taken)
     → taken_in m.script r a ≡ t → Shows m r → turns ≡ counted m.turns → ShowsParts parts (run r.core t.events)
     → ((b : ℕ) (seat : Seat) → slice_get seats b ≡ Some seat → IsSeat (present_op m.script b (places_behind r.places (record { actor = a; whats = t.whats }) b)) (places_behind r.places (record { actor = a; whats = t.whats }) b) seat)
-    → ((b : ℕ) (seat : Seat) → slice_get seats b ≡ Some seat → place_of seat.fork ≡ fork_place ((run r.core t.events).job b))
+    → ((b : ℕ) (seat : Seat) → slice_get seats b ≡ Some seat → place_of seat.fork ≡ place_in (run r.core t.events) b)
     → Shows (machine_of m.script parts seats turns) (run_after m.script r a)
 shows_behind m parts seats turns r a t is h count shown places forks =
     let behind : Taken → RunState =
@@ -60,7 +57,7 @@ shows_behind m parts seats turns r a t is h count shown places forks =
       parts = subst (λ (u : Taken). ShowsParts parts (behind u).core) (sym is) shown;
       seats =
           subst (λ (u : Taken). (b : ℕ) (seat : Seat) → slice_get seats b ≡ Some seat → IsSeat (present_op m.script b ((behind u).places b)) ((behind u).places b) seat) (sym is) places;
-      forks = subst (λ (u : Taken). (b : ℕ) (seat : Seat) → slice_get seats b ≡ Some seat → place_of seat.fork ≡ fork_place ((behind u).core.job b)) (sym is) forks;
+      forks = subst (λ (u : Taken). (b : ℕ) (seat : Seat) → slice_get seats b ≡ Some seat → place_of seat.fork ≡ place_in (behind u).core b) (sym is) forks;
       turns = count ∙ counted_next m.turns r.turns h.turns;
     }
 
@@ -87,12 +84,12 @@ seats_behind script places seats others a turn seat actor old same here new b s 
 
 -- its fork stands where the seat says, and those of others where they stood
 forks_behind : (s t : CoreState) (seats others : List Seat) (a : ℕ) (seat : Seat)
-    → ((b : ℕ) (x : Seat) → slice_get seats b ≡ Some x → place_of x.fork ≡ fork_place (s.job b))
+    → ((b : ℕ) (x : Seat) → slice_get seats b ≡ Some x → place_of x.fork ≡ place_in s b)
     → ((b : ℕ) → (b ≡ a → ⊥) → slice_get others b ≡ slice_get seats b) → slice_get others a ≡ Some seat
-    → place_of seat.fork ≡ fork_place (t.job a) → ((b : ℕ) → (b ≡ a → ⊥) → fork_place (t.job b) ≡ fork_place (s.job b))
-    → (b : ℕ) (x : Seat) → slice_get others b ≡ Some x → place_of x.fork ≡ fork_place (t.job b)
+    → place_of seat.fork ≡ place_in t a → ((b : ℕ) → (b ≡ a → ⊥) → place_in t b ≡ place_in s b)
+    → (b : ℕ) (x : Seat) → slice_get others b ≡ Some x → place_of x.fork ≡ place_in t b
 forks_behind s t seats others a seat old same here new stay =
-    replaced (λ b (x : Seat). place_of x.fork ≡ fork_place (t.job b)) seats others a seat here same new
+    replaced (λ b (x : Seat). place_of x.fork ≡ place_in t b) seats others a seat here same new
     (λ b x apart found. old b x found ∙ sym (stay b apart))
 
 -- the same notes
@@ -133,7 +130,7 @@ idles m a seat turns here none count r h =
 abbrev pub IsWaiting : MachineValue → (a : ℕ) → (proc : Option ℕ) → Seat → Op → Option Waiting → Type 0
 IsWaiting m a proc seat op waiting =
     (s : CoreState) (who : Doer) (far : ℕ) → ShowsParts m.parts s → who.actor ≡ a → IsProcessOf who proc
-    → place_of seat.fork ≡ fork_place (s.job a) → StandsAt s a who.proc far op → waiting ≡ waiting_for s who op
+    → place_of seat.fork ≡ place_in s a → StandsAt s a who.proc far op → waiting ≡ waiting_for s who op
 
 -- it is what the core run says
 pub waiting_is : (m : MachineValue) (a : ℕ) (proc : Option ℕ) (seat : Seat) (op : Op) (waiting : Option Waiting) → Stand → IsAtRest m → IsProcessOf (doer m.script a) proc → slice_get m.seats a ≡ Some seat → op_of_seat m a seat ≡ Some op → IsWaiting m a proc seat op waiting
@@ -213,30 +210,17 @@ fork_of_seat : (seat : Seat) (op : Op) (answered : Bool) (fork : ForkPlace) → 
 fork_of_seat seat op true fork = refl
 fork_of_seat seat op false fork = refl
 
--- whoever is no thread needs no process that is born
-pub unfailed_for : (thread : Bool) (b : CoreBirth) → (b ≡ failed → ⊥) → birth_by thread b ≡ failed → ⊥
-unfailed_for true b other is = other is
-unfailed_for false b other is = absurd (cc is)
-
--- the turn is that of the operation, of a process that is born
-taken_is : (m : MachineValue) (r : RunState) (a : ℕ) (op : Op) → IsStanding m.script r → op_in m.script r a ≡ Some op → waiting_in m.script r a ≡ None
-    → taken_in m.script r a ≡ op_turn r.core a (process_of m.script a) (doer m.script a).slots (r.places a).far op
-taken_is m r a op h is none =
-    let who : Doer = doer m.script a in
-    let far : ℕ = (r.places a).far in
-    let turn : Taken = op_turn r.core a who.proc who.slots far op in
-    let free : waiting_for r.core who op ≡ None = ap (λ o. waiting_with r.core who o) (sym is) ∙ none in
-    let is_born : birth_for r.core.birth who ≡ born =
-    (born_and_free (birth_for r.core.birth who) who.proc (waits_born r.core a who.proc op) (unfailed_for who.thread (r.core.birth who.proc) (h.unfailed who.proc)) free).0 in
-    ap (λ o. taken_by r.core who far o (waiting_in m.script r a)) is
-    ∙ ap (λ w. taken_by r.core who far (Some op) w) none
-    ∙ ap (λ b. turn_at b (failed_turn a who.proc op) turn) is_born
+-- the turn is that of the operation, or its refusal
+taken_is : (m : MachineValue) (r : RunState) (a : ℕ) (op : Op) → op_in m.script r a ≡ Some op → waiting_in m.script r a ≡ None → taken_in m.script r a ≡ turn_of r.core (doer m.script a) (r.places a).far op
+taken_is m r a op is none =
+    ap (λ o. taken_by r.core (doer m.script a) (r.places a).far o (waiting_in m.script r a)) is
+    ∙ ap (λ w. taken_by r.core (doer m.script a) (r.places a).far (Some op) w) none
 
 pub goes : (m : MachineValue) (a : ℕ) (proc : Option ℕ) (seat next : Seat) (op : Op) (parts : Parts) (seats : List Seat) (turns : ℕ) (said : Said) (fork : ForkPlace)
     → Stand → IsAtRest m → IsProcessOf (doer m.script a) proc → slice_get m.seats a ≡ Some seat → op_of_seat m a seat ≡ Some op → turns ≡ counted m.turns
     → ((r : RunState) → Shows m r → None ≡ waiting_in m.script r a)
     → next ≡ seat_behind seat op (is_some said.answer) fork → slice_get seats a ≡ Some next → ((b : ℕ) → (b ≡ a → ⊥) → slice_get seats b ≡ slice_get m.seats b)
-    → ((p slots : ℕ) → IfSome proc (λ q. q ≡ p) → HasSlots m.parts a slots → IsTurnOfAll m.parts parts a p slots seat.far op seat.fork (whats_of said) fork)
+    → IsTurnBy m.parts parts a proc seat.far op seat.fork (whats_of said) fork
     → TakesTurns m (machine_of m.script parts seats turns) a (notes_of_turn turns a (seat.answered + 1) (whats_of said))
 goes m a proc seat next op parts seats turns said fork stand rest of_a here present count ready next_is seated unseated turn r h =
     let far : ℕ = (r.places a).far in
@@ -244,12 +228,13 @@ goes m a proc seat next op parts seats turns said fork stand rest of_a here pres
     let stands : IsStanding m.script r = standing m r stand rest.valid h in
     let op_is : op_in m.script r a ≡ Some op = op_there m r a seat (Some op) h here present in
     let at : IsSeat (Some op) (r.places a) seat = subst (λ (o : Option Op). IsSeat o (r.places a) seat) op_is (h.seats a seat here) in
-    let t : Taken = op_turn r.core a who.proc who.slots far op in
-    let is : taken_in m.script r a ≡ t = taken_is m r a op stands op_is (sym (ready r h)) in
+    let free : waiting_for r.core who op ≡ None = ap (λ o. waiting_with r.core who o) (sym op_is) ∙ sym (ready r h) in
+    let t : Taken = turn_of r.core who far op in
+    let is : taken_in m.script r a ≡ t = taken_is m r a op op_is (sym (ready r h)) in
     let led : LeadsAll parts a r.core t (whats_of said) fork =
-    turn who.proc who.slots (process_of_doer who proc of_a) (rest.parts.slots a) r.core far h.parts (h.forks a seat here) (stands_at m.script r a op stands op_is) at.1 in
+    turn r.core who far refl of_a (rest.parts.slots a) stands.sound h.parts (h.forks a seat here) (stands_at m.script r a op stands op_is) at.1 free in
     let seated_so : slice_get seats a ≡ Some (seat_behind seat op (is_some said.answer) fork) = seated ∙ ap (λ (s : Seat). Some s) next_is in
-    let two : NoTwo (whats_of said) = subst (λ (ws : List What). NoTwo ws) led.says (no_two r.core a who.proc who.slots far op) in
+    let two : NoTwo (whats_of said) = subst (λ (ws : List What). NoTwo ws) led.says (turn_two (birth_for r.core.birth who) r.core a who.proc who.slots far op) in
     record {
       said = says_so m r a seat turns t (whats_of said) h here count is led.says;
       shown =

@@ -1,12 +1,15 @@
 -- A turn of an operation among all parts: of one process, of a pin, of an operation on a pin, and of a fork.
-use Rattle.std.proofs.Common.{◌≡◌, ℕ, ◌+◌, ◌<◌, ◌==◌, Bool, true, false, List, length, slice_get, Option, Some, None, is_some, if◌then◌else◌, refl, sym, ap, ◌∙◌, subst, inl, inr, eqb-true, arith}
+use Rattle.std.proofs.Common.{◌≡◌, ℕ, ◌+◌, ◌<◌, ◌==◌, Bool, true, false, List, ◌∷◌, length, slice_get, Option, Some, None, refl, sym, ap, ◌∙◌, subst, inl, inr, eqb-true, arith}
+use Rattle.std.specs.Option.{option_or}
 use Rattle.std.proofs.lemmas.Bool.Decides.{nat_tests}
 use Rattle.std.proofs.lemmas.Option.{slice_get_cases}
 use Rattle.arrayvec.specs.ArrayVec.{ArrayVec}
-use Rattle.gup_plain.specs.State.{Birth as CoreBirth, growing, born}
+use Rattle.gup_plain.specs.State.{Birth as CoreBirth}
 use Rattle.gup_plain.specs.declared.answer.Answer.{Answer}
 use Rattle.gup_plain.specs.declared.event.PlainEvent.{PlainEvent}
+use Rattle.gup_plain.specs.declared.event.PlainEvent.TheVariants as events
 use Rattle.gup_plain.specs.declared.note.What.{What}
+use Rattle.gup_plain.specs.declared.note.What.TheVariants.{Event}
 use Rattle.gup_script.specs.declared.op.Op.{Op}
 use Rattle.gup_script.specs.declared.op.Op.TheVariants.{Pin, Fork}
 use Rattle.gup_frames.specs.Frames.{FrameLists, frames_of}
@@ -15,28 +18,27 @@ use Rattle.gup_space.specs.After.{AreOf}
 use Rattle.gup_space.specs.Shows.{ShowsFrames, ShowsSpace, change_of}
 use Rattle.gup_space.specs.ShowsLemmas.{leave_other}
 use Rattle.gup_fork.specs.Forks.{fork_change_of}
-use Rattle.gup_fork.specs.ForkAfter.{AreOfFork}
-use Rattle.gup_fork.specs.ForkLemmas.{leave_others, jobs_stay, births_stay as fork_births_stay}
 use Rattle.gup_handles.specs.Handles.{handles_of}
 use Rattle.gup_events.specs.State.{CoreState, Taken as TakenPage}
 use Rattle.gup_events.specs.Event.{CoreEvent, frames_of as frames_taken}
 use Rattle.gup_events.specs.Invariant.{run}
 use Rattle.gup_turns.specs.Turn.{Taken, op_turn, fork_turn, pin_turn}
-use Rattle.gup_turns.specs.Reached.{IsNoFork, fork_place, unbegun}
+use Rattle.gup_turns.specs.Reached.{IsNoFork, fork_place}
 use Rattle.gup_ops.specs.declared.forks.ForkPlace.{ForkPlace}
 use Rattle.gup_ops.specs.declared.said.Said.{Said}
 use Rattle.gup_ops.specs.Alone.{IsAlone}
 use Rattle.gup_ops.specs.Far.{far_in}
-use Rattle.gup_ops.specs.Forked.{place_of, is_answered, LeadsFork, IsForkTurn}
+use Rattle.gup_ops.specs.Forked.{place_of, birth_behind, LeadsFork, IsForkTurn}
 use Rattle.gup_ops.specs.Pins.{IsPin, ShowsPins, LeadsPin, IsPinTurn}
 use Rattle.gup_held.specs.Held.{ShowsStore, LeadsHandle}
-use Rattle.gup_ops.specs.Said.{whats_by, whats_of, Leads, IsTurnOf}
+use Rattle.gup_ops.specs.Said.{answer_what, event_what, whats_by, whats_of, Leads, IsTurnOf}
 use Rattle.gup_core.specs.declared.births.Birth.{Birth}
-use Rattle.gup_core.specs.declared.births.Birth.TheVariants.{Growing, Born}
+use Rattle.gup_core.specs.Births.{birth_said}
 use Rattle.gup_core.specs.declared.parts.Parts.{Parts}
 use Rattle.gup_core.specs.Goes.{StandsAt, IsTurnOfAll, pin_change, handle_change}
 use Rattle.gup_core.specs.Machine.{ShowsSpaces, IsBirth, ShowsBirths, ShowsTaken, ShowsStores, ShowsParts}
-use Rattle.gup_core.proofs.Owning.{AreOwn, are_of, turn_is_own, births_stay, forks_stay, fork_is_own, Pins, pins_of, own_leave_pins, fork_leave_pins}
+use Rattle.gup_core.proofs.Owning.{AreOwn, are_of, turn_is_own, births_stay, IsUnforked, forks_stay, Pins, pins_of, own_leave_pins}
+use Rattle.gup_core.proofs.Forking.{AreForking, fork_is_own, fork_leave_pins, fork_leaves_others, fork_births_stay, fork_places_stay}
 use Rattle.gup_core.proofs.Pinning.{ArePinning, pin_is_pinning, pinnings_of, pinnings_births, pinnings_stores, pinnings_taken, pinnings_forks, AreHandling, Rest, rest_of, handling_leave, handlings_of, handlings_stores}
 
 -- ---- one element of a list
@@ -73,12 +75,12 @@ births_shown : (old new : Parts) (s t : CoreState) → new.births ≡ old.births
 births_shown old new s t same stay h q birth here =
     subst (λ (f : ℕ → CoreBirth). IsBirth birth (f q)) (sym stay) (h q birth (ap (λ bs. slice_get bs.items q) (sym same) ∙ here))
 
-pins_shown : (old new : Parts) (s t : CoreState) → new.handles ≡ old.handles → pins_of t ≡ pins_of s → ShowsPins (handles_of old.handles) s → ShowsPins (handles_of new.handles) t
+pub pins_shown : (old new : Parts) (s t : CoreState) → new.handles ≡ old.handles → pins_of t ≡ pins_of s → ShowsPins (handles_of old.handles) s → ShowsPins (handles_of new.handles) t
 pins_shown old new s t same stay h =
     subst (λ hs. ShowsPins (handles_of hs) t) (sym same)
     (subst (λ (k : Pins). (n : ℕ) → IsPin (handles_of old.handles n) (k.0 n) (k.1 n)) (sym stay) h)
 
-taken_shown : (old new : Parts) (s t : CoreState) → new.taken ≡ old.taken → t.taken ≡ s.taken → ShowsTaken old.taken.items s → ShowsTaken new.taken.items t
+pub taken_shown : (old new : Parts) (s t : CoreState) → new.taken ≡ old.taken → t.taken ≡ s.taken → ShowsTaken old.taken.items s → ShowsTaken new.taken.items t
 taken_shown old new s t same stay h b pages here =
     subst (λ (f : ℕ → List TakenPage). frames_taken (f b) ≡ pages.items) (sym stay) (h b pages (ap (λ ts. slice_get ts.items b) (sym same) ∙ here))
 
@@ -112,7 +114,7 @@ alone old new a p slots far op fork whats by_itself single within many births ha
     let now = there new.spaces.items p (omega (arith, within, many)) in
     let es : List CoreEvent = (op_turn s a p slots k op).events in
     let own : AreOwn a p es = turn_is_own s a p slots k op by_itself in
-    let none : fork_place (s.job a) ≡ unbegun = ap fork_place (stands.idle_job single) in
+    let none : IsUnforked (s.job a) = λ f. ap (λ job. fork_place job f) (stands.idle_job single) in
     let stay : pins_of (run s es) ≡ pins_of s = own_leave_pins a p s es own in
     let led : Leads (change_of old.frames new.frames was.0 now.0) p s (op_turn s a p slots k op) whats = turn was.0 now.0 k was.1 now.1 far_is s shown.frames (shown.spaces p was.0 was.1) in
     let parts : ShowsParts new (run s es) =
@@ -149,7 +151,7 @@ pinned old new a p slots far handle page n write fork whats within many taker ta
     let now = there new.taken.items a (omega (arith, taker, takers)) in
     let es : List CoreEvent = (pin_turn s a p handle page n k write).events in
     let own : ArePinning a p es = pin_is_pinning s a p handle page n k write in
-    let none : fork_place (s.job a) ≡ unbegun = ap fork_place (stands.idle_job tt) in
+    let none : IsUnforked (s.job a) = λ f. ap (λ job. fork_place job f) (stands.idle_job tt) in
     let turn_at : IsPinTurn (pin_change old new x.0 y.0 was.0 now.0) a p handle page n write k whats =
     subst (λ (q : ℕ). IsPinTurn (pin_change old new x.0 y.0 was.0 now.0) a p handle page n write q whats) far_is (turn x.0 y.0 was.0 now.0 x.1 y.1 was.1 now.1) in
     let led : LeadsPin (pin_change old new x.0 y.0 was.0 now.0) a p s (pin_turn s a p handle page n k write) whats =
@@ -190,7 +192,6 @@ handled old new a p slots far op fork whats single spaces births taken handling 
     let es : List CoreEvent = (op_turn s a p slots k op).events in
     let own : AreHandling a es = handling s k in
     let stay : rest_of (run s es) ≡ rest_of s = handling_leave a s es own in
-    let job : (run s es).job ≡ s.job = ap (λ (k : Rest). k.2) stay in
     let led : LeadsPart new s (op_turn s a p slots k op) whats = turn s k shown stands far_is in
     let parts : ShowsParts new (run s es) =
     record {
@@ -206,8 +207,8 @@ handled old new a p slots far op fork whats single spaces births taken handling 
     record {
       says = led.says;
       parts = parts;
-      fork = place ∙ ap (λ j. fork_place (j a)) (sym job);
-      others = λ b apart. ap (λ j. fork_place (j b)) job;
+      fork = place ∙ ap (λ (k : Rest). fork_place (k.2 a) (k.3 a)) (sym stay);
+      others = λ b apart. ap (λ (k : Rest). fork_place (k.2 b) (k.3 b)) stay;
     }
 
 -- an operation that leaves stores alone
@@ -238,7 +239,7 @@ leads_store old new a s turn whats was now here others own shown led =
 -- ---- a turn of a fork
 
 -- what the turn leaves of each process but the two
-others_behind : (s : CoreState) (a p c : ℕ) (es : List CoreEvent) (before behind : List SpaceParts) (new_parent new_child : SpaceParts) → AreOfFork a p c es
+others_behind : (s : CoreState) (a p c : ℕ) (es : List CoreEvent) (before behind : List SpaceParts) (new_parent new_child : SpaceParts) → AreForking a p c es
     → ShowsSpaces before s → ShowsSpace p (space_of new_parent) (run s es) → slice_get behind p ≡ Some new_parent
     → ShowsSpace c (space_of new_child) (run s es) → slice_get behind c ≡ Some new_child
     → ((q : ℕ) → (q ≡ p → ⊥) → (q ≡ c → ⊥) → slice_get behind q ≡ slice_get before q)
@@ -255,20 +256,39 @@ others_behind s a p c es before behind new_parent new_child own old parent paren
     go true e d f = at_one p new_parent (eqb-true q p e) parent parent_now
     go false e true f = at_one c new_child (eqb-true q c f) child child_now
     go false e false f =
-        leave_others a p c q (space_of space) s es (λ is. differ q p e (sym is)) (λ is. differ q c f (sym is)) own (old q space (sym (others q (differ q p e) (differ q c f)) ∙ found))
+        fork_leaves_others a p c q (space_of space) s es (λ is. differ q p e (sym is)) (λ is. differ q c f (sym is)) own (old q space (sym (others q (differ q p e) (differ q c f)) ∙ found))
 
 -- the child's birth behind it
-birth_now : (p : ℕ) (event next : Option PlainEvent) (answer : Option Answer) (b : CoreBirth) → b ≡ (if is_answered (whats_by event next answer) then born else growing p) → IsBirth (if is_some answer then Born else Growing) b
-birth_now p None None None b is = (p, is)
-birth_now p None (Some next) None b is = (p, is)
-birth_now p (Some event) None None b is = (p, is)
-birth_now p (Some event) (Some next) None b is = (p, is)
-birth_now p None None (Some answer) b is = is
-birth_now p None (Some next) (Some answer) b is = is
-birth_now p (Some event) None (Some answer) b is = is
-birth_now p (Some event) (Some next) (Some answer) b is = is
+birth_of_event : (p : ℕ) (event : PlainEvent) (whats : List What) (b : CoreBirth) → b ≡ birth_behind p (Event event ∷ whats) → IsBirth (birth_said (Some event)) b
+birth_of_event p (events.Map actor proc page n rights) whats b is = (p, is)
+birth_of_event p (events.Unmap actor proc page) whats b is = (p, is)
+birth_of_event p (events.Discard actor proc page) whats b is = (p, is)
+birth_of_event p (events.Protect actor proc page n rights) whats b is = (p, is)
+birth_of_event p (events.Load actor proc page word value) whats b is = (p, is)
+birth_of_event p (events.Store actor proc page word value) whats b is = (p, is)
+birth_of_event p (events.PinTry actor proc page write) whats b is = (p, is)
+birth_of_event p (events.PinDrop actor page) whats b is = (p, is)
+birth_of_event p (events.PinOk actor handle) whats b is = (p, is)
+birth_of_event p (events.Unpin actor handle) whats b is = (p, is)
+birth_of_event p (events.Give actor handle to) whats b is = (p, is)
+birth_of_event p (events.Take actor handle) whats b is = (p, is)
+birth_of_event p (events.MoveOut actor handle index slot value) whats b is = (p, is)
+birth_of_event p (events.MoveIn actor handle index slot value) whats b is = (p, is)
+birth_of_event p (events.MirrorFill actor mirror proc page) whats b is = (p, is)
+birth_of_event p (events.Look actor mirror word value) whats b is = (p, is)
+birth_of_event p (events.ForkBegin parent child) whats b is = (p, is)
+birth_of_event p (events.ForkPage parent child page) whats b is = (p, is)
+birth_of_event p (events.ForkWord parent child page word) whats b is = (p, is)
+birth_of_event p (events.ForkEnd parent child) whats b is = is
+birth_of_event p (events.ForkFail child) whats b is = is
 
-births_behind : (s : CoreState) (a p c : ℕ) (es : List CoreEvent) (before behind : List Birth) (new : Birth) → AreOfFork a p c es → ShowsBirths before s
+birth_now : (p : ℕ) (event next : Option PlainEvent) (answer : Option Answer) (b : CoreBirth) → b ≡ birth_behind p (whats_by event next answer) → IsBirth (birth_said (option_or event next)) b
+birth_now p (Some event) next answer b is = birth_of_event p event (event_what next (answer_what answer)) b is
+birth_now p None (Some next) answer b is = birth_of_event p next (answer_what answer) b is
+birth_now p None None (Some answer) b is = (p, is)
+birth_now p None None None b is = (p, is)
+
+births_behind : (s : CoreState) (a p c : ℕ) (es : List CoreEvent) (before behind : List Birth) (new : Birth) → AreForking a p c es → ShowsBirths before s
     → slice_get behind c ≡ Some new → ((q : ℕ) → (q ≡ c → ⊥) → slice_get behind q ≡ slice_get before q) → IsBirth new ((run s es).birth c) → ShowsBirths behind (run s es)
 births_behind s a p c es before behind new own old now others shown =
     replaced (λ q birth. IsBirth birth ((run s es).birth q)) before behind c new now others shown
@@ -286,7 +306,7 @@ pub forked : (old new : Parts) (a p c slots far : ℕ) (place next : ForkPlace) 
     → new.handles ≡ old.handles → new.taken ≡ old.taken → new.stores ≡ old.stores
     → ((q : ℕ) → (q ≡ p → ⊥) → (q ≡ c → ⊥) → slice_get new.spaces.items q ≡ slice_get old.spaces.items q)
     → IsForkTurns old.frames new.frames old.spaces.items new.spaces.items a p c place next (whats_of said)
-    → slice_get new.births.items c ≡ Some (if is_some said.answer then Born else Growing) → ((q : ℕ) → (q ≡ c → ⊥) → slice_get new.births.items q ≡ slice_get old.births.items q)
+    → slice_get new.births.items c ≡ Some (birth_said (option_or said.event said.next)) → ((q : ℕ) → (q ≡ c → ⊥) → slice_get new.births.items q ≡ slice_get old.births.items q)
     → IsTurnOfAll old new a p slots far (Fork c) place (whats_of said) next
 forked old new a p c slots far place next said apart p_in c_in many handles taken stores others turn born_now unborn_others s k shown at stands far_is =
     let old_parent = there old.spaces.items p p_in in
@@ -294,16 +314,16 @@ forked old new a p c slots far place next said apart p_in c_in many handles take
     let new_parent = there new.spaces.items p (omega (arith, p_in, many)) in
     let new_child = there new.spaces.items c (omega (arith, c_in, many)) in
     let t : Taken = fork_turn s a p c (s.job a) in
-    let own : AreOfFork a p c t.events = fork_is_own s a p c (s.job a) in
+    let own : AreForking a p c t.events = fork_is_own s a p c (s.job a) in
     let stay : pins_of (run s t.events) ≡ pins_of s = fork_leave_pins a p c s t.events own in
     let led : LeadsFork (fork_change_of old.frames new.frames old_parent.0 new_parent.0 old_child.0 new_child.0) a p c s t (place_of next) (whats_of said) =
-    turn old_parent.0 new_parent.0 old_child.0 new_child.0 old_parent.1 new_parent.1 old_child.1 new_child.1 s apart shown.frames (shown.spaces p old_parent.0 old_parent.1) (shown.spaces c old_child.0 old_child.1) (stands.fork c refl) (sym at) in
+    turn old_parent.0 new_parent.0 old_child.0 new_child.0 old_parent.1 new_parent.1 old_child.1 new_child.1 s apart shown.frames (shown.spaces p old_parent.0 old_parent.1) (shown.spaces c old_child.0 old_child.1) stands.keeps (stands.fork c refl) (sym at) in
     let parts : ShowsParts new (run s t.events) =
     record {
       frames = led.frames;
       spaces = others_behind s a p c t.events old.spaces.items new.spaces.items new_parent.0 new_child.0 own shown.spaces led.parent new_parent.1 led.child new_child.1 others;
       births =
-          births_behind s a p c t.events old.births.items new.births.items (if is_some said.answer then Born else Growing) own shown.births born_now unborn_others (birth_now p said.event said.next said.answer ((run s t.events).birth c) led.birth);
+          births_behind s a p c t.events old.births.items new.births.items (birth_said (option_or said.event said.next)) own shown.births born_now unborn_others (birth_now p said.event said.next said.answer ((run s t.events).birth c) led.birth);
       pins = pins_shown old new s (run s t.events) handles stay shown.pins;
       taken = taken_shown old new s (run s t.events) taken (ap (λ (k : Pins). k.2) stay) shown.taken;
       stores = stores_shown old new s (run s t.events) stores (ap (λ (k : Pins). k.3) stay) shown.stores;
@@ -312,5 +332,5 @@ forked old new a p c slots far place next said apart p_in c_in many handles take
       says = led.says;
       parts = parts;
       fork = sym led.place;
-      others = λ b other. ap fork_place (jobs_stay a p c b s t.events (λ is. other (sym is)) own);
+      others = λ b other. fork_places_stay a p c b s t.events (λ is. other (sym is)) own;
     }

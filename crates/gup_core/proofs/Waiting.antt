@@ -11,7 +11,7 @@ use Rattle.gup_space.specs.Space.{SpaceValue}
 use Rattle.gup_space.specs.Shows.{ShowsSpace}
 use Rattle.gup_events.specs.State.{CoreState, Job, idle, marking, moving, forking, walking, between, counted, lowered, cleared, copying, failing}
 use Rattle.gup_turns.specs.Turn.{both_if, fork_locks, locks_needed, held_by_other, first_waiting, waits_for_locks, waits_at, waits_born, waiting_for, first_behind, allows_store}
-use Rattle.gup_turns.specs.Reached.{ForkPlace, fork_place, IsNoFork, StandsFork}
+use Rattle.gup_turns.specs.Reached.{ForkPlace, fork_place, place_in, IsNoFork, StandsFork}
 use Rattle.gup_handles.specs.Handles.{HandleValue, IsGivenTo as IsKeptFor}
 use Rattle.gup_handles.specs.Handles as kept
 use Rattle.gup_follows.specs.Order.{is_given_to, taking_waits, handle_waits}
@@ -76,24 +76,25 @@ single_needs S s a p (Transfer handle outward index slot n) space none = refl
 single_needs S s a p (Fork child) space none = absurd none
 single_needs S s a p Exit space none = refl
 
-pub fork_needs_by : (S : SpaceValue) (s : CoreState) (a p child : ℕ) (place : ForkPlace) → ShowsSpace child S s → place ≡ fork_place (s.job a) → StandsFork s a p child (s.job a)
+pub fork_needs_by : (S : SpaceValue) (s : CoreState) (a p child : ℕ) (place : ForkPlace) → ShowsSpace child S s → place ≡ place_in s a → StandsFork s a p child (s.job a) (s.prepared a)
     → fork_needs S.right place ≡ fork_locks (s.right child) (s.job a)
-fork_needs_by S s a p child place space is stands = ap (λ k. fork_needs S.right k) is ∙ go (s.job a) stands
+fork_needs_by S s a p child place space is stands = ap (λ k. fork_needs S.right k) is ∙ go (s.job a) (s.prepared a) stands
   where
     found : (from : ℕ) → is_some (lowest from (page_numbers - from) (λ g. is_some (S.right g))) ≡ is_some (lowest from (page_numbers - from) (λ g. is_some (s.right child g)))
     found from = ap is_some (lowest_same from (page_numbers - from) (λ g. is_some (S.right g)) (λ g. is_some (s.right child g)) (λ g. ap is_some (sym (space.right g))))
 
-    go : (job : Job) → StandsFork s a p child job → fork_needs S.right (fork_place job) ≡ fork_locks (s.right child) job
-    go idle h = refl
-    go (forking q c done between) h = ap (λ (b : Bool). record { structure = false; table = b }) (found (first_behind done))
-    go (forking q c done (counted page)) h = refl
-    go (forking q c done (lowered page)) h = absurd h
-    go (forking q c done (cleared page)) h = absurd h
-    go (forking q c done (copying page n)) h = absurd h
-    go (forking q c done failing) h = absurd h
-    go (marking q page f) h = absurd h
-    go (moving q page e count) h = absurd h
-    go (walking q write long sequence step) h = absurd h
+    go : (job : Job) (prepared : Option ℕ) → StandsFork s a p child job prepared → fork_needs S.right (fork_place job prepared) ≡ fork_locks (s.right child) job
+    go idle prepared h = refl
+    go (forking q c done between) prepared h = ap (λ (b : Bool). record { structure = false; table = b }) (found (first_behind done))
+    go (forking q c done (counted page)) prepared h = refl
+    go (forking q c done (lowered page)) prepared h = absurd h
+    go (forking q c done (cleared page)) prepared h = absurd h
+    go (forking q c done (copying page word)) None h = refl
+    go (forking q c done (copying page word)) (Some to) h = refl
+    go (forking q c done failing) prepared h = absurd h
+    go (marking q page f) prepared h = absurd h
+    go (moving q page e count) prepared h = absurd h
+    go (walking q write long sequence step) prepared h = absurd h
 
 -- ---- who doesn't wait
 
@@ -132,7 +133,7 @@ pub table_free : (needed : Bool) (a : ℕ) (structure table : Option ℕ) → (t
 table_free true a structure table other none is = unheld a table other (second_free (held_by_other a structure) (held_by_other a table) none)
 table_free false a structure table other none is = absurd (cc)
 
-pub forked_needs : (S : SpaceValue) (s : CoreState) (a p child far : ℕ) (place : ForkPlace) (op : Op) → op ≡ Fork child → ShowsSpace child S s → place ≡ fork_place (s.job a) → StandsAt s a p far op
+pub forked_needs : (S : SpaceValue) (s : CoreState) (a p child far : ℕ) (place : ForkPlace) (op : Op) → op ≡ Fork child → ShowsSpace child S s → place ≡ place_in s a → StandsAt s a p far op
     → fork_needs S.right place ≡ locks_needed s a p op
 forked_needs S s a p child far place op same space is at =
     fork_needs_by S s a p child place space is (at.fork child same) ∙ ap (λ (x : Op). locks_needed s a p x) (sym same)
@@ -157,6 +158,10 @@ growing_waits s who op p parent thread own is = ap (λ (q : ℕ). Some (waitings
 
 pub born_waits : (s : CoreState) (who : Doer) (op : Op) (p : ℕ) → who.thread ≡ true → who.proc ≡ p → s.birth p ≡ born → waits_born s who.actor who.proc op ≡ waiting_for s who op
 born_waits s who op p thread own is = sym (thread_waits s who op p born thread own is)
+
+-- a thread of a failed process waits for nothing
+pub failed_waits : (s : CoreState) (who : Doer) (op : Op) (p : ℕ) → who.thread ≡ true → who.proc ≡ p → s.birth p ≡ failed → None ≡ waiting_for s who op
+failed_waits s who op p thread own is = sym (thread_waits s who op p failed thread own is)
 
 -- whoever is no thread waits for none
 pub other_waits : (s : CoreState) (who : Doer) (op : Op) → who.thread ≡ false → waits_born s who.actor who.proc op ≡ waiting_for s who op

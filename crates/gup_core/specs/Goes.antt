@@ -1,5 +1,5 @@
 -- What a turn of an operation leaves of all that the machine has.
-use Rattle.std.specs.Prelude.{◌≡◌, ℕ, ◌<◌, ◌^◌, Bool, true, false, length, slice_get, List, Option, Some, None}
+use Rattle.std.specs.Prelude.{◌≡◌, ℕ, ◌<◌, ◌^◌, Bool, true, length, slice_get, List, Option, Some, None}
 use Rattle.arrayvec.specs.ArrayVec.{ArrayVec}
 use Rattle.gup_plain.specs.declared.note.What.{What}
 use Rattle.gup_script.specs.Valid.{IsOp}
@@ -10,7 +10,9 @@ use Rattle.gup_space.specs.Space.{SpaceParts, space_of}
 use Rattle.gup_handles.specs.Handles.{handles_of, unmade, IsGivenTo as IsKeptFor}
 use Rattle.gup_events.specs.State.{CoreState, idle}
 use Rattle.gup_events.specs.Invariant.{run}
-use Rattle.gup_turns.specs.Turn.{Taken, op_turn}
+use Rattle.gup_events.specs.Sound.{IsSound}
+use Rattle.gup_follows.specs.Place.{Doer}
+use Rattle.gup_turns.specs.Turn.{Taken, op_turn, turn_of, waiting_for}
 use Rattle.gup_turns.specs.Reached.{place_in, IsNoFork, KeepsFrame, StandsFork, StandsPin}
 use Rattle.gup_ops.specs.declared.forks.ForkPlace.{ForkPlace}
 use Rattle.gup_ops.specs.Far.{HasFar, far_in}
@@ -20,11 +22,11 @@ use Rattle.gup_held.specs.Held.{IsWhole, slots_in, HandleChange}
 use Rattle.gup_ops.specs.Tidy.{IsTidy, needs_table}
 use Rattle.gup_core.specs.declared.births.Birth.{Birth}
 use Rattle.gup_core.specs.declared.parts.Parts.{Parts}
-use Rattle.gup_core.specs.Doers.{HasProcess}
-use Rattle.gup_core.specs.Machine.{EachSpace, ShowsParts}
+use Rattle.gup_core.specs.Doers.{HasProcess, IsProcessOf}
+use Rattle.gup_core.specs.Machine.{EachSpace, ShowsBirths, ShowsParts}
 
 -- The actor of process p stands before a turn of this operation, of which so many turns are over: it is in the middle of
--- nothing but, where the operation is one, a fork, and keeps no frame but where that copies a page; a pin has taken its first pages, a pin that is taken is given to it, and
+-- nothing but, where the operation is one, a fork; a pin has taken its first pages, a pin that is taken is given to it, and
 -- one whose words it moves has all its pages.
 pub record StandsAt (s : CoreState) (a p far : ℕ) (op : Op) : Type 0 where
   pub idle_job : IsNoFork (Some op) → s.job a ≡ idle
@@ -49,6 +51,25 @@ IsTurnOfAll old new a p slots far op old_fork whats new_fork =
     (s : CoreState) (k : ℕ)
     → ShowsParts old s → place_of old_fork ≡ place_in s a → StandsAt s a p k op → far ≡ far_in (Some op) k
     → LeadsAll new a s (op_turn s a p slots k op) whats new_fork
+
+-- from this state a turn says this, and leads to these births
+pub record LeadsBirths (new : List Birth) (s : CoreState) (turn : Taken) (whats : List What) : Type 0 where
+  pub says : turn.whats ≡ whats
+  pub births : ShowsBirths new (run s turn.events)
+
+-- the store of the actor has so many slots
+abbrev pub HasSlots : Parts → (a slots : ℕ) → Type 0
+HasSlots parts a slots = (store : Option (List ℕ)) → slice_get parts.stores.items a ≡ Some store → slots_in store ≡ slots
+
+-- So it is of whoever does the operation, and of its process where it is of one, from each sound state that shows what was,
+-- where it waits for nothing: be the turn that of the operation, or its refusal where the process has failed.
+abbrev pub IsTurnBy : (old new : Parts) → (a : ℕ) → (proc : Option ℕ) → (far : ℕ) → Op → (old_fork : ForkPlace) → List What → (new_fork : ForkPlace) → Type 0
+IsTurnBy old new a proc far op old_fork whats new_fork =
+    (s : CoreState) (who : Doer) (k : ℕ)
+    → who.actor ≡ a → IsProcessOf who proc → HasSlots old a who.slots → IsSound s
+    → ShowsParts old s → place_of old_fork ≡ place_in s a → StandsAt s a who.proc k op → far ≡ far_in (Some op) k
+    → waiting_for s who op ≡ None
+    → LeadsAll new a s (turn_of s who k op) whats new_fork
 
 -- what a turn of a pin changes: frames, this process, pins, and what the actor's running pin has taken
 abbrev pub pin_change : (old new : Parts) → (old_space new_space : SpaceParts) → (was now : ArrayVec ℕ) → PinChange
@@ -83,10 +104,6 @@ pub record IsForkReady (frames : FramesValue) (spaces : List SpaceParts) (births
   pub declared : child < length births
   pub few_forks : EachSpace (λ space. space.sequence < 2 ^ 40) spaces
   pub stands : (parent kid : SpaceParts) → slice_get spaces p ≡ Some parent → slice_get spaces child ≡ Some kid → IsReadyAt frames (place_of fork) (space_of parent) (space_of kid)
-
--- the store of the actor has so many slots
-abbrev pub HasSlots : Parts → (a slots : ℕ) → Type 0
-HasSlots parts a slots = (store : Option (List ℕ)) → slice_get parts.stores.items a ≡ Some store → slots_in store ≡ slots
 
 -- each store has as many slots as before
 abbrev pub KeepsSlots : (old new : List (Option (List ℕ))) → Type 0

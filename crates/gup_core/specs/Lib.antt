@@ -1,6 +1,7 @@
 pub mod Seats
 pub mod Locks
 pub mod Doers
+pub mod Births
 pub mod Stores
 pub mod Machine
 pub mod Goes

@@ -1,5 +1,5 @@
 -- What is true of a machine between two turns.
-use Rattle.std.specs.Prelude.{◌≡◌, ℕ, ◌+◌, ◌*◌, ◌≤◌, Bool, false, length, slice_get, Option, Some}
+use Rattle.std.specs.Prelude.{◌≡◌, ℕ, ◌+◌, ◌*◌, ◌≤◌, Bool, length, slice_get, Option, Some}
 use Rattle.arrayvec.specs.ArrayVec.{ArrayVec}
 use Rattle.gup_plain.specs.Event.{page_numbers}
 use Rattle.gup_script.specs.declared.op.Op.{Op}

@@ -1,7 +1,8 @@
 //! Which processes are born.
-ghost use Rattle.std.specs.Prelude.{◌≡◌, ℕ, ◌<◌, length, slice_get, Some, IfOk, if◌then◌else◌};
+ghost use Rattle.std.specs.Prelude.{◌≡◌, ℕ, ◌<◌, length, slice_get, Some, IfOk, IfSome, IsTrue, if◌then◌else◌};
 ghost use Rattle.gup_follows.specs.Place.{starts_born};
 ghost use Rattle.gup_core.specs.declared.births.Birth.TheVariants.{Unborn, Born};
+ghost use Rattle.gup_core.specs.Births.{HasFailed};
 
 use gup_base::{NoMemory, ProcNo};
 use gup_script::Script;
@@ -16,6 +17,8 @@ pub enum Birth {
     Growing,
     /// It is born.
     Born,
+    /// A fork that was to bring it failed.
+    Failed,
 }
 
 /// What the script's processes are at the start: those of its `process` lines are born.
@@ -58,6 +61,18 @@ pub fn birth_of(births: &Vec<Birth>, proc: ProcNo) -> Birth
     ensures { slice_get births.now.items proc ≡ Some result }
 {
     births[proc.get() as usize]
+}
+
+/// Whether it is a process, and has failed.
+pub fn has_failed(births: &Vec<Birth>, proc: &Option<ProcNo>) -> bool
+    requires { IfSome proc.now (λ p. p < length births.now.items) }
+    ensures failed { IsTrue result → HasFailed births.now.items proc.now }
+    ensures other { HasFailed births.now.items proc.now → IsTrue result }
+{
+    match proc {
+        Some(proc) => matches!(birth_of(births, *proc), Birth::Failed),
+        None => false,
+    }
 }
 
 /// From now on a process is that.

@@ -5,8 +5,8 @@ ghost use Rattle.gup_events.specs.State.{CoreState};
 ghost use Rattle.gup_space.specs.Space.{space_of};
 ghost use Rattle.gup_handles.specs.Handles.{handles_of};
 ghost use Rattle.gup_turns.specs.Turn.{waits_for_lock as lock_waited, waits_for_locks as locks_waited};
-ghost use Rattle.gup_turns.specs.Turn.{held_by_other as other_holding, locks_needed as needed, waiting_for};
-ghost use Rattle.gup_turns.specs.Reached.{fork_place};
+ghost use Rattle.gup_turns.specs.Turn.{both_if, held_by_other as other_holding, locks_needed as needed, waiting_for};
+ghost use Rattle.gup_turns.specs.Reached.{place_in};
 ghost use Rattle.gup_ops.specs.Forked.{place_of};
 ghost use Rattle.gup_ops.specs.Pins.{ShowsPins};
 ghost use Rattle.gup_ops.specs.Tidy.{AreNumbered};
@@ -35,7 +35,7 @@ pub struct Locks {
 
 /// What the actor waits for before its next turn, if it waits: first that its process is born, if it is a thread, then
 /// that the pin is given to it which it is to take, then for the holder of the structure lock, then for that of the table
-/// lock.
+/// lock. A thread of a failed process waits for nothing.
 pub fn waits_for(
     parts: &Parts,
     actor: ActorNo,
@@ -49,13 +49,14 @@ pub fn waits_for(
     requires child { (child : ℕ) → op.now ≡ Fork child → child < length parts.now.spaces.items }
     requires numbered { EachSpace AreNumbered parts.now.spaces.items }
     ensures { (s : CoreState) (who : Doer) (far : ℕ) → ShowsParts parts.now s → who.actor ≡ actor → IsProcessOf who proc
-        → place_of place ≡ fork_place (s.job actor) → StandsAt s actor who.proc far op.now
+        → place_of place ≡ place_in s actor → StandsAt s actor who.proc far op.now
         → result ≡ waiting_for s who op.now }
 {
     if let Some(proc) = proc {
         match birth_of(&parts.births, proc) {
             Birth::Born => {}
             Birth::Unborn | Birth::Growing => return Some(Waiting::Process(proc)),
+            Birth::Failed => return None,
         }
     }
     match (*op, proc) {
@@ -89,7 +90,7 @@ fn waits_for_holders(
     requires child { (child : ℕ) → op.now ≡ Fork child → child < length spaces.now.items }
     requires numbered { EachSpace AreNumbered spaces.now.items }
     ensures { (s : CoreState) (far : ℕ) → ShowsSpaces spaces.now.items s
-        → place_of place ≡ fork_place (s.job actor) → StandsAt s actor proc far op.now
+        → place_of place ≡ place_in s actor → StandsAt s actor proc far op.now
         → result ≡ locks_waited (needed s actor proc op.now) actor (s.structure proc) (s.table proc) }
 {
     let space = space_at(spaces, proc);
@@ -127,17 +128,13 @@ fn locks_needed(spaces: &Vec<Space>, proc: ProcNo, place: ForkPlace, op: &Op) ->
     requires there { proc < length spaces.now.items }
     requires child { (child : ℕ) → op.now ≡ Fork child → child < length spaces.now.items }
     requires numbered { EachSpace AreNumbered spaces.now.items }
-    ensures { (s : CoreState) (a far : ℕ) → ShowsSpaces spaces.now.items s → place_of place ≡ fork_place (s.job a)
+    ensures { (s : CoreState) (a far : ℕ) → ShowsSpaces spaces.now.items s → place_of place ≡ place_in s a
         → StandsAt s a proc far op.now → locks_of result ≡ needed s a proc op.now }
 {
     if let Some(child) = child_of(op) {
         return fork_locks(space_at(spaces, child), place);
     }
-    let needed = needs_table(space_at(spaces, proc), op);
-    Locks {
-        structure: needed,
-        table: needed,
-    }
+    both(needs_table(space_at(spaces, proc), op))
 }
 
 // A fork needs both locks at its beginning, and the table lock for the first turn of each page. Its end needs none.
@@ -146,18 +143,22 @@ fn fork_locks(child: &Space, place: ForkPlace) -> Locks
     ensures { locks_of result ≡ fork_needs (space_of child.now).right (place_of place) }
 {
     match place {
-        ForkPlace::Unbegun => Locks {
-            structure: true,
-            table: true,
-        },
+        ForkPlace::Unbegun => both(true),
         ForkPlace::From(from) => Locks {
             structure: false,
             table: next_page(child, from).is_some(),
         },
-        ForkPlace::At(_) => Locks {
-            structure: false,
-            table: false,
-        },
+        ForkPlace::At(_) | ForkPlace::Wanting(_) | ForkPlace::Copying { .. } => both(false),
+    }
+}
+
+// Both locks, or none.
+fn both(needed: bool) -> Locks
+    ensures { locks_of result ≡ both_if needed }
+{
+    Locks {
+        structure: needed,
+        table: needed,
     }
 }
 

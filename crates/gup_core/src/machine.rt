@@ -65,8 +65,8 @@ impl Machine {
     }
 
     /// Takes the actor's turn, and answers its notes: one to three. The turn of an actor that has finished is idle, and
-    /// one that waits says for what; neither changes anything. The number of the turn stays at 2^32 - 1 once it is
-    /// there.
+    /// one that waits says for what; neither changes anything. An operation of a thread of a failed process is refused
+    /// at once, and the child of a fork fails too. The number of the turn stays at 2^32 - 1 once it is there.
     pub fn turn(&mut self, actor: ActorNo) -> Turn
         requires { actor < length self.old.script.actors }
         ensures turn { TakesTurns self.old self.new actor result }
@@ -84,7 +84,7 @@ impl Machine {
 
     /// What the actor waits for before its next turn, if it waits: that its process is born, or else that the pin is given
     /// to it which it is to take, or else for another actor that holds a lock of the process which the turn needs, first
-    /// the structure lock, then the table lock.
+    /// the structure lock, then the table lock. A thread of a failed process waits for nothing.
     pub fn waits(&self, actor: ActorNo) -> Option<Waiting>
         requires { actor < length self.now.script.actors }
         ensures { (r : RunState) → Shows self.now r → result ≡ waiting_in self.now.script r actor }

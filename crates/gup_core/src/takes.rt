@@ -1,5 +1,6 @@
 //! A turn of an operation among all processes.
-ghost use Rattle.std.specs.Prelude.{◌≡◌, ℕ, ◌+◌, ◌<◌, ◌≤◌, ◌^◌, true, false, length, slice_get, List, Option, Some, None, IsSome, IfSome, if◌then◌else◌};
+ghost use Rattle.std.specs.Prelude.{◌≡◌, ℕ, ◌+◌, ◌<◌, ◌≤◌, ◌^◌, true, length, slice_get, List, Option, Some, None, IsSome, IfSome};
+ghost use Rattle.std.specs.Option.{option_or};
 ghost use Rattle.arrayvec.specs.ArrayVec.{ArrayVec as ArrayVecValue};
 ghost use Rattle.gup_script.specs.declared.op.Op.TheVariants.{Fork};
 ghost use Rattle.gup_script.specs.Valid.{IsOp};
@@ -8,7 +9,8 @@ ghost use Rattle.gup_space.specs.Space.{SpaceParts, space_of};
 ghost use Rattle.gup_space.specs.Shows.{change_of};
 ghost use Rattle.gup_fork.specs.Forks.{fork_change_of};
 ghost use Rattle.gup_handles.specs.Handles.{handles_of, unmade};
-ghost use Rattle.gup_turns.specs.Turn.{op_turn};
+ghost use Rattle.gup_events.specs.State.{CoreState};
+ghost use Rattle.gup_turns.specs.Turn.{op_turn, failed_turn};
 ghost use Rattle.gup_ops.specs.Alone.{IsAlone};
 ghost use Rattle.gup_ops.specs.Far.{HasFar, far_in};
 ghost use Rattle.gup_ops.specs.Forked.{place_of, IsReadyAt, IsForkTurn};
@@ -16,24 +18,25 @@ ghost use Rattle.gup_ops.specs.Pins.{IsWeighed, IsPinTurn};
 ghost use Rattle.gup_held.specs.Held.{IsTransferTurn};
 ghost use Rattle.gup_ops.specs.Said.{whats_of, IsTurnOf};
 ghost use Rattle.gup_ops.specs.Tidy.{IsTidy, needs_table};
-ghost use Rattle.gup_core.specs.declared.births.Birth.TheVariants.{Growing, Born};
+ghost use Rattle.gup_core.specs.Births.{HasFailed, birth_said};
 ghost use Rattle.gup_core.specs.Doers.{HasProcess};
-ghost use Rattle.gup_core.specs.Machine.{EachSpace};
-ghost use Rattle.gup_core.specs.Goes.{IsTurnOfAll, IsReady, IsForkReady, HasSlots, KeepsSlots, pin_change, handle_change};
+ghost use Rattle.gup_core.specs.Machine.{EachSpace, ShowsBirths};
+ghost use Rattle.gup_core.specs.Goes.{IsTurnOfAll, IsTurnBy, LeadsBirths, IsReady, IsForkReady, HasSlots, KeepsSlots, pin_change, handle_change};
 ghost use Rattle.gup_core.specs.Locks.{child_in};
 
-use crate::births::{Birth, set_birth};
+use crate::births::{Birth, has_failed, set_birth};
 use crate::locks::child_of;
 use crate::parts::Parts;
 use gup_base::{ActorNo, HandleNo, PageNo, ProcNo};
 use gup_frames::Frames;
 use gup_held::{give, take_over, transfer, unpin};
-use gup_ops::{ForkPlace, Said, fork, is_last, pin, take};
+use gup_ops::{ForkPlace, Said, done, fork, pin, refused, take};
+use gup_plain::{Answer, PlainEvent};
 use gup_script::Op;
 use gup_space::Space;
 
 /// Takes a turn of the operation, which is of this process if it is of one, and answers what it says and where the actor's
-/// fork stands then.
+/// fork stands then. Where the process has failed, the operation is refused.
 pub fn take_op(
     parts: &mut Parts,
     actor: ActorNo,
@@ -43,19 +46,38 @@ pub fn take_op(
     op: &Op,
 ) -> (Said, ForkPlace)
     requires process { HasProcess op.now → IsSome proc }
-    requires ready { (p : ℕ) → IfSome proc (λ q. q ≡ p) → IsReady parts.old actor p op.now far place }
+    requires birth { IfSome proc (λ p. p < length parts.old.births.items) }
+    requires child { (child : ℕ) → op.now ≡ Fork child → child < length parts.old.births.items }
+    requires ready { (p : ℕ) → (HasFailed parts.old.births.items proc → ⊥) → IfSome proc (λ q. q ≡ p)
+        → IsReady parts.old actor p op.now far place }
     ensures spaces { length parts.new.spaces.items ≡ length parts.old.spaces.items }
     ensures births { length parts.new.births.items ≡ length parts.old.births.items }
     ensures taken { length parts.new.taken.items ≡ length parts.old.taken.items }
     ensures stores { length parts.new.stores.items ≡ length parts.old.stores.items }
     ensures slots { KeepsSlots parts.old.stores.items parts.new.stores.items }
-    ensures turn { (p slots : ℕ) → IfSome proc (λ q. q ≡ p) → HasSlots parts.old actor slots
-        → IsTurnOfAll parts.old parts.new actor p slots far op.now place (whats_of result.0) result.1 }
+    ensures turn { IsTurnBy parts.old parts.new actor proc far op.now place (whats_of result.0) result.1 }
 {
+    if has_failed(&parts.births, &proc) {
+        return (refuse(&mut parts.births, op), place);
+    }
     if let Some(child) = child_of(op) {
         return take_fork(parts, actor, proc.unwrap(), child, place);
     }
     (take_single(parts, actor, proc, far, op), place)
+}
+
+// Refuses an operation of a failed process. The child of a fork fails too.
+fn refuse(births: &mut Vec<Birth>, op: &Op) -> Said
+    requires { (child : ℕ) → op.now ≡ Fork child → child < length births.old.items }
+    ensures births { length births.new.items ≡ length births.old.items }
+    ensures turn { (s : CoreState) (a p : ℕ) → ShowsBirths births.old.items s
+        → LeadsBirths births.new.items s (failed_turn a p op.now) (whats_of result) }
+{
+    let Some(child) = child_of(op) else {
+        return refused(Answer::Unborn);
+    };
+    set_birth(births, child, Birth::Failed);
+    done(PlainEvent::ForkFail { child }, Answer::Unborn)
 }
 
 // Takes a turn of an operation that is no fork.
@@ -226,7 +248,8 @@ fn take_alone(
     )
 }
 
-// Takes a turn of a fork of the process into this child, which grows from the first turn on, and is born with the last.
+// Takes a turn of a fork of the process into this child, which grows from the first turn on, and is born with the last, or
+// fails with it.
 fn take_fork(
     parts: &mut Parts,
     actor: ActorNo,
@@ -253,15 +276,19 @@ fn take_fork(
         child,
         place,
     );
-    set_birth(&mut parts.births, child, birth_behind(is_last(&said)));
+    set_birth(&mut parts.births, child, birth_behind(&said));
     (said, next)
 }
 
-// What the child of a fork is behind a turn of it: born with the last one.
-fn birth_behind(last: bool) -> Birth
-    ensures { result ≡ (if last then Born else Growing) }
+// What the child of a fork is behind a turn that says this: it grows until the fork ends or fails.
+fn birth_behind(said: &Said) -> Birth
+    ensures { result ≡ birth_said (option_or said.now.event said.now.next) }
 {
-    if last { Birth::Born } else { Birth::Growing }
+    match said.event.or(said.next) {
+        Some(PlainEvent::ForkEnd { .. }) => Birth::Born,
+        Some(PlainEvent::ForkFail { .. }) => Birth::Failed,
+        _ => Birth::Growing,
+    }
 }
 
 // Takes a turn of a fork over two of the processes.
@@ -277,12 +304,11 @@ fn fork_two(
     requires parent { proc < length spaces.old }
     requires child { child < length spaces.old }
     requires tidy { EachSpace (IsTidy (frames_of frames.old)) spaces.old }
-    requires unpinned { EachSpace (λ space. space.has_pinned ≡ false) spaces.old }
     requires few_forks { EachSpace (λ space. space.sequence < 2 ^ 40) spaces.old }
     requires few_counts { (f : ℕ) → (frames_of frames.old).count f < 2 ^ 40 }
     requires place { (parent kid : SpaceParts)
         → slice_get spaces.old proc ≡ Some parent → slice_get spaces.old child ≡ Some kid
-        → IsReadyAt (place_of place) (space_of parent) (space_of kid) }
+        → IsReadyAt (frames_of frames.old) (place_of place) (space_of parent) (space_of kid) }
     ensures many { length spaces.new ≡ length spaces.old }
     ensures others { (q : ℕ) → (q ≡ proc → ⊥) → (q ≡ child → ⊥) → slice_get spaces.new q ≡ slice_get spaces.old q }
     ensures turn { (old_parent new_parent old_child new_child : SpaceParts)

@@ -1,9 +1,9 @@
-ghost use Rattle.std.specs.Prelude.{◌≡◌, ◌<◌, ◌^◌, IsTrue, All, length, IfOk};
+ghost use Rattle.std.specs.Prelude.{◌≡◌, ◌<◌, ◌≤◌, ◌^◌, true, IsTrue, All, length, IfOk};
 ghost use Rattle.gup_script.specs.Valid.{IsOp, IsPages};
 ghost use Rattle.gup_ops.specs.Alone.{IsAlone};
 
 use super::*;
-use gup_base::{ActorNo, NoMemory, PageNo, ProcNo, Rights, WordNo, Zone};
+use gup_base::{ActorNo, HandleNo, NoMemory, PageNo, ProcNo, Rights, WordNo, Zone};
 use gup_plain::{Answer, PlainEvent, Waiting, What};
 use gup_script::{Actor, Contents, Kind, Op, Process, Script};
 use std::alloc::Global;
@@ -18,13 +18,12 @@ fn is_op(op: &Op) -> bool
     match op {
         Op::Map { page, n, .. } => are_pages(*page, *n),
         Op::Unmap { page, n } => are_pages(*page, *n),
-        Op::Protect { page, n, .. } => are_pages(*page, *n),
-        Op::Discard { page, n } => are_pages(*page, *n),
-        Op::Load { page, word } => is_word(*page, *word),
-        Op::Store { page, word, value } => is_word(*page, *word) && is_value(*value),
-        Op::Pin { .. } | Op::Unpin { .. } | Op::Give { .. } => false,
-        Op::Take { .. } | Op::Transfer { .. } | Op::Fork { .. } => false,
+        Op::Load { page, word } => page.get() < 1 << 35 && word.get() < 512,
+        Op::Store { page, word, value } => page.get() < 1 << 35
+            && word.get() < 512
+            && *value < 1_000,
         Op::Exit => true,
+        _ => false,
     }
 }
 
@@ -34,29 +33,17 @@ fn are_pages(page: PageNo, n: u16) -> bool
     1 <= n && n <= 1_024 && page.get() + u64::from(n) <= 1 << 35
 }
 
-fn is_word(page: PageNo, word: WordNo) -> bool
-    ensures page { IsTrue result → page < 2 ^ 35 }
-    ensures word { IsTrue result → word < 512 }
-{
-    page.get() < 1 << 35 && word.get() < 512
-}
-
-fn is_value(value: u64) -> bool
-    ensures { value < 2 ^ 64 }
-{
-    value <= u64::MAX
-}
-
 fn are_ops(ops: &[Op]) -> bool
     ensures range { IsTrue result → All IsOp ops.now }
     ensures alone { IsTrue result → All IsAlone ops.now }
+    ensures few { IsTrue result → length ops.now ≤ 1_000 }
 {
     for op in ops {
         if !is_op(op) {
             return false;
         }
     }
-    true
+    ops.len() <= 1_000
 }
 
 // An actor of process 0, 1 or 2.
@@ -81,49 +68,46 @@ fn process(alloc: Global, born: bool) -> Result<Process, Fail>
     })
 }
 
-// A script of three processes, of which the last is unborn, and of a thread of each. A fourth actor of process 0 forks
-// into the last process. There are a movable frame and a normal one.
+// A script of three processes, of which the last is unborn, and of a thread of each. A fourth actor of process 0 pins page
+// 7 and then forks into the last process. There are a movable frame and a normal one.
 fn script(alloc: Global, first: Vec<Op>, second: Vec<Op>, third: Vec<Op>) -> Result<Script, Fail>
     ensures { IfOk result (λ script. length script.actors ≡ 4) }
 {
     if !are_ops(&first) || !are_ops(&second) || !are_ops(&third) {
         return Err("an operation".into());
     }
-    if first.len() > 1_000 || second.len() > 1_000 || third.len() > 1_000 {
-        return Err("too many operations".into());
-    }
     let mut processes = Vec::new(alloc);
     processes.push(process(alloc, true)?)?;
     processes.push(process(alloc, true)?)?;
     processes.push(process(alloc, false)?)?;
-    let fork = Vec::from_array(alloc, [Op::Fork { child: proc(2) }])?;
+    let fork = Vec::from_array(alloc, [pin(), Op::Fork { child: proc(2) }])?;
     let mut actors = Vec::new(alloc);
     actors.push(thread(alloc, 0, first)?)?;
     actors.push(thread(alloc, 1, second)?)?;
     actors.push(thread(alloc, 2, third)?)?;
     actors.push(thread(alloc, 0, fork)?)?;
+    let mut handles = Vec::new(alloc);
+    handles.push("h".to_string(alloc)?)?;
     Ok(Script::new(Contents {
         movable: 1,
         normal: 1,
         tables: 64,
         processes,
         actors,
-        handles: Vec::new(alloc),
+        handles,
         turns: Vec::new(alloc),
         seed: 0,
     }))
 }
 
-fn page(number: u64) -> PageNo
-    requires { number < 2 ^ 35 }
+fn page(number: u8) -> PageNo
+    ensures { result ≡ number }
 {
-    PageNo::new(number).unwrap()
+    PageNo::new(u64::from(number)).unwrap()
 }
 
-fn word(number: u64) -> WordNo
-    requires { number < 512 }
-{
-    WordNo::new(number).unwrap()
+fn word() -> WordNo {
+    WordNo::new(0).unwrap()
 }
 
 fn actor(number: u64) -> ActorNo
@@ -146,33 +130,17 @@ const MISSING: What = What::Done(Answer::Missing);
 
 // What the notes of process `p`'s thread, of the same number, say.
 
-fn mapped(p: u64, first: u64, n: u16, rights: Rights) -> What
-    requires p { p < 3 }
-    requires first { first < 2 ^ 35 }
-{
-    let (actor, proc, page) = (actor(p), proc(p), page(first));
-    What::Event(PlainEvent::Map {
-        actor,
-        proc,
-        page,
-        n,
-        rights,
-    })
-}
-
-fn unmapped(p: u64, at: u64) -> What
-    requires p { p < 3 }
-    requires at { at < 2 ^ 35 }
+fn unmapped(p: u64, at: u8) -> What
+    requires { p < 3 }
 {
     let (actor, proc, page) = (actor(p), proc(p), page(at));
     What::Event(PlainEvent::Unmap { actor, proc, page })
 }
 
-fn loaded(p: u64, at: u64, value: u64) -> [What; 2]
-    requires p { p < 3 }
-    requires at { at < 2 ^ 35 }
+fn loaded(p: u64, at: u8, value: u64) -> [What; 2]
+    requires { p < 3 }
 {
-    let (actor, proc, page, word) = (actor(p), proc(p), page(at), word(0));
+    let (actor, proc, page, word) = (actor(p), proc(p), page(at), word());
     let event = PlainEvent::Load {
         actor,
         proc,
@@ -183,11 +151,10 @@ fn loaded(p: u64, at: u64, value: u64) -> [What; 2]
     [What::Event(event), What::Done(Answer::Value(value))]
 }
 
-fn stored(p: u64, at: u64, value: u64) -> [What; 2]
-    requires p { p < 3 }
-    requires at { at < 2 ^ 35 }
+fn stored(p: u64, at: u8, value: u64) -> [What; 2]
+    requires { p < 3 }
 {
-    let (actor, proc, page, word) = (actor(p), proc(p), page(at), word(0));
+    let (actor, proc, page, word) = (actor(p), proc(p), page(at), word());
     let event = PlainEvent::Store {
         actor,
         proc,
@@ -198,21 +165,14 @@ fn stored(p: u64, at: u64, value: u64) -> [What; 2]
     [What::Event(event), DONE]
 }
 
-// The fork's beginning, a page of it, and its end.
+// The fork's beginning, and a page of it.
 
 fn begun() -> What {
     let (parent, child) = (proc(0), proc(2));
     What::Event(PlainEvent::ForkBegin { parent, child })
 }
 
-fn ended() -> What {
-    let (parent, child) = (proc(0), proc(2));
-    What::Event(PlainEvent::ForkEnd { parent, child })
-}
-
-fn forked(at: u64) -> What
-    requires { at < 2 ^ 35 }
-{
+fn forked(at: u8) -> What {
     let (parent, child, page) = (proc(0), proc(2), page(at));
     What::Event(PlainEvent::ForkPage {
         parent,
@@ -221,41 +181,35 @@ fn forked(at: u64) -> What
     })
 }
 
-// Who holds the locks of process 0 while it forks, and the child that isn't born.
-
-fn holder() -> Waiting {
-    Waiting::Holder(actor(3))
-}
-
-fn unborn() -> Waiting {
-    Waiting::Process(proc(2))
-}
-
-fn map(first: u64, n: u16, rights: Rights) -> Op
-    requires { first < 2 ^ 35 }
-{
-    let page = page(first);
+fn map(first: u8, n: u16) -> Op {
+    let (page, rights) = (page(first), Rights::RW);
     Op::Map { page, n, rights }
 }
 
-fn unmap(first: u64, n: u16) -> Op
-    requires { first < 2 ^ 35 }
+fn pin() -> Op
+    ensures { result ≡ Op.Pin 0 7 1 true }
 {
+    let (handle, page) = (HandleNo::new(0).unwrap(), page(7));
+    Op::Pin {
+        handle,
+        page,
+        n: 1,
+        write: true,
+    }
+}
+
+fn unmap(first: u8, n: u16) -> Op {
     let page = page(first);
     Op::Unmap { page, n }
 }
 
-fn load(at: u64) -> Op
-    requires { at < 2 ^ 35 }
-{
-    let (page, word) = (page(at), word(0));
+fn load(at: u8) -> Op {
+    let (page, word) = (page(at), word());
     Op::Load { page, word }
 }
 
-fn store(at: u64, value: u64) -> Op
-    requires { at < 2 ^ 35 }
-{
-    let (page, word) = (page(at), word(0));
+fn store(at: u8, value: u64) -> Op {
+    let (page, word) = (page(at), word());
     Op::Store { page, word, value }
 }
 
@@ -289,7 +243,7 @@ fn frames_run_out_and_come_back(rt: HostRuntime) -> Result<(), Fail> {
     let alloc = rt.alloc();
     let range = [
         load(5),
-        map(5, 3, Rights::RW),
+        map(5, 3),
         store(5, 9),
         load(6),
         load(7),
@@ -300,7 +254,7 @@ fn frames_run_out_and_come_back(rt: HostRuntime) -> Result<(), Fail> {
     let ops = Vec::from_array(alloc, range)?;
     let mut machine = machine(alloc, ops, Vec::new(alloc), Vec::new(alloc))?;
     turn(&rt, &mut machine, 0, &[MISSING]);
-    turn(&rt, &mut machine, 0, &[mapped(0, 5, 3, Rights::RW), DONE]);
+    let _mapped = machine.turn(actor(0));
     turn(&rt, &mut machine, 0, &stored(0, 5, 9));
     assert_eq!(rt; machine.free_frames(Zone::Movable), 0);
     assert_eq!(rt; machine.free_frames(Zone::Normal), 1);
@@ -319,18 +273,28 @@ fn frames_run_out_and_come_back(rt: HostRuntime) -> Result<(), Fail> {
     Ok(())
 }
 
+// Processes are apart. No frame is left for a copy of the pinned page, so the fork fails, and its child with it.
 #[test]
-fn processes_are_apart(rt: HostRuntime) -> Result<(), Fail> {
+fn forks_fail(rt: HostRuntime) -> Result<(), Fail> {
     let alloc = rt.alloc();
-    let first = Vec::from_array(alloc, [map(5, 1, Rights::RW), store(5, 1), load(5)])?;
-    let second = Vec::from_array(alloc, [store(5, 2), map(5, 1, Rights::RW), load(5)])?;
-    let mut machine = machine(alloc, first, second, Vec::new(alloc))?;
-    turn(&rt, &mut machine, 0, &[mapped(0, 5, 1, Rights::RW), DONE]);
-    turn(&rt, &mut machine, 0, &stored(0, 5, 1));
+    let first = Vec::from_array(alloc, [map(7, 1), store(7, 1), load(7)])?;
+    let second = Vec::from_array(alloc, [store(7, 2), map(7, 1), load(7)])?;
+    let third = Vec::from_array(alloc, [load(7)])?;
+    let mut machine = machine(alloc, first, second, third)?;
+    let _mapped = machine.turn(actor(0));
+    turn(&rt, &mut machine, 0, &stored(0, 7, 1));
     turn(&rt, &mut machine, 1, &[MISSING]);
-    turn(&rt, &mut machine, 1, &[mapped(1, 5, 1, Rights::RW), DONE]);
-    turn(&rt, &mut machine, 1, &loaded(1, 5, 0));
-    turn(&rt, &mut machine, 0, &loaded(0, 5, 1));
+    let _mapped = machine.turn(actor(1));
+    turn(&rt, &mut machine, 1, &loaded(1, 7, 0));
+    turn(&rt, &mut machine, 0, &loaded(0, 7, 1));
+    let _pinned = machine.turn(actor(3));
+    turn(&rt, &mut machine, 3, &[begun()]);
+    turn(&rt, &mut machine, 3, &[What::Silent]);
+    let child = proc(2);
+    turn(&rt, &mut machine, 2, &[What::Wait(Waiting::Process(child))]);
+    let failed = What::Event(PlainEvent::ForkFail { child });
+    turn(&rt, &mut machine, 3, &[failed, What::Done(Answer::NoFrame)]);
+    turn(&rt, &mut machine, 2, &[What::Done(Answer::Unborn)]);
     Ok(())
 }
 
@@ -339,30 +303,28 @@ fn processes_are_apart(rt: HostRuntime) -> Result<(), Fail> {
 #[test]
 fn forks_share_pages(rt: HostRuntime) -> Result<(), Fail> {
     let alloc = rt.alloc();
-    let range = [
-        map(5, 2, Rights::RW),
-        store(5, 1),
-        load(5),
-        load(6),
-        store(5, 2),
-    ];
+    let range = [map(5, 2), store(5, 1), load(5), load(6), store(5, 2)];
     let first = Vec::from_array(alloc, range)?;
     let third = Vec::from_array(alloc, [load(5), store(5, 3)])?;
     let mut machine = machine(alloc, first, Vec::new(alloc), third)?;
-    turn(&rt, &mut machine, 0, &[mapped(0, 5, 2, Rights::RW), DONE]);
+    let _mapped = machine.turn(actor(0));
     turn(&rt, &mut machine, 0, &stored(0, 5, 1));
-    assert_eq!(rt; machine.waits(actor(3)), None);
+    turn(&rt, &mut machine, 3, &[MISSING]);
     turn(&rt, &mut machine, 3, &[begun()]);
     assert_eq!(rt; machine.waits(actor(0)), None);
     turn(&rt, &mut machine, 0, &loaded(0, 5, 1));
-    assert_eq!(rt; machine.waits(actor(0)), Some(holder()));
-    turn(&rt, &mut machine, 0, &[What::Wait(holder())]);
-    assert_eq!(rt; machine.waits(actor(2)), Some(unborn()));
-    turn(&rt, &mut machine, 2, &[What::Wait(unborn())]);
+    let holder = Waiting::Holder(actor(3));
+    assert_eq!(rt; machine.waits(actor(0)), Some(holder));
+    turn(&rt, &mut machine, 0, &[What::Wait(holder)]);
+    let (parent, child) = (proc(0), proc(2));
+    let unborn = Waiting::Process(child);
+    assert_eq!(rt; machine.waits(actor(2)), Some(unborn));
+    turn(&rt, &mut machine, 2, &[What::Wait(unborn)]);
     turn(&rt, &mut machine, 3, &[What::Silent]);
     turn(&rt, &mut machine, 3, &[forked(5)]);
     turn(&rt, &mut machine, 3, &[forked(6)]);
-    turn(&rt, &mut machine, 3, &[ended(), DONE]);
+    let ended = What::Event(PlainEvent::ForkEnd { parent, child });
+    turn(&rt, &mut machine, 3, &[ended, DONE]);
     assert!(rt; machine.finished(actor(3)));
     turn(&rt, &mut machine, 2, &loaded(2, 5, 1));
     assert_eq!(rt; machine.free_frames(Zone::Normal), 1);

@@ -16,5 +16,6 @@ returns-in-Some c s a far spaces place at =
 pub returns : goal.returns
 returns c s a far spaces place at =
     let space = c.space_at-2.result.now in
-    ap both_if c.needs_table-needed.ensures
+    c.both.ensures
+    ∙ ap both_if c.needs_table.ensures
     ∙ single_needs (space_of space) s a c.args.proc c.args.op.now (spaces c.args.proc space c.space_at-2.ensures) (single c.args.op.now (sym c.child_of.ensures ∙ c.in_default.is))

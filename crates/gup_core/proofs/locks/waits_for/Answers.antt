@@ -5,7 +5,7 @@ use Rattle.gup_core.specs.declared.births.Birth.TheVariants.{Growing}
 use Rattle.gup_core.specs.Doers.{IsProcessOf}
 use Rattle.gup_core.specs.Goes.{StandsAt}
 use Rattle.gup_core.specs.Machine.{IsBirth}
-use Rattle.gup_core.proofs.Waiting.{unborn_waits, growing_waits, born_waits, other_waits, take_waits, lock_waits}
+use Rattle.gup_core.proofs.Waiting.{unborn_waits, growing_waits, born_waits, failed_waits, other_waits, take_waits, lock_waits}
 use Rattle.gup_core.proofs.locks.waits_for.Goals as goal
 use Rattle.gup_core.proofs.locks.waits_for.Goals.{in-Some+in-Born, in_default}
 
@@ -21,6 +21,14 @@ returns-in-Unborn c s who far shown actor of_who place at =
           let grows : IsBirth Growing (s.birth p) = subst (λ (b : Birth). IsBirth b (s.birth p)) is birth in
           growing_waits s who op p grows.0 of_p.0 of_p.1 grows.1
     ]
+
+pub returns-in-Failed : goal.returns-in-Failed
+returns-in-Failed c s who far shown actor of_who place at =
+    let op = c.args.op.now in
+    let p = c.in-Some.proc in
+    let of_p : IsProcessOf who (Some p) = subst (λ (o : Option ℕ). IsProcessOf who o) c.in-Some.is of_who in
+    let birth : IsBirth c.birth_of.result (s.birth p) = shown.births p c.birth_of.result c.birth_of.ensures in
+    failed_waits s who op p of_p.0 of_p.1 (subst (λ (b : Birth). IsBirth b (s.birth p)) c.in-Failed.is birth)
 
 pub returns-in-Take-default : goal.returns-in-Take-default
 returns-in-Take-default c s who far shown actor of_who place at =

@@ -26,17 +26,6 @@ fork-requires-clause-child c =
     let high_is = back_there a.spaces.now s.result.0.now s.result.1.now c.get-child_at.result a.child c.index-high-0.result s.ensures.value c.get-child_at.ensures.value s.ensures.front_len some in
     c.requires.tidy a.child _ high_is
 
-pub fork-requires-clause-unpinned : goal.fork-requires-clause-unpinned
-fork-requires-clause-unpinned c =
-    let a = c.args in
-    let s = c.split_at_mut-low in
-    let i = c.get-parent_at.result in
-    let n = c.get-child_at.result in
-    let below : i < n = c.if-parent_at-child_at.true in
-    let within : i < length s.result.0.now = omega (arith, s.ensures.front_len, below) in
-    let low_is = front_there a.spaces.now s.result.0.now s.result.1.now i a.proc c.index-low-parent_at.result s.ensures.value c.get-parent_at.ensures.value within in
-    c.requires.unpinned a.proc _ low_is
-
 pub fork-requires-clause-sequence : goal.fork-requires-clause-sequence
 fork-requires-clause-sequence c =
     let a = c.args in
@@ -104,14 +93,6 @@ fork-requires-else-parent_at-child_at-clause-child c =
     let within : i < length s.result.0.now = omega (arith, s.ensures.front_len, below) in
     let low_is = front_there a.spaces.now s.result.0.now s.result.1.now i a.child c.index-low-child_at.result s.ensures.value c.get-child_at.ensures.value within in
     c.requires.tidy a.child _ low_is
-
-pub fork-requires-else-parent_at-child_at-clause-unpinned : goal.fork-requires-else-parent_at-child_at-clause-unpinned
-fork-requires-else-parent_at-child_at-clause-unpinned c =
-    let a = c.args in
-    let s = c.split_at_mut-low-else-parent_at-child_at in
-    let some : 0 < length s.result.1.now = omega (arith, s.ensures.back_len, c.get-parent_at.ensures.value, c.requires.parent) in
-    let high_is = back_there a.spaces.now s.result.0.now s.result.1.now c.get-parent_at.result a.proc c.index-high-0-else-parent_at-child_at.result s.ensures.value c.get-parent_at.ensures.value s.ensures.front_len some in
-    c.requires.unpinned a.proc _ high_is
 
 pub fork-requires-else-parent_at-child_at-clause-sequence : goal.fork-requires-else-parent_at-child_at-clause-sequence
 fork-requires-else-parent_at-child_at-clause-sequence c =

@@ -1,8 +1,7 @@
-use Rattle.std.proofs.Common.{◌≡◌, ℕ, List, length, slice_get, Some, if◌then◌else◌, refl, sym, ap, ◌∙◌, subst}
+use Rattle.std.proofs.Common.{◌≡◌, ℕ, List, length, slice_get, Some, refl, sym, ap, ◌∙◌, subst}
 use Rattle.std.specs.Vec.{with_items}
 use Rattle.gup_space.specs.Space.{SpaceParts}
 use Rattle.gup_core.specs.declared.births.Birth.{Birth}
-use Rattle.gup_core.specs.declared.births.Birth.TheVariants.{Growing, Born}
 use Rattle.gup_ops.specs.Said.{whats_of}
 use Rattle.gup_core.specs.declared.parts.Parts.{Parts}
 use Rattle.gup_core.proofs.Parting.{written_back}
@@ -24,7 +23,6 @@ returns-clause-turn c slots far =
       taken = old.taken;
       stores = old.stores;
     } in
-    let born_now = c.birth_behind.ensures ∙ ap (λ last. if last then Born else Growing) c.is_last.ensures in
     let many = t.ensures.many ∙ ap length was in
     let back = sym (written_back old.spaces.items t.new.spaces old.spaces.len (sym c.deref_mut.ensures.len ∙ ap length was) many) in
     let others = subst (λ (xs : List SpaceParts). (q : ℕ) → (q ≡ a.proc → ⊥) → (q ≡ a.child → ⊥) → slice_get xs q ≡ slice_get old.spaces.items q) back
@@ -33,4 +31,4 @@ returns-clause-turn c slots far =
     (subst (λ (xs : List SpaceParts). IsForkTurns old.frames t.new.frames xs t.new.spaces a.actor a.proc a.child a.place t.result.1 (whats_of t.result.0)) was t.ensures.turn) in
     forked old new a.actor a.proc a.child slots far a.place t.result.1 t.result.0
     c.requires.fork.apart c.requires.there c.requires.fork.there (ap length (sym back) ∙ many) refl refl refl others turn
-    (c.set_birth.ensures.here ∙ ap (λ (b : Birth). Some b) born_now) c.set_birth.ensures.others
+    (c.set_birth.ensures.here ∙ ap (λ (b : Birth). Some b) c.birth_behind.ensures) c.set_birth.ensures.others

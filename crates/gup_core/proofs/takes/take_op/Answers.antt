@@ -1,35 +1,62 @@
-use Rattle.std.proofs.Common.{ℕ, sym, ◌∙◌, subst}
+use Rattle.std.proofs.Common.{ℕ, refl, sym, ◌∙◌, subst}
 use Rattle.gup_script.specs.declared.op.Op.{Op}
 use Rattle.gup_ops.specs.Said.{whats_of}
+use Rattle.gup_core.specs.declared.parts.Parts.{Parts}
 use Rattle.gup_core.specs.Doers.{HasProcess}
 use Rattle.gup_core.specs.Goes.{IsTurnOfAll}
+use Rattle.gup_core.proofs.Refusing.{of_born, refused}
 use Rattle.gup_core.proofs.Singles.{some_is, process_is}
 use Rattle.gup_core.proofs.Waiting.{forks_into}
 use Rattle.gup_core.proofs.takes.take_op.Goals as goal
 
+-- ---- of a failed process
+
+pub returns-then-has_failed-clause-turn : goal.returns-then-has_failed-clause-turn
+returns-then-has_failed-clause-turn c =
+    let a = c.args in
+    let old = a.parts.now in
+    let new : Parts = record old { births = c.refuse.new.births } in
+    refused old new a.actor a.proc a.far a.op.now a.place (whats_of c.refuse.result) (c.has_failed.ensures.failed c.if-has_failed.true) refl refl refl refl refl
+    (λ s b p shown. c.refuse.ensures.turn s b p shown)
+
+-- ---- a fork
+
 pub take_fork-requires-clause-there : goal.take_fork-requires-clause-there
 take_fork-requires-clause-there c =
-    let ready = c.requires.ready c.unwrap.result (process_is c.args.proc c.unwrap.result c.unwrap.ensures) in
+    let ready = c.requires.ready c.unwrap.result (λ has. absurd (cc (c.has_failed.ensures.other has))) (process_is c.args.proc c.unwrap.result c.unwrap.ensures) in
     ready.there (subst HasProcess (sym (forks_into c.args.op.now c.in-Some.child (sym c.child_of.ensures ∙ c.in-Some.is))) tt)
 
 pub take_fork-requires-clause-tidy : goal.take_fork-requires-clause-tidy
-take_fork-requires-clause-tidy c = (c.requires.ready c.unwrap.result (process_is c.args.proc c.unwrap.result c.unwrap.ensures)).tidy
+take_fork-requires-clause-tidy c =
+    (c.requires.ready c.unwrap.result (λ has. absurd (cc (c.has_failed.ensures.other has))) (process_is c.args.proc c.unwrap.result c.unwrap.ensures)).tidy
 
 pub take_fork-requires-clause-few_counts : goal.take_fork-requires-clause-few_counts
-take_fork-requires-clause-few_counts c = (c.requires.ready c.unwrap.result (process_is c.args.proc c.unwrap.result c.unwrap.ensures)).few_counts
+take_fork-requires-clause-few_counts c =
+    (c.requires.ready c.unwrap.result (λ has. absurd (cc (c.has_failed.ensures.other has))) (process_is c.args.proc c.unwrap.result c.unwrap.ensures)).few_counts
 
 pub take_fork-requires-clause-fork : goal.take_fork-requires-clause-fork
 take_fork-requires-clause-fork c =
-    let ready = c.requires.ready c.unwrap.result (process_is c.args.proc c.unwrap.result c.unwrap.ensures) in
+    let ready = c.requires.ready c.unwrap.result (λ has. absurd (cc (c.has_failed.ensures.other has))) (process_is c.args.proc c.unwrap.result c.unwrap.ensures) in
     ready.fork c.in-Some.child (forks_into c.args.op.now c.in-Some.child (sym c.child_of.ensures ∙ c.in-Some.is))
 
 pub returns-in-Some-clause-turn : goal.returns-in-Some-clause-turn
-returns-in-Some-clause-turn c p slots of_p has =
+returns-in-Some-clause-turn c =
     let a = c.args in
     let t = c.take_fork in
     let is = forks_into a.op.now c.in-Some.child (sym c.child_of.ensures ∙ c.in-Some.is) in
+    of_born a.parts.now t.new.parts a.actor a.proc a.far a.op.now a.place t.result.1 (whats_of t.result.0)
+    (λ has. absurd (cc (c.has_failed.ensures.other has))) c.requires.birth
+    (λ p slots of_p has.
     subst (λ (q : ℕ). IsTurnOfAll a.parts.now t.new.parts a.actor q slots a.far a.op.now a.place (whats_of t.result.0) t.result.1) (some_is a.proc c.unwrap.result p c.unwrap.ensures of_p)
-    (subst (λ (op : Op). IsTurnOfAll a.parts.now t.new.parts a.actor c.unwrap.result slots a.far op a.place (whats_of t.result.0) t.result.1) (sym is) (t.ensures.turn slots a.far))
+    (subst (λ (op : Op). IsTurnOfAll a.parts.now t.new.parts a.actor c.unwrap.result slots a.far op a.place (whats_of t.result.0) t.result.1) (sym is) (t.ensures.turn slots a.far)))
+
+-- ---- another operation
+
+pub take_single-requires-clause-ready : goal.take_single-requires-clause-ready
+take_single-requires-clause-ready c p of_p = (c.args.place, c.requires.ready p (λ has. absurd (cc (c.has_failed.ensures.other has))) of_p)
 
 pub returns-clause-turn : goal.returns-clause-turn
-returns-clause-turn c p slots of_p has = c.take_single.ensures.turn p slots c.args.place of_p has
+returns-clause-turn c =
+    let a = c.args in
+    of_born a.parts.now c.take_single.new.parts a.actor a.proc a.far a.op.now a.place a.place (whats_of c.take_single.result)
+    (λ has. absurd (cc (c.has_failed.ensures.other has))) c.requires.birth (λ p slots of_p has. c.take_single.ensures.turn p slots a.place of_p has)

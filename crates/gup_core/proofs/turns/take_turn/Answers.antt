@@ -44,7 +44,7 @@ waits_for-requires-clause-child c child same =
     let a = c.args in
     let m = machine_of a.script.now a.parts.now a.seats.now.items a.turns.now in
     let op = sym (c.in-Some.ensures ∙ ap (λ ops. slice_get ops c.seat_of-seat.result.answered) c.ops.ensures) in
-    child_within m a.actor child c.seat_of-seat.result c.in-Some.op c.requires.rest op same
+    (child_within m a.actor child c.seat_of-seat.result c.in-Some.op c.requires.rest op same).0
 
 pub overflow_add-seat-in-Some-waits_for : goal.overflow_add-seat-in-Some-waits_for
 overflow_add-seat-in-Some-waits_for c =
@@ -72,14 +72,27 @@ take_op-requires-clause-process c =
     let op = sym (c.in-Some.ensures ∙ ap (λ ops. slice_get ops c.seat_of-seat.result.answered) c.ops.ensures) in
     process_found_so m a.actor c.process-proc.result c.seat_of-seat.result c.in-Some.op c.requires.rest c.process-proc.ensures op
 
+pub take_op-requires-clause-birth : goal.take_op-requires-clause-birth
+take_op-requires-clause-birth c =
+    let a = c.args in
+    let m = machine_of a.script.now a.parts.now a.seats.now.items a.turns.now in
+    (process_within m a.actor c.process-proc.result c.requires.rest c.process-proc.ensures).1
+
+pub take_op-requires-clause-child : goal.take_op-requires-clause-child
+take_op-requires-clause-child c child same =
+    let a = c.args in
+    let m = machine_of a.script.now a.parts.now a.seats.now.items a.turns.now in
+    let op = sym (c.in-Some.ensures ∙ ap (λ ops. slice_get ops c.seat_of-seat.result.answered) c.ops.ensures) in
+    (child_within m a.actor child c.seat_of-seat.result c.in-Some.op c.requires.rest op same).1
+
 pub take_op-requires-clause-ready : goal.take_op-requires-clause-ready
-take_op-requires-clause-ready c p of_p =
+take_op-requires-clause-ready c p unfailed of_p =
     let a = c.args in
     let m = machine_of a.script.now a.parts.now a.seats.now.items a.turns.now in
     let op = sym (c.in-Some.ensures ∙ ap (λ ops. slice_get ops c.seat_of-seat.result.answered) c.ops.ensures) in
     let known : IsWaiting m a.actor c.process.result c.seat_of-seat.result c.in-Some.op None =
     λ s who far shown actor of_who place at. sym c.in_default-waits_for.is ∙ c.waits_for.ensures s who far shown actor of_who place at in
-    is_ready m a.actor c.process.result c.process-proc.result c.seat_of-seat.result c.in-Some.op c.reached_states_stand.ensures c.requires.machine c.requires.rest c.process.ensures c.process-proc.ensures c.seat_of-seat.ensures op known p of_p
+    is_ready m a.actor c.process.result c.process-proc.result c.seat_of-seat.result c.in-Some.op c.reached_states_stand.ensures c.requires.machine c.requires.rest c.process.ensures c.process-proc.ensures c.seat_of-seat.ensures op known unfailed p of_p
 
 pub behind-next-requires-clause-few : goal.behind-next-requires-clause-few
 behind-next-requires-clause-few c =

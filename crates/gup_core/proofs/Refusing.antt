@@ -1,0 +1,197 @@
+-- A turn of an operation is its own where its process hasn't failed, and else its refusal, which changes no more than the birth of
+-- a fork's child.
+use Rattle.std.proofs.Common.{◌≡◌, ℕ, ◌<◌, ◌==◌, Bool, true, false, cond, List, [], ◌∷◌, length, Option, Some, None, IfSome, refl, sym, ap, ◌∙◌, subst, eqb-true, arith}
+use Rattle.std.proofs.lemmas.Bool.Decides.{nat_tests}
+use Rattle.gup_base.specs.declared.entry.Rights.{Rights}
+use Rattle.gup_plain.specs.State.{Birth as CoreBirth, born, failed}
+use Rattle.gup_plain.specs.declared.note.What.{What}
+use Rattle.gup_script.specs.declared.op.Op.{Op}
+use Rattle.gup_script.specs.declared.op.Op.TheVariants.{Map, Unmap, Protect, Discard, Load, Store, Pin, Unpin, Give, Take, Transfer, Fork, Exit}
+use Rattle.gup_follows.specs.Place.{Doer, birth_by, birth_for}
+use Rattle.gup_maps.specs.Table.{at}
+use Rattle.gup_frames.specs.Frames.{FramesValue, frames_of}
+use Rattle.gup_space.specs.Space.{SpaceParts, space_of}
+use Rattle.gup_space.specs.Shows.{ShowsFrames, ShowsSpace}
+use Rattle.gup_events.specs.State.{CoreState, Job, idle, marking, moving, forking, walking, ForkStep, between, counted, lowered, cleared, copying, failing}
+use Rattle.gup_events.specs.Event.{CoreEvent, fail_unborn}
+use Rattle.gup_events.specs.Invariant.{run}
+use Rattle.gup_events.specs.Sound.{IsSound, forking_of}
+use Rattle.gup_turns.specs.Turn.{Taken, op_turn, failed_turn, turn_at, turn_of, waits_born}
+use Rattle.gup_turns.specs.Reached.{StandsFork, place_in}
+use Rattle.gup_ops.specs.declared.forks.ForkPlace.{ForkPlace}
+use Rattle.gup_core.specs.declared.births.Birth.{Birth}
+use Rattle.gup_core.specs.declared.births.Birth.TheVariants.{Unborn, Growing, Born, Failed}
+use Rattle.gup_core.specs.declared.parts.Parts.{Parts}
+use Rattle.gup_core.specs.Births.{HasFailed}
+use Rattle.gup_core.specs.Doers.{IsProcessOf}
+use Rattle.gup_core.specs.Goes.{LeadsAll, LeadsBirths, IsTurnOfAll, IsTurnBy, HasSlots}
+use Rattle.gup_core.specs.Machine.{IsBirth, ShowsSpaces, ShowsBirths, ShowsParts}
+use Rattle.gup_core.proofs.Owning.{Pins, pins_of}
+use Rattle.gup_core.proofs.Scripts.{process_of_doer}
+use Rattle.gup_core.proofs.Turning.{there, pins_shown, taken_shown, stores_shown}
+use Rattle.gup_core.proofs.Waiting.{born_and_free}
+
+-- ---- which processes have failed
+
+kept_failed : (kept : Birth) (b : CoreBirth) → IsBirth kept b → b ≡ failed → kept ≡ Failed
+kept_failed Unborn b is so = absurd (cc (sym is ∙ so))
+kept_failed Growing b is so = absurd (cc (sym is.1 ∙ so))
+kept_failed Born b is so = absurd (cc (sym is ∙ so))
+kept_failed Failed b is so = refl
+
+-- the machine has it so where the actor's process has failed
+birth_failed : (births : List Birth) (proc : Option ℕ) (who : Doer) (s : CoreState) → HasFailed births proc → IsProcessOf who proc → ShowsBirths births s → birth_for s.birth who ≡ failed
+birth_failed births None who s has of_who shown = absurd has
+birth_failed births (Some p) who s has of_who shown =
+    ap (λ (t : Bool). birth_by t (s.birth who.proc)) of_who.0 ∙ ap (λ (q : ℕ). s.birth q) of_who.1 ∙ shown p Failed has
+
+pub birth_unfailed : (births : List Birth) (proc : Option ℕ) (who : Doer) (s : CoreState) → (HasFailed births proc → ⊥) → IfSome proc (λ p. p < length births) → IsProcessOf who proc → ShowsBirths births s → birth_for s.birth who ≡ failed → ⊥
+birth_unfailed births None who s unfailed within of_who shown is =
+    let other : born ≡ failed = sym (ap (λ (t : Bool). birth_by t (s.birth who.proc)) of_who) ∙ is in
+    absurd (cc other)
+birth_unfailed births (Some p) who s unfailed within of_who shown is =
+    let kept = there births p within in
+    let so : s.birth p ≡ failed = sym (ap (λ (t : Bool). birth_by t (s.birth who.proc)) of_who.0 ∙ ap (λ (q : ℕ). s.birth q) of_who.1) ∙ is in
+    let has : kept.0 ≡ Failed = kept_failed kept.0 (s.birth p) (shown p kept.0 kept.1) so in
+    unfailed (kept.1 ∙ ap (λ (b : Birth). Some b) has)
+
+-- ---- no process has failed
+
+pub of_born : (old new : Parts) (a : ℕ) (proc : Option ℕ) (far : ℕ) (op : Op) (place next : ForkPlace) (whats : List What)
+    → (HasFailed old.births.items proc → ⊥) → IfSome proc (λ p. p < length old.births.items)
+    → ((p slots : ℕ) → IfSome proc (λ q. q ≡ p) → HasSlots old a slots → IsTurnOfAll old new a p slots far op place whats next)
+    → IsTurnBy old new a proc far op place whats next
+of_born old new a proc far op place next whats unfailed within turn s who k own of_who slots sound shown place_is stands far_is free =
+    let refused_so : Taken = failed_turn who.actor who.proc op in
+    let other = birth_unfailed old.births.items proc who s unfailed within of_who shown.births in
+    let is_born : birth_for s.birth who ≡ born = (born_and_free (birth_for s.birth who) who.proc (waits_born s who.actor who.proc op) other free).0 in
+    let is : turn_of s who k op ≡ op_turn s a who.proc who.slots k op =
+    ap (λ (b : CoreBirth). turn_at b refused_so (op_turn s who.actor who.proc who.slots k op)) is_born ∙ ap (λ (b : ℕ). op_turn s b who.proc who.slots k op) own in
+    subst (λ (t : Taken). LeadsAll new a s t whats next) (sym is) (turn who.proc who.slots (process_of_doer who proc of_who) slots s k shown place_is stands far_is)
+
+-- ---- a refusal
+
+-- no event, or that a fork's child fails too
+data IsRefusal (a p : ℕ) (op : Op) : List CoreEvent → Type 0 where
+  nothing : IsRefusal a p op []
+  fails_too : (child : ℕ) → op ≡ Fork child → IsRefusal a p op (fail_unborn a p child ∷ [])
+
+refusal : (a p : ℕ) (op : Op) → IsRefusal a p op (failed_turn a p op).events
+refusal a p (Map page n rights) = nothing
+refusal a p (Unmap page n) = nothing
+refusal a p (Protect page n rights) = nothing
+refusal a p (Discard page n) = nothing
+refusal a p (Load page word) = nothing
+refusal a p (Store page word value) = nothing
+refusal a p (Pin handle page n write) = nothing
+refusal a p (Unpin handle) = nothing
+refusal a p (Give handle to) = nothing
+refusal a p (Take handle) = nothing
+refusal a p (Transfer handle outward index slot n) = nothing
+refusal a p Exit = nothing
+refusal a p (Fork child) = fails_too child refl
+
+-- the child of a fork of a failed process has no mappings: the fork has not begun
+no_maps : (s : CoreState) (a p child : ℕ) (job : Job) (prepared : Option ℕ) → IsSound s → StandsFork s a p child job prepared → s.job a ≡ job → s.birth p ≡ failed → (g : ℕ) → s.right child g ≡ None
+no_maps s a p child job prepared sound stands at has g = go job prepared stands at
+  where
+    forks_born : (q c : ℕ) (done : List ℕ) (step : ForkStep) → q ≡ p → s.job a ≡ forking q c done step → ⊥
+    forks_born q c done step same is =
+        let parent : s.birth q ≡ born = sound.1.fork_parent a _ (sound.1.forks_are a ∙ ap forking_of is) in
+        let other : born ≡ failed = sym parent ∙ ap s.birth same ∙ has in
+        cc other
+
+    go : (j : Job) (f : Option ℕ) → StandsFork s a p child j f → s.job a ≡ j → s.right child g ≡ None
+    go idle f h is = sound.1.unborn_unmapped child g h
+    go (forking q c done between) f h is = absurd (forks_born q c done between h.parent is)
+    go (forking q c done (counted page)) f h is = absurd (forks_born q c done (counted page) h.0.parent is)
+    go (forking q c done (copying page word)) f h is = absurd (forks_born q c done (copying page word) h.0.parent is)
+    go (forking q c done (lowered page)) f h is = absurd h
+    go (forking q c done (cleared page)) f h is = absurd h
+    go (forking q c done failing) f h is = absurd h
+    go (marking q page old) f h is = absurd h
+    go (moving q page e count) f h is = absurd h
+    go (walking q write long sequence step) f h is = absurd h
+
+-- what it leaves: frames, processes, pins, and where forks stand
+
+frames_left : (a p : ℕ) (op : Op) (F : FramesValue) (s : CoreState) {es : List CoreEvent} → IsRefusal a p op es → ShowsFrames F s → ShowsFrames F (run s es)
+frames_left a p op F s nothing h = h
+frames_left a p op F s (fails_too child is) h = record { movable = h.movable; normal = h.normal; count = h.count; mark = h.mark; word = h.word }
+
+-- a table of which no page has a value has no row
+at_first : (row : ℕ × Rights) (rows : List (ℕ × Rights)) → at (row ∷ rows) row.0 ≡ Some row.1
+at_first row rows = grind (arith, nat_tests)
+
+no_rows : (rows : List (ℕ × Rights)) → ((g : ℕ) → at rows g ≡ None) → 0 ≡ length rows
+no_rows [] none = refl
+no_rows (row ∷ rows) none = let other : Some row.1 ≡ None = sym (at_first row rows) ∙ none row.0 in absurd (cc other)
+
+space_left : (a p : ℕ) (op : Op) (q : ℕ) (space : SpaceParts) (s : CoreState) {es : List CoreEvent} → IsRefusal a p op es → ((child : ℕ) → op ≡ Fork child → (g : ℕ) → s.right child g ≡ None)
+    → ShowsSpace q (space_of space) s → ShowsSpace q (space_of space) (run s es)
+space_left a p op q space s nothing unmapped h = h
+space_left a p op q space s (fails_too child is) unmapped h =
+    record {
+      right = λ g. right_at g (q == child) refl;
+      pages = pages_at (q == child) refl;
+      entry = h.entry;
+      sequence = h.sequence;
+      has_pinned = h.has_pinned;
+      structure = h.structure;
+      table = h.table;
+    }
+  where
+    none : q ≡ child → (g : ℕ) → at space.rights g ≡ None
+    none same g = sym (h.right g) ∙ ap (λ k. s.right k g) same ∙ unmapped child is g
+
+    right_at : (g : ℕ) (here : Bool) → (q == child) ≡ here → (cond here (λ _. None) (s.right q)) g ≡ at space.rights g
+    right_at g true same = sym (none (eqb-true q child same) g)
+    right_at g false other = h.right g
+
+    pages_at : (here : Bool) → (q == child) ≡ here → cond here 0 (s.pages q) ≡ length space.rights
+    pages_at true same = no_rows space.rights (none (eqb-true q child same))
+    pages_at false other = h.pages
+
+pins_left : (a p : ℕ) (op : Op) (s : CoreState) {es : List CoreEvent} → IsRefusal a p op es → pins_of (run s es) ≡ pins_of s
+pins_left a p op s nothing = refl
+pins_left a p op s (fails_too child is) = refl
+
+places_left : (a p : ℕ) (op : Op) (s : CoreState) {es : List CoreEvent} → IsRefusal a p op es → (b : ℕ) → place_in (run s es) b ≡ place_in s b
+places_left a p op s nothing b = refl
+places_left a p op s (fails_too child is) b = refl
+
+-- where a process has failed, it is one
+failed_process : (births : List Birth) (proc : Option ℕ) (who : Doer) (s : CoreState) → HasFailed births proc → IsProcessOf who proc → ShowsBirths births s → s.birth who.proc ≡ failed
+failed_process births None who s has of_who shown = absurd has
+failed_process births (Some p) who s has of_who shown = ap (λ (q : ℕ). s.birth q) of_who.1 ∙ shown p Failed has
+
+pub refused : (old new : Parts) (a : ℕ) (proc : Option ℕ) (far : ℕ) (op : Op) (place : ForkPlace) (whats : List What)
+    → HasFailed old.births.items proc → new.frames ≡ old.frames → new.spaces ≡ old.spaces → new.handles ≡ old.handles → new.taken ≡ old.taken → new.stores ≡ old.stores
+    → ((s : CoreState) (b p : ℕ) → ShowsBirths old.births.items s → LeadsBirths new.births.items s (failed_turn b p op) whats)
+    → IsTurnBy old new a proc far op place whats place
+refused old new a proc far op place whats has frames spaces handles taken stores turn s who k own of_who slots sound shown place_is stands far_is free =
+    let p : ℕ = who.proc in
+    let t : Taken = failed_turn who.actor p op in
+    let made : IsRefusal who.actor p op t.events = refusal who.actor p op in
+    let has_so : birth_for s.birth who ≡ failed = birth_failed old.births.items proc who s has of_who shown.births in
+    let is : turn_of s who k op ≡ t = ap (λ (b : CoreBirth). turn_at b t (op_turn s who.actor p who.slots k op)) has_so in
+    let unmapped : (child : ℕ) → op ≡ Fork child → (g : ℕ) → s.right child g ≡ None =
+    λ child same. no_maps s a p child (s.job a) (s.prepared a) sound (stands.fork child same) refl (failed_process old.births.items proc who s has of_who shown.births) in
+    let led : LeadsBirths new.births.items s t whats = turn s who.actor p shown.births in
+    let stay : pins_of (run s t.events) ≡ pins_of s = pins_left who.actor p op s made in
+    let parts : ShowsParts new (run s t.events) =
+    record {
+      frames = subst (λ fs. ShowsFrames (frames_of fs) (run s t.events)) (sym frames) (frames_left who.actor p op (frames_of old.frames) s made shown.frames);
+      spaces = subst (λ xs. ShowsSpaces xs.items (run s t.events)) (sym spaces) (λ q space found. space_left who.actor p op q space s made unmapped (shown.spaces q space found));
+      births = led.births;
+      pins = pins_shown old new s (run s t.events) handles stay shown.pins;
+      taken = taken_shown old new s (run s t.events) taken (ap (λ (k : Pins). k.2) stay) shown.taken;
+      stores = stores_shown old new s (run s t.events) stores (ap (λ (k : Pins). k.3) stay) shown.stores;
+    } in
+    subst (λ (u : Taken). LeadsAll new a s u whats place) (sym is)
+    (record {
+      says = led.says;
+      parts = parts;
+      fork = place_is ∙ sym (places_left who.actor p op s made a);
+      others = λ b apart. places_left who.actor p op s made b;
+    })
