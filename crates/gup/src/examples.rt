@@ -1,6 +1,12 @@
 //! The scripts of examples/, with their statuses and their texts. Written by examples/tests.
 
-pub const EXAMPLES: [(&str, u8, &str); 10] = [
+pub const EXAMPLES: [(&str, u8, &str); 14] = [
+    // direct-read-races-fork.gup
+    (
+        "# A direct read (O_DIRECT) is under way while its thread forks: the device writes word 0 when the fork has copied that, and\n# word 1 before the fork comes to it. The parent has all that was read. The child has each word as it was when the fork\n# copied it: a page of no single moment, which is as much as a fork beside a running read can promise.\n# Linux: mm/memory.c, copy_present_page copies the page while the device goes on; the pins of a direct read are those of\n# lib/iov_iter.c, iov_iter_extract_pages.\n# never: u 1 ok 9\n# never: u 2 ok 7\n# never: t 8 ok 7\ngup 1\nframes 8 8 64\nprocess p\nchild c\nthread t p\nthread u c\ndevice d 8\non t map 5 1 rw\non t store 5.0 7\non t store 5.1 7\non t store 5.2 9\non t pin h 5 1 write\non t give h d\non t fork c\non d take h\non d out h 2 0 1\non d in h 0 0 1\non d in h 1 0 1\non t load 5.0\non t load 5.1\non u load 5.0\non u load 5.1\nturns t*6 d*2 t*4 d*2 t*515 u*2\n",
+        0,
+        "t 1 ok\nt 2 ok\nt 3 ok\nt 4 ok\nt 5 ok 1\nt 6 ok\nd 1 ok\nd 2 ok 9\nd 3 ok 9\nd 4 ok 9\nt 7 ok\nt 8 ok 9\nt 9 ok 9\nu 1 ok 7\nu 2 ok 9\n",
+    ),
     // first.gup
     (
         "gup 1\nframes 8 8 64\nprocess p\nthread t p\non t map 5 1 rw\non t load 5.0\non t store 5.0 7\non t load 5.0\non t unmap 5 1\non t load 5.0\n",
@@ -13,6 +19,12 @@ pub const EXAMPLES: [(&str, u8, &str); 10] = [
         0,
         "t 1 ok\nt 2 ok\nt 3 ok\nt 4 ok\nt 5 ok 8\nu 1 ok 7\n",
     ),
+    // fork-without-frame.gup
+    (
+        "# A fork that has to copy a pinned page and finds no memory fails, and its parent goes on as before; its child never runs. Once\n# the pin is given back, the next fork shares the page and needs none.\n# Linux: kernel/fork.c, dup_mmap takes down what the child had, and the call answers ENOMEM; no process is left that\n# could answer anything.\n# never: u 1 ok 7\n# never: t 5 ok 0\n# never: t 7 noframe\ngup 1\nframes 1 0 64\nprocess p\nchild c\nchild e\nthread t p\nthread u c\nthread w e\non t map 5 1 rw\non t store 5.0 7\non t pin h 5 1 write\non t fork c\non t load 5.0\non t unpin h\non t fork e\non u load 5.0\non w load 5.0\nturns t*12 u w\n",
+        0,
+        "t 1 ok\nt 2 ok\nt 3 ok 1\nt 4 noframe\nt 5 ok 7\nt 6 ok\nt 7 ok\nu 1 unborn\nw 1 ok 7\n",
+    ),
     // munmap-under-pin.gup
     (
         "# A pin keeps the memory that it was made of: behind munmap and a new mapping of the same address the device still reads and\n# writes the old page, and never sees the new one.\n# Linux: mm/gup.c, pin_user_pages takes references of the page itself; mm/memory.c, zap_pte_range drops the mapping's alone.\n# never: d 2 ok 8\n# never: t 8 ok 7\ngup 1\nframes 8 8 64\nprocess p\nthread t p\ndevice d 8\non t map 5 1 rw\non t store 5.0 7\non t pin h 5 1 write\non t give h d\non t unmap 5 1\non t map 5 1 rw\non t store 5.0 8\non d take h\non d out h 0 0 1\non d in h 1 0 1\non d unpin h\non t load 5.1\nturns t*7 d*4 t\n",
@@ -24,6 +36,18 @@ pub const EXAMPLES: [(&str, u8, &str); 10] = [
         "# A fork takes no frame for what it shares, so it succeeds with no memory left; it is a later write that fails for want\n# of it, and succeeds once the other process is gone.\n# Linux: mm/memory.c, wp_page_copy answers VM_FAULT_OOM; behind the child's exit wp_can_reuse_anon_folio.\n# never: t 3 noframe\ngup 1\nframes 1 0 64\nprocess p\nchild c\nthread t p\nthread u c\non t map 5 1 rw\non t store 5.0 7\non t fork c\non t store 5.0 8\non t load 5.0\non u exit\non t store 5.0 9\non t load 5.0\nturns t*8 u*2\n",
         0,
         "t 1 ok\nt 2 ok\nt 3 ok\nt 4 noframe\nt 5 ok 7\nu 1 ok\nt 6 ok\nt 7 ok 9\n",
+    ),
+    // pinned-by-the-parent.gup
+    (
+        "# A pin is of the process that made it: the child gets a copy that nobody pins, so its own fork shares that, and takes no frame.\n# The parent's next fork has to copy again, and finds none.\n# Linux: include/linux/mm.h, folio_needs_cow_for_dma asks for the process's own MMF_HAS_PINNED, which kernel/fork.c, mm_init\n# leaves clear in a child.\n# never: u 1 noframe\n# never: t 5 ok\ngup 1\nframes 2 0 64\nprocess p\nchild c\nchild g\nchild e\nthread t p\nthread u c\nthread w g\non t map 5 1 rw\non t store 5.0 7\non t pin h 5 1 write\non t fork c\non u fork g\non t fork e\non w load 5.0\non u load 5.0\non t load 5.0\nturns t*520 u*4 t*3 w u t\n",
+        0,
+        "t 1 ok\nt 2 ok\nt 3 ok 1\nt 4 ok\nu 1 ok\nt 5 noframe\nw 1 ok 7\nu 2 ok 7\nt 6 ok 7\n",
+    ),
+    // rdma-across-fork.gup
+    (
+        "# A buffer is registered with an RDMA device, and then the program forks. The fork copies the pinned page for its child, so the\n# parent keeps the frame that the device has: the device sends what the parent writes afterwards, the parent reads\n# what the device receives, and the child has the page as it was.\n# Linux: mm/memory.c, copy_present_page copies where include/linux/mm.h, folio_needs_cow_for_dma says so. Before there was\n# such a rule, whoever wrote first after the fork went on with a copy, and the device kept a page that nobody wrote to.\n# never: d 2 ok 7\n# never: t 7 ok 0\n# never: u 1 ok 8\ngup 1\nframes 8 8 64\nprocess p\nchild c\nthread t p\nthread u c\ndevice d 8\non t map 5 1 rw\non t store 5.0 7\non t pin h 5 1 write\non t give h d\non t fork c\non t store 5.0 8\non d take h\non d out h 0 0 1\non d in h 1 0 1\non t load 5.1\non u load 5.0\non u load 5.1\nturns t*522 d*3 t u*2\n",
+        0,
+        "t 1 ok\nt 2 ok\nt 3 ok 1\nt 4 ok\nt 5 ok\nt 6 ok\nd 1 ok\nd 2 ok 8\nd 3 ok 8\nt 7 ok 8\nu 1 ok 7\nu 2 ok 0\n",
     ),
     // read-pin-unshares.gup
     (
