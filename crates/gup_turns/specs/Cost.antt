@@ -81,6 +81,25 @@ cost script r =
 abbrev pub operations : ScriptValue → ℕ
 operations script = sum_by (λ (a : Actor). length a.ops) script.actors
 
+-- how many of its operations are forks
+abbrev pub is_fork : Op → ℕ
+is_fork (Fork child) = 1
+is_fork (Map page n rights) = 0
+is_fork (Unmap page n) = 0
+is_fork (Protect page n rights) = 0
+is_fork (Discard page n) = 0
+is_fork (Load page word) = 0
+is_fork (Store page word value) = 0
+is_fork (Pin handle page n write) = 0
+is_fork (Unpin handle) = 0
+is_fork (Give handle to) = 0
+is_fork (Take handle) = 0
+is_fork (Transfer handle outward index slot n) = 0
+is_fork Exit = 0
+
+abbrev pub forks : ScriptValue → ℕ
+forks script = sum_by (λ (a : Actor). sum_by is_fork a.ops) script.actors
+
 -- The bounds on an operation's own turns, by what one of them brings.
 
 -- it is answered, and the actor stands at its next one

@@ -1,7 +1,7 @@
 //! The turns of the core machine and the core run of a script, as definitions, and the laws of the core run.
 #![tactic(auto)]
 
-ghost use Rattle.std.specs.Prelude.{◌≡◌, ℕ, ◌<◌, ◌≤◌, ◌*◌, true, false, List, length, None, Some};
+ghost use Rattle.std.specs.Prelude.{◌≡◌, ℕ, ◌+◌, ◌<◌, ◌≤◌, ◌*◌, true, false, List, length, None, Some};
 ghost use Rattle.gup_plain.specs.Note.{NoteValue};
 ghost use Rattle.gup_plain.specs.declared.note.Waiting.{Waiting};
 ghost use Rattle.gup_script.specs.declared.op.Op.{Op};
@@ -12,7 +12,7 @@ ghost use Rattle.gup_follows.specs.Follows.{Follows};
 ghost use Rattle.gup_follows.specs.Order.{Turn, InOrder};
 ghost use Rattle.gup_turns.specs.Run.{RunState, Runs, run_start, run_after, op_in, waiting_in, can_go, IsCoreRun};
 ghost use Rattle.gup_turns.specs.Cause.{FindNoFrame, AreKnown, answered_in, HaveFinished, WaitsForBirthOrPin};
-ghost use Rattle.gup_turns.specs.Cost.{cost, operations, IsBoundedTurn};
+ghost use Rattle.gup_turns.specs.Cost.{cost, operations, forks, IsBoundedTurn};
 ghost use Rattle.gup_turns.specs.Reached.{turned, IsStanding};
 
 /// A script has one core run, and that has one end.
@@ -60,11 +60,13 @@ pub fn reached_states_stand()
 }
 
 /// The turn of an actor that can go takes of the cost, and that of one that waits or has finished leaves it. At the
-/// start the cost is at most 528,386 for each operation of the script. So a run ends.
+/// start the cost is at most 1,025 for each operation of the script, and 527,361 more for each fork; and there are no more
+/// forks than processes, since each brings a child of its own. So a run ends.
 pub fn turns_are_spent()
     ensures spent { (script : ScriptValue) (r : RunState) (a : ℕ) → IsScript script → IsStanding script r → can_go script r a ≡ true → cost script (run_after script r a) < cost script r }
     ensures kept { (script : ScriptValue) (r : RunState) (a : ℕ) → can_go script r a ≡ false → cost script (run_after script r a) ≡ cost script r }
-    ensures start { (script : ScriptValue) → IsScript script → cost script (run_start script) ≤ 528386 * operations script }
+    ensures start { (script : ScriptValue) → IsScript script → cost script (run_start script) ≤ 1025 * operations script + 527361 * forks script }
+    ensures few_forks { (script : ScriptValue) → IsScript script → forks script ≤ length script.processes }
 {}
 
 /// How many turns an operation has at most: a mapping, a protection, a load, a store, a give and a take one, what goes over
