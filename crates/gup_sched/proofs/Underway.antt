@@ -7,7 +7,7 @@ use Rattle.gup_script.specs.Script.{ScriptValue}
 use Rattle.gup_script.specs.Valid.{IsScript}
 use Rattle.gup_follows.specs.Follows.{notes_of_turn}
 use Rattle.gup_follows.specs.Order.{Turn, journal_of, behind, pointer_after}
-use Rattle.gup_turns.specs.Cost.{cost, operations}
+use Rattle.gup_turns.specs.Cost.{cost, operations, forks}
 use Rattle.gup_turns.specs.Reached.{turned, IsStanding}
 use Rattle.gup_turns.specs.Run.{RunState, run_start, run_after, turn_in, taken_in, can_go, pointed, written_in, next_by, next_actor, Runs, IsCoreRun}
 use Rattle.gup_core.specs.Machine.{MachineValue, Shows, TakesTurn, IsNew, counted}
@@ -64,20 +64,23 @@ underway_end script m notes r stop u = subst (λ (ns : List NoteValue). IsCoreRu
 pub record HasCosts (script : ScriptValue) : Type 0 where
   pub spent : (r : RunState) (a : ℕ) → IsStanding script r → can_go script r a ≡ true → cost script (run_after script r a) < cost script r
   pub kept : (r : RunState) (a : ℕ) → can_go script r a ≡ false → cost script (run_after script r a) ≡ cost script r
-  pub start : cost script (run_start script) ≤ 528386 * operations script
+  pub start : cost script (run_start script) ≤ 1025 * operations script + 527361 * forks script
+  pub few_forks : forks script ≤ length script.processes
   pub stand : (actors : List ℕ) → IsStanding script (turned script (run_start script) actors)
 
 pub has_costs : (script : ScriptValue) → IsScript script
     → ((s : ScriptValue) (r : RunState) (a : ℕ) → IsScript s → IsStanding s r → can_go s r a ≡ true → cost s (run_after s r a) < cost s r)
     → ((s : ScriptValue) (r : RunState) (a : ℕ) → can_go s r a ≡ false → cost s (run_after s r a) ≡ cost s r)
-    → ((s : ScriptValue) → IsScript s → cost s (run_start s) ≤ 528386 * operations s)
+    → ((s : ScriptValue) → IsScript s → cost s (run_start s) ≤ 1025 * operations s + 527361 * forks s)
+    → ((s : ScriptValue) → IsScript s → forks s ≤ length s.processes)
     → ((s : ScriptValue) (actors : List ℕ) → IsScript s → IsStanding s (turned s (run_start s) actors))
     → HasCosts script
-has_costs script valid spent kept start stand =
+has_costs script valid spent kept start few_forks stand =
     record {
       spent = λ r a stands goes. spent script r a valid stands goes;
       kept = kept script;
       start = start script valid;
+      few_forks = few_forks script valid;
       stand = λ actors. stand script actors valid;
     }
 
@@ -141,8 +144,10 @@ few_in_all : (script : ScriptValue) → IsScript script → HasCosts script → 
 few_in_all script valid costs =
     let turns = valid.few_turns in
     let ops = valid.few_ops in
+    let processes = valid.few_processes in
     let start = costs.start in
-    omega (arith, turns, ops, start)
+    let few = costs.few_forks in
+    omega (arith, turns, ops, processes, start, few)
 
 pub pointed_turn : (script : ScriptValue) → IsScript script → HasCosts script → (m n : MachineValue) (notes told : List NoteValue) (pointer : ℕ) (r : RunState) (a : ℕ) → pointed script r (length script.actors) pointer ≡ Some a → n.script ≡ m.script → TakesTurn m n a r told → IsPointed script m notes pointer r → IsPointed script n (notes ++ told) (behind (length script.actors) a) (run_after script r a) × (m.turns < n.turns) × (n.turns ≤ most script)
 pointed_turn script valid costs m n notes told pointer r a is kept takes h =
@@ -174,7 +179,7 @@ pointed_end script m notes pointer r none h =
     underway_end script m notes r (ap (next_by script r) written ∙ found) h.underway
 
 -- and the turns are few
-pub few_turns : (script : ScriptValue) (m : MachineValue) (notes : List NoteValue) (from : ℕ) (r : RunState) → HasCosts script → IsPointed script m notes from r → r.turns ≤ length script.turns + 528386 * operations script
+pub few_turns : (script : ScriptValue) (m : MachineValue) (notes : List NoteValue) (from : ℕ) (r : RunState) → HasCosts script → IsPointed script m notes from r → r.turns ≤ length script.turns + (1025 * operations script + 527361 * forks script)
 few_turns script m notes from r costs h =
     let cheap = h.cheap in
     let start = costs.start in

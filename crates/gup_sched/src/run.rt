@@ -1,7 +1,7 @@
 //! The run of a machine.
 ghost use Rattle.std.specs.Prelude.{◌≡◌, ℕ, ◌+◌, ◌*◌, ◌<◌, ◌≤◌, ◌++◌, List, length, IfOk, OnOk};
 ghost use Rattle.gup_plain.specs.Note.{NoteValue};
-ghost use Rattle.gup_turns.specs.Cost.{operations};
+ghost use Rattle.gup_turns.specs.Cost.{operations, forks};
 ghost use Rattle.gup_turns.specs.Run.{RunState, IsCoreRun};
 ghost use Rattle.gup_core.specs.Machine.{Shows, TakesTurn, IsNew};
 ghost use Rattle.gup_sched.specs.Ran.{SaysStuck};
@@ -26,12 +26,12 @@ pub struct Run {
 /// Runs the machine to the end of the script: first the written turns, then those that the pointer gives, the first
 /// actor at or behind it, in a circle, that has operations left and doesn't wait, until there is none. The journal is
 /// that of the script's core run, and the machine shows its end. Every run ends: behind its written turns it has at
-/// most 528,386 turns for each operation of the script. The journal may want memory.
+/// most 1,025 turns for each operation of the script, and 527,361 more for each fork. The journal may want memory.
 pub fn run_all(alloc: Global, machine: Machine, script: &Script) -> Result<Run, NoMemory>
     requires { IsNew script.now machine }
     ensures core { IfOk result (λ run. (end : RunState) × IsCoreRun script.now run.journal.notes end
         × Shows run.machine end × SaysStuck run.stuck script.now end
-        × (end.turns ≤ length script.now.turns + 528386 * operations script.now)) }
+        × (end.turns ≤ length script.now.turns + (1025 * operations script.now + 527361 * forks script.now))) }
     ensures script { IfOk result (λ run. run.machine.script ≡ script.now) }
 {
     reached_states_stand();
