@@ -1,8 +1,8 @@
 -- A turn of an actor that can go takes of the cost, and any other leaves it.
-use Rattle.std.proofs.Common.{◌≡◌, ℕ, ◌+◌, ◌*◌, ◌<◌, ◌≤◌, ◌==◌, true, false, List, [], ◌∷◌, length, All, Option, Some, None, slice_get, get_or, inl, inr, refl, ap, sym, subst, ◌∙◌, zero, suc, arith, add-one, eqb-true}
+use Rattle.std.proofs.Common.{◌≡◌, ℕ, ◌+◌, ◌*◌, ◌<◌, ◌≤◌, ◌==◌, true, false, List, [], ◌∷◌, length, All, Option, Some, None, slice_get, inl, inr, refl, ap, sym, subst, ◌∙◌, zero, suc, arith, add-one, eqb-true}
 use Rattle.std.specs.Prelude.{◌⊎◌, sum_by}
 use Rattle.std.proofs.lemmas.Bool.Decides.{nat_tests}
-use Rattle.std.proofs.lemmas.List.Sums.{sum_by-cons, sum_by-le}
+use Rattle.std.proofs.lemmas.List.Sums.{sum_by-cons}
 use Rattle.gup_base.specs.declared.entry.Rights.{Rights}
 use Rattle.gup_plain.specs.Put.{put}
 use Rattle.gup_plain.specs.State.{Birth, unborn, growing, born, failed, Handle, unmade, held, given, gone, objects_of}
@@ -19,7 +19,7 @@ use Rattle.gup_events.specs.Event.{CoreEvent}
 use Rattle.gup_events.specs.Invariant.{run}
 use Rattle.gup_events.specs.Sound.{Forking, forking_of}
 use Rattle.gup_follows.specs.Place.{Place, Doer, doer, birth_for, is_thread, thread_in, place_behind, process_of, process_in, process_of_kind, ops_of, ops_in}
-use Rattle.gup_turns.specs.Cost.{fork_left, op_cost, op_left, left_cost, actor_cost, cost, operations, IsBoundedTurn, IsWithinBound}
+use Rattle.gup_turns.specs.Cost.{fork_left, op_cost, op_left, left_cost, actor_cost, cost, operations, is_fork, forks, IsBoundedTurn, IsWithinBound}
 use Rattle.gup_turns.specs.Pages.{sum_below, mapped_pages}
 use Rattle.gup_turns.specs.Reached.{ForkPlace, fork_place, place_in, IsForking, StandsFork, IsStanding, IsNoFork, StandsHandle, given_back, back_in}
 use Rattle.gup_turns.specs.Run.{RunState, run_start, run_after, op_in, waiting_in, waiting_with, taken_by, taken_in, is_ready, can_go}
@@ -348,7 +348,8 @@ kept_cost script r a stays =
 
 -- at the start
 
-most_of : (op : Op) → IsOp op → op_cost op ≤ 528386
+-- an operation costs at most 1,025, and a fork 527,361 more
+most_of : (op : Op) → IsOp op → op_cost op ≤ 1025 + 527361 * is_fork op
 most_of (Map page n rights) range = let few = range.1 in omega arith
 most_of (Unmap page n) range = let few = range.1 in omega arith
 most_of (Protect page n rights) range = omega arith
@@ -363,17 +364,26 @@ most_of (Transfer handle outward index slot n) range = let few = range.1 in omeg
 most_of (Fork child) range = omega arith
 most_of Exit range = omega arith
 
-most_of_all : (actors : List Actor) → All (λ (a : Actor). All IsOp a.ops) actors → sum_by (λ (a : Actor). sum_by op_cost a.ops) actors ≤ 528386 * sum_by (λ (a : Actor). length a.ops) actors
+most_of_ops : (ops : List Op) → All IsOp ops → sum_by op_cost ops ≤ 1025 * length ops + 527361 * sum_by is_fork ops
+most_of_ops [] range = omega arith
+most_of_ops (op ∷ ops) range =
+    let first = most_of op (range 0 op (omega arith)) in
+    let rest = most_of_ops ops (λ k d less. range (suc k) d (omega arith)) in
+    let costs = sum_by-cons op_cost op ops in
+    let forking = sum_by-cons is_fork op ops in
+    omega (arith, first, rest, costs, forking)
+
+most_of_all : (actors : List Actor) → All (λ (a : Actor). All IsOp a.ops) actors → sum_by (λ (a : Actor). sum_by op_cost a.ops) actors ≤ 1025 * sum_by (λ (a : Actor). length a.ops) actors + 527361 * sum_by (λ (a : Actor). sum_by is_fork a.ops) actors
 most_of_all [] range = omega arith
 most_of_all (actor ∷ actors) range =
-    let first : All IsOp actor.ops = range 0 actor (omega arith) in
-    let here = sum_by-le op_cost 528386 actor.ops (λ k d less. most_of (get_or actor.ops k d) (first k d less)) in
+    let here = most_of_ops actor.ops (range 0 actor (omega arith)) in
     let rest = most_of_all actors (λ k d less. range (suc k) d (omega arith)) in
     let costs = sum_by-cons (λ (a : Actor). sum_by op_cost a.ops) actor actors in
     let counts = sum_by-cons (λ (a : Actor). length a.ops) actor actors in
-    omega (arith, here, rest, costs, counts)
+    let forking = sum_by-cons (λ (a : Actor). sum_by is_fork a.ops) actor actors in
+    omega (arith, here, rest, costs, counts, forking)
 
-pub first_cost : (script : ScriptValue) → IsScript script → cost script (run_start script) ≤ 528386 * operations script
+pub first_cost : (script : ScriptValue) → IsScript script → cost script (run_start script) ≤ 1025 * operations script + 527361 * forks script
 unfolding cost
 first_cost script valid =
     let s : CoreState = (run_start script).core in

@@ -1,5 +1,6 @@
 -- By the operation that the actor stands at.
 use Rattle.gup_turns.proofs.Spending.{spent_turns, kept_cost, first_cost}
+use Rattle.gup_turns.proofs.FewForks.{few_forks}
 use Rattle.gup_turns.proofs.turns_are_spent.Goals as goal
 
 pub returns-clause-spent : goal.returns-clause-spent
@@ -10,3 +11,6 @@ returns-clause-kept c script r a stays = kept_cost script r a stays
 
 pub returns-clause-start : goal.returns-clause-start
 returns-clause-start c script valid = first_cost script valid
+
+pub returns-clause-few_forks : goal.returns-clause-few_forks
+returns-clause-few_forks c script valid = few_forks script valid
