@@ -160,7 +160,7 @@ places_left : (a p : ℕ) (op : Op) (s : CoreState) {es : List CoreEvent} → Is
 places_left a p op s nothing b = refl
 places_left a p op s (fails_too child is) b = refl
 
--- where a process has failed, it is one
+-- the process of whoever is a thread of a failed one
 failed_process : (births : List Birth) (proc : Option ℕ) (who : Doer) (s : CoreState) → HasFailed births proc → IsProcessOf who proc → ShowsBirths births s → s.birth who.proc ≡ failed
 failed_process births None who s has of_who shown = absurd has
 failed_process births (Some p) who s has of_who shown = ap (λ (q : ℕ). s.birth q) of_who.1 ∙ shown p Failed has

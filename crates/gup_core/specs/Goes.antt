@@ -61,8 +61,9 @@ pub record LeadsBirths (new : List Birth) (s : CoreState) (turn : Taken) (whats 
 abbrev pub HasSlots : Parts → (a slots : ℕ) → Type 0
 HasSlots parts a slots = (store : Option (List ℕ)) → slice_get parts.stores.items a ≡ Some store → slots_in store ≡ slots
 
--- So it is of whoever does the operation, and of its process where it is of one, from each sound state that shows what was,
--- where it waits for nothing: be the turn that of the operation, or its refusal where the process has failed.
+-- The actor's turn of the operation, which is of this process where it is of one: from each sound state that shows what was,
+-- where the actor waits for nothing, it says this and leads to these parts, be it the operation's own or, where the process
+-- has failed, its refusal.
 abbrev pub IsTurnBy : (old new : Parts) → (a : ℕ) → (proc : Option ℕ) → (far : ℕ) → Op → (old_fork : ForkPlace) → List What → (new_fork : ForkPlace) → Type 0
 IsTurnBy old new a proc far op old_fork whats new_fork =
     (s : CoreState) (who : Doer) (k : ℕ)

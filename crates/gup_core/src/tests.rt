@@ -313,13 +313,16 @@ fn forks_share_pages(rt: HostRuntime) -> Result<(), Fail> {
     turn(&rt, &mut machine, 3, &[begun()]);
     assert_eq!(rt; machine.waits(actor(0)), None);
     turn(&rt, &mut machine, 0, &loaded(0, 5, 1));
-    let holder = Waiting::Holder(actor(3));
-    assert_eq!(rt; machine.waits(actor(0)), Some(holder));
-    turn(&rt, &mut machine, 0, &[What::Wait(holder)]);
     let (parent, child) = (proc(0), proc(2));
-    let unborn = Waiting::Process(child);
-    assert_eq!(rt; machine.waits(actor(2)), Some(unborn));
-    turn(&rt, &mut machine, 2, &[What::Wait(unborn)]);
+    assert_eq!(rt; machine.waits(actor(0)), Some(Waiting::Holder(actor(3))));
+    turn(
+        &rt,
+        &mut machine,
+        0,
+        &[What::Wait(Waiting::Holder(actor(3)))],
+    );
+    assert_eq!(rt; machine.waits(actor(2)), Some(Waiting::Process(child)));
+    turn(&rt, &mut machine, 2, &[What::Wait(Waiting::Process(child))]);
     turn(&rt, &mut machine, 3, &[What::Silent]);
     turn(&rt, &mut machine, 3, &[forked(5)]);
     turn(&rt, &mut machine, 3, &[forked(6)]);

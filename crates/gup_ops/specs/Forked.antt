@@ -1,10 +1,10 @@
 -- Where a fork stands between two turns, as the machine keeps it, and what a turn of one is.
-use Rattle.std.specs.Prelude.{◌≡◌, ℕ, ◌≤◌, Bool, true, false, List, [], ◌∷◌, Some, None, IsSome}
+use Rattle.std.specs.Prelude.{◌≡◌, ℕ, ◌≤◌, List, ◌∷◌, Some, None, IsSome}
 use Rattle.gup_plain.specs.Event.{words}
 use Rattle.gup_plain.specs.State.{Birth, growing, born, failed}
 use Rattle.gup_plain.specs.declared.event.PlainEvent.TheVariants as events
 use Rattle.gup_plain.specs.declared.note.What.{What}
-use Rattle.gup_plain.specs.declared.note.What.TheVariants.{Silent, Idle, Wait, Event, Done}
+use Rattle.gup_plain.specs.declared.note.What.TheVariants.{Event}
 use Rattle.gup_base.specs.declared.entry.Entry.{Entry}
 use Rattle.gup_frames.specs.Frames.{FramesValue, IsFrame}
 use Rattle.gup_space.specs.Space.{SpaceValue}
@@ -23,15 +23,6 @@ place_of (From page) = from_page page
 place_of (At page) = at_page page
 place_of (Wanting page) = wants_frame page
 place_of (Copying page word to) = at_word page word to
-
--- does a turn that says this end its operation?
-abbrev pub is_answered : List What → Bool
-is_answered [] = false
-is_answered (Done answer ∷ whats) = true
-is_answered (Event event ∷ whats) = is_answered whats
-is_answered (Silent ∷ whats) = is_answered whats
-is_answered (Wait waiting ∷ whats) = is_answered whats
-is_answered (Idle ∷ whats) = is_answered whats
 
 -- a page that was counted has an entry of the parent, and none yet of the child, which has it mapped
 abbrev pub IsCountedIn : (page : ℕ) → (parent child : SpaceValue) → Type 0
