@@ -27,7 +27,7 @@ use Rattle.gup_core.specs.declared.parts.Parts.{Parts}
 use Rattle.gup_core.specs.declared.seats.Seat.{Seat}
 use Rattle.gup_core.specs.Doers.{IsProcessOf}
 use Rattle.gup_core.specs.Goes.{StandsAt, LeadsAll, IsTurnBy}
-use Rattle.gup_core.specs.Machine.{MachineValue, machine_of, counted, ShowsParts, Shows, TakesTurns}
+use Rattle.gup_core.specs.Machine.{MachineValue, machine_of, counted, ShowsParts, Shows, TakesTurns, AreParts, IsMachine}
 use Rattle.gup_core.specs.Rest.{IsAtRest, op_of_seat}
 use Rattle.gup_core.specs.Seats.{IsSeat, far_behind, seat_behind}
 use Rattle.gup_core.proofs.Notes.{NoTwo, turn_two}
@@ -95,6 +95,11 @@ forks_behind s t seats others a seat old same here new stay =
 -- the same notes
 pub notes_taken : (m n : MachineValue) (a : ℕ) (notes other : List NoteValue) → other ≡ notes → TakesTurns m n a notes → TakesTurns m n a other
 notes_taken m n a notes other same h = subst (λ (ns : List NoteValue). TakesTurns m n a ns) (sym same) h
+
+-- a turn leaves a machine
+pub still_machine : (m n : MachineValue) (a : ℕ) (notes : List NoteValue) → IsMachine m → AreParts n.script n.parts → length n.seats ≡ length n.script.actors → TakesTurns m n a notes → IsMachine n
+still_machine m n a notes was parts seats turns =
+    record { parts = parts; seats = seats; shown = (run_after m.script was.shown.0 a, (turns was.shown.0 was.shown.1).shown) }
 
 -- ---- idle, or waiting
 

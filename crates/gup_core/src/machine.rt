@@ -8,11 +8,13 @@ ghost use Rattle.gup_core.specs.Rest.{IsAtRest};
 
 use crate::locks::waits_for;
 use crate::parts::{self, Parts};
-use crate::seats::{self, Seat, seat_of};
-use crate::turn::Turn;
-use crate::turns::{op_at, ops, process, take_turn};
+use crate::seats::{self, Seat, seat_of, set_seat};
+use crate::takes::take_op;
+use crate::turn::{Head, Turn};
+use crate::turns::{next_turn, notes, op_at, ops, process};
 use gup_base::{ActorNo, NoMemory, Zone};
-use gup_plain::Waiting;
+use gup_ops::is_last;
+use gup_plain::{Waiting, What};
 use gup_script::Script;
 use std::alloc::Global;
 use std::marker::Model;
@@ -73,13 +75,32 @@ impl Machine {
         ensures script { self.new.script ≡ self.old.script }
     {
         self.rests();
-        take_turn(
-            &self.script,
-            &mut self.parts,
-            &mut self.seats,
-            &mut self.turns,
+        gup_turns::reached_states_stand();
+        let seat = self.seat(actor);
+        let number = next_turn(self.turns);
+        self.turns = number;
+        let head = Head {
+            turn: number,
             actor,
-        )
+            op: seat.answered + 1,
+        };
+        let Some(op) = op_at(ops(&self.script, actor), seat.answered) else {
+            return Turn::one(&head, What::Idle);
+        };
+        if let Some(waiting) = waits_for(
+            &self.parts,
+            actor,
+            process(&self.script, actor),
+            seat.fork,
+            &op,
+        ) {
+            return Turn::one(&head, What::Wait(waiting));
+        }
+        let proc = process(&self.script, actor);
+        let (said, fork) = take_op(&mut self.parts, actor, proc, seat.far, seat.fork, &op);
+        let next = seats::behind(&seat, &op, is_last(&said), fork);
+        set_seat(&mut self.seats, actor, &next);
+        notes(&head, &said)
     }
 
     /// What the actor waits for before its next turn, if it waits: that its process is born, or else that the pin is given

@@ -1,8 +1,27 @@
 //! The notes of one turn.
 ghost use Rattle.std.specs.Prelude.{◌≡◌, ◌≤◌, length, [], ◌∷◌};
+ghost use Rattle.gup_follows.specs.Follows.{note_of, notes_of_turn};
 
-use gup_plain::Note;
+use gup_base::ActorNo;
+use gup_plain::{Note, What};
 use std::marker::Model;
+
+/// What all notes of a turn have in common: its number, its actor, and the number of that actor's operation.
+#[derive(Clone, Copy)]
+pub struct Head {
+    pub turn: u32,
+    pub actor: ActorNo,
+    pub op: u32,
+}
+
+impl Head {
+    // The note that says this.
+    fn note(&self, what: What) -> Note
+        ensures { result ≡ note_of self.now.turn self.now.actor self.now.op what }
+    {
+        Note::new(self.turn, self.actor, self.op, what)
+    }
+}
 
 /// The notes of a turn: one to three. Contracts see the list of them.
 #[derive(Debug, Drop)]
@@ -23,32 +42,33 @@ impl Model for Turn {
 }
 
 impl Turn {
-    /// A turn of one note.
-    pub(crate) fn one(note: Note) -> Self
-        ensures { result ≡ note ∷ [] }
+    /// A turn that says one thing.
+    pub(crate) fn one(head: &Head, what: What) -> Self
+        ensures { result ≡ notes_of_turn head.now.turn head.now.actor head.now.op (what ∷ []) }
     {
         Turn {
-            notes: [note; 3],
+            notes: [head.note(what); 3],
             len: 1,
         }
     }
 
-    /// A turn of two notes.
-    pub(crate) fn two(first: Note, second: Note) -> Self
-        ensures { result ≡ first ∷ second ∷ [] }
+    /// A turn that says two things.
+    pub(crate) fn two(head: &Head, first: What, second: What) -> Self
+        ensures { result ≡ notes_of_turn head.now.turn head.now.actor head.now.op (first ∷ second ∷ []) }
     {
+        let last = head.note(second);
         Turn {
-            notes: [first, second, second],
+            notes: [head.note(first), last, last],
             len: 2,
         }
     }
 
-    /// A turn of three notes.
-    pub(crate) fn three(first: Note, second: Note, third: Note) -> Self
-        ensures { result ≡ first ∷ second ∷ third ∷ [] }
+    /// A turn that says three things.
+    pub(crate) fn three(head: &Head, first: What, second: What, third: What) -> Self
+        ensures { result ≡ notes_of_turn head.now.turn head.now.actor head.now.op (first ∷ second ∷ third ∷ []) }
     {
         Turn {
-            notes: [first, second, third],
+            notes: [head.note(first), head.note(second), head.note(third)],
             len: 3,
         }
     }
