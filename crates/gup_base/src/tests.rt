@@ -94,6 +94,14 @@ fn other_words_are_read_by_their_bits(rt: HostRuntime) {
 }
 
 #[test]
+fn counts_tell_pins_from_other_references(rt: HostRuntime) {
+    assert_eq!(rt; with_pin(1), 1_025);
+    assert_eq!(rt; without_pin(1_025), 1);
+    assert!(rt; !maybe_pinned(1_023));
+    assert!(rt; maybe_pinned(1_024));
+}
+
+#[test]
 fn lists_show_what_was_pushed(rt: HostRuntime) {
     let mut parts = Parts::new();
     assert_eq!(rt; parts.as_slice().len(), 0);

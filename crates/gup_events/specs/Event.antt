@@ -1,6 +1,7 @@
 -- The core events: when each can happen, what it changes, and the plain event that stands at it.
 use Rattle.std.specs.Prelude.{◌≡◌, ℕ, ◌+◌, ◌-◌, ◌*◌, ◌/◌, ◌%◌, ◌<◌, ◌≤◌, ◌==◌, ◌&&◌, ◌||◌, nat_le, nat_lt, not, Bool, true, false, if◌then◌else◌, List, [], ◌∷◌, ◌++◌, map, length, slice_get, All, Contains, Option, Some, None, IsSome, zero, suc}
 use Rattle.std.specs.Option.{option_map}
+pub use Rattle.gup_base.specs.Counts.{bias}
 use Rattle.gup_base.specs.declared.entry.Entry.{Entry}
 use Rattle.gup_base.specs.declared.entry.Rights.{Rights}
 use Rattle.gup_base.specs.declared.entry.Rights.TheVariants.{R, RW}
@@ -10,10 +11,6 @@ use Rattle.gup_plain.specs.Event.{happened, most_pages, page_numbers, words, mos
 use Rattle.gup_plain.specs.Put.{put, put2, spread}
 use Rattle.gup_plain.specs.State.{PlainState, Noted, unborn, growing, born, failed, unmade, held, gone, named_or_zero}
 use Rattle.gup_events.specs.State.{CoreState, Taken, Job, idle, marking, moving, forking, walking, Counted, unread, one, more, ForkStep, between, counted, lowered, cleared, copying, failing, WalkStep, entered, ready, read, grabbed, rechecked, differed, refused, stopped, dropping, over}
-
--- what a pin adds to the count of its frame, and from which count on a frame may be pinned
-abbrev pub bias : ℕ
-bias = 1024
 
 -- An event names its actor, its process and page, and what it reads: so its change has no cases.
 pub data CoreEvent : Type 0 where

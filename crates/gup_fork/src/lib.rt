@@ -2,16 +2,16 @@
 //! `copy_page_range`, for private anonymous memory).
 #![tactic(auto)]
 
-ghost use Rattle.std.specs.Prelude.{◌≡◌, ℕ, ◌+◌, ◌<◌, ◌^◌, nat_le, false, [], ◌∷◌, List, Some, None, IsSome};
+ghost use Rattle.std.specs.Prelude.{◌≡◌, ℕ, ◌+◌, ◌<◌, ◌^◌, false, [], ◌∷◌, List, Some, None, IsSome};
 ghost use Rattle.gup_base.specs.declared.entry.Entry.{Entry as EntryValue};
 ghost use Rattle.gup_base.specs.declared.entry.Zone.{Zone as ZoneValue};
 ghost use Rattle.gup_frames.specs.Frames.{FrameLists, frames_of, free_of};
-ghost use Rattle.gup_events.specs.Event.{bias, begin_fork, end_fork, entry_of};
+ghost use Rattle.gup_events.specs.Event.{begin_fork, end_fork, entry_of};
 ghost use Rattle.gup_space.specs.Space.{SpaceParts, space_of, HasRoom};
 ghost use Rattle.gup_space.specs.Counted.{IsCounted};
 ghost use Rattle.gup_fork.specs.Forks.{fork_change_of, with_structure, with_table, AreForkEvents, with_maps_of, copies_frame, shares, shared, with_shared};
 
-use gup_base::{Entry, FrameNo, PageNo};
+use gup_base::{Entry, FrameNo, PageNo, maybe_pinned};
 use gup_frames::Frames;
 use gup_space::Space;
 
@@ -34,13 +34,6 @@ pub fn begin(parent: &mut Space, child: &mut Space)
 {
     child.copy_maps(parent);
     parent.raise();
-}
-
-// Whether a frame with so many references may be pinned: a pin weighs 1,024 of them (Linux's `folio_maybe_dma_pinned`).
-fn maybe_pinned(count: u64) -> bool
-    ensures { result ≡ nat_le bias count }
-{
-    count >= 1_024
 }
 
 /// Whether the fork copies the page, which has an entry, instead of sharing it: its frame is exclusive and may be

@@ -7,14 +7,11 @@ ghost use Rattle.gup_ops.specs.Said.{whats_of};
 ghost use Rattle.gup_ops.specs.Pins.{IsWeighed};
 ghost use Rattle.gup_held.specs.Held.{IsHandleTurn};
 
-use gup_base::{ActorNo, HandleNo};
+use gup_base::{ActorNo, HandleNo, PIN_BIAS};
 use gup_frames::Frames;
 use gup_handles::Handles;
 use gup_ops::{Said, done, refused};
 use gup_plain::{Answer, PlainEvent};
-
-// What a pin adds to the count of its frame (`GUP_PIN_COUNTING_BIAS`).
-const BIAS: u64 = 1024;
 
 /// One page of an unpin: the last one that the pin still has, whose frame loses the weight of a pin (Linux's
 /// `unpin_user_page`, `mm/gup.c`). With the last of all the pin is gone. `NotHeld` is answered where the actor doesn't hold
@@ -37,7 +34,7 @@ pub fn unpin(frames: &mut Frames, handles: &mut Handles, actor: ActorNo, handle:
     let Ok(frame) = handles.drop_last(handle, actor) else {
         return refused(Answer::NotHeld);
     };
-    frames.put(frame, BIAS);
+    frames.put(frame, PIN_BIAS);
     if handles.pages(handle, actor).is_ok() {
         return silent();
     }

@@ -9,12 +9,9 @@ ghost use Rattle.gup_space.specs.Space.{space_of};
 ghost use Rattle.gup_space.specs.Shows.{change_of, AreEvents};
 ghost use Rattle.gup_slow.specs.Pins.{IsReady, pins};
 
-use gup_base::{FrameNo, PageNo, Want, Zone};
+use gup_base::{FrameNo, PIN_BIAS, PageNo, Want, Zone};
 use gup_frames::Frames;
 use gup_space::Space;
-
-// What a pin adds to the count of its frame (`GUP_PIN_COUNTING_BIAS`).
-const BIAS: u64 = 1024;
 
 /// Pins the page, which a fault has made ready, and answers its frame: the process has pinned from now on
 /// (`MMF_HAS_PINNED`), and the frame's count gets the weight of a pin (Linux's `try_grab_folio` in `follow_page_pte`,
@@ -35,7 +32,7 @@ pub fn pin_page(space: &mut Space, frames: &mut Frames, page: PageNo, want: Want
     prove!(entry.writable || !want.write);
     prove!(frames.zone(frame) == Zone::Normal || !want.long);
     space.set_pinned();
-    frames.grab(frame, BIAS);
+    frames.grab(frame, PIN_BIAS);
     frame
 }
 
