@@ -1,6 +1,7 @@
 -- What a step of a fork does to frames, to the parent and to its child.
-use Rattle.std.specs.Prelude.{◌≡◌, ℕ, ◌+◌, ◌&&◌, nat_le, Bool, false, List, [], ◌∷◌, Option, Some, None, zero, suc}
+use Rattle.std.specs.Prelude.{◌≡◌, ℕ, ◌+◌, ◌-◌, ◌==◌, ◌&&◌, ◌||◌, nat_le, nat_lt, if◌then◌else◌, Bool, false, List, [], ◌∷◌, Option, Some, None, zero, suc}
 use Rattle.gup_base.specs.declared.entry.Entry.{Entry}
+use Rattle.gup_plain.specs.Event.{page_numbers}
 use Rattle.gup_frames.specs.Frames.{FramesValue, FrameLists, frames_of, with_mark, with_references, without_references}
 use Rattle.gup_space.specs.Shows.{ShowsFrames, ShowsSpace}
 use Rattle.gup_space.specs.Space.{SpaceValue, SpaceParts, space_of, with_entry}
@@ -76,6 +77,26 @@ without_entry (Some e) frames = without_references e.frame 1 frames
 abbrev pub without_entries : (ℕ → Option Entry) → (first n : ℕ) → FramesValue → FramesValue
 without_entries entry first zero frames = frames
 without_entries entry first (suc n) frames = without_entries entry (first + 1) n (without_entry (entry first) frames)
+
+-- the frame is that of the entry
+abbrev pub is_entry_of : Option Entry → (f : ℕ) → Bool
+is_entry_of None f = false
+is_entry_of (Some e) f = e.frame == f
+
+-- how many of the n pages from the first on have an entry of the frame
+abbrev pub entries_of : (ℕ → Option Entry) → (first n f : ℕ) → ℕ
+entries_of entry first zero f = 0
+entries_of entry first (suc n) f =
+    (if is_entry_of (entry first) f then 1 else 0) + entries_of entry (first + 1) n f
+
+-- Each frame has as many references less as the child has entries of it, and its mark goes with the last reference. No word
+-- changes.
+abbrev pub given_back : (ℕ → Option Entry) → FramesValue → FramesValue
+given_back entry frames =
+    record frames {
+      count = λ f. frames.count f - entries_of entry 0 page_numbers f;
+      mark = λ f. frames.mark f && (frames.count f == 0 || nat_lt (entries_of entry 0 page_numbers f) (frames.count f));
+    }
 
 -- no page is mapped
 abbrev pub without_maps : SpaceValue → SpaceValue

@@ -8,7 +8,7 @@ ghost use Rattle.gup_events.specs.Failure.{fails};
 ghost use Rattle.gup_maps.specs.Maps.{IsNextPage};
 ghost use Rattle.gup_space.specs.Space.{space_of, with_entry, without_page, AreMapped};
 ghost use Rattle.gup_space.specs.Counted.{AreCounted};
-ghost use Rattle.gup_fork.specs.Forks.{fork_change_of, with_structure, with_table, AreForkEvents, without_entry, without_entries, emptied};
+ghost use Rattle.gup_fork.specs.Forks.{fork_change_of, with_structure, with_table, AreForkEvents, without_entry, without_entries, given_back, emptied};
 
 use gup_base::{FrameNo, PageNo};
 use gup_frames::Frames;
@@ -70,7 +70,7 @@ pub fn fail(parent: &mut Space, child: &mut Space, frames: &mut Frames)
     requires mapped { AreMapped (space_of child.old) }
     ensures parent { space_of parent.new ≡ record (space_of parent.old) { sequence = (space_of parent.old).sequence + 1 } }
     ensures child { space_of child.new ≡ emptied (space_of child.old) }
-    ensures frames { frames_of frames.new ≡ without_entries (space_of child.old).entry 0 page_numbers (frames_of frames.old) }
+    ensures frames { frames_of frames.new ≡ given_back (space_of child.old).entry (frames_of frames.old) }
     ensures events { (a : ℕ) (done : List ℕ) (page word : ℕ) → AreForkEvents
         (with_structure None (with_table None (fork_change_of frames.old frames.new parent.old parent.new child.old child.new)))
         (λ p c. fails a p c done (copying page word) (space_of child.old).entry) }
