@@ -9,6 +9,7 @@ use Rattle.gup_script.specs.Limits.{most_pinned}
 use Rattle.gup_script.specs.Script.{ScriptValue}
 use Rattle.gup_events.specs.State.{CoreState, Taken, Job, idle, marking, moving, forking, walking, between, counted, lowered, cleared, copying, failing}
 use Rattle.gup_events.specs.Event.{bias}
+use Rattle.gup_events.specs.Invariant.{Holds}
 use Rattle.gup_events.specs.Sound.{IsSound}
 use Rattle.gup_follows.specs.Place.{ops_of, present_op, process_of}
 use Rattle.gup_turns.specs.Pages.{mapped_pages}
@@ -173,14 +174,15 @@ StandsHandle back pinned (given to objects write) =
 abbrev pub back_in : ScriptValue → RunState → (handle a : ℕ) → ℕ
 back_in script r handle a = given_back (present_op script a (r.places a)) handle (r.places a).far
 
--- The core state is sound. Those that are not unborn are declared. Each entry is of a mapped page, and its frame has a
--- reference. No actor but one that forks is in the middle of anything, none but one that pins has taken pages, and none but
--- one that copies a page has prepared a frame. An operation that goes over pages or words
--- stands at one of them, an unpin has given back fewer than the most pages of a pin, and no actor has answered more
+-- The core state is sound, and all that is published of core states holds of it. Those that are not unborn are declared. Each
+-- entry is of a mapped page, and its frame has a reference. No actor but one that forks is in the middle of anything, none but
+-- one that pins has taken pages, and none but one that copies a page has prepared a frame. An operation that goes over pages or
+-- words stands at one of them, an unpin has given back fewer than the most pages of a pin, and no actor has answered more
 -- operations than it has. Pins are of declared handles, and the weight of each of their pages is in the count of its
 -- frame. Counts and sequences stay small.
 pub record IsStanding (script : ScriptValue) (r : RunState) : Type 0 where
   pub sound : IsSound r.core
+  pub holds : Holds r.core
   pub declared : (p : ℕ) → (r.core.birth p ≡ unborn → ⊥) → p < length script.processes
   pub mapped : (p page : ℕ) (e : Entry) → r.core.entry p page ≡ Some e → IsSome (r.core.right p page)
   pub counted : (p page : ℕ) (e : Entry) → r.core.entry p page ≡ Some e → r.core.count e.frame ≡ 0 → ⊥

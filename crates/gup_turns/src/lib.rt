@@ -57,6 +57,7 @@ pub fn reached_states_stand()
 {
     gup_laws::simulates();
     gup_laws::starts_sound();
+    gup_laws::sound_states_hold();
 }
 
 /// The turn of an actor that can go takes of the cost, and that of one that waits or has finished leaves it. At the
