@@ -1,5 +1,5 @@
 -- What is known of each state that turns lead to, whoever takes them.
-use Rattle.std.specs.Prelude.{◌≡◌, ℕ, ◌+◌, ◌*◌, ◌≤◌, ◌<◌, ◌==◌, Bool, true, false, if◌then◌else◌, List, [], ◌∷◌, length, slice_get, Contains, Option, Some, None, IsSome}
+use Rattle.std.specs.Prelude.{◌≡◌, ℕ, ◌+◌, ◌*◌, ◌≤◌, ◌<◌, ◌==◌, Bool, true, false, if◌then◌else◌, List, [], ◌∷◌, length, slice_get, map, Contains, Option, Some, None, IsSome}
 use Rattle.gup_base.specs.declared.entry.Entry.{Entry}
 use Rattle.gup_plain.specs.Event.{page_numbers, words}
 use Rattle.gup_plain.specs.State.{unborn, growing, Handle, unmade, held, given, gone}
@@ -11,6 +11,7 @@ use Rattle.gup_events.specs.State.{CoreState, Taken, Job, idle, marking, moving,
 use Rattle.gup_events.specs.Event.{bias}
 use Rattle.gup_events.specs.Invariant.{Holds}
 use Rattle.gup_events.specs.Sound.{IsSound}
+use Rattle.gup_follows.specs.Order.{Turn}
 use Rattle.gup_follows.specs.Place.{ops_of, present_op, process_of}
 use Rattle.gup_turns.specs.Pages.{mapped_pages}
 use Rattle.gup_turns.specs.Run.{RunState, run_after}
@@ -20,6 +21,10 @@ use Rattle.gup_turns.specs.Turn.{first_behind}
 abbrev pub turned : ScriptValue → RunState → List ℕ → RunState
 turned script r [] = r
 turned script r (a ∷ actors) = turned script (run_after script r a) actors
+
+-- who takes each of these turns
+abbrev pub actors_of : List Turn → List ℕ
+actors_of turns = map (λ (turn : Turn). turn.actor) turns
 
 -- Where a fork stands between two turns: it has not begun; it looks for its next page from this one on; it has counted this
 -- page, and is to share it, or to copy it and wants a frame for that; or it has copied so many words of this page into that
