@@ -8,11 +8,13 @@ ghost use Rattle.gup_plain.specs.declared.note.Waiting.{Waiting};
 ghost use Rattle.gup_script.specs.declared.op.Op.{Op};
 ghost use Rattle.gup_script.specs.Script.{ScriptValue};
 ghost use Rattle.gup_script.specs.Valid.{IsScript};
+ghost use Rattle.gup_events.specs.State.{plain_of};
+ghost use Rattle.gup_events.specs.Invariant.{AllCan};
 ghost use Rattle.gup_follows.specs.Place.{first_place};
 ghost use Rattle.gup_follows.specs.Plain.{IsPlain};
 ghost use Rattle.gup_follows.specs.Follows.{Follows};
-ghost use Rattle.gup_follows.specs.Order.{Turn, InOrder, journal_of};
-ghost use Rattle.gup_turns.specs.Run.{RunState, Runs, AreTurns, AreBetween, run_start, run_after, op_in, waiting_in, can_go, IsCoreRun};
+ghost use Rattle.gup_follows.specs.Order.{Turn, InOrder, journal_of, plain_behind};
+ghost use Rattle.gup_turns.specs.Run.{RunState, Runs, AreTurns, AreBetween, run_start, run_after, op_in, waiting_in, taken_in, can_go, IsCoreRun};
 ghost use Rattle.gup_turns.specs.Cause.{FindNoFrame, AreKnown, answered_in, HaveFinished, WaitsForBirthOrPin};
 ghost use Rattle.gup_turns.specs.Cost.{cost, operations, forks, IsBoundedTurn};
 ghost use Rattle.gup_turns.specs.Reached.{turned, actors_of, IsStanding};
@@ -65,6 +67,20 @@ pub fn runs_are_turns()
     ensures reached { (script : ScriptValue) (turns : List Turn) (r end : RunState) → AreTurns script r turns end → turned script r (actors_of turns) ≡ end }
     ensures taken { (script : ScriptValue) (actors : List ℕ) (r : RunState) → (turns : List Turn) × (actors_of turns ≡ actors) × AreTurns script r turns (turned script r actors) }
 {}
+
+/// Whichever actors have taken turns, and whoever is next: each core event of its turn can happen when it does, and the plain
+/// state that its notes lead to is the one that the core state behind the turn stands for.
+pub fn turns_can_happen()
+    ensures can { (script : ScriptValue) (actors : List ℕ) (a : ℕ) → IsScript script →
+        let r : RunState = turned script (run_start script) actors in
+        AllCan r.core (taken_in script r a).events }
+    ensures same { (script : ScriptValue) (actors : List ℕ) (a : ℕ) → IsScript script →
+        let r : RunState = turned script (run_start script) actors in
+        plain_of (run_after script r a).core ≡ plain_behind (plain_of r.core) (taken_in script r a).whats }
+{
+    gup_laws::simulates();
+    gup_laws::starts_sound();
+}
 
 /// What stands between two turns: it holds of each state that turns lead to from the start of a script, whichever
 /// actors take them.
