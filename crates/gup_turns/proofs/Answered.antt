@@ -1,4 +1,4 @@
--- Which answers a run has, and how many.
+-- Which answers turns have, and how many.
 use Rattle.std.proofs.Common.{◌≡◌, ℕ, ◌+◌, ◌<◌, Bool, true, false, IsTrue, List, [], ◌∷◌, ◌++◌, length, Option, Some, None, refl, sym, ap, subst, ◌∙◌, arith, leb-true, leb-false, nat_le}
 use Rattle.std.proofs.lemmas.Option.{slice_get_past}
 use Rattle.gup_plain.specs.Put.{put}
@@ -21,7 +21,7 @@ use Rattle.gup_turns.specs.Cause.{IsKnownCause, IsKnownAnswer, IsKnown, AreKnown
 use Rattle.gup_turns.specs.Cost.{operations}
 use Rattle.gup_turns.specs.Pages.{sum_below}
 use Rattle.gup_turns.specs.Reached.{ForkPlace, IsStanding}
-use Rattle.gup_turns.specs.Run.{RunState, Runs, run_start, run_after, taken_by, taken_in, op_in, waiting_in}
+use Rattle.gup_turns.specs.Run.{RunState, AreTurns, run_start, run_after, taken_by, taken_in, op_in, waiting_in}
 use Rattle.gup_turns.proofs.Puts.{by_points, put_same, put_other, put_own}
 use Rattle.gup_turns.proofs.Rightness.{unrefused_short, not_both}
 use Rattle.gup_turns.specs.ScriptLemmas.{has_ops_declared}
@@ -121,15 +121,15 @@ known_notes : (number actor op : ℕ) (whats : List What) (rest : List NoteValue
 known_notes number actor op [] rest known later = later
 known_notes number actor op (what ∷ whats) rest known later = (known.0, known_notes number actor op whats rest known.1 later)
 
-pub known_run : Law → (script : ScriptValue) → IsScript script → (turns : List Turn) (number : ℕ) (r end : RunState) → Stands script r → Runs script r turns end → AreKnown (journal_of number r.places turns)
-known_run law script valid [] number r end h run = tt
-known_run law script valid (turn ∷ turns) number r end h run =
+pub known_turns : Law → (script : ScriptValue) → IsScript script → (turns : List Turn) (number : ℕ) (r end : RunState) → Stands script r → AreTurns script r turns end → AreKnown (journal_of number r.places turns)
+known_turns law script valid [] number r end h are = tt
+known_turns law script valid (turn ∷ turns) number r end h are =
     let a = turn.actor in
     let next = run_after script r a in
-    let later = known_run law script valid turns (number + 1) next end (stands_on law script valid r h a) run.2 in
+    let later = known_turns law script valid turns (number + 1) next end (stands_on law script valid r h a) are.1 in
     let here = known_taken (taken script valid r h a).shape in
     let both = known_notes number a ((r.places a).answered + 1) (taken_in script r a).whats (journal_of (number + 1) next.places turns) here later in
-    subst (λ (t : Turn). AreKnown (journal_of number r.places (t ∷ turns))) (sym run.1) both
+    subst (λ (t : Turn). AreKnown (journal_of number r.places (t ∷ turns))) (sym are.0) both
 
 -- how many operations are answered
 
@@ -190,16 +190,16 @@ turn_counts script r a = go (nat_le (length script.actors) a) refl
         idle_counts (op_in script r a) refl (undeclared_by script r a (op_in script r a) refl (λ less. omega (arith, far, less)))
     go false there = turn_answers script r.places a (taken_in script r a).whats (leb-false (length script.actors) a there)
 
-pub run_counts : (script : ScriptValue) (turns : List Turn) (number : ℕ) (r end : RunState) → Runs script r turns end → all_answered script end.places ≡ all_answered script r.places + answered_in (journal_of number r.places turns)
-run_counts script [] number r end run =
-    let same : all_answered script r.places ≡ all_answered script end.places = ap (λ (s : RunState). all_answered script s.places) run.1 in
+pub turns_count : (script : ScriptValue) (turns : List Turn) (number : ℕ) (r end : RunState) → AreTurns script r turns end → all_answered script end.places ≡ all_answered script r.places + answered_in (journal_of number r.places turns)
+turns_count script [] number r end are =
+    let same : all_answered script r.places ≡ all_answered script end.places = ap (λ (s : RunState). all_answered script s.places) are in
     omega (arith, same)
-run_counts script (turn ∷ turns) number r end run =
+turns_count script (turn ∷ turns) number r end are =
     let a = turn.actor in
     let next = run_after script r a in
-    let later = run_counts script turns (number + 1) next end run.2 in
+    let later = turns_count script turns (number + 1) next end are.1 in
     let here = turn_counts script r a in
-    let whats : turn.whats ≡ (taken_in script r a).whats = ap (λ (t : Turn). t.whats) run.1 in
+    let whats : turn.whats ≡ (taken_in script r a).whats = ap (λ (t : Turn). t.whats) are.0 in
     let places : places_behind r.places turn ≡ next.places = ap (λ (ws : List What). put a (place_behind (r.places a) ws) r.places) whats in
     let rest : journal_of (number + 1) (places_behind r.places turn) turns ≡ journal_of (number + 1) next.places turns = ap (λ (q : ℕ → Place). journal_of (number + 1) q turns) places in
     let both = answers_behind number a ((r.places a).answered + 1) turn.whats (journal_of (number + 1) (places_behind r.places turn) turns) in

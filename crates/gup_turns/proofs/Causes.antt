@@ -24,7 +24,7 @@ use Rattle.gup_follows.specs.Follows.{refuses}
 use Rattle.gup_follows.specs.Order.{Turn}
 use Rattle.gup_follows.specs.Place.{Doer, doer, birth_for}
 use Rattle.gup_turns.specs.Cause.{LacksFrame, FindNoFrame}
-use Rattle.gup_turns.specs.Run.{RunState, Runs, run_after, op_in, waiting_in, taken_by, taken_in}
+use Rattle.gup_turns.specs.Run.{RunState, AreTurns, run_after, op_in, waiting_in, taken_by, taken_in}
 use Rattle.gup_turns.specs.Turn.{Taken, free_frame, loads_after, load_turn, stores_after, allows_store, store_fault_by, store_turn, map_turn_by, silent_or_done, unmap_turn_by, protect_turn_by, discard_turn_by, lowest_page, exit_turn_by, next_page, page_turn, next_turn, frame_turn, copy_turn, copying_turn, fork_step_turn, fork_turn, op_turn, failed_turn, turn_at, pin_fault, pinned_if, cause_of, ends_pin, pin_turn_by, but_last, unpinned, unpin_turn_by, give_turn_by, transfer_turn_by}
 use Rattle.gup_turns.proofs.Puts.{some_same}
 use Rattle.gup_turns.proofs.Rightness.{unrefused_short, not_both}
@@ -352,12 +352,12 @@ taken_cause s who far (Some op) (Some waiting) = ((λ e. absurd e), tt)
 taken_cause s who far (Some op) None =
     birth_cause s who.actor who.proc (birth_for s.birth who) (failed_turn who.actor who.proc op) (op_turn s who.actor who.proc who.slots far op) (failed_cause s who.actor who.proc op) (op_cause s who.actor who.proc who.slots far op)
 
--- so it is in each turn of a run
-pub find_no_frame : (script : ScriptValue) (turns : List Turn) (r end : RunState) → Runs script r turns end → FindNoFrame script r turns
-find_no_frame script [] r end run = tt
-find_no_frame script (turn ∷ turns) r end run =
+-- so it is in each turn, in whatever order
+pub find_no_frame : (script : ScriptValue) (turns : List Turn) (r end : RunState) → AreTurns script r turns end → FindNoFrame script r turns
+find_no_frame script [] r end are = tt
+find_no_frame script (turn ∷ turns) r end are =
     let a = turn.actor in
     let cause = taken_cause r.core (doer script a) (r.places a).far (op_in script r a) (waiting_in script r a) in
     let here : LacksFrame turn.whats → free_frame r.core ≡ None =
-    λ lacks. lacking r.core (taken_in script r a).whats cause (subst (λ (t : Turn). LacksFrame t.whats) run.1 lacks) in
-    ((λ lacks. no_frame_free r.core (here lacks)), find_no_frame script turns (run_after script r a) end run.2)
+    λ lacks. lacking r.core (taken_in script r a).whats cause (subst (λ (t : Turn). LacksFrame t.whats) are.0 lacks) in
+    ((λ lacks. no_frame_free r.core (here lacks)), find_no_frame script turns (run_after script r a) end are.1)

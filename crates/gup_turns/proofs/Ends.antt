@@ -14,7 +14,7 @@ use Rattle.gup_events.specs.Sound.{Forking, forking_of, keeps_table, keeps_struc
 use Rattle.gup_follows.specs.Order.{Turn, is_given_to, taking_waits, handle_waits}
 use Rattle.gup_follows.specs.Place.{Doer, doer, birth_by, birth_for, ops_of, process_of}
 use Rattle.gup_turns.specs.Cause.{WaitsForBirthOrPin}
-use Rattle.gup_turns.specs.Reached.{IsStanding, IsNoFork, StandsFork, turned}
+use Rattle.gup_turns.specs.Reached.{IsStanding, IsNoFork, StandsFork}
 use Rattle.gup_turns.specs.Run.{RunState, Runs, run_after, op_in, waiting_with, waiting_in, is_ready, can_go}
 use Rattle.gup_turns.specs.Turn.{Locks, next_page, fork_locks, locks_needed, held_by_other, waits_for_lock, first_waiting, waits_for_locks, waits_at, waits_born, waiting_for}
 use Rattle.gup_turns.proofs.Pointer.{PointerFits, none_can_go, pointer_fits}
@@ -27,13 +27,6 @@ end_turns script [] r end fits run a below =
     subst (λ (s : RunState). can_go script s a ≡ false) run.1 ((none_can_go script r fits run.0).1 a below)
 end_turns script (turn ∷ turns) r end fits run a below =
     end_turns script turns (run_after script r turn.actor) end (λ some. pointer_fits script r turn.actor fits run.0 some) run.2 a below
-
--- the state at the end is one that turns lead to
-pub end_turned : (script : ScriptValue) (turns : List Turn) (r end : RunState) → Runs script r turns end → (actors : List ℕ) × (turned script r actors ≡ end)
-end_turned script [] r end run = ([], run.1)
-end_turned script (turn ∷ turns) r end run =
-    let rest = end_turned script turns (run_after script r turn.actor) end run.2 in
-    (turn.actor ∷ rest.0, rest.1)
 
 same_waiting : {x y : Waiting} → Some x ≡ Some y → x ≡ y
 same_waiting is = cc

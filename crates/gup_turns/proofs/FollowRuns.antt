@@ -1,4 +1,4 @@
--- A run follows its script, by induction over its turns.
+-- Turns in any order follow their script, by induction over them.
 use Rattle.std.proofs.Common.{◌≡◌, ℕ, ◌+◌, ◌<◌, ◌==◌, ◌++◌, Bool, true, false, List, [], ◌∷◌, length, Option, Some, None, inl, refl, sym, ap, ◌∙◌, subst, subst₂, eqb-true, eq-eqb, is_none, if◌then◌else◌, arith}
 use Rattle.std.proofs.lemmas.Bool.Decides.{nat_tests}
 use Rattle.gup_script.specs.Valid.{IsScript}
@@ -13,11 +13,10 @@ use Rattle.gup_follows.specs.Follows.{own_notes, notes_of_turn}
 use Rattle.gup_follows.specs.Order.{Turn, journal_of, waiting_at, waiting_of, finished_in, handle_waits, IsOverAt}
 use Rattle.gup_follows.specs.Place.{Place, Doer, doer, place_behind, process_of, ops_of}
 use Rattle.gup_turns.specs.Reached.{ForkPlace, place_in}
-use Rattle.gup_turns.specs.Run.{RunState, Runs, run_after, op_in, taken_in, can_go}
+use Rattle.gup_turns.specs.Run.{RunState, AreTurns, AreBetween, run_after, op_in, taken_in, can_go}
 use Rattle.gup_turns.proofs.Following.{LeftAt, Left, ops_split, ops_over, turn_left, other_left}
 use Rattle.gup_turns.proofs.Ordering.{ordered_of, is_over, finished_is}
 use Rattle.gup_turns.proofs.Owning.{own_append}
-use Rattle.gup_turns.proofs.Pointer.{PointerFits, none_can_go, pointer_fits}
 use Rattle.gup_turns.specs.ScriptLemmas.{has_ops_declared}
 use Rattle.gup_turns.proofs.Shapes.{FitsAt}
 use Rattle.gup_turns.proofs.Stands.{stands_on, places_stay}
@@ -50,12 +49,12 @@ untaking s handle who (Some (Transfer h outward index slot n)) place fits far = 
 untaking s handle who (Some (Fork child)) place fits far = refl
 untaking s handle who (Some Exit) place fits far = refl
 
--- so at the end no actor is in the middle of an operation
-end_left : (script : ScriptValue) → IsScript script → (r : RunState) → Stands script r → ((a : ℕ) → a < length script.actors → can_go script r a ≡ false) → (a : ℕ) (op : Option Op) → op_in script r a ≡ op → (at : ForkPlace) → LeftOf script a (r.places a) at []
-end_left script valid r h stopped a None is at =
-    let place = r.places a in
-    subst (λ (os : List Op). Left a (process_of script a) (place.answered + 1) os place.far at []) (sym (ops_over (ops_of script a) place.answered is)) refl
-end_left script valid r h stopped a (Some op) is at =
+-- so where no actor can go, each stands between two operations
+end_between : (script : ScriptValue) → IsScript script → (r : RunState) → Stands script r → ((a : ℕ) → a < length script.actors → can_go script r a ≡ false) → (a : ℕ) (op : Option Op) → op_in script r a ≡ op → (r.places a).far ≡ 0
+end_between script valid r h stopped a None is =
+    let fits : FitsAt r.core (doer script a) None (r.places a) = subst (λ (o : Option Op). FitsAt r.core (doer script a) o (r.places a)) is (h.fits a) in
+    fits.1.0
+end_between script valid r h stopped a (Some op) is =
     let place = r.places a in
     let p = process_of script a in
     let over = is_over script valid r h stopped a (stopped a (has_ops_declared script a place.answered op is)) in
@@ -66,8 +65,20 @@ end_left script valid r h stopped a (Some op) is at =
     ∙ untaking r.core r.core.handle (doer script a) (op_in script r a) place (h.fits a) far in
     let unbegun : 0 < place.far → ⊥ =
     λ far. not_over (finished_in script (ordered_of r) a) (waiting_of script (ordered_of r) a) unfinished (unwaiting far) over in
-    let first : place.far ≡ 0 = omega arith in
-    subst (λ (os : List Op). Left a p (place.answered + 1) os place.far at []) (sym (ops_split (ops_of script a) place.answered op is)) (inl (first, refl))
+    omega arith
+
+pub are_between : (script : ScriptValue) → IsScript script → (r : RunState) → Stands script r → ((a : ℕ) → a < length script.actors → can_go script r a ≡ false) → AreBetween script r
+are_between script valid r h stopped a below = end_between script valid r h stopped a (op_in script r a) refl
+
+-- nothing is left of an actor that stands between two operations
+nothing_left : (script : ScriptValue) (r : RunState) → AreBetween script r → (a : ℕ) (op : Option Op) → op_in script r a ≡ op → (at : ForkPlace) → LeftOf script a (r.places a) at []
+nothing_left script r between a None is at =
+    let place = r.places a in
+    subst (λ (os : List Op). Left a (process_of script a) (place.answered + 1) os place.far at []) (sym (ops_over (ops_of script a) place.answered is)) refl
+nothing_left script r between a (Some op) is at =
+    let place = r.places a in
+    let first : place.far ≡ 0 = between a (has_ops_declared script a place.answered op is) in
+    subst (λ (os : List Op). Left a (process_of script a) (place.answered + 1) os place.far at []) (sym (ops_split (ops_of script a) place.answered op is)) (inl (first, refl))
 
 -- where a fork of an actor stands
 abbrev stands_at : RunState → ℕ → ForkPlace
@@ -87,14 +98,14 @@ turn_of_any script valid r h b t a later false e left =
     let here : LeftOf script a (r.places a) (stands_at r a) later = subst (λ (at : ForkPlace). LeftOf script a (r.places a) at later) (places_stay script valid r h b a apart) left in
     other_left a (process_of script a) b t ((r.places b).answered + 1) (r.places a) (stands_at r a) (ops_of script a) (taken_in script r b).whats later (grind (arith, nat_tests)) here
 
-pub follows_run : Law → (script : ScriptValue) → IsScript script → (turns : List Turn) (number : ℕ) (r end : RunState) → Stands script r → PointerFits script r → Runs script r turns end → (a : ℕ) → LeftOf script a (r.places a) (stands_at r a) (own_notes a (journal_of number r.places turns))
-follows_run law script valid [] number r end h fits run a = end_left script valid r h (none_can_go script r fits run.0).1 a (op_in script r a) refl (stands_at r a)
-follows_run law script valid (turn ∷ turns) number r end h fits run a =
+pub follows_turns : Law → (script : ScriptValue) → IsScript script → (turns : List Turn) (number : ℕ) (r end : RunState) → Stands script r → AreTurns script r turns end → AreBetween script end → (a : ℕ) → LeftOf script a (r.places a) (stands_at r a) (own_notes a (journal_of number r.places turns))
+follows_turns law script valid [] number r end h are between a = nothing_left script r (subst (AreBetween script) (sym are) between) a (op_in script r a) refl (stands_at r a)
+follows_turns law script valid (turn ∷ turns) number r end h are between a =
     let b = turn.actor in
     let next = run_after script r b in
     let rest = journal_of (number + 1) next.places turns in
     let now = notes_of_turn number b ((r.places b).answered + 1) (taken_in script r b).whats in
-    let later = follows_run law script valid turns (number + 1) next end (stands_on law script valid r h b) (pointer_fits script r b fits run.0) run.2 a in
+    let later = follows_turns law script valid turns (number + 1) next end (stands_on law script valid r h b) are.1 between a in
     let both = turn_of_any script valid r h b number a (own_notes a rest) (a == b) refl later in
     let whole : LeftOf script a (r.places a) (stands_at r a) (own_notes a (now ++ rest)) = subst (LeftOf script a (r.places a) (stands_at r a)) (sym (own_append a now rest)) both in
-    subst (λ (t : Turn). LeftOf script a (r.places a) (stands_at r a) (own_notes a (journal_of number r.places (t ∷ turns)))) (sym run.1) whole
+    subst (λ (t : Turn). LeftOf script a (r.places a) (stands_at r a) (own_notes a (journal_of number r.places (t ∷ turns)))) (sym are.0) whole

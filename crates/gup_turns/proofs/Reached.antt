@@ -14,7 +14,7 @@ use Rattle.gup_script.specs.Script.{ScriptValue}
 use Rattle.gup_script.specs.Valid.{IsScript, IsOp}
 use Rattle.gup_events.specs.State.{CoreState, Taken, Job, idle, marking, moving, forking, walking, between, counted, lowered, cleared, copying, failing}
 use Rattle.gup_events.specs.Event.{bias}
-use Rattle.gup_events.specs.Invariant.{entry_of_page, page_of_pin, weight, frame_of}
+use Rattle.gup_events.specs.Invariant.{Holds, entry_of_page, page_of_pin, weight, frame_of}
 use Rattle.gup_events.specs.Sound.{IsSound}
 use Rattle.gup_events.specs.Sound as sounds
 use Rattle.gup_follows.specs.Place.{Place, Doer, doer, place_behind, ops_of, present_op, process_of}
@@ -221,8 +221,12 @@ pin_flagged s a p page far write sound taken some =
     let proc = (taken.each 0 first.0 first.1).0 in
     ap s.has_pinned (sym proc) ∙ sound.1.taken_flag a 0 first.0 first.1
 
-is_standing : (script : ScriptValue) → IsScript script → (r : RunState) → IsReached script r → IsStanding script r
-is_standing script valid r h =
+-- what is published of core states
+abbrev pub Published : Type 0
+Published = (s : CoreState) → IsSound s → Holds s
+
+is_standing : Published → (script : ScriptValue) → IsScript script → (r : RunState) → IsReached script r → IsStanding script r
+is_standing published script valid r h =
     let s : CoreState = r.core in
     let k : Stands script r = h.stands in
     let at : (a : ℕ) (op : Op) → present_op script a (r.places a) ≡ Some op → FitsOp s (doer script a) op (r.places a) =
@@ -231,6 +235,7 @@ is_standing script valid r h =
     λ p page e is. let below : p < length script.processes = k.declared p (entry_brought s p page e k.sound (k.emptied p page) is) in let most = valid.few_processes in omega (arith, below, most) in
     record {
       sound = k.sound;
+      holds = published s k.sound;
       declared = k.declared;
       mapped = λ p page e is. entry_mapped s p page e k.sound (k.emptied p page) is (s.right p page) refl;
       counted = λ p page e is none. entry_counted s p page e k.sound is none;
@@ -275,9 +280,9 @@ reached_on law script valid r h a =
       answered = at_each (HasAnswered script) a behind r.places (answered_on script r.core turn.shape refl (h.answered a)) h.answered;
     }
 
-pub reaches : Law → (script : ScriptValue) → IsScript script → (actors : List ℕ) → (r : RunState) → IsReached script r → IsStanding script (turned script r actors)
-reaches law script valid [] r h = is_standing script valid r h
-reaches law script valid (a ∷ actors) r h = reaches law script valid actors (run_after script r a) (reached_on law script valid r h a)
+pub reaches : Law → Published → (script : ScriptValue) → IsScript script → (actors : List ℕ) → (r : RunState) → IsReached script r → IsStanding script (turned script r actors)
+reaches law published script valid [] r h = is_standing published script valid r h
+reaches law published script valid (a ∷ actors) r h = reaches law published script valid actors (run_after script r a) (reached_on law script valid r h a)
 
 pub starts_reached : Starts → (script : ScriptValue) → IsScript script → IsReached script (run_start script)
 starts_reached starts script valid =

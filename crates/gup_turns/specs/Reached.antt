@@ -1,5 +1,5 @@
 -- What is known of each state that turns lead to, whoever takes them.
-use Rattle.std.specs.Prelude.{◌≡◌, ℕ, ◌+◌, ◌*◌, ◌≤◌, ◌<◌, ◌==◌, Bool, true, false, if◌then◌else◌, List, [], ◌∷◌, length, slice_get, Contains, Option, Some, None, IsSome}
+use Rattle.std.specs.Prelude.{◌≡◌, ℕ, ◌+◌, ◌*◌, ◌≤◌, ◌<◌, ◌==◌, Bool, true, false, if◌then◌else◌, List, [], ◌∷◌, length, slice_get, map, Contains, Option, Some, None, IsSome}
 use Rattle.gup_base.specs.declared.entry.Entry.{Entry}
 use Rattle.gup_plain.specs.Event.{page_numbers, words}
 use Rattle.gup_plain.specs.State.{unborn, growing, Handle, unmade, held, given, gone}
@@ -9,7 +9,9 @@ use Rattle.gup_script.specs.Limits.{most_pinned}
 use Rattle.gup_script.specs.Script.{ScriptValue}
 use Rattle.gup_events.specs.State.{CoreState, Taken, Job, idle, marking, moving, forking, walking, between, counted, lowered, cleared, copying, failing}
 use Rattle.gup_events.specs.Event.{bias}
+use Rattle.gup_events.specs.Invariant.{Holds}
 use Rattle.gup_events.specs.Sound.{IsSound}
+use Rattle.gup_follows.specs.Order.{Turn}
 use Rattle.gup_follows.specs.Place.{ops_of, present_op, process_of}
 use Rattle.gup_turns.specs.Pages.{mapped_pages}
 use Rattle.gup_turns.specs.Run.{RunState, run_after}
@@ -19,6 +21,10 @@ use Rattle.gup_turns.specs.Turn.{first_behind}
 abbrev pub turned : ScriptValue → RunState → List ℕ → RunState
 turned script r [] = r
 turned script r (a ∷ actors) = turned script (run_after script r a) actors
+
+-- who takes each of these turns
+abbrev pub actors_of : List Turn → List ℕ
+actors_of turns = map (λ (turn : Turn). turn.actor) turns
 
 -- Where a fork stands between two turns: it has not begun; it looks for its next page from this one on; it has counted this
 -- page, and is to share it, or to copy it and wants a frame for that; or it has copied so many words of this page into that
@@ -173,14 +179,15 @@ StandsHandle back pinned (given to objects write) =
 abbrev pub back_in : ScriptValue → RunState → (handle a : ℕ) → ℕ
 back_in script r handle a = given_back (present_op script a (r.places a)) handle (r.places a).far
 
--- The core state is sound. Those that are not unborn are declared. Each entry is of a mapped page, and its frame has a
--- reference. No actor but one that forks is in the middle of anything, none but one that pins has taken pages, and none but
--- one that copies a page has prepared a frame. An operation that goes over pages or words
--- stands at one of them, an unpin has given back fewer than the most pages of a pin, and no actor has answered more
+-- The core state is sound, and all that is published of core states holds of it. Those that are not unborn are declared. Each
+-- entry is of a mapped page, and its frame has a reference. No actor but one that forks is in the middle of anything, none but
+-- one that pins has taken pages, and none but one that copies a page has prepared a frame. An operation that goes over pages or
+-- words stands at one of them, an unpin has given back fewer than the most pages of a pin, and no actor has answered more
 -- operations than it has. Pins are of declared handles, and the weight of each of their pages is in the count of its
 -- frame. Counts and sequences stay small.
 pub record IsStanding (script : ScriptValue) (r : RunState) : Type 0 where
   pub sound : IsSound r.core
+  pub holds : Holds r.core
   pub declared : (p : ℕ) → (r.core.birth p ≡ unborn → ⊥) → p < length script.processes
   pub mapped : (p page : ℕ) (e : Entry) → r.core.entry p page ≡ Some e → IsSome (r.core.right p page)
   pub counted : (p page : ℕ) (e : Entry) → r.core.entry p page ≡ Some e → r.core.count e.frame ≡ 0 → ⊥

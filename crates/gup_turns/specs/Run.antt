@@ -1,5 +1,5 @@
--- The core run of a script.
-use Rattle.std.specs.Prelude.{◌≡◌, ℕ, ◌+◌, Bool, true, false, if◌then◌else◌, List, [], ◌∷◌, Option, Some, None, slice_get, length, zero, suc}
+-- The core run of a script, and turns in any order.
+use Rattle.std.specs.Prelude.{◌≡◌, ℕ, ◌+◌, ◌<◌, Bool, true, false, if◌then◌else◌, List, [], ◌∷◌, Option, Some, None, slice_get, length, zero, suc}
 use Rattle.gup_plain.specs.Note.{NoteValue}
 use Rattle.gup_plain.specs.declared.note.What.TheVariants.{Idle, Wait}
 use Rattle.gup_plain.specs.declared.note.Waiting.{Waiting}
@@ -93,6 +93,17 @@ Runs script r [] end = (next_actor script r ≡ None) × (r ≡ end)
 Runs script r (turn ∷ turns) end =
     (next_actor script r ≡ Some turn.actor) × (turn ≡ turn_in script r turn.actor)
     × Runs script (run_after script r turn.actor) turns end
+
+-- AreTurns script r turns end: each turn is that of its actor in the state that those before it led to, in whatever order
+-- the actors take them, and they lead to this end. The pointer and the number of turns in these states mean nothing.
+abbrev pub AreTurns : ScriptValue → RunState → List Turn → RunState → Type 0
+AreTurns script r [] end = r ≡ end
+AreTurns script r (turn ∷ turns) end =
+    (turn ≡ turn_in script r turn.actor) × AreTurns script (run_after script r turn.actor) turns end
+
+-- each actor of the script stands between two operations
+abbrev pub AreBetween : ScriptValue → RunState → Type 0
+AreBetween script r = (a : ℕ) → a < length script.actors → (r.places a).far ≡ 0
 
 -- the notes are those of the script's core run, which comes to this end
 abbrev pub IsCoreRun : ScriptValue → List NoteValue → RunState → Type 0

@@ -1,4 +1,5 @@
-//! The turns of the core machine and the core run of a script, as definitions, and the laws of the core run.
+//! The turns of the core machine and the core run of a script, as definitions, and the laws of the core run and of turns in
+//! any order.
 #![tactic(auto)]
 
 ghost use Rattle.std.specs.Prelude.{◌≡◌, ℕ, ◌+◌, ◌<◌, ◌≤◌, ◌*◌, true, false, List, length, None, Some};
@@ -7,13 +8,16 @@ ghost use Rattle.gup_plain.specs.declared.note.Waiting.{Waiting};
 ghost use Rattle.gup_script.specs.declared.op.Op.{Op};
 ghost use Rattle.gup_script.specs.Script.{ScriptValue};
 ghost use Rattle.gup_script.specs.Valid.{IsScript};
+ghost use Rattle.gup_events.specs.State.{plain_of};
+ghost use Rattle.gup_events.specs.Invariant.{AllCan};
+ghost use Rattle.gup_follows.specs.Place.{first_place};
 ghost use Rattle.gup_follows.specs.Plain.{IsPlain};
 ghost use Rattle.gup_follows.specs.Follows.{Follows};
-ghost use Rattle.gup_follows.specs.Order.{Turn, InOrder};
-ghost use Rattle.gup_turns.specs.Run.{RunState, Runs, run_start, run_after, op_in, waiting_in, can_go, IsCoreRun};
+ghost use Rattle.gup_follows.specs.Order.{Turn, InOrder, journal_of, plain_behind};
+ghost use Rattle.gup_turns.specs.Run.{RunState, Runs, AreTurns, AreBetween, run_start, run_after, op_in, waiting_in, taken_in, can_go, IsCoreRun};
 ghost use Rattle.gup_turns.specs.Cause.{FindNoFrame, AreKnown, answered_in, HaveFinished, WaitsForBirthOrPin};
 ghost use Rattle.gup_turns.specs.Cost.{cost, operations, forks, IsBoundedTurn};
-ghost use Rattle.gup_turns.specs.Reached.{turned, IsStanding};
+ghost use Rattle.gup_turns.specs.Reached.{turned, actors_of, IsStanding};
 
 /// A script has one core run, and that has one end.
 pub fn one_core_run()
@@ -21,9 +25,12 @@ pub fn one_core_run()
     ensures end { (script : ScriptValue) (m n : List NoteValue) (c d : RunState) → IsCoreRun script m c → IsCoreRun script n d → c ≡ d }
 {}
 
-/// The core run of a script follows it.
+/// Turns in any order follow the script, where each actor stands between two operations behind them, as it does where nobody
+/// can go any more; so the core run of a script follows it.
 pub fn core_run_follows()
-    ensures { (script : ScriptValue) (notes : List NoteValue) (end : RunState) → IsScript script → IsCoreRun script notes end → Follows script notes }
+    ensures turns { (script : ScriptValue) (turns : List Turn) (end : RunState) → IsScript script → AreTurns script (run_start script) turns end → AreBetween script end → Follows script (journal_of 1 (λ _. first_place) turns) }
+    ensures between { (script : ScriptValue) (turns : List Turn) (end : RunState) → IsScript script → AreTurns script (run_start script) turns end → ((a : ℕ) → a < length script.actors → can_go script end a ≡ false) → AreBetween script end }
+    ensures run { (script : ScriptValue) (notes : List NoteValue) (end : RunState) → IsScript script → IsCoreRun script notes end → Follows script notes }
 {
     gup_laws::simulates();
     gup_laws::starts_sound();
@@ -37,18 +44,43 @@ pub fn core_run_is_in_order()
     gup_laws::starts_sound();
 }
 
-/// The core run of a script is plain.
+/// Turns in any order are plain, and so is the core run of a script.
 pub fn core_run_is_plain()
-    ensures { (script : ScriptValue) (notes : List NoteValue) (end : RunState) → IsScript script → IsCoreRun script notes end → IsPlain script notes }
+    ensures turns { (script : ScriptValue) (turns : List Turn) (end : RunState) → IsScript script → AreTurns script (run_start script) turns end → IsPlain script (journal_of 1 (λ _. first_place) turns) }
+    ensures run { (script : ScriptValue) (notes : List NoteValue) (end : RunState) → IsScript script → IsCoreRun script notes end → IsPlain script notes }
 {
     gup_laws::simulates();
     gup_laws::starts_sound();
 }
 
-/// In the core run of a script, an operation is refused for want of a frame only where none is free.
+/// In turns in any order, and so in the core run of a script, an operation is refused for want of a frame only where none is
+/// free.
 pub fn no_frame_has_its_cause()
-    ensures { (script : ScriptValue) (turns : List Turn) (end : RunState) → Runs script (run_start script) turns end → FindNoFrame script (run_start script) turns }
+    ensures turns { (script : ScriptValue) (turns : List Turn) (end : RunState) → AreTurns script (run_start script) turns end → FindNoFrame script (run_start script) turns }
+    ensures run { (script : ScriptValue) (turns : List Turn) (end : RunState) → Runs script (run_start script) turns end → FindNoFrame script (run_start script) turns }
 {}
+
+/// The turns of a run are turns as the laws for any order take them. Such turns lead to the state that turns of their actors
+/// lead to, and there are such turns for any actors, one after another.
+pub fn runs_are_turns()
+    ensures run { (script : ScriptValue) (turns : List Turn) (r end : RunState) → Runs script r turns end → AreTurns script r turns end }
+    ensures reached { (script : ScriptValue) (turns : List Turn) (r end : RunState) → AreTurns script r turns end → turned script r (actors_of turns) ≡ end }
+    ensures taken { (script : ScriptValue) (actors : List ℕ) (r : RunState) → (turns : List Turn) × (actors_of turns ≡ actors) × AreTurns script r turns (turned script r actors) }
+{}
+
+/// Whichever actors have taken turns, and whoever is next: each core event of its turn can happen when it does, and the plain
+/// state that its notes lead to is the one that the core state behind the turn stands for.
+pub fn turns_can_happen()
+    ensures can { (script : ScriptValue) (actors : List ℕ) (a : ℕ) → IsScript script →
+        let r : RunState = turned script (run_start script) actors in
+        AllCan r.core (taken_in script r a).events }
+    ensures same { (script : ScriptValue) (actors : List ℕ) (a : ℕ) → IsScript script →
+        let r : RunState = turned script (run_start script) actors in
+        plain_of (run_after script r a).core ≡ plain_behind (plain_of r.core) (taken_in script r a).whats }
+{
+    gup_laws::simulates();
+    gup_laws::starts_sound();
+}
 
 /// What stands between two turns: it holds of each state that turns lead to from the start of a script, whichever
 /// actors take them.
@@ -57,6 +89,7 @@ pub fn reached_states_stand()
 {
     gup_laws::simulates();
     gup_laws::starts_sound();
+    gup_laws::sound_states_hold();
 }
 
 /// The turn of an actor that can go takes of the cost, and that of one that waits or has finished leaves it. At the
@@ -85,17 +118,20 @@ pub fn runs_end_at_waits()
     reached_states_stand();
 }
 
-/// The answers that the core run of a script has.
+/// The answers that turns in any order have, and so the core run of a script.
 pub fn core_run_is_known()
-    ensures { (script : ScriptValue) (notes : List NoteValue) (end : RunState) → IsScript script → IsCoreRun script notes end → AreKnown notes }
+    ensures turns { (script : ScriptValue) (turns : List Turn) (end : RunState) → IsScript script → AreTurns script (run_start script) turns end → AreKnown (journal_of 1 (λ _. first_place) turns) }
+    ensures run { (script : ScriptValue) (notes : List NoteValue) (end : RunState) → IsScript script → IsCoreRun script notes end → AreKnown notes }
 {
     gup_laws::simulates();
     gup_laws::starts_sound();
 }
 
-/// Where each actor has finished at the end of the core run, it has one answer for each operation of the script.
+/// Where each actor has finished behind turns in any order, and so at the end of the core run, they have one answer for each
+/// operation of the script.
 pub fn finished_runs_answer_all()
-    ensures { (script : ScriptValue) (notes : List NoteValue) (end : RunState) → IsScript script → IsCoreRun script notes end → HaveFinished script end → answered_in notes ≡ operations script }
+    ensures turns { (script : ScriptValue) (turns : List Turn) (end : RunState) → IsScript script → AreTurns script (run_start script) turns end → HaveFinished script end → answered_in (journal_of 1 (λ _. first_place) turns) ≡ operations script }
+    ensures run { (script : ScriptValue) (notes : List NoteValue) (end : RunState) → IsScript script → IsCoreRun script notes end → HaveFinished script end → answered_in notes ≡ operations script }
 {
     reached_states_stand();
 }

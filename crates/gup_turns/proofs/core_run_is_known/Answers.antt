@@ -1,13 +1,23 @@
--- By induction over the turns of the run.
-use Rattle.std.proofs.Common.{sym, subst}
+-- By induction over the turns.
+use Rattle.std.proofs.Common.{List, sym, subst}
+use Rattle.gup_script.specs.Script.{ScriptValue}
+use Rattle.gup_script.specs.Valid.{IsScript}
+use Rattle.gup_follows.specs.Order.{Turn, journal_of}
+use Rattle.gup_follows.specs.Place.{first_place}
 use Rattle.gup_turns.specs.Cause.{AreKnown}
-use Rattle.gup_turns.specs.Run.{run_start}
-use Rattle.gup_turns.proofs.Answered.{known_run}
-use Rattle.gup_turns.proofs.Stands.{stands_first}
+use Rattle.gup_turns.specs.Run.{RunState, run_start, AreTurns}
+use Rattle.gup_turns.proofs.Answered.{known_turns}
+use Rattle.gup_turns.proofs.Runs.{run_turns}
+use Rattle.gup_turns.proofs.Stands.{Starts, stands_first}
+use Rattle.gup_turns.proofs.Through.{Law}
 use Rattle.gup_turns.proofs.core_run_is_known.Goals as goal
 
-pub returns : goal.returns
-returns c script notes end valid run =
-    let h = stands_first c.starts_sound.ensures script valid in
-    let known = known_run c.simulates.ensures script valid run.0 1 (run_start script) end h run.2 in
-    subst AreKnown (sym run.1) known
+known : Law → Starts → (script : ScriptValue) (turns : List Turn) (end : RunState) → IsScript script → AreTurns script (run_start script) turns end → AreKnown (journal_of 1 (λ _. first_place) turns)
+known law starts script turns end valid are = known_turns law script valid turns 1 (run_start script) end (stands_first starts script valid) are
+
+pub returns-clause-turns : goal.returns-clause-turns
+returns-clause-turns c script turns end valid are = known c.simulates.ensures c.starts_sound.ensures script turns end valid are
+
+pub returns-clause-run : goal.returns-clause-run
+returns-clause-run c script notes end valid run =
+    subst AreKnown (sym run.1) (known c.simulates.ensures c.starts_sound.ensures script run.0 end valid (run_turns script run.0 (run_start script) end run.2))
