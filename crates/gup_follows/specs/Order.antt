@@ -85,11 +85,29 @@ KeepsLock (Some (Take handle)) = ⊥
 KeepsLock (Some (Transfer handle outward index slot n)) = ⊥
 KeepsLock (Some Exit) = ⊥
 
--- another actor b of the same process is in the middle of such an operation, so that a may wait for it
+-- the operations of which a turn may need a lock: what is done with a pin that is there needs none
+abbrev pub MayNeedLock : Option Op → Type 0
+MayNeedLock None = ⊥
+MayNeedLock (Some (Unpin handle)) = ⊥
+MayNeedLock (Some (Give handle to)) = ⊥
+MayNeedLock (Some (Take handle)) = ⊥
+MayNeedLock (Some (Transfer handle outward index slot n)) = ⊥
+MayNeedLock (Some (Map page n rights)) = Unit {0}
+MayNeedLock (Some (Unmap page n)) = Unit {0}
+MayNeedLock (Some (Protect page n rights)) = Unit {0}
+MayNeedLock (Some (Discard page n)) = Unit {0}
+MayNeedLock (Some (Load page word)) = Unit {0}
+MayNeedLock (Some (Store page word value)) = Unit {0}
+MayNeedLock (Some (Pin handle page n write)) = Unit {0}
+MayNeedLock (Some (Fork child)) = Unit {0}
+MayNeedLock (Some Exit) = Unit {0}
+
+-- Another actor b of the same process is in the middle of an operation that keeps a lock, and a's operation may need it:
+-- so a may wait for b.
 abbrev pub MayHold : ScriptValue → Ordered → (a b : ℕ) → Type 0
 MayHold script o a b =
     (a ≡ b → ⊥) × (process_of script b ≡ process_of script a) × (0 < (o.places b).far)
-    × KeepsLock (present_op script b (o.places b))
+    × KeepsLock (present_op script b (o.places b)) × MayNeedLock (present_op script a (o.places a))
 
 -- one to three notes of the present operation
 abbrev pub AreOfOperation : List What → Type 0

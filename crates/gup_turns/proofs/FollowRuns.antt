@@ -9,14 +9,14 @@ use Rattle.gup_events.specs.State.{CoreState}
 use Rattle.gup_script.specs.Script.{ScriptValue}
 use Rattle.gup_script.specs.declared.op.Op.{Op}
 use Rattle.gup_script.specs.declared.op.Op.TheVariants.{Map, Unmap, Protect, Discard, Load, Store, Pin, Unpin, Give, Take, Transfer, Fork, Exit}
-use Rattle.gup_follows.specs.Follows.{own_notes, notes_of_turn}
+use Rattle.gup_follows.specs.Follows.{own_notes, notes_of_turn, AreBehind}
 use Rattle.gup_follows.specs.Order.{Turn, journal_of, waiting_at, waiting_of, finished_in, handle_waits, IsOverAt}
 use Rattle.gup_follows.specs.Place.{Place, Doer, doer, place_behind, process_of, ops_of}
 use Rattle.gup_turns.specs.Reached.{ForkPlace, place_in}
 use Rattle.gup_turns.specs.Run.{RunState, AreTurns, AreBetween, run_after, op_in, taken_in, can_go}
 use Rattle.gup_turns.proofs.Following.{LeftAt, Left, ops_split, ops_over, turn_left, other_left}
 use Rattle.gup_turns.proofs.Ordering.{ordered_of, is_over, finished_is}
-use Rattle.gup_turns.proofs.Owning.{own_append}
+use Rattle.gup_turns.proofs.Owning.{own_append, own_behind, journal_behind}
 use Rattle.gup_turns.specs.ScriptLemmas.{has_ops_declared}
 use Rattle.gup_turns.proofs.Shapes.{FitsAt}
 use Rattle.gup_turns.proofs.Stands.{stands_on, places_stay}
@@ -85,15 +85,15 @@ abbrev stands_at : RunState → ℕ → ForkPlace
 stands_at r a = place_in r.core a
 
 -- what a turn of actor b does to what is left of actor a
-turn_of_any : (script : ScriptValue) (valid : IsScript script) (r : RunState) (h : Stands script r) (b t a : ℕ) (later : List NoteValue) (own : Bool) → (a == b) ≡ own → LeftOf script a (if own then place_behind (r.places b) (taken_in script r b).whats else r.places a) (stands_at (run_after script r b) a) later → LeftOf script a (r.places a) (stands_at r a) (own_notes a (notes_of_turn t b ((r.places b).answered + 1) (taken_in script r b).whats) ++ later)
-turn_of_any script valid r h b t a later true e left =
+turn_of_any : (script : ScriptValue) (valid : IsScript script) (r : RunState) (h : Stands script r) (b t a : ℕ) (later : List NoteValue) (own : Bool) → AreBehind t later → (a == b) ≡ own → LeftOf script a (if own then place_behind (r.places b) (taken_in script r b).whats else r.places a) (stands_at (run_after script r b) a) later → LeftOf script a (r.places a) (stands_at r a) (own_notes a (notes_of_turn t b ((r.places b).answered + 1) (taken_in script r b).whats) ++ later)
+turn_of_any script valid r h b t a later true after e left =
     let same : a ≡ b = eqb-true a b e in
     let whats = (taken_in script r b).whats in
     let behind = place_behind (r.places b) whats in
     let here : LeftOf script b behind (stands_at (run_after script r b) b) later = subst (λ (k : ℕ). LeftOf script k behind (stands_at (run_after script r b) k) later) same left in
-    let before = turn_left (doer script b) t (r.places b) (ops_of script b) later (taken script valid r h b).shape refl here in
+    let before = turn_left (doer script b) t (r.places b) (ops_of script b) later after (taken script valid r h b).shape refl here in
     subst (λ (k : ℕ). LeftOf script k (r.places k) (stands_at r k) (own_notes k (notes_of_turn t b ((r.places b).answered + 1) whats) ++ later)) (sym same) before
-turn_of_any script valid r h b t a later false e left =
+turn_of_any script valid r h b t a later false after e left =
     let apart : a ≡ b → ⊥ = λ same. let yes = eq-eqb a b same in cc in
     let here : LeftOf script a (r.places a) (stands_at r a) later = subst (λ (at : ForkPlace). LeftOf script a (r.places a) at later) (places_stay script valid r h b a apart) left in
     other_left a (process_of script a) b t ((r.places b).answered + 1) (r.places a) (stands_at r a) (ops_of script a) (taken_in script r b).whats later (grind (arith, nat_tests)) here
@@ -106,6 +106,6 @@ follows_turns law script valid (turn ∷ turns) number r end h are between a =
     let rest = journal_of (number + 1) next.places turns in
     let now = notes_of_turn number b ((r.places b).answered + 1) (taken_in script r b).whats in
     let later = follows_turns law script valid turns (number + 1) next end (stands_on law script valid r h b) are.1 between a in
-    let both = turn_of_any script valid r h b number a (own_notes a rest) (a == b) refl later in
+    let both = turn_of_any script valid r h b number a (own_notes a rest) (a == b) (own_behind a number rest (journal_behind number (number + 1) next.places turns (omega arith))) refl later in
     let whole : LeftOf script a (r.places a) (stands_at r a) (own_notes a (now ++ rest)) = subst (LeftOf script a (r.places a) (stands_at r a)) (sym (own_append a now rest)) both in
     subst (λ (t : Turn). LeftOf script a (r.places a) (stands_at r a) (own_notes a (journal_of number r.places (t ∷ turns)))) (sym are.0) whole

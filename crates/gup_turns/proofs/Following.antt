@@ -13,14 +13,14 @@ use Rattle.gup_plain.specs.declared.note.What.TheVariants.{Silent, Idle, Wait, E
 use Rattle.gup_plain.specs.declared.note.Waiting.{Waiting}
 use Rattle.gup_script.specs.declared.op.Op.{Op}
 use Rattle.gup_script.specs.declared.op.Op.TheVariants.{Map, Unmap, Protect, Discard, Load, Store, Pin, Unpin, Give, Take, Transfer, Fork, Exit}
-use Rattle.gup_follows.specs.Follows.{Who, IsTurn, IsRefused, TakesDown, TakesDownLast, TakesDownAll, TakesDownWhole, CopiesFrom, CopiesPage, ForksPages, EndsShort, PinsPages, Unpins, moves_word, MovesWords, Shape, Shapes, refuses, own_notes, notes_of_turn, is_of_operation}
+use Rattle.gup_follows.specs.Follows.{Who, IsTurn, AreBehind, AreBefore, Then, IsRefused, TakesDown, TakesDownLast, TakesDownAll, TakesDownWhole, CopiesFrom, CopiesPage, ForksPages, EndsShort, PinsPages, Unpins, moves_word, MovesWords, Shape, Shapes, refuses, own_notes, notes_of_turn, is_of_operation}
 use Rattle.gup_follows.specs.Order.{Moves}
 use Rattle.gup_follows.specs.Place.{Place, Doer, place_behind}
 use Rattle.gup_turns.specs.Reached.{ForkPlace, unbegun, from_page, at_page, wants_frame, at_word}
 use Rattle.gup_turns.proofs.Puts.{some_same}
 use Rattle.gup_turns.proofs.Shapes.{TurnOf, refused, mapped, protected, loaded, stored, gave, took_over, took, took_last, passed, passed_last, took_lowest, took_all, pinned_page, pinned_all, pinned_short, unpinned_page, unpinned_last, moved_word, moved_last, began, passed_page, counted_page, shared_page, ended, counted_copy, took_frame, copied_word, placed_copy, failed_fork, GoesOver, unmaps, discards, TurnAt, idles, waits, goes, unborn_refused, unborn_fork}
 use Rattle.gup_turns.proofs.Ordering.{op_moves, refusal_moves, failure_moves}
-use Rattle.gup_turns.proofs.Owning.{own_other, own_same, own_idle}
+use Rattle.gup_turns.proofs.Owning.{own_other, own_same, own_idle, behind_front, behind_rest, before_append, turn_before}
 
 -- What is left of an operation of which so many turns are over: of one that goes over pages, those behind; of an exit,
 -- so many pages as are still mapped; of a fork, what is left from where it stands; of a pin and of a transfer, the pages or
@@ -35,15 +35,13 @@ abbrev pub RestOfFork : Who → (child : ℕ) → ForkPlace → List NoteValue �
 RestOfFork who child unbegun notes = Shape who (Fork child) notes
 RestOfFork who child (from_page page) notes = (pages : ℕ) × ForksPages who child page pages notes
 RestOfFork who child (at_page page) notes =
-    (pages : ℕ) × (front rest : List NoteValue) × (notes ≡ front ++ rest)
-    × IsTurn who front (Event (events.ForkPage who.proc child page) ∷ []) × ForksPages who child (page + 1) pages rest
+    (pages : ℕ)
+    × Then (IsTurn who (Event (events.ForkPage who.proc child page) ∷ [])) (ForksPages who child (page + 1) pages) notes
 RestOfFork who child (wants_frame page) notes =
-    ((pages : ℕ) × (front rest : List NoteValue) × (notes ≡ front ++ rest) × CopiesPage who child page front
-    × ForksPages who child (page + 1) pages rest)
-    ⊎ IsTurn who notes (Event (events.ForkFail child) ∷ Done answers.NoFrame ∷ [])
+    ((pages : ℕ) × Then (CopiesPage who child page) (ForksPages who child (page + 1) pages) notes)
+    ⊎ IsTurn who (Event (events.ForkFail child) ∷ Done answers.NoFrame ∷ []) notes
 RestOfFork who child (at_word page word to) notes =
-    (pages : ℕ) × (front rest : List NoteValue) × (notes ≡ front ++ rest) × CopiesFrom who child page word front
-    × ForksPages who child (page + 1) pages rest
+    (pages : ℕ) × Then (CopiesFrom who child page word) (ForksPages who child (page + 1) pages) notes
 
 abbrev pub RestOf : Who → Op → (far : ℕ) → ForkPlace → List NoteValue → Type 0
 RestOf who (Unmap page n) far at notes = RestOver who (Unmap page n) page n (events.Unmap who.actor who.proc) far notes
@@ -75,8 +73,7 @@ over_rest who far at notes (discards page n) rest = rest
 -- what is left of the operation, and then those behind it
 abbrev pub Goes : (a p number : ℕ) → Op → List Op → (far : ℕ) → ForkPlace → List NoteValue → Type 0
 Goes a p number op ops far at notes =
-    (front rest : List NoteValue) × (notes ≡ front ++ rest) × RestOf (record { actor = a; proc = p; number = number }) op far at front
-    × Shapes a p (number + 1) ops rest
+    Then (RestOf (record { actor = a; proc = p; number = number }) op far at) (Shapes a p (number + 1) ops) notes
 
 -- The notes that are left of an actor with these operations left, of the first of which so many turns are over. An
 -- operation that has begun is ended.
@@ -140,17 +137,17 @@ pub left_shapes : (a p number : ℕ) (ops : List Op) (notes : List NoteValue) �
 left_shapes a p number [] notes left = left
 left_shapes a p number (op ∷ ops) notes (inl none) = inl none.1
 left_shapes a p number (op ∷ ops) notes (inr more) =
-    inr (more.0, more.1, more.2, shape_of (record { actor = a; proc = p; number = number }) op more.0 more.3, more.4)
+    inr (more.0, more.1, more.2, more.3, shape_of (record { actor = a; proc = p; number = number }) op more.0 more.4, more.5)
 
 -- one page more in front
-takes_down : (who : Who) (event : ℕ → PlainEvent) (page m : ℕ) (now later : List NoteValue) → 1 ≤ m → TakesDown who (event page) now → TakesDownAll who event (page + 1) m later → TakesDownAll who event page (suc m) (now ++ later)
-takes_down who event page zero now later some down all = absurd (omega arith)
-takes_down who event page (suc m) now later some down all = (now, later, refl, down, all)
+takes_down : (who : Who) (event : ℕ → PlainEvent) (page m : ℕ) (now later : List NoteValue) → 1 ≤ m → AreBefore now later → TakesDown who (event page) now → TakesDownAll who event (page + 1) m later → TakesDownAll who event page (suc m) (now ++ later)
+takes_down who event page zero now later some before down all = absurd (omega arith)
+takes_down who event page (suc m) now later some before down all = (now, later, refl, before, down, all)
 
 -- one page of a pin more in front, and the page that is refused
-pins_more : (who : Who) (handle page n : ℕ) (write : Bool) (got m : ℕ) (now later : List NoteValue) → 1 ≤ m → IsTurn who now (Event (events.PinTry who.actor who.proc (page + got) write) ∷ []) → PinsPages who handle page n write (got + 1) m later → PinsPages who handle page n write got (suc m) (now ++ later)
-pins_more who handle page n write got zero now later some first pins = absurd (omega arith)
-pins_more who handle page n write got (suc m) now later some first pins = inl (now, later, refl, first, pins)
+pins_more : (who : Who) (handle page n : ℕ) (write : Bool) (got m : ℕ) (now later : List NoteValue) → 1 ≤ m → AreBefore now later → IsTurn who (Event (events.PinTry who.actor who.proc (page + got) write) ∷ []) now → PinsPages who handle page n write (got + 1) m later → PinsPages who handle page n write got (suc m) (now ++ later)
+pins_more who handle page n write got zero now later some before first pins = absurd (omega arith)
+pins_more who handle page n write got (suc m) now later some before first pins = inl (now, later, refl, before, first, pins)
 
 pins_short : (who : Who) (handle page n : ℕ) (write : Bool) (got left : ℕ) (now : List NoteValue) → 0 < left → EndsShort who handle n got now → PinsPages who handle page n write got left now
 pins_short who handle page n write got zero now some end = absurd (omega arith)
@@ -158,9 +155,9 @@ pins_short who handle page n write got (suc zero) now some end = inr end
 pins_short who handle page n write got (suc (suc left)) now some end = inr end
 
 -- one word of a transfer more in front
-moves_more : (who : Who) (handle : ℕ) (outward : Bool) (index slot value m : ℕ) (now later : List NoteValue) → 1 ≤ m → IsTurn who now (Event (moves_word who.actor handle outward index slot value) ∷ []) → MovesWords who handle outward (index + 1) (slot + 1) m later → MovesWords who handle outward index slot (suc m) (now ++ later)
-moves_more who handle outward index slot value zero now later some first all = absurd (omega arith)
-moves_more who handle outward index slot value (suc m) now later some first all = (value, now, later, refl, first, all)
+moves_more : (who : Who) (handle : ℕ) (outward : Bool) (index slot value m : ℕ) (now later : List NoteValue) → 1 ≤ m → AreBefore now later → IsTurn who (Event (moves_word who.actor handle outward index slot value) ∷ []) now → MovesWords who handle outward (index + 1) (slot + 1) m later → MovesWords who handle outward index slot (suc m) (now ++ later)
+moves_more who handle outward index slot value zero now later some before first all = absurd (omega arith)
+moves_more who handle outward index slot value (suc m) now later some before first all = (value, (now, later, refl, before, first, all))
 
 -- what is left of an actor at a place
 abbrev pub LeftAt : (a p : ℕ) → List Op → Place → ForkPlace → List NoteValue → Type 0
@@ -214,8 +211,8 @@ word_more word left all sum = omega arith
 none_left : (all : ℕ) → all + 0 ≡ all
 none_left all = omega arith
 
--- from behind turn t of the actor to before it
-module _ (who : Doer) (t : ℕ) (place : Place) (ops : List Op) (later : List NoteValue) where
+-- from behind turn t of the actor to before it: what is later is in turns behind it
+module _ (who : Doer) (t : ℕ) (place : Place) (ops : List Op) (later : List NoteValue) (behind : AreBehind t later) where
   abbrev present : Who
   present = record { actor = who.actor; proc = who.proc; number = place.answered + 1 }
 
@@ -225,62 +222,77 @@ module _ (who : Doer) (t : ℕ) (place : Place) (ops : List Op) (later : List No
   abbrev ops_behind : List Op
   ops_behind = drop (place.answered + 1) ops
 
+  -- the turn is before those behind it
+  now_before : (whats : List What) (notes : List NoteValue) → AreBehind t notes → AreBefore (now whats) notes
+  now_before whats notes after = turn_before t who.actor (place.answered + 1) whats notes after
+
+  -- what is in front of what is behind it stays so with the turn in front
+  joined : (whats : List What) {notes : List NoteValue} (front rest : List NoteValue) → notes ≡ front ++ rest → now whats ++ notes ≡ (now whats ++ front) ++ rest
+  joined whats front rest is = ap (λ (ns : List NoteValue). now whats ++ ns) is ∙ sym (append_assoc (now whats) front rest)
+
+  joined_before : (whats : List What) {notes : List NoteValue} (front rest : List NoteValue) → notes ≡ front ++ rest → AreBehind t notes → AreBefore front rest → AreBefore (now whats ++ front) rest
+  joined_before whats front rest is after before =
+      before_append (now whats) front rest (now_before whats rest (behind_rest t front rest (subst (AreBehind t) is after))) before
+
+  front_before : (whats : List What) {notes : List NoteValue} (front rest : List NoteValue) → notes ≡ front ++ rest → AreBehind t notes → AreBefore (now whats) front
+  front_before whats front rest is after = now_before whats front (behind_front t front rest (subst (AreBehind t) is after))
+
   -- what is left before the turn: of this operation, and of those behind it
   abbrev LeftBefore : Op → ForkPlace → List NoteValue → Type 0
   LeftBefore op at notes = Left who.actor who.proc (place.answered + 1) (op ∷ ops_behind) place.far at notes
 
   -- the operation ends with this turn
   ends : (op : Op) (at : ForkPlace) (whats : List What) → RestOf present op place.far at (now whats) → Left who.actor who.proc (place.answered + 1 + 1) ops_behind 0 unbegun later → LeftBefore op at (now whats ++ later)
-  ends op at whats rest left = inr (now whats, later, refl, rest, left_shapes who.actor who.proc (place.answered + 1 + 1) ops_behind later left)
+  ends op at whats rest left = inr (now whats, later, refl, now_before whats later behind, rest, left_shapes who.actor who.proc (place.answered + 1 + 1) ops_behind later left)
 
   -- it takes one page down, and goes on
-  goes_over : (op : Op) (page n : ℕ) (event : ℕ → PlainEvent) (whats : List What) (front rest : List NoteValue) → GoesOver who.actor who.proc op page n event → place.far + 1 < n → TakesDown present (event (page + place.far)) (now whats) → later ≡ front ++ rest → RestOver present op page n event (place.far + 1) front → Shapes who.actor who.proc (place.answered + 1 + 1) ops_behind rest → LeftBefore op unbegun (now whats ++ later)
-  goes_over op page n event whats front rest over more down is (inr refusal) shapes = absurd (let e = refusal.0 in omega arith)
-  goes_over op page n event whats front rest over more down is (inl all) shapes =
+  goes_over : (op : Op) (page n : ℕ) (event : ℕ → PlainEvent) (whats : List What) (front rest : List NoteValue) → GoesOver who.actor who.proc op page n event → place.far + 1 < n → TakesDown present (event (page + place.far)) (now whats) → later ≡ front ++ rest → AreBefore front rest → RestOver present op page n event (place.far + 1) front → Shapes who.actor who.proc (place.answered + 1 + 1) ops_behind rest → LeftBefore op unbegun (now whats ++ later)
+  goes_over op page n event whats front rest over more down is before (inr refusal) shapes = absurd (let e = refusal.0 in omega arith)
+  goes_over op page n event whats front rest over more down is before (inl all) shapes =
       let first = page + place.far in
       let left = n - (place.far + 1) in
       let next : page + (place.far + 1) ≡ first + 1 = omega arith in
       let many : suc left ≡ n - place.far = omega arith in
       let there : TakesDownAll present event (first + 1) left front = subst (λ (g : ℕ). TakesDownAll present event g left front) next all in
-      let whole : TakesDownAll present event first (n - place.far) (now whats ++ front) = subst (λ (k : ℕ). TakesDownAll present event first k (now whats ++ front)) many (takes_down present event first left (now whats) front (omega arith) down there) in
-      inr (now whats ++ front, rest, ap (λ (ns : List NoteValue). now whats ++ ns) is ∙ sym (append_assoc (now whats) front rest), over_rest present place.far unbegun (now whats ++ front) over (inl whole), shapes)
+      let whole : TakesDownAll present event first (n - place.far) (now whats ++ front) = subst (λ (k : ℕ). TakesDownAll present event first k (now whats ++ front)) many (takes_down present event first left (now whats) front (omega arith) (front_before whats front rest is behind) down there) in
+      inr (now whats ++ front, rest, joined whats front rest is, joined_before whats front rest is behind before, over_rest present place.far unbegun (now whats ++ front) over (inl whole), shapes)
 
   takes_and_goes : (op : Op) (page n : ℕ) (event : ℕ → PlainEvent) (whats : List What) → GoesOver who.actor who.proc op page n event → place.far + 1 < n → TakesDown present (event (page + place.far)) (now whats) → Left who.actor who.proc (place.answered + 1) (op ∷ ops_behind) (place.far + 1) unbegun later → LeftBefore op unbegun (now whats ++ later)
   takes_and_goes op page n event whats over more down (inl none) = absurd (let e = none.0 in omega arith)
-  takes_and_goes op page n event whats over more down (inr (front, rest, is, begun, shapes)) =
-      goes_over op page n event whats front rest over more down is (rest_over present (place.far + 1) unbegun front over begun) shapes
+  takes_and_goes op page n event whats over more down (inr (front, rest, is, before, begun, shapes)) =
+      goes_over op page n event whats front rest over more down is before (rest_over present (place.far + 1) unbegun front over begun) shapes
 
   -- an exit takes one page more down in front
-  exits_on : (page : ℕ) (whats : List What) → IsTurn present (now whats) (Event (events.Unmap who.actor who.proc page) ∷ []) → Left who.actor who.proc (place.answered + 1) (Exit ∷ ops_behind) (place.far + 1) unbegun later → LeftBefore Exit unbegun (now whats ++ later)
+  exits_on : (page : ℕ) (whats : List What) → IsTurn present (Event (events.Unmap who.actor who.proc page) ∷ []) (now whats) → Left who.actor who.proc (place.answered + 1) (Exit ∷ ops_behind) (place.far + 1) unbegun later → LeftBefore Exit unbegun (now whats ++ later)
   exits_on page whats down (inl none) = absurd (let e = none.0 in omega arith)
-  exits_on page whats down (inr (front, rest, is, inr refusal, shapes)) = absurd (let e = refusal.0 in omega arith)
-  exits_on page whats down (inr (front, rest, is, inl (pages, whole), shapes)) =
-      let more : TakesDownWhole present (suc pages) (now whats ++ front) = (page, now whats, front, refl, down, whole) in
-      inr (now whats ++ front, rest, ap (λ (ns : List NoteValue). now whats ++ ns) is ∙ sym (append_assoc (now whats) front rest), inl (suc pages, more), shapes)
+  exits_on page whats down (inr (front, rest, is, before, inr refusal, shapes)) = absurd (let e = refusal.0 in omega arith)
+  exits_on page whats down (inr (front, rest, is, before, inl (pages, whole), shapes)) =
+      let more : TakesDownWhole present (suc pages) (now whats ++ front) = (page, (now whats, front, refl, front_before whats front rest is behind, down, whole)) in
+      inr (now whats ++ front, rest, joined whats front rest is, joined_before whats front rest is behind before, inl (suc pages, more), shapes)
 
   -- a pin takes one page more
-  pins_on : (handle page n : ℕ) (write : Bool) (whats : List What) → place.far + 1 < n → IsTurn present (now whats) (Event (events.PinTry who.actor who.proc (page + place.far) write) ∷ []) → Left who.actor who.proc (place.answered + 1) (Pin handle page n write ∷ ops_behind) (place.far + 1) unbegun later → LeftBefore (Pin handle page n write) unbegun (now whats ++ later)
+  pins_on : (handle page n : ℕ) (write : Bool) (whats : List What) → place.far + 1 < n → IsTurn present (Event (events.PinTry who.actor who.proc (page + place.far) write) ∷ []) (now whats) → Left who.actor who.proc (place.answered + 1) (Pin handle page n write ∷ ops_behind) (place.far + 1) unbegun later → LeftBefore (Pin handle page n write) unbegun (now whats ++ later)
   pins_on handle page n write whats more first (inl none) = absurd (let e = none.0 in omega arith)
-  pins_on handle page n write whats more first (inr (front, rest, is, inr refusal, shapes)) = absurd (let e = refusal.0 in omega arith)
-  pins_on handle page n write whats more first (inr (front, rest, is, inl pins, shapes)) =
+  pins_on handle page n write whats more first (inr (front, rest, is, before, inr refusal, shapes)) = absurd (let e = refusal.0 in omega arith)
+  pins_on handle page n write whats more first (inr (front, rest, is, before, inl pins, shapes)) =
       let left = n - (place.far + 1) in
       let many : suc left ≡ n - place.far = omega arith in
-      let whole : PinsPages present handle page n write place.far (n - place.far) (now whats ++ front) = subst (λ (k : ℕ). PinsPages present handle page n write place.far k (now whats ++ front)) many (pins_more present handle page n write place.far left (now whats) front (omega arith) first pins) in
-      inr (now whats ++ front, rest, ap (λ (ns : List NoteValue). now whats ++ ns) is ∙ sym (append_assoc (now whats) front rest), inl whole, shapes)
+      let whole : PinsPages present handle page n write place.far (n - place.far) (now whats ++ front) = subst (λ (k : ℕ). PinsPages present handle page n write place.far k (now whats ++ front)) many (pins_more present handle page n write place.far left (now whats) front (omega arith) (front_before whats front rest is behind) first pins) in
+      inr (now whats ++ front, rest, joined whats front rest is, joined_before whats front rest is behind before, inl whole, shapes)
 
   -- an unpin gives back one page more in front
-  unpins_on : (handle : ℕ) (whats : List What) → IsTurn present (now whats) (Silent ∷ []) → Left who.actor who.proc (place.answered + 1) (Unpin handle ∷ ops_behind) (place.far + 1) unbegun later → LeftBefore (Unpin handle) unbegun (now whats ++ later)
+  unpins_on : (handle : ℕ) (whats : List What) → IsTurn present (Silent ∷ []) (now whats) → Left who.actor who.proc (place.answered + 1) (Unpin handle ∷ ops_behind) (place.far + 1) unbegun later → LeftBefore (Unpin handle) unbegun (now whats ++ later)
   unpins_on handle whats silent (inl none) = absurd (let e = none.0 in omega arith)
-  unpins_on handle whats silent (inr (front, rest, is, inr refusal, shapes)) = absurd (let e = refusal.0 in omega arith)
-  unpins_on handle whats silent (inr (front, rest, is, inl (more, unpins), shapes)) =
-      let whole : Unpins present handle (suc more) (now whats ++ front) = (now whats, front, refl, silent, unpins) in
-      inr (now whats ++ front, rest, ap (λ (ns : List NoteValue). now whats ++ ns) is ∙ sym (append_assoc (now whats) front rest), inl (suc more, whole), shapes)
+  unpins_on handle whats silent (inr (front, rest, is, before, inr refusal, shapes)) = absurd (let e = refusal.0 in omega arith)
+  unpins_on handle whats silent (inr (front, rest, is, before, inl (more, unpins), shapes)) =
+      let whole : Unpins present handle (suc more) (now whats ++ front) = (now whats, front, refl, front_before whats front rest is behind, silent, unpins) in
+      inr (now whats ++ front, rest, joined whats front rest is, joined_before whats front rest is behind before, inl (suc more, whole), shapes)
 
   -- a transfer moves one word more in front
-  moves_on : (handle : ℕ) (outward : Bool) (index slot n value : ℕ) (whats : List What) → place.far + 1 < n → IsTurn present (now whats) (Event (moves_word who.actor handle outward (index + place.far) (slot + place.far) value) ∷ []) → Left who.actor who.proc (place.answered + 1) (Transfer handle outward index slot n ∷ ops_behind) (place.far + 1) unbegun later → LeftBefore (Transfer handle outward index slot n) unbegun (now whats ++ later)
+  moves_on : (handle : ℕ) (outward : Bool) (index slot n value : ℕ) (whats : List What) → place.far + 1 < n → IsTurn present (Event (moves_word who.actor handle outward (index + place.far) (slot + place.far) value) ∷ []) (now whats) → Left who.actor who.proc (place.answered + 1) (Transfer handle outward index slot n ∷ ops_behind) (place.far + 1) unbegun later → LeftBefore (Transfer handle outward index slot n) unbegun (now whats ++ later)
   moves_on handle outward index slot n value whats more first (inl none) = absurd (let e = none.0 in omega arith)
-  moves_on handle outward index slot n value whats more first (inr (front, rest, is, inr refusal, shapes)) = absurd (let e = refusal.0 in omega arith)
-  moves_on handle outward index slot n value whats more first (inr (front, rest, is, inl all, shapes)) =
+  moves_on handle outward index slot n value whats more first (inr (front, rest, is, before, inr refusal, shapes)) = absurd (let e = refusal.0 in omega arith)
+  moves_on handle outward index slot n value whats more first (inr (front, rest, is, before, inl all, shapes)) =
       let i = index + place.far in
       let j = slot + place.far in
       let left = n - (place.far + 1) in
@@ -290,44 +302,40 @@ module _ (who : Doer) (t : ℕ) (place : Place) (ops : List Op) (later : List No
       let there : MovesWords present handle outward (i + 1) (j + 1) left front =
       subst (λ (k : ℕ). MovesWords present handle outward (i + 1) k left front) then (subst (λ (k : ℕ). MovesWords present handle outward k (slot + (place.far + 1)) left front) next all) in
       let whole : MovesWords present handle outward i j (n - place.far) (now whats ++ front) =
-      subst (λ (k : ℕ). MovesWords present handle outward i j k (now whats ++ front)) many (moves_more present handle outward i j value left (now whats) front (omega arith) first there) in
-      inr (now whats ++ front, rest, ap (λ (ns : List NoteValue). now whats ++ ns) is ∙ sym (append_assoc (now whats) front rest), inl whole, shapes)
+      subst (λ (k : ℕ). MovesWords present handle outward i j k (now whats ++ front)) many (moves_more present handle outward i j value left (now whats) front (omega arith) (front_before whats front rest is behind) first there) in
+      inr (now whats ++ front, rest, joined whats front rest is, joined_before whats front rest is behind before, inl whole, shapes)
 
   -- a fork goes on from where it stands to where it stands then
-  forks_on : (child : ℕ) (at next : ForkPlace) (whats : List What) → ((front : List NoteValue) → RestOfFork present child next front → RestOfFork present child at (now whats ++ front)) → Left who.actor who.proc (place.answered + 1) (Fork child ∷ ops_behind) (place.far + 1) next later → LeftBefore (Fork child) at (now whats ++ later)
+  forks_on : (child : ℕ) (at next : ForkPlace) (whats : List What) → ((front : List NoteValue) → AreBehind t front → RestOfFork present child next front → RestOfFork present child at (now whats ++ front)) → Left who.actor who.proc (place.answered + 1) (Fork child ∷ ops_behind) (place.far + 1) next later → LeftBefore (Fork child) at (now whats ++ later)
   forks_on child at next whats on (inl none) = absurd (let e = none.0 in omega arith)
-  forks_on child at next whats on (inr (front, rest, is, begun, shapes)) =
-      inr (now whats ++ front, rest, ap (λ (ns : List NoteValue). now whats ++ ns) is ∙ sym (append_assoc (now whats) front rest), on front begun, shapes)
+  forks_on child at next whats on (inr (front, rest, is, before, begun, shapes)) =
+      inr (now whats ++ front, rest, joined whats front rest is, joined_before whats front rest is behind before, on front (behind_front t front rest (subst (AreBehind t) is behind)) begun, shapes)
 
   -- the silent turn that counts a page is in front of its share
-  counted_before : (child first page : ℕ) (whats : List What) → IsTurn present (now whats) (Silent ∷ []) → first ≤ page → (front : List NoteValue) → RestOfFork present child (at_page page) front → RestOfFork present child (from_page first) (now whats ++ front)
-  counted_before child first page whats silent up front (pages, share, rest, is, shares, all) =
-      let split : now whats ++ front ≡ (now whats ++ share) ++ rest = ap (λ (ns : List NoteValue). now whats ++ ns) is ∙ sym (append_assoc (now whats) share rest) in
-      (suc pages, (page, up, now whats ++ share, rest, split, inr (now whats, share, refl, silent, inl shares), all))
+  counted_before : (child first page : ℕ) (whats : List What) → IsTurn present (Silent ∷ []) (now whats) → first ≤ page → (front : List NoteValue) → AreBehind t front → RestOfFork present child (at_page page) front → RestOfFork present child (from_page first) (now whats ++ front)
+  counted_before child first page whats silent up front after (pages, (share, rest, is, before, shares, all)) =
+      (suc pages, (page, up, (now whats ++ share, rest, joined whats share rest is, joined_before whats share rest is after before, inr (now whats, share, refl, front_before whats share rest is after, silent, inl shares), all)))
 
   -- the silent turn that counts a page is in front of its copy, or of the failure
-  counted_copy_before : (child first page : ℕ) (whats : List What) → IsTurn present (now whats) (Silent ∷ []) → first ≤ page → (front : List NoteValue) → RestOfFork present child (wants_frame page) front → RestOfFork present child (from_page first) (now whats ++ front)
-  counted_copy_before child first page whats silent up front (inl (pages, copy, rest, is, copies, all)) =
-      let split : now whats ++ front ≡ (now whats ++ copy) ++ rest = ap (λ (ns : List NoteValue). now whats ++ ns) is ∙ sym (append_assoc (now whats) copy rest) in
-      (suc pages, (page, up, now whats ++ copy, rest, split, inr (now whats, copy, refl, silent, inr copies), all))
-  counted_copy_before child first page whats silent up front (inr fails) = (zero, inr (now whats, front, refl, silent, fails))
+  counted_copy_before : (child first page : ℕ) (whats : List What) → IsTurn present (Silent ∷ []) (now whats) → first ≤ page → (front : List NoteValue) → AreBehind t front → RestOfFork present child (wants_frame page) front → RestOfFork present child (from_page first) (now whats ++ front)
+  counted_copy_before child first page whats silent up front after (inl (pages, (copy, rest, is, before, copies, all))) =
+      (suc pages, (page, up, (now whats ++ copy, rest, joined whats copy rest is, joined_before whats copy rest is after before, inr (now whats, copy, refl, front_before whats copy rest is after, silent, inr copies), all)))
+  counted_copy_before child first page whats silent up front after (inr fails) = (zero, inr (now whats, front, refl, now_before whats front after, silent, fails))
 
   -- the one that takes a frame is in front of all words
-  took_before : (child page to : ℕ) (whats : List What) → IsTurn present (now whats) (Silent ∷ []) → (front : List NoteValue) → RestOfFork present child (at_word page 0 to) front → RestOfFork present child (wants_frame page) (now whats ++ front)
-  took_before child page to whats silent front (pages, copy, rest, is, copies, all) =
-      let split : now whats ++ front ≡ (now whats ++ copy) ++ rest = ap (λ (ns : List NoteValue). now whats ++ ns) is ∙ sym (append_assoc (now whats) copy rest) in
-      inl (pages, now whats ++ copy, rest, split, (now whats, copy, refl, silent, copies), all)
+  took_before : (child page to : ℕ) (whats : List What) → IsTurn present (Silent ∷ []) (now whats) → (front : List NoteValue) → AreBehind t front → RestOfFork present child (at_word page 0 to) front → RestOfFork present child (wants_frame page) (now whats ++ front)
+  took_before child page to whats silent front after (pages, (copy, rest, is, before, copies, all)) =
+      inl (pages, (now whats ++ copy, rest, joined whats copy rest is, joined_before whats copy rest is after before, (now whats, copy, refl, front_before whats copy rest is after, silent, copies), all))
 
   -- a word is in front of those that are left
-  copied_before : (child page word to : ℕ) (whats : List What) → IsTurn present (now whats) (Event (events.ForkWord who.proc child page word) ∷ []) → (front : List NoteValue) → RestOfFork present child (at_word page (word + 1) to) front → RestOfFork present child (at_word page word to) (now whats ++ front)
-  copied_before child page word to whats first front (pages, copy, rest, is, (left, sum, copies), all) =
-      let split : now whats ++ front ≡ (now whats ++ copy) ++ rest = ap (λ (ns : List NoteValue). now whats ++ ns) is ∙ sym (append_assoc (now whats) copy rest) in
+  copied_before : (child page word to : ℕ) (whats : List What) → IsTurn present (Event (events.ForkWord who.proc child page word) ∷ []) (now whats) → (front : List NoteValue) → AreBehind t front → RestOfFork present child (at_word page (word + 1) to) front → RestOfFork present child (at_word page word to) (now whats ++ front)
+  copied_before child page word to whats first front after (pages, (copy, rest, is, before, (left, sum, copies), all)) =
       let whole : word + suc left ≡ words = word_more word left words sum in
-      (pages, now whats ++ copy, rest, split, (suc left, whole, (now whats, copy, refl, first, copies)), all)
+      (pages, (now whats ++ copy, rest, joined whats copy rest is, joined_before whats copy rest is after before, (suc left, whole, (now whats, copy, refl, front_before whats copy rest is after, first, copies)), all))
 
   -- where none is left, the turn that places the copy ends the page
-  placed_before : (child page to : ℕ) (whats : List What) → IsTurn present (now whats) (Silent ∷ []) → (front : List NoteValue) → RestOfFork present child (from_page (page + 1)) front → RestOfFork present child (at_word page words to) (now whats ++ front)
-  placed_before child page to whats silent front (pages, all) = (pages, now whats, front, refl, (zero, none_left words, silent), all)
+  placed_before : (child page to : ℕ) (whats : List What) → IsTurn present (Silent ∷ []) (now whats) → (front : List NoteValue) → AreBehind t front → RestOfFork present child (from_page (page + 1)) front → RestOfFork present child (at_word page words to) (now whats ++ front)
+  placed_before child page to whats silent front after (pages, all) = (pages, (now whats, front, refl, now_before whats front after, (zero, none_left words, silent), all))
 
   op_left : {s : PlainState} (op : Op) {from to : ForkPlace} (whats : List What) → TurnOf s who place op from whats to → drop place.answered ops ≡ op ∷ ops_behind → LeftAt who.actor who.proc ops (place_behind place whats) to later → LeftBefore op from (now whats ++ later)
   op_left op whats (refused o answer first refusal right passes) is left = ends op unbegun whats (refused_rest present op place.far (now whats) first.0 (answer, refusal, (t, refl))) left
@@ -364,13 +372,13 @@ module _ (who : Doer) (t : ℕ) (place : Place) (ops : List Op) (later : List No
       let one : 1 ≡ n - place.far = omega arith in
       ends op unbegun whats (inl (subst (λ (k : ℕ). MovesWords present handle outward (index + place.far) (slot + place.far) k (now whats)) one (value, (t, refl)))) left
   op_left op whats (began child first) is left =
-      forks_on child unbegun (from_page 0) whats (λ front h. inl (h.0, now whats, front, refl, (t, refl), h.1)) (subst (λ (os : List Op). Left who.actor who.proc (place.answered + 1) os (place.far + 1) (from_page 0) later) is left)
+      forks_on child unbegun (from_page 0) whats (λ front after h. inl (h.0, (now whats, front, refl, now_before whats front after, (t, refl), h.1))) (subst (λ (os : List Op). Left who.actor who.proc (place.answered + 1) os (place.far + 1) (from_page 0) later) is left)
   op_left op whats (passed_page child first page begun up) is left =
-      forks_on child (from_page first) (from_page (page + 1)) whats (λ front h. (suc h.0, (page, up, now whats, front, refl, inl (t, refl), h.1))) (subst (λ (os : List Op). Left who.actor who.proc (place.answered + 1) os (place.far + 1) (from_page (page + 1)) later) is left)
+      forks_on child (from_page first) (from_page (page + 1)) whats (λ front after h. (suc h.0, (page, up, (now whats, front, refl, now_before whats front after, inl (t, refl), h.1)))) (subst (λ (os : List Op). Left who.actor who.proc (place.answered + 1) os (place.far + 1) (from_page (page + 1)) later) is left)
   op_left op whats (counted_page child first page begun up) is left =
       forks_on child (from_page first) (at_page page) whats (counted_before child first page whats (t, refl) up) (subst (λ (os : List Op). Left who.actor who.proc (place.answered + 1) os (place.far + 1) (at_page page) later) is left)
   op_left op whats (shared_page child page begun) is left =
-      forks_on child (at_page page) (from_page (page + 1)) whats (λ front h. (h.0, now whats, front, refl, (t, refl), h.1)) (subst (λ (os : List Op). Left who.actor who.proc (place.answered + 1) os (place.far + 1) (from_page (page + 1)) later) is left)
+      forks_on child (at_page page) (from_page (page + 1)) whats (λ front after h. (h.0, (now whats, front, refl, now_before whats front after, (t, refl), h.1))) (subst (λ (os : List Op). Left who.actor who.proc (place.answered + 1) os (place.far + 1) (from_page (page + 1)) later) is left)
   op_left op whats (ended child first begun) is left = ends op (from_page first) whats (zero, inl (t, refl)) left
   op_left op whats (counted_copy child first page begun up) is left =
       forks_on child (from_page first) (wants_frame page) whats (counted_copy_before child first page whats (t, refl) up) (subst (λ (os : List Op). Left who.actor who.proc (place.answered + 1) os (place.far + 1) (wants_frame page) later) is left)

@@ -8,6 +8,7 @@ use Rattle.gup_script.specs.declared.op.Op.{Op}
 use Rattle.gup_script.specs.declared.op.Op.TheVariants.{Map, Unmap, Protect, Discard, Load, Store, Pin, Unpin, Give, Take, Transfer, Fork, Exit}
 use Rattle.gup_events.specs.State.{CoreState, Job, idle, marking, moving, forking, walking, between, counted, lowered, cleared, copying, failing}
 use Rattle.gup_events.specs.Sound.{keeps_table, keeps_structure}
+use Rattle.gup_follows.specs.Order.{MayNeedLock}
 use Rattle.gup_follows.specs.Place.{Place, Doer, doer, process_of}
 use Rattle.gup_turns.specs.Reached.{IsForking}
 use Rattle.gup_turns.specs.Run.{RunState, op_in, waiting_with, waiting_in}
@@ -42,6 +43,22 @@ first_of (Some w) second waiting is = inl is
 held_locks : (locks : Locks) (a : ℕ) (structure table : Option ℕ) (waiting : Waiting) → waits_for_locks locks a structure table ≡ Some waiting → IsHeld a structure waiting ⊎ IsHeld a table waiting
 held_locks locks a structure table waiting is =
     elim (first_of (waits_for_lock locks.structure a structure) (waits_for_lock locks.table a table) waiting is) [ inl first ↦ inl (held_lock locks.structure a structure waiting first) | inr second ↦ inr (held_lock locks.table a table waiting second) ]
+
+-- an operation that waits for a lock is one that may need one
+pub needs_lock : (s : CoreState) (a p : ℕ) (op : Op) (structure table : Option ℕ) (waiting : Waiting) → waits_for_locks (locks_needed s a p op) a structure table ≡ Some waiting → MayNeedLock (Some op)
+needs_lock s a p (Map page n rights) structure table waiting is = tt
+needs_lock s a p (Unmap page n) structure table waiting is = tt
+needs_lock s a p (Protect page n rights) structure table waiting is = tt
+needs_lock s a p (Discard page n) structure table waiting is = tt
+needs_lock s a p (Load page word) structure table waiting is = tt
+needs_lock s a p (Store page word value) structure table waiting is = tt
+needs_lock s a p (Pin handle page n write) structure table waiting is = tt
+needs_lock s a p (Fork child) structure table waiting is = tt
+needs_lock s a p Exit structure table waiting is = tt
+needs_lock s a p (Unpin handle) structure table waiting is = absurd (cc is)
+needs_lock s a p (Give handle to) structure table waiting is = absurd (cc is)
+needs_lock s a p (Take handle) structure table waiting is = absurd (cc is)
+needs_lock s a p (Transfer handle outward index slot n) structure table waiting is = absurd (cc is)
 
 -- who holds a lock
 

@@ -13,12 +13,12 @@ use Rattle.gup_script.specs.Script.{ScriptValue}
 use Rattle.gup_script.specs.declared.op.Op.{Op}
 use Rattle.gup_script.specs.declared.op.Op.TheVariants.{Map, Unmap, Protect, Discard, Load, Store, Pin, Unpin, Give, Take, Transfer, Fork, Exit}
 use Rattle.gup_events.specs.State.{plain_of}
-use Rattle.gup_follows.specs.Order.{Turn, Ordered, Moves, IsWrittenTurn, IsOverAt, IsOver, IsPassed, MayHold, KeepsLock, IsPointedTurn, IsNextTurn, AreInOrder, behind_by, written_turn, waiting_at, waiting_of, finished_in, handle_waits}
+use Rattle.gup_follows.specs.Order.{Turn, Ordered, Moves, IsWrittenTurn, IsOverAt, IsOver, IsPassed, MayHold, KeepsLock, MayNeedLock, IsPointedTurn, IsNextTurn, AreInOrder, behind_by, written_turn, waiting_at, waiting_of, finished_in, handle_waits}
 use Rattle.gup_follows.specs.Place.{Place, Doer, doer, birth_for, process_of, ops_of}
 use Rattle.gup_turns.specs.Reached.{ForkPlace}
 use Rattle.gup_turns.specs.Turn.{waits_at, waits_born, first_waiting}
 use Rattle.gup_turns.specs.Run.{RunState, Runs, next_actor, next_by, written_in, turn_in, run_after, op_in, waiting_with, waiting_in, taken_in, is_ready, can_go}
-use Rattle.gup_turns.proofs.Holding.{IsInFork, locks_of, waits_for_fork, fork_can_go}
+use Rattle.gup_turns.proofs.Holding.{IsInFork, locks_of, needs_lock, waits_for_fork, fork_can_go}
 use Rattle.gup_turns.specs.ScriptLemmas.{has_ops_declared}
 use Rattle.gup_turns.proofs.Pointer.{PointerFits, IsFirstToGo, pointed_some, none_can_go, pointer_fits}
 use Rattle.gup_turns.proofs.Puts.{some_same}
@@ -157,25 +157,27 @@ kept_fork (Some Exit) keeps = absurd keeps
 
 module _ (script : ScriptValue) (valid : IsScript script) (r : RunState) (h : Stands script r) where
   -- one that is in the middle of a fork of this actor's process may hold a lock of it
-  may_hold : (a b : ℕ) → (a ≡ b → ⊥) → IsInFork script r b (process_of script a) → MayHold script (ordered_of r) a b
-  may_hold a b apart fork = (apart, fork.of, fork.begun, keeps_lock (op_in script r b) fork.child fork.forks)
+  may_hold : (a b : ℕ) → MayNeedLock (op_in script r a) → (a ≡ b → ⊥) → IsInFork script r b (process_of script a) → MayHold script (ordered_of r) a b
+  may_hold a b needs apart fork = (apart, fork.of, fork.begun, keeps_lock (op_in script r b) fork.child fork.forks, needs)
 
   -- once its process is born, and its pin given to it, an actor waits only for such a one
-  sees_locks : (a : ℕ) (op : Op) (locks : Option Waiting) → locks_of script r h a op ≡ locks → SeesWaiting (MayHold script (ordered_of r) a) None locks
-  sees_locks a op None is = inl refl
-  sees_locks a op (Some waiting) is =
+  sees_locks : (a : ℕ) (op : Op) → op_in script r a ≡ Some op → (locks : Option Waiting) → locks_of script r h a op ≡ locks → SeesWaiting (MayHold script (ordered_of r) a) None locks
+  sees_locks a op present None is = inl refl
+  sees_locks a op present (Some waiting) is =
       let fork = waits_for_fork script r h a op waiting is in
-      inr (refl, fork.0, may_hold a fork.0 fork.2 fork.3, ap (λ (w : Waiting). Some w) fork.1)
+      let p = process_of script a in
+      let needs : MayNeedLock (op_in script r a) = subst MayNeedLock (sym present) (needs_lock r.core a p op (r.core.structure p) (r.core.table p) waiting is) in
+      inr (refl, fork.0, may_hold a fork.0 needs fork.2 fork.3, ap (λ (w : Waiting). Some w) fork.1)
 
-  sees_born : (a : ℕ) (op : Op) (given : Option Waiting) → SeesWaiting (MayHold script (ordered_of r) a) given (first_waiting given (locks_of script r h a op))
-  sees_born a op (Some waiting) = inl refl
-  sees_born a op None = sees_locks a op (locks_of script r h a op) refl
+  sees_born : (a : ℕ) (op : Op) → op_in script r a ≡ Some op → (given : Option Waiting) → SeesWaiting (MayHold script (ordered_of r) a) given (first_waiting given (locks_of script r h a op))
+  sees_born a op present (Some waiting) = inl refl
+  sees_born a op present None = sees_locks a op present (locks_of script r h a op) refl
 
-  sees_waiting : (a : ℕ) (op : Op) (b : Birth) → birth_for r.core.birth (doer script a) ≡ b → SeesWaiting (MayHold script (ordered_of r) a) (waiting_at (process_of script a) b (handle_waits r.core.handle a (Some op))) (waits_at b (process_of script a) (waits_born r.core a (process_of script a) op))
-  sees_waiting a op unborn is = inl refl
-  sees_waiting a op (growing parent) is = inl refl
-  sees_waiting a op born is = sees_born a op (handle_waits r.core.handle a (Some op))
-  sees_waiting a op failed is = inl refl
+  sees_waiting : (a : ℕ) (op : Op) → op_in script r a ≡ Some op → (b : Birth) → birth_for r.core.birth (doer script a) ≡ b → SeesWaiting (MayHold script (ordered_of r) a) (waiting_at (process_of script a) b (handle_waits r.core.handle a (Some op))) (waits_at b (process_of script a) (waits_born r.core a (process_of script a) op))
+  sees_waiting a op present unborn is = inl refl
+  sees_waiting a op present (growing parent) is = inl refl
+  sees_waiting a op present born is = sees_born a op present (handle_waits r.core.handle a (Some op))
+  sees_waiting a op present failed is = inl refl
 
   pub sees : (a : ℕ) → Sees (finished_in script (ordered_of r) a) (MayHold script (ordered_of r) a) (waiting_of script (ordered_of r) a) (op_in script r a) (waiting_in script r a)
   sees a =
@@ -183,7 +185,7 @@ module _ (script : ScriptValue) (valid : IsScript script) (r : RunState) (h : St
       let seen : Option Op → Option Waiting = λ o. waiting_at (process_of script a) (birth_for r.core.birth who) (handle_waits r.core.handle a o) in
       record {
         finishes = finished_is (ops_of script a) (r.places a).answered;
-        waits_so = λ o is. subst (λ (x : Option Op). SeesWaiting (MayHold script (ordered_of r) a) (seen x) (waiting_with r.core who x)) (sym is) (sees_waiting a o (birth_for r.core.birth who) refl);
+        waits_so = λ o is. subst (λ (x : Option Op). SeesWaiting (MayHold script (ordered_of r) a) (seen x) (waiting_with r.core who x)) (sym is) (sees_waiting a o is (birth_for r.core.birth who) refl);
       }
 
   turn_written : (a : ℕ) → IsWrittenTurn (finished_in script (ordered_of r) a) (waiting_of script (ordered_of r) a) (MayHold script (ordered_of r) a) (taken_in script r a).whats
