@@ -203,10 +203,10 @@ are_events c events made =
     }
 
 -- From a state that shows what was, the table lock free there, the events of a call lead to one that shows what is.
-pub events_lead : (c : Change) (events : (a p : ℕ) → List CoreEvent) → AreEvents c events → (s : CoreState) (a p : ℕ)
+pub events_lead : {c : Change} {events : (a p : ℕ) → List CoreEvent} → AreEvents c events → (s : CoreState) (a p : ℕ)
     → ShowsFrames c.old_frames s → ShowsSpace p c.old_space s → s.table p ≡ None
     → ShowsFrames c.new_frames (run s (events a p)) × ShowsSpace p c.new_space (run s (events a p))
-events_lead c events are s a p frames space free =
+events_lead {c = c} are s a p frames space free =
     let before : ShowsSpace p (unlocked c.old_space) s =
     record { right = space.right; pages = space.pages; entry = space.entry; sequence = space.sequence; has_pinned = space.has_pinned; structure = space.structure; table = free } in
     let led = are.lead s a p frames before in (
