@@ -5,8 +5,8 @@ use Rattle.gup_base.specs.declared.entry.Entry.{Entry}
 use Rattle.gup_plain.specs.declared.answer.Answer.{Answer}
 use Rattle.gup_frames.specs.Frames.{FramesValue, taken, with_mark, copied, without_references}
 use Rattle.gup_space.specs.Space.{SpaceValue, with_entry}
-use Rattle.gup_space.specs.Shows.{Change, AreEvents}
-use Rattle.gup_space.specs.After.{taking, filling, counting, marking_it, upgrading, breaking, putting, IsMadeBy, IsShownAs}
+use Rattle.gup_space.specs.Shows.{Change, unlocked, AreEvents}
+use Rattle.gup_space.specs.After.{taking, filling, counting, marking_it, upgrading, breaking, putting, IsMadeBy}
 use Rattle.gup_space.specs.ShowsLemmas.{are_events, same_shown}
 use Rattle.gup_events.specs.Event.{CoreEvent, entry_of, take_frame, fill, upgrade, break_entry, put_entry}
 use Rattle.gup_events.specs.Invariant.{frame_of}
@@ -25,7 +25,7 @@ faults_alike c denied fault other same h =
     record {
       refused = λ a p. ap refusal_of (same a p) ∙ h.refused a p;
       unchanged = h.unchanged;
-      events = λ s a p frames space free. rw (same a p) (h.events s a p frames space free);
+      events = record { table = h.events.table; lead = λ s a p frames space. rw (same a p) (h.events.lead s a p frames space) };
       bytes = h.bytes;
     }
 
@@ -41,13 +41,13 @@ still F F' S S' denied fault frames space refused none =
     record {
       refused = refused;
       unchanged = λ answer is. (refl, refl);
-      events = λ s a p old_frames old_space free. rw (none a p) (old_frames, old_space);
+      events = record { table = refl; lead = λ s a p old_frames old_space. rw (none a p) (old_frames, old_space) };
       bytes = record { frames = λ f w held. refl; pages = λ g w counted. refl };
     } in
     changes_alike F F F' S S S' denied fault frames space same
 
 -- events happen
-pub made : (c : Change) (es : (a p : ℕ) → List CoreEvent) → ((a p : ℕ) → c.old_space.table ≡ None → IsMadeBy c p (es a p)) → KeepsBytes c → IsFault c None (λ a p. Ok (es a p))
+pub made : (c : Change) (es : (a p : ℕ) → List CoreEvent) → ((a p : ℕ) → IsMadeBy c p (es a p)) → KeepsBytes c → IsFault c None (λ a p. Ok (es a p))
 made c es by bytes =
     record {
       refused = λ a p. refl;
@@ -86,7 +86,7 @@ filled F S page f free is none absent =
     faults_alike c None (λ a p. Ok (take_frame a f ∷ fill a p page f ∷ [])) (λ a p. fills a p page free)
     (λ a p. ap (λ o. fills a p page o) is)
     (made c (λ a p. take_frame a f ∷ fill a p page f ∷ [])
-    (λ a p unlocked. record { own = (taking a f, (filling a page f, tt)); frames = refl; space = same_shown c.new_space c.new_space refl })
+    (λ a p. record { own = (taking a f, (filling a page f, tt)); frames = refl; space = same_shown (unlocked c.new_space) (unlocked c.new_space) refl; table = refl })
     (keeps_filled F S page f false none absent))
 
 pub filled_writable : (F : FramesValue) (S : SpaceValue) (page f : ℕ) (free : Option ℕ) → free ≡ Some f → F.count f ≡ 0 → S.entry page ≡ None → IsFault (ch F (filled_frames f F) S (with_entry page (Some (entry_of f true)) S)) None (λ a p. fills_writable a p page free)
@@ -95,7 +95,7 @@ filled_writable F S page f free is none absent =
     faults_alike c None (λ a p. Ok (take_frame a f ∷ fill a p page f ∷ upgrade a p page f ∷ [])) (λ a p. fills_writable a p page free)
     (λ a p. ap (λ o. fills_writable a p page o) is)
     (made c (λ a p. take_frame a f ∷ fill a p page f ∷ upgrade a p page f ∷ [])
-    (λ a p unlocked. record {
+    (λ a p. record {
       own = (taking a f, (filling a page f, (upgrading a page f, tt)));
       frames = refl;
       space = record {
@@ -107,6 +107,7 @@ filled_writable F S page f free is none absent =
         structure = refl;
         table = refl;
       };
+      table = refl;
     })
     (keeps_filled F S page f true none absent))
 
@@ -135,37 +136,26 @@ broken F S page f e b free is none had held =
     faults_alike c None (λ a p. Ok (es a p)) (λ a p. breaks a p page e b free)
     (λ a p. ap (λ o. breaks a p page e b o) is)
     (made c es
-    (λ a p unlocked. record {
+    (λ a p. record {
       own = (taking a f, (breaking a page e.frame f e.writable b, (putting a e.frame, tt)));
       frames = refl;
-      space = same_shown c.new_space c.new_space refl;
+      space = same_shown (unlocked c.new_space) (unlocked c.new_space) refl;
+      table = refl;
     })
     (keeps_broken F S page f e b none had held))
 
 -- ---- a page keeps its frame
 
--- the process as it was, but for a table lock that was taken and freed
-unlocked_again : (S : SpaceValue) → S.table ≡ None → IsShownAs (record S { table = None }) S
-unlocked_again S unlocked =
-    record {
-      right = λ g. refl;
-      pages = refl;
-      entry = λ g. refl;
-      sequence = refl;
-      has_pinned = refl;
-      structure = refl;
-      table = sym unlocked;
-    }
-
 pub keeps_marked : (F : FramesValue) (S : SpaceValue) (f : ℕ) → KeepsBytes (ch F (with_mark f true F) S S)
 keeps_marked F S f = keeps_frames (ch F (with_mark f true F) S S) refl (λ g. refl)
 
-pub marked_by : (F : FramesValue) (S : SpaceValue) (page : ℕ) (e : Entry) (a p : ℕ) → S.table ≡ None → IsMadeBy (ch F (with_mark e.frame true F) S S) p (marks a p page e)
-marked_by F S page e a p unlocked =
+pub marked_by : (F : FramesValue) (S : SpaceValue) (page : ℕ) (e : Entry) (a p : ℕ) → IsMadeBy (ch F (with_mark e.frame true F) S S) p (marks a p page e)
+marked_by F S page e a p =
     record {
       own = (counting a page e.frame e.writable, (marking_it a page e.frame, tt));
       frames = refl;
-      space = unlocked_again S unlocked;
+      space = same_shown (unlocked S) (unlocked S) refl;
+      table = refl;
     }
 
 pub marked : (F : FramesValue) (S : SpaceValue) (page : ℕ) (e : Entry) → IsFault (ch F (with_mark e.frame true F) S S) None (λ a p. Ok (marks a p page e))
@@ -183,12 +173,13 @@ pub keeps_upgraded : (F F' : FramesValue) (S : SpaceValue) (page : ℕ) (e : Ent
 keeps_upgraded F F' S page e had words =
     keeps_frames (ch F F' S (with_entry page (Some (entry_of e.frame true)) S)) words (same_frames S page e true had)
 
-pub upgraded_by : (F : FramesValue) (S : SpaceValue) (page f a p : ℕ) → S.table ≡ None → IsMadeBy (ch F F S (with_entry page (Some (entry_of f true)) S)) p (upgrade a p page f ∷ [])
-upgraded_by F S page f a p unlocked =
+pub upgraded_by : (F : FramesValue) (S : SpaceValue) (page f a p : ℕ) → IsMadeBy (ch F F S (with_entry page (Some (entry_of f true)) S)) p (upgrade a p page f ∷ [])
+upgraded_by F S page f a p =
     record {
       own = (upgrading a page f, tt);
       frames = refl;
-      space = same_shown (with_entry page (Some (entry_of f true)) S) (with_entry page (Some (entry_of f true)) S) refl;
+      space = let S' : SpaceValue = unlocked (with_entry page (Some (entry_of f true)) S) in same_shown S' S' refl;
+      table = refl;
     }
 
 pub upgraded : (F : FramesValue) (S : SpaceValue) (page : ℕ) (e : Entry) → S.entry page ≡ Some e → IsFault (ch F F S (with_entry page (Some (entry_of e.frame true)) S)) None (λ a p. Ok (upgrade a p page e.frame ∷ []))
@@ -200,7 +191,7 @@ pub marked_upgraded : (F : FramesValue) (S : SpaceValue) (page : ℕ) (e : Entry
 marked_upgraded F S page e had =
     let c : Change = ch F (with_mark e.frame true F) S (with_entry page (Some (entry_of e.frame true)) S) in
     made c (λ a p. marks a p page e ++ upgrade a p page e.frame ∷ [])
-    (λ a p unlocked. record {
+    (λ a p. record {
       own = (counting a page e.frame e.writable, (marking_it a page e.frame, (upgrading a page e.frame, tt)));
       frames = refl;
       space = record {
@@ -210,8 +201,9 @@ marked_upgraded F S page e had =
         sequence = refl;
         has_pinned = refl;
         structure = refl;
-        table = sym unlocked;
+        table = refl;
       };
+      table = refl;
     })
     (keeps_upgraded F (with_mark e.frame true F) S page e had refl)
 

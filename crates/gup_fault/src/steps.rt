@@ -74,7 +74,7 @@ pub(crate) fn fill_writable(
 /// Marks the frame of the page's entry as exclusive: nothing else refers to it (of Linux's `wp_can_reuse_anon_folio`).
 pub fn mark(space: &Space, frames: &mut Frames, page: PageNo)
     requires alone { HasEntry ((space_of space.now).entry page)
-        (λ e. ((frames_of frames.old).mark e.frame ≡ false) × ((frames_of frames.old).count e.frame ≡ 1)) }
+        (λ e. (frames_of frames.old).count e.frame ≡ 1) }
     requires counted { IsCounted (frames_of frames.old) (space_of space.now) page }
     ensures events { (e : EntryValue) → (space_of space.now).entry page ≡ Some e
         → AreEvents (change_of frames.old frames.new space.now space.now) (λ a p. marks a p page e) }

@@ -5,7 +5,7 @@ use Rattle.gup_base.specs.declared.entry.Entry.{Entry}
 use Rattle.gup_base.specs.declared.entry.Want.{Want}
 use Rattle.gup_frames.specs.Frames.{FramesValue, with_references}
 use Rattle.gup_space.specs.Space.{SpaceValue}
-use Rattle.gup_space.specs.Shows.{Change, ShowsFrames, ShowsSpace, AreEvents}
+use Rattle.gup_space.specs.Shows.{Change, ShowsFrames, ShowsSpace, unlocked, AreEvents}
 use Rattle.gup_events.specs.State.{CoreState}
 use Rattle.gup_events.specs.Event.{happens, raise_flag, pin_page}
 use Rattle.gup_slow.specs.Pins.{pins}
@@ -17,7 +17,7 @@ shows_frames : (F : FramesValue) (s : CoreState) (a p page : ℕ) (e : Entry) (w
 shows_frames F s a p page e write long h =
     record { movable = h.movable; normal = h.normal; count = λ g. grind (arith, nat_tests, h.count g, h.count e.frame); mark = h.mark; word = h.word }
 
-shows_space : (S : SpaceValue) (s : CoreState) (a p page : ℕ) (e : Entry) (write long : Bool) → ShowsSpace p S s → ShowsSpace p (record S { has_pinned = true }) (happens (happens s (raise_flag a p)) (pin_page a p page e write long))
+shows_space : (S : SpaceValue) (s : CoreState) (a p page : ℕ) (e : Entry) (write long : Bool) → ShowsSpace p (unlocked S) s → ShowsSpace p (unlocked (record S { has_pinned = true })) (happens (happens s (raise_flag a p)) (pin_page a p page e write long))
 shows_space S s a p page e write long h =
     record { right = h.right; pages = h.pages; entry = h.entry; sequence = h.sequence; has_pinned = grind (arith, nat_tests); structure = h.structure; table = h.table }
 
@@ -25,10 +25,13 @@ pub pinned : (F F' : FramesValue) (S S' : SpaceValue) (page : ℕ) (want : Want)
 pinned F F' S S' page want None e is space frames = absurd (cc)
 pinned F F' S S' page want (Some d) e is space frames =
     let same : d.frame ≡ e.frame = cc in
-    λ s a p old_frames old_space free.
-    let after : CoreState = happens (happens s (raise_flag a p)) (pin_page a p page d want.write want.long) in (
-      subst (λ (f : FramesValue). ShowsFrames f after) (sym (frames ∙ ap (λ f. with_references f 1024 F) (sym same)))
-          (shows_frames F s a p page d want.write want.long old_frames),
-      subst (λ (x : SpaceValue). ShowsSpace p x after) (sym space)
-          (shows_space S s a p page d want.write want.long old_space),
-    )
+    record {
+      table = ap (λ (x : SpaceValue). x.table) space;
+      lead = λ s a p old_frames old_space.
+          let after : CoreState = happens (happens s (raise_flag a p)) (pin_page a p page d want.write want.long) in (
+            subst (λ (f : FramesValue). ShowsFrames f after) (sym (frames ∙ ap (λ f. with_references f 1024 F) (sym same)))
+                (shows_frames F s a p page d want.write want.long old_frames),
+            subst (λ (x : SpaceValue). ShowsSpace p (unlocked x) after) (sym space)
+                (shows_space S s a p page d want.write want.long old_space),
+          );
+    }

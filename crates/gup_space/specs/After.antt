@@ -5,7 +5,7 @@ use Rattle.gup_base.specs.declared.entry.Rights.{Rights}
 use Rattle.gup_plain.specs.Event.{words}
 use Rattle.gup_plain.specs.Put.{put}
 use Rattle.gup_frames.specs.Frames.{FramesValue, taken, with_references, without_references, with_mark, with_word, copied}
-use Rattle.gup_space.specs.Shows.{Change}
+use Rattle.gup_space.specs.Shows.{Change, unlocked}
 use Rattle.gup_space.specs.Space.{SpaceValue, with_entry, with_rights, with_pages}
 use Rattle.gup_events.specs.Event.{CoreEvent, entry_of, take_frame, fill, count_one, set_mark, upgrade, break_entry, put_entry, drop_entry, discard_entry, map_pages, lower_entry, protect_pages, load, store, raise_flag, pin_page, make_handle, unpin_page, give_handle, take_handle, move_out, move_in, bias}
 
@@ -87,8 +87,10 @@ pub record IsShownAs (space other : SpaceValue) : Type 0 where
   pub structure : space.structure ≡ other.structure
   pub table : space.table ≡ other.table
 
--- The events, each of them of the one process, lead from what was before a call to what is behind it.
+-- The events, each of them of the one process, lead from what was before a call to what is behind it, its table lock free
+-- for both; the call left that lock as it was.
 pub record IsMadeBy (c : Change) (p : ℕ) (es : List CoreEvent) : Type 0 where
   pub own : AreOf p es
   pub frames : c.new_frames ≡ all_frames_after es c.old_frames
-  pub space : IsShownAs (all_space_after es c.old_space) c.new_space
+  pub space : IsShownAs (all_space_after es (unlocked c.old_space)) (unlocked c.new_space)
+  pub table : c.new_space.table ≡ c.old_space.table

@@ -41,9 +41,12 @@ change_of old_frames new_frames old_space new_space =
       new_space = space_of new_space;
     }
 
--- In whatever state they stand, be the table lock free: these events of an actor lead from what was to what is.
-abbrev pub AreEvents : Change → (events : (a p : ℕ) → List CoreEvent) → Type 0
-AreEvents c events =
-    (s : CoreState) (a p : ℕ)
-    → ShowsFrames c.old_frames s → ShowsSpace p c.old_space s → s.table p ≡ None
-    → ShowsFrames c.new_frames (run s (events a p)) × ShowsSpace p c.new_space (run s (events a p))
+-- the process, its table lock free
+abbrev pub unlocked : SpaceValue → SpaceValue
+unlocked space = record space { table = None }
+
+-- Whoever holds the table lock, or nobody, it stays so. And in whatever state the frames and the process stand, its table
+-- lock free there, these events of an actor lead from what was to what is.
+pub record AreEvents (c : Change) (events : (a p : ℕ) → List CoreEvent) : Type 0 where
+  pub table : c.new_space.table ≡ c.old_space.table
+  pub lead : (s : CoreState) (a p : ℕ) → ShowsFrames c.old_frames s → ShowsSpace p (unlocked c.old_space) s → ShowsFrames c.new_frames (run s (events a p)) × ShowsSpace p (unlocked c.new_space) (run s (events a p))

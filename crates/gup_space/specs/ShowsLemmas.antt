@@ -4,7 +4,7 @@ use Rattle.std.proofs.Common.{sym, ap, subst, ◌∙◌, arith}
 use Rattle.std.proofs.lemmas.Bool.Decides.{nat_tests}
 use Rattle.gup_space.specs.Space.{SpaceValue}
 use Rattle.gup_frames.specs.Frames.{FramesValue}
-use Rattle.gup_space.specs.Shows.{ShowsFrames, ShowsSpace, Change, AreEvents}
+use Rattle.gup_space.specs.Shows.{ShowsFrames, ShowsSpace, Change, unlocked, AreEvents}
 use Rattle.gup_space.specs.After.{IsOf, taking, filling, counting, marking_it, upgrading, breaking, putting, dropping, discarding, mapping, lowering, protecting, loading, storing, flagging, pinning, making, unpinning, giving, taking_over, moving_out, moving_in, AreOf, frames_after, space_after, all_frames_after, all_space_after, IsShownAs, IsMadeBy}
 use Rattle.gup_events.specs.State.{CoreState}
 use Rattle.gup_events.specs.Event.{CoreEvent, happens}
@@ -189,11 +189,35 @@ same_shown space other same =
       table = ap (λ (x : SpaceValue). x.table) same;
     }
 
--- A call whose change is made by events, be the table lock free, is those events.
-pub are_events : (c : Change) (events : (a p : ℕ) → List CoreEvent) → ((a p : ℕ) → c.old_space.table ≡ None → IsMadeBy c p (events a p)) → AreEvents c events
-are_events c events made s a p frames space free =
-    let by : IsMadeBy c p (events a p) = made a p (sym space.table ∙ free) in
-    let behind : ShowsFrames (all_frames_after (events a p) c.old_frames) (run s (events a p)) = show_frames p c.old_frames s (events a p) by.own frames in (
-      subst (λ (f : FramesValue). ShowsFrames f (run s (events a p))) (sym by.frames) behind,
-      shown_as p (all_space_after (events a p) c.old_space) c.new_space (run s (events a p)) by.space (show_space p c.old_space s (events a p) by.own space),
+-- A call whose change is made by events is those events.
+pub are_events : (c : Change) (events : (a p : ℕ) → List CoreEvent) → ((a p : ℕ) → IsMadeBy c p (events a p)) → AreEvents c events
+are_events c events made =
+    record {
+      table = (made 0 0).table;
+      lead = λ s a p frames space.
+          let by : IsMadeBy c p (events a p) = made a p in
+          let behind : ShowsFrames (all_frames_after (events a p) c.old_frames) (run s (events a p)) = show_frames p c.old_frames s (events a p) by.own frames in (
+            subst (λ (f : FramesValue). ShowsFrames f (run s (events a p))) (sym by.frames) behind,
+            shown_as p (all_space_after (events a p) (unlocked c.old_space)) (unlocked c.new_space) (run s (events a p)) by.space (show_space p (unlocked c.old_space) s (events a p) by.own space),
+          );
+    }
+
+-- From a state that shows what was, the table lock free there, the events of a call lead to one that shows what is.
+pub events_lead : {c : Change} {events : (a p : ℕ) → List CoreEvent} → AreEvents c events → (s : CoreState) (a p : ℕ)
+    → ShowsFrames c.old_frames s → ShowsSpace p c.old_space s → s.table p ≡ None
+    → ShowsFrames c.new_frames (run s (events a p)) × ShowsSpace p c.new_space (run s (events a p))
+events_lead {c = c} are s a p frames space free =
+    let before : ShowsSpace p (unlocked c.old_space) s =
+    record { right = space.right; pages = space.pages; entry = space.entry; sequence = space.sequence; has_pinned = space.has_pinned; structure = space.structure; table = free } in
+    let led = are.lead s a p frames before in (
+      led.0,
+      record {
+        right = led.1.right;
+        pages = led.1.pages;
+        entry = led.1.entry;
+        sequence = led.1.sequence;
+        has_pinned = led.1.has_pinned;
+        structure = led.1.structure;
+        table = led.1.table ∙ sym free ∙ space.table ∙ sym are.table;
+      },
     )

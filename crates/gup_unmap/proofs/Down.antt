@@ -6,7 +6,7 @@ use Rattle.gup_base.specs.declared.entry.Rights.{Rights}
 use Rattle.gup_plain.specs.Put.{put}
 use Rattle.gup_frames.specs.Frames.{FramesValue, without_references}
 use Rattle.gup_space.specs.Space.{SpaceValue, with_entry, without_page}
-use Rattle.gup_space.specs.Shows.{Change, AreEvents}
+use Rattle.gup_space.specs.Shows.{Change, unlocked, AreEvents}
 use Rattle.gup_space.specs.After.{dropping, discarding, putting, IsShownAs}
 use Rattle.gup_space.specs.ShowsLemmas.{are_events, same_shown}
 use Rattle.gup_events.specs.Event.{drop_entry, discard_entry, put_entry}
@@ -25,11 +25,11 @@ pub unmapped : (F : FramesValue) (S S' : SpaceValue) (page : ℕ) (right : Optio
 unmapped F S S' page (Some rights) entry had none space = absurd (cc)
 unmapped F S S' page None entry had none space =
     are_events (ch F F S S') (λ a p. [])
-    (λ a p unlocked. record {
+    (λ a p. record {
       own = tt;
       frames = refl;
       space =
-          subst (λ (x : SpaceValue). IsShownAs S x) (sym space)
+          subst (λ (x : SpaceValue). IsShownAs (unlocked S) (unlocked x)) (sym space)
           (record {
             right = λ g. sym (lose_nothing page S.right g had);
             pages = let gone : is_some (S.right page) ≡ false = ap is_some had in rw gone (omega arith);
@@ -39,6 +39,7 @@ unmapped F S S' page None entry had none space =
             structure = refl;
             table = refl;
           });
+      table = ap (λ (x : SpaceValue). x.table) space;
     })
 
 pub unmapped_empty : (F : FramesValue) (S S' : SpaceValue) (page : ℕ) (right : Option Rights) (entry : Option Entry) → S.right page ≡ right → is_some right ≡ true → S.entry page ≡ entry → entry ≡ None → S' ≡ without_page page S → AreEvents (ch F F S S') (λ a p. takes_down a p page right entry)
@@ -46,11 +47,11 @@ unmapped_empty F S S' page None entry had some found none space = absurd (cc)
 unmapped_empty F S S' page (Some rights) (Some e) had some found none space = absurd (cc)
 unmapped_empty F S S' page (Some rights) None had some found none space =
     are_events (ch F F S S') (λ a p. drop_entry a p page None ∷ [])
-    (λ a p unlocked. record {
+    (λ a p. record {
       own = (dropping a page None, tt);
       frames = refl;
       space =
-          subst (λ (x : SpaceValue). IsShownAs (record (with_entry page None S) { right = put page None S.right; pages = S.pages - 1 }) x) (sym space)
+          subst (λ (x : SpaceValue). IsShownAs (record (with_entry page None (unlocked S)) { right = put page None S.right; pages = S.pages - 1 }) (unlocked x)) (sym space)
           (record {
             right = λ g. refl;
             pages = let here : is_some (S.right page) ≡ true = ap is_some had in rw here refl;
@@ -60,6 +61,7 @@ unmapped_empty F S S' page (Some rights) None had some found none space =
             structure = refl;
             table = refl;
           });
+      table = ap (λ (x : SpaceValue). x.table) space;
     })
 
 pub unmapped_entry : (F F' : FramesValue) (S S1 S' : SpaceValue) (page : ℕ) (right : Option Rights) (entry : Option Entry) (e : Entry) → S.right page ≡ right → is_some right ≡ true → entry ≡ Some e → S1 ≡ without_page page S → S' ≡ with_entry page None S1 → F' ≡ without_references e.frame 1 F → AreEvents (ch F F' S S') (λ a p. takes_down a p page right entry)
@@ -68,11 +70,11 @@ unmapped_entry F F' S S1 S' page (Some rights) None e had some found first space
 unmapped_entry F F' S S1 S' page (Some rights) (Some d) e had some found first space frames =
     let same : d.frame ≡ e.frame = cc in
     are_events (ch F F' S S') (λ a p. drop_entry a p page (Some d) ∷ put_entry a d.frame ∷ [])
-    (λ a p unlocked. record {
+    (λ a p. record {
       own = (dropping a page (Some d), (putting a d.frame, tt));
       frames = frames ∙ ap (λ f. without_references f 1 F) (sym same);
       space =
-          subst (λ (x : SpaceValue). IsShownAs (record (with_entry page None S) { right = put page None S.right; pages = S.pages - 1 }) x) (sym (space ∙ ap (λ (x : SpaceValue). with_entry page None x) first))
+          subst (λ (x : SpaceValue). IsShownAs (record (with_entry page None (unlocked S)) { right = put page None S.right; pages = S.pages - 1 }) (unlocked x)) (sym (space ∙ ap (λ (x : SpaceValue). with_entry page None x) first))
           (record {
             right = λ g. refl;
             pages = let here : is_some (S.right page) ≡ true = ap is_some had in rw here refl;
@@ -82,6 +84,7 @@ unmapped_entry F F' S S1 S' page (Some rights) (Some d) e had some found first s
             structure = refl;
             table = refl;
           });
+      table = ap (λ (x : SpaceValue). x.table) (space ∙ ap (λ (x : SpaceValue). with_entry page None x) first);
     })
 
 -- ---- discard
@@ -89,14 +92,14 @@ unmapped_entry F F' S S1 S' page (Some rights) (Some d) e had some found first s
 pub undiscarded : (F : FramesValue) (S : SpaceValue) (page : ℕ) (right : Option Rights) (entry : Option Entry) → is_some right ≡ false → AreEvents (ch F F S S) (λ a p. discards a p page right entry)
 undiscarded F S page (Some rights) entry none = absurd (cc)
 undiscarded F S page None entry none =
-    are_events (ch F F S S) (λ a p. []) (λ a p unlocked. record { own = tt; frames = refl; space = same_shown S S refl })
+    are_events (ch F F S S) (λ a p. []) (λ a p. record { own = tt; frames = refl; space = same_shown (unlocked S) (unlocked S) refl; table = refl })
 
 pub discarded_empty : (F : FramesValue) (S : SpaceValue) (page : ℕ) (right : Option Rights) (entry : Option Entry) → is_some right ≡ true → S.entry page ≡ entry → entry ≡ None → AreEvents (ch F F S S) (λ a p. discards a p page right entry)
 discarded_empty F S page None entry some found none = absurd (cc)
 discarded_empty F S page (Some rights) (Some e) some found none = absurd (cc)
 discarded_empty F S page (Some rights) None some found none =
     are_events (ch F F S S) (λ a p. discard_entry a p page None ∷ [])
-    (λ a p unlocked. record {
+    (λ a p. record {
       own = (discarding a page None, tt);
       frames = refl;
       space = record {
@@ -108,6 +111,7 @@ discarded_empty F S page (Some rights) None some found none =
         structure = refl;
         table = refl;
       };
+      table = refl;
     })
 
 pub discarded_entry : (F F' : FramesValue) (S S' : SpaceValue) (page : ℕ) (right : Option Rights) (entry : Option Entry) (e : Entry) → is_some right ≡ true → entry ≡ Some e → S' ≡ with_entry page None S → F' ≡ without_references e.frame 1 F → AreEvents (ch F F' S S') (λ a p. discards a p page right entry)
@@ -116,10 +120,11 @@ discarded_entry F F' S S' page (Some rights) None e some found space frames = ab
 discarded_entry F F' S S' page (Some rights) (Some d) e some found space frames =
     let same : d.frame ≡ e.frame = cc in
     are_events (ch F F' S S') (λ a p. discard_entry a p page (Some d) ∷ put_entry a d.frame ∷ [])
-    (λ a p unlocked. record {
+    (λ a p. record {
       own = (discarding a page (Some d), (putting a d.frame, tt));
       frames = frames ∙ ap (λ f. without_references f 1 F) (sym same);
-      space = same_shown (with_entry page None S) S' (sym space);
+      space = same_shown (unlocked (with_entry page None S)) (unlocked S') (ap unlocked (sym space));
+      table = ap (λ (x : SpaceValue). x.table) space;
     })
 
 -- words stay
