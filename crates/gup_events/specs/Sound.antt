@@ -369,6 +369,8 @@ pub record IsSoundBy (v : View) (s : CoreState) : Type 0 where
   pub fork_uncopied : (a g w : ℕ) (k : Forking) → v.forks a ≡ Some k → is_failing k.step ≡ false → (Contains k.done g → ⊥) → w < words → s.copied k.child g w ≡ nat_lt w (copied_words k.step g)
   pub fork_undone : (a g : ℕ) (k : Forking) → v.forks a ≡ Some k → step_page k.step ≡ Some g → Contains k.done g → ⊥
   pub fork_mapped : (a g : ℕ) (k : Forking) → v.forks a ≡ Some k → step_page k.step ≡ Some g → s.right k.child g ≡ None → ⊥
+  -- a fork that has copied a word has prepared a frame
+  pub copy_there : (a g n : ℕ) (k : Forking) → v.forks a ≡ Some k → k.step ≡ copying g n → 0 < n → s.prepared a ≡ None → ⊥
   pub copy_words : (a g n w f : ℕ) (k : Forking) → v.forks a ≡ Some k → k.step ≡ copying g n → s.prepared a ≡ Some f → w < n → s.word f w ≡ s.content (s.object k.child g) w
   -- what is shared is under no pin; then its entry is read-only, and then the frame is exclusive no more
   pub share_handle : (a g h j : ℕ) (k : Forking) (e : Entry) → v.forks a ≡ Some k → shared_page k.step ≡ Some g → v.whole k.proc g ≡ Some e → slice_get (s.pinned h) j ≡ Some e.frame → ⊥

@@ -1,15 +1,16 @@
 -- What is published of a sound state follows from its clauses.
 use Rattle.std.proofs.Common.{◌≡◌, ℕ, ◌+◌, ◌<◌, ◌≤◌, inl, inr, Bool, true, false, List, length, refl, ap, sym, ◌∙◌, subst, arith}
-use Rattle.std.specs.Prelude.{Option, Some, None, IsSome, Contains, slice_get, not}
+use Rattle.std.specs.Prelude.{Option, Some, None, IsSome, Contains, slice_get, not, suc}
 use Rattle.gup_base.specs.declared.entry.Entry.{Entry}
 use Rattle.gup_base.specs.declared.entry.Rights.{Rights}
 use Rattle.gup_base.specs.declared.entry.Rights.TheVariants.{R, RW}
 use Rattle.gup_plain.specs.State.{born, failed}
 use Rattle.gup_events.specs.State.{CoreState, Taken, Counted, one, Job, idle, marking, moving, forking, walking, ForkStep, between, counted, lowered, cleared, copying, failing, WalkStep, entered, ready, read, grabbed, rechecked, differed, refused, stopped, dropping, over}
 use Rattle.gup_events.specs.Event.{bias, is_odd}
-use Rattle.gup_events.specs.Invariant.{IsEntry, Names, IsSettled, IsExclusive, IsSharing, IsUndisturbed, IsParted, IsUncopied, StandsFor, IsAsPinned, AwaitsMark, IsWalked, Holds, frame_of, is_unsettled}
+use Rattle.gup_events.specs.Invariant.{IsEntry, Names, IsSettled, IsExclusive, IsSharing, IsUndisturbed, IsParted, IsUncopied, StandsFor, IsAsPinned, AwaitsMark, IsWalked, AreNormal, Holds, frame_of, is_unsettled}
 use Rattle.gup_events.specs.Sound.{View, Moving, Forking, Walking, moving_of, forking_of, walking_of, is_open, is_failing, unkept, shared_page, IsUncopiedBy, IsSoundBy}
 use Rattle.gup_clauses.specs.Rows.{contains_at, at_within}
+use Rattle.gup_clauses.specs.Done.{some_there}
 use Rattle.gup_clauses.specs.Steps.{even_apart}
 use Rattle.gup_clauses.specs.Lonely.{whole_is, handle_counts, taken_counts, grabbed_counted, mapped_names, born_mapped}
 use Rattle.gup_laws.proofs.Counted.{walked_is, counts}
@@ -52,6 +53,14 @@ sharing_goes (cleared g) page is = refl
 sharing_goes between page is = refl
 sharing_goes (copying g n) page is = refl
 sharing_goes failing page is = absurd is
+
+not_failing : (step : ForkStep) → (step ≡ failing → ⊥) → is_failing step ≡ false
+not_failing between goes = refl
+not_failing (counted page) goes = refl
+not_failing (lowered page) goes = refl
+not_failing (cleared page) goes = refl
+not_failing (copying page n) goes = refl
+not_failing failing goes = absurd (goes refl)
 
 some_value : {X : Type 0} (o : Option X) → IsSome o → (x : X) × (o ≡ Some x)
 some_value None is = absurd (cc)
@@ -171,6 +180,11 @@ module _ (v : View) (s : CoreState) (h : IsSoundBy v s) where
   exclusive =
       record {
         writable = λ p page e is w. (h.entry_marked p page e (entry_whole p page e is) w, allowed p page e (entry_whole p page e is) w);
+        cleared_gone = λ a p page e is. h.moved_gone a (record { proc = p; page = page; entry = e; count = is.0 }) (is_moving a p page e is.0 is.1);
+        cleared_once = λ a b p page d e is that.
+            let first : s.table p ≡ Some a = h.moves_table a (record { proc = p; page = page; entry = d; count = is.0 }) (is_moving a p page d is.0 is.1) in
+            let second : s.table p ≡ Some b = h.moves_table b (record { proc = p; page = page; entry = e; count = that.0 }) (is_moving b p page e that.0 that.1) in
+            cc;
         one_entry = λ p page q g d e is that. one_page p page q g d e (entry_whole p page d is) (entry_whole q g e that);
         pin_marked = settled_marked;
         pin_entry = λ f o p page settled. (settled_pinned f o settled).entry p page;
@@ -227,6 +241,17 @@ module _ (v : View) (s : CoreState) (h : IsSoundBy v s) where
       go None is = refl
       go (Some e) is = absurd (none e (whole_entry p page e is))
 
+  -- nothing is in the child where the fork hasn't been
+  unreached : (a p c page : ℕ) (done : List ℕ) (step : ForkStep) → s.job a ≡ forking p c done step → (step ≡ failing → ⊥) → (Contains done page → ⊥) → s.entry c page ≡ None
+  unreached a p c page done step is goes fresh = go (s.entry c page) refl
+    where
+      none : v.whole c page ≡ None
+      none = h.fork_fresh a page (record { proc = p; child = c; done = done; step = step }) (is_forking a p c done step is) (not_failing step goes) fresh
+
+      go : (o : Option Entry) → s.entry c page ≡ o → o ≡ None
+      go None at = refl
+      go (Some e) at = absurd (let clash : None ≡ Some e = sym none ∙ h.whole_entry c page e at in cc)
+
   stands : StandsFor s
   stands =
       record {
@@ -237,6 +262,9 @@ module _ (v : View) (s : CoreState) (h : IsSoundBy v s) where
             let r = some_value (s.right p page) mapped in
             h.untouched p page w r.0 r.1 (absent p page none) (uncopied p page free) within;
         pin_words = λ f o settled. (settled_pinned f o settled).words;
+        unreached = unreached;
+        copy_there = λ a p c page word done is.
+            some_there (s.prepared a) (h.copy_there a page (suc word) (record { proc = p; child = c; done = done; step = copying page (suc word) }) (is_forking a p c done (copying page (suc word)) is) refl (omega arith));
         copy_words = λ a p c page word w f done is prepares below.
             h.copy_words a page word w f (record { proc = p; child = c; done = done; step = copying page word }) (is_forking a p c done (copying page word) is) refl prepares below;
         handle_pages = h.handle_pages;
@@ -319,6 +347,17 @@ module _ (v : View) (s : CoreState) (h : IsSoundBy v s) where
       go dropping still past = absurd (past (omega (arith, within)))
       go over still past = absurd (past (omega (arith, within)))
 
+  -- two of them are compared by what the frames exclusively hold
+  pair : (a b p q : ℕ) (step next : WalkStep) (t u : Taken) → IsUndisturbed s a p step → IsUndisturbed s b q next → Contains (s.taken a) t → Contains (s.taken b) u → s.mark t.frame ≡ true → s.mark u.frame ≡ true → (t.frame ≡ u.frame → t.object ≡ u.object) × (t.object ≡ u.object → t.frame ≡ u.frame)
+  pair a b p q step next t u still calm has also marked too =
+      let at = contains_at (s.taken a) t has in
+      let on = contains_at (s.taken b) u also in
+      let first : s.own t.frame ≡ Some t.object = taken_own a p at.0 step t still at.1 marked in
+      let second : s.own u.frame ≡ Some u.object = taken_own b q on.0 next u calm on.1 too in (
+        λ same. let both : Some t.object ≡ Some u.object = sym first ∙ (ap s.own same ∙ second) in let r : t.object ≡ u.object = cc in r,
+        λ same. h.own_alone t.frame u.frame t.object first (second ∙ ap (λ n. Some n) (sym same)),
+      )
+
   walked : IsWalked s
   walked =
       record {
@@ -327,7 +366,17 @@ module _ (v : View) (s : CoreState) (h : IsSoundBy v s) where
         grab = λ a f is. grabbed_counted v s h a f (sym (walked_is v s h a) ∙ is);
         marked = taken_pinned;
         unmarked = waits;
+        pair = pair;
+      }
+
+  -- 8. Zones
+
+  normal : AreNormal s
+  normal =
+      record {
+        handle = λ i k f long at. h.handle_normal i k f at long;
+        taken = λ a t has long. let at = contains_at (s.taken a) t has in h.taken_normal a at.0 t at.1 long;
       }
 
   pub published : Holds s
-  published = record { counts = counts v s h; exclusive = exclusive; parted = parted; stands = stands; walked = walked }
+  published = record { counts = counts v s h; exclusive = exclusive; parted = parted; stands = stands; walked = walked; normal = normal }
