@@ -296,6 +296,10 @@ module _ (v : View) (s : CoreState) where
   abbrev pub ForkMapped : Type 0
   ForkMapped = (a g : ℕ) (k : Forking) → v.forks a ≡ Some k → step_page k.step ≡ Some g → s.right k.child g ≡ None → ⊥
 
+  -- a fork that has copied a word has prepared a frame
+  abbrev pub CopyThere : Type 0
+  CopyThere = (a g n : ℕ) (k : Forking) → v.forks a ≡ Some k → k.step ≡ copying g n → 0 < n → s.prepared a ≡ None → ⊥
+
   abbrev pub CopyWords : Type 0
   CopyWords = (a g n w f : ℕ) (k : Forking) → v.forks a ≡ Some k → k.step ≡ copying g n → s.prepared a ≡ Some f → w < n → s.word f w ≡ s.content (s.object k.child g) w
 

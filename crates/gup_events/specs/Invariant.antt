@@ -1,16 +1,17 @@
 -- What is true of every state that the core machine reaches: the count of a frame is that of its references, an
 -- exclusive frame belongs to one page or to the pins that outlived it, what a fork shares and a mover moves is under no
--- pin, what a walk has taken is as good as pinned while no fork has begun, and frames have the bytes that the plain
--- model says.
-use Rattle.std.specs.Prelude.{◌≡◌, ℕ, ◌+◌, ◌<◌, ◌≤◌, ◌⊎◌, Bool, true, false, not, List, [], ◌∷◌, length, slice_get, Contains, sum_by, Option, Some, None, IsSome}
+-- pin, what a walk has taken is as good as pinned while no fork has begun, frames have the bytes that the plain model
+-- says, and what is pinned for long is of the normal zone.
+use Rattle.std.specs.Prelude.{◌≡◌, ℕ, ◌+◌, ◌<◌, ◌≤◌, ◌⊎◌, Bool, true, false, not, List, [], ◌∷◌, length, slice_get, Contains, sum_by, Option, Some, None, IsSome, suc}
+use Rattle.gup_base.specs.declared.entry.Allowed.{Allowed}
 use Rattle.gup_base.specs.declared.entry.Entry.{Entry}
 use Rattle.gup_base.specs.declared.entry.Rights.{Rights}
 use Rattle.gup_base.specs.declared.entry.Rights.TheVariants.{RW}
 use Rattle.gup_plain.specs.Event.{CanHappen, words}
 use Rattle.gup_plain.specs.State.{PlainState, Noted, Handle, failed, born, objects_of}
 use Rattle.gup_plain.specs.declared.event.PlainEvent.{PlainEvent}
-use Rattle.gup_events.specs.State.{CoreState, Taken, Job, idle, marking, moving, forking, walking, Counted, one, ForkStep, counted, lowered, cleared, copying, WalkStep, entered, ready, read, grabbed, rechecked, differed, refused, stopped, dropping, over, plain_of}
-use Rattle.gup_events.specs.Event.{CoreEvent, Can, happens, told, after_told, bias}
+use Rattle.gup_events.specs.State.{CoreState, Taken, Job, idle, marking, moving, forking, walking, Counted, one, ForkStep, counted, lowered, cleared, copying, failing, WalkStep, entered, ready, read, grabbed, rechecked, differed, refused, stopped, dropping, over, plain_of}
+use Rattle.gup_events.specs.Event.{CoreEvent, Can, happens, told, after_told, bias, IsNormal}
 
 -- 1. References: whatever may hold a frame
 
@@ -33,7 +34,7 @@ frame_of None = None
 frame_of (Some e) = Some e.frame
 
 abbrev pub cleared_frame : Job → Option ℕ
-cleared_frame (moving p page e count) = Some e.frame
+cleared_frame (moving p page e allowed count) = Some e.frame
 cleared_frame job = None
 
 abbrev pub got_frame : Option (ℕ × ℕ) → Option ℕ
@@ -93,7 +94,7 @@ CountsReferences s =
 
 -- the actor has cleared the entry of this page
 abbrev pub HasCleared : CoreState → (a p page : ℕ) → Entry → Type 0
-HasCleared s a p page e = (count : Counted) × (s.job a ≡ moving p page e count)
+HasCleared s a p page e = (allowed : Allowed) × (count : Counted) × (s.job a ≡ moving p page e allowed count)
 
 -- the page's entry, or the one that was cleared
 abbrev pub IsEntry : CoreState → (p page : ℕ) → Entry → Type 0
@@ -142,6 +143,10 @@ pub record IsExclusive (s : CoreState) : Type 0 where
   pub writable : (p page : ℕ) (e : Entry) → IsEntry s p page e → e.writable ≡ true → (s.mark e.frame ≡ true) × ((s.birth p ≡ failed → ⊥) → s.right p page ≡ Some RW)
   -- a marked frame is in at most one entry
   pub one_entry : (p page q g : ℕ) (d e : Entry) → IsEntry s p page d → IsEntry s q g e → d.frame ≡ e.frame → s.mark e.frame ≡ true → (p ≡ q) × (page ≡ g)
+  -- a page whose entry a mover has cleared has no entry
+  pub cleared_gone : (a p page : ℕ) (e : Entry) → HasCleared s a p page e → s.entry p page ≡ None
+  -- and no other mover has cleared it too
+  pub cleared_once : (a b p page : ℕ) (d e : Entry) → HasCleared s a p page d → HasCleared s b p page e → a ≡ b
   -- a pinned frame is marked; it is in the entry of the page that names its object, and in no other
   pub pin_marked : (f o : ℕ) → IsSettled s f o → s.mark f ≡ true
   pub pin_entry : (f o p page : ℕ) → IsSettled s f o → Names s p page o → (e : Entry) × IsEntry s p page e × (e.frame ≡ f)
@@ -188,8 +193,8 @@ pub record IsParted (s : CoreState) : Type 0 where
   -- and each walk of that process is disturbed
   pub share_walk : (a p c page b : ℕ) (done : List ℕ) (step : ForkStep) (walk : WalkStep) → s.job a ≡ forking p c done step → IsSharing step page → IsUndisturbed s b p walk → ⊥
   -- the frame that a mover has cleared and counted once is under no settled pin, and no walk has taken it
-  pub move : (a p page : ℕ) (e : Entry) → s.job a ≡ moving p page e one → IsUnpinned s e.frame
-  pub move_walk : (a p page b : ℕ) (e : Entry) (t : Taken) → s.job a ≡ moving p page e one → Contains (s.taken b) t → t.frame ≡ e.frame → ⊥
+  pub move : (a p page : ℕ) (e : Entry) (allowed : Allowed) → s.job a ≡ moving p page e allowed one → IsUnpinned s e.frame
+  pub move_walk : (a p page b : ℕ) (e : Entry) (allowed : Allowed) (t : Taken) → s.job a ≡ moving p page e allowed one → Contains (s.taken b) t → t.frame ≡ e.frame → ⊥
 
 -- 6. Bytes: what the plain state says of objects is so in frames
 
@@ -206,7 +211,11 @@ pub record StandsFor (s : CoreState) : Type 0 where
   pub untouched : (p page w : ℕ) → IsSome (s.right p page) → ((e : Entry) → IsEntry s p page e → ⊥) → IsUncopied s p page → w < words → s.content (s.object p page) w ≡ 0
   -- a pinned frame has the words of its object
   pub pin_words : (f o : ℕ) → IsSettled s f o → HasWords s f o
-  -- what a fork has copied of a page is in the frame that it prepares
+  -- a page that a fork has not reached has no entry in the child
+  pub unreached : (a p c page : ℕ) (done : List ℕ) (step : ForkStep) → s.job a ≡ forking p c done step → (step ≡ failing → ⊥) → (Contains done page → ⊥) → s.entry c page ≡ None
+  -- a fork that has copied a word of a page has prepared a frame; so it can only fail before the first word
+  pub copy_there : (a p c page word : ℕ) (done : List ℕ) → s.job a ≡ forking p c done (copying page (suc word)) → IsSome (s.prepared a)
+  -- what a fork has copied of a page is in that frame
   pub copy_words : (a p c page word w f : ℕ) (done : List ℕ) → s.job a ≡ forking p c done (copying page word) → s.prepared a ≡ Some f → w < word → s.word f w ≡ s.content (s.object c page) w
   -- the pages that a handle still has are the first of its objects
   pub handle_pages : (h : ℕ) → length (s.pinned h) ≤ length (objects_of (s.handle h))
@@ -238,6 +247,17 @@ pub record IsWalked (s : CoreState) : Type 0 where
   -- is read and found.
   pub marked : (a p : ℕ) (step : WalkStep) (t : Taken) → IsUndisturbed s a p step → Contains (s.taken a) t → s.mark t.frame ≡ true → IsAsPinned s t.frame t.object
   pub unmarked : (a p k : ℕ) (step : WalkStep) (t : Taken) → IsUndisturbed s a p step → slice_get (s.taken a) k ≡ Some t → s.mark t.frame ≡ false → AwaitsMark step t.frame × (k + 1 ≡ length (s.taken a))
+  -- two marked pages that undisturbed walks have taken, of whichever processes, have one frame exactly where they have
+  -- one object
+  pub pair : (a b p q : ℕ) (step next : WalkStep) (t u : Taken) → IsUndisturbed s a p step → IsUndisturbed s b q next → Contains (s.taken a) t → Contains (s.taken b) u → s.mark t.frame ≡ true → s.mark u.frame ≡ true → (t.frame ≡ u.frame → t.object ≡ u.object) × (t.object ≡ u.object → t.frame ≡ u.frame)
+
+-- 8. Zones: what is pinned for long is out of the movable zone
+
+pub record AreNormal (s : CoreState) : Type 0 where
+  -- the frame of each page that a handle for long still has
+  pub handle : (h k f : ℕ) → s.for_long h ≡ true → slice_get (s.pinned h) k ≡ Some f → IsNormal s f
+  -- the frame of each page that a running pin for long has taken
+  pub taken : (a : ℕ) (t : Taken) → Contains (s.taken a) t → t.long ≡ true → IsNormal s t.frame
 
 -- What is known of a reachable state.
 pub record Holds (s : CoreState) : Type 0 where
@@ -246,6 +266,7 @@ pub record Holds (s : CoreState) : Type 0 where
   pub parted : IsParted s
   pub stands : StandsFor s
   pub walked : IsWalked s
+  pub normal : AreNormal s
 
 -- The plain event that stands at a core event, if one does, can happen in the plain state that the core state
 -- stands for.

@@ -54,7 +54,7 @@ marking_of (marking p page f) = Some (record { proc = p; page = page; frame = f 
 marking_of job = None
 
 abbrev pub moving_of : Job → Option Moving
-moving_of (moving p page e count) = Some (record { proc = p; page = page; entry = e; count = count })
+moving_of (moving p page e allowed count) = Some (record { proc = p; page = page; entry = e; count = count })
 moving_of job = None
 
 abbrev pub forking_of : Job → Option Forking
@@ -143,7 +143,7 @@ birth_of_child k = if is_failing k.step then failed else growing k.proc
 abbrev pub keeps_table : Job → Option ℕ
 keeps_table idle = None
 keeps_table (marking p page f) = Some p
-keeps_table (moving p page e count) = Some p
+keeps_table (moving p page e allowed count) = Some p
 keeps_table (forking p c done between) = None
 keeps_table (forking p c done (counted page)) = Some p
 keeps_table (forking p c done (lowered page)) = Some p
@@ -369,6 +369,8 @@ pub record IsSoundBy (v : View) (s : CoreState) : Type 0 where
   pub fork_uncopied : (a g w : ℕ) (k : Forking) → v.forks a ≡ Some k → is_failing k.step ≡ false → (Contains k.done g → ⊥) → w < words → s.copied k.child g w ≡ nat_lt w (copied_words k.step g)
   pub fork_undone : (a g : ℕ) (k : Forking) → v.forks a ≡ Some k → step_page k.step ≡ Some g → Contains k.done g → ⊥
   pub fork_mapped : (a g : ℕ) (k : Forking) → v.forks a ≡ Some k → step_page k.step ≡ Some g → s.right k.child g ≡ None → ⊥
+  -- a fork that has copied a word has prepared a frame
+  pub copy_there : (a g n : ℕ) (k : Forking) → v.forks a ≡ Some k → k.step ≡ copying g n → 0 < n → s.prepared a ≡ None → ⊥
   pub copy_words : (a g n w f : ℕ) (k : Forking) → v.forks a ≡ Some k → k.step ≡ copying g n → s.prepared a ≡ Some f → w < n → s.word f w ≡ s.content (s.object k.child g) w
   -- what is shared is under no pin; then its entry is read-only, and then the frame is exclusive no more
   pub share_handle : (a g h j : ℕ) (k : Forking) (e : Entry) → v.forks a ≡ Some k → shared_page k.step ≡ Some g → v.whole k.proc g ≡ Some e → slice_get (s.pinned h) j ≡ Some e.frame → ⊥

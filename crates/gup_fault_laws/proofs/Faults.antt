@@ -9,7 +9,7 @@ use Rattle.gup_events.specs.State.{CoreState, idle}
 use Rattle.gup_events.specs.Event.{Can, happens, MayPrepare, entry_of, take_frame, fill, count_one, set_mark, upgrade}
 use Rattle.gup_events.specs.Invariant.{frame_of}
 use Rattle.gup_events.specs.Sound.{View, Marking, IsSoundBy, IsSound, Simulates}
-use Rattle.gup_clauses.specs.Clauses.{References, CountIs, MarksAre, MovesAre, ForksAre, WalksAre, WholeEntry, WholeMoved, WholeFree, WholeKept, WholeOther, MovedGone, WholeNames, MarksTable, MovesTable, ForksTable, TableHeld, StructureHeld, TableBorn, OwnAlone, OwnMade, OwnNames, OwnEntry, OwnWords, OwnMarked, OwnMarking, MarkedOwn, EntryMapped, EntryMarked, EntryAllowed, EntryWords, Untouched, HandleMarked, HandleOwn, HandleFlag, TakenMarked, TakenOwn, WalkOwn, WalkUnowned, WalkKept, WalkWritable, PreparedOnce, PreparedUnmarked, PreparedUnowned, PreparedZero, MarkingEntry, MarkingOwn, MovingOnce, ForkFresh, CopyWords, ShareHandle, ShareTaken, ShareLowered, ShareUnowned, MirrorEntry}
+use Rattle.gup_clauses.specs.Clauses.{References, CountIs, MarksAre, MovesAre, ForksAre, WalksAre, WholeEntry, WholeMoved, WholeFree, WholeKept, WholeOther, MovedGone, WholeNames, MarksTable, MovesTable, ForksTable, TableHeld, StructureHeld, TableBorn, OwnAlone, OwnMade, OwnNames, OwnEntry, OwnWords, OwnMarked, OwnMarking, MarkedOwn, EntryMapped, EntryMarked, EntryAllowed, EntryWords, Untouched, HandleMarked, HandleOwn, HandleFlag, TakenMarked, TakenOwn, WalkOwn, WalkUnowned, WalkKept, WalkWritable, PreparedOnce, PreparedUnmarked, PreparedUnowned, PreparedZero, MarkingEntry, MarkingOwn, MovingOnce, ForkFresh, CopyWords, CopyThere, ShareHandle, ShareTaken, ShareLowered, ShareUnowned, MirrorEntry}
 use Rattle.gup_clauses.specs.Tally.{tally_is, tally_entry, tally_prepared}
 use Rattle.gup_clauses.specs.Steps.{shared_is_step, lowered_is_shared, prepares_before}
 use Rattle.gup_clauses.specs.Lonely.{uncounted, whole_alone, once_wholes, whole_counts, handle_counts, taken_counts, prepared_whole, prepared_alone, prepared_counts, whole_none, mapped_names, born_mapped}
@@ -51,6 +51,7 @@ simulates-take_frame s a f (v, h) c =
     let marking_own : MarkingOwn V S = λ b m. grind (arith, nat_tests, h.marking_own b m, h.marking_entry b m, λ (e : Entry). whole_counts v s h m.proc m.page e) in
     let moving_once : MovingOnce V S = λ b m. grind (arith, nat_tests, h.moving_once b m, h.whole_moved b m, whole_counts v s h m.proc m.page m.entry) in
     let copy_words : CopyWords V S = λ b i n w u fork. grind (arith, nat_tests, h.copy_words b i n w u fork, prepared_counts v s h b u, prepares_before (s.job b) fork i n, h.forks_are b) in
+    let copy_there : CopyThere V S = λ b i n fork. grind (arith, nat_tests, h.copy_there b i n fork) in
     let share_unowned : ShareUnowned V S = λ b i fork d. grind (arith, nat_tests, h.share_unowned b i fork d) in
     let sound : IsSoundBy V S = assumption in
     record { sound = (V, sound); can = tt; same = refl }
@@ -103,6 +104,7 @@ simulates-fill s a p page f (v, h) c =
     let marking_own : MarkingOwn V S = λ b m. grind (arith, nat_tests, h.marking_own b m, h.marking_entry b m, λ (e : Entry). prepared_whole v s h a f m.proc m.page e) in
     let fork_fresh : ForkFresh V S = λ b g k. grind (arith, nat_tests, h.fork_fresh b g k, h.fork_birth b k) in
     let copy_words : CopyWords V S = λ b g n w d k. grind (arith, nat_tests, h.copy_words b g n w d k) in
+    let copy_there : CopyThere V S = λ b i n fork. grind (arith, nat_tests, h.copy_there b i n fork, h.forks_are b) in
     let share_handle : ShareHandle V S = λ b g j i k e. grind (arith, nat_tests, h.share_handle b g j i k e) in
     let share_taken : ShareTaken V S = λ b g j i k e t. grind (arith, nat_tests, h.share_taken b g j i k e t) in
     let share_lowered : ShareLowered V S = λ b g k e. grind (arith, nat_tests, h.share_lowered b g k e) in

@@ -10,7 +10,7 @@ use Rattle.gup_plain.specs.Event.{words}
 use Rattle.gup_events.specs.State.{CoreState, Taken, idle, forking, ForkStep, between, counted, cleared, copying, plain_of}
 use Rattle.gup_events.specs.Event.{Can, happens, bias, copies_page, is_done, is_odd, begin_fork, count_page}
 use Rattle.gup_events.specs.Sound.{View, Forking, moving_of, forking_of, step_page, shared_page, lowered_page, is_failing, copied_words, step_words, keeps_table, birth_of_child, is_open, IsSoundBy, IsSound, Simulates, IsUncopiedBy}
-use Rattle.gup_clauses.specs.Clauses.{MarksAre, MovesAre, ForksAre, WholeFree, WholeKept, WholeOther, RightNames, WholeNames, NamesObject, MarksTable, MovesTable, ForksTable, ForksStructure, TableHeld, StructureHeld, TableBorn, ForkParent, ForkBirth, GrowingLocked, GrowingForked, GrowingRights, UnbornUnmapped, FailedUnmapped, FlagBorn, OwnMade, OwnNames, OwnEntry, OwnWords, OwnMarked, OwnMarking, MarkedOwn, EntryMapped, EntryAllowed, EntryWords, Untouched, NamesAlone, NamesMade, RightNumbered, HandleFlag, TakenNames, PreparedZero, MarkingOwn, ForkFresh, ForkCopied, ForkUncopied, ForkUndone, ForkMapped, CopyWords, ShareHandle, ShareTaken, ShareLowered, ShareUnowned, MirrorBorn, MirrorNames, WalksAre, ForkOdd, QuietEven, TakenMade, WalkBelow, WalkOwn, WalkUnowned, WalkKept, WalkWritable}
+use Rattle.gup_clauses.specs.Clauses.{MarksAre, MovesAre, ForksAre, WholeFree, WholeKept, WholeOther, RightNames, WholeNames, NamesObject, MarksTable, MovesTable, ForksTable, ForksStructure, TableHeld, StructureHeld, TableBorn, ForkParent, ForkBirth, GrowingLocked, GrowingForked, GrowingRights, UnbornUnmapped, FailedUnmapped, FlagBorn, OwnMade, OwnNames, OwnEntry, OwnWords, OwnMarked, OwnMarking, MarkedOwn, EntryMapped, EntryAllowed, EntryWords, Untouched, NamesAlone, NamesMade, RightNumbered, HandleFlag, TakenNames, PreparedZero, MarkingOwn, ForkFresh, ForkCopied, ForkUncopied, ForkUndone, ForkMapped, CopyWords, CopyThere, ShareHandle, ShareTaken, ShareLowered, ShareUnowned, MirrorBorn, MirrorNames, WalksAre, ForkOdd, QuietEven, TakenMade, WalkBelow, WalkOwn, WalkUnowned, WalkKept, WalkWritable}
 use Rattle.gup_clauses.specs.Steps.{odd_next}
 use Rattle.gup_fork_laws.proofs.Disturbed.{raised_below, raised_own, raised_unowned, raised_kept, raised_writable}
 use Rattle.gup_clauses.specs.Lonely.{handle_counts, taken_counts}
@@ -99,6 +99,7 @@ simulates-begin_fork s a p c (v, h) can =
     let fork_undone : ForkUndone V S = λ b i. fork_after (λ b k. step_page k.step ≡ Some i → Contains k.done i → ⊥) v.forks a next (λ at. absurd (cc)) (λ b k other. h.fork_undone b i k) b in
     let fork_mapped : ForkMapped V S = λ b i fork. grind (arith, nat_tests, h.fork_mapped b i fork, never_unborn v s c b fork h can.1) in
     let copy_words : CopyWords V S = λ b i n w u fork. grind (arith, nat_tests, h.copy_words b i n w u fork, never_unborn v s c b fork h can.1, copied_made v s b i n fork h) in
+    let copy_there : CopyThere V S = λ b i n fork. grind (arith, nat_tests, h.copy_there b i n fork) in
     let share_handle : ShareHandle V S = λ b i j n k d. fork_after (λ b k. shared_page k.step ≡ Some i → v.whole k.proc i ≡ Some d → slice_get (s.pinned j) n ≡ Some d.frame → ⊥) v.forks a next (λ at. absurd (cc)) (λ b k other was. h.share_handle b i j n k d was) b k in
     let share_taken : ShareTaken V S = λ b i y n k d t. fork_after (λ b k. shared_page k.step ≡ Some i → v.whole k.proc i ≡ Some d → slice_get (s.taken y) n ≡ Some t → is_open (v.walks y) ≡ false → t.frame ≡ d.frame → ⊥) v.forks a next (λ at. absurd (cc)) (λ b k other was. h.share_taken b i y n k d t was) b k in
     let share_lowered : ShareLowered V S = λ b i k d. fork_after (λ b k. lowered_page k.step ≡ Some i → v.whole k.proc i ≡ Some d → d.writable ≡ false) v.forks a next (λ at. absurd (cc)) (λ b k other was. h.share_lowered b i k d was) b k in
@@ -187,6 +188,7 @@ counted_page v s a p c done page step h is free mapped undone begins apart =
     let fork_undone : ForkUndone V S = λ b i. fork_after (λ b k. step_page k.step ≡ Some i → Contains k.done i → ⊥) v.forks a next (λ at has. undone (subst (Contains done) (sym (page_is i at)) has)) (λ b k other. h.fork_undone b i k) b in
     let fork_mapped : ForkMapped V S = λ b i. fork_after (λ b k. step_page k.step ≡ Some i → s.right k.child i ≡ None → ⊥) v.forks a next (λ at none. let some : IsSome (s.right c i) = subst (λ g. IsSome (s.right c g)) (page_is i at) mapped in absurd (cc)) (λ b k other. h.fork_mapped b i k) b in
     let copy_words : CopyWords V S = λ b i n w u. fork_after (λ b k. k.step ≡ copying i n → s.prepared b ≡ Some u → w < n → s.word u w ≡ s.content (s.object k.child i) w) v.forks a next (λ at prepares below. absurd (omega (arith, begins.uncopied i n at, below))) (λ b k other. h.copy_words b i n w u k) b in
+    let copy_there : CopyThere V S = λ b i n. fork_after (λ b k. k.step ≡ copying i n → 0 < n → s.prepared b ≡ None → ⊥) v.forks a next (λ at past. absurd (omega (arith, begins.uncopied i n at, past))) (λ b k other. h.copy_there b i n k) b in
     let share_handle : ShareHandle V S = λ b i j n k d. fork_after (λ b k. shared_page k.step ≡ Some i → v.whole k.proc i ≡ Some d → slice_get (s.pinned j) n ≡ Some d.frame → ⊥) v.forks a next (apart.handles i j n d) (λ b k other was. h.share_handle b i j n k d was) b k in
     let share_taken : ShareTaken V S = λ b i y n k d t. fork_after (λ b k. shared_page k.step ≡ Some i → v.whole k.proc i ≡ Some d → slice_get (s.taken y) n ≡ Some t → is_open (v.walks y) ≡ false → t.frame ≡ d.frame → ⊥) v.forks a next (apart.takens i y n d t) (λ b k other was. h.share_taken b i y n k d t was) b k in
     let share_lowered : ShareLowered V S = λ b i k d. fork_after (λ b k. lowered_page k.step ≡ Some i → v.whole k.proc i ≡ Some d → d.writable ≡ false) v.forks a next (λ low. absurd (let none : None ≡ Some i = sym begins.lowered ∙ low in cc)) (λ b k other was. h.share_lowered b i k d was) b k in

@@ -129,6 +129,7 @@ sound_start movable normal is_born = (
     fork_uncopied = λ b i w fork. grind arith;
     fork_undone = λ b i fork. grind arith;
     fork_mapped = λ b i fork. grind arith;
+    copy_there = λ b i n fork. grind arith;
     copy_words = λ b i n w u fork. grind arith;
     share_handle = λ b i j n fork d. grind arith;
     share_taken = λ b i y n fork d t. grind arith;
