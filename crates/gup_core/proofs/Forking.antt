@@ -71,7 +71,7 @@ pub fork_is_own : (s : CoreState) (a p c : ℕ) (job : Job) → AreForking a p c
 fork_is_own s a p c (forking q d done step) = step_own s a p c done step
 fork_is_own s a p c idle = (forks _ beginning, tt)
 fork_is_own s a p c (marking q page f) = tt
-fork_is_own s a p c (moving q page e count) = tt
+fork_is_own s a p c (moving q page e allowed count) = tt
 fork_is_own s a p c (walking q write long sequence step) = tt
 
 -- ---- what they leave

@@ -112,7 +112,7 @@ fork_two : (s : CoreState) (a p c : ℕ) (job : Job) → NoTwo (fork_turn s a p 
 fork_two s a p c (forking q d done step) = step_two s a p c done step
 fork_two s a p c idle = tt
 fork_two s a p c (marking q page f) = tt
-fork_two s a p c (moving q page e count) = tt
+fork_two s a p c (moving q page e allowed count) = tt
 fork_two s a p c (walking q write long sequence step) = tt
 
 no_two : (s : CoreState) (a p slots far : ℕ) (op : Op) → NoTwo (op_turn s a p slots far op).whats

@@ -44,7 +44,7 @@ unborn_child s a p child (forking q c done (cleared page)) prepared h is = absur
 unborn_child s a p child (forking q c done (copying page word)) prepared h is = absurd (cc (sym h.0.birth ∙ is))
 unborn_child s a p child (forking q c done failing) prepared h is = absurd h
 unborn_child s a p child (marking q page f) prepared h is = absurd h
-unborn_child s a p child (moving q page e count) prepared h is = absurd h
+unborn_child s a p child (moving q page e allowed count) prepared h is = absurd h
 unborn_child s a p child (walking q write long sequence step) prepared h is = absurd h
 
 few_references : (n : ℕ) → n ≤ 16 * page_numbers + bias * 17680 → n < 2 ^ 40

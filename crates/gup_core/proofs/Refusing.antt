@@ -110,7 +110,7 @@ no_maps s a p child job prepared sound stands at has g = go job prepared stands 
     go (forking q c done (cleared page)) f h is = absurd h
     go (forking q c done failing) f h is = absurd h
     go (marking q page old) f h is = absurd h
-    go (moving q page e count) f h is = absurd h
+    go (moving q page e allowed count) f h is = absurd h
     go (walking q write long sequence step) f h is = absurd h
 
 -- what it leaves: frames, processes, pins, and where forks stand

@@ -114,7 +114,7 @@ ready_at s F P C a p child frames parent kid stands prepares = go (s.job a) (s.p
     go (forking q c done (cleared page)) prepared h kept_so = absurd h
     go (forking q c done failing) prepared h kept_so = absurd h
     go (marking q page f) prepared h kept_so = absurd h
-    go (moving q page e count) prepared h kept_so = absurd h
+    go (moving q page e allowed count) prepared h kept_so = absurd h
     go (walking q write long sequence step) prepared h kept_so = absurd h
 
 -- ---- actors

@@ -93,7 +93,7 @@ fork_needs_by S s a p child place space is stands = ap (λ k. fork_needs S.right
     go (forking q c done (copying page word)) (Some to) h = refl
     go (forking q c done failing) prepared h = absurd h
     go (marking q page f) prepared h = absurd h
-    go (moving q page e count) prepared h = absurd h
+    go (moving q page e allowed count) prepared h = absurd h
     go (walking q write long sequence step) prepared h = absurd h
 
 -- ---- who doesn't wait

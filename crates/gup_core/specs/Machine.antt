@@ -1,12 +1,13 @@
 -- The machine, and the states of the core run that it shows.
 use Rattle.std.specs.Prelude.{◌≡◌, ℕ, ◌+◌, ◌-◌, ◌^◌, List, Option, Some, length, min, slice_get}
 use Rattle.arrayvec.specs.ArrayVec.{ArrayVec}
+use Rattle.gup_base.specs.declared.entry.Zone.{Zone}
 use Rattle.gup_plain.specs.Note.{NoteValue}
 use Rattle.gup_plain.specs.State.{Birth, born, unborn, growing, failed}
 use Rattle.gup_script.specs.Script.{ScriptValue}
 use Rattle.gup_follows.specs.Place.{present_op, doer}
 use Rattle.gup_follows.specs.Follows.{notes_of_turn}
-use Rattle.gup_frames.specs.Frames.{frames_of}
+use Rattle.gup_frames.specs.Frames.{frames_of, free_of}
 use Rattle.gup_space.specs.Space.{SpaceValue, SpaceParts, space_of}
 use Rattle.gup_space.specs.Shows.{ShowsFrames, ShowsSpace}
 use Rattle.gup_handles.specs.Handles.{handles_of}
@@ -73,6 +74,13 @@ pub record ShowsParts (parts : Parts) (s : CoreState) : Type 0 where
   pub pins : ShowsPins (handles_of parts.handles) s
   pub taken : ShowsTaken parts.taken.items s
   pub stores : ShowsStores parts.stores.items s
+
+-- how many frames of the zone are free
+abbrev pub free_frames_in : CoreState → Zone → ℕ
+free_frames_in s zone =
+    free_of
+    (record { movable = s.movable; normal = s.normal; count = s.count; mark = s.mark; word = s.word })
+    zone
 
 -- turns have led to the state from the start
 abbrev pub IsReached : ScriptValue → RunState → Type 0

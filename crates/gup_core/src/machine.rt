@@ -1,9 +1,8 @@
 //! The machine for many processes and actors.
 ghost use Rattle.std.specs.Prelude.{◌≡◌, ℕ, ◌<◌, length, slice_get, Some, IfOk};
 ghost use Rattle.gup_follows.specs.Place.{has_finished};
-ghost use Rattle.gup_frames.specs.Frames.{frames_of, free_of};
 ghost use Rattle.gup_turns.specs.Run.{RunState, waiting_in};
-ghost use Rattle.gup_core.specs.Machine.{Shows, TakesTurns, IsNew};
+ghost use Rattle.gup_core.specs.Machine.{Shows, TakesTurns, IsNew, free_frames_in};
 ghost use Rattle.gup_core.specs.Rest.{IsAtRest};
 
 use crate::locks::waits_for;
@@ -130,7 +129,7 @@ impl Machine {
 
     /// How many frames of the zone are free.
     pub fn free_frames(&self, zone: Zone) -> u32
-        ensures { result ≡ free_of (frames_of self.now.parts.frames) zone }
+        ensures { (r : RunState) → Shows self.now r → result ≡ free_frames_in r.core zone }
     {
         self.parts.frames.free(zone)
     }

@@ -59,7 +59,7 @@ wants_one s a p c page (forking q d done (copying g n)) None stands place =
 wants_one s a p c page (forking q d done (copying g n)) (Some to) stands place = absurd (cc)
 wants_one s a p c page (forking q d done failing) prepared stands place = absurd stands
 wants_one s a p c page (marking q g f) prepared stands place = absurd stands
-wants_one s a p c page (moving q g e count) prepared stands place = absurd stands
+wants_one s a p c page (moving q g e allowed count) prepared stands place = absurd stands
 wants_one s a p c page (walking q write long sequence step) prepared stands place = absurd stands
 
 -- where it copies words the frame is prepared
@@ -85,7 +85,7 @@ copies_one s a p c page word to (forking q d done (copying g n)) (Some f) stands
     )
 copies_one s a p c page word to (forking q d done failing) prepared stands place = absurd stands
 copies_one s a p c page word to (marking q g f) prepared stands place = absurd stands
-copies_one s a p c page word to (moving q g e count) prepared stands place = absurd stands
+copies_one s a p c page word to (moving q g e allowed count) prepared stands place = absurd stands
 copies_one s a p c page word to (walking q write long sequence step) prepared stands place = absurd stands
 
 -- its turn, by the frame that is prepared

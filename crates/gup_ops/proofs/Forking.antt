@@ -73,7 +73,7 @@ begun k a p c made s apart frames parent child keeps = go (s.job a)
     go (forking q d done (copying page n)) stands place = absurd (not_copying page n (s.prepared a) unbegun refl place)
     go (forking q d done failing) stands place = absurd stands
     go (marking q page f) stands place = absurd stands
-    go (moving q page e count) stands place = absurd stands
+    go (moving q page e allowed count) stands place = absurd stands
     go (walking q write long sequence step) stands place = absurd stands
 
 -- ---- the next page
@@ -112,7 +112,7 @@ ended k a p c from made none s apart frames parent child keeps = go (s.job a)
     go (forking q d done (copying page n)) stands place = absurd (not_copying page n (s.prepared a) (from_page from) refl place)
     go (forking q d done failing) stands place = absurd stands
     go (marking q page f) stands place = absurd stands
-    go (moving q page e count) stands place = absurd stands
+    go (moving q page e allowed count) stands place = absurd stands
     go (walking q write long sequence step) stands place = absurd stands
 
 -- a page without an entry changes nothing
@@ -145,7 +145,7 @@ passed F P C a p c from page found empty s apart frames parent child keeps = go 
     go (forking q d done (copying g n)) stands place = absurd (not_copying g n (s.prepared a) (from_page from) refl place)
     go (forking q d done failing) stands place = absurd stands
     go (marking q g f) stands place = absurd stands
-    go (moving q g e count) stands place = absurd stands
+    go (moving q g e allowed count) stands place = absurd stands
     go (walking q write long sequence step) stands place = absurd stands
 
 -- a page that is counted keeps the table lock
@@ -198,7 +198,7 @@ page_counted F P P' C a p c from page e copied found entry is locked s apart fra
     go (forking q d done (copying g n)) keeps stands place = absurd (not_copying g n (s.prepared a) (from_page from) refl place)
     go (forking q d done failing) keeps stands place = absurd stands
     go (marking q g f) keeps stands place = absurd stands
-    go (moving q g e count) keeps stands place = absurd stands
+    go (moving q g e allowed count) keeps stands place = absurd stands
     go (walking q write long sequence step) keeps stands place = absurd stands
 
 -- ---- the share of a page
@@ -230,7 +230,7 @@ page_shared k a p c page e entry made s apart frames parent child keeps = go (s.
     go (forking q d done (copying g n)) stands place = absurd (not_copying g n (s.prepared a) (at_page page) refl place)
     go (forking q d done failing) stands place = absurd stands
     go (marking q g f) stands place = absurd stands
-    go (moving q g e count) stands place = absurd stands
+    go (moving q g e allowed count) stands place = absurd stands
     go (walking q write long sequence step) stands place = absurd stands
 
 -- ---- the child's next page

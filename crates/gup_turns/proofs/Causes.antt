@@ -304,7 +304,7 @@ module _ (s : CoreState) (a p : ℕ) where
   fork_cause : (child : ℕ) (job : Job) → HasCause s (fork_turn s a p child job)
   fork_cause child idle = ((λ e. absurd e), tt)
   fork_cause child (marking q page f) = ((λ e. absurd e), tt)
-  fork_cause child (moving q page entry count) = ((λ e. absurd e), tt)
+  fork_cause child (moving q page entry allowed count) = ((λ e. absurd e), tt)
   fork_cause child (forking q c done step) = step_cause child done step
   fork_cause child (walking q write long sequence step) = ((λ e. absurd e), tt)
 

@@ -218,14 +218,14 @@ places_weigh xs places alone =
 moved_same : (job : Job) → moved_frame (moving_of job) ≡ cleared_frame job
 moved_same idle = refl
 moved_same (marking p page f) = refl
-moved_same (moving p page e count) = refl
+moved_same (moving p page e allowed count) = refl
 moved_same (forking p c done step) = refl
 moved_same (walking p write long sequence step) = refl
 
 walk_same : (job : Job) → walk_frame (walking_of job) ≡ grabbed_frame job
 walk_same idle = refl
 walk_same (marking p page f) = refl
-walk_same (moving p page e count) = refl
+walk_same (moving p page e allowed count) = refl
 walk_same (forking p c done step) = refl
 walk_same (walking p write long sequence step) = refl
 

@@ -66,7 +66,7 @@ held_by_self a = go (a == a) refl
 fork_keeps : (s : CoreState) (b p child q : ℕ) (job : Job) (prepared : Option ℕ) → StandsFork s b p child job prepared → keeps_table job ≡ Some q → keeps_structure job ≡ Some q
 fork_keeps s b p child q idle prepared stands keeps = absurd (cc keeps)
 fork_keeps s b p child q (marking k page f) prepared stands keeps = absurd stands
-fork_keeps s b p child q (moving k page e count) prepared stands keeps = absurd stands
+fork_keeps s b p child q (moving k page e allowed count) prepared stands keeps = absurd stands
 fork_keeps s b p child q (walking k write long sequence step) prepared stands keeps = absurd stands
 fork_keeps s b p child q (forking k c done between) prepared stands keeps = absurd (cc keeps)
 fork_keeps s b p child q (forking k c done (counted page)) prepared stands keeps = keeps
@@ -78,7 +78,7 @@ fork_keeps s b p child q (forking k c done failing) prepared stands keeps = absu
 fork_kept : (s : CoreState) (b q : ℕ) (job : Job) → ((k : Forking) → forking_of job ≡ Some k → s.structure k.proc ≡ Some b) → keeps_structure job ≡ Some q → s.structure q ≡ Some b
 fork_kept s b q idle locked keeps = absurd (cc keeps)
 fork_kept s b q (marking k page f) locked keeps = absurd (cc keeps)
-fork_kept s b q (moving k page e count) locked keeps = absurd (cc keeps)
+fork_kept s b q (moving k page e allowed count) locked keeps = absurd (cc keeps)
 fork_kept s b q (walking k write long sequence step) locked keeps = absurd (cc keeps)
 fork_kept s b q (forking k c done step) locked keeps =
     subst (λ (n : ℕ). s.structure n ≡ Some b) (some_same keeps) (locked (record { proc = k; child = c; done = done; step = step }) refl)
@@ -190,7 +190,7 @@ module _ (script : ScriptValue) (r : RunState) (h : IsStanding script r) where
       go : (j : Job) → r.core.job b ≡ j → StandsFork r.core b p child j (r.core.prepared b) → (j ≡ idle → ⊥) → waiting_for r.core (doer script b) (Fork child) ≡ None
       go idle is stands busy = absurd (busy refl)
       go (marking q page f) is stands busy = absurd stands
-      go (moving q page e count) is stands busy = absurd stands
+      go (moving q page e allowed count) is stands busy = absurd stands
       go (walking q write long sequence step) is stands busy = absurd stands
       go (forking q c done between) is stands busy =
           unlocked (is_born q c done between is stands.parent)

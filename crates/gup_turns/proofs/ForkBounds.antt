@@ -347,7 +347,7 @@ module _ (s : CoreState) (a p : ℕ) (place : Place) where
     fork_spent : (job : Job) → s.job a ≡ job → StandsFork s a p child job (s.prepared a) → mapped_pages (s.right p) ≤ 1024 → IsSpent s a p place (Fork child) (fork_turn s a p child job)
     fork_spent idle is stands few = begin_spent is stands few
     fork_spent (marking q page f) is stands few = absurd stands
-    fork_spent (moving q page e count) is stands few = absurd stands
+    fork_spent (moving q page e allowed count) is stands few = absurd stands
     fork_spent (walking q write long sequence step) is stands few = absurd stands
     fork_spent (forking q c done between) is stands few = next (next_page (s.right child) done) refl
       where
@@ -380,7 +380,7 @@ module _ (s : CoreState) (a p : ℕ) (place : Place) where
     unborn_by : (job : Job) → s.job a ≡ job → StandsFork s a p child job (s.prepared a) → ((k : Forking) → forking_of job ≡ Some k → s.birth k.proc ≡ born) → s.birth p ≡ failed → IsSpent s a p place (Fork child) (failed_turn a p (Fork child))
     unborn_by idle is stands parent lost = unborn_spent is stands
     unborn_by (marking q page f) is stands parent lost = absurd stands
-    unborn_by (moving q page e count) is stands parent lost = absurd stands
+    unborn_by (moving q page e allowed count) is stands parent lost = absurd stands
     unborn_by (walking q write long sequence step) is stands parent lost = absurd stands
     unborn_by (forking q c done step) is stands parent lost = absurd (born_failed step stands)
       where

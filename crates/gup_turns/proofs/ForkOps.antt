@@ -446,7 +446,7 @@ module _ (s : CoreState) (who : Doer) (child : ℕ) (place : Place) (h : IsOpen 
       copies_by done (own_fork q c done fits.1.0) page fits.0 fits.1.1 n (s.prepared a) (own_job q c done (copying page n) fits.1.0 is) refl fits.1.2
   fork_by (forking q c done failing) is fits free = absurd fits.1
   fork_by (marking q page f) is fits free = absurd fits
-  fork_by (moving q page e count) is fits free = absurd fits
+  fork_by (moving q page e allowed count) is fits free = absurd fits
   fork_by (walking q write long sequence step) is fits free = absurd fits
 
   -- the child behind a turn: it has failed and has no entries, or it is none that failed
@@ -491,7 +491,7 @@ module _ (s : CoreState) (who : Doer) (child : ℕ) (place : Place) (h : IsOpen 
   emptied_by (forking q c done (cleared page)) is fits = absurd fits.1
   emptied_by (forking q c done failing) is fits = absurd fits.1
   emptied_by (marking q page f) is fits = absurd fits
-  emptied_by (moving q page e count) is fits = absurd fits
+  emptied_by (moving q page e allowed count) is fits = absurd fits
   emptied_by (walking q write long sequence step) is fits = absurd fits
 
 pub fork_turned : (s : CoreState) (who : Doer) (child : ℕ) (place : Place) → IsOpen s who.actor who.proc → FitsOp s who (Fork child) place → waits_for_locks (locks_needed s who.actor who.proc (Fork child)) who.actor (s.structure who.proc) (s.table who.proc) ≡ None → IsTurned s who place (Fork child) (op_turn s who.actor who.proc who.slots place.far (Fork child))

@@ -96,7 +96,7 @@ fork_keeps s b q child p place (forking k c done (copying page n)) prepared fits
 fork_keeps s b q child p place (forking k c done (copying page n)) prepared fits (inr e) = fork_of fits.1.0 fits.0 (some_same e)
 fork_keeps s b q child p place (forking k c done failing) prepared fits keeps = absurd fits.1
 fork_keeps s b q child p place (marking k page f) prepared fits keeps = absurd fits
-fork_keeps s b q child p place (moving k page e count) prepared fits keeps = absurd fits
+fork_keeps s b q child p place (moving k page e allowed count) prepared fits keeps = absurd fits
 fork_keeps s b q child p place (walking k write long sequence step) prepared fits keeps = absurd fits
 
 -- a fork that has begun has the structure lock of its process
@@ -109,7 +109,7 @@ fork_locked s b q child place (forking k c done (cleared page)) prepared fits fa
 fork_locked s b q child place (forking k c done (copying page n)) prepared fits far = fits.1.0.locked
 fork_locked s b q child place (forking k c done failing) prepared fits far = absurd fits.1
 fork_locked s b q child place (marking k page f) prepared fits far = absurd fits
-fork_locked s b q child place (moving k page e count) prepared fits far = absurd fits
+fork_locked s b q child place (moving k page e allowed count) prepared fits far = absurd fits
 fork_locked s b q child place (walking k write long sequence step) prepared fits far = absurd fits
 
 -- the actor's present operation is a fork of process p, of which some turns are over

@@ -82,7 +82,7 @@ fork_stands s a p child place (forking q c done (cleared page)) prepared fits = 
 fork_stands s a p child place (forking q c done (copying page n)) prepared fits = (fits.1, (refl, refl))
 fork_stands s a p child place (forking q c done failing) prepared fits = absurd fits.1
 fork_stands s a p child place (marking q page f) prepared fits = absurd fits
-fork_stands s a p child place (moving q page e count) prepared fits = absurd fits
+fork_stands s a p child place (moving q page e allowed count) prepared fits = absurd fits
 fork_stands s a p child place (walking q write long sequence step) prepared fits = absurd fits
 
 idle_stands : (job : Job) → job ≡ idle → HoldsNoFrame job

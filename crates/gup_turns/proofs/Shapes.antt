@@ -40,7 +40,7 @@ FitsFork s a p child place idle prepared = AtFirst place × StandsFork s a p chi
 FitsFork s a p child place (forking q c done step) prepared =
     IsBegun place × StandsFork s a p child (forking q c done step) prepared
 FitsFork s a p child place (marking q page f) prepared = ⊥
-FitsFork s a p child place (moving q page e count) prepared = ⊥
+FitsFork s a p child place (moving q page e allowed count) prepared = ⊥
 FitsFork s a p child place (walking q write long sequence step) prepared = ⊥
 
 -- an actor is in the middle of nothing, and has taken no page
@@ -169,7 +169,7 @@ unprepared s a rest job = subst (λ (j : Job). KeepsFrame j (s.prepared a)) job 
 pub keeps_none : (job : Job) (prepared : Option ℕ) → prepared ≡ None → KeepsFrame job prepared
 keeps_none idle prepared none = none
 keeps_none (marking q page f) prepared none = none
-keeps_none (moving q page e count) prepared none = none
+keeps_none (moving q page e allowed count) prepared none = none
 keeps_none (walking q write long sequence step) prepared none = none
 keeps_none (forking q c done between) prepared none = none
 keeps_none (forking q c done (counted page)) prepared none = none

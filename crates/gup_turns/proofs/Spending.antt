@@ -112,7 +112,7 @@ fork_stays s t b p child job prepared stands is has same kept rights =
     go : (j : Job) (o : Option ℕ) → StandsFork s b p child j o → fork_left (t.right child) (fork_place j o) ≡ fork_left (s.right child) (fork_place j o)
     go idle o stands = refl
     go (marking q page f) o stands = absurd stands
-    go (moving q page e count) o stands = absurd stands
+    go (moving q page e allowed count) o stands = absurd stands
     go (walking q write long sequence step) o stands = absurd stands
     go (forking q c done between) o stands = grows (fork_place (forking q c done between) o) q c done stands
     go (forking q c done (counted page)) o stands = grows (fork_place (forking q c done (counted page)) o) q c done stands.0

@@ -78,7 +78,7 @@ fork_held s a p child place (forking q c done (cleared page)) prepared is fits =
 fork_held s a p child place (forking q c done (copying page n)) prepared is fits = inr fits.1.0.locked
 fork_held s a p child place (forking q c done failing) prepared is fits = absurd fits.1
 fork_held s a p child place (marking q page f) prepared is fits = absurd fits
-fork_held s a p child place (moving q page e count) prepared is fits = absurd fits
+fork_held s a p child place (moving q page e allowed count) prepared is fits = absurd fits
 fork_held s a p child place (walking q write long sequence step) prepared is fits = absurd fits
 
 idle_or_holds : (s : CoreState) (who : Doer) (op : Option Op) (place : Place) → FitsAt s who op place → (s.job who.actor ≡ idle) ⊎ (s.structure who.proc ≡ Some who.actor)
@@ -107,7 +107,7 @@ fork_unborn s a p child place (forking q c done (cleared page)) prepared fits is
 fork_unborn s a p child place (forking q c done (copying page n)) prepared fits is = let grows : s.birth child ≡ growing p = fits.1.0.birth in cc
 fork_unborn s a p child place (forking q c done failing) prepared fits is = fits.1
 fork_unborn s a p child place (marking q page f) prepared fits is = fits
-fork_unborn s a p child place (moving q page e count) prepared fits is = fits
+fork_unborn s a p child place (moving q page e allowed count) prepared fits is = fits
 fork_unborn s a p child place (walking q write long sequence step) prepared fits is = fits
 
 -- a born process is no child of the operation, unless it is the operation's own
@@ -447,7 +447,7 @@ module _ (script : ScriptValue) (valid : IsScript script) (r : RunState) (h : St
         (fits.0, (forking_kept k child u v done forks (begun fits.0.0) fits.1.0, counted_kept k child done page u v forks (begun fits.0.0) fits.1.0 fits.1.1, fits.1.2))
     fork_kept k child its (forking u v done failing) prepared forks begun yet fits = fits
     fork_kept k child its (marking u page f) prepared forks begun yet fits = fits
-    fork_kept k child its (moving u page e count) prepared forks begun yet fits = fits
+    fork_kept k child its (moving u page e allowed count) prepared forks begun yet fits = fits
     fork_kept k child its (walking u write long sequence step) prepared forks begun yet fits = fits
 
     job_kept : t.job b ≡ s.job b

@@ -111,7 +111,7 @@ module _ (s : CoreState) (who : Doer) (place : Place) (first : place.far ≡ 0) 
   idle_fork child idle is fits = (is, fits.1)
   idle_fork child (forking q c done step) is fits = absurd (let more = fits.0.0 in omega (arith, more, first))
   idle_fork child (marking q page f) is fits = absurd fits
-  idle_fork child (moving q page e count) is fits = absurd fits
+  idle_fork child (moving q page e allowed count) is fits = absurd fits
   idle_fork child (walking q write long sequence step) is fits = absurd fits
 
   rests_first : (op : Op) → FitsOp s who op place → Rests s who.actor

@@ -49,7 +49,7 @@ fork_place (forking p c done (copying page word)) prepared = copying_place page 
 fork_place (forking p c done failing) prepared = unbegun
 fork_place idle prepared = unbegun
 fork_place (marking p page f) prepared = unbegun
-fork_place (moving p page e count) prepared = unbegun
+fork_place (moving p page e allowed count) prepared = unbegun
 fork_place (walking p write long sequence step) prepared = unbegun
 
 -- where the fork of this actor stands, if it does one
@@ -92,14 +92,14 @@ StandsFork s a p child (forking q c done (lowered page)) prepared = ⊥
 StandsFork s a p child (forking q c done (cleared page)) prepared = ⊥
 StandsFork s a p child (forking q c done failing) prepared = ⊥
 StandsFork s a p child (marking q page f) prepared = ⊥
-StandsFork s a p child (moving q page e count) prepared = ⊥
+StandsFork s a p child (moving q page e allowed count) prepared = ⊥
 StandsFork s a p child (walking q write long sequence step) prepared = ⊥
 
 -- an actor keeps a frame only where its fork copies a page
 abbrev pub KeepsFrame : Job → (prepared : Option ℕ) → Type 0
 KeepsFrame idle prepared = prepared ≡ None
 KeepsFrame (marking q page f) prepared = prepared ≡ None
-KeepsFrame (moving q page e count) prepared = prepared ≡ None
+KeepsFrame (moving q page e allowed count) prepared = prepared ≡ None
 KeepsFrame (walking q write long sequence step) prepared = prepared ≡ None
 KeepsFrame (forking q c done between) prepared = prepared ≡ None
 KeepsFrame (forking q c done (counted page)) prepared = prepared ≡ None

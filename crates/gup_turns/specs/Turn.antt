@@ -427,7 +427,7 @@ fork_turn s a p child (forking q c done step) = fork_step_turn s a p child done 
 fork_turn s a p child idle =
     record { events = begin_fork a p child ∷ []; whats = Event (events.ForkBegin p child) ∷ [] }
 fork_turn s a p child (marking q page f) = record { events = []; whats = Silent ∷ [] }
-fork_turn s a p child (moving q page e count) = record { events = []; whats = Silent ∷ [] }
+fork_turn s a p child (moving q page e allowed count) = record { events = []; whats = Silent ∷ [] }
 fork_turn s a p child (walking q write long sequence step) = record { events = []; whats = Silent ∷ [] }
 
 -- the turn of an operation of a born process, or of a device with so many slots, of which so many turns are over
