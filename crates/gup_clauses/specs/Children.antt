@@ -12,7 +12,7 @@ forking_keeps : (job : Job) (k : Forking) → forking_of job ≡ Some k → keep
 forking_keeps (forking p c done step) k is = cc
 forking_keeps idle k is = absurd (cc)
 forking_keeps (marking p page f) k is = absurd (cc)
-forking_keeps (moving p page e count) k is = absurd (cc)
+forking_keeps (moving p page e allowed count) k is = absurd (cc)
 forking_keeps (walking p write long sequence step) k is = absurd (cc)
 
 pub birth_goes : (k : Forking) → is_failing k.step ≡ false → birth_of_child k ≡ growing k.proc

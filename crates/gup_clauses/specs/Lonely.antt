@@ -15,7 +15,7 @@ use Rattle.gup_clauses.specs.Holders.{kind, first, second, by_holder}
 use Rattle.gup_clauses.specs.Tally.{held_weighs, held_weigh}
 
 moving_keeps : (job : Job) (m : Moving) → moving_of job ≡ Some m → keeps_table job ≡ Some m.proc
-moving_keeps (moving p page e count) m is = cc
+moving_keeps (moving p page e allowed count) m is = cc
 moving_keeps idle m is = absurd (cc)
 moving_keeps (marking p page f) m is = absurd (cc)
 moving_keeps (forking p c done step) m is = absurd (cc)

@@ -36,7 +36,7 @@ pub prepares_before : (job : Job) (k : Forking) (g n : ℕ) → MayPrepare job �
 prepares_before (forking p c done step) k g n may is at = prepares_at step p c done g n may (cc)
 prepares_before idle k g n may is at = absurd (cc)
 prepares_before (marking p page f) k g n may is at = absurd (cc)
-prepares_before (moving p page e count) k g n may is at = absurd (cc)
+prepares_before (moving p page e allowed count) k g n may is at = absurd (cc)
 prepares_before (walking p write long sequence step) k g n may is at = absurd (cc)
 
 -- a fork that begins, ends or fails makes an even sequence odd, and an odd one even

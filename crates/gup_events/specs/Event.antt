@@ -2,9 +2,12 @@
 use Rattle.std.specs.Prelude.{◌≡◌, ℕ, ◌+◌, ◌-◌, ◌*◌, ◌/◌, ◌%◌, ◌<◌, ◌≤◌, ◌==◌, ◌&&◌, ◌||◌, nat_le, nat_lt, not, Bool, true, false, if◌then◌else◌, List, [], ◌∷◌, ◌++◌, map, length, slice_get, All, Contains, Option, Some, None, IsSome, zero, suc}
 use Rattle.std.specs.Option.{option_map}
 pub use Rattle.gup_base.specs.Counts.{bias}
+use Rattle.gup_base.specs.declared.entry.Allowed.{Allowed}
+use Rattle.gup_base.specs.declared.entry.Allowed.TheVariants.{Any, Only}
 use Rattle.gup_base.specs.declared.entry.Entry.{Entry}
 use Rattle.gup_base.specs.declared.entry.Rights.{Rights}
 use Rattle.gup_base.specs.declared.entry.Rights.TheVariants.{R, RW}
+use Rattle.gup_base.specs.declared.entry.Zone.TheVariants.{Movable, Normal}
 use Rattle.gup_plain.specs.declared.event.PlainEvent.{PlainEvent}
 use Rattle.gup_plain.specs.declared.event.PlainEvent.TheVariants as events
 use Rattle.gup_plain.specs.Event.{happened, most_pages, page_numbers, words, most_slots, IsHeldBy, IsGivenTo, may_write, given_to, held_by, object_at}
@@ -45,14 +48,14 @@ pub data CoreEvent : Type 0 where
   put_reference : (a f k : ℕ) → CoreEvent
   -- moves
 
-  -- the entry is cleared, and the table lock kept
-  clear_entry : (a p page : ℕ) (entry : Entry) → CoreEvent
+  -- the entry is cleared, and the table lock kept; which zones the page may move to
+  clear_entry : (a p page : ℕ) (entry : Entry) (allowed : Allowed) → CoreEvent
   -- the count of its frame is read
-  count_moved : (a p page : ℕ) (entry : Entry) (count : ℕ) → CoreEvent
-  -- after a count of 1 the prepared frame takes its place; the old reference is owed
-  place_frame : (a p page f : ℕ) (entry : Entry) → CoreEvent
+  count_moved : (a p page : ℕ) (entry : Entry) (allowed : Allowed) (count : ℕ) → CoreEvent
+  -- after a count of 1 the prepared frame, of an allowed zone, takes its place; the old reference is owed
+  place_frame : (a p page f : ℕ) (entry : Entry) (allowed : Allowed) → CoreEvent
   -- the entry is put back
-  restore_entry : (a p page : ℕ) (entry : Entry) (count : Counted) → CoreEvent
+  restore_entry : (a p page : ℕ) (entry : Entry) (allowed : Allowed) (count : Counted) → CoreEvent
   -- fork of process p into c, of which these pages are done
 
   begin_fork : (a p c : ℕ) → CoreEvent
@@ -122,7 +125,7 @@ pub data CoreEvent : Type 0 where
 -- the actor may take a frame: between operations, for a move that has read the count 1, for a fork's copy
 abbrev pub MayPrepare : Job → Type 0
 MayPrepare idle = Unit {0}
-MayPrepare (moving p page entry one) = Unit {0}
+MayPrepare (moving p page entry allowed one) = Unit {0}
 MayPrepare (forking p child done (copying page zero)) = Unit {0}
 MayPrepare _ = ⊥
 
@@ -145,6 +148,12 @@ entry_of f writable = record { frame = f; writable = writable }
 -- the movable frames have the lower numbers
 abbrev pub IsNormal : CoreState → ℕ → Type 0
 IsNormal s f = s.movable ≤ f
+
+-- a frame that a move to these zones may take
+abbrev pub IsAllowed : CoreState → Allowed → ℕ → Type 0
+IsAllowed s Any f = Unit {0}
+IsAllowed s (Only Movable) f = f < s.movable
+IsAllowed s (Only Normal) f = IsNormal s f
 
 -- an entry and a frame that are right for a pin
 abbrev pub AllowsPin : CoreState → Entry → (write long : Bool) → Type 0
@@ -187,7 +196,7 @@ MayFail _ = Unit {0}
 
 -- what a mover makes of the count that it read
 abbrev pub counted_as : ℕ → Counted
-counted_as count = if count == 1 then one else more
+counted_as count = if count == 1 then one else more count
 
 -- a device's word: the actor holds the handle, whose pin still has the page of this index, and its store has the slot
 abbrev pub CanMove : CoreState → (a h index slot f : ℕ) → Type 0
@@ -253,13 +262,15 @@ Can s (get_reference a p page f k writable) =
     (s.birth p ≡ born) × AreUnlocked s p × (s.entry p page ≡ Some (entry_of f writable)) × (s.got k ≡ None)
 Can s (put_reference a f k) = s.got k ≡ Some (a, f)
 -- moves
-Can s (clear_entry a p page e) =
+Can s (clear_entry a p page e allowed) =
     (s.birth p ≡ born) × (s.table p ≡ None) × IsIdle s a × (s.owed a ≡ None) × (s.entry p page ≡ Some e)
     × IsUnmirrored s p page
-Can s (count_moved a p page e count) = (s.job a ≡ moving p page e unread) × (count ≡ s.count e.frame)
-Can s (place_frame a p page f e) = (s.job a ≡ moving p page e one) × (s.prepared a ≡ Some f) × (s.owed a ≡ None)
-Can s (restore_entry a p page e count) =
-    (s.job a ≡ moving p page e count) × (count ≡ unread → ⊥) × (s.prepared a ≡ None)
+Can s (count_moved a p page e allowed count) =
+    (s.job a ≡ moving p page e allowed unread) × (count ≡ s.count e.frame)
+Can s (place_frame a p page f e allowed) =
+    (s.job a ≡ moving p page e allowed one) × (s.prepared a ≡ Some f) × (s.owed a ≡ None) × IsAllowed s allowed f
+Can s (restore_entry a p page e allowed count) =
+    (s.job a ≡ moving p page e allowed count) × (count ≡ unread → ⊥) × (s.prepared a ≡ None)
 -- fork
 Can s (begin_fork a p c) =
     (s.birth p ≡ born) × (s.birth c ≡ unborn) × AreUnlocked s p × IsIdle s a × (s.owed a ≡ None) × (s.taken a ≡ [])
@@ -413,14 +424,15 @@ happens s (get_reference a p page f k writable) =
     record s { count = put f (s.count f + 1) s.count; got = put k (Some (a, f)) s.got }
 happens s (put_reference a f k) = record (without_references f 1 s) { got = put k None s.got }
 -- moves
-happens s (clear_entry a p page e) =
+happens s (clear_entry a p page e allowed) =
     record s {
       entry = put2 p page None s.entry;
       table = put p (Some a) s.table;
-      job = put a (moving p page e unread) s.job;
+      job = put a (moving p page e allowed unread) s.job;
     }
-happens s (count_moved a p page e count) = record s { job = put a (moving p page e (counted_as count)) s.job }
-happens s (place_frame a p page f e) =
+happens s (count_moved a p page e allowed count) =
+    record s { job = put a (moving p page e allowed (counted_as count)) s.job }
+happens s (place_frame a p page f e allowed) =
     record s {
       entry = put2 p page (Some (entry_of f e.writable)) s.entry;
       mark = put f (s.mark e.frame) s.mark;
@@ -431,7 +443,7 @@ happens s (place_frame a p page f e) =
       prepared = put a None s.prepared;
       owed = put a (Some e.frame) s.owed;
     }
-happens s (restore_entry a p page e count) =
+happens s (restore_entry a p page e allowed count) =
     record s { entry = put2 p page (Some e) s.entry; table = put p None s.table; job = put a idle s.job }
 -- fork
 happens s (begin_fork a p c) =

@@ -3,6 +3,7 @@
 -- pin, what a walk has taken is as good as pinned while no fork has begun, frames have the bytes that the plain model
 -- says, and what is pinned for long is of the normal zone.
 use Rattle.std.specs.Prelude.{◌≡◌, ℕ, ◌+◌, ◌<◌, ◌≤◌, ◌⊎◌, Bool, true, false, not, List, [], ◌∷◌, length, slice_get, Contains, sum_by, Option, Some, None, IsSome, suc}
+use Rattle.gup_base.specs.declared.entry.Allowed.{Allowed}
 use Rattle.gup_base.specs.declared.entry.Entry.{Entry}
 use Rattle.gup_base.specs.declared.entry.Rights.{Rights}
 use Rattle.gup_base.specs.declared.entry.Rights.TheVariants.{RW}
@@ -33,7 +34,7 @@ frame_of None = None
 frame_of (Some e) = Some e.frame
 
 abbrev pub cleared_frame : Job → Option ℕ
-cleared_frame (moving p page e count) = Some e.frame
+cleared_frame (moving p page e allowed count) = Some e.frame
 cleared_frame job = None
 
 abbrev pub got_frame : Option (ℕ × ℕ) → Option ℕ
@@ -93,7 +94,7 @@ CountsReferences s =
 
 -- the actor has cleared the entry of this page
 abbrev pub HasCleared : CoreState → (a p page : ℕ) → Entry → Type 0
-HasCleared s a p page e = (count : Counted) × (s.job a ≡ moving p page e count)
+HasCleared s a p page e = (allowed : Allowed) × (count : Counted) × (s.job a ≡ moving p page e allowed count)
 
 -- the page's entry, or the one that was cleared
 abbrev pub IsEntry : CoreState → (p page : ℕ) → Entry → Type 0
@@ -192,8 +193,8 @@ pub record IsParted (s : CoreState) : Type 0 where
   -- and each walk of that process is disturbed
   pub share_walk : (a p c page b : ℕ) (done : List ℕ) (step : ForkStep) (walk : WalkStep) → s.job a ≡ forking p c done step → IsSharing step page → IsUndisturbed s b p walk → ⊥
   -- the frame that a mover has cleared and counted once is under no settled pin, and no walk has taken it
-  pub move : (a p page : ℕ) (e : Entry) → s.job a ≡ moving p page e one → IsUnpinned s e.frame
-  pub move_walk : (a p page b : ℕ) (e : Entry) (t : Taken) → s.job a ≡ moving p page e one → Contains (s.taken b) t → t.frame ≡ e.frame → ⊥
+  pub move : (a p page : ℕ) (e : Entry) (allowed : Allowed) → s.job a ≡ moving p page e allowed one → IsUnpinned s e.frame
+  pub move_walk : (a p page b : ℕ) (e : Entry) (allowed : Allowed) (t : Taken) → s.job a ≡ moving p page e allowed one → Contains (s.taken b) t → t.frame ≡ e.frame → ⊥
 
 -- 6. Bytes: what the plain state says of objects is so in frames
 

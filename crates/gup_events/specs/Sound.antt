@@ -54,7 +54,7 @@ marking_of (marking p page f) = Some (record { proc = p; page = page; frame = f 
 marking_of job = None
 
 abbrev pub moving_of : Job → Option Moving
-moving_of (moving p page e count) = Some (record { proc = p; page = page; entry = e; count = count })
+moving_of (moving p page e allowed count) = Some (record { proc = p; page = page; entry = e; count = count })
 moving_of job = None
 
 abbrev pub forking_of : Job → Option Forking
@@ -143,7 +143,7 @@ birth_of_child k = if is_failing k.step then failed else growing k.proc
 abbrev pub keeps_table : Job → Option ℕ
 keeps_table idle = None
 keeps_table (marking p page f) = Some p
-keeps_table (moving p page e count) = Some p
+keeps_table (moving p page e allowed count) = Some p
 keeps_table (forking p c done between) = None
 keeps_table (forking p c done (counted page)) = Some p
 keeps_table (forking p c done (lowered page)) = Some p

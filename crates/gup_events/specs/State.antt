@@ -1,6 +1,7 @@
 -- The state of the core machine: frames with counts and marks, processes with entries and locks, pins, and what
 -- each actor is in the middle of.
 use Rattle.std.specs.Prelude.{ℕ, Bool, false, if◌then◌else◌, List, [], map, Option, None}
+use Rattle.gup_base.specs.declared.entry.Allowed.{Allowed}
 use Rattle.gup_base.specs.declared.entry.Entry.{Entry}
 use Rattle.gup_base.specs.declared.entry.Rights.{Rights}
 use Rattle.gup_plain.specs.State.{PlainState, Birth, Handle, Pending, Noted, born, unborn, unmade, named_or_zero}
@@ -9,7 +10,7 @@ use Rattle.gup_plain.specs.State.{PlainState, Birth, Handle, Pending, Noted, bor
 pub data Counted : Type 0 where
   unread : Counted
   one : Counted
-  more : Counted
+  more : (count : ℕ) → Counted
 
 -- where a fork is: between two pages, in the share of a page, in the copy of a page with so many words copied,
 -- or giving back what the child has
@@ -39,8 +40,8 @@ pub data Job : Type 0 where
   idle : Job
   -- it has read the count 1 of this page's frame, and is about to mark it
   marking : (p page frame : ℕ) → Job
-  -- it has cleared this page's entry
-  moving : (p page : ℕ) (entry : Entry) (count : Counted) → Job
+  -- it has cleared this page's entry, to move the page to a frame of these zones
+  moving : (p page : ℕ) (entry : Entry) (allowed : Allowed) (count : Counted) → Job
   forking : (p child : ℕ) (done : List ℕ) (step : ForkStep) → Job
   walking : (p : ℕ) (write long : Bool) (sequence : ℕ) (step : WalkStep) → Job
 

@@ -12,7 +12,7 @@ use Rattle.gup_jobs.specs.declared.walk.WalkStep.TheVariants as walks
 abbrev pub count_of : Count → Counted
 count_of counts.Unread = unread
 count_of counts.One = one
-count_of counts.More = more
+count_of (counts.More count) = more count
 
 abbrev pub step_of : Step → ForkStep
 step_of steps.Between = between
@@ -37,6 +37,6 @@ walk_of walks.Over = over
 abbrev pub job_of : Stage → Job
 job_of stages.Idle = idle
 job_of (stages.Marking p page f) = marking p page f
-job_of (stages.Moving p page e count) = moving p page e (count_of count)
+job_of (stages.Moving p page e allowed count) = moving p page e allowed (count_of count)
 job_of (stages.Forking p c done step) = forking p c done.items (step_of step)
 job_of (stages.Walking p write long sequence step) = walking p write long sequence (walk_of step)

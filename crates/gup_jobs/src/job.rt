@@ -6,7 +6,7 @@ ghost use Rattle.gup_jobs.specs.Job.{job_of, step_of, count_of, walk_of};
 
 use crate::lists;
 use crate::walk::WalkStep;
-use gup_base::{Entry, FrameNo, PageNo, ProcNo};
+use gup_base::{Allowed, Entry, FrameNo, PageNo, ProcNo};
 use std::marker::Model;
 
 /// What a mover has read of the count of the frame that it took out of its entry.
@@ -16,8 +16,8 @@ pub enum Counted {
     Unread,
     /// That it is 1.
     One,
-    /// That it is not 1.
-    More,
+    /// That it is this, and not 1.
+    More(u64),
 }
 
 /// Where a fork is.
@@ -44,8 +44,8 @@ pub enum Stage {
     Idle,
     /// It has read the count 1 of this page's frame, and is about to mark it.
     Marking(ProcNo, PageNo, FrameNo),
-    /// It has cleared this page's entry.
-    Moving(ProcNo, PageNo, Entry, Counted),
+    /// It has cleared this page's entry, to move the page to these zones.
+    Moving(ProcNo, PageNo, Entry, Allowed, Counted),
     /// It forks the first process into the second. These pages are done, the last one first.
     Forking(ProcNo, ProcNo, Vec<PageNo>, ForkStep),
     /// It pins pages of the process by a lockless walk.
@@ -96,12 +96,12 @@ impl Job {
         }
     }
 
-    /// Moving the page.
-    pub fn moving(p: ProcNo, page: PageNo, entry: Entry, count: Counted) -> Job
-        ensures { result ≡ moving p page entry (count_of count) }
+    /// Moving the page to these zones.
+    pub fn moving(p: ProcNo, page: PageNo, entry: Entry, allowed: Allowed, count: Counted) -> Job
+        ensures { result ≡ moving p page entry allowed (count_of count) }
     {
         Job {
-            stage: Stage::Moving(p, page, entry, count),
+            stage: Stage::Moving(p, page, entry, allowed, count),
         }
     }
 
@@ -156,12 +156,22 @@ impl Job {
         }
     }
 
-    /// Whether it moves the page, and has read this of its frame's count.
-    pub fn is_moving(&self, p: ProcNo, page: PageNo, entry: Entry, count: Counted) -> bool
-        ensures { IsTrue result ↔ (self.now ≡ moving p page entry (count_of count)) }
+    /// Whether it moves the page to these zones, and has read this of its frame's count.
+    pub fn is_moving(
+        &self,
+        p: ProcNo,
+        page: PageNo,
+        entry: Entry,
+        allowed: Allowed,
+        count: Counted,
+    ) -> bool
+        ensures { IsTrue result ↔ (self.now ≡ moving p page entry allowed (count_of count)) }
     {
         match &self.stage {
-            Stage::Moving(proc, at, was, read) => {
+            Stage::Moving(proc, at, was, zones, read) => {
+                if *zones != allowed {
+                    return false;
+                }
                 *proc == p && *at == page && *was == entry && *read == count
             }
             _ => false,
@@ -232,7 +242,7 @@ impl Job {
     {
         match &self.stage {
             Stage::Idle => true,
-            Stage::Moving(_, _, _, Counted::One) => true,
+            Stage::Moving(_, _, _, _, Counted::One) => true,
             Stage::Forking(_, _, _, ForkStep::Copying(_, n)) => *n == 0,
             _ => false,
         }

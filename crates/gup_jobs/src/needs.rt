@@ -198,7 +198,7 @@ pub fn counted_as(count: u64) -> Counted
     if count == 1 {
         Counted::One
     } else {
-        Counted::More
+        Counted::More(count)
     }
 }
 
@@ -208,7 +208,7 @@ pub fn is_read(count: Counted) -> bool
 {
     match count {
         Counted::Unread => false,
-        Counted::One | Counted::More => true,
+        Counted::One | Counted::More(_) => true,
     }
 }
 

@@ -18,7 +18,7 @@ none_twice (x ∷ xs) ys one two apart =
     (again, none_twice xs ys one.1 two later)
 
 moved_is : (job : Job) → cleared_frame job ≡ moved_frame (moving_of job)
-moved_is (moving p page e count) = refl
+moved_is (moving p page e allowed count) = refl
 moved_is idle = refl
 moved_is (marking p page f) = refl
 moved_is (forking p c done step) = refl
@@ -28,7 +28,7 @@ grabbed_is : (job : Job) → grabbed_frame job ≡ walk_frame (walking_of job)
 grabbed_is (walking p write long sequence step) = refl
 grabbed_is idle = refl
 grabbed_is (marking p page f) = refl
-grabbed_is (moving p page e count) = refl
+grabbed_is (moving p page e allowed count) = refl
 grabbed_is (forking p c done step) = refl
 
 module _ (v : View) (s : CoreState) (h : IsSoundBy v s) where

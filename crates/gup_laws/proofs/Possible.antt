@@ -119,7 +119,7 @@ they_can_happen =
     and_then (refl, refl, (refl, refl), refl, refl, (λ m noted is at proc page. emptied m is))
     and_then (refl, refl)
     and_then (tt, refl, omega arith, refl)
-    and_then (refl, refl, refl)
+    and_then (refl, refl, refl, omega arith)
     and_then refl
     and_then (refl, (refl, refl), refl, refl)
     and_then (refl, refl, (refl, refl), refl, refl, (λ m noted is at proc page. emptied m is))

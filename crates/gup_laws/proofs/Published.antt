@@ -1,13 +1,14 @@
 -- What is published of a sound state follows from its clauses.
 use Rattle.std.proofs.Common.{◌≡◌, ℕ, ◌+◌, ◌<◌, ◌≤◌, inl, inr, Bool, true, false, List, length, refl, ap, sym, ◌∙◌, subst, arith}
 use Rattle.std.specs.Prelude.{Option, Some, None, IsSome, Contains, slice_get, not, suc}
+use Rattle.gup_base.specs.declared.entry.Allowed.{Allowed}
 use Rattle.gup_base.specs.declared.entry.Entry.{Entry}
 use Rattle.gup_base.specs.declared.entry.Rights.{Rights}
 use Rattle.gup_base.specs.declared.entry.Rights.TheVariants.{R, RW}
 use Rattle.gup_plain.specs.State.{born, failed}
 use Rattle.gup_events.specs.State.{CoreState, Taken, Counted, one, Job, idle, marking, moving, forking, walking, ForkStep, between, counted, lowered, cleared, copying, failing, WalkStep, entered, ready, read, grabbed, rechecked, differed, refused, stopped, dropping, over}
 use Rattle.gup_events.specs.Event.{bias, is_odd}
-use Rattle.gup_events.specs.Invariant.{IsEntry, Names, IsSettled, IsExclusive, IsSharing, IsUndisturbed, IsParted, IsUncopied, StandsFor, IsAsPinned, AwaitsMark, IsWalked, AreNormal, Holds, frame_of, is_unsettled}
+use Rattle.gup_events.specs.Invariant.{HasCleared, IsEntry, Names, IsSettled, IsExclusive, IsSharing, IsUndisturbed, IsParted, IsUncopied, StandsFor, IsAsPinned, AwaitsMark, IsWalked, AreNormal, Holds, frame_of, is_unsettled}
 use Rattle.gup_events.specs.Sound.{View, Moving, Forking, Walking, moving_of, forking_of, walking_of, is_open, is_failing, unkept, shared_page, IsUncopiedBy, IsSoundBy}
 use Rattle.gup_clauses.specs.Rows.{contains_at, at_within}
 use Rattle.gup_clauses.specs.Done.{some_there}
@@ -17,8 +18,8 @@ use Rattle.gup_laws.proofs.Counted.{walked_is, counts}
 
 -- 1. Jobs, back from what they are seen as
 
-job_moving : (job : Job) (m : Moving) → moving_of job ≡ Some m → job ≡ moving m.proc m.page m.entry m.count
-job_moving (moving p page e count) m is = cc
+job_moving : (job : Job) (m : Moving) → moving_of job ≡ Some m → (allowed : Allowed) × (job ≡ moving m.proc m.page m.entry allowed m.count)
+job_moving (moving p page e allowed count) m is = (allowed, cc)
 job_moving idle m is = absurd (cc)
 job_moving (marking p page f) m is = absurd (cc)
 job_moving (forking p c done step) m is = absurd (cc)
@@ -28,14 +29,14 @@ job_forking : (job : Job) (k : Forking) → forking_of job ≡ Some k → job �
 job_forking (forking p c done step) k is = cc
 job_forking idle k is = absurd (cc)
 job_forking (marking p page f) k is = absurd (cc)
-job_forking (moving p page e count) k is = absurd (cc)
+job_forking (moving p page e allowed count) k is = absurd (cc)
 job_forking (walking p write long sequence step) k is = absurd (cc)
 
 unsettled_is : (job : Job) → is_open (walking_of job) ≡ is_unsettled job
 unsettled_is (walking p write long sequence step) = refl
 unsettled_is idle = refl
 unsettled_is (marking p page f) = refl
-unsettled_is (moving p page e count) = refl
+unsettled_is (moving p page e allowed count) = refl
 unsettled_is (forking p c done step) = refl
 
 sharing_is : (step : ForkStep) (page : ℕ) → IsSharing step page → shared_page step ≡ Some page
@@ -73,8 +74,8 @@ framed (Some e) f is = (e, refl, cc)
 module _ (v : View) (s : CoreState) (h : IsSoundBy v s) where
   -- 2. Entries
 
-  is_moving : (a p page : ℕ) (e : Entry) (count : Counted) → s.job a ≡ moving p page e count → v.moves a ≡ Some (record { proc = p; page = page; entry = e; count = count })
-  is_moving a p page e count is = h.moves_are a ∙ ap moving_of is
+  is_moving : (a p page : ℕ) (e : Entry) (allowed : Allowed) (count : Counted) → s.job a ≡ moving p page e allowed count → v.moves a ≡ Some (record { proc = p; page = page; entry = e; count = count })
+  is_moving a p page e allowed count is = h.moves_are a ∙ ap moving_of is
 
   is_forking : (a p c : ℕ) (done : List ℕ) (step : ForkStep) → s.job a ≡ forking p c done step → v.forks a ≡ Some (record { proc = p; child = c; done = done; step = step })
   is_forking a p c done step is = h.forks_are a ∙ ap forking_of is
@@ -89,18 +90,19 @@ module _ (v : View) (s : CoreState) (h : IsSoundBy v s) where
   entry_whole : (p page : ℕ) (e : Entry) → IsEntry s p page e → v.whole p page ≡ Some e
   entry_whole p page e (inl is) = h.whole_entry p page e is
   entry_whole p page e (inr is) =
-      h.whole_moved is.0 (record { proc = p; page = page; entry = e; count = is.1.0 }) (is_moving is.0 p page e is.1.0 is.1.1)
+      h.whole_moved is.0 (record { proc = p; page = page; entry = e; count = is.1.1.0 }) (is_moving is.0 p page e is.1.0 is.1.1.0 is.1.1.1)
 
-  job_cleared : (a p page : ℕ) (e : Entry) (m : Moving) → v.moves a ≡ Some m → m.proc ≡ p → m.page ≡ page → m.entry ≡ e → s.job a ≡ moving p page e m.count
+  job_cleared : (a p page : ℕ) (e : Entry) (m : Moving) → v.moves a ≡ Some m → m.proc ≡ p → m.page ≡ page → m.entry ≡ e → HasCleared s a p page e
   job_cleared a p page e m is proc number entry =
-      let job : s.job a ≡ moving m.proc m.page m.entry m.count = job_moving (s.job a) m (sym (h.moves_are a) ∙ is) in
-      cc
+      let job = job_moving (s.job a) m (sym (h.moves_are a) ∙ is) in
+      let made : s.job a ≡ moving m.proc m.page m.entry job.0 m.count = job.1 in
+      (job.0, m.count, cc)
 
   whole_entry : (p page : ℕ) (e : Entry) → v.whole p page ≡ Some e → IsEntry s p page e
   whole_entry p page e is =
       elim (whole_is v s h p page e is) [
         | inl there ↦ inl there
-        | inr moved ↦ inr (moved.0, (moved.1.count, job_cleared moved.0 p page e moved.1 moved.2 moved.3 moved.4 moved.5))
+        | inr moved ↦ inr (moved.0, (job_cleared moved.0 p page e moved.1 moved.2 moved.3 moved.4 moved.5))
       ]
 
   -- 3. Settled pins
@@ -180,10 +182,10 @@ module _ (v : View) (s : CoreState) (h : IsSoundBy v s) where
   exclusive =
       record {
         writable = λ p page e is w. (h.entry_marked p page e (entry_whole p page e is) w, allowed p page e (entry_whole p page e is) w);
-        cleared_gone = λ a p page e is. h.moved_gone a (record { proc = p; page = page; entry = e; count = is.0 }) (is_moving a p page e is.0 is.1);
+        cleared_gone = λ a p page e is. h.moved_gone a (record { proc = p; page = page; entry = e; count = is.1.0 }) (is_moving a p page e is.0 is.1.0 is.1.1);
         cleared_once = λ a b p page d e is that.
-            let first : s.table p ≡ Some a = h.moves_table a (record { proc = p; page = page; entry = d; count = is.0 }) (is_moving a p page d is.0 is.1) in
-            let second : s.table p ≡ Some b = h.moves_table b (record { proc = p; page = page; entry = e; count = that.0 }) (is_moving b p page e that.0 that.1) in
+            let first : s.table p ≡ Some a = h.moves_table a (record { proc = p; page = page; entry = d; count = is.1.0 }) (is_moving a p page d is.0 is.1.0 is.1.1) in
+            let second : s.table p ≡ Some b = h.moves_table b (record { proc = p; page = page; entry = e; count = that.1.0 }) (is_moving b p page e that.0 that.1.0 that.1.1) in
             cc;
         one_entry = λ p page q g d e is that. one_page p page q g d e (entry_whole p page d is) (entry_whole q g e that);
         pin_marked = settled_marked;
@@ -208,14 +210,14 @@ module _ (v : View) (s : CoreState) (h : IsSoundBy v s) where
       let even : is_odd sequence ≡ false = h.walk_even b (record { proc = p; write = write; long = long; sequence = sequence; step = walk }) (is_walking b p write long sequence walk walks) inside in
       even_apart sequence (s.sequence p) even odd (sym same)
 
-  moved_once : (a p page : ℕ) (e : Entry) → s.job a ≡ moving p page e one → v.references e.frame ≡ 1
-  moved_once a p page e is = h.moving_once a (record { proc = p; page = page; entry = e; count = one }) (is_moving a p page e one is) refl
+  moved_once : (a p page : ℕ) (e : Entry) (allowed : Allowed) → s.job a ≡ moving p page e allowed one → v.references e.frame ≡ 1
+  moved_once a p page e allowed is = h.moving_once a (record { proc = p; page = page; entry = e; count = one }) (is_moving a p page e allowed one is) refl
 
-  untaken : (a p page b : ℕ) (e : Entry) (t : Taken) → s.job a ≡ moving p page e one → Contains (s.taken b) t → t.frame ≡ e.frame → ⊥
-  untaken a p page b e t is has same =
+  untaken : (a p page b : ℕ) (e : Entry) (allowed : Allowed) (t : Taken) → s.job a ≡ moving p page e allowed one → Contains (s.taken b) t → t.frame ≡ e.frame → ⊥
+  untaken a p page b e allowed t is has same =
       let at = contains_at (s.taken b) t has in
       let counts : bias ≤ v.references e.frame = subst (λ f. bias ≤ v.references f) same (taken_counts v s h b at.0 t at.1) in
-      omega (arith, moved_once a p page e is, counts)
+      omega (arith, moved_once a p page e allowed is, counts)
 
   parted : IsParted s
   parted =
@@ -223,7 +225,7 @@ module _ (v : View) (s : CoreState) (h : IsSoundBy v s) where
         share = λ a p c page done step e is sharing here o.
             unshared a page (record { proc = p; child = c; done = done; step = step }) e o (is_forking a p c done step is) (sharing_is step page sharing) (h.whole_entry p page e here);
         share_walk = disturbed;
-        move = λ a p page e is o settled. omega (arith, moved_once a p page e is, settled_counts e.frame o settled);
+        move = λ a p page e allowed is o settled. omega (arith, moved_once a p page e allowed is, settled_counts e.frame o settled);
         move_walk = untaken;
       }
 

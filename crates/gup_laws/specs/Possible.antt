@@ -1,7 +1,9 @@
 -- A run that shows that the laws speak of something: pages are mapped, written, mirrored, pinned, shared, copied, moved
 -- and given back, forks end and fail, and walks pin a page, miss it, and drop it, disturbed by a fork.
 use Rattle.std.specs.Prelude.{ℕ, ◌==◌, Bool, true, false, List, [], ◌∷◌, Some}
+use Rattle.gup_base.specs.declared.entry.Allowed.TheVariants.{Any, Only}
 use Rattle.gup_base.specs.declared.entry.Rights.TheVariants.{RW}
+use Rattle.gup_base.specs.declared.entry.Zone.TheVariants.{Normal}
 use Rattle.gup_events.specs.State.{Taken, more, between, ready, stopped}
 use Rattle.gup_events.specs.Event.{CoreEvent, entry_of, map_pages, take_frame, fill, upgrade, store, load, fill_mirror, look, empty_mirror, raise_flag, pin_page, make_handle, move_in, move_out, give_handle, take_handle, unpin_page, begin_fork, count_page, share_entry, share_mark, share_child, end_fork, break_entry, put_entry, count_one, set_mark, clear_entry, count_moved, place_frame, get_reference, restore_entry, put_reference, lower_entry, protect_pages, drop_entry, discard_entry, pass_page, fail_fork, release_fork, fail_unborn, put_child, copy_word, enter_walk, read_sequence, read_entry, grab_frame, miss_frame, recheck_same, recheck_other, read_mark, read_again, drop_grab, drop_last, drop_first, leave_walk}
 
@@ -85,15 +87,15 @@ one_run =
     ∷ put_entry 0 3
     ∷ count_one 1 1 7 3 false
     ∷ set_mark 1 1 7 3
-    ∷ clear_entry 3 1 7 (entry_of 3 false)
-    ∷ count_moved 3 1 7 (entry_of 3 false) 1
+    ∷ clear_entry 3 1 7 (entry_of 3 false) (Only Normal)
+    ∷ count_moved 3 1 7 (entry_of 3 false) (Only Normal) 1
     ∷ take_frame 3 5
-    ∷ place_frame 3 1 7 5 (entry_of 3 false)
+    ∷ place_frame 3 1 7 5 (entry_of 3 false) (Only Normal)
     ∷ put_entry 3 3
     ∷ get_reference 1 1 7 5 0 false
-    ∷ clear_entry 3 1 7 (entry_of 5 false)
-    ∷ count_moved 3 1 7 (entry_of 5 false) 2
-    ∷ restore_entry 3 1 7 (entry_of 5 false) more
+    ∷ clear_entry 3 1 7 (entry_of 5 false) Any
+    ∷ count_moved 3 1 7 (entry_of 5 false) Any 2
+    ∷ restore_entry 3 1 7 (entry_of 5 false) Any (more 2)
     ∷ put_reference 1 5 0
     ∷ lower_entry 0 0 7 4
     ∷ protect_pages 0 0 7 1 RW

@@ -2,6 +2,7 @@
 use Rattle.std.proofs.Common.{◌≡◌, ℕ, refl, sym, arith}
 use Rattle.std.specs.Prelude.{Some, None}
 use Rattle.std.proofs.lemmas.Bool.Decides.{nat_tests}
+use Rattle.gup_base.specs.declared.entry.Allowed.{Allowed}
 use Rattle.gup_base.specs.declared.entry.Entry.{Entry}
 use Rattle.gup_plain.specs.Put.{put, put2}
 use Rattle.gup_events.specs.State.{CoreState, idle, Counted, unread, one}
@@ -13,9 +14,9 @@ use Rattle.gup_clauses.specs.Steps.{shared_is_step}
 use Rattle.gup_clauses.specs.Lonely.{whole_alone, once_wholes, handle_counts, taken_counts, prepared_whole, prepared_alone}
 
 -- the page's entry is the one that the mover keeps
-pub simulates-clear_entry : (s : CoreState) (a p page : ℕ) (e : Entry) → IsSound s → Can s (clear_entry a p page e) → Simulates s (clear_entry a p page e)
-simulates-clear_entry s a p page e (v, h) c =
-    let S : CoreState = happens s (clear_entry a p page e) in
+pub simulates-clear_entry : (s : CoreState) (a p page : ℕ) (e : Entry) (allowed : Allowed) → IsSound s → Can s (clear_entry a p page e allowed) → Simulates s (clear_entry a p page e allowed)
+simulates-clear_entry s a p page e allowed (v, h) c =
+    let S : CoreState = happens s (clear_entry a p page e allowed) in
     let V : View = record v { moves = put a (Some (record { proc = p; page = page; entry = e; count = unread })) v.moves } in
     let free : s.table p ≡ None = c.1 in
     let idles : s.job a ≡ idle = c.2.0 in
@@ -47,9 +48,9 @@ simulates-clear_entry s a p page e (v, h) c =
     record { sound = (V, sound); can = tt; same = refl }
 
 -- a count of 1 is that of the mover's own reference
-pub simulates-count_moved : (s : CoreState) (a p page : ℕ) (e : Entry) (count : ℕ) → IsSound s → Can s (count_moved a p page e count) → Simulates s (count_moved a p page e count)
-simulates-count_moved s a p page e count (v, h) c =
-    let S : CoreState = happens s (count_moved a p page e count) in
+pub simulates-count_moved : (s : CoreState) (a p page : ℕ) (e : Entry) (allowed : Allowed) (count : ℕ) → IsSound s → Can s (count_moved a p page e allowed count) → Simulates s (count_moved a p page e allowed count)
+simulates-count_moved s a p page e allowed count (v, h) c =
+    let S : CoreState = happens s (count_moved a p page e allowed count) in
     let V : View = record v { moves = put a (Some (record { proc = p; page = page; entry = e; count = counted_as count })) v.moves } in
     let was : Moving = record { proc = p; page = page; entry = e; count = unread } in
     let mine : v.moves a ≡ Some was = grind (arith, h.moves_are a) in
@@ -73,9 +74,9 @@ simulates-count_moved s a p page e count (v, h) c =
 
 -- The new frame takes over the mark, the object and the words of the old one, which by its count of 1 is in no other
 -- entry and under no pin.
-pub simulates-place_frame : (s : CoreState) (a p page f : ℕ) (e : Entry) → IsSound s → Can s (place_frame a p page f e) → Simulates s (place_frame a p page f e)
-simulates-place_frame s a p page f e (v, h) c =
-    let S : CoreState = happens s (place_frame a p page f e) in
+pub simulates-place_frame : (s : CoreState) (a p page f : ℕ) (e : Entry) (allowed : Allowed) → IsSound s → Can s (place_frame a p page f e allowed) → Simulates s (place_frame a p page f e allowed)
+simulates-place_frame s a p page f e allowed (v, h) c =
+    let S : CoreState = happens s (place_frame a p page f e allowed) in
     let V : View = record v { whole = put2 p page (Some (entry_of f e.writable)) v.whole; moves = put a None v.moves } in
     let was : Moving = record { proc = p; page = page; entry = e; count = one } in
     let mine : v.moves a ≡ Some was = grind (arith, h.moves_are a) in
@@ -148,9 +149,9 @@ simulates-place_frame s a p page f e (v, h) c =
     record { sound = (V, sound); can = tt; same = refl }
 
 -- the page's entry is the same as before
-pub simulates-restore_entry : (s : CoreState) (a p page : ℕ) (e : Entry) (count : Counted) → IsSound s → Can s (restore_entry a p page e count) → Simulates s (restore_entry a p page e count)
-simulates-restore_entry s a p page e count (v, h) c =
-    let S : CoreState = happens s (restore_entry a p page e count) in
+pub simulates-restore_entry : (s : CoreState) (a p page : ℕ) (e : Entry) (allowed : Allowed) (count : Counted) → IsSound s → Can s (restore_entry a p page e allowed count) → Simulates s (restore_entry a p page e allowed count)
+simulates-restore_entry s a p page e allowed count (v, h) c =
+    let S : CoreState = happens s (restore_entry a p page e allowed count) in
     let V : View = record v { moves = put a None v.moves } in
     let was : Moving = record { proc = p; page = page; entry = e; count = count } in
     let mine : v.moves a ≡ Some was = grind (arith, h.moves_are a) in

@@ -3,6 +3,7 @@
 #![tactic(auto)]
 
 ghost use Rattle.std.specs.Prelude.{ℕ, Bool, List};
+ghost use Rattle.gup_base.specs.declared.entry.Allowed.{Allowed};
 ghost use Rattle.gup_base.specs.declared.entry.Entry.{Entry};
 ghost use Rattle.gup_events.specs.State.{Counted};
 ghost use Rattle.gup_events.specs.Event.{raise_flag, pin_page, make_handle, unpin_page, give_handle, take_handle, get_reference, put_reference, clear_entry, count_moved, place_frame, restore_entry};
@@ -22,8 +23,8 @@ pub fn pins_simulate()
 
 /// The events of a mover leave a sound state sound, and are their plain events.
 pub fn moves_simulate()
-    ensures clear_entry { (a p page : ℕ) (entry : Entry) → IsSimulated (clear_entry a p page entry) }
-    ensures count_moved { (a p page : ℕ) (entry : Entry) (count : ℕ) → IsSimulated (count_moved a p page entry count) }
-    ensures place_frame { (a p page f : ℕ) (entry : Entry) → IsSimulated (place_frame a p page f entry) }
-    ensures restore_entry { (a p page : ℕ) (entry : Entry) (count : Counted) → IsSimulated (restore_entry a p page entry count) }
+    ensures clear_entry { (a p page : ℕ) (entry : Entry) (allowed : Allowed) → IsSimulated (clear_entry a p page entry allowed) }
+    ensures count_moved { (a p page : ℕ) (entry : Entry) (allowed : Allowed) (count : ℕ) → IsSimulated (count_moved a p page entry allowed count) }
+    ensures place_frame { (a p page f : ℕ) (entry : Entry) (allowed : Allowed) → IsSimulated (place_frame a p page f entry allowed) }
+    ensures restore_entry { (a p page : ℕ) (entry : Entry) (allowed : Allowed) (count : Counted) → IsSimulated (restore_entry a p page entry allowed count) }
 {}

@@ -8,18 +8,26 @@ ghost use Rattle.gup_jobs.specs.Job.{count_of};
 ghost use Rattle.gup_rows.specs.Row.{at};
 
 use crate::trial::Trial;
-use gup_base::{ActorNo, Entry, FrameNo, PageNo, ProcNo};
+use gup_base::{ActorNo, Allowed, Entry, FrameNo, PageNo, ProcNo};
 use gup_jobs::job::{Counted, Job};
 use gup_jobs::needs::{counted_as, entry_to, is_entry, is_frame, is_read, need};
 use gup_jobs::refused::Refused;
 
 impl Trial {
-    // Whether the actor moves the page, and has read this of its frame's count.
-    fn is_moving(&self, a: ActorNo, p: ProcNo, page: PageNo, entry: &Entry, count: Counted) -> bool
-        ensures { IsTrue result ↔ (at self.now.job a ≡ moving p page entry.now (count_of count)) }
+    // Whether the actor moves the page to these zones, and has read this of its frame's count.
+    fn is_moving(
+        &self,
+        a: ActorNo,
+        p: ProcNo,
+        page: PageNo,
+        entry: &Entry,
+        allowed: Allowed,
+        count: Counted,
+    ) -> bool
+        ensures { IsTrue result ↔ (at self.now.job a ≡ moving p page entry.now allowed (count_of count)) }
     {
         let entry = entry_to(entry.frame, entry.writable);
-        self.job.get(a).is_moving(p, page, entry, count)
+        self.job.get(a).is_moving(p, page, entry, allowed, count)
     }
 
     /// The entry is cleared, and the table lock kept.
@@ -29,8 +37,9 @@ impl Trial {
         p: ProcNo,
         page: PageNo,
         entry: Entry,
+        allowed: Allowed,
     ) -> Result<(), Refused>
-        ensures { Tried (state_of self.old) (state_of self.new) (core.clear_entry a p page entry) result }
+        ensures { Tried (state_of self.old) (state_of self.new) (core.clear_entry a p page entry allowed) result }
     {
         need(self.procs.is_born(p))?;
         need(self.table.get(p).is_none())?;
@@ -42,7 +51,7 @@ impl Trial {
         self.entry.put_at(p, page, None, row);
         self.table.put(p, Some(a));
         self.job
-            .put(a, Job::moving(p, page, entry, Counted::Unread));
+            .put(a, Job::moving(p, page, entry, allowed, Counted::Unread));
         Ok(())
     }
 
@@ -53,18 +62,19 @@ impl Trial {
         p: ProcNo,
         page: PageNo,
         entry: Entry,
+        allowed: Allowed,
         count: u64,
     ) -> Result<(), Refused>
-        ensures { Tried (state_of self.old) (state_of self.new) (core.count_moved a p page entry count) result }
+        ensures { Tried (state_of self.old) (state_of self.new) (core.count_moved a p page entry allowed count) result }
     {
-        need(self.is_moving(a, p, page, &entry, Counted::Unread))?;
+        need(self.is_moving(a, p, page, &entry, allowed, Counted::Unread))?;
         need(count == *self.count.get(entry.frame))?;
         self.job
-            .put(a, Job::moving(p, page, entry, counted_as(count)));
+            .put(a, Job::moving(p, page, entry, allowed, counted_as(count)));
         Ok(())
     }
 
-    /// After a count of 1 the prepared frame takes the place of the old one, whose reference is owed.
+    /// After a count of 1 the prepared frame, of an allowed zone, takes the place of the old one, whose reference is owed.
     pub fn place_frame(
         &mut self,
         a: ActorNo,
@@ -72,12 +82,14 @@ impl Trial {
         page: PageNo,
         f: FrameNo,
         entry: Entry,
+        allowed: Allowed,
     ) -> Result<(), Refused>
-        ensures { Tried (state_of self.old) (state_of self.new) (core.place_frame a p page f entry) result }
+        ensures { Tried (state_of self.old) (state_of self.new) (core.place_frame a p page f entry allowed) result }
     {
-        need(self.is_moving(a, p, page, &entry, Counted::One))?;
+        need(self.is_moving(a, p, page, &entry, allowed, Counted::One))?;
         need(is_frame(*self.prepared.get(a), f))?;
         need(self.owed.get(a).is_none())?;
+        need(self.may_move_to(&allowed, f))?;
         let old = entry.frame;
         let words = self.word.copy_of(old)?;
         let row = self.entry.with(p, page, entry_to(f, entry.writable))?;
@@ -103,11 +115,12 @@ impl Trial {
         p: ProcNo,
         page: PageNo,
         entry: Entry,
+        allowed: Allowed,
         count: Counted,
     ) -> Result<(), Refused>
-        ensures { Tried (state_of self.old) (state_of self.new) (core.restore_entry a p page entry (count_of count)) result }
+        ensures { Tried (state_of self.old) (state_of self.new) (core.restore_entry a p page entry allowed (count_of count)) result }
     {
-        need(self.is_moving(a, p, page, &entry, count))?;
+        need(self.is_moving(a, p, page, &entry, allowed, count))?;
         need(is_read(count))?;
         need(self.prepared.get(a).is_none())?;
         let row = self

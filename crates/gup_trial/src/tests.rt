@@ -1,6 +1,7 @@
 use super::*;
 use gup_base::{
-    ActorNo, Entry, FrameNo, HandleNo, MirrorNo, NoMemory, PageNo, ProcNo, Rights, WordNo,
+    ActorNo, Allowed, Entry, FrameNo, HandleNo, MirrorNo, NoMemory, PageNo, ProcNo, Rights, WordNo,
+    Zone,
 };
 use gup_jobs::job::{Counted, ForkStep, Stage};
 use gup_jobs::lists::{same_frames, same_pages};
@@ -16,6 +17,7 @@ struct Run {
     seed: u64,
     happened: [u32; 44],
     long_refused: u32,
+    zone_refused: u32,
     short_of_memory: u32,
 }
 
@@ -51,6 +53,14 @@ fn few(n: u64) -> u16 {
     (n % 4) as u16
 }
 
+fn zones(n: u64) -> Allowed {
+    match n {
+        0 => Allowed::Any,
+        1 => Allowed::Only(Zone::Movable),
+        _ => Allowed::Only(Zone::Normal),
+    }
+}
+
 // The frame, or the first where there is none.
 fn kept(found: Option<FrameNo>) -> FrameNo {
     match found {
@@ -67,6 +77,7 @@ impl Run {
             seed,
             happened: [0; 44],
             long_refused: 0,
+            zone_refused: 0,
             short_of_memory: 0,
         })
     }
@@ -238,7 +249,7 @@ fn entry(f: FrameNo, writable: bool) -> Entry {
 enum Plan {
     Nothing,
     Mark(ProcNo, PageNo, FrameNo),
-    Move(ProcNo, PageNo, FrameNo, bool, Counted),
+    Move(ProcNo, PageNo, Entry, Allowed, Counted),
     Fork(ProcNo, ProcNo, Vec<PageNo>, ForkStep),
 }
 
@@ -247,8 +258,9 @@ impl Run {
         match self.trial.job.get(a).stage() {
             Stage::Idle => Ok(Plan::Nothing),
             Stage::Marking(p, g, f) => Ok(Plan::Mark(*p, *g, *f)),
-            Stage::Moving(p, g, entry, count) => {
-                Ok(Plan::Move(*p, *g, entry.frame, entry.writable, *count))
+            Stage::Moving(p, g, was, allowed, count) => {
+                let was = entry(was.frame, was.writable);
+                Ok(Plan::Move(*p, *g, was, *allowed, *count))
             }
             Stage::Forking(p, c, done, step) => {
                 let done = same_pages(self.alloc, done.as_slice())?;
@@ -266,7 +278,9 @@ impl Run {
                 let tried = self.trial.set_mark(a, p, g, f);
                 self.tell(3, tried);
             }
-            Plan::Move(p, g, f, writable, count) => self.go_on_moving(a, p, g, f, writable, count),
+            Plan::Move(p, g, was, allowed, count) => {
+                self.go_on_moving(a, p, g, was, allowed, count)
+            }
             Plan::Fork(p, c, done, step) => self.go_on_forking(a, p, c, done, step),
         }
         Ok(())
@@ -277,33 +291,46 @@ impl Run {
         a: ActorNo,
         p: ProcNo,
         g: PageNo,
-        f: FrameNo,
-        writable: bool,
+        was: Entry,
+        allowed: Allowed,
         count: Counted,
     ) {
         let n = self.roll(4);
         match count {
             Counted::Unread => {
-                let read = *self.trial.count.get(f);
-                let tried = self.trial.count_moved(a, p, g, entry(f, writable), read);
+                let read = *self.trial.count.get(was.frame);
+                let tried = self.trial.count_moved(a, p, g, was, allowed, read);
                 self.tell(16, tried);
             }
             Counted::One if n < 2 => {
-                let tried = self.trial.take_frame(a, frame(n.wrapping_add(2)));
+                let f = self.roll(4);
+                let tried = self.trial.take_frame(a, frame(f));
                 self.tell(0, tried);
             }
-            Counted::One if n == 2 => {
-                let prepared = kept(*self.trial.prepared.get(a));
-                let tried = self
-                    .trial
-                    .place_frame(a, p, g, prepared, entry(f, writable));
-                self.tell(17, tried);
-            }
-            Counted::One | Counted::More => {
-                let tried = self.trial.restore_entry(a, p, g, entry(f, writable), count);
+            Counted::One if n == 2 => self.place(a, p, g, was, allowed),
+            Counted::One | Counted::More(_) => {
+                let tried = self.trial.restore_entry(a, p, g, was, allowed, count);
                 self.tell(18, tried);
             }
         }
+    }
+
+    // Places the prepared frame. Where its zone isn't allowed, that is refused.
+    fn place(&mut self, a: ActorNo, p: ProcNo, g: PageNo, was: Entry, allowed: Allowed) {
+        let prepared = *self.trial.prepared.get(a);
+        let Some(f) = prepared else {
+            return;
+        };
+        let is_apart = match allowed {
+            Allowed::Any => false,
+            Allowed::Only(Zone::Movable) => f.get() >= 2,
+            Allowed::Only(Zone::Normal) => f.get() < 2,
+        };
+        let tried = self.trial.place_frame(a, p, g, f, was, allowed);
+        if is_apart && tried.is_err() {
+            self.zone_refused = self.zone_refused.saturating_add(1);
+        }
+        self.tell(17, tried);
     }
 
     fn between(&mut self, a: ActorNo, p: ProcNo, c: ProcNo, done: &[PageNo]) {
@@ -424,7 +451,9 @@ impl Run {
         let n = self.roll(3);
         if kind == 0 {
             let (f, writable) = self.entry_at(p, g);
-            let tried = self.trial.clear_entry(a, p, g, entry(f, writable));
+            let tried = self
+                .trial
+                .clear_entry(a, p, g, entry(f, writable), zones(n));
             self.tell(15, tried);
         } else if kind == 1 {
             let tried = self.trial.begin_fork(a, p, process(n));
@@ -620,6 +649,7 @@ fn missing(happened: &[u32; 44]) -> Option<usize> {
 struct Sum {
     happened: [u32; 44],
     long_refused: u32,
+    zone_refused: u32,
     short_of_memory: u32,
 }
 
@@ -628,12 +658,14 @@ fn run_all(alloc: Global) -> Result<Sum, NoMemory> {
     let mut sum = Sum {
         happened: [0; 44],
         long_refused: 0,
+        zone_refused: 0,
         short_of_memory: 0,
     };
     for seed in 0..80 {
         let mut run = Run::new(alloc, seed)?;
         run.go(1000)?;
         add(&mut sum.happened, &run.happened);
+        sum.zone_refused = sum.zone_refused.saturating_add(run.zone_refused);
         sum.long_refused = sum.long_refused.saturating_add(run.long_refused);
         sum.short_of_memory = sum.short_of_memory.saturating_add(run.short_of_memory);
     }
@@ -641,12 +673,13 @@ fn run_all(alloc: Global) -> Result<Sum, NoMemory> {
 }
 
 // Each kind of event happens: among them a fork that copies, one that shares, one that fails, a move that places, one
-// that restores, and a mirror that is emptied. A long pin of a movable frame is refused where a short one isn't.
+// that restores, and a mirror that is emptied. A long pin of a movable frame is refused where a short one isn't, and so is
+// a move to a zone that isn't allowed.
 #[test]
 fn each_event_happens(rt: HostRuntime) -> Result<(), Fail> {
     let sum = run_all(rt.alloc()).or(Err("memory"))?;
     assert_eq!(rt; missing(&sum.happened), None);
     assert_eq!(rt; sum.short_of_memory, 0);
-    assert!(rt; sum.long_refused > 0);
+    assert!(rt; sum.long_refused > 0 && sum.zone_refused > 0);
     Ok(())
 }

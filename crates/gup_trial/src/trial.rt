@@ -1,12 +1,12 @@
 //! The state of the core machine.
 ghost use Rattle.std.specs.Prelude.{◌≡◌, ◌==◌, if◌then◌else◌, true, false, ◌↔◌, IsTrue, IfOk};
 ghost use Rattle.gup_events.specs.State.{start};
-ghost use Rattle.gup_events.specs.Event.{AreUnlocked, IsIdle, IsNormal, IsUnmirrored};
+ghost use Rattle.gup_events.specs.Event.{AreUnlocked, IsAllowed, IsIdle, IsNormal, IsUnmirrored};
 ghost use Rattle.gup_plain.specs.State.{born, unborn};
 ghost use Rattle.gup_rows.specs.Procs.{births, copies};
 ghost use Rattle.gup_trial.specs.State.{state_of};
 
-use gup_base::{ActorNo, Entry, FrameNo, NoMemory, PageNo, ProcNo, Rights};
+use gup_base::{ActorNo, Allowed, Entry, FrameNo, NoMemory, PageNo, ProcNo, Rights, Zone};
 use gup_jobs::job::Job;
 use gup_jobs::lists::Frames;
 use gup_jobs::taken::TakenList;
@@ -152,6 +152,17 @@ impl Trial {
         ensures { IsTrue result ↔ (long ≡ true → IsNormal (state_of self.now) f) }
     {
         !long || f.get() >= u64::from(self.movable)
+    }
+
+    /// Whether a move to these zones may take the frame.
+    pub(crate) fn may_move_to(&self, allowed: &Allowed, f: FrameNo) -> bool
+        ensures { IsTrue result ↔ IsAllowed (state_of self.now) allowed.now f }
+    {
+        match *allowed {
+            Allowed::Any => true,
+            Allowed::Only(Zone::Movable) => f.get() < u64::from(self.movable),
+            Allowed::Only(Zone::Normal) => f.get() >= u64::from(self.movable),
+        }
     }
 
     /// Whether no mirror of the page is filled.

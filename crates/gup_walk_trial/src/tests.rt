@@ -1,5 +1,5 @@
 use super::*;
-use gup_base::{ActorNo, FrameNo, HandleNo, PageNo, ProcNo, Rights};
+use gup_base::{ActorNo, Allowed, FrameNo, HandleNo, PageNo, ProcNo, Rights};
 use gup_jobs::job::Counted;
 use gup_jobs::needs::entry_to;
 use gup_jobs::refused::Refused;
@@ -299,12 +299,16 @@ impl Run {
         let (a, p) = (actor(1), process(0));
         let entry = entry_to(frame(f), false);
         Some(match verb {
-            "clear" => self.trial.clear_entry(a, p, page(n), entry),
-            "read" => self.trial.count_moved(a, p, page(n), entry, m),
-            "place" => self.trial.place_frame(a, p, page(n), frame(m), entry),
+            "clear" => self.trial.clear_entry(a, p, page(n), entry, Allowed::Any),
+            "read" => self
+                .trial
+                .count_moved(a, p, page(n), entry, Allowed::Any, m),
+            "place" => self
+                .trial
+                .place_frame(a, p, page(n), frame(m), entry, Allowed::Any),
             "restore" => self
                 .trial
-                .restore_entry(a, p, page(n), entry, Counted::More),
+                .restore_entry(a, p, page(n), entry, Allowed::Any, Counted::More(m)),
             _ => return self.share(verb, n, f),
         })
     }
@@ -504,7 +508,7 @@ fn a_mover_meets_a_grab(rt: HostRuntime) -> Result<(), Fail> {
         enter read, sequence, entry 0, \
         clear 0 2, \
         grab, \
-        cannot read 0 2 1, read 0 2 1025, cannot take 3, restore 0 2, \
+        cannot read 0 2 1, read 0 2 1025, cannot take 3, restore 0 2 1025, \
         same, mark, again, leave, counts 0 0 1025 0, taken 0 2 0";
     let wrong = first_wrong(rt.alloc(), script).or(Err("memory"))?;
     assert_eq!(rt; wrong, None);

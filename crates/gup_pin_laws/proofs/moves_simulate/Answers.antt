@@ -3,13 +3,13 @@ use Rattle.gup_pin_laws.proofs.Moves.{simulates-clear_entry, simulates-count_mov
 use Rattle.gup_pin_laws.proofs.moves_simulate.Goals as goal
 
 pub returns-clause-clear_entry : goal.returns-clause-clear_entry
-returns-clause-clear_entry c = λ a p page entry s sound can. simulates-clear_entry s a p page entry sound can
+returns-clause-clear_entry c = λ a p page entry allowed s sound can. simulates-clear_entry s a p page entry allowed sound can
 
 pub returns-clause-count_moved : goal.returns-clause-count_moved
-returns-clause-count_moved c = λ a p page entry count s sound can. simulates-count_moved s a p page entry count sound can
+returns-clause-count_moved c = λ a p page entry allowed count s sound can. simulates-count_moved s a p page entry allowed count sound can
 
 pub returns-clause-place_frame : goal.returns-clause-place_frame
-returns-clause-place_frame c = λ a p page f entry s sound can. simulates-place_frame s a p page f entry sound can
+returns-clause-place_frame c = λ a p page f entry allowed s sound can. simulates-place_frame s a p page f entry allowed sound can
 
 pub returns-clause-restore_entry : goal.returns-clause-restore_entry
-returns-clause-restore_entry c = λ a p page entry count s sound can. simulates-restore_entry s a p page entry count sound can
+returns-clause-restore_entry c = λ a p page entry allowed count s sound can. simulates-restore_entry s a p page entry allowed count sound can
