@@ -18,13 +18,6 @@ forking_keeps (walking p write long sequence step) k is = absurd (cc)
 pub birth_goes : (k : Forking) → is_failing k.step ≡ false → birth_of_child k ≡ growing k.proc
 birth_goes k goes = grind (arith, nat_tests)
 
-birth_proc : (k : Forking) (p : ℕ) → birth_of_child k ≡ growing p → k.proc ≡ p
-birth_proc k p is = by_step (is_failing k.step) refl
-  where
-    by_step : (b : Bool) → is_failing k.step ≡ b → k.proc ≡ p
-    by_step true fails = absurd (grind (arith, nat_tests))
-    by_step false goes = let grows : birth_of_child k ≡ growing k.proc = birth_goes k goes in let same : growing k.proc ≡ growing p = sym grows ∙ is in cc
-
 -- the fork that an actor is in, as the views have it
 pub fork_here : (v : View) (s : CoreState) (a p c : ℕ) (done : List ℕ) (step : ForkStep) → IsSoundBy v s → s.job a ≡ forking p c done step → v.forks a ≡ Some (record { proc = p; child = c; done = done; step = step })
 fork_here v s a p c done step h is = h.forks_are a ∙ ap forking_of is
@@ -45,15 +38,9 @@ growing_parent v s c p h grows = by_lock (s.structure p) refl
     by_lock None free = absurd (h.growing_locked c p grows free)
     by_lock (Some a) locked = by_fork a locked (v.forks a) refl
 
--- what a fork that doesn't fail has begun, no other fork brings
-pub only_fork : (v : View) (s : CoreState) (a b : ℕ) (k l : Forking) → IsSoundBy v s → v.forks a ≡ Some k → is_failing k.step ≡ false → v.forks b ≡ Some l → l.child ≡ k.child → b ≡ a
-only_fork v s a b k l h forks goes also same =
-    let grows : s.birth k.child ≡ growing k.proc = h.fork_birth a k forks ∙ birth_goes k goes in
-    let other : s.birth k.child ≡ birth_of_child l = subst (λ c. s.birth c ≡ birth_of_child l) same (h.fork_birth b l also) in
-    let one : s.structure k.proc ≡ Some a = h.forks_structure a k forks in
-    let two : s.structure l.proc ≡ Some b = h.forks_structure b l also in
-    let proc : l.proc ≡ k.proc = birth_proc l k.proc (sym other ∙ grows) in
-    cc
+-- what a fork brings, no other fork brings
+pub only_fork : (v : View) (s : CoreState) (a b : ℕ) (k l : Forking) → IsSoundBy v s → v.forks a ≡ Some k → v.forks b ≡ Some l → l.child ≡ k.child → b ≡ a
+only_fork v s a b k l h forks also same = h.fork_alone b a l k also forks same
 
 -- no fork copies into a born process
 pub born_uncopied : (v : View) (s : CoreState) (p g : ℕ) → IsSoundBy v s → s.birth p ≡ born → IsUncopiedBy v.forks p g

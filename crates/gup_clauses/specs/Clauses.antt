@@ -1,12 +1,12 @@
 -- The clauses of a sound state, each under a name of its own, so that a lemma on an event says which it proves anew.
 -- Each is the clause of `IsSoundBy` with the same name; a difference between the two is refused where the record is made.
-use Rattle.std.specs.Prelude.{◌≡◌, ℕ, ◌+◌, ◌<◌, ◌≤◌, nat_lt, true, false, not, length, slice_get, Contains, Some, None}
+use Rattle.std.specs.Prelude.{◌≡◌, ℕ, ◌+◌, ◌<◌, ◌≤◌, nat_lt, true, false, not, length, slice_get, Contains, Some, None, IsSome}
 use Rattle.gup_base.specs.declared.entry.Entry.{Entry}
 use Rattle.gup_base.specs.declared.entry.Rights.{Rights}
 use Rattle.gup_base.specs.declared.entry.Rights.TheVariants.{R}
 use Rattle.gup_plain.specs.Event.{page_numbers, words}
 use Rattle.gup_plain.specs.State.{growing, born, unborn, failed, Noted, objects_of}
-use Rattle.gup_events.specs.State.{CoreState, Taken, one, copying, cleared, entered}
+use Rattle.gup_events.specs.State.{CoreState, Taken, one, copying, cleared, failing, entered}
 use Rattle.gup_events.specs.Event.{writes_taken, long_taken, is_odd}
 use Rattle.gup_events.specs.Invariant.{frame_of, is_inside}
 use Rattle.gup_events.specs.Sound.{Marking, Moving, Forking, Walking, View, marking_of, moving_of, forking_of, walking_of, marked_frame, fork_child, step_page, shared_page, lowered_page, is_failing, copied_words, words_written, birth_of_child, keeps_table, keeps_structure, is_open, tried_page, tried_entry, rechecked_entry, unkept, IsUncopiedBy, held, held_by_walk, Tally}
@@ -89,6 +89,10 @@ module _ (v : View) (s : CoreState) where
 
   abbrev pub ForkBirth : Type 0
   ForkBirth = (a : ℕ) (k : Forking) → v.forks a ≡ Some k → s.birth k.child ≡ birth_of_child k
+
+  -- no two forks bring one child
+  abbrev pub ForkAlone : Type 0
+  ForkAlone = (a b : ℕ) (k l : Forking) → v.forks a ≡ Some k → v.forks b ≡ Some l → k.child ≡ l.child → a ≡ b
 
   abbrev pub GrowingLocked : Type 0
   GrowingLocked = (c p : ℕ) → s.birth c ≡ growing p → s.structure p ≡ None → ⊥
@@ -295,6 +299,10 @@ module _ (v : View) (s : CoreState) where
 
   abbrev pub ForkMapped : Type 0
   ForkMapped = (a g : ℕ) (k : Forking) → v.forks a ≡ Some k → step_page k.step ≡ Some g → s.right k.child g ≡ None → ⊥
+
+  -- the child of one that fails has an entry
+  abbrev pub ForkLeft : Type 0
+  ForkLeft = (a : ℕ) (k : Forking) → v.forks a ≡ Some k → k.step ≡ failing → (g : ℕ) × IsSome (s.entry k.child g)
 
   -- a fork that has copied a word has prepared a frame
   abbrev pub CopyThere : Type 0

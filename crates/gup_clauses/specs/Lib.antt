@@ -10,3 +10,4 @@ pub mod Done
 pub mod Children
 pub mod PinLists
 pub mod Simulated
+pub mod Left

@@ -192,6 +192,8 @@ pub record IsParted (s : CoreState) : Type 0 where
   pub share : (a p c page : ℕ) (done : List ℕ) (step : ForkStep) (e : Entry) → s.job a ≡ forking p c done step → IsSharing step page → s.entry p page ≡ Some e → IsUnpinned s e.frame
   -- and each walk of that process is disturbed
   pub share_walk : (a p c page b : ℕ) (done : List ℕ) (step : ForkStep) (walk : WalkStep) → s.job a ≡ forking p c done step → IsSharing step page → IsUndisturbed s b p walk → ⊥
+  -- a fork that fails has a child with an entry: who gives the last one back has ended it
+  pub left : (a p c : ℕ) (done : List ℕ) → s.job a ≡ forking p c done failing → (page : ℕ) × IsSome (s.entry c page)
   -- the frame that a mover has cleared and counted once is under no settled pin, and no walk has taken it
   pub move : (a p page : ℕ) (e : Entry) (allowed : Allowed) → s.job a ≡ moving p page e allowed one → IsUnpinned s e.frame
   pub move_walk : (a p page b : ℕ) (e : Entry) (allowed : Allowed) (t : Taken) → s.job a ≡ moving p page e allowed one → Contains (s.taken b) t → t.frame ≡ e.frame → ⊥

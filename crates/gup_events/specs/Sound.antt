@@ -287,6 +287,8 @@ pub record IsSoundBy (v : View) (s : CoreState) : Type 0 where
 
   pub fork_parent : (a : ℕ) (k : Forking) → v.forks a ≡ Some k → s.birth k.proc ≡ born
   pub fork_birth : (a : ℕ) (k : Forking) → v.forks a ≡ Some k → s.birth k.child ≡ birth_of_child k
+  -- no two forks bring one child
+  pub fork_alone : (a b : ℕ) (k l : Forking) → v.forks a ≡ Some k → v.forks b ≡ Some l → k.child ≡ l.child → a ≡ b
   pub growing_locked : (c p : ℕ) → s.birth c ≡ growing p → s.structure p ≡ None → ⊥
   pub growing_forked : (c p a : ℕ) → s.birth c ≡ growing p → s.structure p ≡ Some a → fork_child (v.forks a) ≡ Some c
   pub growing_rights : (c p g : ℕ) → s.birth c ≡ growing p → s.right c g ≡ s.right p g
@@ -369,6 +371,8 @@ pub record IsSoundBy (v : View) (s : CoreState) : Type 0 where
   pub fork_uncopied : (a g w : ℕ) (k : Forking) → v.forks a ≡ Some k → is_failing k.step ≡ false → (Contains k.done g → ⊥) → w < words → s.copied k.child g w ≡ nat_lt w (copied_words k.step g)
   pub fork_undone : (a g : ℕ) (k : Forking) → v.forks a ≡ Some k → step_page k.step ≡ Some g → Contains k.done g → ⊥
   pub fork_mapped : (a g : ℕ) (k : Forking) → v.forks a ≡ Some k → step_page k.step ≡ Some g → s.right k.child g ≡ None → ⊥
+  -- the child of one that fails has an entry
+  pub fork_left : (a : ℕ) (k : Forking) → v.forks a ≡ Some k → k.step ≡ failing → (g : ℕ) × IsSome (s.entry k.child g)
   -- a fork that has copied a word has prepared a frame
   pub copy_there : (a g n : ℕ) (k : Forking) → v.forks a ≡ Some k → k.step ≡ copying g n → 0 < n → s.prepared a ≡ None → ⊥
   pub copy_words : (a g n w f : ℕ) (k : Forking) → v.forks a ≡ Some k → k.step ≡ copying g n → s.prepared a ≡ Some f → w < n → s.word f w ≡ s.content (s.object k.child g) w

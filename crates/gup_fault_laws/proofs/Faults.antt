@@ -9,7 +9,8 @@ use Rattle.gup_events.specs.State.{CoreState, idle}
 use Rattle.gup_events.specs.Event.{Can, happens, MayPrepare, entry_of, take_frame, fill, count_one, set_mark, upgrade}
 use Rattle.gup_events.specs.Invariant.{frame_of}
 use Rattle.gup_events.specs.Sound.{View, Marking, IsSoundBy, IsSound, Simulates}
-use Rattle.gup_clauses.specs.Clauses.{References, CountIs, MarksAre, MovesAre, ForksAre, WalksAre, WholeEntry, WholeMoved, WholeFree, WholeKept, WholeOther, MovedGone, WholeNames, MarksTable, MovesTable, ForksTable, TableHeld, StructureHeld, TableBorn, OwnAlone, OwnMade, OwnNames, OwnEntry, OwnWords, OwnMarked, OwnMarking, MarkedOwn, EntryMapped, EntryMarked, EntryAllowed, EntryWords, Untouched, HandleMarked, HandleOwn, HandleFlag, TakenMarked, TakenOwn, WalkOwn, WalkUnowned, WalkKept, WalkWritable, PreparedOnce, PreparedUnmarked, PreparedUnowned, PreparedZero, MarkingEntry, MarkingOwn, MovingOnce, ForkFresh, CopyWords, CopyThere, ShareHandle, ShareTaken, ShareLowered, ShareUnowned, MirrorEntry}
+use Rattle.gup_clauses.specs.Clauses.{References, CountIs, MarksAre, MovesAre, ForksAre, WalksAre, WholeEntry, WholeMoved, WholeFree, WholeKept, WholeOther, MovedGone, WholeNames, MarksTable, MovesTable, ForksTable, TableHeld, StructureHeld, TableBorn, OwnAlone, OwnMade, OwnNames, OwnEntry, OwnWords, OwnMarked, OwnMarking, MarkedOwn, EntryMapped, EntryMarked, EntryAllowed, EntryWords, Untouched, HandleMarked, HandleOwn, HandleFlag, TakenMarked, TakenOwn, WalkOwn, WalkUnowned, WalkKept, WalkWritable, PreparedOnce, PreparedUnmarked, PreparedUnowned, PreparedZero, MarkingEntry, MarkingOwn, MovingOnce, ForkFresh, CopyWords, CopyThere, ShareHandle, ShareTaken, ShareLowered, ShareUnowned, MirrorEntry, ForkLeft}
+use Rattle.gup_clauses.specs.Left.{left_born}
 use Rattle.gup_clauses.specs.Tally.{tally_is, tally_entry, tally_prepared}
 use Rattle.gup_clauses.specs.Steps.{shared_is_step, lowered_is_shared, prepares_before}
 use Rattle.gup_clauses.specs.Lonely.{uncounted, whole_alone, once_wholes, whole_counts, handle_counts, taken_counts, prepared_whole, prepared_alone, prepared_counts, whole_none, mapped_names, born_mapped}
@@ -110,6 +111,7 @@ simulates-fill s a p page f (v, h) c =
     let share_lowered : ShareLowered V S = λ b g k e. grind (arith, nat_tests, h.share_lowered b g k e) in
     let share_unowned : ShareUnowned V S = λ b g k e. grind (arith, nat_tests, h.share_unowned b g k e) in
     let mirror_entry : MirrorEntry V S = λ m d noted. grind (arith, nat_tests, h.mirror_entry m d noted) in
+    let fork_left : ForkLeft V S = left_born v s p page (Some (entry_of f false)) h c.0 in
     let sound : IsSoundBy V S = assumption in
     record { sound = (V, sound); can = tt; same = refl }
 
@@ -235,5 +237,6 @@ simulates-upgrade s a p page f (v, h) c =
     let share_lowered : ShareLowered V S = λ b i fork d. grind (arith, nat_tests, h.share_lowered b i fork d, h.forks_table b i fork, lowered_is_shared fork.step i, shared_is_step fork.step i) in
     let share_unowned : ShareUnowned V S = λ b i fork d. grind (arith, nat_tests, h.share_unowned b i fork d, h.share_unowned b i fork e) in
     let mirror_entry : MirrorEntry V S = λ m u noted. grind (arith, nat_tests, h.mirror_entry m u noted) in
+    let fork_left : ForkLeft V S = left_born v s p page (Some (entry_of f true)) h c.0 in
     let sound : IsSoundBy V S = assumption in
     record { sound = (V, sound); can = tt; same = refl }

@@ -12,7 +12,8 @@ use Rattle.gup_events.specs.State.{CoreState, plain_of}
 use Rattle.gup_events.specs.Event.{Can, happens, entry_of, map_pages, lower_entry, protect_pages, drop_entry, discard_entry}
 use Rattle.gup_events.specs.Invariant.{frame_of}
 use Rattle.gup_events.specs.Sound.{View, IsSoundBy, IsSound, Simulates}
-use Rattle.gup_clauses.specs.Clauses.{References, WholeEntry, WholeMoved, WholeFree, WholeKept, WholeOther, MovedGone, RightNames, WholeNames, NamesObject, GrowingRights, UnbornUnmapped, FailedUnmapped, OwnMade, OwnNames, OwnEntry, OwnWords, OwnMarked, OwnMarking, MarkedOwn, EntryMapped, EntryMarked, EntryAllowed, EntryWords, Untouched, NamesAlone, NamesMade, RightNumbered, HandleFlag, TakenMade, TakenNames, MarkingEntry, MarkingOwn, ForkFresh, ForkMapped, CopyWords, ShareHandle, ShareTaken, ShareLowered, ShareUnowned, MirrorEntry, MirrorNames}
+use Rattle.gup_clauses.specs.Clauses.{References, WholeEntry, WholeMoved, WholeFree, WholeKept, WholeOther, MovedGone, RightNames, WholeNames, NamesObject, GrowingRights, UnbornUnmapped, FailedUnmapped, OwnMade, OwnNames, OwnEntry, OwnWords, OwnMarked, OwnMarking, MarkedOwn, EntryMapped, EntryMarked, EntryAllowed, EntryWords, Untouched, NamesAlone, NamesMade, RightNumbered, HandleFlag, TakenMade, TakenNames, MarkingEntry, MarkingOwn, ForkFresh, ForkMapped, CopyWords, ShareHandle, ShareTaken, ShareLowered, ShareUnowned, MirrorEntry, MirrorNames, ForkLeft}
+use Rattle.gup_clauses.specs.Left.{left_born}
 use Rattle.gup_clauses.specs.Tally.{tally_is, tally_entry, tally_owed}
 use Rattle.gup_clauses.specs.Named.{by_pages}
 use Rattle.gup_clauses.specs.Children.{no_child, copied_made}
@@ -94,6 +95,7 @@ simulates-lower_entry s a p page f (v, h) c =
     let share_lowered : ShareLowered V S = λ b i fork d. grind (arith, nat_tests, h.share_lowered b i fork d) in
     let share_unowned : ShareUnowned V S = λ b i fork d. grind (arith, nat_tests, h.share_unowned b i fork d, h.share_unowned b i fork e) in
     let mirror_entry : MirrorEntry V S = λ m u noted. grind (arith, nat_tests, h.mirror_entry m u noted) in
+    let fork_left : ForkLeft V S = left_born v s p page (Some (entry_of f false)) h c.0 in
     let sound : IsSoundBy V S = assumption in
     record { sound = (V, sound); can = tt; same = refl }
 
@@ -180,6 +182,7 @@ simulates-drop_entry s a p page was (v, h) c =
     let share_unowned : ShareUnowned V S = λ b i fork d. grind (arith, nat_tests, h.share_unowned b i fork d) in
     let mirror_entry : MirrorEntry V S = λ m u noted. grind (arith, nat_tests, h.mirror_entry m u noted, c.6 m noted) in
     let mirror_names : MirrorNames V S = λ m u noted. grind (arith, nat_tests, h.mirror_names m u noted, c.6 m noted) in
+    let fork_left : ForkLeft V S = left_born v s p page None h c.0 in
     let sound : IsSoundBy V S = assumption in
     record { sound = (V, sound); can = (c.0, c.3); same = ap (λ (o : ℕ → ℕ → ℕ). record (plain_of S) { object = o }) (by_pages (λ q g. grind (arith, nat_tests))) }
 
@@ -229,5 +232,6 @@ simulates-discard_entry s a p page was (v, h) c =
     let share_unowned : ShareUnowned V S = λ b i fork d. grind (arith, nat_tests, h.share_unowned b i fork d) in
     let mirror_entry : MirrorEntry V S = λ m u noted. grind (arith, nat_tests, h.mirror_entry m u noted, c.6 m noted) in
     let mirror_names : MirrorNames V S = λ m u noted. grind (arith, nat_tests, h.mirror_names m u noted, c.6 m noted) in
+    let fork_left : ForkLeft V S = left_born v s p page None h c.0 in
     let sound : IsSoundBy V S = assumption in
     record { sound = (V, sound); can = (c.0, c.3); same = ap (λ (o : ℕ → ℕ → ℕ). record (plain_of S) { object = o }) (by_pages (λ q g. grind (arith, nat_tests))) }

@@ -10,7 +10,8 @@ use Rattle.gup_plain.specs.Event.{words}
 use Rattle.gup_events.specs.State.{CoreState, between, copying, plain_of, cleared}
 use Rattle.gup_events.specs.Event.{Can, happens, entry_of, is_writable, is_odd, copy_word, place_child}
 use Rattle.gup_events.specs.Sound.{View, Forking, IsUncopiedBy, is_failing, copied_words, IsSoundBy, IsSound, Simulates, step_page, shared_page, lowered_page, is_open, birth_of_child}
-use Rattle.gup_clauses.specs.Clauses.{References, MarksAre, MovesAre, ForksAre, WholeEntry, WholeMoved, WholeFree, WholeKept, WholeOther, MovedGone, WholeNames, MarksTable, MovesTable, ForksTable, ForksStructure, TableHeld, StructureHeld, TableBorn, ForkParent, ForkBirth, GrowingForked, OwnAlone, OwnMade, OwnNames, OwnEntry, OwnWords, OwnMarked, OwnMarking, MarkedOwn, EntryMapped, EntryMarked, EntryAllowed, EntryWords, Untouched, HandleMarked, HandleOwn, HandleFlag, TakenMarked, TakenOwn, PreparedOnce, PreparedUnmarked, PreparedUnowned, PreparedZero, MarkingEntry, MarkingOwn, ForkFresh, ForkCopied, ForkUncopied, ForkUndone, ForkMapped, CopyWords, CopyThere, ShareHandle, ShareTaken, ShareLowered, ShareUnowned, MirrorEntry, WalksAre, ForkOdd, WalkOwn, WalkUnowned, WalkKept, WalkWritable}
+use Rattle.gup_clauses.specs.Clauses.{References, MarksAre, MovesAre, ForksAre, WholeEntry, WholeMoved, WholeFree, WholeKept, WholeOther, MovedGone, WholeNames, MarksTable, MovesTable, ForksTable, ForksStructure, TableHeld, StructureHeld, TableBorn, ForkParent, ForkBirth, GrowingForked, OwnAlone, OwnMade, OwnNames, OwnEntry, OwnWords, OwnMarked, OwnMarking, MarkedOwn, EntryMapped, EntryMarked, EntryAllowed, EntryWords, Untouched, HandleMarked, HandleOwn, HandleFlag, TakenMarked, TakenOwn, PreparedOnce, PreparedUnmarked, PreparedUnowned, PreparedZero, MarkingEntry, MarkingOwn, ForkFresh, ForkCopied, ForkUncopied, ForkUndone, ForkMapped, CopyWords, CopyThere, ShareHandle, ShareTaken, ShareLowered, ShareUnowned, MirrorEntry, WalksAre, ForkOdd, WalkOwn, WalkUnowned, WalkKept, WalkWritable, ForkAlone, ForkLeft}
+use Rattle.gup_clauses.specs.Left.{alone_next, left_growing, left_next}
 use Rattle.gup_clauses.specs.Named.{named_here}
 use Rattle.gup_clauses.specs.Tally.{tally_is, tally_entry, tally_prepared, number_here}
 use Rattle.gup_clauses.specs.Lonely.{handle_counts, taken_counts, prepared_whole, prepared_alone, born_mapped, mapped_names}
@@ -76,15 +77,17 @@ sound-copy_word s a p c done page word to e v h may =
     let prepared_zero : PreparedZero V S = λ b u w. grind (arith, nat_tests, h.prepared_zero b u w, prepared_alone v s h a b to, h.prepared_zero a to w) in
     let fork_fresh : ForkFresh V S = λ b i. fork_after (λ b k. is_failing k.step ≡ false → (Contains k.done i → ⊥) → v.whole k.child i ≡ None) v.forks a next (h.fork_fresh a i was mine) (λ b k other. h.fork_fresh b i k) b in
     let fork_copied : ForkCopied V S = λ b i w fork. grind (arith, nat_tests, h.fork_copied b i w fork, h.fork_copied a i w was) in
-    let fork_uncopied : ForkUncopied V S = λ b i w fork. grind (arith, nat_tests, h.fork_uncopied b i w fork, h.fork_uncopied a i w was, only_fork v s a b was fork h mine refl) in
+    let fork_uncopied : ForkUncopied V S = λ b i w fork. grind (arith, nat_tests, h.fork_uncopied b i w fork, h.fork_uncopied a i w was, only_fork v s a b was fork h mine) in
     let fork_undone : ForkUndone V S = λ b i. fork_after (λ b k. step_page k.step ≡ Some i → Contains k.done i → ⊥) v.forks a next (h.fork_undone a i was mine) (λ b k other. h.fork_undone b i k) b in
     let fork_mapped : ForkMapped V S = λ b i. fork_after (λ b k. step_page k.step ≡ Some i → s.right k.child i ≡ None → ⊥) v.forks a next (h.fork_mapped a i was mine) (λ b k other. h.fork_mapped b i k) b in
-    let copy_words : CopyWords V S = λ b i n w u fork. grind (arith, nat_tests, h.copy_words b i n w u fork, h.copy_words a page word w to was, prepared_alone v s h a b to, only_fork v s a b was fork h mine refl, h.fork_mapped b i fork, λ (r : Rights). h.right_names fork.child i r, h.names_alone fork.child i c page (s.object c page)) in
+    let copy_words : CopyWords V S = λ b i n w u fork. grind (arith, nat_tests, h.copy_words b i n w u fork, h.copy_words a page word w to was, prepared_alone v s h a b to, only_fork v s a b was fork h mine, h.fork_mapped b i fork, λ (r : Rights). h.right_names fork.child i r, h.names_alone fork.child i c page (s.object c page)) in
     let copy_there : CopyThere V S = λ b i n fork. grind (arith, nat_tests, h.copy_there b i n fork) in
     let share_handle : ShareHandle V S = λ b i j n k d. fork_after (λ b k. shared_page k.step ≡ Some i → v.whole k.proc i ≡ Some d → slice_get (s.pinned j) n ≡ Some d.frame → ⊥) v.forks a next (λ at. absurd (cc)) (λ b k other was. h.share_handle b i j n k d was) b k in
     let share_taken : ShareTaken V S = λ b i y n k d t. fork_after (λ b k. shared_page k.step ≡ Some i → v.whole k.proc i ≡ Some d → slice_get (s.taken y) n ≡ Some t → is_open (v.walks y) ≡ false → t.frame ≡ d.frame → ⊥) v.forks a next (λ at. absurd (cc)) (λ b k other was. h.share_taken b i y n k d t was) b k in
     let share_lowered : ShareLowered V S = λ b i k d. fork_after (λ b k. lowered_page k.step ≡ Some i → v.whole k.proc i ≡ Some d → d.writable ≡ false) v.forks a next (λ at. absurd (cc)) (λ b k other was. h.share_lowered b i k d was) b k in
     let share_unowned : ShareUnowned V S = λ b i k d. fork_after (λ b k. k.step ≡ cleared i → v.whole k.proc i ≡ Some d → s.own d.frame ≡ None) v.forks a next (λ at. absurd (cc)) (λ b k other was. h.share_unowned b i k d was) b k in
+    let fork_alone : ForkAlone V S = alone_next v.forks a was next mine refl h.fork_alone in
+    let fork_left : ForkLeft V S = left_next v.forks a next s.entry refl h.fork_left in
     let sound : IsSoundBy V S = assumption in
     record { sound = (V, sound); can = ((grows, source, mapped), grind (arith, nat_tests, h.fork_uncopied a page word was mine refl undone below)); same = ap (λ (x : ℕ → ℕ → ℕ). record (plain_of S) { content = x }) (told_word s p c page word (named_or_zero (s.right p page) (s.object p page)) (named_or_zero (s.right c page) (s.object c page)) (sym (named_here (s.right p page) (s.object p page) source)) (sym (named_here (s.right c page) (s.object c page) mapped))) }
 
@@ -112,7 +115,7 @@ sound-place_child s a p c done page to rights v h may =
     let unlocked : (b : ℕ) → s.table c ≡ Some b → ⊥ = λ b kept. let born_child = h.table_born c b kept in cc in
     let absent : s.entry c page ≡ None = no_entry v s h c page fresh in
     let next_fresh : (i : ℕ) → (Contains (page ∷ done) i → ⊥) → V.whole c i ≡ None = λ i un. let either = undone_either page done i un in let old = h.fork_fresh a i was mine refl either.1 in grind (arith, nat_tests, either.0) in
-    let other_fresh : (b i : ℕ) (k : Forking) → (b ≡ a → ⊥) → v.forks b ≡ Some k → is_failing k.step ≡ false → (Contains k.done i → ⊥) → V.whole k.child i ≡ None = λ b i k apart is going un. let old = h.fork_fresh b i k is going un in grind (arith, nat_tests, only_fork v s a b was k h mine refl is) in
+    let other_fresh : (b i : ℕ) (k : Forking) → (b ≡ a → ⊥) → v.forks b ≡ Some k → is_failing k.step ≡ false → (Contains k.done i → ⊥) → V.whole k.child i ≡ None = λ b i k apart is going un. let old = h.fork_fresh b i k is going un in grind (arith, nat_tests, only_fork v s a b was k h mine is) in
     let next_copied : (i w : ℕ) → Contains (page ∷ done) i → w < words → s.copied c i w ≡ true = λ i w has below. elim (done_either page done i has) [ inl same ↦ (let all = h.fork_uncopied a page w was mine refl undone below in grind (arith, nat_tests)) | inr old ↦ h.fork_copied a i w was mine refl old below ] in
     let next_uncopied : (i w : ℕ) → (Contains (page ∷ done) i → ⊥) → w < words → s.copied c i w ≡ nat_lt w 0 = λ i w un below. let either = undone_either page done i un in let old = h.fork_uncopied a i w was mine refl either.1 below in grind (arith, nat_tests, either.0) in
     let references : References V S = tally_is _ _ _ (tally_prepared _ _ _ _ _ _ _ _ a None (tally_entry _ _ _ _ _ _ _ _ c page (Some (entry_of to (is_writable rights))) h.references)) (λ d. grind (arith, nat_tests)) in
@@ -178,6 +181,8 @@ sound-place_child s a p c done page to rights v h may =
     let share_lowered : ShareLowered V S = λ b i fork d. grind (arith, nat_tests, h.share_lowered b i fork d, h.fork_parent b fork) in
     let share_unowned : ShareUnowned V S = λ b i fork d. grind (arith, nat_tests, h.share_unowned b i fork d, h.fork_parent b fork, prepared_whole v s h a to fork.proc i d) in
     let mirror_entry : MirrorEntry V S = λ m u noted. grind (arith, nat_tests, h.mirror_entry m u noted, h.mirror_born m u noted) in
+    let fork_alone : ForkAlone V S = alone_next v.forks a was next mine refl h.fork_alone in
+    let fork_left : ForkLeft V S = left_next v.forks a next S.entry refl (left_growing v s c p page (Some (entry_of to (is_writable rights))) h grows) in
     let sound : IsSoundBy V S = assumption in
     record { sound = (V, sound); can = tt; same = refl }
 

@@ -10,7 +10,8 @@ use Rattle.gup_plain.specs.Event.{words}
 use Rattle.gup_events.specs.State.{CoreState, Taken, idle, forking, ForkStep, between, counted, cleared, copying, plain_of}
 use Rattle.gup_events.specs.Event.{Can, happens, bias, copies_page, is_done, is_odd, begin_fork, count_page}
 use Rattle.gup_events.specs.Sound.{View, Forking, moving_of, forking_of, step_page, shared_page, lowered_page, is_failing, copied_words, step_words, keeps_table, birth_of_child, is_open, IsSoundBy, IsSound, Simulates, IsUncopiedBy}
-use Rattle.gup_clauses.specs.Clauses.{MarksAre, MovesAre, ForksAre, WholeFree, WholeKept, WholeOther, RightNames, WholeNames, NamesObject, MarksTable, MovesTable, ForksTable, ForksStructure, TableHeld, StructureHeld, TableBorn, ForkParent, ForkBirth, GrowingLocked, GrowingForked, GrowingRights, UnbornUnmapped, FailedUnmapped, FlagBorn, OwnMade, OwnNames, OwnEntry, OwnWords, OwnMarked, OwnMarking, MarkedOwn, EntryMapped, EntryAllowed, EntryWords, Untouched, NamesAlone, NamesMade, RightNumbered, HandleFlag, TakenNames, PreparedZero, MarkingOwn, ForkFresh, ForkCopied, ForkUncopied, ForkUndone, ForkMapped, CopyWords, CopyThere, ShareHandle, ShareTaken, ShareLowered, ShareUnowned, MirrorBorn, MirrorNames, WalksAre, ForkOdd, QuietEven, TakenMade, WalkBelow, WalkOwn, WalkUnowned, WalkKept, WalkWritable}
+use Rattle.gup_clauses.specs.Clauses.{MarksAre, MovesAre, ForksAre, WholeFree, WholeKept, WholeOther, RightNames, WholeNames, NamesObject, MarksTable, MovesTable, ForksTable, ForksStructure, TableHeld, StructureHeld, TableBorn, ForkParent, ForkBirth, GrowingLocked, GrowingForked, GrowingRights, UnbornUnmapped, FailedUnmapped, FlagBorn, OwnMade, OwnNames, OwnEntry, OwnWords, OwnMarked, OwnMarking, MarkedOwn, EntryMapped, EntryAllowed, EntryWords, Untouched, NamesAlone, NamesMade, RightNumbered, HandleFlag, TakenNames, PreparedZero, MarkingOwn, ForkFresh, ForkCopied, ForkUncopied, ForkUndone, ForkMapped, CopyWords, CopyThere, ShareHandle, ShareTaken, ShareLowered, ShareUnowned, MirrorBorn, MirrorNames, WalksAre, ForkOdd, QuietEven, TakenMade, WalkBelow, WalkOwn, WalkUnowned, WalkKept, WalkWritable, ForkAlone, ForkLeft}
+use Rattle.gup_clauses.specs.Left.{alone_with, alone_next, left_next}
 use Rattle.gup_clauses.specs.Steps.{odd_next}
 use Rattle.gup_fork_laws.proofs.Disturbed.{raised_below, raised_own, raised_unowned, raised_kept, raised_writable}
 use Rattle.gup_clauses.specs.Lonely.{handle_counts, taken_counts}
@@ -106,6 +107,8 @@ simulates-begin_fork s a p c (v, h) can =
     let share_unowned : ShareUnowned V S = λ b i k d. fork_after (λ b k. k.step ≡ cleared i → v.whole k.proc i ≡ Some d → s.own d.frame ≡ None) v.forks a next (λ at. absurd (cc)) (λ b k other was. h.share_unowned b i k d was) b k in
     let mirror_born : MirrorBorn V S = λ m u noted. grind (arith, nat_tests, h.mirror_born m u noted) in
     let mirror_names : MirrorNames V S = λ m u noted. grind (arith, nat_tests, h.mirror_names m u noted, h.mirror_born m u noted) in
+    let fork_alone : ForkAlone V S = alone_with v.forks a next (λ b k other is same. never_unborn v s c b k h can.1 is same) h.fork_alone in
+    let fork_left : ForkLeft V S = left_next v.forks a next s.entry refl h.fork_left in
     let sound : IsSoundBy V S = assumption in
     record { sound = (V, sound); can = (can.0, can.1); same = ap (λ (o : ℕ → ℕ → ℕ). record (plain_of S) { object = o }) (by_pages (λ q g. grind (arith, nat_tests, named_twice (s.right p g) (s.made + g)))) }
 
@@ -193,6 +196,8 @@ counted_page v s a p c done page step h is free mapped undone begins apart =
     let share_taken : ShareTaken V S = λ b i y n k d t. fork_after (λ b k. shared_page k.step ≡ Some i → v.whole k.proc i ≡ Some d → slice_get (s.taken y) n ≡ Some t → is_open (v.walks y) ≡ false → t.frame ≡ d.frame → ⊥) v.forks a next (apart.takens i y n d t) (λ b k other was. h.share_taken b i y n k d t was) b k in
     let share_lowered : ShareLowered V S = λ b i k d. fork_after (λ b k. lowered_page k.step ≡ Some i → v.whole k.proc i ≡ Some d → d.writable ≡ false) v.forks a next (λ low. absurd (let none : None ≡ Some i = sym begins.lowered ∙ low in cc)) (λ b k other was. h.share_lowered b i k d was) b k in
     let share_unowned : ShareUnowned V S = λ b i k d. fork_after (λ b k. k.step ≡ cleared i → v.whole k.proc i ≡ Some d → s.own d.frame ≡ None) v.forks a next (λ at. absurd (begins.uncleared i at)) (λ b k other was. h.share_unowned b i k d was) b k in
+    let fork_alone : ForkAlone V S = alone_next v.forks a before next mine refl h.fork_alone in
+    let fork_left : ForkLeft V S = left_next v.forks a next s.entry begins.going h.fork_left in
     assumption
 
 begins_copy : (page : ℕ) → IsBeginning (copying page 0) page

@@ -5,3 +5,4 @@ pub mod Shares
 pub mod ShareChild
 pub mod Copies
 pub mod ForkEnds
+pub mod ForkFails

@@ -10,7 +10,8 @@ use Rattle.gup_plain.specs.Event.{words}
 use Rattle.gup_events.specs.State.{CoreState, between, cleared, plain_of}
 use Rattle.gup_events.specs.Event.{Can, happens, entry_of, is_done, is_odd, share_child, pass_page}
 use Rattle.gup_events.specs.Sound.{View, Forking, marking_of, moving_of, IsSoundBy, IsSound, Simulates, IsUncopiedBy, is_failing, copied_words, birth_of_child, step_page, shared_page, lowered_page, is_open}
-use Rattle.gup_clauses.specs.Clauses.{References, MarksAre, MovesAre, ForksAre, WholeEntry, WholeMoved, WholeFree, WholeKept, WholeOther, MovedGone, WholeNames, MarksTable, MovesTable, ForksTable, ForksStructure, TableHeld, StructureHeld, TableBorn, ForkParent, ForkBirth, GrowingForked, OwnNames, OwnEntry, OwnWords, OwnMarked, OwnMarking, MarkedOwn, EntryMapped, EntryMarked, EntryAllowed, EntryWords, Untouched, PreparedOnce, PreparedZero, MarkingEntry, MovingOnce, ForkFresh, ForkCopied, ForkUncopied, ForkUndone, ForkMapped, CopyWords, CopyThere, ShareHandle, ShareTaken, ShareLowered, ShareUnowned, MirrorEntry, WalksAre, CountIs, ForkOdd}
+use Rattle.gup_clauses.specs.Clauses.{References, MarksAre, MovesAre, ForksAre, WholeEntry, WholeMoved, WholeFree, WholeKept, WholeOther, MovedGone, WholeNames, MarksTable, MovesTable, ForksTable, ForksStructure, TableHeld, StructureHeld, TableBorn, ForkParent, ForkBirth, GrowingForked, OwnNames, OwnEntry, OwnWords, OwnMarked, OwnMarking, MarkedOwn, EntryMapped, EntryMarked, EntryAllowed, EntryWords, Untouched, PreparedOnce, PreparedZero, MarkingEntry, MovingOnce, ForkFresh, ForkCopied, ForkUncopied, ForkUndone, ForkMapped, CopyWords, CopyThere, ShareHandle, ShareTaken, ShareLowered, ShareUnowned, MirrorEntry, WalksAre, CountIs, ForkOdd, ForkAlone, ForkLeft}
+use Rattle.gup_clauses.specs.Left.{alone_next, left_growing, left_next}
 use Rattle.gup_clauses.specs.Tally.{tally_is, tally_entry}
 use Rattle.gup_clauses.specs.Lonely.{once_wholes, prepared_whole, whole_none}
 use Rattle.gup_clauses.specs.Children.{only_fork, born_uncopied, uncopied_before, fork_here}
@@ -80,22 +81,24 @@ simulates-share_child s a p c done page f writable (v, h) can =
     let marking_entry : MarkingEntry V S = λ b m. grind (arith, nat_tests, h.marking_entry b m, h.marks_table b m, h.table_born m.proc b) in
     let moving_once : MovingOnce V S = λ b m. grind (arith, nat_tests, h.moving_once b m, h.whole_moved b m, once_wholes v s h p page m.proc m.page e m.entry, h.moves_table b m) in
     let next_fresh : (i : ℕ) → (Contains (page ∷ done) i → ⊥) → V.whole c i ≡ None = λ i un. let either = undone_either page done i un in let old = h.fork_fresh a i before mine refl either.1 in grind (arith, nat_tests, either.0) in
-    let other_fresh : (b i : ℕ) (k : Forking) → (b ≡ a → ⊥) → v.forks b ≡ Some k → is_failing k.step ≡ false → (Contains k.done i → ⊥) → V.whole k.child i ≡ None = λ b i k apart is going un. let old = h.fork_fresh b i k is going un in grind (arith, nat_tests, only_fork v s a b before k h mine refl is) in
+    let other_fresh : (b i : ℕ) (k : Forking) → (b ≡ a → ⊥) → v.forks b ≡ Some k → is_failing k.step ≡ false → (Contains k.done i → ⊥) → V.whole k.child i ≡ None = λ b i k apart is going un. let old = h.fork_fresh b i k is going un in grind (arith, nat_tests, only_fork v s a b before k h mine is) in
     let next_copied : (i w : ℕ) → Contains (page ∷ done) i → w < words → S.copied c i w ≡ true = λ i w has below. elim (done_either page done i has) [ inl same ↦ grind (arith, nat_tests) | inr old ↦ (let was = h.fork_copied a i w before mine refl old below in grind (arith, nat_tests)) ] in
     let next_uncopied : (i w : ℕ) → (Contains (page ∷ done) i → ⊥) → w < words → S.copied c i w ≡ nat_lt w 0 = λ i w un below. let either = undone_either page done i un in let old = h.fork_uncopied a i w before mine refl either.1 below in grind (arith, nat_tests, either.0) in
-    let other_copied : (b i w : ℕ) (k : Forking) → (b ≡ a → ⊥) → v.forks b ≡ Some k → S.copied k.child i w ≡ s.copied k.child i w = λ b i w k apart is. let other = only_fork v s a b before k h mine refl is in grind (arith, nat_tests, other) in
+    let other_copied : (b i w : ℕ) (k : Forking) → (b ≡ a → ⊥) → v.forks b ≡ Some k → S.copied k.child i w ≡ s.copied k.child i w = λ b i w k apart is. let other = only_fork v s a b before k h mine is in grind (arith, nat_tests, other) in
     let fork_fresh : ForkFresh V S = λ b i k is. elim (changed_fork v.forks a next b k is) [ inl e ↦ subst (λ (l : Forking). is_failing l.step ≡ false → (Contains l.done i → ⊥) → V.whole l.child i ≡ None) e.1 (λ going un. next_fresh i un) | inr e ↦ λ going un. other_fresh b i k e.0 e.1 going un ] in
     let fork_copied : ForkCopied V S = λ b i w k is. elim (changed_fork v.forks a next b k is) [ inl e ↦ subst (λ (l : Forking). is_failing l.step ≡ false → Contains l.done i → w < words → S.copied l.child i w ≡ true) e.1 (λ going has below. next_copied i w has below) | inr e ↦ λ going has below. other_copied b i w k e.0 e.1 ∙ h.fork_copied b i w k e.1 going has below ] in
     let fork_uncopied : ForkUncopied V S = λ b i w k is. elim (changed_fork v.forks a next b k is) [ inl e ↦ subst (λ (l : Forking). is_failing l.step ≡ false → (Contains l.done i → ⊥) → w < words → S.copied l.child i w ≡ nat_lt w (copied_words l.step i)) e.1 (λ going un below. next_uncopied i w un below) | inr e ↦ λ going un below. other_copied b i w k e.0 e.1 ∙ h.fork_uncopied b i w k e.1 going un below ] in
     let fork_undone : ForkUndone V S = λ b i. fork_after (λ b k. step_page k.step ≡ Some i → Contains k.done i → ⊥) v.forks a next (λ at. absurd (cc)) (λ b k other. h.fork_undone b i k) b in
     let fork_mapped : ForkMapped V S = λ b i. fork_after (λ b k. step_page k.step ≡ Some i → s.right k.child i ≡ None → ⊥) v.forks a next (λ at. absurd (cc)) (λ b k other. h.fork_mapped b i k) b in
-    let copy_words : CopyWords V S = λ b i n w u fork. grind (arith, nat_tests, h.copy_words b i n w u fork, only_fork v s a b before fork h mine refl, h.fork_mapped b i fork, λ (r : Rights). h.right_names fork.child i r, h.names_alone c page fork.child i (s.object c page)) in
+    let copy_words : CopyWords V S = λ b i n w u fork. grind (arith, nat_tests, h.copy_words b i n w u fork, only_fork v s a b before fork h mine, h.fork_mapped b i fork, λ (r : Rights). h.right_names fork.child i r, h.names_alone c page fork.child i (s.object c page)) in
     let copy_there : CopyThere V S = λ b i n fork. grind (arith, nat_tests, h.copy_there b i n fork) in
     let share_handle : ShareHandle V S = λ b i j n fork d. grind (arith, nat_tests, h.share_handle b i j n fork d, h.fork_parent b fork) in
     let share_taken : ShareTaken V S = λ b i y n fork d t. grind (arith, nat_tests, h.share_taken b i y n fork d t, h.fork_parent b fork) in
     let share_lowered : ShareLowered V S = λ b i fork d. grind (arith, nat_tests, h.share_lowered b i fork d, h.fork_parent b fork) in
     let share_unowned : ShareUnowned V S = λ b i fork d. grind (arith, nat_tests, h.share_unowned b i fork d, h.fork_parent b fork) in
     let mirror_entry : MirrorEntry V S = λ m u noted. grind (arith, nat_tests, h.mirror_entry m u noted, h.mirror_born m u noted) in
+    let fork_alone : ForkAlone V S = alone_next v.forks a before next mine refl h.fork_alone in
+    let fork_left : ForkLeft V S = left_next v.forks a next S.entry refl (left_growing v s c p page (Some (entry_of f false)) h grows) in
     let sound : IsSoundBy V S = assumption in
     record { sound = (V, sound); can = (page_forks v s p c page h grows mapped, λ w inside. h.fork_uncopied a page w before mine refl undone inside ∙ none_before w); same = ap (λ (x : ℕ × ℕ). record (plain_of s) { content = put x.1 (spread 0 words (s.content x.0) (s.content x.1)) s.content; copied = put2 c page (spread 0 words (λ _. true) (s.copied c page)) s.copied }) (sym (shown_same v s p c page h grows mapped)) }
 
@@ -140,17 +143,19 @@ simulates-pass_page s a p c done page (v, h) can =
     let other_fresh : (b i : ℕ) (k : Forking) → (b ≡ a → ⊥) → v.forks b ≡ Some k → is_failing k.step ≡ false → (Contains k.done i → ⊥) → V.whole k.child i ≡ None = λ b i k apart is going un. h.fork_fresh b i k is going un in
     let next_copied : (i w : ℕ) → Contains (page ∷ done) i → w < words → S.copied c i w ≡ true = λ i w has below. elim (done_either page done i has) [ inl same ↦ grind (arith, nat_tests) | inr old ↦ (let was = h.fork_copied a i w before mine refl old below in grind (arith, nat_tests)) ] in
     let next_uncopied : (i w : ℕ) → (Contains (page ∷ done) i → ⊥) → w < words → S.copied c i w ≡ nat_lt w 0 = λ i w un below. let either = undone_either page done i un in let old = h.fork_uncopied a i w before mine refl either.1 below in grind (arith, nat_tests, either.0) in
-    let other_copied : (b i w : ℕ) (k : Forking) → (b ≡ a → ⊥) → v.forks b ≡ Some k → S.copied k.child i w ≡ s.copied k.child i w = λ b i w k apart is. let other = only_fork v s a b before k h mine refl is in grind (arith, nat_tests, other) in
+    let other_copied : (b i w : ℕ) (k : Forking) → (b ≡ a → ⊥) → v.forks b ≡ Some k → S.copied k.child i w ≡ s.copied k.child i w = λ b i w k apart is. let other = only_fork v s a b before k h mine is in grind (arith, nat_tests, other) in
     let fork_fresh : ForkFresh V S = λ b i k is. elim (changed_fork v.forks a next b k is) [ inl e ↦ subst (λ (l : Forking). is_failing l.step ≡ false → (Contains l.done i → ⊥) → V.whole l.child i ≡ None) e.1 (λ going un. next_fresh i un) | inr e ↦ λ going un. other_fresh b i k e.0 e.1 going un ] in
     let fork_copied : ForkCopied V S = λ b i w k is. elim (changed_fork v.forks a next b k is) [ inl e ↦ subst (λ (l : Forking). is_failing l.step ≡ false → Contains l.done i → w < words → S.copied l.child i w ≡ true) e.1 (λ going has below. next_copied i w has below) | inr e ↦ λ going has below. other_copied b i w k e.0 e.1 ∙ h.fork_copied b i w k e.1 going has below ] in
     let fork_uncopied : ForkUncopied V S = λ b i w k is. elim (changed_fork v.forks a next b k is) [ inl e ↦ subst (λ (l : Forking). is_failing l.step ≡ false → (Contains l.done i → ⊥) → w < words → S.copied l.child i w ≡ nat_lt w (copied_words l.step i)) e.1 (λ going un below. next_uncopied i w un below) | inr e ↦ λ going un below. other_copied b i w k e.0 e.1 ∙ h.fork_uncopied b i w k e.1 going un below ] in
     let fork_undone : ForkUndone V S = λ b i. fork_after (λ b k. step_page k.step ≡ Some i → Contains k.done i → ⊥) v.forks a next (λ at. absurd (cc)) (λ b k other. h.fork_undone b i k) b in
     let fork_mapped : ForkMapped V S = λ b i. fork_after (λ b k. step_page k.step ≡ Some i → s.right k.child i ≡ None → ⊥) v.forks a next (λ at. absurd (cc)) (λ b k other. h.fork_mapped b i k) b in
-    let copy_words : CopyWords V S = λ b i n w u fork. grind (arith, nat_tests, h.copy_words b i n w u fork, only_fork v s a b before fork h mine refl, h.fork_mapped b i fork, λ (r : Rights). h.right_names fork.child i r, h.names_alone c page fork.child i (s.object c page)) in
+    let copy_words : CopyWords V S = λ b i n w u fork. grind (arith, nat_tests, h.copy_words b i n w u fork, only_fork v s a b before fork h mine, h.fork_mapped b i fork, λ (r : Rights). h.right_names fork.child i r, h.names_alone c page fork.child i (s.object c page)) in
     let copy_there : CopyThere V S = λ b i n fork. grind (arith, nat_tests, h.copy_there b i n fork) in
     let share_handle : ShareHandle V S = λ b i j n k d. fork_after (λ b k. shared_page k.step ≡ Some i → v.whole k.proc i ≡ Some d → slice_get (s.pinned j) n ≡ Some d.frame → ⊥) v.forks a next (λ at. absurd (cc)) (λ b k other was. h.share_handle b i j n k d was) b k in
     let share_taken : ShareTaken V S = λ b i y n k d t. fork_after (λ b k. shared_page k.step ≡ Some i → v.whole k.proc i ≡ Some d → slice_get (s.taken y) n ≡ Some t → is_open (v.walks y) ≡ false → t.frame ≡ d.frame → ⊥) v.forks a next (λ at. absurd (cc)) (λ b k other was. h.share_taken b i y n k d t was) b k in
     let share_lowered : ShareLowered V S = λ b i k d. fork_after (λ b k. lowered_page k.step ≡ Some i → v.whole k.proc i ≡ Some d → d.writable ≡ false) v.forks a next (λ at. absurd (cc)) (λ b k other was. h.share_lowered b i k d was) b k in
     let share_unowned : ShareUnowned V S = λ b i k d. fork_after (λ b k. k.step ≡ cleared i → v.whole k.proc i ≡ Some d → s.own d.frame ≡ None) v.forks a next (λ at. absurd (cc)) (λ b k other was. h.share_unowned b i k d was) b k in
+    let fork_alone : ForkAlone V S = alone_next v.forks a before next mine refl h.fork_alone in
+    let fork_left : ForkLeft V S = left_next v.forks a next s.entry refl h.fork_left in
     let sound : IsSoundBy V S = assumption in
     record { sound = (V, sound); can = (page_forks v s p c page h grows mapped, λ w inside. h.fork_uncopied a page w before mine refl undone inside ∙ none_before w); same = ap (λ (x : ℕ × ℕ). record (plain_of s) { content = put x.1 (spread 0 words (s.content x.0) (s.content x.1)) s.content; copied = put2 c page (spread 0 words (λ _. true) (s.copied c page)) s.copied }) (sym (shown_same v s p c page h grows mapped)) }

@@ -9,7 +9,8 @@ use Rattle.gup_events.specs.State.{CoreState, Taken, counted, lowered, cleared}
 use Rattle.gup_events.specs.Event.{Can, happens, entry_of, is_odd, share_entry, share_mark}
 use Rattle.gup_events.specs.Invariant.{is_inside}
 use Rattle.gup_events.specs.Sound.{View, Forking, Walking, is_failing, marking_of, moving_of, IsSoundBy, IsSound, Simulates, IsUncopiedBy, step_page, shared_page, lowered_page, is_open, birth_of_child, copied_words}
-use Rattle.gup_clauses.specs.Clauses.{References, MarksAre, MovesAre, ForksAre, WholeEntry, WholeMoved, WholeFree, WholeKept, WholeOther, MovedGone, WholeNames, ForksTable, ForksStructure, TableHeld, StructureHeld, ForkParent, ForkBirth, GrowingForked, OwnAlone, OwnMade, OwnNames, OwnEntry, OwnWords, OwnMarked, OwnMarking, MarkedOwn, EntryMapped, EntryMarked, EntryAllowed, EntryWords, Untouched, HandleMarked, HandleOwn, HandleFlag, TakenMarked, TakenOwn, PreparedUnmarked, PreparedUnowned, PreparedZero, MarkingEntry, MarkingOwn, ForkFresh, ForkCopied, ForkUncopied, ForkUndone, ForkMapped, CopyWords, CopyThere, ShareHandle, ShareTaken, ShareLowered, ShareUnowned, MirrorEntry, WalksAre, ForkOdd, WalkOwn, WalkUnowned, WalkKept, WalkWritable}
+use Rattle.gup_clauses.specs.Clauses.{References, MarksAre, MovesAre, ForksAre, WholeEntry, WholeMoved, WholeFree, WholeKept, WholeOther, MovedGone, WholeNames, ForksTable, ForksStructure, TableHeld, StructureHeld, ForkParent, ForkBirth, GrowingForked, OwnAlone, OwnMade, OwnNames, OwnEntry, OwnWords, OwnMarked, OwnMarking, MarkedOwn, EntryMapped, EntryMarked, EntryAllowed, EntryWords, Untouched, HandleMarked, HandleOwn, HandleFlag, TakenMarked, TakenOwn, PreparedUnmarked, PreparedUnowned, PreparedZero, MarkingEntry, MarkingOwn, ForkFresh, ForkCopied, ForkUncopied, ForkUndone, ForkMapped, CopyWords, CopyThere, ShareHandle, ShareTaken, ShareLowered, ShareUnowned, MirrorEntry, WalksAre, ForkOdd, WalkOwn, WalkUnowned, WalkKept, WalkWritable, ForkAlone, ForkLeft}
+use Rattle.gup_clauses.specs.Left.{alone_next, left_born, left_next}
 use Rattle.gup_clauses.specs.Done.{fork_after}
 use Rattle.gup_fork_laws.proofs.Disturbed.{rechecked_inside}
 use Rattle.gup_clauses.specs.Tally.{tally_is, tally_entry}
@@ -75,6 +76,8 @@ simulates-share_entry s a p c done page f writable (v, h) can =
     let share_lowered : ShareLowered V S = λ b i fork d. grind (arith, nat_tests, h.share_lowered b i fork d, h.forks_table b i fork, lowered_is_shared fork.step i, shared_is_step fork.step i) in
     let share_unowned : ShareUnowned V S = λ b i fork d. grind (arith, nat_tests, h.share_unowned b i fork d, h.share_unowned b i fork e) in
     let mirror_entry : MirrorEntry V S = λ m u noted. grind (arith, nat_tests, h.mirror_entry m u noted) in
+    let fork_alone : ForkAlone V S = alone_next v.forks a before next mine refl h.fork_alone in
+    let fork_left : ForkLeft V S = left_next v.forks a next S.entry refl (left_born v s p page (Some (entry_of f false)) h lives) in
     let sound : IsSoundBy V S = assumption in
     record { sound = (V, sound); can = tt; same = refl }
 
@@ -151,5 +154,7 @@ simulates-share_mark s a p c done page f writable (v, h) can =
     let share_taken : ShareTaken V S = λ b i y n k d t. fork_after (λ b k. shared_page k.step ≡ Some i → v.whole k.proc i ≡ Some d → slice_get (s.taken y) n ≡ Some t → is_open (v.walks y) ≡ false → t.frame ≡ d.frame → ⊥) v.forks a next (h.share_taken a i y n before d t mine) (λ b k other was. h.share_taken b i y n k d t was) b k in
     let share_lowered : ShareLowered V S = λ b i k d. fork_after (λ b k. lowered_page k.step ≡ Some i → v.whole k.proc i ≡ Some d → d.writable ≡ false) v.forks a next (h.share_lowered a i before d mine) (λ b k other was. h.share_lowered b i k d was) b k in
     let share_unowned : ShareUnowned V S = λ b i fork d. grind (arith, nat_tests, h.share_unowned b i fork d) in
+    let fork_alone : ForkAlone V S = alone_next v.forks a before next mine refl h.fork_alone in
+    let fork_left : ForkLeft V S = left_next v.forks a next s.entry refl h.fork_left in
     let sound : IsSoundBy V S = assumption in
     record { sound = (V, sound); can = tt; same = refl }

@@ -5,7 +5,7 @@ ghost use Rattle.std.specs.Prelude.{ℕ, Bool, List};
 ghost use Rattle.gup_base.specs.declared.entry.Entry.{Entry};
 ghost use Rattle.gup_base.specs.declared.entry.Rights.{Rights};
 ghost use Rattle.gup_events.specs.State.{ForkStep};
-ghost use Rattle.gup_events.specs.Event.{begin_fork, count_page, share_entry, share_mark, share_child, pass_page, copy_word, place_child, end_fork, fail_fork, put_child, release_fork, fail_unborn};
+ghost use Rattle.gup_events.specs.Event.{begin_fork, count_page, share_entry, share_mark, share_child, pass_page, copy_word, place_child, end_fork, fail_fork, put_child, fail_unborn};
 ghost use Rattle.gup_clauses.specs.Simulated.{IsSimulated};
 
 /// The events of a fork leave a sound state sound, and are their plain events.
@@ -19,8 +19,7 @@ pub fn forks_simulate()
     ensures copy_word { (a p c : ℕ) (done : List ℕ) (page word to : ℕ) (entry : Entry) → IsSimulated (copy_word a p c done page word to entry) }
     ensures place_child { (a p c : ℕ) (done : List ℕ) (page to : ℕ) (rights : Rights) → IsSimulated (place_child a p c done page to rights) }
     ensures end_fork { (a p c : ℕ) (done : List ℕ) → IsSimulated (end_fork a p c done) }
-    ensures fail_fork { (a p c : ℕ) (done : List ℕ) (step : ForkStep) → IsSimulated (fail_fork a p c done step) }
-    ensures put_child { (a p c : ℕ) (done : List ℕ) (page : ℕ) (entry : Entry) → IsSimulated (put_child a p c done page entry) }
-    ensures release_fork { (a p c : ℕ) (done : List ℕ) → IsSimulated (release_fork a p c done) }
+    ensures fail_fork { (a p c : ℕ) (done : List ℕ) (step : ForkStep) (over : Bool) → IsSimulated (fail_fork a p c done step over) }
+    ensures put_child { (a p c : ℕ) (done : List ℕ) (page : ℕ) (entry : Entry) (over : Bool) → IsSimulated (put_child a p c done page entry over) }
     ensures fail_unborn { (a p c : ℕ) → IsSimulated (fail_unborn a p c) }
 {}

@@ -1,6 +1,6 @@
 //! What an actor is in the middle of.
-ghost use Rattle.std.specs.Prelude.{◌≡◌, ◌↔◌, IsTrue};
-ghost use Rattle.gup_events.specs.State.{idle, marking, moving, forking, walking};
+ghost use Rattle.std.specs.Prelude.{◌≡◌, ◌↔◌, if◌then◌else◌, IsTrue};
+ghost use Rattle.gup_events.specs.State.{idle, marking, moving, forking, walking, failing};
 ghost use Rattle.gup_events.specs.Event.{MayPrepare, MayFail};
 ghost use Rattle.gup_jobs.specs.Job.{job_of, step_of, count_of, walk_of};
 
@@ -97,13 +97,7 @@ impl Job {
     }
 
     /// Moving the page to these zones.
-    pub fn moving(
-        p: ProcNo,
-        page: PageNo,
-        entry: Entry,
-        allowed: Allowed,
-        count: Counted,
-    ) -> Job
+    pub fn moving(p: ProcNo, page: PageNo, entry: Entry, allowed: Allowed, count: Counted) -> Job
         ensures { result ≡ moving p page entry allowed (count_of count) }
     {
         Job {
@@ -117,6 +111,17 @@ impl Job {
     {
         Job {
             stage: Stage::Forking(p, c, done, step),
+        }
+    }
+
+    /// What is left to do of a fork of `p` into `c` that fails: nothing where it is over.
+    pub fn failing(p: ProcNo, c: ProcNo, done: Vec<PageNo>, over: bool) -> Job
+        ensures { result ≡ (if over then idle else forking p c done.items failing) }
+    {
+        if over {
+            Job::idle()
+        } else {
+            Job::forking(p, c, done, ForkStep::Failing)
         }
     }
 

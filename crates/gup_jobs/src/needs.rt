@@ -4,7 +4,7 @@ ghost use Rattle.std.specs.Option.{option_map};
 ghost use Rattle.gup_base.specs.declared.entry.Entry.{Entry as EntryValue};
 ghost use Rattle.gup_base.specs.declared.entry.Rights.TheVariants.{RW};
 ghost use Rattle.gup_events.specs.Event.{entry_of, counted_as, is_writable};
-ghost use Rattle.gup_events.specs.State.{unread, counted, copying};
+ghost use Rattle.gup_events.specs.State.{idle, unread, counted, copying};
 ghost use Rattle.gup_parts.specs.Contents.{content_of};
 ghost use Rattle.gup_plain.specs.Event.{IsHeldBy};
 ghost use Rattle.gup_plain.specs.Put.{put};
@@ -13,9 +13,9 @@ ghost use Rattle.gup_rows.specs.Row.{at};
 ghost use Rattle.gup_jobs.specs.Job.{count_of, step_of};
 ghost use Rattle.gup_jobs.specs.Needs.{after_unpin, table_after};
 
-use crate::job::{Counted, ForkStep};
+use crate::job::{Counted, ForkStep, Job};
 use crate::refused::Refused;
-use gup_base::{ActorNo, Entry, FrameNo, HandleNo, NoMemory, PageNo, Rights, WordNo};
+use gup_base::{ActorNo, Entry, FrameNo, HandleNo, NoMemory, PageNo, ProcNo, Rights, WordNo};
 use gup_parts::contents::Contents;
 use gup_rows::clearing::clear;
 use gup_rows::handles::Handles;
@@ -230,6 +230,24 @@ pub fn after_failure(step: &ForkStep, holder: Option<ActorNo>) -> Option<ActorNo
     match *step {
         ForkStep::Between => holder,
         _ => None,
+    }
+}
+
+/// Lets the lock of the process go, where a fork is over.
+pub fn free_if(lock: &mut Row<Option<ActorNo>, 16>, p: ProcNo, over: bool)
+    ensures { at lock.new ≡ (if over then put p None (at lock.old) else at lock.old) }
+{
+    if over {
+        lock.put(p, None);
+    }
+}
+
+/// The actor is in the middle of nothing, where its fork is over.
+pub fn end_if(job: &mut Row<Job, 81>, a: ActorNo, over: bool)
+    ensures { at job.new ≡ (if over then put a idle (at job.old) else at job.old) }
+{
+    if over {
+        job.put(a, Job::idle());
     }
 }
 

@@ -134,8 +134,7 @@ they_can_happen =
     and_then refl
     and_then (refl, refl, (refl, refl), (refl, refl), refl, refl)
     and_then (refl, refl, refl, no_element 7, refl)
-    and_then (refl, tt, refl)
-    and_then (refl, λ page. refl)
+    and_then (refl, tt, refl, λ page. refl)
     and_then (refl, refl)
     and_then (tt, refl, omega arith, refl)
     and_then (refl, (refl, refl), refl, refl, refl, refl)
@@ -144,9 +143,8 @@ they_can_happen =
     and_then (refl, refl, λ m noted is at proc page. emptied m is)
     and_then (refl, refl)
     and_then (refl, refl)
-    and_then (refl, tt, refl)
-    and_then (refl, refl)
-    and_then (refl, given_back)
+    and_then (refl, tt, refl, (7, refl))
+    and_then (refl, refl, given_back)
     and_then (refl, (refl, refl), (refl, refl), refl, refl, refl)
     and_then refl
     and_then refl

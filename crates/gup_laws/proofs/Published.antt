@@ -225,6 +225,7 @@ module _ (v : View) (s : CoreState) (h : IsSoundBy v s) where
         share = λ a p c page done step e is sharing here o.
             unshared a page (record { proc = p; child = c; done = done; step = step }) e o (is_forking a p c done step is) (sharing_is step page sharing) (h.whole_entry p page e here);
         share_walk = disturbed;
+        left = λ a p c done is. h.fork_left a (record { proc = p; child = c; done = done; step = failing }) (is_forking a p c done failing is) refl;
         move = λ a p page e allowed is o settled. omega (arith, moved_once a p page e allowed is, settled_counts e.frame o settled);
         move_walk = untaken;
       }

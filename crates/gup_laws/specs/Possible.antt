@@ -5,7 +5,7 @@ use Rattle.gup_base.specs.declared.entry.Allowed.TheVariants.{Any, Only}
 use Rattle.gup_base.specs.declared.entry.Rights.TheVariants.{RW}
 use Rattle.gup_base.specs.declared.entry.Zone.TheVariants.{Normal}
 use Rattle.gup_events.specs.State.{Taken, more, between, ready, stopped}
-use Rattle.gup_events.specs.Event.{CoreEvent, entry_of, map_pages, take_frame, fill, upgrade, store, load, fill_mirror, look, empty_mirror, raise_flag, pin_page, make_handle, move_in, move_out, give_handle, take_handle, unpin_page, begin_fork, count_page, share_entry, share_mark, share_child, end_fork, break_entry, put_entry, count_one, set_mark, clear_entry, count_moved, place_frame, get_reference, restore_entry, put_reference, lower_entry, protect_pages, drop_entry, discard_entry, pass_page, fail_fork, release_fork, fail_unborn, put_child, copy_word, enter_walk, read_sequence, read_entry, grab_frame, miss_frame, recheck_same, recheck_other, read_mark, read_again, drop_grab, drop_last, drop_first, leave_walk}
+use Rattle.gup_events.specs.Event.{CoreEvent, entry_of, map_pages, take_frame, fill, upgrade, store, load, fill_mirror, look, empty_mirror, raise_flag, pin_page, make_handle, move_in, move_out, give_handle, take_handle, unpin_page, begin_fork, count_page, share_entry, share_mark, share_child, end_fork, break_entry, put_entry, count_one, set_mark, clear_entry, count_moved, place_frame, get_reference, restore_entry, put_reference, lower_entry, protect_pages, drop_entry, discard_entry, pass_page, fail_fork, fail_unborn, put_child, copy_word, enter_walk, read_sequence, read_entry, grab_frame, miss_frame, recheck_same, recheck_other, read_mark, read_again, drop_grab, drop_last, drop_first, leave_walk}
 
 abbrev pub first_born : ℕ → Bool
 first_born p = p == 0
@@ -105,8 +105,7 @@ one_run =
     ∷ put_entry 1 5
     ∷ begin_fork 1 1 2
     ∷ pass_page 1 1 2 [] 7
-    ∷ fail_fork 1 1 2 (7 ∷ []) between
-    ∷ release_fork 1 1 2 (7 ∷ [])
+    ∷ fail_fork 1 1 2 (7 ∷ []) between true
     ∷ fail_unborn 3 2 3
     ∷ take_frame 1 6
     ∷ fill 1 1 7 6
@@ -115,9 +114,8 @@ one_run =
     ∷ share_entry 1 1 4 [] 7 6 false
     ∷ share_mark 1 1 4 [] 7 6 false
     ∷ share_child 1 1 4 [] 7 6 false
-    ∷ fail_fork 1 1 4 (7 ∷ []) between
-    ∷ put_child 1 1 4 (7 ∷ []) 7 (entry_of 6 false)
-    ∷ release_fork 1 1 4 (7 ∷ [])
+    ∷ fail_fork 1 1 4 (7 ∷ []) between false
+    ∷ put_child 1 1 4 (7 ∷ []) 7 (entry_of 6 false) true
     ∷ count_one 1 1 7 6 false
     ∷ set_mark 1 1 7 6
     ∷ raise_flag 1 1

@@ -8,7 +8,8 @@ use Rattle.gup_plain.specs.Put.{put, put2}
 use Rattle.gup_events.specs.State.{CoreState, idle, Counted, unread, one}
 use Rattle.gup_events.specs.Event.{Can, happens, entry_of, counted_as, clear_entry, count_moved, place_frame, restore_entry}
 use Rattle.gup_events.specs.Sound.{View, Moving, IsSoundBy, IsSound, Simulates}
-use Rattle.gup_clauses.specs.Clauses.{References, MarksAre, MovesAre, ForksAre, WalksAre, WholeEntry, WholeMoved, WholeFree, WholeKept, WholeOther, MovedGone, WholeNames, MarksTable, MovesTable, ForksTable, TableHeld, StructureHeld, TableBorn, OwnAlone, OwnMade, OwnNames, OwnEntry, OwnWords, OwnMarked, OwnMarking, MarkedOwn, EntryMapped, EntryMarked, EntryAllowed, EntryWords, Untouched, HandleMarked, HandleOwn, HandleFlag, TakenMarked, TakenOwn, WalkOwn, WalkUnowned, WalkKept, WalkWritable, PreparedOnce, PreparedUnmarked, PreparedUnowned, PreparedZero, MarkingEntry, MarkingOwn, MovingOnce, ForkFresh, CopyWords, CopyThere, ShareHandle, ShareTaken, ShareLowered, ShareUnowned, MirrorEntry}
+use Rattle.gup_clauses.specs.Clauses.{References, MarksAre, MovesAre, ForksAre, WalksAre, WholeEntry, WholeMoved, WholeFree, WholeKept, WholeOther, MovedGone, WholeNames, MarksTable, MovesTable, ForksTable, TableHeld, StructureHeld, TableBorn, OwnAlone, OwnMade, OwnNames, OwnEntry, OwnWords, OwnMarked, OwnMarking, MarkedOwn, EntryMapped, EntryMarked, EntryAllowed, EntryWords, Untouched, HandleMarked, HandleOwn, HandleFlag, TakenMarked, TakenOwn, WalkOwn, WalkUnowned, WalkKept, WalkWritable, PreparedOnce, PreparedUnmarked, PreparedUnowned, PreparedZero, MarkingEntry, MarkingOwn, MovingOnce, ForkFresh, CopyWords, CopyThere, ShareHandle, ShareTaken, ShareLowered, ShareUnowned, MirrorEntry, ForkLeft}
+use Rattle.gup_clauses.specs.Left.{left_born}
 use Rattle.gup_clauses.specs.Tally.{tally_is, tally_entry, tally_moves, tally_prepared, tally_owed}
 use Rattle.gup_clauses.specs.Steps.{shared_is_step}
 use Rattle.gup_clauses.specs.Lonely.{whole_alone, once_wholes, handle_counts, taken_counts, prepared_whole, prepared_alone}
@@ -44,6 +45,7 @@ simulates-clear_entry s a p page e allowed (v, h) c =
     let own_marking : OwnMarking V S = λ q i o b d. grind (arith, nat_tests, h.own_marking q i o b d, h.own_marked q i o d) in
     let moving_once : MovingOnce V S = λ b m. grind (arith, nat_tests, h.moving_once b m) in
     let mirror_entry : MirrorEntry V S = λ m u noted. grind (arith, nat_tests, h.mirror_entry m u noted, c.5 m noted) in
+    let fork_left : ForkLeft V S = left_born v s p page None h c.0 in
     let sound : IsSoundBy V S = assumption in
     record { sound = (V, sound); can = tt; same = refl }
 
@@ -145,6 +147,7 @@ simulates-place_frame s a p page f e allowed (v, h) c =
     let walk_unowned : WalkUnowned V S = λ b n w t. grind (arith, nat_tests, h.walk_unowned b n w t, taken_counts v s h b n t, h.prepared_once a f) in
     let walk_kept : WalkKept V S = λ b n w t. grind (arith, nat_tests, h.walk_kept b n w t, taken_counts v s h b n t, h.prepared_once a f) in
     let walk_writable : WalkWritable V S = λ b n w t d. grind (arith, nat_tests, h.walk_writable b n w t d, taken_counts v s h b n t, h.prepared_once a f) in
+    let fork_left : ForkLeft V S = left_born v s p page (Some (entry_of f e.writable)) h (h.table_born p a locked) in
     let sound : IsSoundBy V S = assumption in
     record { sound = (V, sound); can = tt; same = refl }
 
@@ -181,5 +184,6 @@ simulates-restore_entry s a p page e allowed count (v, h) c =
     let own_marking : OwnMarking V S = λ q i o b d. grind (arith, nat_tests, h.own_marking q i o b d) in
     let moving_once : MovingOnce V S = λ b m. grind (arith, nat_tests, h.moving_once b m) in
     let mirror_entry : MirrorEntry V S = λ m u noted. grind (arith, nat_tests, h.mirror_entry m u noted) in
+    let fork_left : ForkLeft V S = left_born v s p page (Some e) h (h.table_born p a locked) in
     let sound : IsSoundBy V S = assumption in
     record { sound = (V, sound); can = tt; same = refl }

@@ -1,5 +1,5 @@
 -- Rows of a grid: copies of a map, and what holds of all its keys.
-use Rattle.std.proofs.Common.{◌≡◌, ℕ, Bool, true, false, cond, List, [], ◌∷◌, map, Option, Some, None, refl, sym, ◌∙◌, ap, length, ◌↔◌, arith}
+use Rattle.std.proofs.Common.{◌≡◌, ℕ, Bool, true, false, cond, List, [], ◌∷◌, map, Option, Some, None, IsSome, IsTrue, ◌==◌, refl, sym, ◌∙◌, ap, length, ◌↔◌, arith}
 use Rattle.std.proofs.Math.Path.{fun_ext}
 use Rattle.std.proofs.lemmas.Bool.Decides.{nat_tests}
 use Rattle.std.proofs.lemmas.Cmp.{nat_cmp_total}
@@ -11,6 +11,8 @@ use Rattle.std.specs.List.{IsDistinct}
 use Rattle.std.specs.Map.{lookup, keys_of}
 use Rattle.std.specs.Option.{option_map}
 use Rattle.std.specs.Ordering.{nat_cmp, eq_by_cmp, is_eq}
+use Rattle.gup_base.specs.declared.entry.Entry.{Entry}
+use Rattle.gup_events.specs.Event.{AreGone}
 
 -- an entry whose value is changed by its key
 abbrev pub changed : {V W : Type 0} → (ℕ → V → W) → ℕ × V → ℕ × W
@@ -60,6 +62,13 @@ listed-none : {V : Type 0} (es : List (ℕ × V)) → ((k : ℕ) → lookup (is_
 listed-none [] none = refl
 listed-none (e ∷ es) none = let clash : Some e.1 ≡ None = (rw (self-key e.0) at (none e.0)) in absurd (cc)
 
--- a map without entries has nothing at any key
-pub without_entries : {V : Type 0} (m : BTreeMap ℕ V) → (length m.entries ≡ 0) ↔ ((k : ℕ) → get nat_cmp m k ≡ None)
-without_entries m = (none-listed m.entries, listed-none m.entries)
+one-listed : {V : Type 0} (es : List (ℕ × V)) → (length es ≡ 0 → ⊥) → (k : ℕ) × IsSome (lookup (is_at (nat_cmp k)) es)
+one-listed [] some = absurd (some refl)
+one-listed (e ∷ es) some = (e.0, rw (self-key e.0) refl)
+
+-- a map of entries has nothing at any key where it is empty, and else something at one
+pub gone_is : (m : BTreeMap ℕ Entry) (empty gone : Bool) → IsTrue empty ↔ (length m.entries ≡ 0) → IsTrue (empty == gone) ↔ AreGone (get nat_cmp m) gone
+gone_is m true true is = ((λ _. none-listed m.entries (is.0 refl)), λ _. refl)
+gone_is m false false is = ((λ _. one-listed m.entries (λ none. let no : false ≡ true = is.1 none in cc)), λ _. refl)
+gone_is m true false is = ((λ h. absurd (cc)), λ some. let none : get nat_cmp m some.0 ≡ None = none-listed m.entries (is.0 refl) some.0 in absurd (let h : IsSome (get nat_cmp m some.0) = some.1 in cc))
+gone_is m false true is = ((λ h. absurd (cc)), λ none. is.1 (listed-none m.entries none))

@@ -2,12 +2,13 @@
 ghost use Rattle.std.specs.Prelude.{◌≡◌, ℕ, ◌+◌, ◌<◌, ◌≤◌, ◌^◌, ◌↔◌, IsTrue, IsSome, Some, None, All, Contains, Option, IfOk};
 ghost use Rattle.std.specs.BTreeMap.{get, keys};
 ghost use Rattle.std.specs.Ordering.{nat_cmp};
+ghost use Rattle.gup_events.specs.Event.{AreGone};
 ghost use Rattle.gup_plain.specs.Put.{put, put2, spread};
 ghost use Rattle.gup_rows.specs.Grid.{found};
 ghost use Rattle.gup_rows.specs.Lists.{IsOneOf};
 
 use crate::row::Row;
-use gup_base::{NoMemory, PageNo, ProcNo};
+use gup_base::{Entry, NoMemory, PageNo, ProcNo};
 use std::alloc::Global;
 use std::collections::BTreeMap;
 
@@ -41,6 +42,13 @@ fn all_among<V>(row: &BTreeMap<PageNo, V>, pages: &[PageNo]) -> bool
     row.keys().all(|page| has_page(pages, *page))
 }
 
+/// Whether it is so that no page has an entry, or that one has.
+pub fn are_gone(row: &BTreeMap<PageNo, Entry>, gone: bool) -> bool
+    ensures { IsTrue result ↔ AreGone (get nat_cmp row.now) gone }
+{
+    row.is_empty() == gone
+}
+
 impl<V: Copy + Drop> Grid<V> {
     /// No values.
     #[tactic(auto, unfolding(crate::specs::Grid::found))]
@@ -67,13 +75,6 @@ impl<V: Copy + Drop> Grid<V> {
         ensures { get nat_cmp result.now ≡ found self.now p }
     {
         self.rows.get(p)
-    }
-
-    /// Whether no page has a value.
-    pub fn is_blank(&self, p: ProcNo) -> bool
-        ensures { IsTrue result ↔ ((page : ℕ) → found self.now p page ≡ None) }
-    {
-        self.row(p).is_empty()
     }
 
     /// Whether each page that has a value is one of these.

@@ -11,14 +11,14 @@ use gup_base::{ActorNo, Entry, FrameNo, PageNo, ProcNo, Rights, WordNo};
 use gup_jobs::job::{ForkStep, Job, may_fail};
 use gup_jobs::lists::{same_pages, with_page};
 use gup_jobs::needs::{
-    after_failure, entry_to, first_step, give_back, is_entry, is_frame, is_right, is_writable,
-    need, sum,
+    after_failure, end_if, entry_to, first_step, free_if, give_back, is_entry, is_frame, is_right,
+    is_writable, need, sum,
 };
 use gup_jobs::refused::Refused;
 use gup_jobs::taken::has_none;
 use gup_parts::space::PAGE_NUMBERS;
 use gup_rows::clearing::clear;
-use gup_rows::grid::has_page;
+use gup_rows::grid::{are_gone, has_page};
 
 impl Trial {
     // Whether a fork copies the page with this frame.
@@ -290,7 +290,7 @@ impl Trial {
         Ok(())
     }
 
-    /// No frame is left: the child's mappings go at once, its entries one by one.
+    /// No frame is left: the child's mappings go at once, its entries one by one. Where it has none the fork is over.
     pub fn fail_fork(
         &mut self,
         a: ActorNo,
@@ -298,13 +298,15 @@ impl Trial {
         c: ProcNo,
         done: &[PageNo],
         step: ForkStep,
+        over: bool,
     ) -> Result<(), Refused>
-        ensures { Tried (state_of self.old) (state_of self.new) (core.fail_fork a p c done.now (step_of step)) result }
+        ensures { Tried (state_of self.old) (state_of self.new) (core.fail_fork a p c done.now (step_of step) over) result }
     {
         need(may_fail(&step))?;
         let table = after_failure(&step, *self.table.get(p));
         need(self.job.get(a).is_forking(p, c, done, step))?;
         need(self.prepared.get(a).is_none())?;
+        need(are_gone(self.entry.row(c), over))?;
         let done = same_pages(self.alloc, done)?;
         let sequence = sum(*self.sequence.get(p), 1)?;
         self.procs.fail(c);
@@ -312,11 +314,12 @@ impl Trial {
         self.pages.put(c, 0);
         self.sequence.put(p, sequence);
         self.table.put(p, table);
-        self.job.put(a, Job::forking(p, c, done, ForkStep::Failing));
+        free_if(&mut self.structure, p, over);
+        self.job.put(a, Job::failing(p, c, done, over));
         Ok(())
     }
 
-    /// A reference of the failed child is given back.
+    /// A reference of the failed child is given back. Where that was the last the fork is over.
     pub fn put_child(
         &mut self,
         a: ActorNo,
@@ -325,12 +328,14 @@ impl Trial {
         done: &[PageNo],
         page: PageNo,
         entry: Entry,
+        over: bool,
     ) -> Result<(), Refused>
-        ensures { Tried (state_of self.old) (state_of self.new) (core.put_child a p c done.now page entry) result }
+        ensures { Tried (state_of self.old) (state_of self.new) (core.put_child a p c done.now page entry over) result }
     {
         need(self.job.get(a).is_forking(p, c, done, ForkStep::Failing))?;
         need(is_entry(self.entry.get(c, page), &entry))?;
         let row = self.entry.without(c, page)?;
+        need(are_gone(&row, over))?;
         give_back(
             &mut self.count,
             &mut self.mark,
@@ -339,23 +344,8 @@ impl Trial {
             1,
         );
         self.entry.put_at(c, page, None, row);
-        Ok(())
-    }
-
-    /// The failed child has nothing left, and the structure lock is let go.
-    pub fn release_fork(
-        &mut self,
-        a: ActorNo,
-        p: ProcNo,
-        c: ProcNo,
-        done: &[PageNo],
-    ) -> Result<(), Refused>
-        ensures { Tried (state_of self.old) (state_of self.new) (core.release_fork a p c done.now) result }
-    {
-        need(self.job.get(a).is_forking(p, c, done, ForkStep::Failing))?;
-        need(self.entry.is_blank(c))?;
-        self.structure.put(p, None);
-        self.job.put(a, Job::idle());
+        free_if(&mut self.structure, p, over);
+        end_if(&mut self.job, a, over);
         Ok(())
     }
 

@@ -9,7 +9,8 @@ use gup_rows::grid::has_page;
 use std::alloc::Global;
 use std::test::Fail;
 
-// A machine that random events are tried on, and how often each of the 44 kinds has happened.
+// A machine that random events are tried on, and how often each of the 44 kinds has happened. A fork that fails and is
+// over is a kind of its own.
 #[derive(Drop)]
 struct Run {
     trial: Trial,
@@ -417,10 +418,12 @@ impl Run {
         let n = self.roll(3);
         let g = page(n);
         let (f, writable) = self.entry_at(c, g);
-        let tried = self.trial.put_child(a, p, c, done, g, entry(f, writable));
-        self.tell(29, tried);
-        let tried = self.trial.release_fork(a, p, c, done);
-        self.tell(30, tried);
+        for over in [false, true] {
+            let tried = self
+                .trial
+                .put_child(a, p, c, done, g, entry(f, writable), over);
+            self.tell(29, tried);
+        }
     }
 
     fn go_on_forking(
@@ -433,8 +436,10 @@ impl Run {
     ) {
         let done = done.as_slice();
         if self.roll(24) == 0 {
-            let tried = self.trial.fail_fork(a, p, c, done, step);
+            let tried = self.trial.fail_fork(a, p, c, done, step, false);
             self.tell(28, tried);
+            let tried = self.trial.fail_fork(a, p, c, done, step, true);
+            self.tell(30, tried);
             return;
         }
         match step {

@@ -3,7 +3,8 @@ use Rattle.gup_fork_laws.proofs.ForkBegins.{simulates-begin_fork, simulates-coun
 use Rattle.gup_fork_laws.proofs.Shares.{simulates-share_entry, simulates-share_mark}
 use Rattle.gup_fork_laws.proofs.ShareChild.{simulates-share_child, simulates-pass_page}
 use Rattle.gup_fork_laws.proofs.Copies.{simulates-copy_word, simulates-place_child}
-use Rattle.gup_fork_laws.proofs.ForkEnds.{simulates-end_fork, simulates-fail_fork, simulates-put_child, simulates-release_fork, simulates-fail_unborn}
+use Rattle.gup_fork_laws.proofs.ForkEnds.{simulates-end_fork, simulates-fail_unborn}
+use Rattle.gup_fork_laws.proofs.ForkFails.{simulates-fail_fork, simulates-put_child}
 use Rattle.gup_fork_laws.proofs.forks_simulate.Goals as goal
 
 pub returns-clause-begin_fork : goal.returns-clause-begin_fork
@@ -34,13 +35,10 @@ pub returns-clause-end_fork : goal.returns-clause-end_fork
 returns-clause-end_fork c = λ a p c done s sound can. simulates-end_fork s a p c done sound can
 
 pub returns-clause-fail_fork : goal.returns-clause-fail_fork
-returns-clause-fail_fork c = λ a p c done step s sound can. simulates-fail_fork s a p c done step sound can
+returns-clause-fail_fork c = λ a p c done step over s sound can. simulates-fail_fork s a p c done step over sound can
 
 pub returns-clause-put_child : goal.returns-clause-put_child
-returns-clause-put_child c = λ a p c done page entry s sound can. simulates-put_child s a p c done page entry sound can
-
-pub returns-clause-release_fork : goal.returns-clause-release_fork
-returns-clause-release_fork c = λ a p c done s sound can. simulates-release_fork s a p c done sound can
+returns-clause-put_child c = λ a p c done page entry over s sound can. simulates-put_child s a p c done page entry over sound can
 
 pub returns-clause-fail_unborn : goal.returns-clause-fail_unborn
 returns-clause-fail_unborn c = λ a p c s sound can. simulates-fail_unborn s a p c sound can

@@ -1,5 +1,5 @@
 -- A case an event, each from the crate of its group.
-use Rattle.gup_events.specs.Event.{take_frame, fill, count_one, set_mark, upgrade, break_entry, put_entry, map_pages, lower_entry, protect_pages, drop_entry, discard_entry, load, store, move_out, move_in, empty_mirror, fill_mirror, look, raise_flag, pin_page, make_handle, unpin_page, give_handle, take_handle, get_reference, put_reference, clear_entry, count_moved, place_frame, restore_entry, begin_fork, count_page, share_entry, share_mark, share_child, pass_page, copy_word, place_child, end_fork, fail_fork, put_child, release_fork, fail_unborn, enter_walk, read_sequence, read_entry, grab_frame, miss_frame, recheck_same, recheck_other, read_mark, read_again, drop_grab, drop_last, drop_first, leave_walk}
+use Rattle.gup_events.specs.Event.{take_frame, fill, count_one, set_mark, upgrade, break_entry, put_entry, map_pages, lower_entry, protect_pages, drop_entry, discard_entry, load, store, move_out, move_in, empty_mirror, fill_mirror, look, raise_flag, pin_page, make_handle, unpin_page, give_handle, take_handle, get_reference, put_reference, clear_entry, count_moved, place_frame, restore_entry, begin_fork, count_page, share_entry, share_mark, share_child, pass_page, copy_word, place_child, end_fork, fail_fork, put_child, fail_unborn, enter_walk, read_sequence, read_entry, grab_frame, miss_frame, recheck_same, recheck_other, read_mark, read_again, drop_grab, drop_last, drop_first, leave_walk}
 use Rattle.gup_laws.proofs.simulates.Goals as goal
 
 pub returns : goal.returns
@@ -43,9 +43,8 @@ returns c s (pass_page a p child done page) sound can = c.forks_simulate.ensures
 returns c s (copy_word a p child done page word to entry) sound can = c.forks_simulate.ensures.copy_word a p child done page word to entry s sound can
 returns c s (place_child a p child done page to rights) sound can = c.forks_simulate.ensures.place_child a p child done page to rights s sound can
 returns c s (end_fork a p child done) sound can = c.forks_simulate.ensures.end_fork a p child done s sound can
-returns c s (fail_fork a p child done step) sound can = c.forks_simulate.ensures.fail_fork a p child done step s sound can
-returns c s (put_child a p child done page entry) sound can = c.forks_simulate.ensures.put_child a p child done page entry s sound can
-returns c s (release_fork a p child done) sound can = c.forks_simulate.ensures.release_fork a p child done s sound can
+returns c s (fail_fork a p child done step over) sound can = c.forks_simulate.ensures.fail_fork a p child done step over s sound can
+returns c s (put_child a p child done page entry over) sound can = c.forks_simulate.ensures.put_child a p child done page entry over s sound can
 returns c s (fail_unborn a p child) sound can = c.forks_simulate.ensures.fail_unborn a p child s sound can
 returns c s (enter_walk a p write long) sound can = c.walks_simulate.ensures.enter_walk a p write long s sound can
 returns c s (read_sequence a p write long sequence) sound can = c.walks_simulate.ensures.read_sequence a p write long sequence s sound can
