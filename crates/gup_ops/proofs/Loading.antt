@@ -12,7 +12,7 @@ use Rattle.gup_space.specs.Space.{SpaceValue}
 use Rattle.gup_space.specs.After.{storing}
 use Rattle.gup_space.specs.Counted.{IsCounted}
 use Rattle.gup_space.specs.Shows.{Change, ShowsFrames, ShowsSpace}
-use Rattle.gup_space.specs.ShowsLemmas.{shows_frames, shows_space}
+use Rattle.gup_space.specs.ShowsLemmas.{shows_frames, shows_space, events_lead}
 use Rattle.gup_events.specs.State.{CoreState}
 use Rattle.gup_events.specs.Event.{CoreEvent, happens, upgrade, load, store}
 use Rattle.gup_events.specs.Invariant.{run}
@@ -115,7 +115,7 @@ LoadFault c page denied =
 pub load_by_fault : (c : Change) (a p page word : ℕ) → c.old_space.entry page ≡ None → c.old_space.table ≡ None → LoadFault c page None → IsSome (c.new_space.entry page)
     → IsTurnOf c p (λ s. load_turn s a p page word (s.entry p page)) (whats_of (loaded_said a p page word (page_word c.new_frames (c.new_space.entry page) word)))
 load_by_fault c a p page word none unlocked fault some s frames space =
-    let behind = fault.events s a p frames space (space.table ∙ unlocked) in
+    let behind = events_lead fault.events s a p frames space (space.table ∙ unlocked) in
     leads_alike c p s _ _ _
     (ap (λ (x : Fault). loads_after s x a p page word) (read_fault_same c.old_frames c.old_space a p page s none frames space))
     (load_after c.old_frames c.new_frames c.old_space c.new_space a p page word
@@ -124,7 +124,7 @@ load_by_fault c a p page word none unlocked fault some s frames space =
 pub load_refused : (c : Change) (a p page word : ℕ) (answer : Answer) → c.old_space.entry page ≡ None → c.old_space.table ≡ None → LoadFault c page (Some answer)
     → IsTurnOf c p (λ s. load_turn s a p page word (s.entry p page)) (Done answer ∷ [])
 load_refused c a p page word answer none unlocked fault s frames space =
-    let behind = fault.events s a p frames space (space.table ∙ unlocked) in
+    let behind = events_lead fault.events s a p frames space (space.table ∙ unlocked) in
     leads_alike c p s _ _ _
     (ap (λ (x : Fault). loads_after s x a p page word) (read_fault_same c.old_frames c.old_space a p page s none frames space))
     (load_denied c a p page word
@@ -182,7 +182,7 @@ pub store_by_fault : (F F1 F' : FramesValue) (S S' : SpaceValue) (a p page word 
     → F' ≡ with_word (frame_in (S'.entry page)) word value F1
     → IsTurnOf (ch F F' S S') p (λ s. store_turn s a p page word value (s.entry p page)) (whats_of (stored_said a p page word value))
 store_by_fault F F1 F' S S' a p page word value unallowed unlocked fault written s frames space =
-    let behind = fault.events s a p frames space (space.table ∙ unlocked) in
+    let behind = events_lead fault.events s a p frames space (space.table ∙ unlocked) in
     leads_alike (ch F F' S S') p s _ _ _
     (ap (λ (x : Fault). stores_after s x a p page word value) (write_fault_same F S a p page s unallowed frames space))
     (store_after F F1 F' S S' a p page word value
@@ -191,7 +191,7 @@ store_by_fault F F1 F' S S' a p page word value unallowed unlocked fault written
 pub store_refused : (c : Change) (a p page word value : ℕ) (answer : Answer) → allows_store (c.old_space.entry page) ≡ false → c.old_space.table ≡ None → StoreFault c page (Some answer)
     → IsTurnOf c p (λ s. store_turn s a p page word value (s.entry p page)) (Done answer ∷ [])
 store_refused c a p page word value answer unallowed unlocked fault s frames space =
-    let behind = fault.events s a p frames space (space.table ∙ unlocked) in
+    let behind = events_lead fault.events s a p frames space (space.table ∙ unlocked) in
     leads_alike c p s _ _ _
     (ap (λ (x : Fault). stores_after s x a p page word value) (write_fault_same c.old_frames c.old_space a p page s unallowed frames space))
     (store_denied c a p page word value
@@ -263,7 +263,7 @@ read_there c page none unlocked fault there some =
     let s : CoreState = state_of c.old_frames c.old_space in
     let rights : Option Rights = c.old_space.right page in
     let free : Option ℕ = free_frame c.old_frames Any in
-    let behind = fault.events s 0 0 (has_frames c.old_frames c.old_space) (has_space c.old_frames c.old_space 0) unlocked in
+    let behind = events_lead fault.events s 0 0 (has_frames c.old_frames c.old_space) (has_space c.old_frames c.old_space 0) unlocked in
     let P : Option Entry → Type 0 = λ o. refusal_of (read_fault 0 0 page rights o free) ≡ None → IsMarkedAt (run s (events_of (read_fault 0 0 page rights o free))) 0 page in
     let marked : P (c.old_space.entry page) = subst P (sym none) (read_marks 0 0 page rights free s) in
     entry_there c.new_frames c.new_space 0 page (run s (events_of (read_fault 0 0 page rights (c.old_space.entry page) free)))
@@ -281,7 +281,7 @@ pub write_there : (c : Change) (page : ℕ) → IsTidy c.old_frames c.old_space 
 write_there c page tidy unallowed unlocked fault there some =
     let s : CoreState = state_of c.old_frames c.old_space in
     let free : Option ℕ = free_frame c.old_frames Any in
-    let behind = fault.events s 0 0 (has_frames c.old_frames c.old_space) (has_space c.old_frames c.old_space 0) unlocked in
+    let behind = events_lead fault.events s 0 0 (has_frames c.old_frames c.old_space) (has_space c.old_frames c.old_space 0) unlocked in
     entry_there c.new_frames c.new_space 0 page
     (run s (events_of (write_fault 0 0 page (c.old_space.right page) (c.old_space.entry page) c.old_frames.mark c.old_frames.count free)))
     behind.0 behind.1

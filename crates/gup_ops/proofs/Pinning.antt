@@ -14,7 +14,7 @@ use Rattle.gup_frames.specs.Frames.{FramesValue, with_references}
 use Rattle.gup_space.specs.Space.{SpaceValue}
 use Rattle.gup_space.specs.After.{flagging, pinning, making}
 use Rattle.gup_space.specs.Shows.{ShowsFrames, ShowsSpace}
-use Rattle.gup_space.specs.ShowsLemmas.{shows_frames, shows_space}
+use Rattle.gup_space.specs.ShowsLemmas.{shows_frames, shows_space, events_lead}
 use Rattle.gup_handles.specs.Handles.{HandlesValue, held}
 use Rattle.gup_events.specs.State.{CoreState, Taken as TakenPage}
 use Rattle.gup_events.specs.Event.{CoreEvent, happens, pin_page, make_handle, writes_taken, objects_taken, frames_of as frames_taken}
@@ -253,7 +253,7 @@ pinned_page c F1 S2 a p handle page n far frame write last is unlocked fault at 
 
     shows : ShowsFrames F1 t1 × ShowsSpace p S2 t1
     shows =
-        fault.events t0 a p (raise_frames F a p far s frames) (raise_space S a p far s space)
+        events_lead fault.events t0 a p (raise_frames F a p far s frames) (raise_space S a p far s space)
         ((raise_space S a p far s space).table ∙ raised_unlocked S far unlocked)
 
     same : IsLeft t0 t1

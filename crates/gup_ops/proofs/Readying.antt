@@ -8,6 +8,7 @@ use Rattle.gup_base.specs.declared.entry.Rights.TheVariants.{R, RW}
 use Rattle.gup_frames.specs.Frames.{FramesValue, IsFrame, free_frame}
 use Rattle.gup_space.specs.Space.{SpaceValue}
 use Rattle.gup_space.specs.Shows.{Change, ShowsFrames, ShowsSpace}
+use Rattle.gup_space.specs.ShowsLemmas.{events_lead}
 use Rattle.gup_events.specs.State.{CoreState}
 use Rattle.gup_events.specs.Event.{happens, upgrade}
 use Rattle.gup_events.specs.Invariant.{run}
@@ -217,7 +218,7 @@ counts_behind c page many write more tidy few unlocked fault e found =
     let F : FramesValue = c.old_frames in
     let S : SpaceValue = c.old_space in
     let t : CoreState = run (state_of F S) (events_of (fault_to_pin F S 0 0 page write)) in
-    let behind = fault.events (state_of F S) 0 0 (has_frames F S) (has_space F S 0) unlocked in
+    let behind = events_lead fault.events (state_of F S) 0 0 (has_frames F S) (has_space F S 0) unlocked in
     let before : IsCountedAt (state_of F S) 0 page many = λ d at. (some_positive (F.count d.frame) (tidy.counted page d at), few d.frame) in
     let counted = pin_fault_counts F S page many write more (λ f d free had. free_apart F S page f d tidy free had) before (fault.refused 0 0) e (behind.1.entry page ∙ found) in
     subst (λ n. (0 < n) × (n < many)) (behind.0.count e.frame) counted

@@ -11,6 +11,7 @@ use Rattle.gup_frames.specs.Frames.{FramesValue}
 use Rattle.gup_maps.specs.Maps.{IsNextPage, IsLastPage}
 use Rattle.gup_space.specs.Space.{SpaceValue}
 use Rattle.gup_space.specs.Shows.{Change, ShowsFrames, ShowsSpace, AreEvents}
+use Rattle.gup_space.specs.ShowsLemmas.{events_lead}
 use Rattle.gup_events.specs.State.{CoreState}
 use Rattle.gup_events.specs.Invariant.{run}
 use Rattle.gup_events.specs.Fault.{takes_down, discards}
@@ -36,7 +37,7 @@ pub unmapped : (c : Change) (a p page : ℕ) (last : Bool) → c.old_space.table
     → AreEvents c (λ b q. takes_down b q page (c.old_space.right page) (c.old_space.entry page))
     → IsTurnOf c p (λ s. unmap_turn s a p page last) (whats_of (passed_said (is_some (c.old_space.right page)) (events.Unmap a p page) last))
 unmapped c a p page last unlocked made s frames space =
-    let behind = made s a p frames space (space.table ∙ unlocked) in
+    let behind = events_lead made s a p frames space (space.table ∙ unlocked) in
     leads_alike c p s _ _ _
     (ap (λ r. unmap_turn_by r a p page (s.entry p page) last) (space.right page) ∙ ap (λ e. unmap_turn_by (c.old_space.right page) a p page e last) (space.entry page))
     (down_by c a p page (c.old_space.right page) (c.old_space.entry page) last s behind.0 behind.1)
@@ -57,7 +58,7 @@ pub discarded : (c : Change) (a p page : ℕ) (last : Bool) → c.old_space.tabl
     → AreEvents c (λ b q. discards b q page (c.old_space.right page) (c.old_space.entry page))
     → IsTurnOf c p (λ s. discard_turn s a p page last) (whats_of (passed_said (is_some (c.old_space.right page)) (events.Discard a p page) last))
 discarded c a p page last unlocked made s frames space =
-    let behind = made s a p frames space (space.table ∙ unlocked) in
+    let behind = events_lead made s a p frames space (space.table ∙ unlocked) in
     leads_alike c p s _ _ _
     (ap (λ r. discard_turn_by r a p page (s.entry p page) last) (space.right page) ∙ ap (λ e. discard_turn_by (c.old_space.right page) a p page e last) (space.entry page))
     (discarded_by c a p page (c.old_space.right page) (c.old_space.entry page) last s behind.0 behind.1)
@@ -115,7 +116,7 @@ pub exited : (c : Change) (a p page : ℕ) → c.old_space.table ≡ None → pa
     → AreEvents c (λ b q. takes_down b q page (c.old_space.right page) (c.old_space.entry page))
     → IsTurnOf c p (λ s. exit_turn s a p) (whats_of (record { event = Some (events.Unmap a p page); next = None; answer = None }))
 exited c a p page unlocked below next made s frames space =
-    let behind = made s a p frames space (space.table ∙ unlocked) in
+    let behind = events_lead made s a p frames space (space.table ∙ unlocked) in
     leads_alike c p s _ _ _
     (ap (λ o. exit_turn_by s a p o) (state_lowest c.old_space p s space ∙ lowest_is c.old_space.right page below next))
     (exit_by c a p page (c.old_space.right page) (c.old_space.entry page) s next.mapped (space.entry page) behind.0 behind.1)

@@ -33,13 +33,14 @@ abbrev pub IsCopyOf : FramesValue → (page to : ℕ) → (parent : SpaceValue) 
 IsCopyOf frames page to parent =
     IsFrame frames to × (frames.count to ≡ 0 → ⊥) × ((e : Entry) → parent.entry page ≡ Some e → to ≡ e.frame → ⊥)
 
-abbrev pub IsReadyAt : FramesValue → ForkPlace → (parent child : SpaceValue) → Type 0
-IsReadyAt frames unbegun parent child = Unit {0}
-IsReadyAt frames (from_page page) parent child = Unit {0}
-IsReadyAt frames (at_page page) parent child = IsCountedIn page parent child
-IsReadyAt frames (wants_frame page) parent child = IsCountedIn page parent child
-IsReadyAt frames (at_word page word to) parent child =
-    IsCountedIn page parent child × IsCopyOf frames page to parent × (word ≤ words)
+-- What a fork of actor a finds where it stands. From its first turn on the actor has the parent's structure lock.
+abbrev pub IsReadyAt : FramesValue → (a : ℕ) → ForkPlace → (parent child : SpaceValue) → Type 0
+IsReadyAt frames a unbegun parent child = Unit {0}
+IsReadyAt frames a (from_page page) parent child = parent.structure ≡ Some a
+IsReadyAt frames a (at_page page) parent child = (parent.structure ≡ Some a) × IsCountedIn page parent child
+IsReadyAt frames a (wants_frame page) parent child = (parent.structure ≡ Some a) × IsCountedIn page parent child
+IsReadyAt frames a (at_word page word to) parent child =
+    (parent.structure ≡ Some a) × IsCountedIn page parent child × IsCopyOf frames page to parent × (word ≤ words)
 
 -- what the child is behind a turn that says this: it grows until the fork ends or fails
 abbrev pub birth_behind : (parent : ℕ) → List What → Birth

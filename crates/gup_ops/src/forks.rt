@@ -65,7 +65,7 @@ pub fn fork(
     requires child { IsTidy (frames_of frames.old) (space_of child.old) }
     requires sequence { (space_of parent.old).sequence < 2 ^ 40 }
     requires few { (f : ℕ) → (frames_of frames.old).count f < 2 ^ 40 }
-    requires place { IsReadyAt (frames_of frames.old) (place_of place) (space_of parent.old) (space_of child.old) }
+    requires place { IsReadyAt (frames_of frames.old) actor (place_of place) (space_of parent.old) (space_of child.old) }
     ensures { IsForkTurn (fork_change_of frames.old frames.new parent.old parent.new child.old child.new)
         actor proc child_no (place_of place) (place_of result.1) (whats_of result.0) }
 {
@@ -261,8 +261,9 @@ fn copy_turn(
 ) -> (Said, ForkPlace)
     requires parent { IsTidy (frames_of frames.old) (space_of parent.old) }
     requires child { IsTidy (frames_of frames.old) (space_of child.old) }
-    requires ready { IsReadyAt (frames_of frames.old) (at_word page word to) (space_of parent.old)
-        (space_of child.old) }
+    requires ready { IsCountedIn page (space_of parent.old) (space_of child.old) }
+    requires copy { IsCopyOf (frames_of frames.old) page to (space_of parent.old) }
+    requires word { word ≤ words }
     ensures { (a : ℕ) → IsForkTurn (fork_change_of frames.old frames.new parent.old parent.new child.old child.new)
         a proc child_no (at_word page word to) (place_of result.1) (whats_of result.0) }
 {

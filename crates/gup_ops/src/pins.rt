@@ -48,6 +48,7 @@ pub fn pin(
     requires few { (f : ℕ) → (frames_of frames.old).count f < 2 ^ 40 }
     requires unmade { handles_of handles.old handle ≡ unmade }
     requires taken { array_vec_len taken.old ≡ far }
+    requires pinned { 0 < far → (space_of space.old).has_pinned ≡ true }
     requires within { far < n }
     requires most { n ≤ 16 }
     requires range { page + n ≤ 2 ^ 35 }

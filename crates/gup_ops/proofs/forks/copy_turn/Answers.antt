@@ -13,5 +13,5 @@ returns c a =
     let same : c.in-Some.next ≡ x.word = c.in-Some.ensures.value ∙ c.from.ensures in
     let less : x.word < 512 = grind (arith, c.in-Some.ensures.some, c.from.ensures) in
     notes_alike k a x.proc x.child_no (at_word x.page x.word x.to) (at_word x.page (x.word + 1) x.to) _ _ (ap whats_of c.happened.ensures)
-    (word_turned k a x.proc x.child_no x.page x.word x.to c.in-Some.next same less c.requires.ready.0.0
+    (word_turned k a x.proc x.child_no x.page x.word x.to c.in-Some.next same less c.requires.ready.0
     (λ done e entry. c.copy_word.ensures.events a done (x.child.now) e entry))
