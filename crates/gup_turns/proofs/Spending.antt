@@ -222,7 +222,7 @@ stands_at script r h a op is = go op is
     go Exit is = (rests Exit tt is, tt)
 
 -- an actor goes on only once it waits for no birth: its process is born, or failed
-waits_no_birth : (b : Birth) (p : ℕ) (others : Option Waiting) → waits_at b p others ≡ None → (b ≡ born) ⊎ (b ≡ failed)
+pub waits_no_birth : (b : Birth) (p : ℕ) (others : Option Waiting) → waits_at b p others ≡ None → (b ≡ born) ⊎ (b ≡ failed)
 waits_no_birth unborn p others free = absurd (cc free)
 waits_no_birth (growing parent) p others free = absurd (cc free)
 waits_no_birth born p others free = inl refl

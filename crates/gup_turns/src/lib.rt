@@ -10,8 +10,8 @@ ghost use Rattle.gup_script.specs.Valid.{IsScript};
 ghost use Rattle.gup_follows.specs.Plain.{IsPlain};
 ghost use Rattle.gup_follows.specs.Follows.{Follows};
 ghost use Rattle.gup_follows.specs.Order.{Turn, InOrder};
-ghost use Rattle.gup_turns.specs.Run.{RunState, Runs, run_start, run_after, op_in, waiting_in, can_go, IsCoreRun};
-ghost use Rattle.gup_turns.specs.Cause.{FindNoFrame, AreKnown, answered_in, HaveFinished, WaitsForBirthOrPin};
+ghost use Rattle.gup_turns.specs.Run.{RunState, Runs, run_start, run_after, turn_in, op_in, waiting_in, can_go, IsCoreRun};
+ghost use Rattle.gup_turns.specs.Cause.{LacksExactly, AreKnown, answered_in, HaveFinished, WaitsForBirthOrPin};
 ghost use Rattle.gup_turns.specs.Cost.{cost, operations, forks, IsBoundedTurn};
 ghost use Rattle.gup_turns.specs.Reached.{turned, IsStanding};
 
@@ -45,9 +45,10 @@ pub fn core_run_is_plain()
     gup_laws::starts_sound();
 }
 
-/// In the core run of a script, an operation is refused for want of a frame only where none is free.
+/// A turn answers for want of a frame, or ends a short pin so, exactly where its operation needs one and each frame of the
+/// zones that it may take one from has a reference: whichever actor takes it, from whatever state.
 pub fn no_frame_has_its_cause()
-    ensures { (script : ScriptValue) (turns : List Turn) (end : RunState) → Runs script (run_start script) turns end → FindNoFrame script (run_start script) turns }
+    ensures { (script : ScriptValue) (r : RunState) (a : ℕ) → LacksExactly script r (turn_in script r a) }
 {}
 
 /// What stands between two turns: it holds of each state that turns lead to from the start of a script, whichever
