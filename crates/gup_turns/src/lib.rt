@@ -12,7 +12,7 @@ ghost use Rattle.gup_follows.specs.Follows.{Follows};
 ghost use Rattle.gup_follows.specs.Order.{Turn, InOrder};
 ghost use Rattle.gup_turns.specs.Run.{RunState, Runs, run_start, run_after, turn_in, op_in, waiting_in, can_go, IsCoreRun};
 ghost use Rattle.gup_turns.specs.Cause.{LacksExactly, AreKnown, answered_in, HaveFinished, WaitsForBirthOrPin};
-ghost use Rattle.gup_turns.specs.Cost.{cost, operations, forks, IsBoundedTurn};
+ghost use Rattle.gup_turns.specs.Cost.{cost, operations, forks, most_turns, IsBoundedTurn};
 ghost use Rattle.gup_turns.specs.Reached.{turned, IsStanding};
 
 /// A script has one core run, and that has one end.
@@ -72,10 +72,15 @@ pub fn turns_are_spent()
 
 /// How many turns an operation has at most: a mapping, a protection, a load, a store, a give and a take one, what goes over
 /// n pages or words n, an unpin of n pages n, a fork 527,362; each turn of an exit but the one that answers it takes a page of
-/// its process.
+/// its process. Whichever actors take turns, an operation has fewer notes, one for each of its turns that are over, than it
+/// may have turns; for an exit these are 1,025 more than the pages of all the script's mappings.
 pub fn turns_are_bounded()
-    ensures { (script : ScriptValue) (r : RunState) (a : ℕ) (op : Op) → IsScript script → IsStanding script r → op_in script r a ≡ Some op → waiting_in script r a ≡ None → IsBoundedTurn script r a op }
-{}
+    ensures turn { (script : ScriptValue) (r : RunState) (a : ℕ) (op : Op) → IsScript script → IsStanding script r → op_in script r a ≡ Some op → waiting_in script r a ≡ None → IsBoundedTurn script r a op }
+    ensures within { (script : ScriptValue) (actors : List ℕ) (a : ℕ) (op : Op) → IsScript script → let r = turned script (run_start script) actors in op_in script r a ≡ Some op → (r.places a).far < most_turns script op }
+{
+    gup_laws::simulates();
+    gup_laws::starts_sound();
+}
 
 /// At the end of a run each actor has finished or waits, and whoever waits, waits for a process of the script to be born
 /// or for a pin of the script to be given to it.
