@@ -1,5 +1,5 @@
 -- The causes of refusals, and how many answers there are.
-use Rattle.std.proofs.Common.{◌≡◌, ℕ, ◌+◌, Bool, true, false, Option, Some, None, List, [], ◌∷◌, map, refl, sym, ap, subst, arith, length, inl, inr}
+use Rattle.std.proofs.Common.{◌≡◌, ℕ, ◌+◌, Bool, true, false, Option, Some, None, List, [], ◌∷◌, ◌++◌, map, refl, sym, ap, subst, arith, length, inl, inr, suc}
 use Rattle.std.specs.Prelude.{◌⊎◌}
 use Rattle.gup_plain.specs.Note.{NoteValue}
 use Rattle.gup_plain.specs.State.{PlainState}
@@ -13,13 +13,16 @@ use Rattle.gup_plain.specs.declared.note.What.TheVariants.{Silent, Idle, Wait, E
 use Rattle.gup_script.specs.declared.op.Op.{Op}
 use Rattle.gup_script.specs.declared.op.Op.TheVariants.{Map, Unmap, Protect, Discard, Load, Store, Pin, Unpin, Give, Take, Transfer, Fork, Exit}
 use Rattle.gup_script.specs.Script.{ScriptValue}
+use Rattle.gup_follows.specs.Follows.{notes_of_turn}
+use Rattle.gup_follows.specs.Order.{Turn, journal_of, places_behind}
 use Rattle.gup_follows.specs.Place.{Place, Doer, doer, present_op}
 use Rattle.gup_plain.specs.Denial.{is_denial}
 use Rattle.gup_follows.specs.Denial.{denial}
-use Rattle.gup_follows.specs.Plain.{Judged, judged_after, judged_before, judged_far, refusal_of, refusal_in, IsAnswerOf, IsAnswerAfter, IsRightAt, ArePlain}
-use Rattle.gup_turns.specs.Cause.{IsKnownCause, IsKnownAnswer, IsKnown, AreKnown, answers_in, answered_in}
+use Rattle.gup_follows.specs.Plain.{Judged, judged_before, judged_far, refusal_of, refusal_in, IsAnswerOf, IsAnswerAfter, IsRightAt, ArePlain}
+use Rattle.gup_turns.specs.Cause.{FindsNoFrame, LacksFrame, LacksExactly, IsKnownCause, IsKnownAnswer, IsKnown, AreKnown, answers_in, answered_in}
+use Rattle.gup_turns.specs.Run.{RunState, Runs, run_after, turn_in}
 use Rattle.gup_lines.specs.Text.{words_after, outcomes_from, outcomes_of}
-use Rattle.gup.specs.Cause.{is_ok, IsCausedAt, AreCaused}
+use Rattle.gup.specs.Cause.{is_ok, IsCausedAt, judged_note, judged_turn, IsCausedTurn, AreCaused}
 
 -- the refusals that operations have so far
 abbrev IsRefusal : Answer → Type 0
@@ -103,22 +106,65 @@ by_answer op had d (answers.Busy c) known is = absurd known
 by_answer op had d answers.Untouched known is = absurd known
 by_answer op had d answers.Stale known is = absurd known
 
-caused_at : (s : PlainState) (who : Doer) (place : Place) (op : Option Op) (what : What) → IsKnown what → IsRightAt s who place op what → IsCausedAt s who place op what
-caused_at s who place None what known right = tt
-caused_at s who place (Some op) (Done answer) known right = by_answer op place.had (denial s who (judged_far place.far answer) op) answer known right.1
-caused_at s who place (Some op) Silent known right = tt
-caused_at s who place (Some op) Idle known right = tt
-caused_at s who place (Some op) (Wait waiting) known right = tt
-caused_at s who place (Some op) (Event event) known right = tt
+-- an answer for want of a frame is one that a turn gives for that
+lacks_first : (answer : Answer) (whats : List What) → refusal_in answer ≡ answers.NoFrame → LacksFrame (Done answer ∷ whats)
+lacks_first answers.NoFrame whats is = inl (0, omega arith, refl)
+lacks_first (answers.Short g w causes.NoFrame) whats is = inr (g, w, (0, omega arith, refl))
+lacks_first (answers.Short g w causes.Missing) whats is = absurd (cc is)
+lacks_first (answers.Short g w causes.Forbidden) whats is = absurd (cc is)
+lacks_first (answers.Short g w (causes.Unmovable count)) whats is = absurd (cc is)
+lacks_first answers.Plain whats is = absurd (cc is)
+lacks_first (answers.Value v) whats is = absurd (cc is)
+lacks_first (answers.Pinned n) whats is = absurd (cc is)
+lacks_first answers.Words whats is = absurd (cc is)
+lacks_first answers.Missing whats is = absurd (cc is)
+lacks_first answers.Forbidden whats is = absurd (cc is)
+lacks_first answers.NotHeld whats is = absurd (cc is)
+lacks_first answers.Range whats is = absurd (cc is)
+lacks_first answers.Overlap whats is = absurd (cc is)
+lacks_first answers.Full whats is = absurd (cc is)
+lacks_first answers.Unborn whats is = absurd (cc is)
+lacks_first (answers.Unmovable c) whats is = absurd (cc is)
+lacks_first (answers.Busy c) whats is = absurd (cc is)
+lacks_first answers.Untouched whats is = absurd (cc is)
+lacks_first answers.Stale whats is = absurd (cc is)
 
--- in a plain journal of known answers each refusal has its cause
-pub caused : (script : ScriptValue) (j : Judged) (notes : List NoteValue) → ArePlain script j notes → AreKnown notes → AreCaused script j notes
-caused script j [] plain known = tt
-caused script j (note ∷ notes) plain known =
-    let place : Place = j.places note.actor in (
-      caused_at j.plain (doer script note.actor) place (present_op script note.actor place) note.what known.0 plain.0,
-      caused script (judged_after j note) notes plain.1 known.1,
-    )
+lacks_later : (what : What) (whats : List What) → LacksFrame whats → LacksFrame (what ∷ whats)
+lacks_later what whats (inl (k, less, is)) = inl (suc k, omega (arith, less), is)
+lacks_later what whats (inr (got, wanted, (k, less, is))) = inr (got, wanted, (suc k, omega (arith, less), is))
+
+module _ (finds : Type 0) where
+  caused_at : (s : PlainState) (who : Doer) (place : Place) (op : Option Op) (what : What) (whats : List What) → (LacksFrame (what ∷ whats) → finds) → IsKnown what → IsRightAt s who place op what → IsCausedAt finds s who place op what
+  caused_at s who place None what whats lacks known right = tt
+  caused_at s who place (Some op) (Done answer) whats lacks known right =
+      elim (by_answer op place.had (denial s who (judged_far place.far answer) op) answer known right.1) [
+        | inl ok ↦ inl ok
+        | inr refused ↦ inr (elim refused [ inl denied ↦ inl denied | inr want ↦ inr (want, lacks (lacks_first answer whats want)) ])
+      ]
+  caused_at s who place (Some op) Silent whats lacks known right = tt
+  caused_at s who place (Some op) Idle whats lacks known right = tt
+  caused_at s who place (Some op) (Wait waiting) whats lacks known right = tt
+  caused_at s who place (Some op) (Event event) whats lacks known right = tt
+
+  -- the notes of a turn are caused, and the rest is plain and known behind them
+  caused_turn : (script : ScriptValue) (j : Judged) (t a n : ℕ) (whats : List What) (rest : List NoteValue) → (LacksFrame whats → finds) → ArePlain script j (notes_of_turn t a n whats ++ rest) → AreKnown (notes_of_turn t a n whats ++ rest) → IsCausedTurn finds script j a whats × ArePlain script (judged_turn j a whats) rest × AreKnown rest
+  caused_turn script j t a n [] rest lacks plain known = (tt, (plain, known))
+  caused_turn script j t a n (what ∷ whats) rest lacks plain known =
+      let later = caused_turn script (judged_note j a what) t a n whats rest (λ lack. lacks (lacks_later what whats lack)) plain.1 known.1 in
+      let place : Place = j.places a in
+      ((caused_at j.plain (doer script a) place (present_op script a place) what whats lacks known.0 plain.0, later.0), (later.1, later.2))
+
+-- in a plain journal of known answers, whose turns answer for want of a frame only where they find none, each refusal has its
+-- cause
+pub caused : ((script : ScriptValue) (r : RunState) (a : ℕ) → LacksExactly script r (turn_in script r a)) → (script : ScriptValue) (j : Judged) (number : ℕ) (places : ℕ → Place) (turns : List Turn) (r end : RunState) → Runs script r turns end → ArePlain script j (journal_of number places turns) → AreKnown (journal_of number places turns) → AreCaused script r j turns
+caused exact script j number places [] r end run plain known = tt
+caused exact script j number places (turn ∷ turns) r end run plain known =
+    let a : ℕ = turn.actor in
+    let here : LacksExactly script r turn = subst (λ (t : Turn). LacksExactly script r (record { actor = a; whats = t.whats })) (sym run.1) (exact script r a) in
+    let rest : List NoteValue = journal_of (number + 1) (places_behind places turn) turns in
+    let now = caused_turn (FindsNoFrame script r a) script j number a ((places a).answered + 1) turn.whats rest here.0 plain known in
+    let later = caused exact script (judged_turn j a turn.whats) (number + 1) (places_behind places turn) turns (run_after script r a) end run.2 now.1 now.2 in
+    (now.0, (here, later))
 
 -- as many outcomes as answers, whatever words were moved before
 one_outcome : (moved : ℕ → List ℕ) (number actor op : ℕ) (what : What) (rest : List NoteValue) → ((words : ℕ → List ℕ) → length (outcomes_from words rest) ≡ answered_in rest) → length (outcomes_from moved (record { turn = number; actor = actor; op = op; what = what } ∷ rest)) ≡ answers_in (what ∷ map (λ (note : NoteValue). note.what) rest)

@@ -1,6 +1,7 @@
 -- The causes of refusals.
 use Rattle.std.specs.Prelude.{◌≡◌, ℕ, ◌⊎◌, Bool, true, false, List, [], ◌∷◌, Option, Some, None}
 use Rattle.gup_plain.specs.Note.{NoteValue}
+use Rattle.gup_plain.specs.Put.{put}
 use Rattle.gup_plain.specs.State.{PlainState}
 use Rattle.gup_plain.specs.declared.answer.Answer.{Answer}
 use Rattle.gup_plain.specs.declared.answer.Answer.TheVariants.{Plain, Value, Pinned, Words, NoFrame}
@@ -10,10 +11,10 @@ use Rattle.gup_script.specs.declared.op.Op.{Op}
 use Rattle.gup_script.specs.Script.{ScriptValue}
 use Rattle.gup_follows.specs.Denial.{denial}
 use Rattle.gup_follows.specs.Order.{Turn, journal_of}
-use Rattle.gup_follows.specs.Place.{Place, Doer, first_place, doer, present_op}
-use Rattle.gup_follows.specs.Plain.{Judged, judged_after, judged_first, judged_far, refusal_in}
-use Rattle.gup_turns.specs.Cause.{FindNoFrame}
-use Rattle.gup_turns.specs.Run.{RunState, Runs, run_start}
+use Rattle.gup_follows.specs.Place.{Place, place_after, Doer, first_place, doer, present_op}
+use Rattle.gup_follows.specs.Plain.{Judged, plain_after, judged_first, judged_far, refusal_in}
+use Rattle.gup_turns.specs.Cause.{FindsNoFrame, LacksExactly}
+use Rattle.gup_turns.specs.Run.{RunState, Runs, run_start, run_after}
 
 -- is it an answer that refuses nothing? A short pin had a page refused.
 abbrev pub is_ok : Answer → Bool
@@ -23,32 +24,45 @@ is_ok (Pinned pages) = true
 is_ok Words = true
 is_ok _ = false
 
--- A refusal, of an operation or of the page that ended a short pin, has its cause: the plain state denies it so, or no
--- frame is free.
-abbrev pub IsCausedAt : PlainState → Doer → Place → Option Op → What → Type 0
-IsCausedAt s who place (Some op) (Done answer) =
+-- A refusal, of an operation or of the page that ended a short pin, has its cause: the plain state denies it so, or it is for
+-- want of a frame, and the turn needs one and finds none.
+abbrev pub IsCausedAt : (finds_none : Type 0) → PlainState → Doer → Place → Option Op → What → Type 0
+IsCausedAt finds_none s who place (Some op) (Done answer) =
     (is_ok answer ≡ true) ⊎ (denial s who (judged_far place.far answer) op ≡ Some (refusal_in answer))
-    ⊎ (refusal_in answer ≡ NoFrame)
-IsCausedAt s who place (Some op) Silent = Unit {0}
-IsCausedAt s who place (Some op) Idle = Unit {0}
-IsCausedAt s who place (Some op) (Wait waiting) = Unit {0}
-IsCausedAt s who place (Some op) (Event event) = Unit {0}
-IsCausedAt s who place None what = Unit {0}
+    ⊎ ((refusal_in answer ≡ NoFrame) × finds_none)
+IsCausedAt finds_none s who place (Some op) Silent = Unit {0}
+IsCausedAt finds_none s who place (Some op) Idle = Unit {0}
+IsCausedAt finds_none s who place (Some op) (Wait waiting) = Unit {0}
+IsCausedAt finds_none s who place (Some op) (Event event) = Unit {0}
+IsCausedAt finds_none s who place None what = Unit {0}
 
--- each answer that is no refusal's, or has its cause in what the notes before it have led to
-abbrev pub AreCaused : ScriptValue → Judged → List NoteValue → Type 0
-AreCaused script j [] = Unit {0}
-AreCaused script j (note ∷ notes) =
-    let place = j.places note.actor in
-    IsCausedAt j.plain (doer script note.actor) place (present_op script note.actor place) note.what
-    × AreCaused script (judged_after j note) notes
+-- what notes of actor a have led to, behind what was before
+abbrev pub judged_note : Judged → (a : ℕ) → What → Judged
+judged_note j a what =
+    record { plain = plain_after j.plain what; places = put a (place_after (j.places a) what) j.places }
 
--- the answers for want of a frame, by the core run whose journal it is: where one comes, no frame is free
-abbrev pub LackFrames : ScriptValue → List NoteValue → Type 0
-LackFrames script notes =
-    (turns : List Turn) × (end : RunState) × (notes ≡ journal_of 1 (λ _. first_place) turns)
-    × Runs script (run_start script) turns end × FindNoFrame script (run_start script) turns
+abbrev pub judged_turn : Judged → (a : ℕ) → List What → Judged
+judged_turn j a [] = j
+judged_turn j a (what ∷ whats) = judged_turn (judged_note j a what) a whats
 
--- Every refusal is the plain state's, or for want of a frame where none is free.
+-- each answer of a turn of actor a is no refusal's, or has its cause in what the notes before it have led to
+abbrev pub IsCausedTurn : (finds_none : Type 0) → ScriptValue → Judged → (a : ℕ) → List What → Type 0
+IsCausedTurn finds_none script j a [] = Unit {0}
+IsCausedTurn finds_none script j a (what ∷ whats) =
+    IsCausedAt finds_none j.plain (doer script a) (j.places a) (present_op script a (j.places a)) what
+    × IsCausedTurn finds_none script (judged_note j a what) a whats
+
+-- the same of each turn of a core run from here on, and it answers for want of a frame exactly where it finds none
+abbrev pub AreCaused : ScriptValue → RunState → Judged → List Turn → Type 0
+AreCaused script r j [] = Unit {0}
+AreCaused script r j (turn ∷ turns) =
+    IsCausedTurn (FindsNoFrame script r turn.actor) script j turn.actor turn.whats
+    × LacksExactly script r turn
+    × AreCaused script (run_after script r turn.actor) (judged_turn j turn.actor turn.whats) turns
+
+-- Every refusal is the plain state's, or for want of a frame: that answer comes exactly where the turn of the core run whose
+-- journal it is needs a frame and none is free that it may take.
 abbrev pub HasCauses : ScriptValue → List NoteValue → Type 0
-HasCauses script notes = AreCaused script (judged_first script) notes × LackFrames script notes
+HasCauses script notes =
+    (turns : List Turn) × (end : RunState) × (notes ≡ journal_of 1 (λ _. first_place) turns)
+    × Runs script (run_start script) turns end × AreCaused script (run_start script) (judged_first script) turns

@@ -245,7 +245,7 @@ pub fn gup<S: Source, K: Sink>(
         → OfScript (S.remaining source.old) (λ script. IsStuckRun script result.journal.notes) }
 
     // Each operation has one answer, where all have finished, and each refusal its cause: the plain state denies the
-    // operation so, or no frame is free.
+    // operation so, or its turn needs a frame and none is free that it may take; and where that is so it is refused.
     ensures lines { result.status ≡ 0 → OfScript (S.remaining source.old)
         (λ script. length (outcomes_of result.journal.notes) ≡ operations script) }
     ensures causes { HasRun result.status

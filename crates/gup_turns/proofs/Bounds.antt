@@ -22,7 +22,7 @@ use Rattle.gup_events.specs.Event.{CoreEvent, happens, protect_pages, lower_entr
 use Rattle.gup_events.specs.Fault.{Fault, fills, fills_writable, breaks, marks, makes_writable, read_fault, write_fault, gives_back}
 use Rattle.gup_events.specs.Invariant.{run}
 use Rattle.gup_follows.specs.Place.{Place, place_behind}
-use Rattle.gup_turns.specs.Cost.{op_left, IsAnswered, IsWithinBound}
+use Rattle.gup_turns.specs.Cost.{mapped_by, op_left, IsAnswered, IsWithinBound}
 use Rattle.gup_turns.specs.Pages.{mapped_pages}
 use Rattle.gup_turns.specs.Turn.{Taken, answers_with, free_frame, loads_after, load_turn, stores_after, store_fault_by, map_turn_by, done_if, silent_or_done, unmap_turn_by, lowers_entry, lowers, lowers_for, protect_turn_by, discard_turn_by, lowest_page, exit_turn_by}
 use Rattle.gup_turns.proofs.Mapped.{mapped_spread, mapped_same, mapped_put, mapped_lost}
@@ -52,22 +52,6 @@ answer_bound (Take handle) a p place next s t is = is
 answer_bound (Transfer handle outward index slot n) a p place next s t is = inl is
 answer_bound (Fork child) a p place next s t is = inl is
 answer_bound Exit a p place next s t is = inl is
-
--- the pages that an operation which isn't a fork may map
-abbrev pub mapped_by : Op → ℕ
-mapped_by (Map page n rights) = n
-mapped_by (Unmap page n) = 0
-mapped_by (Protect page n rights) = 0
-mapped_by (Discard page n) = 0
-mapped_by (Load page word) = 0
-mapped_by (Store page word value) = 0
-mapped_by (Pin handle page n write) = 0
-mapped_by (Unpin handle) = 0
-mapped_by (Give handle to) = 0
-mapped_by (Take handle) = 0
-mapped_by (Transfer handle outward index slot n) = 0
-mapped_by (Fork child) = 0
-mapped_by Exit = 0
 
 -- where a turn of an operation stands: short of the last page or word that it goes over; forks stand aside
 abbrev pub StandsShort : CoreState → (a : ℕ) → Op → Place → Type 0

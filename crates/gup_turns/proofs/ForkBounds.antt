@@ -1,5 +1,5 @@
 -- What a turn of any operation does to mapped pages and jobs, and what it takes of the cost: a fork's, and the others'.
-use Rattle.std.proofs.Common.{◌≡◌, ℕ, ◌+◌, ◌-◌, ◌*◌, ◌<◌, ◌≤◌, ◌==◌, ◌++◌, Bool, true, false, is_some, List, [], ◌∷◌, Option, Some, None, inl, inr, refl, ap, sym, subst, ◌∙◌, zero, suc, arith, nat_lt}
+use Rattle.std.proofs.Common.{◌≡◌, ℕ, ◌+◌, ◌-◌, ◌*◌, ◌<◌, ◌≤◌, ◌==◌, ◌++◌, Bool, true, false, is_some, List, [], ◌∷◌, Option, Some, None, inl, inr, refl, ap, sym, subst, ◌∙◌, zero, suc, arith, nat_lt, eqb-true}
 use Rattle.std.specs.Prelude.{◌⊎◌}
 use Rattle.std.proofs.lemmas.Bool.Decides.{nat_tests}
 use Rattle.gup_base.specs.declared.entry.Entry.{Entry}
@@ -17,7 +17,7 @@ use Rattle.gup_events.specs.Failure.{puts_entry, puts_entries, fails}
 use Rattle.gup_events.specs.Invariant.{run}
 use Rattle.gup_events.specs.Sound.{Forking, forking_of}
 use Rattle.gup_follows.specs.Place.{Place, Doer, birth_by, birth_for, place_behind}
-use Rattle.gup_turns.specs.Cost.{fork_turns, fork_left, GoesOn, IsWithinBound}
+use Rattle.gup_turns.specs.Cost.{mapped_by, fork_turns, fork_left, GoesOn, IsWithinBound}
 use Rattle.gup_turns.specs.Pages.{mapped_pages, pages_from}
 use Rattle.gup_turns.specs.Reached.{ForkPlace, unbegun, from_page, at_page, wants_frame, at_word, copying_place, fork_place, place_in, IsForking, StandsFork}
 use Rattle.gup_turns.specs.Turn.{Taken, answers_with, free_frame, first_behind, next_page, page_turn, next_turn, share_turn, frame_turn, copy_turn, copying_turn, fork_turn, op_turn, turn_at, failed_turn, turn_of}
@@ -39,6 +39,27 @@ pub record IsSpent (s : CoreState) (a p : ℕ) (place : Place) (op : Op) (turn :
   pub prepared : (b : ℕ) → (b == a) ≡ false → (run s turn.events).prepared b ≡ s.prepared b
   pub takes : TakesCost s (run s turn.events) a op place (place_behind place turn.whats) (mapped_pages (s.right (child_of p (Some op)))) (mapped_pages ((run s turn.events).right (child_of p (Some op))))
   pub bound : IsWithinBound op a p place (place_behind place turn.whats) s (run s turn.events)
+  pub gained : (q : ℕ) → s.birth q ≡ born → mapped_pages ((run s turn.events).right q) ≤ mapped_pages (s.right q) + mapped_by op
+
+-- a process of the same pages has gained none
+no_more : (f g : ℕ → Option Rights) (n : ℕ) → f ≡ g → mapped_pages f ≤ mapped_pages g + n
+no_more f g n same = let pages = ap mapped_pages same in omega (arith, pages)
+
+-- two processes of which one is born and the other isn't
+apart_born : (births : ℕ → Birth) (p q : ℕ) (b : Birth) → births p ≡ b → (b ≡ born → ⊥) → births q ≡ born → (q == p) ≡ false
+apart_born births p q b is other birth = go (q == p) refl
+  where
+    go : (c : Bool) → (q == p) ≡ c → c ≡ false
+    go true same =
+        let one : q ≡ p = grind (arith, nat_tests) in
+        absurd (other (sym is ∙ sym (ap births one) ∙ birth))
+    go false same = refl
+
+unborn_born : unborn ≡ born → ⊥
+unborn_born is = cc is
+
+growing_born : (parent : ℕ) → growing parent ≡ born → ⊥
+growing_born parent is = cc is
 
 -- two processes of which one grows and the other doesn't
 apart_grown : (births : ℕ → Birth) (p q parent : ℕ) (b : Birth) → births p ≡ b → (b ≡ growing parent → ⊥) → births q ≡ growing parent → (q == p) ≡ false
@@ -161,7 +182,13 @@ module _ (s : CoreState) (a p : ℕ) (place : Place) where
         prepared = moved.jobs.prepared;
         takes = subst (λ (k : ℕ). TakesCost s t a op place (place_behind place turn.whats) (mapped_pages (s.right k)) (mapped_pages (t.right k))) (sym own) takes;
         bound = moved.bound;
+        gained = λ q birth. gains q (q == p) refl;
       }
+    where
+      gains : (q : ℕ) (c : Bool) → (q == p) ≡ c → mapped_pages ((run s turn.events).right q) ≤ mapped_pages (s.right q) + mapped_by op
+      gains q true same =
+          subst (λ (k : ℕ). mapped_pages ((run s turn.events).right k) ≤ mapped_pages (s.right k) + mapped_by op) (sym (eqb-true q p same)) moved.gained
+      gains q false other = no_more ((run s turn.events).right q) (s.right q) (mapped_by op) (moved.others q other)
 
   -- of a born process
   page_op_spent : (slots : ℕ) (op : Op) → child_of p (Some op) ≡ p → s.birth p ≡ born → (s.job a ≡ idle) × StandsShort s a op place → IsSpent s a p place op (op_turn s a p slots place.far op)
@@ -201,6 +228,7 @@ module _ (s : CoreState) (a p : ℕ) (place : Place) where
           prepared = prepared;
           takes = inr (goes.0, omega (arith, left_before, left_after, pages, less));
           bound = inr (goes, omega (arith, before, after, less));
+          gained = λ q birth. no_more (t.right q) (s.right q) 0 (ap (λ (f : ℕ → ℕ → Option Rights). f q) same);
         }
 
     -- its beginning
@@ -225,6 +253,7 @@ module _ (s : CoreState) (a p : ℕ) (place : Place) where
           prepared = λ b other. refl;
           takes = inr (refl, omega (arith, left_before, left_after, pages, most, few));
           bound = inr ((refl, refl), omega (arith, before, after, most, few));
+          gained = λ q born_too. no_more (t.right q) (s.right q) 0 (put_other child q (s.right p) s.right (apart_born s.birth child q unborn birth unborn_born born_too));
         }
 
     -- its end
@@ -239,6 +268,7 @@ module _ (s : CoreState) (a p : ℕ) (place : Place) where
           prepared = λ b other. refl;
           takes = inl (refl, put_same a idle s.job, omega (arith, left));
           bound = inl refl;
+          gained = λ q birth. no_more (t.right q) (s.right q) 0 refl;
         }
 
     -- the page that is next
@@ -307,6 +337,8 @@ module _ (s : CoreState) (a p : ℕ) (place : Place) where
           prepared = λ b other. ap (λ (f : ℕ → Option ℕ). f b) lost.prepared;
           takes = inl (refl, ap (λ (j : ℕ → Job). j a) lost.job ∙ put_same a idle (put a one s.job), omega (arith, pages, left));
           bound = inl refl;
+          gained = λ q birth.
+              no_more (t.right q) (s.right q) 0 (ap (λ (f : ℕ → ℕ → Option Rights). f q) lost.right ∙ put_other child q none s.right (apart_born s.birth child q (growing p) forks.birth (growing_born p) birth));
         }
       where
         some_left : (right : ℕ → Option Rights) (x : ForkPlace) → 0 < fork_left right x
@@ -374,6 +406,7 @@ module _ (s : CoreState) (a p : ℕ) (place : Place) where
           prepared = λ b other. refl;
           takes = inl (refl, rests, omega (arith, pages, left));
           bound = inl refl;
+          gained = λ q born_too. no_more (t.right q) (s.right q) 0 (put_other child q none s.right (apart_born s.birth child q unborn birth unborn_born born_too));
         }
 
     -- no fork of a failed process is in the middle

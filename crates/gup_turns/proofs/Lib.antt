@@ -40,5 +40,6 @@ pub mod Bounds
 pub mod PinBounds
 pub mod ForkBounds
 pub mod Spending
+pub mod Within
 pub mod FewForks
 pub mod Ends

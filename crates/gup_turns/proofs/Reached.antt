@@ -225,7 +225,7 @@ pin_flagged s a p page far write sound taken some =
 abbrev pub Published : Type 0
 Published = (s : CoreState) → IsSound s → Holds s
 
-is_standing : Published → (script : ScriptValue) → IsScript script → (r : RunState) → IsReached script r → IsStanding script r
+pub is_standing : Published → (script : ScriptValue) → IsScript script → (r : RunState) → IsReached script r → IsStanding script r
 is_standing published script valid r h =
     let s : CoreState = r.core in
     let k : Stands script r = h.stands in
@@ -270,7 +270,7 @@ answered_on script t {who = who} {place = place} (unborn_refused op birth first 
 answered_on script t {who = who} {place = place} (unborn_fork child birth own first) is within =
     (let one = slice_get_within (ops_of script who.actor) place.answered (Fork child) is in omega (arith, one))
 
-reached_on : Law → (script : ScriptValue) → IsScript script → (r : RunState) → IsReached script r → (a : ℕ) → IsReached script (run_after script r a)
+pub reached_on : Law → (script : ScriptValue) → IsScript script → (r : RunState) → IsReached script r → (a : ℕ) → IsReached script (run_after script r a)
 reached_on law script valid r h a =
     let turn = taken script valid r h.stands a in
     let behind = place_behind (r.places a) (taken_in script r a).whats in

@@ -21,7 +21,7 @@ use Rattle.gup_events.specs.Sound.{Forking, forking_of}
 use Rattle.gup_follows.specs.Place.{Place, Doer, doer, birth_for, is_thread, thread_in, place_behind, process_of, process_in, process_of_kind, ops_of, ops_in}
 use Rattle.gup_turns.specs.Cost.{fork_left, op_cost, op_left, left_cost, actor_cost, cost, operations, is_fork, forks, IsBoundedTurn, IsWithinBound}
 use Rattle.gup_turns.specs.Pages.{sum_below, mapped_pages}
-use Rattle.gup_turns.specs.Reached.{ForkPlace, fork_place, place_in, IsForking, StandsFork, IsStanding, IsNoFork, StandsHandle, given_back, back_in}
+use Rattle.gup_turns.specs.Reached.{ForkPlace, unbegun, fork_place, place_in, IsForking, StandsFork, IsStanding, IsNoFork, StandsHandle, given_back, back_in}
 use Rattle.gup_turns.specs.Run.{RunState, run_start, run_after, op_in, waiting_in, waiting_with, taken_by, taken_in, is_ready, can_go}
 use Rattle.gup_turns.specs.Turn.{waits_at, waits_born, turn_at, failed_turn, op_turn}
 use Rattle.gup_turns.proofs.Bounds.{TakesCost}
@@ -100,17 +100,18 @@ left_same s t a [] k far same = refl
 left_same s t a (op ∷ ops) zero far same = ap (λ (n : ℕ). n + sum_by op_cost ops) (same op refl)
 left_same s t a (op ∷ ops) (suc k) far same = left_same s t a ops k far same
 
--- a fork's turns stay, if its actor's job and prepared frame do, and the rights of the child that grows
-fork_stays : (s t : CoreState) (b p child : ℕ) (job : Job) (prepared : Option ℕ) → StandsFork s b p child job prepared → s.job b ≡ job → s.prepared b ≡ prepared → t.job b ≡ s.job b → t.prepared b ≡ s.prepared b → (s.birth child ≡ growing p → s.structure p ≡ Some b → t.right child ≡ s.right child) → fork_left (t.right child) (place_in t b) ≡ fork_left (s.right child) (place_in s b)
-fork_stays s t b p child job prepared stands is has same kept rights =
-    ap (fork_left (t.right child)) (place_by t b job prepared (same ∙ is) (kept ∙ has)) ∙ go job prepared stands
-    ∙ sym (ap (fork_left (s.right child)) (place_by s b job prepared is has))
+-- A measure of where a fork stands stays, if its actor's job and prepared frame do, and the rights of the child that grows;
+-- before its beginning it is to be of no rights.
+pub fork_stays : (measure : (ℕ → Option Rights) → ForkPlace → ℕ) → ((f g : ℕ → Option Rights) → measure f unbegun ≡ measure g unbegun) → (s t : CoreState) (b p child : ℕ) (job : Job) (prepared : Option ℕ) → StandsFork s b p child job prepared → s.job b ≡ job → s.prepared b ≡ prepared → t.job b ≡ s.job b → t.prepared b ≡ s.prepared b → (s.birth child ≡ growing p → s.structure p ≡ Some b → t.right child ≡ s.right child) → measure (t.right child) (place_in t b) ≡ measure (s.right child) (place_in s b)
+fork_stays measure first s t b p child job prepared stands is has same kept rights =
+    ap (measure (t.right child)) (place_by t b job prepared (same ∙ is) (kept ∙ has)) ∙ go job prepared stands
+    ∙ sym (ap (measure (s.right child)) (place_by s b job prepared is has))
   where
-    grows : (x : ForkPlace) (q c : ℕ) (done : List ℕ) → IsForking s b p child q c done → fork_left (t.right child) x ≡ fork_left (s.right child) x
-    grows x q c done forks = ap (λ (f : ℕ → Option Rights). fork_left f x) (rights forks.birth forks.locked)
+    grows : (x : ForkPlace) (q c : ℕ) (done : List ℕ) → IsForking s b p child q c done → measure (t.right child) x ≡ measure (s.right child) x
+    grows x q c done forks = ap (λ (f : ℕ → Option Rights). measure f x) (rights forks.birth forks.locked)
 
-    go : (j : Job) (o : Option ℕ) → StandsFork s b p child j o → fork_left (t.right child) (fork_place j o) ≡ fork_left (s.right child) (fork_place j o)
-    go idle o stands = refl
+    go : (j : Job) (o : Option ℕ) → StandsFork s b p child j o → measure (t.right child) (fork_place j o) ≡ measure (s.right child) (fork_place j o)
+    go idle o stands = first (t.right child) (s.right child)
     go (marking q page f) o stands = absurd stands
     go (moving q page e allowed count) o stands = absurd stands
     go (walking q write long sequence step) o stands = absurd stands
@@ -136,7 +137,7 @@ op_stays script r h t b job kept grown (Take handle) is = refl
 op_stays script r h t b job kept grown (Transfer handle outward index slot n) is = refl
 op_stays script r h t b job kept grown (Fork child) is =
     let p : ℕ = process_of script b in
-    fork_stays r.core t b p child (r.core.job b) (r.core.prepared b) (h.forks b child is) refl refl job kept (grown child p)
+    fork_stays fork_left (λ f g. refl) r.core t b p child (r.core.job b) (r.core.prepared b) (h.forks b child is) refl refl job kept (grown child p)
 op_stays script r h t b job kept grown Exit is = refl
 
 -- the process of a thread is declared
@@ -154,7 +155,7 @@ pub has_process : (script : ScriptValue) → IsScript script → (a : ℕ) → (
 has_process script valid a thread = process_declared script valid a (actor_at script a) refl thread
 
 -- an operation of a process is none of a device
-process_no_device : (op : Op) → IsOfProcess op → IsOfDevice op → ⊥
+pub process_no_device : (op : Op) → IsOfProcess op → IsOfDevice op → ⊥
 process_no_device op of device = grind arith
 
 -- the pages of its process, or of the child that it brings, are those of a declared one; or it is of no process
@@ -222,7 +223,7 @@ stands_at script r h a op is = go op is
     go Exit is = (rests Exit tt is, tt)
 
 -- an actor goes on only once it waits for no birth: its process is born, or failed
-waits_no_birth : (b : Birth) (p : ℕ) (others : Option Waiting) → waits_at b p others ≡ None → (b ≡ born) ⊎ (b ≡ failed)
+pub waits_no_birth : (b : Birth) (p : ℕ) (others : Option Waiting) → waits_at b p others ≡ None → (b ≡ born) ⊎ (b ≡ failed)
 waits_no_birth unborn p others free = absurd (cc free)
 waits_no_birth (growing parent) p others free = absurd (cc free)
 waits_no_birth born p others free = inl refl
@@ -329,7 +330,7 @@ IsIdleBy script r a op waiting =
     ((taken_by r.core (doer script a) (r.places a).far op waiting).events ≡ [])
     × (place_behind (r.places a) (taken_by r.core (doer script a) (r.places a).far op waiting).whats ≡ r.places a)
 
-idle_by : (script : ScriptValue) (r : RunState) (a : ℕ) (op : Option Op) (waiting : Option Waiting) → is_ready op waiting ≡ false → IsIdleBy script r a op waiting
+pub idle_by : (script : ScriptValue) (r : RunState) (a : ℕ) (op : Option Op) (waiting : Option Waiting) → is_ready op waiting ≡ false → IsIdleBy script r a op waiting
 idle_by script r a None waiting stays = (refl, refl)
 idle_by script r a (Some op) (Some waiting) stays = (refl, refl)
 idle_by script r a (Some op) None stays = absurd (cc stays)

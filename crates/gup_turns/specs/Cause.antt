@@ -1,7 +1,12 @@
 -- Why an operation of a core run finds no frame, which answers it has at all, and what an actor waits for.
-use Rattle.std.specs.Prelude.{◌≡◌, ℕ, ◌+◌, ◌<◌, ◌⊎◌, true, List, [], ◌∷◌, length, map, Contains}
+use Rattle.std.specs.Prelude.{◌≡◌, ℕ, ◌+◌, ◌<◌, ◌⊎◌, Bool, true, false, Option, Some, None, IsSome, List, [], ◌∷◌, length, map, Contains}
 use Rattle.std.specs.List.{AllByRecursion}
+use Rattle.gup_base.specs.declared.entry.Allowed.{Allowed}
+use Rattle.gup_base.specs.declared.entry.Allowed.TheVariants.{Any}
+use Rattle.gup_base.specs.declared.entry.Entry.{Entry}
+use Rattle.gup_base.specs.declared.entry.Rights.TheVariants.{RW}
 use Rattle.gup_plain.specs.Note.{NoteValue}
+use Rattle.gup_plain.specs.State.{born}
 use Rattle.gup_plain.specs.declared.answer.Answer.{Answer}
 use Rattle.gup_plain.specs.declared.answer.Answer.TheVariants as answers
 use Rattle.gup_plain.specs.declared.answer.Cause.{Cause}
@@ -10,15 +15,76 @@ use Rattle.gup_plain.specs.declared.note.What.{What}
 use Rattle.gup_plain.specs.declared.note.What.TheVariants.{Silent, Idle, Wait, Event, Done}
 use Rattle.gup_plain.specs.declared.note.Waiting.{Waiting}
 use Rattle.gup_plain.specs.declared.note.Waiting.TheVariants as waitings
+use Rattle.gup_script.specs.declared.op.Op.{Op}
+use Rattle.gup_script.specs.declared.op.Op.TheVariants.{Map, Unmap, Protect, Discard, Load, Store, Pin, Unpin, Give, Take, Transfer, Fork, Exit}
 use Rattle.gup_script.specs.Script.{ScriptValue}
 use Rattle.gup_events.specs.State.{CoreState}
+use Rattle.gup_events.specs.Event.{IsAllowed}
 use Rattle.gup_follows.specs.Order.{Turn}
-use Rattle.gup_follows.specs.Place.{has_finished}
-use Rattle.gup_turns.specs.Run.{RunState, run_after}
+use Rattle.gup_follows.specs.Place.{doer, birth_for, process_of, has_finished}
+use Rattle.gup_turns.specs.Reached.{wants_frame, place_in}
+use Rattle.gup_turns.specs.Run.{RunState, op_in, waiting_in}
 
--- each frame of the machine has a reference
-abbrev pub AreAllHeld : CoreState → Type 0
-AreAllHeld s = (f : ℕ) → f < s.movable + s.normal → s.count f ≡ 0 → ⊥
+-- each frame of these zones has a reference
+abbrev pub AreHeld : CoreState → Allowed → Type 0
+AreHeld s allowed = (f : ℕ) → f < s.movable + s.normal → IsAllowed s allowed f → s.count f ≡ 0 → ⊥
+
+-- the zones from which the turns of an operation take frames
+abbrev pub allowed_of : Op → Allowed
+allowed_of op = Any
+
+-- others may have the frame of a page's entry too: it is unmarked, and its count isn't 1
+abbrev pub MayBeShared : CoreState → ℕ → Type 0
+MayBeShared s f = (s.mark f ≡ false) × (s.count f ≡ 1 → ⊥)
+
+-- By its entry, a page needs a frame to be the only one that has it, and to be written.
+abbrev pub NeedsOwn : CoreState → Option Entry → Type 0
+NeedsOwn s None = Unit {0}
+NeedsOwn s (Some e) = MayBeShared s e.frame
+
+abbrev pub NeedsWritable : CoreState → Option Entry → Type 0
+NeedsWritable s None = Unit {0}
+NeedsWritable s (Some e) = (e.writable ≡ false) × MayBeShared s e.frame
+
+-- A page needs a frame for a load, a store or a pin, if its rights allow that: a load of a page needs one where it has no
+-- entry, and a pin to read also where others may have its frame.
+abbrev pub NeedsForLoad : CoreState → (p page : ℕ) → Type 0
+NeedsForLoad s p page = IsSome (s.right p page) × (s.entry p page ≡ None)
+
+abbrev pub NeedsForStore : CoreState → (p page : ℕ) → Type 0
+NeedsForStore s p page = (s.right p page ≡ Some RW) × NeedsWritable s (s.entry p page)
+
+abbrev pub NeedsForPin : CoreState → (p page : ℕ) → (write : Bool) → Type 0
+NeedsForPin s p page true = NeedsForStore s p page
+NeedsForPin s p page false = IsSome (s.right p page) × NeedsOwn s (s.entry p page)
+
+-- An operation needs a frame at its next turn: a load, a store and a pin for their page, a pin's being the one behind those
+-- that it has, and a fork for the page that it copies, where it has none for it yet.
+abbrev pub NeedsFor : CoreState → (a p far : ℕ) → Op → Type 0
+NeedsFor s a p far (Load page word) = NeedsForLoad s p page
+NeedsFor s a p far (Store page word value) = NeedsForStore s p page
+NeedsFor s a p far (Pin handle page n write) = NeedsForPin s p (page + far) write
+NeedsFor s a p far (Fork child) = (page : ℕ) × (place_in s a ≡ wants_frame page)
+NeedsFor s a p far (Map page n rights) = ⊥
+NeedsFor s a p far (Unmap page n) = ⊥
+NeedsFor s a p far (Protect page n rights) = ⊥
+NeedsFor s a p far (Discard page n) = ⊥
+NeedsFor s a p far (Unpin handle) = ⊥
+NeedsFor s a p far (Give handle to) = ⊥
+NeedsFor s a p far (Take handle) = ⊥
+NeedsFor s a p far (Transfer handle outward index slot n) = ⊥
+NeedsFor s a p far Exit = ⊥
+
+-- the actor's next turn is one of this operation, which it waits for nothing to do, in a process that is born; and it
+-- needs a frame
+abbrev pub NeedsFrame : ScriptValue → RunState → (a : ℕ) → Op → Type 0
+NeedsFrame script r a op =
+    (op_in script r a ≡ Some op) × (waiting_in script r a ≡ None) × (birth_for r.core.birth (doer script a) ≡ born)
+    × NeedsFor r.core a (process_of script a) (r.places a).far op
+
+-- it needs one, and none that its operation may take is free
+abbrev pub FindsNoFrame : ScriptValue → RunState → (a : ℕ) → Type 0
+FindsNoFrame script r a = (op : Op) × NeedsFrame script r a op × AreHeld r.core (allowed_of op)
 
 -- the turn answers for want of a frame, or that is the cause of its short pin
 abbrev pub LacksFrame : List What → Type 0
@@ -26,12 +92,11 @@ LacksFrame whats =
     Contains whats (Done answers.NoFrame)
     ⊎ ((got wanted : ℕ) × Contains whats (Done (answers.Short got wanted causes.NoFrame)))
 
--- such an answer comes only of a turn that finds none free
-abbrev pub FindNoFrame : ScriptValue → RunState → List Turn → Type 0
-FindNoFrame script r [] = Unit {0}
-FindNoFrame script r (turn ∷ turns) =
-    (LacksFrame turn.whats → AreAllHeld r.core)
-    × FindNoFrame script (run_after script r turn.actor) turns
+-- a turn from this state answers so exactly where it lacks a frame
+abbrev pub LacksExactly : ScriptValue → RunState → Turn → Type 0
+LacksExactly script r turn =
+    (LacksFrame turn.whats → FindsNoFrame script r turn.actor)
+    × (FindsNoFrame script r turn.actor → LacksFrame turn.whats)
 
 -- the answers that operations have so far, and the causes of short pins
 abbrev pub IsKnownCause : Cause → Type 0

@@ -100,6 +100,44 @@ is_fork Exit = 0
 abbrev pub forks : ScriptValue → ℕ
 forks script = sum_by (λ (a : Actor). sum_by is_fork a.ops) script.actors
 
+-- the pages that an operation maps by itself; a fork's child has its own beside those
+abbrev pub mapped_by : Op → ℕ
+mapped_by (Map page n rights) = n
+mapped_by (Unmap page n) = 0
+mapped_by (Protect page n rights) = 0
+mapped_by (Discard page n) = 0
+mapped_by (Load page word) = 0
+mapped_by (Store page word value) = 0
+mapped_by (Pin handle page n write) = 0
+mapped_by (Unpin handle) = 0
+mapped_by (Give handle to) = 0
+mapped_by (Take handle) = 0
+mapped_by (Transfer handle outward index slot n) = 0
+mapped_by (Fork child) = 0
+mapped_by Exit = 0
+
+-- those of all the script's mappings
+abbrev pub map_pages : ScriptValue → ℕ
+map_pages script = sum_by (λ (a : Actor). sum_by mapped_by a.ops) script.actors
+
+-- How many turns an operation has at most, whoever takes turns in between: what goes over n pages or words n, a fork 515 a
+-- page and its begin and end, an exit one for each page that its process has or that other threads map meanwhile, and its
+-- answer.
+abbrev pub most_turns : ScriptValue → Op → ℕ
+most_turns script (Map page n rights) = 1
+most_turns script (Unmap page n) = n
+most_turns script (Protect page n rights) = 1
+most_turns script (Discard page n) = n
+most_turns script (Load page word) = 1
+most_turns script (Store page word value) = 1
+most_turns script (Pin handle page n write) = n
+most_turns script (Unpin handle) = most_pinned
+most_turns script (Give handle to) = 1
+most_turns script (Take handle) = 1
+most_turns script (Transfer handle outward index slot n) = n
+most_turns script (Fork child) = 515 * most_pages + 2
+most_turns script Exit = map_pages script + most_pages + 1
+
 -- The bounds on an operation's own turns, by what one of them brings.
 
 -- it is answered, and the actor stands at its next one

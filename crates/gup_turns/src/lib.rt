@@ -14,9 +14,9 @@ ghost use Rattle.gup_follows.specs.Place.{first_place};
 ghost use Rattle.gup_follows.specs.Plain.{IsPlain};
 ghost use Rattle.gup_follows.specs.Follows.{Follows};
 ghost use Rattle.gup_follows.specs.Order.{Turn, InOrder, journal_of, plain_behind};
-ghost use Rattle.gup_turns.specs.Run.{RunState, Runs, AreTurns, AreBetween, run_start, run_after, op_in, waiting_in, taken_in, can_go, IsCoreRun};
-ghost use Rattle.gup_turns.specs.Cause.{FindNoFrame, AreKnown, answered_in, HaveFinished, WaitsForBirthOrPin};
-ghost use Rattle.gup_turns.specs.Cost.{cost, operations, forks, IsBoundedTurn};
+ghost use Rattle.gup_turns.specs.Run.{RunState, Runs, AreTurns, AreBetween, run_start, run_after, turn_in, op_in, waiting_in, taken_in, can_go, IsCoreRun};
+ghost use Rattle.gup_turns.specs.Cause.{LacksExactly, AreKnown, answered_in, HaveFinished, WaitsForBirthOrPin};
+ghost use Rattle.gup_turns.specs.Cost.{cost, operations, forks, most_turns, IsBoundedTurn};
 ghost use Rattle.gup_turns.specs.Reached.{turned, actors_of, IsStanding};
 
 /// A script has one core run, and that has one end.
@@ -53,11 +53,10 @@ pub fn core_run_is_plain()
     gup_laws::starts_sound();
 }
 
-/// In turns in any order, and so in the core run of a script, an operation is refused for want of a frame only where none is
-/// free.
+/// A turn answers for want of a frame, or ends a short pin so, exactly where its operation needs one and each frame of the
+/// zones that it may take one from has a reference: whichever actor takes it, from whatever state.
 pub fn no_frame_has_its_cause()
-    ensures turns { (script : ScriptValue) (turns : List Turn) (end : RunState) → AreTurns script (run_start script) turns end → FindNoFrame script (run_start script) turns }
-    ensures run { (script : ScriptValue) (turns : List Turn) (end : RunState) → Runs script (run_start script) turns end → FindNoFrame script (run_start script) turns }
+    ensures { (script : ScriptValue) (r : RunState) (a : ℕ) → LacksExactly script r (turn_in script r a) }
 {}
 
 /// The turns of a run are turns as the laws for any order take them. Such turns lead to the state that turns of their actors
@@ -104,10 +103,16 @@ pub fn turns_are_spent()
 
 /// How many turns an operation has at most: a mapping, a protection, a load, a store, a give and a take one, what goes over
 /// n pages or words n, an unpin of n pages n, a fork 527,362; each turn of an exit but the one that answers it takes a page of
-/// its process.
+/// its process. Whichever actors take turns, an operation has fewer notes, one for each of its turns that are over, than it
+/// may have turns; for an exit these are 1,025 more than the pages of all the script's mappings.
 pub fn turns_are_bounded()
-    ensures { (script : ScriptValue) (r : RunState) (a : ℕ) (op : Op) → IsScript script → IsStanding script r → op_in script r a ≡ Some op → waiting_in script r a ≡ None → IsBoundedTurn script r a op }
-{}
+    ensures turn { (script : ScriptValue) (r : RunState) (a : ℕ) (op : Op) → IsScript script → IsStanding script r → op_in script r a ≡ Some op → waiting_in script r a ≡ None → IsBoundedTurn script r a op }
+    ensures within { (script : ScriptValue) (actors : List ℕ) (a : ℕ) (op : Op) → IsScript script → let r = turned script (run_start script) actors in op_in script r a ≡ Some op → (r.places a).far < most_turns script op }
+{
+    gup_laws::simulates();
+    gup_laws::starts_sound();
+    gup_laws::sound_states_hold();
+}
 
 /// At the end of a run each actor has finished or waits, and whoever waits, waits for a process of the script to be born
 /// or for a pin of the script to be given to it.

@@ -1,9 +1,10 @@
 use Rattle.std.proofs.Common.{◌≡◌, ℕ, ◌++◌, Bool, true, false, List, ap, sym, subst, ◌∙◌, length}
 use Rattle.gup_plain.specs.Note.{NoteValue}
 use Rattle.gup_script.specs.Script.{ScriptValue}
-use Rattle.gup_follows.specs.Plain.{judged_first}
-use Rattle.gup_turns.specs.Cause.{HaveFinished}
-use Rattle.gup_turns.specs.Run.{RunState}
+use Rattle.gup_follows.specs.Place.{first_place}
+use Rattle.gup_follows.specs.Plain.{ArePlain, judged_first}
+use Rattle.gup_turns.specs.Cause.{AreKnown, HaveFinished}
+use Rattle.gup_turns.specs.Run.{RunState, run_start}
 use Rattle.gup_sched.specs.Ran.{SaysStuck}
 use Rattle.gup_lines.specs.Text.{text_of}
 use Rattle.gup.specs.Stuck.{stuck_text}
@@ -41,7 +42,8 @@ returns c =
       follows = c.core_run_follows.ensures script notes end valid core;
       in_order = c.core_run_is_in_order.ensures script notes end valid core;
       plain = plain;
-      causes = (caused script (judged_first script) notes plain known, (core.0, end, core.1, core.2, c.no_frame_has_its_cause.ensures script core.0 end core.2));
+      causes =
+          (core.0, end, core.1, core.2, caused c.no_frame_has_its_cause.ensures script (judged_first script) 1 (λ _. first_place) core.0 (run_start script) end core.2 (subst (ArePlain script (judged_first script)) core.1 plain) (subst AreKnown core.1 known));
       end = end;
       core = core;
       ends = run.3;
