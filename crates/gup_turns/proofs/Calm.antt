@@ -3,7 +3,7 @@ use Rattle.std.proofs.Common.{◌≡◌, ℕ, Bool, false, List, [], ◌∷◌, 
 use Rattle.gup_base.specs.declared.entry.Entry.{Entry}
 use Rattle.gup_base.specs.declared.entry.Rights.{Rights}
 use Rattle.gup_events.specs.State.{CoreState, ForkStep, start}
-use Rattle.gup_events.specs.Event.{CoreEvent, take_frame, fill, count_one, set_mark, upgrade, break_entry, put_entry, map_pages, lower_entry, protect_pages, drop_entry, discard_entry, load, store, raise_flag, pin_page, make_handle, unpin_page, give_handle, take_handle, move_out, move_in, begin_fork, count_page, share_entry, share_mark, share_child, copy_word, place_child, pass_page, end_fork, fail_fork, put_child, release_fork, fail_unborn}
+use Rattle.gup_events.specs.Event.{CoreEvent, take_frame, fill, count_one, set_mark, upgrade, break_entry, put_entry, map_pages, lower_entry, protect_pages, drop_entry, discard_entry, load, store, raise_flag, pin_page, make_handle, unpin_page, give_handle, take_handle, move_out, move_in, begin_fork, count_page, share_entry, share_mark, share_child, copy_word, place_child, pass_page, end_fork, fail_fork, put_child, fail_unborn}
 
 -- no mirror is filled, and nothing is got
 pub record IsCalm (s : CoreState) : Type 0 where
@@ -62,9 +62,8 @@ pub data IsTurnEvent (a p c : ℕ) (strand : Strand) : CoreEvent → Type 0 wher
   ending : (done : List ℕ) → IsTurnEvent a p c strand (end_fork a p c done)
   copying_word : (done : List ℕ) (page word to : ℕ) (e : Entry) → IsTurnEvent a p c strand (copy_word a p c done page word to e)
   placing : (done : List ℕ) (page to : ℕ) (rights : Rights) → IsTurnEvent a p c strand (place_child a p c done page to rights)
-  failing_at : (done : List ℕ) (step : ForkStep) → IsTurnEvent a p c strand (fail_fork a p c done step)
-  putting_child : (done : List ℕ) (page : ℕ) (e : Entry) → IsTurnEvent a p c strand (put_child a p c done page e)
-  releasing : (done : List ℕ) → IsTurnEvent a p c strand (release_fork a p c done)
+  failing_at : (done : List ℕ) (step : ForkStep) (ends : Bool) → IsTurnEvent a p c strand (fail_fork a p c done step ends)
+  putting_child : (done : List ℕ) (page : ℕ) (e : Entry) (ends : Bool) → IsTurnEvent a p c strand (put_child a p c done page e ends)
   failing_unborn : IsTurnEvent a p c strand (fail_unborn a p c)
 
 abbrev pub AreTurnEvents : (a p c : ℕ) → Strand → List CoreEvent → Type 0

@@ -11,7 +11,7 @@ use Rattle.gup_events.specs.Event.{CoreEvent, Can, happens, MayFail, is_odd, map
 use Rattle.gup_events.specs.Invariant.{AllCan, run}
 use Rattle.gup_events.specs.Sound.{IsSound, Forking, forking_of, is_failing}
 use Rattle.gup_turns.specs.Pages.{mapped_pages}
-use Rattle.gup_turns.proofs.Calm.{Strand, AreTurnEvents, IsTurnEvent, taking, filling, counting_one, marking_it, upgrading, breaking, putting, mapping, lowering, protecting, dropping, discarding, loading, storing, raising, pinning, making, handling, IsHandleEvent, AreHandleEvents, unpinning, giving, taking_over, moving_out, moving_in, beginning, counting, sharing_entry, sharing_mark, sharing_child, passing, ending, copying_word, placing, failing_at, putting_child, releasing, failing_unborn}
+use Rattle.gup_turns.proofs.Calm.{Strand, AreTurnEvents, IsTurnEvent, taking, filling, counting_one, marking_it, upgrading, breaking, putting, mapping, lowering, protecting, dropping, discarding, loading, storing, raising, pinning, making, handling, IsHandleEvent, AreHandleEvents, unpinning, giving, taking_over, moving_out, moving_in, beginning, counting, sharing_entry, sharing_mark, sharing_child, passing, ending, copying_word, placing, failing_at, putting_child, failing_unborn}
 use Rattle.gup_turns.proofs.Mapped.{mapped_spread, mapped_same, mapped_lost, mapped_none}
 use Rattle.gup_turns.proofs.Puts.{put_same, put_other}
 use Rattle.gup_turns.proofs.Standing.{brought, all_brought, IsFew}
@@ -136,8 +136,8 @@ unfailing (copying page n) may = refl
 unfailing failing may = absurd may
 
 -- the child of one that fails has no mappings, and the sequence was odd, as at an end
-few_fail : (n : ℕ) (s : CoreState) (a p c : ℕ) (done : List ℕ) (step : ForkStep) → c < n → IsSound s → Can s (fail_fork a p c done step) → IsFew n s → IsFew n (happens s (fail_fork a p c done step))
-few_fail n s a p c done step below sound can h =
+few_fail : (n : ℕ) (s : CoreState) (a p c : ℕ) (done : List ℕ) (step : ForkStep) (ends : Bool) → c < n → IsSound s → Can s (fail_fork a p c done step ends) → IsFew n s → IsFew n (happens s (fail_fork a p c done step ends))
+few_fail n s a p c done step ends below sound can h =
     let k : Forking = record { proc = p; child = c; done = done; step = step } in
     let forks : sound.0.forks a ≡ Some k = sound.1.forks_are a ∙ ap forking_of can.0 in
     let runs : is_failing step ≡ false = unfailing step can.1 in
@@ -200,9 +200,8 @@ few_event n s a p c strand e (passing done page) below sound can h = few_same n 
 few_event n s a p c strand e (ending done) below sound can h = few_end n s a p c done below sound can h
 few_event n s a p c strand e (copying_word done page word to entry) below sound can h = few_same n s (happens s e) refl refl refl refl h
 few_event n s a p c strand e (placing done page to rights) below sound can h = few_same n s (happens s e) refl refl refl refl h
-few_event n s a p c strand e (failing_at done step) below sound can h = few_fail n s a p c done step below sound can h
-few_event n s a p c strand e (putting_child done page entry) below sound can h = few_same n s (happens s e) refl refl refl refl h
-few_event n s a p c strand e (releasing done) below sound can h = few_same n s (happens s e) refl refl refl refl h
+few_event n s a p c strand e (failing_at done step ends) below sound can h = few_fail n s a p c done step ends below sound can h
+few_event n s a p c strand e (putting_child done page entry ends) below sound can h = few_same n s (happens s e) refl refl refl refl h
 few_event n s a p c strand e failing_unborn below sound can h = few_unborn n s a p c below can h
 
 -- events of a turn keep it

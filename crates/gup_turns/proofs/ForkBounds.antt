@@ -1,6 +1,6 @@
 -- What a turn of any operation does to mapped pages and jobs, and what it takes of the cost: a fork's, and the others'.
 use Rattle.std.proofs.Common.{◌≡◌, ℕ, ◌+◌, ◌-◌, ◌*◌, ◌<◌, ◌≤◌, ◌==◌, ◌++◌, Bool, true, false, is_some, List, [], ◌∷◌, Option, Some, None, inl, inr, refl, ap, sym, subst, ◌∙◌, zero, suc, arith, nat_lt, eqb-true}
-use Rattle.std.specs.Prelude.{◌⊎◌}
+use Rattle.std.specs.Prelude.{◌⊎◌, ◌&&◌, not}
 use Rattle.std.proofs.lemmas.Bool.Decides.{nat_tests}
 use Rattle.gup_base.specs.declared.entry.Entry.{Entry}
 use Rattle.gup_base.specs.declared.entry.Rights.{Rights}
@@ -12,8 +12,9 @@ use Rattle.gup_plain.specs.declared.note.What.TheVariants.{Silent}
 use Rattle.gup_script.specs.declared.op.Op.{Op}
 use Rattle.gup_script.specs.declared.op.Op.TheVariants.{Map, Unmap, Protect, Discard, Load, Store, Pin, Unpin, Give, Take, Transfer, Fork, Exit}
 use Rattle.gup_events.specs.State.{CoreState, Job, idle, marking, moving, forking, walking, ForkStep, between, counted, lowered, cleared, copying, failing}
-use Rattle.gup_events.specs.Event.{CoreEvent, happens, begin_fork, count_page, copies_page, fail_fork, release_fork, fail_unborn}
-use Rattle.gup_events.specs.Failure.{puts_entry, puts_entries, fails}
+use Rattle.gup_events.specs.Event.{CoreEvent, happens, begin_fork, count_page, copies_page, fail_fork, put_child, fail_unborn}
+use Rattle.gup_events.specs.Failure.{are_gone, puts_entry, puts_entries, fails}
+use Rattle.gup_events.specs.Gone.{no_puts}
 use Rattle.gup_events.specs.Invariant.{run}
 use Rattle.gup_events.specs.Sound.{Forking, forking_of}
 use Rattle.gup_follows.specs.Place.{Place, Doer, birth_by, birth_for, place_behind}
@@ -121,53 +122,75 @@ copying_few right page word (Some to) = omega arith
 pub place_by : (t : CoreState) (a : ℕ) (job : Job) (prepared : Option ℕ) → t.job a ≡ job → t.prepared a ≡ prepared → place_in t a ≡ fork_place job prepared
 place_by t a job prepared is has = ap (λ (j : Job). fork_place j (t.prepared a)) is ∙ ap (fork_place job) has
 
--- The references of a failed child that are given back leave all mappings, all jobs, and what actors have prepared.
-record GivesBack (s t : CoreState) : Type 0 where
-  right : t.right ≡ s.right
-  job : t.job ≡ s.job
-  prepared : t.prepared ≡ s.prepared
-
-gives_both : (s t u : CoreState) → GivesBack s t → GivesBack t u → GivesBack s u
-gives_both s t u now later =
-    record {
-      right = later.right ∙ now.right;
-      job = later.job ∙ now.job;
-      prepared = later.prepared ∙ now.prepared;
-    }
-
 module _ (a p c : ℕ) (done : List ℕ) where
-  puts_one : (s : CoreState) (page : ℕ) (entry : Option Entry) → GivesBack s (run s (puts_entry a p c done page entry))
-  puts_one s page None = record { right = refl; job = refl; prepared = refl }
-  puts_one s page (Some e) = record { right = refl; job = refl; prepared = refl }
+  -- The references of a failed child that are given back leave all mappings, other actors' jobs, and what actors have prepared.
+  record GivesBack (s t : CoreState) : Type 0 where
+    right : t.right ≡ s.right
+    others : (b : ℕ) → (b == a) ≡ false → t.job b ≡ s.job b
+    prepared : t.prepared ≡ s.prepared
+
+  gives_both : (s t u : CoreState) → GivesBack s t → GivesBack t u → GivesBack s u
+  gives_both s t u now later =
+      record {
+        right = later.right ∙ now.right;
+        others = λ b other. later.others b other ∙ now.others b other;
+        prepared = later.prepared ∙ now.prepared;
+      }
+
+  puts_one : (s : CoreState) (page : ℕ) (entry : Option Entry) (ends : Bool) → GivesBack s (run s (puts_entry a p c done page entry ends))
+  puts_one s page None ends = record { right = refl; others = λ b other. refl; prepared = refl }
+  puts_one s page (Some e) true = record { right = refl; others = λ b other. put_other a b idle s.job other; prepared = refl }
+  puts_one s page (Some e) false = record { right = refl; others = λ b other. refl; prepared = refl }
 
   puts_all : (s : CoreState) (entry : ℕ → Option Entry) (first n : ℕ) → GivesBack s (run s (puts_entries a p c done entry first n))
-  puts_all s entry first zero = record { right = refl; job = refl; prepared = refl }
+  puts_all s entry first zero = record { right = refl; others = λ b other. refl; prepared = refl }
   puts_all s entry first (suc n) =
-      let one : List CoreEvent = puts_entry a p c done first (entry first) in
+      let one : List CoreEvent = puts_entry a p c done first (entry first) (are_gone entry (first + 1) n) in
       let more : List CoreEvent = puts_entries a p c done entry (first + 1) n in
       let t : CoreState = run s one in
-      subst (GivesBack s) (sym (run_behind s one more)) (gives_both s t (run t more) (puts_one s first (entry first)) (puts_all t entry (first + 1) n))
+      subst (GivesBack s) (sym (run_behind s one more)) (gives_both s t (run t more) (puts_one s first (entry first) (are_gone entry (first + 1) n)) (puts_all t entry (first + 1) n))
+
+  -- with the last of them the actor is in the middle of nothing
+  puts_end : (s : CoreState) (entry : ℕ → Option Entry) (first n : ℕ) → are_gone entry first n ≡ false → (run s (puts_entries a p c done entry first n)).job a ≡ idle
+  puts_end s entry first zero some = absurd (cc)
+  puts_end s entry first (suc n) some = at_entry (entry first) some
+    where
+      rest : List CoreEvent
+      rest = puts_entries a p c done entry (first + 1) n
+
+      by_last : (e : Entry) (ends : Bool) → are_gone entry (first + 1) n ≡ ends → (run (happens s (put_child a p c done first e ends)) rest).job a ≡ idle
+      by_last e true gone =
+          ap (λ (es : List CoreEvent). (run (happens s (put_child a p c done first e true)) es).job a) (no_puts a p c done entry (first + 1) n gone)
+          ∙ put_same a idle s.job
+      by_last e false gone = puts_end (happens s (put_child a p c done first e false)) entry (first + 1) n gone
+
+      at_entry : (here : Option Entry) → not (is_some here) && are_gone entry (first + 1) n ≡ false → (run s (puts_entry a p c done first here (are_gone entry (first + 1) n) ++ rest)).job a ≡ idle
+      at_entry None left = puts_end s entry (first + 1) n left
+      at_entry (Some e) left = by_last e (are_gone entry (first + 1) n) refl
 
   -- the failure of a fork: its child has no mappings, and its actor is in the middle of nothing
   record IsFailed (s t : CoreState) : Type 0 where
     right : t.right ≡ put c (λ _. None) s.right
-    job : t.job ≡ put a idle (put a (forking p c done failing) s.job)
+    own : t.job a ≡ idle
+    others : (b : ℕ) → (b == a) ≡ false → t.job b ≡ s.job b
     prepared : t.prepared ≡ s.prepared
 
-  fails_by : (s : CoreState) (step : ForkStep) (entry : ℕ → Option Entry) (n : ℕ) → IsFailed s (run (happens s (fail_fork a p c done step)) (puts_entries a p c done entry 0 n ++ release_fork a p c done ∷ []))
-  fails_by s step entry n =
-      let t : CoreState = happens s (fail_fork a p c done step) in
-      let puts : List CoreEvent = puts_entries a p c done entry 0 n in
+  fails_by : (s : CoreState) (step : ForkStep) (entry : ℕ → Option Entry) (n : ℕ) (ends : Bool) → are_gone entry 0 n ≡ ends → IsFailed s (run (happens s (fail_fork a p c done step ends)) (puts_entries a p c done entry 0 n))
+  fails_by s step entry n true gone =
+      subst (λ (es : List CoreEvent). IsFailed s (run (happens s (fail_fork a p c done step true)) es)) (sym (no_puts a p c done entry 0 n gone))
+      (record { right = refl; own = put_same a idle s.job; others = λ b other. put_other a b idle s.job other; prepared = refl })
+  fails_by s step entry n false gone =
+      let t : CoreState = happens s (fail_fork a p c done step false) in
       let back = puts_all t entry 0 n in
-      subst (IsFailed s) (sym (run_behind t puts (release_fork a p c done ∷ [])))
-      (record {
+      record {
         right = back.right;
-        job = ap (put a idle) back.job;
+        own = puts_end t entry 0 n gone;
+        others = λ b other. back.others b other ∙ put_other a b (forking p c done failing) s.job other;
         prepared = back.prepared;
-      })
+      }
 
   fails_so : (s : CoreState) (step : ForkStep) (entry : ℕ → Option Entry) → IsFailed s (run s (fails a p c done step entry))
-  fails_so s step entry = fails_by s step entry page_numbers
+  fails_so s step entry = fails_by s step entry page_numbers (are_gone entry 0 page_numbers) refl
 
 module _ (s : CoreState) (a p : ℕ) (place : Place) where
   -- an operation that isn't a fork
@@ -325,7 +348,6 @@ module _ (s : CoreState) (a p : ℕ) (place : Place) where
         let t : CoreState = run s turn.events in
         let lost = fails_so a p child done s (copying page word) (s.entry child) in
         let none : ℕ → Option Rights = λ _. None in
-        let one : Job = forking p child done failing in
         let row : t.right child ≡ none = ap (λ (f : ℕ → ℕ → Option Rights). f child) lost.right ∙ put_same child none s.right in
         let pages : mapped_pages (t.right child) ≡ 0 = ap mapped_pages row ∙ mapped_none none (λ k. refl) in
         let left = some_left (s.right child) (place_in s a) in
@@ -333,9 +355,9 @@ module _ (s : CoreState) (a p : ℕ) (place : Place) where
           others = λ q other. ap (λ (f : ℕ → ℕ → Option Rights). f q) lost.right ∙ put_other child q none s.right other;
           grown = λ q parent b grows locked apart.
               ap (λ (f : ℕ → ℕ → Option Rights). f q) lost.right ∙ put_other child q none s.right (apart_locked s child q p a b forks.birth forks.locked parent grows locked apart);
-          jobs = λ b other. ap (λ (j : ℕ → Job). j b) lost.job ∙ put_other a b idle (put a one s.job) other ∙ put_other a b one s.job other;
+          jobs = lost.others;
           prepared = λ b other. ap (λ (f : ℕ → Option ℕ). f b) lost.prepared;
-          takes = inl (refl, ap (λ (j : ℕ → Job). j a) lost.job ∙ put_same a idle (put a one s.job), omega (arith, pages, left));
+          takes = inl (refl, lost.own, omega (arith, pages, left));
           bound = inl refl;
           gained = λ q birth.
               no_more (t.right q) (s.right q) 0 (ap (λ (f : ℕ → ℕ → Option Rights). f q) lost.right ∙ put_other child q none s.right (apart_born s.birth child q (growing p) forks.birth (growing_born p) birth));

@@ -1,19 +1,21 @@
 -- The events of a fork that fails can happen, tell that it fails and nothing else, and leave its child without entries.
-use Rattle.std.proofs.Common.{◌≡◌, ℕ, ◌+◌, ◌<◌, ◌≤◌, nat_lt, Bool, true, false, List, [], ◌∷◌, ◌++◌, Option, Some, None, ◌⊎◌, inl, inr, refl, ap, sym, ◌∙◌, eq-or-lt_of_le, zero, suc, arith}
+use Rattle.std.proofs.Common.{◌≡◌, ℕ, ◌+◌, ◌<◌, ◌≤◌, nat_lt, Bool, true, false, is_some, not, ◌&&◌, subst, List, [], ◌∷◌, ◌++◌, Option, Some, None, ◌⊎◌, inl, inr, refl, ap, sym, ◌∙◌, eq-or-lt_of_le, zero, suc, arith}
 use Rattle.std.proofs.lemmas.Bool.Decides.{nat_tests}
 use Rattle.gup_base.specs.declared.entry.Entry.{Entry}
 use Rattle.gup_base.specs.declared.entry.Rights.{Rights}
 use Rattle.gup_plain.specs.Event.{page_numbers}
+use Rattle.gup_plain.specs.Put.{put}
 use Rattle.gup_plain.specs.State.{unborn, growing, failed}
 use Rattle.gup_plain.specs.declared.event.PlainEvent.{PlainEvent}
 use Rattle.gup_plain.specs.declared.event.PlainEvent.TheVariants as events
 use Rattle.gup_events.specs.State.{CoreState, idle, forking, copying, failing}
-use Rattle.gup_events.specs.Event.{CoreEvent, happens, fail_fork, put_child, release_fork}
-use Rattle.gup_events.specs.Failure.{puts_entry, puts_entries, fails}
+use Rattle.gup_events.specs.Event.{CoreEvent, happens, fail_fork, put_child, AreGone}
+use Rattle.gup_events.specs.Failure.{are_gone, puts_entry, puts_entries, fails}
+use Rattle.gup_events.specs.Gone.{no_puts, are_said}
 use Rattle.gup_events.specs.Invariant.{AllCan, run}
 use Rattle.gup_events.specs.Sound.{IsSound}
 use Rattle.gup_laws.specs.Law.{all_told}
-use Rattle.gup_turns.proofs.Calm.{of_pages, AreTurnEvents, failing_at, putting_child, releasing}
+use Rattle.gup_turns.proofs.Calm.{of_pages, AreTurnEvents, failing_at, putting_child}
 use Rattle.gup_turns.proofs.Puts.{put_same}
 
 -- what these events lead to: the actor is in the middle of nothing, and the child has no entry
@@ -49,6 +51,12 @@ module _ (a p c : ℕ) (done : List ℕ) (entry : ℕ → Option Entry) where
     told : all_told es ≡ []
     given : IsGivenUp (run t es) a c
 
+  put_under : (k j : ℕ) (x : Option Entry) (f : ℕ → Option Entry) → j < k → put k x f j ≡ f j
+  put_under k j x f less = grind (arith, nat_tests)
+
+  put_apart : (k j : ℕ) (x : Option Entry) (f : ℕ → Option Entry) → k < j → put k x f j ≡ f j
+  put_apart k j x f more = grind (arith, nat_tests)
+
   -- a page without an entry is passed
   passed_on : (t : CoreState) (next : ℕ) → entry next ≡ None → IsPutTo t next → IsPutTo t (next + 1)
   passed_on t next none h =
@@ -61,8 +69,8 @@ module _ (a p c : ℕ) (done : List ℕ) (entry : ℕ → Option Entry) where
         left = λ g least. h.left g (omega arith);
       }
 
-  -- the reference of an entry is given back
-  put_on : (t : CoreState) (next : ℕ) (e : Entry) → IsPutTo t next → IsPutTo (happens t (put_child a p c done next e)) (next + 1)
+  -- the reference of an entry is given back, and others are left
+  put_on : (t : CoreState) (next : ℕ) (e : Entry) → IsPutTo t next → IsPutTo (happens t (put_child a p c done next e false)) (next + 1)
   put_on t next e h =
       record {
         job = h.job;
@@ -73,31 +81,59 @@ module _ (a p c : ℕ) (done : List ℕ) (entry : ℕ → Option Entry) where
         left = λ g least. grind (arith, nat_tests, h.left g);
       }
 
-  -- one page, and those behind it
-  puts_page : (t : CoreState) (next : ℕ) (here : Option Entry) (rest last : List CoreEvent) → entry next ≡ here → IsPutTo t next → ((u : CoreState) → IsPutTo u (next + 1) → GivesUp u (rest ++ last)) → GivesUp t ((puts_entry a p c done next here ++ rest) ++ last)
-  puts_page t next None rest last is h later = later t (passed_on t next is h)
-  puts_page t next (Some e) rest last is h later =
-      let behind = later (happens t (put_child a p c done next e)) (put_on t next e h) in
-      record {
-        kinds = (putting_child done next e, behind.kinds);
-        can = ((h.job, h.left next (omega arith) ∙ is), behind.can);
-        told = behind.told;
-        given = behind.given;
-      }
+  -- a page with an entry, and those behind it
+  puts_page : (next n : ℕ) (t : CoreState) (e : Entry) → entry next ≡ Some e → ((g : ℕ) → next + 1 + n ≤ g → entry g ≡ None) → IsPutTo t next → ((u : CoreState) → IsPutTo u (next + 1) → are_gone entry (next + 1) n ≡ false → GivesUp u (puts_entries a p c done entry (next + 1) n)) → GivesUp t (put_child a p c done next e (are_gone entry (next + 1) n) ∷ puts_entries a p c done entry (next + 1) n)
+  puts_page next n t e is none h later = go (are_gone entry (next + 1) n) refl
+    where
+      but : ℕ → Option Entry
+      but = put next None (t.entry c)
 
-  -- the n pages from the first on, behind which there are no entries
-  puts_pages : (first n : ℕ) (t : CoreState) → ((g : ℕ) → first + n ≤ g → entry g ≡ None) → IsPutTo t first → GivesUp t (puts_entries a p c done entry first n ++ release_fork a p c done ∷ [])
-  puts_pages first zero t none h =
-      let all_gone : (g : ℕ) → t.entry c g ≡ None = λ g. elim (below_or_from g first) [ inl less ↦ h.gone g less | inr least ↦ h.left g least ∙ none g (omega arith) ] in
-      record {
-        kinds = (releasing done, tt);
-        can = ((h.job, all_gone), tt);
-        told = refl;
-        given = record { job = put_same a idle t.job; prepared = h.prepared; owed = h.owed; birth = h.birth; emptied = all_gone };
-      }
-  puts_pages first (suc n) t none h =
-      puts_page t first (entry first) (puts_entries a p c done entry (first + 1) n) (release_fork a p c done ∷ []) refl h
-      (λ u behind. puts_pages (first + 1) n u (λ g least. none g (omega arith)) behind)
+      alike : (g : ℕ) → next + 1 ≤ g → g < next + 1 + n → put next None (t.entry c) g ≡ entry g
+      alike g least below = put_apart next g None (t.entry c) (omega arith) ∙ h.left g (omega arith)
+
+      others : (g : ℕ) → (g < next + 1) ⊎ (next + 1 + n ≤ g) → put next None (t.entry c) g ≡ None
+      others g (inl less) =
+          let near : g ≤ next = omega arith in
+          elim (eq-or-lt_of_le near) [ inl same ↦ ap (put next None (t.entry c)) same ∙ put_same next None (t.entry c) | inr below ↦ put_under next g None (t.entry c) below ∙ h.gone g below ]
+      others g (inr high) = put_apart next g None (t.entry c) (omega arith) ∙ h.left g (omega arith) ∙ none g high
+
+      said : AreGone (put next None (t.entry c)) (are_gone entry (next + 1) n)
+      said = are_said (put next None (t.entry c)) entry (next + 1) n alike others
+
+      go : (ends : Bool) → are_gone entry (next + 1) n ≡ ends → GivesUp t (put_child a p c done next e ends ∷ puts_entries a p c done entry (next + 1) n)
+      go true gone =
+          let over : AreGone (put next None (t.entry c)) true = subst (AreGone (put next None (t.entry c))) gone said in
+          subst (λ (es : List CoreEvent). GivesUp t (put_child a p c done next e true ∷ es)) (sym (no_puts a p c done entry (next + 1) n gone))
+          (record {
+            kinds = (putting_child done next e true, tt);
+            can = ((h.job, h.left next (omega arith) ∙ is, over), tt);
+            told = refl;
+            given = record {
+              job = put_same a idle t.job;
+              prepared = h.prepared;
+              owed = h.owed;
+              birth = h.birth;
+              emptied = λ g. ap (λ (f : ℕ → Option Entry). f g) (put_same c (put next None (t.entry c)) t.entry) ∙ over g;
+            };
+          })
+      go false gone =
+          let behind = later (happens t (put_child a p c done next e false)) (put_on t next e h) gone in
+          record {
+            kinds = (putting_child done next e false, behind.kinds);
+            can = ((h.job, h.left next (omega arith) ∙ is, subst (AreGone (put next None (t.entry c))) gone said), behind.can);
+            told = behind.told;
+            given = behind.given;
+          }
+
+  -- the n pages from the first on, of which one has an entry, and behind which there are none
+  puts_pages : (first n : ℕ) (t : CoreState) → ((g : ℕ) → first + n ≤ g → entry g ≡ None) → IsPutTo t first → are_gone entry first n ≡ false → GivesUp t (puts_entries a p c done entry first n)
+  puts_pages first zero t none h some = absurd (cc)
+  puts_pages first (suc n) t none h some =
+      at_page (entry first) refl some (λ u behind left. puts_pages (first + 1) n u (λ g least. none g (omega arith)) behind left)
+    where
+      at_page : (here : Option Entry) → entry first ≡ here → not (is_some here) && are_gone entry (first + 1) n ≡ false → ((u : CoreState) → IsPutTo u (first + 1) → are_gone entry (first + 1) n ≡ false → GivesUp u (puts_entries a p c done entry (first + 1) n)) → GivesUp t (puts_entry a p c done first here (are_gone entry (first + 1) n) ++ puts_entries a p c done entry (first + 1) n)
+      at_page None is left later = later t (passed_on t first is h) left
+      at_page (Some e) is left later = puts_page first n t e is (λ g least. none g (omega arith)) h later
 
 -- an unborn child has no entry
 pub unborn_empty : (s : CoreState) (c page : ℕ) → IsSound s → s.birth c ≡ unborn → s.entry c page ≡ None
@@ -134,21 +170,43 @@ pub record FailsFork (s : CoreState) (a p c : ℕ) (es : List CoreEvent) : Type 
 
 -- a fork that copies a page and has no frame for it fails
 pub fork_fails : (s : CoreState) (a p c : ℕ) (done : List ℕ) (page word : ℕ) → IsSound s → s.birth c ≡ growing p → s.job a ≡ forking p c done (copying page word) → s.prepared a ≡ None → s.owed a ≡ None → FailsFork s a p c (fails a p c done (copying page word) (s.entry c))
-fork_fails s a p c done page word sound birth job none owed =
-    let one : CoreState = happens s (fail_fork a p c done (copying page word)) in
-    let begun : IsPutTo a p c done (s.entry c) one 0 =
-    record {
-      job = put_same a (forking p c done failing) s.job;
-      prepared = none;
-      owed = owed;
-      birth = put_same c failed s.birth;
-      gone = λ g less. absurd (omega arith);
-      left = λ g least. refl;
-    } in
-    let puts = puts_pages a p c done (s.entry c) 0 page_numbers one (λ g high. numbered_entry s p c g sound birth (omega (arith, high))) begun in
-    record {
-      kinds = (failing_at done (copying page word), puts.kinds);
-      can = ((job, tt, none), puts.can);
-      told = ap (λ (es : List PlainEvent). events.ForkFail c ∷ es) puts.told;
-      given = puts.given;
-    }
+fork_fails s a p c done page word sound birth job none owed = go (are_gone (s.entry c) 0 page_numbers) refl
+  where
+    high : (g : ℕ) → page_numbers ≤ g → s.entry c g ≡ None
+    high g least = numbered_entry s p c g sound birth least
+
+    others : (g : ℕ) → (g < 0) ⊎ (0 + page_numbers ≤ g) → s.entry c g ≡ None
+    others g (inl less) = absurd (omega arith)
+    others g (inr least) = high g (omega (arith, least))
+
+    said : AreGone (s.entry c) (are_gone (s.entry c) 0 page_numbers)
+    said = are_said (s.entry c) (s.entry c) 0 page_numbers (λ g least below. refl) others
+
+    go : (ends : Bool) → are_gone (s.entry c) 0 page_numbers ≡ ends → FailsFork s a p c (fail_fork a p c done (copying page word) ends ∷ puts_entries a p c done (s.entry c) 0 page_numbers)
+    go true gone =
+        let over : AreGone (s.entry c) true = subst (AreGone (s.entry c)) gone said in
+        subst (λ (es : List CoreEvent). FailsFork s a p c (fail_fork a p c done (copying page word) true ∷ es)) (sym (no_puts a p c done (s.entry c) 0 page_numbers gone))
+        (record {
+          kinds = (failing_at done (copying page word) true, tt);
+          can = ((job, tt, none, over), tt);
+          told = refl;
+          given = record { job = put_same a idle s.job; prepared = none; owed = owed; birth = put_same c failed s.birth; emptied = over };
+        })
+    go false gone =
+        let one : CoreState = happens s (fail_fork a p c done (copying page word) false) in
+        let begun : IsPutTo a p c done (s.entry c) one 0 =
+        record {
+          job = put_same a (forking p c done failing) s.job;
+          prepared = none;
+          owed = owed;
+          birth = put_same c failed s.birth;
+          gone = λ g less. absurd (omega arith);
+          left = λ g least. refl;
+        } in
+        let puts = puts_pages a p c done (s.entry c) 0 page_numbers one (λ g least. high g (omega (arith, least))) begun gone in
+        record {
+          kinds = (failing_at done (copying page word) false, puts.kinds);
+          can = ((job, tt, none, subst (AreGone (s.entry c)) gone said), puts.can);
+          told = ap (λ (es : List PlainEvent). events.ForkFail c ∷ es) puts.told;
+          given = puts.given;
+        }

@@ -10,7 +10,7 @@ use Rattle.gup_events.specs.State.{CoreState, Taken, idle}
 use Rattle.gup_events.specs.Event.{CoreEvent, Can, happens, raise_flag, pin_page, make_handle, unpin_page, give_handle, take_handle, frames_of, objects_taken, writes_taken}
 use Rattle.gup_events.specs.Invariant.{AllCan, run}
 use Rattle.gup_events.specs.Sound.{IsSound, Forking, forking_of, birth_of_child, is_failing}
-use Rattle.gup_turns.proofs.Calm.{IsCalm, Strand, of_pin, of_handle, IsTurnEvent, AreTurnEvents, taking, filling, counting_one, marking_it, upgrading, breaking, putting, mapping, lowering, protecting, dropping, discarding, loading, storing, raising, pinning, making, handling, IsHandleEvent, AreHandleEvents, unpinning, giving, taking_over, moving_out, moving_in, beginning, counting, sharing_entry, sharing_mark, sharing_child, passing, ending, copying_word, placing, failing_at, putting_child, releasing, failing_unborn}
+use Rattle.gup_turns.proofs.Calm.{IsCalm, Strand, of_pin, of_handle, IsTurnEvent, AreTurnEvents, taking, filling, counting_one, marking_it, upgrading, breaking, putting, mapping, lowering, protecting, dropping, discarding, loading, storing, raising, pinning, making, handling, IsHandleEvent, AreHandleEvents, unpinning, giving, taking_over, moving_out, moving_in, beginning, counting, sharing_entry, sharing_mark, sharing_child, passing, ending, copying_word, placing, failing_at, putting_child, failing_unborn}
 use Rattle.gup_turns.proofs.Puts.{put_same, put_other}
 use Rattle.gup_turns.proofs.Through.{Law}
 
@@ -91,9 +91,10 @@ module _ (s : CoreState) (a p c : ℕ) (strand : Strand) where
   leaves_event (ending done) = record { process = λ q other child. rw (other, child) refl; birth = λ q child. rw child refl; job = λ b other. rw other refl; prepared = λ b other. refl; owed = λ b other. refl }
   leaves_event (copying_word done page word to e) = record { process = λ q other child. refl; birth = λ q child. refl; job = λ b other. rw other refl; prepared = λ b other. refl; owed = λ b other. refl }
   leaves_event (placing done page to rights) = record { process = λ q other child. rw (other, child) refl; birth = λ q child. refl; job = λ b other. rw other refl; prepared = λ b other. rw other refl; owed = λ b other. refl }
-  leaves_event (failing_at done step) = record { process = λ q other child. rw (other, child) refl; birth = λ q child. rw child refl; job = λ b other. rw other refl; prepared = λ b other. refl; owed = λ b other. refl }
-  leaves_event (putting_child done page e) = record { process = λ q other child. rw child refl; birth = λ q child. refl; job = λ b other. refl; prepared = λ b other. refl; owed = λ b other. refl }
-  leaves_event (releasing done) = record { process = λ q other child. rw other refl; birth = λ q child. refl; job = λ b other. rw other refl; prepared = λ b other. refl; owed = λ b other. refl }
+  leaves_event (failing_at done step true) = record { process = λ q other child. rw (other, child) refl; birth = λ q child. rw child refl; job = λ b other. rw other refl; prepared = λ b other. refl; owed = λ b other. refl }
+  leaves_event (failing_at done step false) = record { process = λ q other child. rw (other, child) refl; birth = λ q child. rw child refl; job = λ b other. rw other refl; prepared = λ b other. refl; owed = λ b other. refl }
+  leaves_event (putting_child done page e true) = record { process = λ q other child. rw (other, child) refl; birth = λ q child. refl; job = λ b other. rw other refl; prepared = λ b other. refl; owed = λ b other. refl }
+  leaves_event (putting_child done page e false) = record { process = λ q other child. rw child refl; birth = λ q child. refl; job = λ b other. refl; prepared = λ b other. refl; owed = λ b other. refl }
   leaves_event failing_unborn = record { process = λ q other child. rw child refl; birth = λ q child. rw child refl; job = λ b other. refl; prepared = λ b other. refl; owed = λ b other. refl }
 
   -- nothing of a turn gets or mirrors
@@ -133,9 +134,8 @@ module _ (s : CoreState) (a p c : ℕ) (strand : Strand) where
   calm_event (ending done) h = assumption
   calm_event (copying_word done page word to e) h = assumption
   calm_event (placing done page to rights) h = assumption
-  calm_event (failing_at done step) h = assumption
-  calm_event (putting_child done page e) h = assumption
-  calm_event (releasing done) h = assumption
+  calm_event (failing_at done step ends) h = assumption
+  calm_event (putting_child done page e ends) h = assumption
   calm_event failing_unborn h = assumption
 
   -- a born process stays born: the child of a fork that fails was growing, and that of a failed process was unborn
@@ -175,13 +175,12 @@ module _ (s : CoreState) (a p c : ℕ) (strand : Strand) where
       go false = lives
   births_event (copying_word done page word to e) sound can q lives = lives
   births_event (placing done page to rights) sound can q lives = lives
-  births_event (failing_at done step) sound can q lives =
+  births_event (failing_at done step ends) sound can q lives =
       let k : Forking = record { proc = p; child = c; done = done; step = step } in
       let forks : sound.0.forks a ≡ Some k = sound.1.forks_are a ∙ ap forking_of can.0 in
       let birth : s.birth c ≡ birth_of_child k = sound.1.fork_birth a k forks in
       put_kept c q failed s.birth born (λ same. child_unborn p (is_failing step) (sym birth ∙ (ap s.birth (sym same) ∙ lives))) lives
-  births_event (putting_child done page e) sound can q lives = lives
-  births_event (releasing done) sound can q lives = lives
+  births_event (putting_child done page e ends) sound can q lives = lives
   births_event failing_unborn sound can q lives = let child : s.birth c ≡ unborn = can.1 in put_kept c q failed s.birth born (λ same. cc) lives
 
   -- Where the structure is locked, and the actor is in the middle of nothing, it changes neither entries nor locks.
@@ -217,9 +216,8 @@ module _ (s : CoreState) (a p c : ℕ) (strand : Strand) where
   barred_event b (ending done) locked job can = absurd (let other = can.0 in cc)
   barred_event b (copying_word done page word to e) locked job can = absurd (let other = can.0 in cc)
   barred_event b (placing done page to rights) locked job can = absurd (let other = can.0 in cc)
-  barred_event b (failing_at done step) locked job can = absurd (let other = can.0 in cc)
-  barred_event b (putting_child done page e) locked job can = absurd (let other = can.0 in cc)
-  barred_event b (releasing done) locked job can = absurd (let other = can.0 in cc)
+  barred_event b (failing_at done step ends) locked job can = absurd (let other = can.0 in cc)
+  barred_event b (putting_child done page e ends) locked job can = absurd (let other = can.0 in cc)
   barred_event b failing_unborn locked job can = record { entry = refl; structure = refl; table = refl; job = refl }
 
 -- numbers that aren't equal are found so
@@ -451,9 +449,8 @@ module _ (s : CoreState) (a : ℕ) (strand : Strand) where
   pins_event p c e (ending done) can = same_pins a strand s (happens s e) refl refl refl refl
   pins_event p c e (copying_word done page word to entry) can = same_pins a strand s (happens s e) refl refl refl refl
   pins_event p c e (placing done page to rights) can = same_pins a strand s (happens s e) refl refl refl refl
-  pins_event p c e (failing_at done step) can = same_pins a strand s (happens s e) refl refl refl refl
-  pins_event p c e (putting_child done page entry) can = same_pins a strand s (happens s e) refl refl refl refl
-  pins_event p c e (releasing done) can = same_pins a strand s (happens s e) refl refl refl refl
+  pins_event p c e (failing_at done step ends) can = same_pins a strand s (happens s e) refl refl refl refl
+  pins_event p c e (putting_child done page entry ends) can = same_pins a strand s (happens s e) refl refl refl refl
   pins_event p c e failing_unborn can = same_pins a strand s (happens s e) refl refl refl refl
 
 pins_on : (a : ℕ) (strand : Strand) (s t u : CoreState) → LeavesPinsOf a strand s t → LeavesPinsOf a strand t u → LeavesPinsOf a strand s u

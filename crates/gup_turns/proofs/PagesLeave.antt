@@ -3,7 +3,7 @@ use Rattle.std.proofs.Common.{◌≡◌, ℕ, List, [], ◌∷◌, refl, ◌∙�
 use Rattle.gup_events.specs.State.{CoreState}
 use Rattle.gup_events.specs.Event.{CoreEvent, happens}
 use Rattle.gup_events.specs.Invariant.{run}
-use Rattle.gup_turns.proofs.Calm.{of_pages, IsTurnEvent, AreTurnEvents, taking, filling, counting_one, marking_it, upgrading, breaking, putting, mapping, lowering, protecting, dropping, discarding, loading, storing, raising, pinning, making, handling, beginning, counting, sharing_entry, sharing_mark, sharing_child, passing, ending, copying_word, placing, failing_at, putting_child, releasing, failing_unborn}
+use Rattle.gup_turns.proofs.Calm.{of_pages, IsTurnEvent, AreTurnEvents, taking, filling, counting_one, marking_it, upgrading, breaking, putting, mapping, lowering, protecting, dropping, discarding, loading, storing, raising, pinning, making, handling, beginning, counting, sharing_entry, sharing_mark, sharing_child, passing, ending, copying_word, placing, failing_at, putting_child, failing_unborn}
 
 -- the pins and what actors have taken are as they were
 pub record LeavesPins (s t : CoreState) : Type 0 where
@@ -40,9 +40,8 @@ pages_event s a p c (passing done page) = record { handle = refl; pinned = refl;
 pages_event s a p c (ending done) = record { handle = refl; pinned = refl; taken = refl; has_pinned = refl }
 pages_event s a p c (copying_word done page word to e) = record { handle = refl; pinned = refl; taken = refl; has_pinned = refl }
 pages_event s a p c (placing done page to rights) = record { handle = refl; pinned = refl; taken = refl; has_pinned = refl }
-pages_event s a p c (failing_at done step) = record { handle = refl; pinned = refl; taken = refl; has_pinned = refl }
-pages_event s a p c (putting_child done page e) = record { handle = refl; pinned = refl; taken = refl; has_pinned = refl }
-pages_event s a p c (releasing done) = record { handle = refl; pinned = refl; taken = refl; has_pinned = refl }
+pages_event s a p c (failing_at done step ends) = record { handle = refl; pinned = refl; taken = refl; has_pinned = refl }
+pages_event s a p c (putting_child done page e ends) = record { handle = refl; pinned = refl; taken = refl; has_pinned = refl }
 pages_event s a p c failing_unborn = record { handle = refl; pinned = refl; taken = refl; has_pinned = refl }
 
 pub pages_leave : (s : CoreState) (a p c : ℕ) (es : List CoreEvent) → AreTurnEvents a p c of_pages es → LeavesPins s (run s es)

@@ -9,7 +9,7 @@ use Rattle.gup_events.specs.Invariant.{AllCan, run, Holder, entry_of_page, clear
 use Rattle.gup_events.specs.Sound.{IsSound}
 use Rattle.gup_events.specs.Sound as sounds
 use Rattle.gup_turns.specs.Reached.{IsPrepared}
-use Rattle.gup_turns.proofs.Calm.{Strand, AreTurnEvents, IsTurnEvent, taking, filling, counting_one, marking_it, upgrading, breaking, putting, mapping, lowering, protecting, dropping, discarding, loading, storing, raising, pinning, making, handling, unpinning, giving, taking_over, moving_out, moving_in, beginning, counting, sharing_entry, sharing_mark, sharing_child, passing, ending, copying_word, placing, failing_at, putting_child, releasing, failing_unborn}
+use Rattle.gup_turns.proofs.Calm.{Strand, AreTurnEvents, IsTurnEvent, taking, filling, counting_one, marking_it, upgrading, breaking, putting, mapping, lowering, protecting, dropping, discarding, loading, storing, raising, pinning, making, handling, unpinning, giving, taking_over, moving_out, moving_in, beginning, counting, sharing_entry, sharing_mark, sharing_child, passing, ending, copying_word, placing, failing_at, putting_child, failing_unborn}
 use Rattle.gup_turns.proofs.Puts.{some_same}
 
 -- frames that actors have prepared are of the machine
@@ -65,9 +65,8 @@ module _ (s : CoreState) (a p c : ℕ) (strand : Strand) (h : ArePreparedThere s
   there_event (ending done) can = h
   there_event (copying_word done page word to e) can = h
   there_event (placing done page to rights) can = λ b g is. there_without b g is
-  there_event (failing_at done step) can = h
-  there_event (putting_child done page e) can = h
-  there_event (releasing done) can = h
+  there_event (failing_at done step ends) can = h
+  there_event (putting_child done page e ends) can = h
   there_event failing_unborn can = h
 
 -- events of a turn keep it
