@@ -148,11 +148,11 @@ module _ (finds : Type 0) where
 
   -- the notes of a turn are caused, and the rest is plain and known behind them
   caused_turn : (script : ScriptValue) (j : Judged) (t a n : ℕ) (whats : List What) (rest : List NoteValue) → (LacksFrame whats → finds) → ArePlain script j (notes_of_turn t a n whats ++ rest) → AreKnown (notes_of_turn t a n whats ++ rest) → IsCausedTurn finds script j a whats × ArePlain script (judged_turn j a whats) rest × AreKnown rest
-  caused_turn script j t a n [] rest lacks plain known = (tt, (plain, known))
+  caused_turn script j t a n [] rest lacks plain known = (tt, plain, known)
   caused_turn script j t a n (what ∷ whats) rest lacks plain known =
       let later = caused_turn script (judged_note j a what) t a n whats rest (λ lack. lacks (lacks_later what whats lack)) plain.1 known.1 in
       let place : Place = j.places a in
-      ((caused_at j.plain (doer script a) place (present_op script a place) what whats lacks known.0 plain.0, later.0), (later.1, later.2))
+      ((caused_at j.plain (doer script a) place (present_op script a place) what whats lacks known.0 plain.0, later.0), later.1, later.2)
 
 -- in a plain journal of known answers, whose turns answer for want of a frame only where they find none, each refusal has its
 -- cause
@@ -164,7 +164,7 @@ caused exact script j number places (turn ∷ turns) r end run plain known =
     let rest : List NoteValue = journal_of (number + 1) (places_behind places turn) turns in
     let now = caused_turn (FindsNoFrame script r a) script j number a ((places a).answered + 1) turn.whats rest here.0 plain known in
     let later = caused exact script (judged_turn j a turn.whats) (number + 1) (places_behind places turn) turns (run_after script r a) end run.2 now.1 now.2 in
-    (now.0, (here, later))
+    (now.0, here, later)
 
 -- as many outcomes as answers, whatever words were moved before
 one_outcome : (moved : ℕ → List ℕ) (number actor op : ℕ) (what : What) (rest : List NoteValue) → ((words : ℕ → List ℕ) → length (outcomes_from words rest) ≡ answered_in rest) → length (outcomes_from moved (record { turn = number; actor = actor; op = op; what = what } ∷ rest)) ≡ answers_in (what ∷ map (λ (note : NoteValue). note.what) rest)
