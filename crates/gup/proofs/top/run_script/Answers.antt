@@ -41,6 +41,7 @@ returns c =
       follows = c.core_run_follows.ensures script notes end valid core;
       in_order = c.core_run_is_in_order.ensures script notes end valid core;
       plain = plain;
+      owned = c.plain_journals_are_owned.ensures script notes plain;
       causes = (caused script (judged_first script) notes plain known, (core.0, end, core.1, core.2, c.no_frame_has_its_cause.ensures script core.0 end core.2));
       end = end;
       core = core;
