@@ -6,9 +6,11 @@ use Rattle.gup_turns.specs.Run.{RunState, IsCoreRun}
 use Rattle.gup_sched.specs.Ran.{SaysStuck}
 use Rattle.gup_lines.specs.Text.{outcomes_of}
 use Rattle.gup_io.specs.Faults.{HasCause}
+use Rattle.gup_follows.specs.Place.{starts_born}
 use Rattle.gup_follows.specs.Plain.{IsPlain}
 use Rattle.gup_follows.specs.Follows.{Follows}
 use Rattle.gup_follows.specs.Order.{InOrder}
+use Rattle.gup_owners.specs.Owners.{OwnsBytes, events_of}
 use Rattle.gup.specs.declared.top.Unread.{Unread}
 use Rattle.gup.specs.declared.top.Unread.TheVariants.{Failed, Fault, NoMemory}
 use Rattle.gup.specs.Cause.{HasCauses}
@@ -89,6 +91,7 @@ pub record IsRunOf (script : ScriptValue) (stuck : Bool) (notes : List NoteValue
   pub follows : Follows script notes
   pub in_order : InOrder script notes
   pub plain : IsPlain script notes
+  pub owned : OwnsBytes (starts_born script) (events_of notes)
   pub causes : HasCauses script notes
   pub end : RunState
   pub core : IsCoreRun script notes end

@@ -4,9 +4,11 @@ ghost use Rattle.std.specs.Io.KnownBytes.{Appends};
 ghost use Rattle.gup_io.specs.Transfers.{Loses, AppendsPart};
 ghost use Rattle.gup_io.specs.Faults.{HasCause};
 ghost use Rattle.gup_script.specs.Script.{ScriptValue};
+ghost use Rattle.gup_follows.specs.Place.{starts_born};
 ghost use Rattle.gup_follows.specs.Plain.{IsPlain};
 ghost use Rattle.gup_follows.specs.Follows.{Follows};
 ghost use Rattle.gup_follows.specs.Order.{InOrder};
+ghost use Rattle.gup_owners.specs.Owners.{OwnsBytes, events_of};
 ghost use Rattle.gup_turns.specs.Cost.{operations};
 ghost use Rattle.gup_turns.specs.Run.{RunState, IsCoreRun};
 ghost use Rattle.gup_lines.specs.Text.{text_of, outcomes_of};
@@ -18,6 +20,7 @@ use crate::text::{journal_text, push_stuck_lines, refusal_line};
 use gup_base::NoMemory;
 use gup_core::Machine;
 use gup_io::{ReadToEnd, Sink, Source, read_up_to, write_all};
+use gup_owners::plain_journals_are_owned;
 use gup_plain::Journal;
 use gup_reader::{ReadRefusal, ScriptFault, one_script, read_script, scripts_have_no_fault};
 use gup_sched::run_all;
@@ -118,6 +121,7 @@ fn run_script(alloc: Global, script: &Script) -> Result<Told, NoMemory>
     core_run_follows();
     core_run_is_in_order();
     core_run_is_plain();
+    plain_journals_are_owned();
     core_run_is_known();
     no_frame_has_its_cause();
     runs_end_at_waits();
@@ -243,6 +247,11 @@ pub fn gup<S: Source, K: Sink>(
         → OfScript (S.remaining source.old) (λ script. IsFinishedRun script result.journal.notes) }
     ensures stuck { result.status ≡ 4
         → OfScript (S.remaining source.old) (λ script. IsStuckRun script result.journal.notes) }
+
+    // Each process owns its bytes in that journal: what is read of an object was last written to it, or is 0, and what
+    // a page names is written by its process, by devices through a pin of it, and by the fork that made it.
+    ensures owned { HasRun result.status → OfScript (S.remaining source.old)
+        (λ script. OwnsBytes (starts_born script) (events_of result.journal.notes)) }
 
     // Each operation has one answer, where all have finished, and each refusal its cause: the plain state denies the
     // operation so, or its turn needs a frame and none is free that it may take; and where that is so it is refused.

@@ -3,9 +3,11 @@ use Rattle.std.specs.Prelude.{◌⊎◌}
 use Rattle.std.specs.Io.KnownBytes.{Appends}
 use Rattle.gup_io.specs.Transfers.{AppendsPart}
 use Rattle.gup_script.specs.Script.{ScriptValue}
+use Rattle.gup_follows.specs.Place.{starts_born}
 use Rattle.gup_follows.specs.Plain.{IsPlain}
 use Rattle.gup_follows.specs.Follows.{Follows}
 use Rattle.gup_follows.specs.Order.{InOrder}
+use Rattle.gup_owners.specs.Owners.{OwnsBytes, events_of}
 use Rattle.gup_lines.specs.Text.{outcomes_of, text_of}
 use Rattle.gup_turns.specs.Cost.{operations}
 use Rattle.gup_turns.specs.Run.{RunState, IsCoreRun}
@@ -43,6 +45,15 @@ returns-in-Ok-clause-plain g c has =
     let P : ScriptValue → Type 0 = λ s. IsPlain s report.journal.notes in
     of_script (g.S.Source.remaining c.args.source.now) script P c.one_script.ensures c.in-Ok.ensures.script
     (ran script report.journal.notes report.status W (P script) c.run_and_write.ensures.finished c.run_and_write.ensures.stuck (λ stuck text run. run.plain) has)
+
+pub returns-in-Ok-clause-owned : goal.returns-in-Ok-clause-owned
+returns-in-Ok-clause-owned g c has =
+    let script = c.in-Ok.script in
+    let report = c.run_and_write.result in
+    let W : List ℕ → Type 0 = λ text. Appends (g.K.Sink.taken c.args.sink.now) (g.K.Sink.taken c.run_and_write.new.sink) text in
+    let P : ScriptValue → Type 0 = λ s. OwnsBytes (starts_born s) (events_of report.journal.notes) in
+    of_script (g.S.Source.remaining c.args.source.now) script P c.one_script.ensures c.in-Ok.ensures.script
+    (ran script report.journal.notes report.status W (P script) c.run_and_write.ensures.finished c.run_and_write.ensures.stuck (λ stuck text run. run.owned) has)
 
 pub returns-in-Ok-clause-causes : goal.returns-in-Ok-clause-causes
 returns-in-Ok-clause-causes g c has =

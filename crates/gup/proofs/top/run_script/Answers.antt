@@ -33,21 +33,22 @@ returns c =
     let notes = c.in_ok-ran.ran.journal.notes in
     let end : RunState = run.0 in
     let core = run.1 in
-    let plain = c.core_run_is_plain.ensures script notes end valid core in
-    let known = c.core_run_is_known.ensures script notes end valid core in
+    let plain = c.core_run_is_plain.ensures.run script notes end valid core in
+    let known = c.core_run_is_known.ensures.run script notes end valid core in
     let stays = c.runs_end_at_waits.ensures.ends script core.0 end core.2 in
     let named = c.runs_end_at_waits.ensures.waits script core.0 end valid core.2 in
     let outcomes = outcomes_answered notes in
     record {
-      follows = c.core_run_follows.ensures script notes end valid core;
+      follows = c.core_run_follows.ensures.run script notes end valid core;
       in_order = c.core_run_is_in_order.ensures script notes end valid core;
       plain = plain;
+      owned = c.plain_journals_are_owned.ensures script notes plain;
       causes =
           (core.0, end, core.1, core.2, caused c.no_frame_has_its_cause.ensures script (judged_first script) 1 (λ _. first_place) core.0 (run_start script) end core.2 (subst (ArePlain script (judged_first script)) core.1 plain) (subst AreKnown core.1 known));
       end = end;
       core = core;
       ends = run.3;
       waits = all_wait script end stays named;
-      lines = λ is. outcomes ∙ c.finished_runs_answer_all.ensures script notes end valid core (finished c.in_ok-ran.ran.stuck script end run.3 is);
+      lines = λ is. outcomes ∙ c.finished_runs_answer_all.ensures.run script notes end valid core (finished c.in_ok-ran.ran.stuck script end run.3 is);
       text_is = c.in_ok-push_stuck_lines.ensures end run.2 ∙ ap (λ (l : List ℕ). l ++ stuck_text script end) c.in_ok-text.ensures;
     }
