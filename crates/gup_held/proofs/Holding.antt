@@ -19,7 +19,7 @@ use Rattle.gup_events.specs.State.{CoreState}
 use Rattle.gup_events.specs.Event.{happens, unpin_page, give_handle, take_handle}
 use Rattle.gup_turns.specs.Turn.{Taken, last_of, unpinned, unpin_turn, unpin_turn_by, give_turn, give_turn_by, take_turn}
 use Rattle.gup_ops.specs.Pins.{IsPin, ShowsPins, IsWeighed}
-use Rattle.gup_held.specs.Held.{HandleChange, LeadsHandle, IsHandleTurn}
+use Rattle.gup_held.specs.Held.{HandleChange, LeadsHandle, IsHandleTurn, unpin_said, done_said}
 
 abbrev pub handle_change : (F F' : FramesValue) (H H' : HandlesValue) (W W' : Option (List ℕ)) → HandleChange
 handle_change F F' H H' W W' =
@@ -209,3 +209,31 @@ page_unpinned F F' H H' a h frame still mine last new_frames new_pins some none 
     go (given to frames write) is none_so last_so new = absurd none_so
     go (got by f) is none_so last_so new = absurd none_so
     go gone is none_so last_so new = absurd none_so
+
+-- ---- what is said, whatever the other handles are
+
+-- an unpin is silent that leaves a pin
+pub still_says : (v : HandleValue) (a h : ℕ) → IsPinOf v a → unpin_said v a h ≡ record { event = None; next = None; answer = None }
+still_says (held by frames write) a h is = refl
+still_says unmade a h none = absurd none
+still_says (given to frames write) a h none = absurd none
+still_says (got by frame) a h none = absurd none
+still_says gone a h none = absurd none
+
+none_left : (by : ℕ) (left : List ℕ) (write : Bool) (a : ℕ) → by ≡ a → (IsPinOf (held_or_gone by left write) a → ⊥) → held_or_gone by left write ≡ gone
+none_left by [] write a is none = refl
+none_left by (f ∷ left) write a is none = absurd (none is)
+
+pin_gone : (v : HandleValue) (a : ℕ) → IsPinOf v a → (IsPinOf (without_last v) a → ⊥) → without_last v ≡ gone
+pin_gone (held by frames write) a is none = none_left by (but_last frames) write a is none
+pin_gone unmade a none left = absurd none
+pin_gone (given to frames write) a none left = absurd none
+pin_gone (got by frame) a none left = absurd none
+pin_gone gone a none left = absurd none
+
+-- and one that leaves none ends
+pub gone_says : (H H' : HandlesValue) (a h : ℕ) → IsPinOf (H h) a → H' ≡ put h (without_last (H h)) H → (IsPinOf (H' h) a → ⊥) → unpin_said (H' h) a h ≡ done_said (events.Unpin a h)
+gone_says H H' a h mine new none =
+    let now : H' h ≡ without_last (H h) = ap (λ (f : HandlesValue). f h) new ∙ put_at h (without_last (H h)) H in
+    ap (λ (v : HandleValue). unpin_said v a h)
+    (now ∙ pin_gone (H h) a mine (λ holds. none (subst (λ (v : HandleValue). IsPinOf v a) (sym now) holds)))

@@ -23,7 +23,7 @@ use Rattle.gup_turns.specs.Turn.{frame_at, moves_value, moves_from, moved_if, wo
 use Rattle.gup_ops.specs.declared.said.Said.{Said}
 use Rattle.gup_ops.specs.Said.{whats_of}
 use Rattle.gup_ops.specs.Pins.{IsPin, ShowsPins, IsWeighed, frames_in}
-use Rattle.gup_held.specs.Held.{ShowsStore, IsWhole, HandleChange, LeadsHandle, IsTransferTurn, HasMoved, slots_in, is_pin_of, writes_in, fits_in, refusal_in}
+use Rattle.gup_held.specs.Held.{ShowsStore, IsWhole, HandleChange, LeadsHandle, IsTransferTurn, HasMoved, IsMoved, words_in, slots_in, is_pin_of, writes_in, fits_in, refusal_in}
 use Rattle.gup_held.proofs.Holding.{handle_change, leads_handle_alike}
 
 -- the same notes in other words
@@ -164,3 +164,23 @@ page_there F v pages by k f write is weighed at =
 pub moved_slots : (outward : Bool) (old new : FramesValue) (W W1 : List ℕ) (f word slot value : ℕ) → HasMoved outward old new W W1 f word slot value → length W1 ≡ length W
 moved_slots true old new W W1 f word slot value moved = ap (λ (x : StoreValue). x.words) moved.2
 moved_slots false old new W W1 f word slot value moved = ap (λ (x : StoreValue). x.words) moved.2
+
+-- ---- whatever the other handles are
+
+pub same_denial : (refusal : Option Answer) (was denied : Answer) → refusal ≡ Some was → refusal ≡ Some denied → was ≡ denied
+same_denial refusal was denied is other = cc
+
+pub refused_so : {P : Type 0} (refusal : Option Answer) (denied : Answer) → refusal ≡ Some denied → refusal ≡ None → P
+refused_so refusal denied is none = absurd (cc)
+
+-- a word that moved, by the pages of the pin
+pub moved_so : (F F' : FramesValue) (H : HandlesValue) (store : Option (List ℕ)) (W W' pages : List ℕ) (a h f index slot value : ℕ) (outward write last : Bool) (said : Said) → H h ≡ held a pages write → slice_get pages (index / 512) ≡ Some f
+    → store ≡ Some W → HasMoved outward F F' W W' f (index % 512) slot value → said ≡ said_of (moves_word a h outward index slot value) last
+    → IsMoved (handle_change F F' H H store (Some W')) a h outward index slot last said
+moved_so F F' H store W W' pages a h f index slot value outward write last said pin page there moved says = (
+  f,
+  value,
+  ap (λ (v : HandleValue). slice_get (frames_in v) (index / 512)) pin ∙ page,
+  subst (λ o. HasMoved outward F F' (words_in o) W' f (index % 512) slot value) (sym there) moved,
+  says,
+)

@@ -1,17 +1,24 @@
 -- What stores are to a state of the core machine, and what a turn of an operation on a pin is.
-use Rattle.std.specs.Prelude.{◌≡◌, ℕ, ◌<◌, ◌==◌, ◌&&◌, Bool, true, false, List, [], ◌∷◌, length, slice_index, Option, Some, None}
+use Rattle.std.specs.Prelude.{◌≡◌, ℕ, ◌/◌, ◌%◌, ◌<◌, ◌==◌, ◌&&◌, Bool, true, false, if◌then◌else◌, List, [], ◌∷◌, length, slice_get, slice_index, Option, Some, None}
 use Rattle.gup_plain.specs.Denial.{is_held_by, has_words, has_slots, transfer_denial_by}
+use Rattle.gup_plain.specs.Event.{words}
 use Rattle.gup_plain.specs.Put.{put}
 use Rattle.gup_plain.specs.State as plain
 use Rattle.gup_plain.specs.declared.answer.Answer.{Answer}
+use Rattle.gup_plain.specs.declared.answer.Answer.TheVariants as answers
+use Rattle.gup_plain.specs.declared.event.PlainEvent.{PlainEvent}
+use Rattle.gup_plain.specs.declared.event.PlainEvent.TheVariants as events
 use Rattle.gup_plain.specs.declared.note.What.{What}
-use Rattle.gup_frames.specs.Frames.{FramesValue, with_word}
+use Rattle.gup_frames.specs.Frames.{FramesValue, FrameLists, frames_of, with_word, without_references}
 use Rattle.gup_device.specs.Store.{store_of}
 use Rattle.gup_space.specs.Shows.{ShowsFrames}
-use Rattle.gup_handles.specs.Handles.{HandleValue, HandlesValue, unmade, held, given, got, gone}
+use Rattle.gup_handles.specs.Handles.{HandleValue, HandlesValue, handles_of, unmade, held, given, got, gone, without_last, HasLast}
 use Rattle.gup_events.specs.State.{CoreState}
+use Rattle.gup_events.specs.Event.{bias}
 use Rattle.gup_events.specs.Invariant.{run}
+use Rattle.gup_follows.specs.Follows.{moves_word}
 use Rattle.gup_turns.specs.Turn.{Taken, transfer_turn}
+use Rattle.gup_ops.specs.declared.said.Said.{Said}
 use Rattle.gup_ops.specs.Pins.{ShowsPins, frames_in}
 
 -- the actor has these words, if it has a store
@@ -31,6 +38,52 @@ pub record HandleChange : Type 0 where
   pub new_pins : HandlesValue
   pub old_store : Option (List ℕ)
   pub new_store : Option (List ℕ)
+
+-- from these lists to those
+abbrev pub handle_change_of : (old_frames new_frames : FrameLists) → (old_pins new_pins : List HandleValue) → (old_store new_store : Option (List ℕ)) → HandleChange
+handle_change_of old_frames new_frames old_pins new_pins old_store new_store =
+    record {
+      old_frames = frames_of old_frames;
+      new_frames = frames_of new_frames;
+      old_pins = handles_of old_pins;
+      new_pins = handles_of new_pins;
+      old_store = old_store;
+      new_store = new_store;
+    }
+
+-- ---- what such a turn changes, whatever state has all that, and whatever the other handles are
+
+-- what is said by an answer alone, and by an event with its answer
+abbrev pub refused_said : Answer → Said
+refused_said answer = record { event = None; next = None; answer = Some answer }
+
+abbrev pub done_said : PlainEvent → Said
+done_said event = record { event = Some event; next = None; answer = Some answers.Plain }
+
+-- nothing changes, and this is answered
+pub record IsRefused (c : HandleChange) (answer : Answer) (said : Said) : Type 0 where
+  pub frames : c.new_frames ≡ c.old_frames
+  pub pins : c.new_pins ≡ c.old_pins
+  pub store : c.new_store ≡ c.old_store
+  pub says : said ≡ refused_said answer
+
+-- an unpin says nothing while the pin has pages, and ends where it is gone
+abbrev pub unpin_said : HandleValue → (a handle : ℕ) → Said
+unpin_said gone a handle = done_said (events.Unpin a handle)
+unpin_said pin a handle = record { event = None; next = None; answer = None }
+
+-- The pin loses its last page, whose frame loses the weight of a pin; with the last of all it is gone.
+pub record IsUnpin (c : HandleChange) (a handle : ℕ) (said : Said) : Type 0 where
+  pub pins : c.new_pins ≡ put handle (without_last (c.old_pins handle)) c.old_pins
+  pub frames : (frame : ℕ) × HasLast (c.old_pins handle) frame × (c.new_frames ≡ without_references frame bias c.old_frames)
+  pub says : said ≡ unpin_said (c.new_pins handle) a handle
+
+-- The handle becomes this one, no other does, and this event is said.
+pub record IsDone (old new : HandlesValue) (handle : ℕ) (value : HandleValue) (event : PlainEvent) (said : Said) : Type 0 where
+  pub pins : new ≡ put handle value old
+  pub says : said ≡ done_said event
+
+-- ---- a turn and a state
 
 -- the same of such an operation
 pub record LeadsHandle (c : HandleChange) (a : ℕ) (s : CoreState) (turn : Taken) (whats : List What) : Type 0 where
@@ -89,3 +142,15 @@ abbrev pub IsTransferTurn : HandleChange → (a handle : ℕ) → (outward : Boo
 IsTransferTurn c a handle outward index slot n far whats =
     (s : CoreState) → ShowsFrames c.old_frames s → ShowsPins c.old_pins s → ShowsStore a c.old_store s → IsWhole s a handle
     → LeadsHandle c a s (transfer_turn s a (slots_in c.old_store) handle outward index slot n far) whats
+
+-- the words of a store, if there is one
+abbrev pub words_in : Option (List ℕ) → List ℕ
+words_in None = []
+words_in (Some words) = words
+
+-- The word of the pin with this index moved, out into this slot or in from it, and is said, with the answer at the last.
+abbrev pub IsMoved : HandleChange → (a handle : ℕ) → (outward : Bool) → (index slot : ℕ) → (last : Bool) → Said → Type 0
+IsMoved c a handle outward index slot last said =
+    (frame : ℕ) × (value : ℕ) × (slice_get (frames_in (c.old_pins handle)) (index / words) ≡ Some frame)
+    × HasMoved outward c.old_frames c.new_frames (words_in c.old_store) (words_in c.new_store) frame (index % words) slot value
+    × (said ≡ record { event = Some (moves_word a handle outward index slot value); next = None; answer = if last then Some answers.Words else None })

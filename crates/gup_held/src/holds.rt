@@ -1,11 +1,13 @@
 //! What is done with a pin that is made: it is given from one actor to another, and given back page by page.
 ghost use Rattle.std.specs.Prelude.{◌≡◌, Some, None};
+ghost use Rattle.gup_plain.specs.declared.answer.Answer.TheVariants as answers;
+ghost use Rattle.gup_plain.specs.declared.event.PlainEvent.TheVariants as events;
 ghost use Rattle.gup_frames.specs.Frames.{FrameLists, frames_of};
-ghost use Rattle.gup_handles.specs.Handles.{handles_of, IsGivenTo};
+ghost use Rattle.gup_handles.specs.Handles.{handles_of, IsPinOf, IsGivenTo, given_to, taken_by};
 ghost use Rattle.gup_turns.specs.Turn.{unpin_turn, give_turn, take_turn};
 ghost use Rattle.gup_ops.specs.Said.{whats_of};
 ghost use Rattle.gup_ops.specs.Pins.{IsWeighed};
-ghost use Rattle.gup_held.specs.Held.{IsHandleTurn};
+ghost use Rattle.gup_held.specs.Held.{IsHandleTurn, IsUnpin, IsDone, IsRefused, handle_change_of, refused_said};
 
 use gup_base::{ActorNo, HandleNo, PIN_BIAS};
 use gup_frames::Frames;
@@ -18,14 +20,12 @@ use gup_plain::{Answer, PlainEvent};
 /// the pin.
 pub fn unpin(frames: &mut Frames, handles: &mut Handles, actor: ActorNo, handle: HandleNo) -> Said
     requires { IsWeighed (frames_of frames.old) (handles_of handles.old handle) }
-    ensures { IsHandleTurn (record {
-      old_frames = frames_of frames.old;
-      new_frames = frames_of frames.new;
-      old_pins = handles_of handles.old;
-      new_pins = handles_of handles.new;
-      old_store = None;
-      new_store = None;
-    }) actor (λ s. unpin_turn s actor handle) (whats_of result) }
+    ensures turn { IsHandleTurn (handle_change_of frames.old frames.new handles.old handles.new None None) actor
+        (λ s. unpin_turn s actor handle) (whats_of result) }
+    ensures held { IsPinOf (handles_of handles.old handle) actor
+        → IsUnpin (handle_change_of frames.old frames.new handles.old handles.new None None) actor handle result }
+    ensures not_held { (IsPinOf (handles_of handles.old handle) actor → ⊥)
+        → IsRefused (handle_change_of frames.old frames.new handles.old handles.new None None) answers.NotHeld result }
 {
     // A got reference is held by a handle too, and is no pin.
     if handles.pages(handle, actor).is_err() {
@@ -54,14 +54,14 @@ fn silent() -> Said
 
 /// Gives the actor's pin to another, or to itself: `NotHeld` where the actor doesn't hold it.
 pub fn give(handles: &mut Handles, actor: ActorNo, handle: HandleNo, to: ActorNo) -> Said
-    ensures { (frames : FrameLists) → IsHandleTurn (record {
-      old_frames = frames_of frames;
-      new_frames = frames_of frames;
-      old_pins = handles_of handles.old;
-      new_pins = handles_of handles.new;
-      old_store = None;
-      new_store = None;
-    }) actor (λ s. give_turn s actor handle to) (whats_of result) }
+    ensures turn { (frames : FrameLists)
+        → IsHandleTurn (handle_change_of frames frames handles.old handles.new None None) actor
+        (λ s. give_turn s actor handle to) (whats_of result) }
+    ensures held { IsPinOf (handles_of handles.old handle) actor
+        → IsDone (handles_of handles.old) (handles_of handles.new) handle (given_to to (handles_of handles.old handle))
+        (events.Give actor handle to) result }
+    ensures not_held { (IsPinOf (handles_of handles.old handle) actor → ⊥)
+        → (handles_of handles.new ≡ handles_of handles.old) × (result ≡ refused_said answers.NotHeld) }
 {
     if handles.give(handle, actor, to).is_err() {
         return refused(Answer::NotHeld);
@@ -72,14 +72,11 @@ pub fn give(handles: &mut Handles, actor: ActorNo, handle: HandleNo, to: ActorNo
 /// Takes the pin that is given to the actor.
 pub fn take_over(handles: &mut Handles, actor: ActorNo, handle: HandleNo) -> Said
     requires { IsGivenTo (handles_of handles.old handle) actor }
-    ensures { (frames : FrameLists) → IsHandleTurn (record {
-      old_frames = frames_of frames;
-      new_frames = frames_of frames;
-      old_pins = handles_of handles.old;
-      new_pins = handles_of handles.new;
-      old_store = None;
-      new_store = None;
-    }) actor (λ s. take_turn actor handle) (whats_of result) }
+    ensures turn { (frames : FrameLists)
+        → IsHandleTurn (handle_change_of frames frames handles.old handles.new None None) actor
+        (λ s. take_turn actor handle) (whats_of result) }
+    ensures taken { IsDone (handles_of handles.old) (handles_of handles.new) handle (taken_by actor (handles_of handles.old handle))
+        (events.Take actor handle) result }
 {
     handles.take(handle, actor);
     done(PlainEvent::Take { actor, handle }, Answer::Plain)

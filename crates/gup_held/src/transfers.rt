@@ -1,5 +1,6 @@
 //! Transfers of words between the pages of a pin and the store of a device.
-ghost use Rattle.std.specs.Prelude.{◌≡◌, ℕ, ◌*◌, ◌/◌, ◌%◌, ◌≤◌, ◌<◌, length, slice_get, Some, None, if◌then◌else◌};
+ghost use Rattle.std.specs.Prelude.{◌≡◌, ℕ, ◌+◌, ◌==◌, ◌*◌, ◌/◌, ◌%◌, ◌≤◌, ◌<◌, length, slice_get, Some, None, if◌then◌else◌};
+ghost use Rattle.gup_plain.specs.declared.answer.Answer.{Answer as AnswerValue};
 ghost use Rattle.gup_plain.specs.declared.answer.Answer.TheVariants as answers;
 ghost use Rattle.gup_frames.specs.Frames.{frames_of, IsFrame};
 ghost use Rattle.gup_device.specs.Store.{store_of, IsSlot};
@@ -7,7 +8,7 @@ ghost use Rattle.gup_handles.specs.Handles.{handles_of};
 ghost use Rattle.gup_follows.specs.Follows.{moves_word};
 ghost use Rattle.gup_ops.specs.Said.{whats_of};
 ghost use Rattle.gup_ops.specs.Pins.{IsWeighed};
-ghost use Rattle.gup_held.specs.Held.{IsTransferTurn, HasMoved, slots_in, fits_in, refusal_in};
+ghost use Rattle.gup_held.specs.Held.{IsTransferTurn, HasMoved, IsMoved, IsRefused, handle_change_of, slots_in, fits_in, refusal_in};
 
 use gup_base::{ActorNo, FrameNo, HandleNo, WordNo};
 use gup_device::Store;
@@ -42,14 +43,14 @@ pub fn transfer(
     requires within { far < n }
     requires most { n ≤ 64 }
     ensures slots { slots_in store.new ≡ slots_in store.old }
-    ensures turn { IsTransferTurn (record {
-      old_frames = frames_of frames.old;
-      new_frames = frames_of frames.new;
-      old_pins = handles_of handles.now;
-      new_pins = handles_of handles.now;
-      old_store = store.old;
-      new_store = store.new;
-    }) actor handle outward index slot n far (whats_of result) }
+    ensures turn { IsTransferTurn (handle_change_of frames.old frames.new handles.now handles.now store.old store.new)
+        actor handle outward index slot n far (whats_of result) }
+    ensures moved { refusal_in (handles_of handles.now handle) actor outward (slots_in store.old) index slot n ≡ None
+        → IsMoved (handle_change_of frames.old frames.new handles.now handles.now store.old store.new)
+        actor handle outward (index + far) (slot + far) (far + 1 == n) result }
+    ensures refused { (denied : AnswerValue)
+        → refusal_in (handles_of handles.now handle) actor outward (slots_in store.old) index slot n ≡ Some denied
+        → IsRefused (handle_change_of frames.old frames.new handles.now handles.now store.old store.new) denied result }
 {
     let slots = slots_of(store);
     if let Some(denied) = refusal(handles, actor, handle, outward, slots, index, slot, n) {

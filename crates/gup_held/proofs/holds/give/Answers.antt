@@ -7,8 +7,8 @@ use Rattle.gup_held.proofs.Holding.{on_ok, handle_change, handle_alike, passed, 
 use Rattle.gup_held.proofs.holds.give.Goals as goal
 use Rattle.std.proofs.Common.{None}
 
-pub returns : goal.returns
-returns c frames =
+pub returns-clause-turn : goal.returns-clause-turn
+returns-clause-turn c frames =
     let a = c.args in
     let H = handles_of a.handles.now in
     let H1 = handles_of c.give.new.self in

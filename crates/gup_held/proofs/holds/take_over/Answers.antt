@@ -6,8 +6,8 @@ use Rattle.gup_ops.specs.Said.{whats_of}
 use Rattle.gup_held.proofs.Holding.{handle_change, handle_alike, pin_taken, taken_whats}
 use Rattle.gup_held.proofs.holds.take_over.Goals as goal
 
-pub returns : goal.returns
-returns c frames =
+pub returns-clause-turn : goal.returns-clause-turn
+returns-clause-turn c frames =
     let a = c.args in
     let H = handles_of a.handles.now in
     let H1 = handles_of c.take.new.self in
