@@ -6,11 +6,11 @@ use Rattle.gup_base.specs.declared.entry.Entry.{Entry}
 use Rattle.gup_plain.specs.Event.{page_numbers, words}
 use Rattle.gup_space.specs.Space.{SpaceValue}
 use Rattle.gup_space.specs.Shows.{ShowsSpace}
-use Rattle.gup_fork.specs.ForkAfter.{IsForkEvent, beginning, counting, lowering, unmarking, giving, passing, ending, writing, placing, failing_at, putting, releasing}
+use Rattle.gup_fork.specs.ForkAfter.{IsForkEvent, beginning, counting, lowering, unmarking, giving, passing, ending, writing, placing, failing_at, putting}
 use Rattle.gup_fork.specs.ForkLemmas.{leaves_others, job_stays, birth_stays}
 use Rattle.gup_events.specs.State.{CoreState, Job, idle, marking, moving, forking, walking, ForkStep, between, counted, lowered, cleared, copying, failing}
-use Rattle.gup_events.specs.Event.{CoreEvent, happens, take_frame, release_fork}
-use Rattle.gup_events.specs.Failure.{puts_entry, puts_entries}
+use Rattle.gup_events.specs.Event.{CoreEvent, happens, take_frame}
+use Rattle.gup_events.specs.Failure.{are_gone, puts_entry, puts_entries}
 use Rattle.gup_events.specs.Invariant.{run}
 use Rattle.gup_turns.specs.Turn.{page_turn, next_page, next_turn, frame_turn, copy_turn, copying_turn, free_frame, fork_step_turn, fork_turn}
 use Rattle.gup_turns.specs.Reached.{fork_place, place_in}
@@ -35,20 +35,19 @@ next_own s a p c done None = (forks _ (ending done), tt)
 next_own s a p c done (Some page) = page_own s a p c done page (s.entry p page)
 
 -- a failure gives back the references of the child's entries
-put_own : (a p c : ℕ) (done : List ℕ) (page : ℕ) (entry : Option Entry) → AreForking a p c (puts_entry a p c done page entry)
-put_own a p c done page None = tt
-put_own a p c done page (Some e) = (forks _ (putting done page e), tt)
+put_own : (a p c : ℕ) (done : List ℕ) (page : ℕ) (entry : Option Entry) (ends : Bool) → AreForking a p c (puts_entry a p c done page entry ends)
+put_own a p c done page None ends = tt
+put_own a p c done page (Some e) ends = (forks _ (putting done page e ends), tt)
 
 puts_own : (a p c : ℕ) (done : List ℕ) (entry : ℕ → Option Entry) (first n : ℕ) → AreForking a p c (puts_entries a p c done entry first n)
 puts_own a p c done entry first zero = tt
 puts_own a p c done entry first (suc n) =
-    two_lists (IsForking a p c) (puts_entry a p c done first (entry first)) (puts_entries a p c done entry (first + 1) n) (put_own a p c done first (entry first)) (puts_own a p c done entry (first + 1) n)
+    let ends = are_gone entry (first + 1) n in
+    two_lists (IsForking a p c) (puts_entry a p c done first (entry first) ends) (puts_entries a p c done entry (first + 1) n) (put_own a p c done first (entry first) ends) (puts_own a p c done entry (first + 1) n)
 
 frame_own : (s : CoreState) (a p c : ℕ) (done : List ℕ) (page word : ℕ) (free : Option ℕ) → AreForking a p c (frame_turn s a p c done page word free).events
-frame_own s a p c done page word None = (
-  forks _ (failing_at done page word),
-  two_lists (IsForking a p c) (puts_entries a p c done (s.entry c) 0 page_numbers) (release_fork a p c done ∷ []) (puts_own a p c done (s.entry c) 0 page_numbers) (forks _ (releasing done), tt),
-)
+frame_own s a p c done page word None =
+    (forks _ (failing_at done (copying page word) (are_gone (s.entry c) 0 page_numbers)), puts_own a p c done (s.entry c) 0 page_numbers)
 frame_own s a p c done page word (Some f) = (takes f, tt)
 
 copy_own : (s : CoreState) (a p c : ℕ) (done : List ℕ) (page word to : ℕ) (more : Bool) → AreForking a p c (copy_turn s a p c done page word to more).events
@@ -86,9 +85,8 @@ fork_leaves_pins a p c s (passing done page) = refl
 fork_leaves_pins a p c s (ending done) = refl
 fork_leaves_pins a p c s (writing done page word to entry) = refl
 fork_leaves_pins a p c s (placing done page to rights) = refl
-fork_leaves_pins a p c s (failing_at done page word) = refl
-fork_leaves_pins a p c s (putting done page entry) = refl
-fork_leaves_pins a p c s (releasing done) = refl
+fork_leaves_pins a p c s (failing_at done step ends) = refl
+fork_leaves_pins a p c s (putting done page entry ends) = refl
 
 forking_leaves_pins : (a p c : ℕ) (s : CoreState) {e : CoreEvent} → IsForking a p c e → pins_of (happens s e) ≡ pins_of s
 forking_leaves_pins a p c s (forks e own) = fork_leaves_pins a p c s own
@@ -128,9 +126,8 @@ fork_frame a p c b s other (passing done page) = refl
 fork_frame a p c b s other (ending done) = refl
 fork_frame a p c b s other (writing done page word to entry) = refl
 fork_frame a p c b s other (placing done page to rights) = grind (arith, nat_tests)
-fork_frame a p c b s other (failing_at done page word) = refl
-fork_frame a p c b s other (putting done page entry) = refl
-fork_frame a p c b s other (releasing done) = refl
+fork_frame a p c b s other (failing_at done step ends) = refl
+fork_frame a p c b s other (putting done page entry ends) = refl
 
 forking_place : (a p c b : ℕ) (s : CoreState) {e : CoreEvent} → (a ≡ b → ⊥) → IsForking a p c e → place_in (happens s e) b ≡ place_in s b
 forking_place a p c b s other (forks e own) =

@@ -71,10 +71,10 @@ pub data CoreEvent : Type 0 where
   -- a page without an entry has nothing to share
   pass_page : (a p c : ℕ) (done : List ℕ) (page : ℕ) → CoreEvent
   end_fork : (a p c : ℕ) (done : List ℕ) → CoreEvent
-  -- the fork fails, and is over where the child has no entry
-  fail_fork : (a p c : ℕ) (done : List ℕ) (step : ForkStep) (over : Bool) → CoreEvent
-  -- a reference of the failed child is given back, and the fork is over where that was the last
-  put_child : (a p c : ℕ) (done : List ℕ) (page : ℕ) (entry : Entry) (over : Bool) → CoreEvent
+  -- the fork fails, and ends where the child has no entry
+  fail_fork : (a p c : ℕ) (done : List ℕ) (step : ForkStep) (ends : Bool) → CoreEvent
+  -- a reference of the failed child is given back, and the fork ends where that was the last
+  put_child : (a p c : ℕ) (done : List ℕ) (page : ℕ) (entry : Entry) (ends : Bool) → CoreEvent
   -- a fork by an actor of a failed process
   fail_unborn : (a p c : ℕ) → CoreEvent
   -- mappings
@@ -298,10 +298,10 @@ Can s (pass_page a p c done page) =
     × (s.entry p page ≡ None)
 Can s (end_fork a p c done) =
     (s.job a ≡ forking p c done between) × ((page : ℕ) → IsSome (s.right c page) → is_done done page)
-Can s (fail_fork a p c done step over) =
-    (s.job a ≡ forking p c done step) × MayFail step × (s.prepared a ≡ None) × AreGone (s.entry c) over
-Can s (put_child a p c done page e over) =
-    (s.job a ≡ forking p c done failing) × (s.entry c page ≡ Some e) × AreGone (put page None (s.entry c)) over
+Can s (fail_fork a p c done step ends) =
+    (s.job a ≡ forking p c done step) × MayFail step × (s.prepared a ≡ None) × AreGone (s.entry c) ends
+Can s (put_child a p c done page e ends) =
+    (s.job a ≡ forking p c done failing) × (s.entry c page ≡ Some e) × AreGone (put page None (s.entry c)) ends
 Can s (fail_unborn a p c) = (s.birth p ≡ failed) × (s.birth c ≡ unborn)
 -- mappings
 Can s (map_pages a p page n rights) =
@@ -523,7 +523,7 @@ happens s (end_fork a p c done) =
       job = put a idle s.job;
     }
 -- the child's mappings go at once; its entries, with the ghost of what they named, are given back one by one
-happens s (fail_fork a p c done step over) =
+happens s (fail_fork a p c done step ends) =
     record s {
       birth = put c failed s.birth;
       right = put c (λ _. None) s.right;
@@ -531,14 +531,14 @@ happens s (fail_fork a p c done step over) =
       copied = put c (λ _ _. false) s.copied;
       sequence = put p (s.sequence p + 1) s.sequence;
       table = put p (elim step [ between ↦ s.table p | counted page ↦ None | lowered page ↦ None | cleared page ↦ None | copying page word ↦ None | failing ↦ None ]) s.table;
-      structure = if over then put p None s.structure else s.structure;
-      job = put a (if over then idle else forking p c done failing) s.job;
+      structure = if ends then put p None s.structure else s.structure;
+      job = put a (if ends then idle else forking p c done failing) s.job;
     }
-happens s (put_child a p c done page e over) =
+happens s (put_child a p c done page e ends) =
     record (without_references e.frame 1 s) {
       entry = put2 c page None s.entry;
-      structure = if over then put p None s.structure else s.structure;
-      job = if over then put a idle s.job else s.job;
+      structure = if ends then put p None s.structure else s.structure;
+      job = if ends then put a idle s.job else s.job;
     }
 happens s (fail_unborn a p c) =
     record s {
@@ -651,7 +651,7 @@ told (share_child a p c done page f writable) = Some (events.ForkPage p c page)
 told (copy_word a p c done page word to e) = Some (events.ForkWord p c page word)
 told (pass_page a p c done page) = Some (events.ForkPage p c page)
 told (end_fork a p c done) = Some (events.ForkEnd p c)
-told (fail_fork a p c done step over) = Some (events.ForkFail c)
+told (fail_fork a p c done step ends) = Some (events.ForkFail c)
 told (fail_unborn a p c) = Some (events.ForkFail c)
 told (map_pages a p page n rights) = Some (events.Map a p page n rights)
 told (protect_pages a p page n rights) = Some (events.Protect a p page n rights)

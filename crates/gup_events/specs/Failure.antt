@@ -11,10 +11,10 @@ abbrev pub are_gone : (ℕ → Option Entry) → (first n : ℕ) → Bool
 are_gone entry first zero = true
 are_gone entry first (suc n) = not (is_some (entry first)) && are_gone entry (first + 1) n
 
--- the reference of a page's entry is given back; `over`: no page behind it has an entry
-abbrev pub puts_entry : (a p c : ℕ) → List ℕ → (page : ℕ) → Option Entry → (over : Bool) → List CoreEvent
-puts_entry a p c done page None over = []
-puts_entry a p c done page (Some e) over = put_child a p c done page e over ∷ []
+-- the reference of a page's entry is given back; `ends`: no page behind it has an entry
+abbrev pub puts_entry : (a p c : ℕ) → List ℕ → (page : ℕ) → Option Entry → (ends : Bool) → List CoreEvent
+puts_entry a p c done page None ends = []
+puts_entry a p c done page (Some e) ends = put_child a p c done page e ends ∷ []
 
 -- those of the n pages from the first on
 abbrev pub puts_entries : (a p c : ℕ) → List ℕ → (ℕ → Option Entry) → (first n : ℕ) → List CoreEvent

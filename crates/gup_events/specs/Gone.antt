@@ -22,18 +22,18 @@ pub all_gone : (entry : ℕ → Option Entry) (first n : ℕ) → are_gone entry
 all_gone entry first zero is page least below = absurd (omega arith)
 all_gone entry first (suc n) is page least below =
     let both = here_none (entry first) (are_gone entry (first + 1) n) is in
-    elim (eq-or-lt_of_le least) [ inl same ↦ ap entry (sym same) ∙ both.0 | inr more ↦ all_gone entry (first + 1) n both.1 page more (omega arith) ]
+    elim (eq-or-lt_of_le least) [ inl same ↦ ap entry (sym same) ∙ both.0 | inr more ↦ all_gone entry (first + 1) n both.1 page (omega (arith, more)) (omega arith) ]
 
 -- else one has
 pub one_left : (entry : ℕ → Option Entry) (first n : ℕ) → are_gone entry first n ≡ false → (page : ℕ) × (first ≤ page) × (page < first + n) × IsSome (entry page)
 one_left entry first zero is = absurd (cc)
-one_left entry first (suc n) is = go (entry first) refl is
+one_left entry first (suc n) is = go (entry first) refl is (one_left entry (first + 1) n)
   where
-    go : (o : Option Entry) → entry first ≡ o → not (is_some o) && are_gone entry (first + 1) n ≡ false → (page : ℕ) × (first ≤ page) × (page < first + suc n) × IsSome (entry page)
-    go (Some e) some gone = (first, omega arith, omega arith, ap is_some some)
-    go None none gone =
-        let later = one_left entry (first + 1) n gone in
-        (later.0, omega (arith, later.1), omega (arith, later.2), later.3)
+    go : (o : Option Entry) → entry first ≡ o → not (is_some o) && are_gone entry (first + 1) n ≡ false → (are_gone entry (first + 1) n ≡ false → (page : ℕ) × (first + 1 ≤ page) × (page < first + 1 + n) × IsSome (entry page)) → (page : ℕ) × (first ≤ page) × (page < first + suc n) × IsSome (entry page)
+    go (Some e) some gone later = (first, omega arith, omega arith, ap is_some some)
+    go None none gone later =
+        let left = later gone in
+        (left.0, omega (arith, left.1), omega (arith, left.2), left.3)
 
 -- no reference is given back where there are none
 pub no_puts : (a p c : ℕ) (done : List ℕ) (entry : ℕ → Option Entry) (first n : ℕ) → are_gone entry first n ≡ true → puts_entries a p c done entry first n ≡ []

@@ -1,17 +1,30 @@
 -- A fork's events leave every process but the parent and the child as it is, and what they make of these two and of frames
 -- is shown.
-use Rattle.std.specs.Prelude.{◌≡◌, ℕ, List, [], ◌∷◌}
-use Rattle.std.proofs.Common.{refl, sym, subst, ◌∙◌, arith}
+use Rattle.std.specs.Prelude.{◌≡◌, ℕ, true, false, List, [], ◌∷◌, Option, None}
+use Rattle.std.proofs.Common.{refl, sym, ap, subst, ◌∙◌, arith}
 use Rattle.std.proofs.lemmas.Bool.Decides.{nat_tests}
+use Rattle.gup_plain.specs.Put.{put}
 use Rattle.gup_frames.specs.Frames.{FramesValue}
 use Rattle.gup_space.specs.Shows.{ShowsFrames, ShowsSpace}
 use Rattle.gup_space.specs.Space.{SpaceValue}
 use Rattle.gup_space.specs.ShowsLemmas.{shown_as}
-use Rattle.gup_events.specs.State.{CoreState}
+use Rattle.gup_events.specs.State.{CoreState, ForkStep, between, counted, lowered, cleared, copying, failing}
 use Rattle.gup_events.specs.Event.{CoreEvent, happens}
 use Rattle.gup_events.specs.Invariant.{run}
-use Rattle.gup_fork.specs.Forks.{ForkChange, AreForkEvents}
-use Rattle.gup_fork.specs.ForkAfter.{IsForkEvent, beginning, counting, lowering, unmarking, giving, passing, ending, writing, placing, failing_at, putting, releasing, AreOfFork, frames_behind, parent_behind, child_behind, all_frames_behind, all_parent_behind, all_child_behind, IsMadeByFork, IsShownByFork}
+use Rattle.gup_fork.specs.Forks.{ForkChange, AreForkEvents, table_behind}
+use Rattle.gup_fork.specs.ForkAfter.{IsForkEvent, beginning, counting, lowering, unmarking, giving, passing, ending, writing, placing, failing_at, putting, AreOfFork, frames_behind, parent_behind, child_behind, all_frames_behind, all_parent_behind, all_child_behind, IsMadeByFork, IsShownByFork}
+
+own_lock : (k : ℕ) (holder : Option ℕ) (f : ℕ → Option ℕ) → put k holder f k ≡ holder
+own_lock k holder f = grind (arith, nat_tests)
+
+-- the table lock behind a failure
+own_table : (p : ℕ) (step : ForkStep) (f : ℕ → Option ℕ) → put p (elim step [ between ↦ f p | counted page ↦ None | lowered page ↦ None | cleared page ↦ None | copying page word ↦ None | failing ↦ None ]) f p ≡ table_behind step (f p)
+own_table p between f = own_lock p (f p) f
+own_table p (counted page) f = own_lock p None f
+own_table p (lowered page) f = own_lock p None f
+own_table p (cleared page) f = own_lock p None f
+own_table p (copying page word) f = own_lock p None f
+own_table p failing f = own_lock p None f
 
 -- ---- other processes, other actors
 
@@ -34,12 +47,14 @@ leaves_others a p c q space s parent child (writing done page word to e) h =
     record { right = h.right; pages = h.pages; entry = h.entry; sequence = h.sequence; has_pinned = h.has_pinned; structure = h.structure; table = h.table }
 leaves_others a p c q space s parent child (placing done page to rights) h =
     record { right = h.right; pages = h.pages; entry = λ g. grind (arith, nat_tests, h.entry g); sequence = h.sequence; has_pinned = h.has_pinned; structure = h.structure; table = grind (arith, nat_tests, h.table) }
-leaves_others a p c q space s parent child (failing_at done page word) h =
+leaves_others a p c q space s parent child (failing_at done step true) h =
+    record { right = λ g. grind (arith, nat_tests, h.right g); pages = grind (arith, nat_tests, h.pages); entry = h.entry; sequence = grind (arith, nat_tests, h.sequence); has_pinned = h.has_pinned; structure = grind (arith, nat_tests, h.structure); table = grind (arith, nat_tests, h.table) }
+leaves_others a p c q space s parent child (failing_at done step false) h =
     record { right = λ g. grind (arith, nat_tests, h.right g); pages = grind (arith, nat_tests, h.pages); entry = h.entry; sequence = grind (arith, nat_tests, h.sequence); has_pinned = h.has_pinned; structure = h.structure; table = grind (arith, nat_tests, h.table) }
-leaves_others a p c q space s parent child (putting done page e) h =
+leaves_others a p c q space s parent child (putting done page e true) h =
+    record { right = h.right; pages = h.pages; entry = λ g. grind (arith, nat_tests, h.entry g); sequence = h.sequence; has_pinned = h.has_pinned; structure = grind (arith, nat_tests, h.structure); table = h.table }
+leaves_others a p c q space s parent child (putting done page e false) h =
     record { right = h.right; pages = h.pages; entry = λ g. grind (arith, nat_tests, h.entry g); sequence = h.sequence; has_pinned = h.has_pinned; structure = h.structure; table = h.table }
-leaves_others a p c q space s parent child (releasing done) h =
-    record { right = h.right; pages = h.pages; entry = h.entry; sequence = h.sequence; has_pinned = h.has_pinned; structure = grind (arith, nat_tests, h.structure); table = h.table }
 
 -- and so do lists of them
 pub leave_others : (a p c q : ℕ) (space : SpaceValue) (s : CoreState) (es : List CoreEvent) → (p ≡ q → ⊥) → (c ≡ q → ⊥) → AreOfFork a p c es → ShowsSpace q space s → ShowsSpace q space (run s es)
@@ -57,9 +72,9 @@ job_stays a p c b s other (passing done page) = grind (arith, nat_tests)
 job_stays a p c b s other (ending done) = grind (arith, nat_tests)
 job_stays a p c b s other (writing done page word to e) = grind (arith, nat_tests)
 job_stays a p c b s other (placing done page to rights) = grind (arith, nat_tests)
-job_stays a p c b s other (failing_at done page word) = grind (arith, nat_tests)
-job_stays a p c b s other (putting done page e) = refl
-job_stays a p c b s other (releasing done) = grind (arith, nat_tests)
+job_stays a p c b s other (failing_at done step ends) = grind (arith, nat_tests)
+job_stays a p c b s other (putting done page e true) = grind (arith, nat_tests)
+job_stays a p c b s other (putting done page e false) = refl
 
 pub jobs_stay : (a p c b : ℕ) (s : CoreState) (es : List CoreEvent) → (a ≡ b → ⊥) → AreOfFork a p c es → (run s es).job b ≡ s.job b
 jobs_stay a p c b s [] other of = refl
@@ -75,9 +90,8 @@ birth_stays a p c q s other (passing done page) = refl
 birth_stays a p c q s other (ending done) = grind (arith, nat_tests)
 birth_stays a p c q s other (writing done page word to e) = refl
 birth_stays a p c q s other (placing done page to rights) = refl
-birth_stays a p c q s other (failing_at done page word) = grind (arith, nat_tests)
-birth_stays a p c q s other (putting done page e) = refl
-birth_stays a p c q s other (releasing done) = refl
+birth_stays a p c q s other (failing_at done step ends) = grind (arith, nat_tests)
+birth_stays a p c q s other (putting done page e ends) = refl
 
 pub births_stay : (a p c q : ℕ) (s : CoreState) (es : List CoreEvent) → (c ≡ q → ⊥) → AreOfFork a p c es → (run s es).birth q ≡ s.birth q
 births_stay a p c q s [] other of = refl
@@ -104,12 +118,10 @@ shows_frames a p c frames s (writing done page word to e) h =
     record { movable = h.movable; normal = h.normal; count = h.count; mark = h.mark; word = λ g w. grind (arith, nat_tests, h.word g w, h.word e.frame word) }
 shows_frames a p c frames s (placing done page to rights) h =
     record { movable = h.movable; normal = h.normal; count = h.count; mark = λ g. grind (arith, nat_tests, h.mark g); word = h.word }
-shows_frames a p c frames s (failing_at done page word) h =
+shows_frames a p c frames s (failing_at done step ends) h =
     record { movable = h.movable; normal = h.normal; count = h.count; mark = h.mark; word = h.word }
-shows_frames a p c frames s (putting done page e) h =
+shows_frames a p c frames s (putting done page e ends) h =
     record { movable = h.movable; normal = h.normal; count = λ g. grind (arith, nat_tests, h.count g, h.count e.frame); mark = λ g. grind (arith, nat_tests, h.mark g, h.mark e.frame, h.count e.frame); word = h.word }
-shows_frames a p c frames s (releasing done) h =
-    record { movable = h.movable; normal = h.normal; count = h.count; mark = h.mark; word = h.word }
 
 pub shows_parent : (a p c : ℕ) (parent : SpaceValue) (s : CoreState) {e : CoreEvent} → (p ≡ c → ⊥) → IsForkEvent a p c e → ShowsSpace p parent s → ShowsSpace p (parent_behind e parent) (happens s e)
 shows_parent a p c parent s apart beginning h =
@@ -130,12 +142,14 @@ shows_parent a p c parent s apart (writing done page word to e) h =
     record { right = h.right; pages = h.pages; entry = h.entry; sequence = h.sequence; has_pinned = h.has_pinned; structure = h.structure; table = h.table }
 shows_parent a p c parent s apart (placing done page to rights) h =
     record { right = h.right; pages = h.pages; entry = λ g. grind (arith, nat_tests, h.entry g); sequence = h.sequence; has_pinned = h.has_pinned; structure = h.structure; table = grind (arith, nat_tests, h.table) }
-shows_parent a p c parent s apart (failing_at done page word) h =
-    record { right = λ g. grind (arith, nat_tests, h.right g); pages = grind (arith, nat_tests, h.pages); entry = h.entry; sequence = grind (arith, nat_tests, h.sequence); has_pinned = h.has_pinned; structure = h.structure; table = grind (arith, nat_tests, h.table) }
-shows_parent a p c parent s apart (putting done page e) h =
+shows_parent a p c parent s apart (failing_at done step true) h =
+    record { right = λ g. grind (arith, nat_tests, h.right g); pages = grind (arith, nat_tests, h.pages); entry = h.entry; sequence = grind (arith, nat_tests, h.sequence); has_pinned = h.has_pinned; structure = own_lock p None s.structure; table = own_table p step s.table ∙ ap (table_behind step) h.table }
+shows_parent a p c parent s apart (failing_at done step false) h =
+    record { right = λ g. grind (arith, nat_tests, h.right g); pages = grind (arith, nat_tests, h.pages); entry = h.entry; sequence = grind (arith, nat_tests, h.sequence); has_pinned = h.has_pinned; structure = h.structure; table = own_table p step s.table ∙ ap (table_behind step) h.table }
+shows_parent a p c parent s apart (putting done page e true) h =
+    record { right = h.right; pages = h.pages; entry = λ g. grind (arith, nat_tests, h.entry g); sequence = h.sequence; has_pinned = h.has_pinned; structure = own_lock p None s.structure; table = h.table }
+shows_parent a p c parent s apart (putting done page e false) h =
     record { right = h.right; pages = h.pages; entry = λ g. grind (arith, nat_tests, h.entry g); sequence = h.sequence; has_pinned = h.has_pinned; structure = h.structure; table = h.table }
-shows_parent a p c parent s apart (releasing done) h =
-    record { right = h.right; pages = h.pages; entry = h.entry; sequence = h.sequence; has_pinned = h.has_pinned; structure = grind (arith, nat_tests, h.structure); table = h.table }
 
 pub shows_child : (a p c : ℕ) (parent child : SpaceValue) (s : CoreState) {e : CoreEvent} → (p ≡ c → ⊥) → IsForkEvent a p c e → ShowsSpace p parent s → ShowsSpace c child s → ShowsSpace c (child_behind e parent child) (happens s e)
 shows_child a p c parent child s apart beginning of h =
@@ -156,12 +170,14 @@ shows_child a p c parent child s apart (writing done page word to e) of h =
     record { right = h.right; pages = h.pages; entry = h.entry; sequence = h.sequence; has_pinned = h.has_pinned; structure = h.structure; table = h.table }
 shows_child a p c parent child s apart (placing done page to rights) of h =
     record { right = h.right; pages = h.pages; entry = λ g. grind (arith, nat_tests, h.entry g); sequence = h.sequence; has_pinned = h.has_pinned; structure = h.structure; table = grind (arith, nat_tests, h.table) }
-shows_child a p c parent child s apart (failing_at done page word) of h =
+shows_child a p c parent child s apart (failing_at done step true) of h =
+    record { right = λ g. grind (arith, nat_tests, h.right g); pages = grind (arith, nat_tests, h.pages); entry = h.entry; sequence = grind (arith, nat_tests, h.sequence); has_pinned = h.has_pinned; structure = grind (arith, nat_tests, h.structure); table = grind (arith, nat_tests, h.table) }
+shows_child a p c parent child s apart (failing_at done step false) of h =
     record { right = λ g. grind (arith, nat_tests, h.right g); pages = grind (arith, nat_tests, h.pages); entry = h.entry; sequence = grind (arith, nat_tests, h.sequence); has_pinned = h.has_pinned; structure = h.structure; table = grind (arith, nat_tests, h.table) }
-shows_child a p c parent child s apart (putting done page e) of h =
+shows_child a p c parent child s apart (putting done page e true) of h =
+    record { right = h.right; pages = h.pages; entry = λ g. grind (arith, nat_tests, h.entry g); sequence = h.sequence; has_pinned = h.has_pinned; structure = grind (arith, nat_tests, h.structure); table = h.table }
+shows_child a p c parent child s apart (putting done page e false) of h =
     record { right = h.right; pages = h.pages; entry = λ g. grind (arith, nat_tests, h.entry g); sequence = h.sequence; has_pinned = h.has_pinned; structure = h.structure; table = h.table }
-shows_child a p c parent child s apart (releasing done) of h =
-    record { right = h.right; pages = h.pages; entry = h.entry; sequence = h.sequence; has_pinned = h.has_pinned; structure = grind (arith, nat_tests, h.structure); table = h.table }
 
 pub show_frames : (a p c : ℕ) (frames : FramesValue) (s : CoreState) (es : List CoreEvent) → AreOfFork a p c es → ShowsFrames frames s → ShowsFrames (all_frames_behind es frames) (run s es)
 show_frames a p c frames s [] own h = h

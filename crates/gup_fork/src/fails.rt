@@ -3,12 +3,12 @@ ghost use Rattle.std.specs.Prelude.{◌≡◌, ℕ, ◌+◌, ◌<◌, ◌≤◌,
 ghost use Rattle.gup_base.specs.declared.entry.Entry.{Entry as EntryValue};
 ghost use Rattle.gup_plain.specs.Event.{page_numbers};
 ghost use Rattle.gup_frames.specs.Frames.{frames_of, IsFrame, without_references};
-ghost use Rattle.gup_events.specs.State.{copying};
+ghost use Rattle.gup_events.specs.State.{ForkStep};
 ghost use Rattle.gup_events.specs.Failure.{fails};
 ghost use Rattle.gup_maps.specs.Maps.{IsNextPage};
 ghost use Rattle.gup_space.specs.Space.{space_of, with_entry, without_page, AreMapped};
 ghost use Rattle.gup_space.specs.Counted.{AreCounted};
-ghost use Rattle.gup_fork.specs.Forks.{fork_change_of, with_structure, with_table, AreForkEvents, without_entry, without_entries, given_back, emptied};
+ghost use Rattle.gup_fork.specs.Forks.{fork_change_of, with_structure, with_table, AreForkEvents, without_entry, without_entries, given_back, table_behind, emptied};
 
 use gup_base::{FrameNo, PageNo};
 use gup_frames::Frames;
@@ -61,9 +61,10 @@ fn empty(child: &mut Space, frames: &mut Frames)
     }
 }
 
-/// A fork that finds no frame for a copy fails: the parent's sequence gets even again, and the child loses its mappings
-/// and its entries, whose frames have a reference less each. What was shared stays read-only in the parent, and its
-/// frames unmarked. Who forked frees the parent's two locks with it.
+/// A fork fails, at whatever step it is, as where it finds no frame for a copy: the parent's sequence gets even again, and the
+/// child loses its mappings and its entries, whose frames have a reference less for each. What was shared stays read-only in
+/// the parent, and its frames unmarked. Who forked frees the parent's structure lock with it, and the table lock where it is
+/// within a page.
 pub fn fail(parent: &mut Space, child: &mut Space, frames: &mut Frames)
     requires sequence { (space_of parent.old).sequence < 2 ^ 40 }
     requires counted { AreCounted (frames_of frames.old) (space_of child.old) }
@@ -71,9 +72,10 @@ pub fn fail(parent: &mut Space, child: &mut Space, frames: &mut Frames)
     ensures parent { space_of parent.new ≡ record (space_of parent.old) { sequence = (space_of parent.old).sequence + 1 } }
     ensures child { space_of child.new ≡ emptied (space_of child.old) }
     ensures frames { frames_of frames.new ≡ given_back (space_of child.old).entry (frames_of frames.old) }
-    ensures events { (a : ℕ) (done : List ℕ) (page word : ℕ) → AreForkEvents
-        (with_structure None (with_table None (fork_change_of frames.old frames.new parent.old parent.new child.old child.new)))
-        (λ p c. fails a p c done (copying page word) (space_of child.old).entry) }
+    ensures events { (a : ℕ) (done : List ℕ) (step : ForkStep) → AreForkEvents
+        (with_structure None (with_table (table_behind step (space_of parent.old).table)
+        (fork_change_of frames.old frames.new parent.old parent.new child.old child.new)))
+        (λ p c. fails a p c done step (space_of child.old).entry) }
 {
     parent.raise();
     empty(child, frames);

@@ -201,7 +201,7 @@ ended_fork s a p c done step v h may =
     let sound : IsSoundBy V S = assumption in
     record { sound = (V, sound); can = subst IsUnbornOrGrowing (sym grows) tt; same = ap (λ (o : ℕ → ℕ → ℕ). record (plain_of S) { object = o }) (by_pages (λ q g. grind (arith, nat_tests))) }
 
-pub simulates-fail_fork : (s : CoreState) (a p c : ℕ) (done : List ℕ) (step : ForkStep) (over : Bool) → IsSound s → Can s (fail_fork a p c done step over) → Simulates s (fail_fork a p c done step over)
+pub simulates-fail_fork : (s : CoreState) (a p c : ℕ) (done : List ℕ) (step : ForkStep) (ends : Bool) → IsSound s → Can s (fail_fork a p c done step ends) → Simulates s (fail_fork a p c done step ends)
 simulates-fail_fork s a p c done step false sound may = failing_fork s a p c done step sound.0 sound.1 may
 simulates-fail_fork s a p c done step true sound may = ended_fork s a p c done step sound.0 sound.1 may
 
@@ -359,6 +359,6 @@ put_last s a p c done page e v h may =
     let sound : IsSoundBy V S = assumption in
     record { sound = (V, sound); can = tt; same = refl }
 
-pub simulates-put_child : (s : CoreState) (a p c : ℕ) (done : List ℕ) (page : ℕ) (e : Entry) (over : Bool) → IsSound s → Can s (put_child a p c done page e over) → Simulates s (put_child a p c done page e over)
+pub simulates-put_child : (s : CoreState) (a p c : ℕ) (done : List ℕ) (page : ℕ) (e : Entry) (ends : Bool) → IsSound s → Can s (put_child a p c done page e ends) → Simulates s (put_child a p c done page e ends)
 simulates-put_child s a p c done page e false sound may = put_one s a p c done page e sound.0 sound.1 may
 simulates-put_child s a p c done page e true sound may = put_last s a p c done page e sound.0 sound.1 may

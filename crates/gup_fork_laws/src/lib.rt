@@ -19,7 +19,7 @@ pub fn forks_simulate()
     ensures copy_word { (a p c : ℕ) (done : List ℕ) (page word to : ℕ) (entry : Entry) → IsSimulated (copy_word a p c done page word to entry) }
     ensures place_child { (a p c : ℕ) (done : List ℕ) (page to : ℕ) (rights : Rights) → IsSimulated (place_child a p c done page to rights) }
     ensures end_fork { (a p c : ℕ) (done : List ℕ) → IsSimulated (end_fork a p c done) }
-    ensures fail_fork { (a p c : ℕ) (done : List ℕ) (step : ForkStep) (over : Bool) → IsSimulated (fail_fork a p c done step over) }
-    ensures put_child { (a p c : ℕ) (done : List ℕ) (page : ℕ) (entry : Entry) (over : Bool) → IsSimulated (put_child a p c done page entry over) }
+    ensures fail_fork { (a p c : ℕ) (done : List ℕ) (step : ForkStep) (ends : Bool) → IsSimulated (fail_fork a p c done step ends) }
+    ensures put_child { (a p c : ℕ) (done : List ℕ) (page : ℕ) (entry : Entry) (ends : Bool) → IsSimulated (put_child a p c done page entry ends) }
     ensures fail_unborn { (a p c : ℕ) → IsSimulated (fail_unborn a p c) }
 {}

@@ -114,11 +114,11 @@ impl Job {
         }
     }
 
-    /// What is left to do of a fork of `p` into `c` that fails: nothing where it is over.
-    pub fn failing(p: ProcNo, c: ProcNo, done: Vec<PageNo>, over: bool) -> Job
-        ensures { result ≡ (if over then idle else forking p c done.items failing) }
+    /// What is left to do of a fork of `p` into `c` that fails: nothing where it ends.
+    pub fn failing(p: ProcNo, c: ProcNo, done: Vec<PageNo>, ends: bool) -> Job
+        ensures { result ≡ (if ends then idle else forking p c done.items failing) }
     {
-        if over {
+        if ends {
             Job::idle()
         } else {
             Job::forking(p, c, done, ForkStep::Failing)

@@ -233,20 +233,20 @@ pub fn after_failure(step: &ForkStep, holder: Option<ActorNo>) -> Option<ActorNo
     }
 }
 
-/// Lets the lock of the process go, where a fork is over.
-pub fn free_if(lock: &mut Row<Option<ActorNo>, 16>, p: ProcNo, over: bool)
-    ensures { at lock.new ≡ (if over then put p None (at lock.old) else at lock.old) }
+/// Lets the lock of the process go, where its fork ends.
+pub fn free_if(lock: &mut Row<Option<ActorNo>, 16>, p: ProcNo, ends: bool)
+    ensures { at lock.new ≡ (if ends then put p None (at lock.old) else at lock.old) }
 {
-    if over {
+    if ends {
         lock.put(p, None);
     }
 }
 
-/// The actor is in the middle of nothing, where its fork is over.
-pub fn end_if(job: &mut Row<Job, 81>, a: ActorNo, over: bool)
-    ensures { at job.new ≡ (if over then put a idle (at job.old) else at job.old) }
+/// The actor is in the middle of nothing, where its fork ends.
+pub fn end_if(job: &mut Row<Job, 81>, a: ActorNo, ends: bool)
+    ensures { at job.new ≡ (if ends then put a idle (at job.old) else at job.old) }
 {
-    if over {
+    if ends {
         job.put(a, Job::idle());
     }
 }

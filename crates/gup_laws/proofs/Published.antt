@@ -90,7 +90,7 @@ module _ (v : View) (s : CoreState) (h : IsSoundBy v s) where
   entry_whole : (p page : ℕ) (e : Entry) → IsEntry s p page e → v.whole p page ≡ Some e
   entry_whole p page e (inl is) = h.whole_entry p page e is
   entry_whole p page e (inr is) =
-      h.whole_moved is.0 (record { proc = p; page = page; entry = e; count = is.1.1.0 }) (is_moving is.0 p page e is.1.0 is.1.1.0 is.1.1.1)
+      h.whole_moved is.0 (record { proc = p; page = page; entry = e; count = is.1.1 }) (is_moving is.0 p page e is.1.0 is.1.1 is.1.2)
 
   job_cleared : (a p page : ℕ) (e : Entry) (m : Moving) → v.moves a ≡ Some m → m.proc ≡ p → m.page ≡ page → m.entry ≡ e → HasCleared s a p page e
   job_cleared a p page e m is proc number entry =
@@ -182,10 +182,10 @@ module _ (v : View) (s : CoreState) (h : IsSoundBy v s) where
   exclusive =
       record {
         writable = λ p page e is w. (h.entry_marked p page e (entry_whole p page e is) w, allowed p page e (entry_whole p page e is) w);
-        cleared_gone = λ a p page e is. h.moved_gone a (record { proc = p; page = page; entry = e; count = is.1.0 }) (is_moving a p page e is.0 is.1.0 is.1.1);
+        cleared_gone = λ a p page e is. h.moved_gone a (record { proc = p; page = page; entry = e; count = is.1 }) (is_moving a p page e is.0 is.1 is.2);
         cleared_once = λ a b p page d e is that.
-            let first : s.table p ≡ Some a = h.moves_table a (record { proc = p; page = page; entry = d; count = is.1.0 }) (is_moving a p page d is.0 is.1.0 is.1.1) in
-            let second : s.table p ≡ Some b = h.moves_table b (record { proc = p; page = page; entry = e; count = that.1.0 }) (is_moving b p page e that.0 that.1.0 that.1.1) in
+            let first : s.table p ≡ Some a = h.moves_table a (record { proc = p; page = page; entry = d; count = is.1 }) (is_moving a p page d is.0 is.1 is.2) in
+            let second : s.table p ≡ Some b = h.moves_table b (record { proc = p; page = page; entry = e; count = that.1 }) (is_moving b p page e that.0 that.1 that.2) in
             cc;
         one_entry = λ p page q g d e is that. one_page p page q g d e (entry_whole p page d is) (entry_whole q g e that);
         pin_marked = settled_marked;

@@ -1,5 +1,5 @@
 -- What a turn of a fork that copies a page, or fails, makes of frames, the parent and the child is the turn table's.
-use Rattle.std.proofs.Common.{◌≡◌, ℕ, ◌+◌, ◌<◌, ◌≤◌, true, false, List, [], ◌∷◌, ◌++◌, Option, Some, None, IsSome, refl, ap, sym, subst, ◌∙◌, zero, suc, arith}
+use Rattle.std.proofs.Common.{◌≡◌, ℕ, ◌+◌, ◌<◌, ◌≤◌, ◌&&◌, not, is_some, Bool, true, false, List, [], ◌∷◌, ◌++◌, Option, Some, None, IsSome, refl, ap, sym, subst, ◌∙◌, zero, suc, arith}
 use Rattle.std.specs.Prelude.{nat_lt}
 use Rattle.std.proofs.lemmas.Bool.Decides.{nat_tests}
 use Rattle.gup_base.specs.declared.entry.Allowed.TheVariants.{Any}
@@ -18,8 +18,9 @@ use Rattle.gup_space.specs.After.{taking}
 use Rattle.gup_space.specs.ShowsLemmas.{shows_frames, shows_space}
 use Rattle.gup_fork.specs.Forks.{ForkChange, AreForkEvents}
 use Rattle.gup_events.specs.State.{CoreState, Job, idle, marking, moving, forking, walking, ForkStep, between, counted, lowered, cleared, copying, failing}
-use Rattle.gup_events.specs.Event.{CoreEvent, happens, take_frame, copy_word, place_child, fail_fork, release_fork}
-use Rattle.gup_events.specs.Failure.{fails, puts_entry, puts_entries}
+use Rattle.gup_events.specs.Event.{CoreEvent, happens, take_frame, copy_word, place_child, fail_fork, put_child}
+use Rattle.gup_events.specs.Failure.{are_gone, fails, puts_entry, puts_entries}
+use Rattle.gup_events.specs.Gone.{no_puts}
 use Rattle.gup_events.specs.Invariant.{run}
 use Rattle.gup_turns.specs.Turn.{fork_turn, frame_turn, copy_turn, copying_turn, entry_in, rights_in}
 use Rattle.gup_turns.specs.Reached.{unbegun, from_page, wants_frame, at_word, copying_place, fork_place, StandsFork}
@@ -179,45 +180,73 @@ copy_turned k a p c page word to all mapped made = go (k.old_child.right page) r
 -- ---- its failure
 
 -- the events of a failure depend on what the child's entries are alone
+gone_alike : (entry other : ℕ → Option Entry) (first n : ℕ) → ((page : ℕ) → entry page ≡ other page) → are_gone entry first n ≡ are_gone other first n
+gone_alike entry other first zero same = refl
+gone_alike entry other first (suc n) same =
+    ap (λ e. not (is_some e) && are_gone entry (first + 1) n) (same first)
+    ∙ ap (λ b. not (is_some (other first)) && b) (gone_alike entry other (first + 1) n same)
+
 puts_alike : (a p c : ℕ) (done : List ℕ) (entry other : ℕ → Option Entry) (first n : ℕ) → ((page : ℕ) → entry page ≡ other page) → puts_entries a p c done entry first n ≡ puts_entries a p c done other first n
 puts_alike a p c done entry other first zero same = refl
 puts_alike a p c done entry other first (suc n) same =
-    ap (λ e. puts_entry a p c done first e ++ puts_entries a p c done entry (first + 1) n) (same first)
-    ∙ ap (λ es. puts_entry a p c done first (other first) ++ es) (puts_alike a p c done entry other (first + 1) n same)
+    ap (λ e. puts_entry a p c done first e (are_gone entry (first + 1) n) ++ puts_entries a p c done entry (first + 1) n) (same first)
+    ∙ ap (λ ends. puts_entry a p c done first (other first) ends ++ puts_entries a p c done entry (first + 1) n) (gone_alike entry other (first + 1) n same)
+    ∙ ap (λ es. puts_entry a p c done first (other first) (are_gone other (first + 1) n) ++ es) (puts_alike a p c done entry other (first + 1) n same)
 
 fails_alike : (a p c : ℕ) (done : List ℕ) (step : ForkStep) (entry other : ℕ → Option Entry) → ((page : ℕ) → entry page ≡ other page) → fails a p c done step entry ≡ fails a p c done step other
 fails_alike a p c done step entry other same =
-    ap (λ es. fail_fork a p c done step ∷ (es ++ release_fork a p c done ∷ [])) (puts_alike a p c done entry other 0 page_numbers same)
+    ap (λ ends. fail_fork a p c done step ends ∷ puts_entries a p c done entry 0 page_numbers) (gone_alike entry other 0 page_numbers same)
+    ∙ ap (λ es. fail_fork a p c done step (are_gone other 0 page_numbers) ∷ es) (puts_alike a p c done entry other 0 page_numbers same)
 
 -- what is given back leaves each birth
-put_leaves : (a p c d : ℕ) (done : List ℕ) (page : ℕ) (entry : Option Entry) (s : CoreState) → (run s (puts_entry a p c done page entry)).birth d ≡ s.birth d
-put_leaves a p c d done page None s = refl
-put_leaves a p c d done page (Some e) s = refl
+put_leaves : (a p c d : ℕ) (done : List ℕ) (page : ℕ) (entry : Option Entry) (ends : Bool) (s : CoreState) → (run s (puts_entry a p c done page entry ends)).birth d ≡ s.birth d
+put_leaves a p c d done page None ends s = refl
+put_leaves a p c d done page (Some e) ends s = refl
 
 puts_leave : (a p c d : ℕ) (done : List ℕ) (entry : ℕ → Option Entry) (first n : ℕ) (s : CoreState) → (run s (puts_entries a p c done entry first n)).birth d ≡ s.birth d
 puts_leave a p c d done entry first zero s = refl
 puts_leave a p c d done entry first (suc n) s =
-    let behind : CoreState = run s (puts_entry a p c done first (entry first)) in
-    ap (λ (t : CoreState). t.birth d) (run_behind s (puts_entry a p c done first (entry first)) (puts_entries a p c done entry (first + 1) n))
+    let ends : Bool = are_gone entry (first + 1) n in
+    let behind : CoreState = run s (puts_entry a p c done first (entry first) ends) in
+    ap (λ (t : CoreState). t.birth d) (run_behind s (puts_entry a p c done first (entry first) ends) (puts_entries a p c done entry (first + 1) n))
     ∙ puts_leave a p c d done entry (first + 1) n behind
-    ∙ put_leaves a p c d done first (entry first) s
+    ∙ put_leaves a p c d done first (entry first) ends s
+
+-- and with the last of it the actor is in the middle of nothing
+puts_end : (a p c : ℕ) (done : List ℕ) (entry : ℕ → Option Entry) (first n : ℕ) (s : CoreState) → are_gone entry first n ≡ false → (run s (puts_entries a p c done entry first n)).job a ≡ idle
+puts_end a p c done entry first zero s some = absurd (cc)
+puts_end a p c done entry first (suc n) s some = at_entry (entry first) some
+  where
+    rest : List CoreEvent
+    rest = puts_entries a p c done entry (first + 1) n
+
+    by_last : (e : Entry) (ends : Bool) → are_gone entry (first + 1) n ≡ ends → (run (happens s (put_child a p c done first e ends)) rest).job a ≡ idle
+    by_last e true gone =
+        ap (λ (es : List CoreEvent). (run (happens s (put_child a p c done first e true)) es).job a) (no_puts a p c done entry (first + 1) n gone)
+        ∙ put_here a idle s.job
+    by_last e false gone = puts_end a p c done entry (first + 1) n (happens s (put_child a p c done first e false)) gone
+
+    at_entry : (here : Option Entry) → not (is_some here) && are_gone entry (first + 1) n ≡ false → (run s (puts_entry a p c done first here (are_gone entry (first + 1) n) ++ rest)).job a ≡ idle
+    at_entry None left = puts_end a p c done entry (first + 1) n s left
+    at_entry (Some e) left = by_last e (are_gone entry (first + 1) n) refl
 
 -- behind it the child has failed, and the actor is in the middle of nothing
 failed_birth : (a p c : ℕ) (done : List ℕ) (step : ForkStep) (entry : ℕ → Option Entry) (s : CoreState) → (run s (fails a p c done step entry)).birth c ≡ failed
 failed_birth a p c done step entry s =
-    let first : CoreState = happens s (fail_fork a p c done step) in
-    let puts : List CoreEvent = puts_entries a p c done entry 0 page_numbers in
-    ap (λ (t : CoreState). t.birth c) (run_behind first puts (release_fork a p c done ∷ []))
-    ∙ puts_leave a p c c done entry 0 page_numbers first
+    puts_leave a p c c done entry 0 page_numbers (happens s (fail_fork a p c done step (are_gone entry 0 page_numbers)))
     ∙ put_here c failed s.birth
+
+failed_job : (a p c : ℕ) (done : List ℕ) (step : ForkStep) (entry : ℕ → Option Entry) (n : ℕ) (s : CoreState) (ends : Bool) → are_gone entry 0 n ≡ ends → (run (happens s (fail_fork a p c done step ends)) (puts_entries a p c done entry 0 n)).job a ≡ idle
+failed_job a p c done step entry n s true gone =
+    ap (λ (es : List CoreEvent). (run (happens s (fail_fork a p c done step true)) es).job a) (no_puts a p c done entry 0 n gone)
+    ∙ put_here a idle s.job
+failed_job a p c done step entry n s false gone =
+    puts_end a p c done entry 0 n (happens s (fail_fork a p c done step false)) gone
 
 failed_place : (a p c : ℕ) (done : List ℕ) (step : ForkStep) (entry : ℕ → Option Entry) (s : CoreState) → fork_place ((run s (fails a p c done step entry)).job a) ((run s (fails a p c done step entry)).prepared a) ≡ unbegun
 failed_place a p c done step entry s =
-    let first : CoreState = happens s (fail_fork a p c done step) in
-    let puts : List CoreEvent = puts_entries a p c done entry 0 page_numbers in
-    let behind : CoreState = run first puts in
-    ap (λ (t : CoreState). fork_place (t.job a) (t.prepared a)) (run_behind first puts (release_fork a p c done ∷ []))
-    ∙ ap (λ j. fork_place j (behind.prepared a)) (put_here a idle behind.job)
+    ap (λ j. fork_place j ((run s (fails a p c done step entry)).prepared a))
+    (failed_job a p c done step entry page_numbers s (are_gone entry 0 page_numbers) refl)
 
 pub fork_failed : (k : ForkChange) (a p c page : ℕ) → free_frame k.old_frames Any ≡ None → ((done : List ℕ) → AreForkEvents k (λ q d. fails a q d done (copying page 0) k.old_child.entry)) → IsForkTurn k a p c (wants_frame page) unbegun (Event (events.ForkFail c) ∷ Done answers.NoFrame ∷ [])
 fork_failed k a p c page none made s apart frames parent child keeps stands place =

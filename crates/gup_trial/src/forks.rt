@@ -290,7 +290,7 @@ impl Trial {
         Ok(())
     }
 
-    /// No frame is left: the child's mappings go at once, its entries one by one. Where it has none the fork is over.
+    /// No frame is left: the child's mappings go at once, its entries one by one. Where it has none the fork ends.
     pub fn fail_fork(
         &mut self,
         a: ActorNo,
@@ -298,15 +298,15 @@ impl Trial {
         c: ProcNo,
         done: &[PageNo],
         step: ForkStep,
-        over: bool,
+        ends: bool,
     ) -> Result<(), Refused>
-        ensures { Tried (state_of self.old) (state_of self.new) (core.fail_fork a p c done.now (step_of step) over) result }
+        ensures { Tried (state_of self.old) (state_of self.new) (core.fail_fork a p c done.now (step_of step) ends) result }
     {
         need(may_fail(&step))?;
         let table = after_failure(&step, *self.table.get(p));
         need(self.job.get(a).is_forking(p, c, done, step))?;
         need(self.prepared.get(a).is_none())?;
-        need(are_gone(self.entry.row(c), over))?;
+        need(are_gone(self.entry.row(c), ends))?;
         let done = same_pages(self.alloc, done)?;
         let sequence = sum(*self.sequence.get(p), 1)?;
         self.procs.fail(c);
@@ -314,12 +314,12 @@ impl Trial {
         self.pages.put(c, 0);
         self.sequence.put(p, sequence);
         self.table.put(p, table);
-        free_if(&mut self.structure, p, over);
-        self.job.put(a, Job::failing(p, c, done, over));
+        free_if(&mut self.structure, p, ends);
+        self.job.put(a, Job::failing(p, c, done, ends));
         Ok(())
     }
 
-    /// A reference of the failed child is given back. Where that was the last the fork is over.
+    /// A reference of the failed child is given back. Where that was the last the fork ends.
     pub fn put_child(
         &mut self,
         a: ActorNo,
@@ -328,14 +328,14 @@ impl Trial {
         done: &[PageNo],
         page: PageNo,
         entry: Entry,
-        over: bool,
+        ends: bool,
     ) -> Result<(), Refused>
-        ensures { Tried (state_of self.old) (state_of self.new) (core.put_child a p c done.now page entry over) result }
+        ensures { Tried (state_of self.old) (state_of self.new) (core.put_child a p c done.now page entry ends) result }
     {
         need(self.job.get(a).is_forking(p, c, done, ForkStep::Failing))?;
         need(is_entry(self.entry.get(c, page), &entry))?;
         let row = self.entry.without(c, page)?;
-        need(are_gone(&row, over))?;
+        need(are_gone(&row, ends))?;
         give_back(
             &mut self.count,
             &mut self.mark,
@@ -344,8 +344,8 @@ impl Trial {
             1,
         );
         self.entry.put_at(c, page, None, row);
-        free_if(&mut self.structure, p, over);
-        end_if(&mut self.job, a, over);
+        free_if(&mut self.structure, p, ends);
+        end_if(&mut self.job, a, ends);
         Ok(())
     }
 

@@ -9,8 +9,8 @@ use gup_rows::grid::has_page;
 use std::alloc::Global;
 use std::test::Fail;
 
-// A machine that random events are tried on, and how often each of the 44 kinds has happened. A fork that fails and is
-// over is a kind of its own.
+// A machine that random events are tried on, and how often each of the 44 kinds has happened. A fork that fails and
+// ends with it is a kind of its own.
 #[derive(Drop)]
 struct Run {
     trial: Trial,
@@ -418,10 +418,10 @@ impl Run {
         let n = self.roll(3);
         let g = page(n);
         let (f, writable) = self.entry_at(c, g);
-        for over in [false, true] {
+        for ends in [false, true] {
             let tried = self
                 .trial
-                .put_child(a, p, c, done, g, entry(f, writable), over);
+                .put_child(a, p, c, done, g, entry(f, writable), ends);
             self.tell(29, tried);
         }
     }

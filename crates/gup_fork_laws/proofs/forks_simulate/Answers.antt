@@ -35,10 +35,10 @@ pub returns-clause-end_fork : goal.returns-clause-end_fork
 returns-clause-end_fork c = λ a p c done s sound can. simulates-end_fork s a p c done sound can
 
 pub returns-clause-fail_fork : goal.returns-clause-fail_fork
-returns-clause-fail_fork c = λ a p c done step over s sound can. simulates-fail_fork s a p c done step over sound can
+returns-clause-fail_fork c = λ a p c done step ends s sound can. simulates-fail_fork s a p c done step ends sound can
 
 pub returns-clause-put_child : goal.returns-clause-put_child
-returns-clause-put_child c = λ a p c done page entry over s sound can. simulates-put_child s a p c done page entry over sound can
+returns-clause-put_child c = λ a p c done page entry ends s sound can. simulates-put_child s a p c done page entry ends sound can
 
 pub returns-clause-fail_unborn : goal.returns-clause-fail_unborn
 returns-clause-fail_unborn c = λ a p c s sound can. simulates-fail_unborn s a p c sound can

@@ -6,8 +6,8 @@ use Rattle.gup_fork.proofs.GivenBack.{are_given_back}
 use Rattle.gup_fork.proofs.fails.fail.Goals as goal
 
 pub returns-clause-events : goal.returns-clause-events
-returns-clause-events c a done page word =
-    failed (frames_of c.args.frames.now) (frames_of c.empty.new.frames) (space_of c.args.parent.now) (space_of c.raise.new.self) (space_of c.args.child.now) (space_of c.empty.new.child) a done page word
+returns-clause-events c a done step =
+    failed (frames_of c.args.frames.now) (frames_of c.empty.new.frames) (space_of c.args.parent.now) (space_of c.raise.new.self) (space_of c.args.child.now) (space_of c.empty.new.child) a done step
     c.raise.ensures c.empty.ensures.child c.empty.ensures.frames c.empty.ensures.below
 
 pub returns-clause-frames : goal.returns-clause-frames

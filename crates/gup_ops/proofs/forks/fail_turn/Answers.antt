@@ -19,4 +19,4 @@ returns c a page none =
     (λ done. other_parent (frames_of x.frames.now) (frames_of c.fail.new.frames) (space_of x.parent.now) _ (space_of c.set_structure.new.self) (space_of x.child.now) (space_of c.fail.new.child)
     (λ p d. fails a p d done (copying page 0) (space_of x.child.now).entry)
     (c.set_structure.ensures ∙ ap (λ (space : SpaceValue). record space { structure = None }) c.set_table.ensures)
-    (c.fail.ensures.events a done page 0)))
+    (c.fail.ensures.events a done (copying page 0))))
