@@ -39,19 +39,23 @@ frames_puts a p c done entry first (suc n) F =
 -- with the last entry the structure lock is free
 parent_puts : (a p c : ℕ) (done : List ℕ) (entry : ℕ → Option Entry) (first n : ℕ) (P : SpaceValue) → are_gone entry first n ≡ false → all_parent_behind (puts_entries a p c done entry first n) P ≡ record P { structure = None }
 parent_puts a p c done entry first zero P some = absurd (cc)
-parent_puts a p c done entry first (suc n) P some = at_entry (entry first) some
+parent_puts a p c done entry first (suc n) P some =
+    at_entry (entry first) some (λ Q left. parent_puts a p c done entry (first + 1) n Q left)
   where
     rest : List CoreEvent
     rest = puts_entries a p c done entry (first + 1) n
 
-    by_last : (e : Entry) (ends : Bool) → are_gone entry (first + 1) n ≡ ends → all_parent_behind rest (parent_behind (put_child a p c done first e ends) P) ≡ record P { structure = None }
-    by_last e true gone =
-        ap (λ (es : List CoreEvent). all_parent_behind es (record P { structure = None })) (no_puts a p c done entry (first + 1) n gone)
-    by_last e false gone = parent_puts a p c done entry (first + 1) n P gone
+    Later : Type 0
+    Later = (Q : SpaceValue) → are_gone entry (first + 1) n ≡ false → all_parent_behind rest Q ≡ record Q { structure = None }
 
-    at_entry : (here : Option Entry) → not (is_some here) && are_gone entry (first + 1) n ≡ false → all_parent_behind (puts_entry a p c done first here (are_gone entry (first + 1) n) ++ rest) P ≡ record P { structure = None }
-    at_entry None left = parent_puts a p c done entry (first + 1) n P left
-    at_entry (Some e) left = by_last e (are_gone entry (first + 1) n) refl
+    by_last : (e : Entry) (ends : Bool) → are_gone entry (first + 1) n ≡ ends → Later → all_parent_behind rest (parent_behind (put_child a p c done first e ends) P) ≡ record P { structure = None }
+    by_last e true gone later =
+        ap (λ (es : List CoreEvent). all_parent_behind es (record P { structure = None })) (no_puts a p c done entry (first + 1) n gone)
+    by_last e false gone later = later P gone
+
+    at_entry : (here : Option Entry) → not (is_some here) && are_gone entry (first + 1) n ≡ false → Later → all_parent_behind (puts_entry a p c done first here (are_gone entry (first + 1) n) ++ rest) P ≡ record P { structure = None }
+    at_entry None left later = later P left
+    at_entry (Some e) left later = by_last e (are_gone entry (first + 1) n) refl later
 
 parent_fails : (a p c : ℕ) (done : List ℕ) (step : ForkStep) (entry : ℕ → Option Entry) (n : ℕ) (P : SpaceValue) (ends : Bool) → are_gone entry 0 n ≡ ends → all_parent_behind (puts_entries a p c done entry 0 n) (parent_behind (fail_fork a p c done step ends) P) ≡ record P { sequence = P.sequence + 1; table = table_behind step P.table; structure = None }
 parent_fails a p c done step entry n P true gone =

@@ -215,20 +215,24 @@ puts_leave a p c d done entry first (suc n) s =
 -- and with the last of it the actor is in the middle of nothing
 puts_end : (a p c : ℕ) (done : List ℕ) (entry : ℕ → Option Entry) (first n : ℕ) (s : CoreState) → are_gone entry first n ≡ false → (run s (puts_entries a p c done entry first n)).job a ≡ idle
 puts_end a p c done entry first zero s some = absurd (cc)
-puts_end a p c done entry first (suc n) s some = at_entry (entry first) some
+puts_end a p c done entry first (suc n) s some =
+    at_entry (entry first) some (λ t left. puts_end a p c done entry (first + 1) n t left)
   where
     rest : List CoreEvent
     rest = puts_entries a p c done entry (first + 1) n
 
-    by_last : (e : Entry) (ends : Bool) → are_gone entry (first + 1) n ≡ ends → (run (happens s (put_child a p c done first e ends)) rest).job a ≡ idle
-    by_last e true gone =
+    Later : Type 0
+    Later = (t : CoreState) → are_gone entry (first + 1) n ≡ false → (run t rest).job a ≡ idle
+
+    by_last : (e : Entry) (ends : Bool) → are_gone entry (first + 1) n ≡ ends → Later → (run (happens s (put_child a p c done first e ends)) rest).job a ≡ idle
+    by_last e true gone later =
         ap (λ (es : List CoreEvent). (run (happens s (put_child a p c done first e true)) es).job a) (no_puts a p c done entry (first + 1) n gone)
         ∙ put_here a idle s.job
-    by_last e false gone = puts_end a p c done entry (first + 1) n (happens s (put_child a p c done first e false)) gone
+    by_last e false gone later = later (happens s (put_child a p c done first e false)) gone
 
-    at_entry : (here : Option Entry) → not (is_some here) && are_gone entry (first + 1) n ≡ false → (run s (puts_entry a p c done first here (are_gone entry (first + 1) n) ++ rest)).job a ≡ idle
-    at_entry None left = puts_end a p c done entry (first + 1) n s left
-    at_entry (Some e) left = by_last e (are_gone entry (first + 1) n) refl
+    at_entry : (here : Option Entry) → not (is_some here) && are_gone entry (first + 1) n ≡ false → Later → (run s (puts_entry a p c done first here (are_gone entry (first + 1) n) ++ rest)).job a ≡ idle
+    at_entry None left later = later s left
+    at_entry (Some e) left later = by_last e (are_gone entry (first + 1) n) refl later
 
 -- behind it the child has failed, and the actor is in the middle of nothing
 failed_birth : (a p c : ℕ) (done : List ℕ) (step : ForkStep) (entry : ℕ → Option Entry) (s : CoreState) → (run s (fails a p c done step entry)).birth c ≡ failed

@@ -153,20 +153,24 @@ module _ (a p c : ℕ) (done : List ℕ) where
   -- with the last of them the actor is in the middle of nothing
   puts_end : (s : CoreState) (entry : ℕ → Option Entry) (first n : ℕ) → are_gone entry first n ≡ false → (run s (puts_entries a p c done entry first n)).job a ≡ idle
   puts_end s entry first zero some = absurd (cc)
-  puts_end s entry first (suc n) some = at_entry (entry first) some
+  puts_end s entry first (suc n) some =
+      at_entry (entry first) some (λ t left. puts_end t entry (first + 1) n left)
     where
       rest : List CoreEvent
       rest = puts_entries a p c done entry (first + 1) n
 
-      by_last : (e : Entry) (ends : Bool) → are_gone entry (first + 1) n ≡ ends → (run (happens s (put_child a p c done first e ends)) rest).job a ≡ idle
-      by_last e true gone =
+      Later : Type 0
+      Later = (t : CoreState) → are_gone entry (first + 1) n ≡ false → (run t rest).job a ≡ idle
+
+      by_last : (e : Entry) (ends : Bool) → are_gone entry (first + 1) n ≡ ends → Later → (run (happens s (put_child a p c done first e ends)) rest).job a ≡ idle
+      by_last e true gone later =
           ap (λ (es : List CoreEvent). (run (happens s (put_child a p c done first e true)) es).job a) (no_puts a p c done entry (first + 1) n gone)
           ∙ put_same a idle s.job
-      by_last e false gone = puts_end (happens s (put_child a p c done first e false)) entry (first + 1) n gone
+      by_last e false gone later = later (happens s (put_child a p c done first e false)) gone
 
-      at_entry : (here : Option Entry) → not (is_some here) && are_gone entry (first + 1) n ≡ false → (run s (puts_entry a p c done first here (are_gone entry (first + 1) n) ++ rest)).job a ≡ idle
-      at_entry None left = puts_end s entry (first + 1) n left
-      at_entry (Some e) left = by_last e (are_gone entry (first + 1) n) refl
+      at_entry : (here : Option Entry) → not (is_some here) && are_gone entry (first + 1) n ≡ false → Later → (run s (puts_entry a p c done first here (are_gone entry (first + 1) n) ++ rest)).job a ≡ idle
+      at_entry None left later = later s left
+      at_entry (Some e) left later = by_last e (are_gone entry (first + 1) n) refl later
 
   -- the failure of a fork: its child has no mappings, and its actor is in the middle of nothing
   record IsFailed (s t : CoreState) : Type 0 where
