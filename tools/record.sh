@@ -29,10 +29,13 @@ write_record() {
 # command left has no record, or not this checksum. A file that was changed, brought or taken away since the record was
 # written shows by a time of change that is later, its own or its folder's; only then the checksums are taken again.
 is_proved() {
-    local newer looked=$EPOCHSECONDS lines
+    local newer folder looked=$EPOCHSECONDS lines
     [[ -x $program && -r $record ]] || return 1
-    newer=$(cd "$home" && find crates.txt HANDLES crates crates/gup/out/gup -regex 'crates/[^/]*/out' -prune -o \
-        -newercm crates/gup/out/gup.sources -print -quit 2>&1) && [[ -z $newer ]] && return
+    newer=$(cd "$home" && find crates.txt HANDLES crates/gup/out/gup crates/*/{src,specs,proofs} -newercm "crates/gup/out/${record##*/}" -print -quit 2>&1)
+    for folder in "$home"/crates "$home"/crates/*/; do
+        [[ ! $folder -nt $record ]] || newer=$folder
+    done
+    [[ -n $newer ]] || return 0
     mapfile -t lines <"$record"
     [[ ${#lines[@]} == 3 && ${lines[0]} == "$(sources)" && ${lines[1]} == "$(checksum "$program")" ]] || return 1
     touch -d "@$((looked - 1))" "$record" 2>/dev/null || true # else the next run takes them again
