@@ -4,7 +4,9 @@
 out=$home/crates/gup/out
 program=$out/gup
 record=$out/gup.sources
-rt=$(type -P rt || echo /opt/rattle/bin/rt)
+
+# The kit's command.
+kit() { "$(type -P rt || echo /opt/rattle/bin/rt)" "$@"; }
 
 # One checksum of all that the program is made and proved from.
 sources() {
@@ -22,7 +24,7 @@ checksum() { sha256sum <"$1"; }
 write_record() {
     local looked=$EPOCHSECONDS
     [[ -x $program && $(sources) == "$1" ]] || return 1
-    printf '%s\n' "$1" "$(checksum "$program")" "$("$rt" version </dev/null)" >"$record" && touch -d "@$((looked - 1))" "$record"
+    printf '%s\n' "$1" "$(checksum "$program")" "$(kit version </dev/null)" >"$record" && touch -d "@$((looked - 1))" "$record"
 }
 
 # Whether the program is the very one that was proved and built from the sources that stand here now. A program that another
