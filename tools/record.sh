@@ -33,7 +33,8 @@ write_record() {
 is_proved() {
     local newer folder looked=$EPOCHSECONDS lines
     [[ -x $program && -r $record ]] || return 1
-    newer=$(cd "$home" && find crates.txt HANDLES crates/gup/out/gup crates/*/{src,specs,proofs} -newercm "crates/gup/out/${record##*/}" -print -quit 2>&1)
+    newer=$(cd "$home" && find crates.txt HANDLES crates/gup/out/gup crates/*/{src,specs,proofs} \
+        -newercm crates/gup/out/gup.sources -print -quit 2>&1)
     for folder in "$home"/crates "$home"/crates/*/; do
         [[ ! $folder -nt $record ]] || newer=$folder
     done
