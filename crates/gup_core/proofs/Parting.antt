@@ -87,6 +87,13 @@ four T a b c d a' b' c' d' first second third last h =
     let de : d ≡ d' = cc last in
     subst (λ x. T x b' c' d') ae (subst (λ x. T a x c' d') be (subst (λ x. T a b x d') ce (subst (λ x. T a b c x) de h)))
 
+-- and the same of two
+pub two : {A : Type 0} (T : A → A → Type 0) (a b a' b' : A) → Some a ≡ Some a' → Some b ≡ Some b' → T a b → T a' b'
+two T a b a' b' first second h =
+    let ae : a ≡ a' = cc first in
+    let be : b ≡ b' = cc second in
+    subst (λ x. T x b') ae (subst (λ y. T a y) be h)
+
 -- ---- one element that is replaced
 
 index_is : {A : Type 0} (xs : List A) (i : ℕ) (d : A) → i < length xs → slice_get xs i ≡ Some (get_or xs i d)
@@ -105,6 +112,14 @@ was_there xs i p x is same within = index_is xs p x within ∙ ap (λ k. Some (g
 
 pub now_there : {A : Type 0} (xs : List A) (i p : ℕ) (x : A) → i ≡ p → p < length xs → slice_get (slice_set xs i x) p ≡ Some x
 now_there xs i p x same within = ap (λ k. slice_get (slice_set xs k x) p) same ∙ set_is xs p x within
+
+-- and at another place
+pub other_there : {A : Type 0} (xs : List A) (i q : ℕ) (x : A) → (q ≡ i → ⊥) → slice_get (slice_set xs i x) q ≡ slice_get xs q
+other_there [] i q x other = refl
+other_there (y ∷ xs) zero zero x other = absurd (other refl)
+other_there (y ∷ xs) zero (suc q) x other = refl
+other_there (y ∷ xs) (suc i) zero x other = refl
+other_there (y ∷ xs) (suc i) (suc q) x other = other_there xs i q x (λ same. other (ap (λ k. suc k) same))
 
 -- what is true of the new element and the old one, and of each with itself, is true of the elements in each place
 pub kept_at : {A : Type 0} (T : A → A → Type 0) (xs : List A) (i p : ℕ) (old new : A) → old ≡ get_or xs i old → i ≡ p → p < length xs → ((x : A) → T x x) → T old new

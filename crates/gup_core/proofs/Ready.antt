@@ -24,6 +24,7 @@ use Rattle.gup_core.specs.Births.{HasFailed}
 use Rattle.gup_core.specs.Doers.{HasProcess, IsProcessOf}
 use Rattle.gup_core.specs.declared.parts.Parts.{Parts}
 use Rattle.gup_core.specs.Goes.{StandsAt, IsForkReady, IsReady, KeepsSlots}
+use Rattle.gup_core.specs.Seats.{IsSeat}
 use Rattle.gup_core.specs.Machine.{MachineValue, Shows, AreParts, IsMachine}
 use Rattle.gup_core.specs.Rest.{IsAtRest, op_of_seat}
 use Rattle.gup_core.proofs.Resting.{Stand, standing, op_there, stands_at}
@@ -52,7 +53,7 @@ unfolding page_numbers
 few_references n within = omega arith
 
 fork_ready : (m : MachineValue) (r : RunState) (a p child : ℕ) (seat : Seat) → IsStanding m.script r → Shows m r → IsAtRest m → process_of m.script a ≡ p → slice_get m.seats a ≡ Some seat → op_of_seat m a seat ≡ Some (Fork child) → r.core.birth (process_of m.script a) ≡ born
-    → IsForkReady (frames_of m.parts.frames) m.parts.spaces.items m.parts.births.items p child seat.fork
+    → IsForkReady (frames_of m.parts.frames) m.parts.spaces.items m.parts.births.items a p child seat.fork
 fork_ready m r a p child seat stands h rest own here present is_born =
     let declared : child < length m.script.processes = child_declared m.script rest.valid a seat.answered child present in
     let at : StandsFork r.core a (process_of m.script a) child (r.core.job a) (r.core.prepared a) = stands.forks a child (op_there m r a seat (Some (Fork child)) h here present) in
@@ -103,6 +104,11 @@ is_ready m a asked proc seat op stand machine rest of_asked of_a here present wa
       weighed = rest.weighed;
       yet = λ handle page n write is. rest.yet a handle page n write seat here (present ∙ ap (λ (x : Op). Some x) is);
       taken = λ pages handle page n write there is. rest.taken a handle page n write seat pages here there (present ∙ ap (λ (x : Op). Some x) is);
+      pinned = λ space handle page n write there is some.
+          let found : slice_get m.parts.spaces.items own ≡ Some space = ap (λ k. slice_get m.parts.spaces.items k) (same (subst HasProcess (sym is) tt)) ∙ there in
+          let far : seat.far ≡ (r.places a).far =
+          (subst (λ (o : Option Op). IsSeat o (r.places a) seat) (now ∙ ap (λ (x : Op). Some x) is) (h.seats a seat here)).1 in
+          sym (h.parts.spaces own space found).has_pinned ∙ at.pinned handle page n write is (subst (λ k. 0 < k) far some);
       given = λ handle is. keeps_given (handles_of m.parts.handles handle) (r.core.handle handle) (r.core.pinned handle) a (h.parts.pins handle) (given_free r.core a own handle op is born_free.1);
       actor_taken = omega (arith, actor, rest.parts.taken);
       actor_store = omega (arith, actor, rest.parts.stores);

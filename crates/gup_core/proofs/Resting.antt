@@ -98,18 +98,20 @@ copy_of s F P p page to frames parent h = (
   λ e is. h.apart p page e (parent.entry page ∙ is),
 )
 
--- what a fork has counted it can share or copy
+-- a fork that has begun holds its parent's structure lock, and what it has counted it can share or copy
 pub ready_at : (s : CoreState) (F : FramesValue) (P C : SpaceValue) (a p child : ℕ) → ShowsFrames F s → ShowsSpace p P s → ShowsSpace child C s
-    → StandsFork s a p child (s.job a) (s.prepared a) → ((f : ℕ) → s.prepared a ≡ Some f → IsPrepared s f) → IsReadyAt F (place_in s a) P C
+    → StandsFork s a p child (s.job a) (s.prepared a) → ((f : ℕ) → s.prepared a ≡ Some f → IsPrepared s f) → IsReadyAt F a (place_in s a) P C
 ready_at s F P C a p child frames parent kid stands prepares = go (s.job a) (s.prepared a) stands prepares
   where
-    go : (job : Job) (prepared : Option ℕ) → StandsFork s a p child job prepared → ((f : ℕ) → prepared ≡ Some f → IsPrepared s f) → IsReadyAt F (fork_place job prepared) P C
+    go : (job : Job) (prepared : Option ℕ) → StandsFork s a p child job prepared → ((f : ℕ) → prepared ≡ Some f → IsPrepared s f) → IsReadyAt F a (fork_place job prepared) P C
     go idle prepared h kept_so = tt
-    go (forking q c done between) prepared h kept_so = tt
-    go (forking q c done (counted page)) prepared h kept_so = counted_in s P C a p child q c done page parent kid h.0 h.1
-    go (forking q c done (copying page word)) None h kept_so = counted_in s P C a p child q c done page parent kid h.0 h.1
+    go (forking q c done between) prepared h kept_so = sym parent.structure ∙ h.locked
+    go (forking q c done (counted page)) prepared h kept_so =
+        (sym parent.structure ∙ h.0.locked, counted_in s P C a p child q c done page parent kid h.0 h.1)
+    go (forking q c done (copying page word)) None h kept_so =
+        (sym parent.structure ∙ h.0.locked, counted_in s P C a p child q c done page parent kid h.0 h.1)
     go (forking q c done (copying page word)) (Some to) h kept_so =
-        (counted_in s P C a p child q c done page parent kid h.0 h.1, copy_of s F P p page to frames parent (kept_so to refl), h.2)
+        (sym parent.structure ∙ h.0.locked, counted_in s P C a p child q c done page parent kid h.0 h.1, copy_of s F P p page to frames parent (kept_so to refl), h.2)
     go (forking q c done (lowered page)) prepared h kept_so = absurd h
     go (forking q c done (cleared page)) prepared h kept_so = absurd h
     go (forking q c done failing) prepared h kept_so = absurd h
@@ -210,7 +212,7 @@ at_rest m valid is there stand =
       unlocked = λ p a space seat here sits single.
           idle_unlocked r.core (space_of space) p a h.sound (h.idle_jobs a (subst IsNoFork (sym (op_there m r a seat (op_of_seat m a seat) shown sits refl)) single)) (parts.spaces p space here);
       forks = λ a child seat parent kid sits op parent_is kid_is.
-          subst (λ (k : ForkPlace). IsReadyAt (frames_of m.parts.frames) k (space_of parent) (space_of kid)) (sym (shown.forks a seat sits))
+          subst (λ (k : ForkPlace). IsReadyAt (frames_of m.parts.frames) a k (space_of parent) (space_of kid)) (sym (shown.forks a seat sits))
           (ready_at r.core (frames_of m.parts.frames) (space_of parent) (space_of kid) a (process_of m.script a) child parts.frames
           (parts.spaces (process_of m.script a) parent parent_is) (parts.spaces child kid kid_is)
           (h.forks a child (op_there m r a seat (Some (Fork child)) shown sits op)) (h.prepared a));

@@ -98,13 +98,14 @@ handle_change old new old_store new_store =
       new_store = new_store;
     }
 
--- What a turn of a fork of process p into this child needs: they are two processes, and what is true between two turns.
-pub record IsForkReady (frames : FramesValue) (spaces : List SpaceParts) (births : List Birth) (p child : ℕ) (fork : ForkPlace) : Type 0 where
+-- What a turn of actor a's fork of process p into this child needs: they are two processes, and what is true between two
+-- turns.
+pub record IsForkReady (frames : FramesValue) (spaces : List SpaceParts) (births : List Birth) (a p child : ℕ) (fork : ForkPlace) : Type 0 where
   pub apart : p ≡ child → ⊥
   pub there : child < length spaces
   pub declared : child < length births
   pub few_forks : EachSpace (λ space. space.sequence < 2 ^ 40) spaces
-  pub stands : (parent kid : SpaceParts) → slice_get spaces p ≡ Some parent → slice_get spaces child ≡ Some kid → IsReadyAt frames (place_of fork) (space_of parent) (space_of kid)
+  pub stands : (parent kid : SpaceParts) → slice_get spaces p ≡ Some parent → slice_get spaces child ≡ Some kid → IsReadyAt frames a (place_of fork) (space_of parent) (space_of kid)
 
 -- each store has as many slots as before
 abbrev pub KeepsSlots : (old new : List (Option (List ℕ))) → Type 0
@@ -112,8 +113,8 @@ KeepsSlots old new =
     (a : ℕ) (was now : Option (List ℕ)) → slice_get old a ≡ Some was → slice_get new a ≡ Some now → slots_in now ≡ slots_in was
 
 -- What a turn of an operation needs that has gone so far, and whose fork stands there: its numbers are in range, it is of
--- process p where it is of one, each process is tidy, counts are small, nobody holds a lock that it needs, and pins have
--- the weight of their pages.
+-- process p where it is of one, each process is tidy, counts are small, nobody holds a lock that it needs, pins have
+-- the weight of their pages, and behind the first page of a pin the process has pinned.
 pub record IsReady (parts : Parts) (a p : ℕ) (op : Op) (gone : ℕ) (place : ForkPlace) : Type 0 where
   pub there : HasProcess op → p < length parts.spaces.items
   pub tidy : EachSpace (IsTidy (frames_of parts.frames)) parts.spaces.items
@@ -121,10 +122,11 @@ pub record IsReady (parts : Parts) (a p : ℕ) (op : Op) (gone : ℕ) (place : F
   pub table : (space : SpaceParts) → slice_get parts.spaces.items p ≡ Some space → IsNoFork (Some op) → needs_table (space_of space) op ≡ true → (space_of space).table ≡ None
   pub in_range : IsOp op
   pub far : HasFar op gone
-  pub fork : (child : ℕ) → op ≡ Fork child → IsForkReady (frames_of parts.frames) parts.spaces.items parts.births.items p child place
+  pub fork : (child : ℕ) → op ≡ Fork child → IsForkReady (frames_of parts.frames) parts.spaces.items parts.births.items a p child place
   pub weighed : (h : ℕ) → IsWeighed (frames_of parts.frames) (handles_of parts.handles h)
   pub yet : (handle page n : ℕ) (write : Bool) → op ≡ Pin handle page n write → handles_of parts.handles handle ≡ unmade
   pub taken : (pages : ArrayVec ℕ) (handle page n : ℕ) (write : Bool) → slice_get parts.taken.items a ≡ Some pages → op ≡ Pin handle page n write → length pages.items ≡ gone
+  pub pinned : (space : SpaceParts) (handle page n : ℕ) (write : Bool) → slice_get parts.spaces.items p ≡ Some space → op ≡ Pin handle page n write → 0 < gone → (space_of space).has_pinned ≡ true
   pub given : (handle : ℕ) → op ≡ Take handle → IsKeptFor (handles_of parts.handles handle) a
   pub actor_taken : a < length parts.taken.items
   pub actor_store : a < length parts.stores.items

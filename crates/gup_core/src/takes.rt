@@ -141,6 +141,8 @@ fn take_pin(
     requires unmade { handles_of parts.old.handles handle ≡ unmade }
     requires taken { (pages : ArrayVecValue ℕ) → slice_get parts.old.taken.items actor ≡ Some pages
         → length pages.items ≡ far }
+    requires pinned { (space : SpaceParts) → slice_get parts.old.spaces.items proc ≡ Some space → 0 < far
+        → (space_of space).has_pinned ≡ true }
     requires within { far < n }
     requires most { n ≤ 16 }
     requires range { page + n ≤ 2 ^ 35 }
@@ -260,7 +262,8 @@ fn take_fork(
     requires there { proc < length parts.old.spaces.items }
     requires tidy { EachSpace (IsTidy (frames_of parts.old.frames)) parts.old.spaces.items }
     requires few_counts { (f : ℕ) → (frames_of parts.old.frames).count f < 2 ^ 40 }
-    requires fork { IsForkReady (frames_of parts.old.frames) parts.old.spaces.items parts.old.births.items proc child place }
+    requires fork { IsForkReady (frames_of parts.old.frames) parts.old.spaces.items parts.old.births.items
+        actor proc child place }
     ensures spaces { length parts.new.spaces.items ≡ length parts.old.spaces.items }
     ensures births { length parts.new.births.items ≡ length parts.old.births.items }
     ensures taken { parts.new.taken ≡ parts.old.taken }
@@ -308,7 +311,7 @@ fn fork_two(
     requires few_counts { (f : ℕ) → (frames_of frames.old).count f < 2 ^ 40 }
     requires place { (parent kid : SpaceParts)
         → slice_get spaces.old proc ≡ Some parent → slice_get spaces.old child ≡ Some kid
-        → IsReadyAt (frames_of frames.old) (place_of place) (space_of parent) (space_of kid) }
+        → IsReadyAt (frames_of frames.old) actor (place_of place) (space_of parent) (space_of kid) }
     ensures many { length spaces.new ≡ length spaces.old }
     ensures others { (q : ℕ) → (q ≡ proc → ⊥) → (q ≡ child → ⊥) → slice_get spaces.new q ≡ slice_get spaces.old q }
     ensures turn { (old_parent new_parent old_child new_child : SpaceParts)

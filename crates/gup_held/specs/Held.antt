@@ -85,13 +85,14 @@ pub record IsDone (old new : HandlesValue) (handle : ℕ) (value : HandleValue) 
 
 -- ---- a turn and a state
 
--- the same of such an operation
+-- From this state such a turn leads to all that as it is behind the change, and says this.
 pub record LeadsHandle (c : HandleChange) (a : ℕ) (s : CoreState) (turn : Taken) (whats : List What) : Type 0 where
   pub says : turn.whats ≡ whats
   pub frames : ShowsFrames c.new_frames (run s turn.events)
   pub pins : ShowsPins c.new_pins (run s turn.events)
   pub store : ShowsStore a c.new_store (run s turn.events)
 
+-- so it is in whatever state all that stands
 abbrev pub IsHandleTurn : HandleChange → (a : ℕ) → (CoreState → Taken) → List What → Type 0
 IsHandleTurn c a turn whats =
     (s : CoreState) → ShowsFrames c.old_frames s → ShowsPins c.old_pins s → ShowsStore a c.old_store s

@@ -50,6 +50,11 @@ take_pin-requires-clause-taken c pages here =
     let ready = (c.requires.ready c.unwrap.result (process_is c.args.proc c.unwrap.result c.unwrap.ensures)).1 in
     ready.taken pages c.in-Pin.handle c.in-Pin.page c.in-Pin.n c.in-Pin.write here c.in-Pin.is
 
+pub take_pin-requires-clause-pinned : goal.take_pin-requires-clause-pinned
+take_pin-requires-clause-pinned c space here some =
+    let ready = (c.requires.ready c.unwrap.result (process_is c.args.proc c.unwrap.result c.unwrap.ensures)).1 in
+    ready.pinned space c.in-Pin.handle c.in-Pin.page c.in-Pin.n c.in-Pin.write here c.in-Pin.is some
+
 pub take_pin-requires-clause-within : goal.take_pin-requires-clause-within
 take_pin-requires-clause-within c =
     let ready = (c.requires.ready c.unwrap.result (process_is c.args.proc c.unwrap.result c.unwrap.ensures)).1 in
@@ -95,7 +100,7 @@ returns-in-Unpin-clause-turn c p slots place of_p has =
     let turn =
     handled old new a.actor p slots a.far (Unpin h) place (whats_of c.unpin.result) tt refl refl refl
     (λ s k. unpin_is_handling s a.actor h)
-    (λ s k shown stands far_is. leads_part old new a.actor s (op_turn s a.actor p slots k (Unpin h)) (whats_of c.unpin.result) refl (unpin_leaves_stores s a.actor h) shown (c.unpin.ensures s shown.frames shown.pins tt)) in
+    (λ s k shown stands far_is. leads_part old new a.actor s (op_turn s a.actor p slots k (Unpin h)) (whats_of c.unpin.result) refl (unpin_leaves_stores s a.actor h) shown (c.unpin.ensures.turn s shown.frames shown.pins tt)) in
     subst (λ (op : Op). IsTurnOfAll old new a.actor p slots a.far op place (whats_of c.unpin.result) place) (sym c.in-Unpin.is) turn
 
 pub returns-in-Give-clause-turn : goal.returns-in-Give-clause-turn
@@ -108,7 +113,7 @@ returns-in-Give-clause-turn c p slots place of_p has =
     let turn =
     handled old new a.actor p slots a.far (Give h to) place (whats_of c.give.result) tt refl refl refl
     (λ s k. give_is_handling s a.actor h to)
-    (λ s k shown stands far_is. leads_part old new a.actor s (op_turn s a.actor p slots k (Give h to)) (whats_of c.give.result) refl (give_leaves_stores s a.actor h to) shown (c.give.ensures old.frames s shown.frames shown.pins tt)) in
+    (λ s k shown stands far_is. leads_part old new a.actor s (op_turn s a.actor p slots k (Give h to)) (whats_of c.give.result) refl (give_leaves_stores s a.actor h to) shown (c.give.ensures.turn old.frames s shown.frames shown.pins tt)) in
     subst (λ (op : Op). IsTurnOfAll old new a.actor p slots a.far op place (whats_of c.give.result) place) (sym c.in-Give.is) turn
 
 pub take_over-requires : goal.take_over-requires
@@ -125,7 +130,7 @@ returns-in-Take-clause-turn c p slots place of_p has =
     let turn =
     handled old new a.actor p slots a.far (Take h) place (whats_of c.take_over.result) tt refl refl refl
     (λ s k. take_is_handling a.actor h)
-    (λ s k shown stands far_is. leads_part old new a.actor s (op_turn s a.actor p slots k (Take h)) (whats_of c.take_over.result) refl (take_leaves_stores s a.actor h) shown (c.take_over.ensures old.frames s shown.frames shown.pins tt)) in
+    (λ s k shown stands far_is. leads_part old new a.actor s (op_turn s a.actor p slots k (Take h)) (whats_of c.take_over.result) refl (take_leaves_stores s a.actor h) shown (c.take_over.ensures.turn old.frames s shown.frames shown.pins tt)) in
     subst (λ (op : Op). IsTurnOfAll old new a.actor p slots a.far op place (whats_of c.take_over.result) place) (sym c.in-Take.is) turn
 
 -- ---- a transfer
