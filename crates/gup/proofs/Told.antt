@@ -8,8 +8,13 @@ use Rattle.gup_script.specs.Script.{ScriptValue}
 use Rattle.gup_reader.specs.Grammar.{Accepts}
 use Rattle.gup_reader.specs.Fault.{HasFault}
 use Rattle.gup_reader.specs.declared.refusal.ScriptFault.{ScriptFault}
+use Rattle.gup_io.specs.Faults.{HasCause, EndsInFault}
 use Rattle.gup_io.specs.Transfers.{Loses}
 use Rattle.gup.specs.Report.{OfScript, AreScript, IsScriptOf, IsRefusedFor}
+
+-- a fault that ended the calls was counted
+pub has_cause : (old new : ℕ) (faulted : Bool) → EndsInFault old new faulted → HasCause old new
+has_cause old new faulted ends less = omega (arith, ends.0, less)
 
 -- a front that is shorter than what was asked for is all
 whole : (n : ℕ) (v bytes : List ℕ) → length v < n → v ≡ take n bytes → v ≡ bytes

@@ -5,7 +5,8 @@ use Rattle.gup_turns.specs.Cost.{operations}
 use Rattle.gup_turns.specs.Run.{RunState, IsCoreRun}
 use Rattle.gup_sched.specs.Ran.{SaysStuck}
 use Rattle.gup_lines.specs.Text.{outcomes_of}
-use Rattle.gup_io.specs.Faults.{HasCause}
+use Rattle.gup_io.specs.Faults.{EndsInFault}
+use Rattle.gup_io.specs.Transfers.{AppendsPart}
 use Rattle.gup_follows.specs.Place.{starts_born}
 use Rattle.gup_follows.specs.Plain.{IsPlain}
 use Rattle.gup_follows.specs.Follows.{Follows}
@@ -79,11 +80,11 @@ abbrev pub IsRefusedFor : Option (List ℕ) → ScriptFault → Type 0
 IsRefusedFor None fault = Unit {0}
 IsRefusedFor (Some bytes) fault = HasFault bytes fault
 
--- why there is no script: a read failed, the bytes are none, or memory ran out
-abbrev pub IsUnreadFor : Option (List ℕ) → (faults faults_after : ℕ) → Unread → Type 0
-IsUnreadFor told faults faults_after Failed = HasCause faults faults_after
-IsUnreadFor told faults faults_after (Fault fault) = IsRefusedFor told fault
-IsUnreadFor told faults faults_after NoMemory = Unit {0}
+-- why there is no script: a read failed, and none was made behind it, the bytes are none, or memory ran out
+abbrev pub IsUnreadFor : Option (List ℕ) → (faults faults_after : ℕ) → (faulted_after : Bool) → Unread → Type 0
+IsUnreadFor told faults faults_after faulted_after Failed = EndsInFault faults faults_after faulted_after
+IsUnreadFor told faults faults_after faulted_after (Fault fault) = IsRefusedFor told fault
+IsUnreadFor told faults faults_after faulted_after NoMemory = Unit {0}
 
 -- What is said of a run of the script that was read. At its end an actor has operations left and waits, or each has
 -- finished, and then each operation has one answer. The text is that of the run.
@@ -99,6 +100,11 @@ pub record IsRunOf (script : ScriptValue) (stuck : Bool) (notes : List NoteValue
   pub waits : AreWaiting script end
   pub lines : stuck ≡ false → length (outcomes_of notes) ≡ operations script
   pub text_is : text ≡ run_text script notes end
+
+-- the script has run to this journal, and a sink has taken a front of its text, and not all of it
+abbrev pub IsPartlyTold : ScriptValue → List NoteValue → (taken taken_after : Option (List ℕ)) → Type 0
+IsPartlyTold script notes taken taken_after =
+    (stuck : Bool) × (text : List ℕ) × IsRunOf script stuck notes text × AppendsPart taken taken_after text
 
 -- which of the statuses a script has that is run without a fault, and what is so then
 abbrev pub IsEnd : ScriptValue → (status : ℕ) → List NoteValue → Type 0

@@ -1,6 +1,9 @@
 //! `gup`: how Linux pins a program's memory, as a verified model that runs.
 #![tactic(auto)]
 
+ghost use Rattle.std.specs.Prelude.{◌≡◌};
+ghost use Rattle.std.specs.Process.{exit_status};
+
 #[cfg(test)]
 mod examples;
 #[cfg(test)]
@@ -12,7 +15,7 @@ use gup_io::{FromStd, ToStd};
 use std::env::Env;
 use std::process::ExitCode;
 use std::{env, io};
-use top::gup;
+use top::{Report, gup};
 
 /// The words behind the program's name.
 fn words(rt: &(impl Env + AllocGlobal)) -> io::Result<Vec<String>> {
@@ -23,6 +26,13 @@ fn words(rt: &(impl Env + AllocGlobal)) -> io::Result<Vec<String>> {
     Ok(words)
 }
 
+/// What the process leaves with: the report's status.
+fn exit_code(report: &Report) -> ExitCode
+    ensures { exit_status result ≡ report.now.status }
+{
+    ExitCode::from(report.status)
+}
+
 fn main(rt: HostRuntime) -> ExitCode {
     let Ok(words) = words(&rt) else {
         return ExitCode::from(7);
@@ -30,5 +40,5 @@ fn main(rt: HostRuntime) -> ExitCode {
     let mut source = FromStd::new(rt.stdin());
     let mut sink = ToStd::new(rt.stdout());
     let report = gup(rt.alloc(), words.as_slice(), &mut source, &mut sink);
-    ExitCode::from(report.status)
+    exit_code(&report)
 }

@@ -229,6 +229,7 @@ struct ByteSource {
     reads: u64,
     fails: u64,
     faults: u64,
+    faulted: bool,
 }
 
 impl Source for ByteSource {
@@ -236,9 +237,12 @@ impl Source for ByteSource {
 
     ghost faults = { λ s. s.faults };
 
+    ghost faulted = { λ s. s.faulted };
+
     fn read(&mut self, buf: &mut [u8]) -> Result<usize, Failed> {
         self.reads = self.reads.saturating_add(1);
-        if self.reads == self.fails {
+        self.faulted = self.reads == self.fails;
+        if self.faulted {
             self.faults = self.faults.saturating_add(1);
             return Err(Failed);
         }
@@ -258,6 +262,7 @@ struct ByteSink {
     writes: u64,
     fails: u64,
     faults: u64,
+    faulted: bool,
 }
 
 impl Sink for ByteSink {
@@ -265,12 +270,16 @@ impl Sink for ByteSink {
 
     ghost faults = { λ s. s.faults };
 
+    ghost faulted = { λ s. s.faulted };
+
     fn write(&mut self, piece: &[u8]) -> Result<usize, Failed> {
         self.writes = self.writes.saturating_add(1);
         if self.writes == self.fails || self.bytes.push(piece[0]).is_err() {
             self.faults = self.faults.saturating_add(1);
+            self.faulted = true;
             return Err(Failed);
         }
+        self.faulted = false;
         Ok(1)
     }
 }
@@ -411,12 +420,14 @@ fn expect_faults(
         reads: 0,
         fails: read,
         faults: 0,
+        faulted: false,
     };
     let mut sink = ByteSink {
         bytes: Vec::new(alloc),
         writes: 0,
         fails: write,
         faults: 0,
+        faulted: false,
     };
     let report = gup(alloc, words.as_slice(), &mut source, &mut sink);
     assert_eq!(rt; report.status, status, "read {read}, write {write}");

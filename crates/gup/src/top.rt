@@ -2,7 +2,7 @@
 ghost use Rattle.std.specs.Prelude.{◌≡◌, ℕ, ◌⊎◌, List, [], None, Some, IsSome, IfSome, IfOk, OnOk, IfErr, Err, IsTrue, Bool, true, false, if◌then◌else◌, ◌↔◌, map, codes, string_bytes, length, take, ◌+◌};
 ghost use Rattle.std.specs.Io.KnownBytes.{Appends};
 ghost use Rattle.gup_io.specs.Transfers.{Loses, AppendsPart};
-ghost use Rattle.gup_io.specs.Faults.{HasCause};
+ghost use Rattle.gup_io.specs.Faults.{HasCause, EndsInFault};
 ghost use Rattle.gup_script.specs.Script.{ScriptValue};
 ghost use Rattle.gup_follows.specs.Place.{starts_born};
 ghost use Rattle.gup_follows.specs.Plain.{IsPlain};
@@ -14,7 +14,7 @@ ghost use Rattle.gup_turns.specs.Run.{RunState, IsCoreRun};
 ghost use Rattle.gup_lines.specs.Text.{text_of, outcomes_of};
 ghost use Rattle.gup.specs.Cause.{HasCauses};
 ghost use Rattle.gup.specs.Stuck.{IsFinishedRun, IsStuckRun, run_text};
-ghost use Rattle.gup.specs.Report.{IsRun, IsStatus, HasRun, OfScript, AreScript, IsRunOf, IsEnd, IsScriptOf, IsUnreadFor, IsRefusedFor, IsReadThrough, IfFault, usage, refusal_text};
+ghost use Rattle.gup.specs.Report.{IsRun, IsStatus, HasRun, OfScript, AreScript, IsRunOf, IsPartlyTold, IsEnd, IsScriptOf, IsUnreadFor, IsRefusedFor, IsReadThrough, IfFault, usage, refusal_text};
 
 use crate::text::{journal_text, push_stuck_lines, refusal_line};
 use gup_base::NoMemory;
@@ -87,7 +87,7 @@ enum Unread {
 fn read<S: Source>(alloc: Global, source: &mut S) -> Result<Script, Unread>
     ensures script { IfOk result (λ script. IsScriptOf (S.remaining source.old) script) }
     ensures unread { IfErr result
-        (λ why. IsUnreadFor (S.remaining source.old) (S.faults source.old) (S.faults source.new) why) }
+        (λ why. IsUnreadFor (S.remaining source.old) (S.faults source.old) (S.faults source.new) (S.faulted source.new) why) }
     ensures reading { Loses 0 1048577 (S.remaining source.old) (S.remaining source.new) }
     ensures ended { OnOk result (IsReadThrough (S.remaining source.old) (S.remaining source.new)) }
     ensures refused { IfErr result
@@ -145,7 +145,8 @@ fn refuse<K: Sink>(alloc: Global, sink: &mut K, fault: ScriptFault) -> Report
     ensures journal { result.journal.notes ≡ [] }
     ensures text { result.status ≡ 3 → Appends (K.taken sink.old) (K.taken sink.new) (refusal_text fault) }
     ensures part { result.status ≡ 6 → AppendsPart (K.taken sink.old) (K.taken sink.new) (refusal_text fault) }
-    ensures write_fault { result.status ≡ 6 → HasCause (K.faults sink.old) (K.faults sink.new) }
+    ensures write_fault { result.status ≡ 6
+        → EndsInFault (K.faults sink.old) (K.faults sink.new) (K.faulted sink.new) }
     ensures uncounted { (result.status ≡ 6 → ⊥) → K.faults sink.new ≡ K.faults sink.old }
     ensures unwritten { result.status ≡ 7 → sink.new ≡ sink.old }
 {
@@ -168,9 +169,10 @@ fn run_and_write<K: Sink>(alloc: Global, sink: &mut K, script: &Script) -> Repor
         × Appends (K.taken sink.old) (K.taken sink.new) text }
     ensures stuck { result.status ≡ 4 → (text : List ℕ) × IsRunOf script.now true result.journal.notes text
         × Appends (K.taken sink.old) (K.taken sink.new) text }
-    ensures part { result.status ≡ 6 → (stuck : Bool) × (text : List ℕ)
-        × IsRunOf script.now stuck result.journal.notes text × AppendsPart (K.taken sink.old) (K.taken sink.new) text }
-    ensures write_fault { result.status ≡ 6 → HasCause (K.faults sink.old) (K.faults sink.new) }
+    ensures part { result.status ≡ 6
+        → IsPartlyTold script.now result.journal.notes (K.taken sink.old) (K.taken sink.new) }
+    ensures write_fault { result.status ≡ 6
+        → EndsInFault (K.faults sink.old) (K.faults sink.new) (K.faulted sink.new) }
     ensures uncounted { (result.status ≡ 6 → ⊥) → K.faults sink.new ≡ K.faults sink.old }
     ensures unwritten { result.status ≡ 7 → sink.new ≡ sink.old }
     ensures unrun { result.status ≡ 7 → result.journal.notes ≡ [] }
@@ -204,7 +206,8 @@ fn show_usage<K: Sink>(alloc: Global, sink: &mut K) -> Report
     ensures journal { result.journal.notes ≡ [] }
     ensures text { result.status ≡ 2 → Appends (K.taken sink.old) (K.taken sink.new) usage }
     ensures part { result.status ≡ 6 → AppendsPart (K.taken sink.old) (K.taken sink.new) usage }
-    ensures write_fault { result.status ≡ 6 → HasCause (K.faults sink.old) (K.faults sink.new) }
+    ensures write_fault { result.status ≡ 6
+        → EndsInFault (K.faults sink.old) (K.faults sink.new) (K.faulted sink.new) }
     ensures uncounted { (result.status ≡ 6 → ⊥) → K.faults sink.new ≡ K.faults sink.old }
 {
     let status = if write_all(sink, b"usage: gup COMMAND\n").is_ok() {
@@ -273,6 +276,7 @@ pub fn gup<S: Source, K: Sink>(
     ensures no_command { (IsRun (map string_bytes words.now) → ⊥) → (result.status ≡ 2) ⊎ (result.status ≡ 6) }
     ensures unread { (IsRun (map string_bytes words.now) → ⊥) → source.new ≡ source.old }
     ensures usage_text { result.status ≡ 2 → Appends (K.taken sink.old) (K.taken sink.new) usage }
+    ensures usage_unrun { (IsRun (map string_bytes words.now) → ⊥) → (result.journal.notes ≡ []) × (result.refusal ≡ None) }
 
     // Status 3 comes only where the bytes are no script; where they are one and it is not refused, see above.
     ensures refused { result.status ≡ 3 → OfScript (S.remaining source.old) (λ script. ⊥) }
@@ -281,25 +285,31 @@ pub fn gup<S: Source, K: Sink>(
     ensures refusal_text { result.status ≡ 3 → IfSome result.refusal
         (λ fault. Appends (K.taken sink.old) (K.taken sink.new) (refusal_text fault)) }
 
-    // Status 5 comes exactly where a read failed, and then nothing is written. The source is read to its end, to its
-    // first fault, or until one byte more than a script may have was given.
-    ensures read_fault { result.status ≡ 5 → HasCause (S.faults source.old) (S.faults source.new) }
+    // Status 5 comes exactly where a read failed, and then nothing is written. One read failed, and it was the last: the
+    // source is read to its end, to its first fault, or until one byte more than a script may have was given.
+    ensures read_fault { result.status ≡ 5
+        → EndsInFault (S.faults source.old) (S.faults source.new) (S.faulted source.new) }
     ensures no_read_fault { (result.status ≡ 5 → ⊥) → S.faults source.new ≡ S.faults source.old }
     ensures reading { Loses 0 1048577 (S.remaining source.old) (S.remaining source.new) }
     ensures read_through { IsRun (map string_bytes words.now) → (result.status ≡ 5 → ⊥) → (result.status ≡ 7 → ⊥)
         → IsReadThrough (S.remaining source.old) (S.remaining source.new) }
     ensures unwritten { (result.status ≡ 5) ⊎ (result.status ≡ 7) → sink.new ≡ sink.old }
 
-    // Status 6 comes exactly where a write failed, in place of 0, 2, 3 and 4, and what was taken is a front of the text.
-    ensures write_fault { result.status ≡ 6 → HasCause (K.faults sink.old) (K.faults sink.new) }
+    // Status 6 comes exactly where a write failed, in place of 0, 2, 3 and 4. One write failed, and it was the last, and
+    // what was taken is a front of the text: the usage, that of a refusal, which is reported, or that of a run of the
+    // script that was read.
+    ensures write_fault { result.status ≡ 6
+        → EndsInFault (K.faults sink.old) (K.faults sink.new) (K.faulted sink.new) }
     ensures no_write_fault { (result.status ≡ 6 → ⊥) → K.faults sink.new ≡ K.faults sink.old }
     ensures usage_part { result.status ≡ 6 → (IsRun (map string_bytes words.now) → ⊥)
         → AppendsPart (K.taken sink.old) (K.taken sink.new) usage }
     ensures refusal_part { result.status ≡ 6 → IfSome result.refusal
         (λ fault. AppendsPart (K.taken sink.old) (K.taken sink.new) (refusal_text fault)) }
     ensures text_part { result.status ≡ 6 → IsRun (map string_bytes words.now) → OfScript (S.remaining source.old)
-        (λ script. (stuck : Bool) × (text : List ℕ) × IsRunOf script stuck result.journal.notes text
-        × AppendsPart (K.taken sink.old) (K.taken sink.new) text) }
+        (λ script. IsPartlyTold script result.journal.notes (K.taken sink.old) (K.taken sink.new)) }
+    ensures refused_or_ran { result.status ≡ 6 → IsRun (map string_bytes words.now)
+        → IsSome result.refusal ⊎ ((script : ScriptValue) × IsScriptOf (S.remaining source.old) script
+        × IsPartlyTold script result.journal.notes (K.taken sink.old) (K.taken sink.new)) }
 
     // A refusal is there exactly where a script was refused, and a journal only where one ran.
     ensures no_refusal { HasRun result.status ⊎ (result.status ≡ 2) ⊎ (result.status ≡ 5) → result.refusal ≡ None }

@@ -1,5 +1,5 @@
 -- Counts of what failed. A count is a `u64` that stops at its last value.
-use Rattle.std.specs.Prelude.{◌≡◌, ℕ, ◌+◌, ◌-◌, ◌^◌, ◌<◌, min}
+use Rattle.std.specs.Prelude.{◌≡◌, ℕ, ◌+◌, ◌-◌, ◌^◌, ◌<◌, min, Bool, true}
 use Rattle.gup_io.specs.declared.source.ReadToEnd.{ReadToEnd}
 use Rattle.gup_io.specs.declared.source.ReadToEnd.TheVariants.{Failed, NoMemory}
 
@@ -11,7 +11,12 @@ counted n = min (n + 1) (2 ^ 64 - 1)
 abbrev pub HasCause : ℕ → ℕ → Type 0
 HasCause old new = old < 2 ^ 64 - 1 → old < new
 
--- what an error of reading to the end says of the source's count: a failed read was counted, want of memory was not
-abbrev pub IsCauseOf : ReadToEnd → ℕ → ℕ → Type 0
-IsCauseOf Failed old new = HasCause old new
-IsCauseOf NoMemory old new = new ≡ old
+-- of a row of calls one failed, and it was the last
+abbrev pub EndsInFault : (faults faults_after : ℕ) → (faulted_after : Bool) → Type 0
+EndsInFault faults faults_after faulted_after = (faults_after ≡ counted faults) × (faulted_after ≡ true)
+
+-- What an error of reading to the end says of the reads: one failed, and it was the last, or none did, and memory ran
+-- out.
+abbrev pub IsCauseOf : ReadToEnd → (faults faults_after : ℕ) → (faulted_after : Bool) → Type 0
+IsCauseOf Failed faults faults_after faulted_after = EndsInFault faults faults_after faulted_after
+IsCauseOf NoMemory faults faults_after faulted_after = faults_after ≡ faults

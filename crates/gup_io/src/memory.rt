@@ -1,7 +1,7 @@
 //! Sources and a sink in memory. They tell their bytes, and none of their calls takes memory.
-ghost use Rattle.std.specs.Prelude.{◌≡◌, ℕ, ◌+◌, ◌-◌, ◌^◌, ◌<◌, ◌≤◌, ◌↔◌, ◌⊎◌, [], ◌++◌, Ok, Some, length, take, drop, min, IsTrue, IsOk, IsErr, IfOk, OnOk, OnErr, Contains};
+ghost use Rattle.std.specs.Prelude.{◌≡◌, ℕ, ◌+◌, ◌-◌, ◌^◌, ◌<◌, ◌≤◌, ◌↔◌, ◌⊎◌, [], ◌++◌, true, false, Ok, Some, length, take, drop, min, IsTrue, IsOk, IsErr, IfOk, OnOk, OnErr, Contains};
 ghost use Rattle.std.specs.Io.KnownBytes.{Appends, Consumes, Keeps};
-ghost use Rattle.gup_io.specs.Faults.{counted, HasCause};
+ghost use Rattle.gup_io.specs.Faults.{counted};
 
 use crate::{Failed, Sink, Source};
 use gup_base::NoMemory;
@@ -30,7 +30,8 @@ fn is_next_in(fails: &[u32], calls: u64) -> bool
 }
 
 /// A source in memory, whose reads fail at chosen calls. A contract sees the bytes left, how many reads there
-/// were (a count that stops at the last value of a `u64`), which fail, and how many have failed.
+/// were (a count that stops at the last value of a `u64`), which fail, how many have failed, and whether the last one
+/// did.
 #[derive(Debug, Drop)]
 pub struct MemSource {
     bytes: Vec<u8>,
@@ -38,6 +39,7 @@ pub struct MemSource {
     calls: u64,
     fails: Vec<u32>,
     faults: u64,
+    faulted: bool,
 }
 
 impl Model for MemSource {
@@ -46,7 +48,7 @@ impl Model for MemSource {
 
     ghost Value = { MemSourceValue };
 
-    ghost view = { λ s. record { bytes = drop s.at s.bytes.items; calls = s.calls; fails = s.fails.items; faults = s.faults } };
+    ghost view = { λ s. record { bytes = drop s.at s.bytes.items; calls = s.calls; fails = s.fails.items; faults = s.faults; faulted = s.faulted } };
 
     ghost invariant = { λ s. (s.at ≤ vec_len s.bytes) × (s.faults ≤ s.calls) };
 }
@@ -54,7 +56,7 @@ impl Model for MemSource {
 impl MemSource {
     /// A source of these bytes. Its read number k, from 1, fails exactly where k stands in `fails`.
     pub fn new(bytes: Vec<u8>, fails: Vec<u32>) -> MemSource
-        ensures { result ≡ record { bytes = bytes.items; calls = 0; fails = fails.items; faults = 0 } }
+        ensures { result ≡ record { bytes = bytes.items; calls = 0; fails = fails.items; faults = 0; faulted = false } }
     {
         MemSource {
             bytes,
@@ -62,6 +64,7 @@ impl MemSource {
             calls: 0,
             fails,
             faults: 0,
+            faulted: false,
         }
     }
 }
@@ -71,6 +74,8 @@ impl Source for MemSource {
 
     ghost faults = { λ s. s.faults };
 
+    ghost faulted = { λ s. s.faulted };
+
     fn read(&mut self, buf: &mut [u8]) -> Result<usize, Failed>
         requires { 0 < length buf.old }
 
@@ -79,9 +84,9 @@ impl Source for MemSource {
         ensures amount { IfOk result (λ n. n ≡ min (length buf.old) (length self.old.bytes)) }
         ensures front { IfOk result (λ n. buf.new ≡ take n self.old.bytes ++ drop n buf.old) }
         ensures ok { IfOk result (λ n. self.new
-            ≡ record self.old { bytes = drop n self.old.bytes; calls = counted self.old.calls }) }
+            ≡ record self.old { bytes = drop n self.old.bytes; calls = counted self.old.calls; faulted = false }) }
         ensures err { OnErr result (self.new
-            ≡ record self.old { calls = counted self.old.calls; faults = self.old.faults + 1 }) }
+            ≡ record self.old { calls = counted self.old.calls; faults = self.old.faults + 1; faulted = true }) }
         ensures err_buf { OnErr result (buf.new ≡ buf.old) }
 
         // What any source says.
@@ -90,17 +95,21 @@ impl Source for MemSource {
         ensures end { IfOk result (λ n. (n ≡ 0) ↔ (self.old.bytes ≡ [])) }
         ensures kept { OnErr result (Keeps (Some self.old.bytes) (Some self.new.bytes)) }
         ensures uncounted { OnOk result (self.new.faults ≡ self.old.faults) }
-        ensures cause { OnErr result (HasCause self.old.faults self.new.faults) }
+        ensures well { OnOk result (self.new.faulted ≡ false) }
+        ensures cause { OnErr result (self.new.faults ≡ counted self.old.faults) }
+        ensures faulted { OnErr result (self.new.faulted ≡ true) }
         ensures never_falls { self.old.faults ≤ self.new.faults }
     {
         let does_fail = is_next_in(self.fails.as_slice(), self.calls);
         self.calls = self.calls.saturating_add(1);
         if does_fail {
             self.faults += 1;
+            self.faulted = true;
             return Err(Failed);
         }
         let n = copy_front(&self.bytes[self.at..], buf);
         self.at += n;
+        self.faulted = false;
         Ok(n)
     }
 }
@@ -135,6 +144,8 @@ impl Source for SureSource {
 
     ghost faults = { λ _. 0 };
 
+    ghost faulted = { λ _. false };
+
     fn read(&mut self, buf: &mut [u8]) -> Result<usize, Failed>
         requires { 0 < length buf.old }
 
@@ -157,7 +168,7 @@ impl Source for SureSource {
 
 /// A sink in memory with a fixed room, whose writes fail at chosen calls and where no room is left.
 /// A contract sees the bytes taken, the room in all, how many writes there were (a count that stops at the last
-/// value of a `u64`), which fail, and how many have failed.
+/// value of a `u64`), which fail, how many have failed, and whether the last one did.
 #[derive(Debug, Drop)]
 pub struct MemSink {
     bytes: Vec<u8>,
@@ -165,6 +176,7 @@ pub struct MemSink {
     calls: u64,
     fails: Vec<u32>,
     faults: u64,
+    faulted: bool,
 }
 
 impl Model for MemSink {
@@ -173,7 +185,7 @@ impl Model for MemSink {
 
     ghost Value = { MemSinkValue };
 
-    ghost view = { λ s. record { bytes = s.bytes.items; room = s.room; calls = s.calls; fails = s.fails.items; faults = s.faults } };
+    ghost view = { λ s. record { bytes = s.bytes.items; room = s.room; calls = s.calls; fails = s.fails.items; faults = s.faults; faulted = s.faulted } };
 
     ghost invariant = { λ s. (vec_len s.bytes ≤ s.room) × (s.room ≤ vec_capacity s.bytes) };
 }
@@ -183,7 +195,7 @@ impl MemSink {
     /// from 1, fails where k stands in `fails`.
     pub fn with_room(alloc: Global, room: usize, fails: Vec<u32>) -> Result<MemSink, NoMemory>
         ensures value { IfOk result
-            (λ s. s ≡ record { bytes = []; room = room; calls = 0; fails = fails.items; faults = 0 }) }
+            (λ s. s ≡ record { bytes = []; room = room; calls = 0; fails = fails.items; faults = 0; faulted = false }) }
         ensures no_room { room ≡ 0 → IsOk result }
     {
         let bytes = Vec::with_capacity(alloc, room)?;
@@ -193,6 +205,7 @@ impl MemSink {
             calls: 0,
             fails,
             faults: 0,
+            faulted: false,
         })
     }
 
@@ -210,6 +223,8 @@ impl Sink for MemSink {
 
     ghost faults = { λ s. s.faults };
 
+    ghost faulted = { λ s. s.faulted };
+
     fn write(&mut self, piece: &[u8]) -> Result<usize, Failed>
         requires { 0 < length piece.now }
 
@@ -218,9 +233,9 @@ impl Sink for MemSink {
             ↔ (Contains self.old.fails (self.old.calls + 1) ⊎ (self.old.room ≤ length self.old.bytes)) }
         ensures amount { IfOk result (λ n. n ≡ min (length piece.now) (self.old.room - length self.old.bytes)) }
         ensures ok { IfOk result (λ n. self.new
-            ≡ record self.old { bytes = self.old.bytes ++ take n piece.now; calls = counted self.old.calls }) }
+            ≡ record self.old { bytes = self.old.bytes ++ take n piece.now; calls = counted self.old.calls; faulted = false }) }
         ensures err { OnErr result (self.new
-            ≡ record self.old { calls = counted self.old.calls; faults = counted self.old.faults }) }
+            ≡ record self.old { calls = counted self.old.calls; faults = counted self.old.faults; faulted = true }) }
 
         // What any sink says.
         ensures some { IfOk result (λ n. 0 < n) }
@@ -228,7 +243,9 @@ impl Sink for MemSink {
         ensures bytes { IfOk result (λ n. Appends (Some self.old.bytes) (Some self.new.bytes) (take n piece.now)) }
         ensures kept { OnErr result (Keeps (Some self.old.bytes) (Some self.new.bytes)) }
         ensures uncounted { OnOk result (self.new.faults ≡ self.old.faults) }
-        ensures cause { OnErr result (HasCause self.old.faults self.new.faults) }
+        ensures well { OnOk result (self.new.faulted ≡ false) }
+        ensures cause { OnErr result (self.new.faults ≡ counted self.old.faults) }
+        ensures faulted { OnErr result (self.new.faulted ≡ true) }
         ensures never_falls { self.old.faults ≤ self.new.faults }
     {
         let is_listed = is_next_in(self.fails.as_slice(), self.calls);
@@ -236,11 +253,13 @@ impl Sink for MemSink {
         let n = piece.len().min(self.room - self.bytes.len());
         if is_listed || n == 0 {
             self.faults = self.faults.saturating_add(1);
+            self.faulted = true;
             return Err(Failed);
         }
         let Ok(()) = self.bytes.extend_from_slice(&piece[..n]) else {
             unreachable!()
         };
+        self.faulted = false;
         Ok(n)
     }
 }

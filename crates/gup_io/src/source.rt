@@ -1,6 +1,6 @@
-ghost use Rattle.std.specs.Prelude.{◌≡◌, ℕ, ◌+◌, ◌<◌, ◌≤◌, ◌↔◌, List, [], ◌++◌, Option, Some, length, take, drop, vec_len, IfOk, IfErr, IfSome, OnOk, OnErr};
+ghost use Rattle.std.specs.Prelude.{◌≡◌, ℕ, ◌+◌, ◌<◌, ◌≤◌, ◌↔◌, Bool, true, false, List, [], ◌++◌, Option, Some, length, take, drop, vec_len, IfOk, IfErr, IfSome, OnOk, OnErr};
 ghost use Rattle.std.specs.Io.KnownBytes.{Consumes, Keeps};
-ghost use Rattle.gup_io.specs.Faults.{HasCause, IsCauseOf};
+ghost use Rattle.gup_io.specs.Faults.{counted, IsCauseOf};
 ghost use Rattle.gup_io.specs.Transfers.{least_read, Loses};
 
 use crate::Failed;
@@ -16,6 +16,9 @@ pub trait Source {
     // How many reads have failed so far. The count stops at the last value of a `u64`.
     ghost faults: { Self → ℕ };
 
+    // Whether the last read failed.
+    ghost faulted: { Self → Bool };
+
     /// Puts the next bytes at the front of `buf` and says how many. None is the end.
     fn read(&mut self, buf: &mut [u8]) -> Result<usize, Failed>
         requires { 0 < length buf.old }
@@ -26,9 +29,11 @@ pub trait Source {
         ensures end { IfOk result (λ n. IfSome (remaining self.old) (λ bytes. (n ≡ 0) ↔ (bytes ≡ []))) }
         ensures kept { OnErr result (Keeps (remaining self.old) (remaining self.new)) }
 
-        // A failure is counted, and nothing else is.
+        // A failure is counted, and nothing else is, and the source keeps in mind whether its last read failed.
         ensures uncounted { OnOk result (faults self.new ≡ faults self.old) }
-        ensures cause { OnErr result (HasCause (faults self.old) (faults self.new)) }
+        ensures well { OnOk result (faulted self.new ≡ false) }
+        ensures cause { OnErr result (faults self.new ≡ counted (faults self.old)) }
+        ensures faulted { OnErr result (faulted self.new ≡ true) }
         ensures never_falls { faults self.old ≤ faults self.new };
 }
 
@@ -66,8 +71,10 @@ pub fn read_up_to<S: Source>(
     ensures broken_off { IfErr result
         (λ e. Loses (least_read e) most (S.remaining source.old) (S.remaining source.new)) }
 
+    // A failed read is the only one that failed, and none is made behind it.
     ensures uncounted { OnOk result (S.faults source.new ≡ S.faults source.old) }
-    ensures cause { IfErr result (λ e. IsCauseOf e (S.faults source.old) (S.faults source.new)) }
+    ensures cause { IfErr result
+        (λ e. IsCauseOf e (S.faults source.old) (S.faults source.new) (S.faulted source.new)) }
     ensures never_falls { S.faults source.old ≤ S.faults source.new }
 {
     let mut bytes = Vec::new(alloc);
@@ -95,7 +102,8 @@ fn read_more<S: Source>(
     ensures broken_off { IfErr result
         (λ e. Loses (least_read e) most (S.remaining source.old) (S.remaining source.new)) }
     ensures uncounted { OnOk result (S.faults source.new ≡ S.faults source.old) }
-    ensures cause { IfErr result (λ e. IsCauseOf e (S.faults source.old) (S.faults source.new)) }
+    ensures cause { IfErr result
+        (λ e. IsCauseOf e (S.faults source.old) (S.faults source.new) (S.faulted source.new)) }
     ensures never_falls { S.faults source.old ≤ S.faults source.new }
 {
     let mut piece = [0; 4096];

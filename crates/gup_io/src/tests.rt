@@ -34,19 +34,20 @@ impl io::Read for FailsSecond {
     }
 }
 
-// Fails at its first write, and then takes what it is given.
+// Takes one byte at each write, and fails at its write with this number.
 #[derive(Drop)]
-struct FailsFirst {
-    has_failed: bool,
+struct TakesOne {
+    writes: u8,
+    fails: u8,
 }
 
-impl io::Write for FailsFirst {
+impl io::Write for TakesOne {
     fn write(&mut self, buf: &[u8]) -> io::Result<usize> {
-        if self.has_failed {
-            return Ok(buf.len());
+        self.writes = self.writes.saturating_add(1);
+        if self.writes == self.fails {
+            return Err(io::ErrorKind::Other.into());
         }
-        self.has_failed = true;
-        Err(io::ErrorKind::Other.into())
+        Ok(buf.len().min(1))
     }
 
     fn flush(&mut self) -> io::Result<()> {
@@ -142,9 +143,24 @@ fn std_writer_is_a_sink(rt: HostRuntime) -> Result<(), Fail> {
     assert_eq!(rt; refused, Err(Failed));
     assert_eq!(rt; full, *b"hel");
 
-    let mut failing = ToStd::new(FailsFirst { has_failed: false });
+    let mut failing = ToStd::new(TakesOne {
+        writes: 0,
+        fails: 1,
+    });
     assert_eq!(rt; write_all(&mut failing, b"hello"), Err(Failed));
     assert_eq!(rt; write_all(&mut failing, b"hello"), Ok(()));
+    Ok(())
+}
+
+#[test]
+fn nothing_is_written_behind_a_fault(rt: HostRuntime) -> Result<(), Fail> {
+    let mut writer = TakesOne {
+        writes: 0,
+        fails: 2,
+    };
+    let refused = write_all(&mut ToStd::new(&mut writer), b"hello");
+    assert_eq!(rt; refused, Err(Failed));
+    assert_eq!(rt; writer.writes, 2);
     Ok(())
 }
 

@@ -1,5 +1,5 @@
 -- The text of a run: a line for each answer of its journal, in order, and one for each actor that is stuck.
-use Rattle.std.specs.Prelude.{◌≡◌, ℕ, ◌<◌, nat_lt, if◌then◌else◌, take, length, List, [], ◌∷◌, ◌++◌, codes, decimal, Option, Some, None}
+use Rattle.std.specs.Prelude.{◌≡◌, ℕ, ◌<◌, take, length, List, [], ◌∷◌, ◌++◌, codes, decimal, Option, Some, None}
 use Rattle.std.specs.List.{flat_map, cons_option}
 use Rattle.gup_plain.specs.Put.{put}
 use Rattle.gup_plain.specs.Note.{NoteValue}
@@ -108,10 +108,10 @@ word_in (events.ForkWord parent child page word) = None
 word_in (events.ForkEnd parent child) = None
 word_in (events.ForkFail child) = None
 
--- the words with one more behind them; a transfer has at most 64
+-- the words with one more behind them
 abbrev pub moved_by : List ℕ → Option ℕ → List ℕ
 moved_by words None = words
-moved_by words (Some word) = if nat_lt (length words) 64 then words ++ word ∷ [] else words
+moved_by words (Some word) = words ++ word ∷ []
 
 -- the words that an actor's operation has moved behind a note of it: none behind its end
 abbrev pub words_after : List ℕ → What → List ℕ

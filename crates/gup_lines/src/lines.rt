@@ -19,7 +19,7 @@ pub fn outcomes(alloc: Global, _script: &Script, journal: &Journal) -> Result<Ou
     Ok(Outcomes::of(told_in(alloc, journal.notes())?))
 }
 
-fn told_in(alloc: Global, notes: &[Note]) -> Result<Vec<Outcome>, AllocError>
+fn told_in(alloc: Global, notes: &[Note]) -> Result<Vec<Outcome>, NoMemory>
     ensures { IfOk result (λ found. found.items ≡ outcomes_of notes.now) }
 {
     let mut moved = no_words(alloc)?;
@@ -44,17 +44,14 @@ fn no_words(alloc: Global) -> Result<Vec<Words>, AllocError>
 
 // Puts the outcome on that a note tells, if it ends an operation: the words that its actor's operation has moved go into
 // it. Behind any other note they are those, and the word of the note.
-fn tell(note: &Note, words: &mut Words, found: &mut Vec<Outcome>) -> Result<(), AllocError>
+fn tell(note: &Note, words: &mut Words, found: &mut Vec<Outcome>) -> Result<(), NoMemory>
     ensures found { OnOk result (found.new.items
         ≡ found.old.items ++ cons_option (outcome_of note.now.actor note.now.op words.old note.now.what) []) }
     ensures words { OnOk result (words.new ≡ words_after words.old note.now.what) }
 {
     match note.what() {
         What::Silent | What::Idle | What::Wait(_) => Ok(()),
-        What::Event(event) => {
-            push_word(words, word_of(event));
-            Ok(())
-        }
+        What::Event(event) => push_word(words, word_of(event)),
         What::Done(answer) => {
             found.push(Outcome {
                 actor: note.actor(),
@@ -88,14 +85,17 @@ fn word_of(event: PlainEvent) -> Option<u64>
     }
 }
 
-fn push_word(words: &mut Words, word: Option<u64>)
-    ensures { words.new ≡ moved_by words.old word }
+// Puts the word on, if there is one. A transfer has 64 at most, and there is no room for more.
+fn push_word(words: &mut Words, word: Option<u64>) -> Result<(), NoMemory>
+    ensures { OnOk result (words.new ≡ moved_by words.old word) }
 {
     if let Some(word) = word {
-        if words.as_slice().len() < 64 {
-            words.push(word);
+        if words.as_slice().len() >= 64 {
+            return Err(NoMemory);
         }
+        words.push(word);
     }
+    Ok(())
 }
 
 fn push_text(text: &mut Vec<u8>, piece: &str) -> Result<(), NoMemory>

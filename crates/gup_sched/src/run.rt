@@ -1,5 +1,5 @@
 //! The run of a machine.
-ghost use Rattle.std.specs.Prelude.{◌≡◌, ℕ, ◌+◌, ◌*◌, ◌<◌, ◌≤◌, ◌++◌, List, length, IfOk, OnOk};
+ghost use Rattle.std.specs.Prelude.{◌≡◌, ℕ, ◌+◌, ◌*◌, ◌<◌, ◌≤◌, ◌++◌, List, length, IfOk, OnOk, OnErr};
 ghost use Rattle.gup_plain.specs.Note.{NoteValue};
 ghost use Rattle.gup_turns.specs.Cost.{operations, forks};
 ghost use Rattle.gup_turns.specs.Run.{RunState, IsCoreRun};
@@ -54,20 +54,22 @@ pub fn run_all(alloc: Global, machine: Machine, script: &Script) -> Result<Run, 
     })
 }
 
-// Takes the actor's turn, and puts its notes on at the end.
+// Takes the actor's turn, and puts its notes on at the end. Memory is wanted only where there is no room for three.
 fn take_turn(machine: &mut Machine, journal: &mut Journal, actor: ActorNo) -> Result<(), NoMemory>
     requires { actor < length machine.old.script.actors }
     ensures turn { OnOk result ((r : RunState) → Shows machine.old r → (told : List NoteValue)
         × (journal.new.notes ≡ journal.old.notes ++ told) × TakesTurn machine.old machine.new actor r told) }
     ensures script { OnOk result (machine.new.script ≡ machine.old.script) }
+    ensures err { OnErr result (journal.old.room < 3) }
 {
     let turn = machine.turn(actor);
     push_turn(journal, &turn)
 }
 
-// Puts the notes of a turn on at the end.
+// Puts the notes of a turn on at the end. Memory is wanted only where there is no room for three.
 fn push_turn(journal: &mut Journal, turn: &Turn) -> Result<(), NoMemory>
-    ensures { OnOk result (journal.new.notes ≡ journal.old.notes ++ turn.now) }
+    ensures ok { OnOk result (journal.new.notes ≡ journal.old.notes ++ turn.now) }
+    ensures err { OnErr result (journal.old.room < 3) }
 {
     for note in turn.notes() {
         journal.push(*note)?;

@@ -1,7 +1,6 @@
 use Rattle.std.proofs.Common.{◌≡◌, ℕ, Bool, List, Option, Some, None, subst, refl, length, inl, inr}
 use Rattle.std.specs.Prelude.{◌⊎◌}
 use Rattle.std.specs.Io.KnownBytes.{Appends}
-use Rattle.gup_io.specs.Transfers.{AppendsPart}
 use Rattle.gup_script.specs.Script.{ScriptValue}
 use Rattle.gup_follows.specs.Place.{starts_born}
 use Rattle.gup_follows.specs.Plain.{IsPlain}
@@ -12,11 +11,11 @@ use Rattle.gup_lines.specs.Text.{outcomes_of, text_of}
 use Rattle.gup_turns.specs.Cost.{operations}
 use Rattle.gup_turns.specs.Run.{RunState, IsCoreRun}
 use Rattle.gup.specs.Cause.{HasCauses}
-use Rattle.gup.specs.Report.{IsRunOf, IsEnd, IsUnreadFor}
+use Rattle.gup.specs.Report.{IsPartlyTold, IsEnd, IsUnreadFor}
 use Rattle.gup.specs.Stuck.{IsFinishedRun, IsStuckRun, run_text}
 use Rattle.gup.specs.declared.top.Unread.{Unread}
 use Rattle.gup.proofs.Ended.{ran, finished_written, stuck_written, finished_run, stuck_run, ended}
-use Rattle.gup.proofs.Told.{of_script, of_none, refused_none}
+use Rattle.gup.proofs.Told.{has_cause, of_script, of_none, refused_none}
 use Rattle.gup.proofs.top.gup.Goals as goal
 
 pub returns-in-Ok-clause-follows : goal.returns-in-Ok-clause-follows
@@ -111,8 +110,11 @@ returns-in-Ok-clause-lines g c is =
 pub returns-in-Ok-clause-text_part : goal.returns-in-Ok-clause-text_part
 returns-in-Ok-clause-text_part g c six command =
     let notes = c.run_and_write.result.journal.notes in
-    let P : ScriptValue → Type 0 = λ s. (stuck : Bool) × (text : List ℕ) × IsRunOf s stuck notes text × AppendsPart (g.K.Sink.taken c.args.sink.now) (g.K.Sink.taken c.run_and_write.new.sink) text in
+    let P : ScriptValue → Type 0 = λ s. IsPartlyTold s notes (g.K.Sink.taken c.args.sink.now) (g.K.Sink.taken c.run_and_write.new.sink) in
     of_script (g.S.Source.remaining c.args.source.now) c.in-Ok.script P c.one_script.ensures c.in-Ok.ensures.script (c.run_and_write.ensures.part six)
+
+pub returns-in-Ok-clause-refused_or_ran : goal.returns-in-Ok-clause-refused_or_ran
+returns-in-Ok-clause-refused_or_ran g c six command = inr (c.in-Ok.script, c.in-Ok.ensures.script, c.run_and_write.ensures.part six)
 
 pub returns-in-Ok-clause-complete : goal.returns-in-Ok-clause-complete
 returns-in-Ok-clause-complete g c command read_well wrote_well =
@@ -123,31 +125,31 @@ returns-in-Ok-clause-complete g c command read_well wrote_well =
     let ends : P script =
     elim c.run_and_write.ensures.statuses [
       | inl has ↦ ended script report.journal.notes report.status W c.run_and_write.ensures.finished c.run_and_write.ensures.stuck has
-      | inr rest ↦ elim rest [ inl six ↦ absurd (wrote_well (c.run_and_write.ensures.write_fault six)) | inr seven ↦ inr (inr seven) ]
+      | inr rest ↦ elim rest [ inl six ↦ absurd (wrote_well (has_cause _ _ _ (c.run_and_write.ensures.write_fault six))) | inr seven ↦ inr (inr seven) ]
     ] in
     of_script (g.S.Source.remaining c.args.source.now) script P c.one_script.ensures c.in-Ok.ensures.script ends
 
 pub returns-in-Err-Failed-clause-complete : goal.returns-in-Err-Failed-clause-complete
 returns-in-Err-Failed-clause-complete g c command read_well wrote_well =
-    let P : Unread → Type 0 = λ why. IsUnreadFor (g.S.Source.remaining c.args.source.now) (g.S.Source.faults c.args.source.now) (g.S.Source.faults c.read.new.source) why in
-    absurd (read_well (subst P c.in-Err-Failed.field-0-is c.in-Err-Failed.ensures.unread))
+    let P : Unread → Type 0 = λ why. IsUnreadFor (g.S.Source.remaining c.args.source.now) (g.S.Source.faults c.args.source.now) (g.S.Source.faults c.read.new.source) (g.S.Source.faulted c.read.new.source) why in
+    absurd (read_well (has_cause _ _ _ (subst P c.in-Err-Failed.field-0-is c.in-Err-Failed.ensures.unread)))
 
 pub returns-in-Err-Fault-clause-refused : goal.returns-in-Err-Fault-clause-refused
 returns-in-Err-Fault-clause-refused g c three =
-    let P : Unread → Type 0 = λ why. IsUnreadFor (g.S.Source.remaining c.args.source.now) (g.S.Source.faults c.args.source.now) (g.S.Source.faults c.read.new.source) why in
+    let P : Unread → Type 0 = λ why. IsUnreadFor (g.S.Source.remaining c.args.source.now) (g.S.Source.faults c.args.source.now) (g.S.Source.faults c.read.new.source) (g.S.Source.faulted c.read.new.source) why in
     refused_none (g.S.Source.remaining c.args.source.now) c.in-Err-Fault.fault c.scripts_have_no_fault.ensures (subst P c.in-Err-Fault.field-0-is c.in-Err-Fault.ensures.unread)
 
 pub returns-in-Err-Fault-clause-complete : goal.returns-in-Err-Fault-clause-complete
 returns-in-Err-Fault-clause-complete g c command read_well wrote_well =
-    let P : Unread → Type 0 = λ why. IsUnreadFor (g.S.Source.remaining c.args.source.now) (g.S.Source.faults c.args.source.now) (g.S.Source.faults c.read.new.source) why in
+    let P : Unread → Type 0 = λ why. IsUnreadFor (g.S.Source.remaining c.args.source.now) (g.S.Source.faults c.args.source.now) (g.S.Source.faults c.read.new.source) (g.S.Source.faulted c.read.new.source) why in
     let report = c.refuse.result in
     of_none (g.S.Source.remaining c.args.source.now) (λ script. IsEnd script report.status report.journal.notes)
     (refused_none (g.S.Source.remaining c.args.source.now) c.in-Err-Fault.fault c.scripts_have_no_fault.ensures (subst P c.in-Err-Fault.field-0-is c.in-Err-Fault.ensures.unread))
 
 pub returns-in-Err-Fault-clause-text_part : goal.returns-in-Err-Fault-clause-text_part
 returns-in-Err-Fault-clause-text_part g c six command =
-    let P : Unread → Type 0 = λ why. IsUnreadFor (g.S.Source.remaining c.args.source.now) (g.S.Source.faults c.args.source.now) (g.S.Source.faults c.read.new.source) why in
+    let P : Unread → Type 0 = λ why. IsUnreadFor (g.S.Source.remaining c.args.source.now) (g.S.Source.faults c.args.source.now) (g.S.Source.faults c.read.new.source) (g.S.Source.faulted c.read.new.source) why in
     let notes = c.refuse.result.journal.notes in
-    let Q : ScriptValue → Type 0 = λ s. (stuck : Bool) × (text : List ℕ) × IsRunOf s stuck notes text × AppendsPart (g.K.Sink.taken c.args.sink.now) (g.K.Sink.taken c.refuse.new.sink) text in
+    let Q : ScriptValue → Type 0 = λ s. IsPartlyTold s notes (g.K.Sink.taken c.args.sink.now) (g.K.Sink.taken c.refuse.new.sink) in
     of_none (g.S.Source.remaining c.args.source.now) Q
     (refused_none (g.S.Source.remaining c.args.source.now) c.in-Err-Fault.fault c.scripts_have_no_fault.ensures (subst P c.in-Err-Fault.field-0-is c.in-Err-Fault.ensures.unread))
