@@ -17,11 +17,17 @@ use std::process::ExitCode;
 use std::{env, io};
 use top::{Report, gup};
 
-/// The words behind the program's name.
+/// The words behind the program's name. Where one of them isn't UTF-8 they are no command, as where there are none.
 fn words(rt: &(impl Env + AllocGlobal)) -> io::Result<Vec<String>> {
     let mut words = Vec::new(rt.alloc());
-    for word in env::args(rt)?.skip(1) {
-        words.push(word)?;
+    match env::args(rt) {
+        Ok(args) => {
+            for word in args.skip(1) {
+                words.push(word)?;
+            }
+        }
+        Err(error) if matches!(error.kind(), io::ErrorKind::InvalidData) => {}
+        Err(error) => return Err(error),
     }
     Ok(words)
 }
