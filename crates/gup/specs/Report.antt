@@ -7,10 +7,10 @@ use Rattle.gup_sched.specs.Ran.{SaysStuck}
 use Rattle.gup_lines.specs.Text.{outcomes_of}
 use Rattle.gup_io.specs.Faults.{EndsInFault}
 use Rattle.gup_io.specs.Transfers.{AppendsPart}
-use Rattle.gup_follows.specs.Place.{starts_born}
 use Rattle.gup_follows.specs.Plain.{IsPlain}
 use Rattle.gup_follows.specs.Follows.{Follows}
 use Rattle.gup_follows.specs.Order.{InOrder}
+use Rattle.gup_follows.specs.Place.{starts_born}
 use Rattle.gup_owners.specs.Owners.{OwnsBytes, events_of}
 use Rattle.gup.specs.declared.top.Unread.{Unread}
 use Rattle.gup.specs.declared.top.Unread.TheVariants.{Failed, Fault, NoMemory}
