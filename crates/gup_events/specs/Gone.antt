@@ -1,5 +1,5 @@
 -- What it says of entries that none of some pages has one.
-use Rattle.std.proofs.Common.{◌≡◌, ℕ, ◌+◌, ◌<◌, ◌≤◌, nat_lt, ◌⊎◌, inl, inr, Bool, true, false, List, [], ◌++◌, zero, suc, refl, ap, sym, ◌∙◌, subst, arith, eq-or-lt_of_le}
+use Rattle.std.proofs.Common.{◌≡◌, ℕ, ◌+◌, ◌<◌, ◌≤◌, nat_lt, ◌⊎◌, inl, inr, Bool, true, false, List, [], ◌++◌, zero, suc, refl, ap, sym, ◌∙◌, arith, eq-or-lt_of_le}
 use Rattle.std.specs.Prelude.{Option, Some, None, IsSome, is_some, not, ◌&&◌}
 use Rattle.std.proofs.lemmas.Bool.Decides.{nat_tests}
 use Rattle.gup_base.specs.declared.entry.Entry.{Entry}

@@ -1,23 +1,19 @@
 -- The end of a fork: the child is born; and the fork of a failed process, whose child fails at once.
-use Rattle.std.proofs.Common.{◌≡◌, ℕ, ◌+◌, ◌-◌, ◌⊎◌, inl, inr, Bool, true, false, List, refl, ap, sym, ◌∙◌, subst, arith}
-use Rattle.std.specs.Prelude.{Option, Some, None, not, Contains, slice_get}
+use Rattle.std.proofs.Common.{◌≡◌, ℕ, ◌+◌, ◌-◌, false, List, refl, ap, sym, ◌∙◌, subst, arith}
+use Rattle.std.specs.Prelude.{Some, None, not}
 use Rattle.std.proofs.lemmas.Bool.Decides.{nat_tests}
-use Rattle.gup_base.specs.declared.entry.Entry.{Entry}
-use Rattle.gup_plain.specs.Put.{put, put2}
-use Rattle.gup_plain.specs.State.{born, unborn, failed, growing}
+use Rattle.gup_plain.specs.Put.{put}
+use Rattle.gup_plain.specs.State.{unborn, growing}
 use Rattle.gup_plain.specs.Event.{IsUnbornOrGrowing}
-use Rattle.gup_events.specs.State.{CoreState, forking, ForkStep, between, counted, lowered, cleared, copying, failing, plain_of}
-use Rattle.gup_events.specs.Event.{Can, happens, MayFail, is_odd, end_fork, fail_fork, put_child, fail_unborn}
-use Rattle.gup_events.specs.Sound.{View, Forking, keeps_table, step_page, is_failing, IsSoundBy, IsSound, Simulates, IsUncopiedBy, shared_page, lowered_page, is_open}
-use Rattle.gup_clauses.specs.Clauses.{References, MarksAre, MovesAre, ForksAre, WholeEntry, WholeMoved, WholeFree, WholeKept, WholeOther, MovedGone, RightNames, WholeNames, NamesObject, MarksTable, MovesTable, ForksTable, ForksStructure, TableHeld, StructureHeld, TableBorn, ForkParent, ForkBirth, GrowingLocked, GrowingForked, GrowingRights, UnbornUnmapped, FailedUnmapped, FlagBorn, OwnAlone, OwnMade, OwnNames, OwnEntry, OwnWords, OwnMarked, OwnMarking, MarkedOwn, EntryMapped, EntryMarked, EntryAllowed, EntryWords, Untouched, NamesAlone, NamesMade, RightNumbered, HandleMarked, HandleOwn, HandleFlag, TakenMarked, TakenOwn, TakenNames, PreparedOnce, PreparedUnmarked, PreparedUnowned, PreparedZero, MarkingEntry, MarkingOwn, MovingOnce, ForkFresh, ForkCopied, ForkUncopied, ForkUndone, ForkMapped, CopyWords, CopyThere, ShareHandle, ShareTaken, ShareLowered, ShareUnowned, MirrorBorn, MirrorEntry, MirrorNames, WalksAre, CountIs, ForkOdd, QuietEven, WalkBelow, WalkOwn, WalkUnowned, WalkKept, WalkWritable, ForkAlone, ForkLeft}
-use Rattle.gup_clauses.specs.Left.{alone_next, alone_without, left_with, left_without, left_more, left_none}
+use Rattle.gup_events.specs.State.{CoreState, between, plain_of}
+use Rattle.gup_events.specs.Event.{Can, happens, is_odd, end_fork, fail_unborn}
+use Rattle.gup_events.specs.Sound.{View, Forking, IsSoundBy, IsSound, Simulates}
+use Rattle.gup_clauses.specs.Clauses.{MarksAre, MovesAre, ForksAre, RightNames, ForksTable, ForksStructure, TableHeld, StructureHeld, TableBorn, ForkParent, ForkBirth, GrowingLocked, GrowingForked, GrowingRights, UnbornUnmapped, FailedUnmapped, FlagBorn, EntryMapped, EntryAllowed, EntryWords, Untouched, RightNumbered, PreparedZero, ForkFresh, ForkCopied, ForkUncopied, ForkUndone, ForkMapped, CopyWords, CopyThere, ShareHandle, ShareTaken, ShareLowered, ShareUnowned, MirrorBorn, WalksAre, ForkOdd, QuietEven, WalkBelow, WalkOwn, WalkUnowned, WalkKept, WalkWritable, ForkAlone, ForkLeft}
+use Rattle.gup_clauses.specs.Left.{alone_without, left_without}
 use Rattle.gup_clauses.specs.Steps.{odd_next}
 use Rattle.gup_fork_laws.proofs.Disturbed.{raised_below, raised_own, raised_unowned, raised_kept, raised_writable}
 use Rattle.gup_clauses.specs.Named.{by_pages}
-use Rattle.gup_clauses.specs.Tally.{tally_is, tally_entry}
-use Rattle.gup_clauses.specs.Lonely.{whole_alone, whole_counts, once_wholes, handle_counts, taken_counts, prepared_whole}
-use Rattle.gup_clauses.specs.Children.{birth_goes, fork_here, growing_parent, only_fork, uncopied_before}
-use Rattle.gup_clauses.specs.Done.{fork_after}
+use Rattle.gup_clauses.specs.Children.{fork_here, growing_parent, only_fork, uncopied_before}
 
 -- every page of the child is done
 pub simulates-end_fork : (s : CoreState) (a p c : ℕ) (done : List ℕ) → IsSound s → Can s (end_fork a p c done) → Simulates s (end_fork a p c done)

@@ -5,10 +5,10 @@ use Rattle.std.specs.Prelude.{Option, Some, None, not, Contains, slice_get}
 use Rattle.std.proofs.lemmas.Bool.Decides.{nat_tests}
 use Rattle.gup_base.specs.declared.entry.Entry.{Entry}
 use Rattle.gup_plain.specs.Put.{put, put2}
-use Rattle.gup_plain.specs.State.{born, unborn, failed, growing}
+use Rattle.gup_plain.specs.State.{born, failed, growing}
 use Rattle.gup_plain.specs.Event.{IsUnbornOrGrowing}
 use Rattle.gup_events.specs.State.{CoreState, forking, ForkStep, between, counted, lowered, cleared, copying, failing, plain_of}
-use Rattle.gup_events.specs.Event.{Can, happens, MayFail, is_odd, end_fork, fail_fork, put_child, fail_unborn}
+use Rattle.gup_events.specs.Event.{Can, happens, MayFail, is_odd, fail_fork, put_child}
 use Rattle.gup_events.specs.Sound.{View, Forking, keeps_table, step_page, is_failing, IsSoundBy, IsSound, Simulates, IsUncopiedBy, shared_page, lowered_page, is_open}
 use Rattle.gup_clauses.specs.Clauses.{References, MarksAre, MovesAre, ForksAre, WholeEntry, WholeMoved, WholeFree, WholeKept, WholeOther, MovedGone, RightNames, WholeNames, NamesObject, MarksTable, MovesTable, ForksTable, ForksStructure, TableHeld, StructureHeld, TableBorn, ForkParent, ForkBirth, GrowingLocked, GrowingForked, GrowingRights, UnbornUnmapped, FailedUnmapped, FlagBorn, OwnAlone, OwnMade, OwnNames, OwnEntry, OwnWords, OwnMarked, OwnMarking, MarkedOwn, EntryMapped, EntryMarked, EntryAllowed, EntryWords, Untouched, NamesAlone, NamesMade, RightNumbered, HandleMarked, HandleOwn, HandleFlag, TakenMarked, TakenOwn, TakenNames, PreparedOnce, PreparedUnmarked, PreparedUnowned, PreparedZero, MarkingEntry, MarkingOwn, MovingOnce, ForkFresh, ForkCopied, ForkUncopied, ForkUndone, ForkMapped, CopyWords, CopyThere, ShareHandle, ShareTaken, ShareLowered, ShareUnowned, MirrorBorn, MirrorEntry, MirrorNames, WalksAre, CountIs, ForkOdd, QuietEven, WalkBelow, WalkOwn, WalkUnowned, WalkKept, WalkWritable, ForkAlone, ForkLeft}
 use Rattle.gup_clauses.specs.Left.{alone_next, alone_without, left_with, left_without, left_more, left_none}

@@ -1,5 +1,6 @@
 -- Rows of a grid: copies of a map, and what holds of all its keys.
-use Rattle.std.proofs.Common.{◌≡◌, ℕ, Bool, true, false, cond, List, [], ◌∷◌, map, Option, Some, None, IsSome, IsTrue, ◌==◌, refl, sym, ◌∙◌, ap, length, ◌↔◌, arith}
+use Rattle.std.proofs.Common.{◌≡◌, ℕ, Bool, true, false, cond, List, [], ◌∷◌, map, Option, Some, None, IsSome, IsTrue, refl, sym, ◌∙◌, ap, length, ◌↔◌, arith}
+use Rattle.std.proofs.Math.Bool.{beq}
 use Rattle.std.proofs.Math.Path.{fun_ext}
 use Rattle.std.proofs.lemmas.Bool.Decides.{nat_tests}
 use Rattle.std.proofs.lemmas.Cmp.{nat_cmp_total}
@@ -67,7 +68,7 @@ one-listed [] some = absurd (some refl)
 one-listed (e ∷ es) some = (e.0, rw (self-key e.0) refl)
 
 -- a map of entries has nothing at any key where it is empty, and else something at one
-pub gone_is : (m : BTreeMap ℕ Entry) (empty gone : Bool) → IsTrue empty ↔ (length m.entries ≡ 0) → IsTrue (empty == gone) ↔ AreGone (get nat_cmp m) gone
+pub gone_is : (m : BTreeMap ℕ Entry) (empty gone : Bool) → IsTrue empty ↔ (length m.entries ≡ 0) → IsTrue (beq empty gone) ↔ AreGone (get nat_cmp m) gone
 gone_is m true true is = ((λ _. none-listed m.entries (is.0 refl)), λ _. refl)
 gone_is m false false is = ((λ _. one-listed m.entries (λ none. let no : false ≡ true = is.1 none in cc)), λ _. refl)
 gone_is m true false is = ((λ h. absurd (cc)), λ some. let none : get nat_cmp m some.0 ≡ None = none-listed m.entries (is.0 refl) some.0 in absurd (let h : IsSome (get nat_cmp m some.0) = some.1 in cc))
