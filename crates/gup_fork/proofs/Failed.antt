@@ -1,5 +1,5 @@
 -- What a failed fork makes of frames, of the parent and of its child is what its events say.
-use Rattle.std.proofs.Common.{◌≡◌, ℕ, zero, suc, ◌+◌, ◌<◌, ◌≤◌, ◌⊎◌, ◌&&◌, not, is_some, inl, inr, Bool, true, false, List, [], ◌∷◌, ◌++◌, Option, Some, None, refl, ap, sym, subst, ◌∙◌, arith, eq-or-lt_of_le}
+use Rattle.std.proofs.Common.{◌≡◌, ℕ, zero, suc, ◌+◌, ◌<◌, ◌≤◌, ◌⊎◌, ◌&&◌, not, is_some, inl, inr, Bool, true, false, List, ◌++◌, Option, Some, None, refl, ap, sym, subst, ◌∙◌, arith, eq-or-lt_of_le}
 use Rattle.std.proofs.lemmas.Bool.Decides.{nat_tests}
 use Rattle.gup_base.specs.declared.entry.Entry.{Entry}
 use Rattle.gup_plain.specs.Event.{page_numbers}
@@ -142,20 +142,20 @@ pub failed : (F F' : FramesValue) (P P' C C' : SpaceValue) (a : ℕ) (done : Lis
 failed F F' P P' C C' a done step parent child frames below =
     are_shown_fork_events (with_structure None (with_table (table_behind step P.table) (change F F' P P' C C'))) a (λ p c. fails a p c done step C.entry)
     (λ p c.
-      let ends : Bool = are_gone C.entry 0 page_numbers in
-      let Q : SpaceValue = parent_behind (fail_fork a p c done step ends) P in
-      record {
-        own = (failing_at done step ends, own_puts a p c done C.entry 0 page_numbers);
-        frames = frames ∙ sym (frames_puts a p c done C.entry 0 page_numbers F);
-        parent =
-            ap (λ (x : SpaceValue). record x { table = table_behind step P.table; structure = None }) parent
-            ∙ sym (parent_fails a p c done step C.entry page_numbers P ends refl);
-        child =
-            subst (λ (x : SpaceValue). IsShownAs (all_child_behind (puts_entries a p c done C.entry 0 page_numbers) Q (without_maps C)) x) (sym child)
-            (child_puts a p c done C.entry 0 page_numbers Q (emptied C) (without_maps C) (λ g. refl) (λ g high. below g (omega (arith, high)))
-            (record {
-              rest = record { right = λ g. refl; pages = refl; entry = λ g. refl; sequence = refl; has_pinned = refl; structure = refl; table = refl };
-              gone = λ g less. absurd (omega arith);
-              left = λ g least. refl;
-            }));
-      })
+    let ends : Bool = are_gone C.entry 0 page_numbers in
+    let Q : SpaceValue = parent_behind (fail_fork a p c done step ends) P in
+    record {
+      own = (failing_at done step ends, own_puts a p c done C.entry 0 page_numbers);
+      frames = frames ∙ sym (frames_puts a p c done C.entry 0 page_numbers F);
+      parent =
+          ap (λ (x : SpaceValue). record x { table = table_behind step P.table; structure = None }) parent
+          ∙ sym (parent_fails a p c done step C.entry page_numbers P ends refl);
+      child =
+          subst (λ (x : SpaceValue). IsShownAs (all_child_behind (puts_entries a p c done C.entry 0 page_numbers) Q (without_maps C)) x) (sym child)
+          (child_puts a p c done C.entry 0 page_numbers Q (emptied C) (without_maps C) (λ g. refl) (λ g high. below g (omega (arith, high)))
+          (record {
+            rest = record { right = λ g. refl; pages = refl; entry = λ g. refl; sequence = refl; has_pinned = refl; structure = refl; table = refl };
+            gone = λ g less. absurd (omega arith);
+            left = λ g least. refl;
+          }));
+    })
