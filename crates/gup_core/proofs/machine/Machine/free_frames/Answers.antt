@@ -1,6 +1,6 @@
 use Rattle.std.proofs.Common.{subst, sym, ◌∙◌}
 use Rattle.gup_frames.specs.Frames.{frames_of}
-use Rattle.gup_core.specs.Machine.{MachineValue, machine_of, Shows}
+use Rattle.gup_core.specs.Machine.{MachineValue, Shows}
 use Rattle.gup_core.proofs.FreeFrames.{free_shown}
 use Rattle.gup_core.proofs.machine.Machine.free_frames.Goals as goal
 
