@@ -1,5 +1,5 @@
 //! The top call: what the program does, from its words and its bytes to its text.
-ghost use Rattle.std.specs.Prelude.{◌≡◌, ℕ, ◌⊎◌, List, [], None, Some, IsSome, IfSome, IfOk, OnOk, IfErr, Err, IsTrue, Bool, true, false, if◌then◌else◌, ◌↔◌, map, codes, string_bytes, length, take, ◌+◌};
+ghost use Rattle.std.specs.Prelude.{◌≡◌, ℕ, ◌⊎◌, List, [], None, Some, IsSome, IfSome, IfOk, OnOk, IfErr, Err, IsTrue, true, false, if◌then◌else◌, ◌↔◌, map, codes, string_bytes, length, take, ◌+◌};
 ghost use Rattle.std.specs.Io.KnownBytes.{Appends};
 ghost use Rattle.gup_io.specs.Transfers.{Loses, AppendsPart};
 ghost use Rattle.gup_io.specs.Faults.{HasCause, EndsInFault};
