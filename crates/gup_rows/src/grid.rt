@@ -42,11 +42,35 @@ fn all_among<V>(row: &BTreeMap<PageNo, V>, pages: &[PageNo]) -> bool
     row.keys().all(|page| has_page(pages, *page))
 }
 
-/// Whether it is so that no page has an entry, or that one has.
-pub fn are_gone(row: &BTreeMap<PageNo, Entry>, gone: bool) -> bool
+// Whether it is so that no page of the row has an entry, or that one has.
+fn is_gone(row: &BTreeMap<PageNo, Entry>, gone: bool) -> bool
     ensures { IsTrue result ↔ AreGone (get nat_cmp row.now) gone }
 {
     row.is_empty() == gone
+}
+
+/// Whether it is so that no page of the process has an entry, or that one has.
+pub fn are_gone(entries: &Grid<Entry>, p: ProcNo, gone: bool) -> bool
+    ensures { IsTrue result ↔ AreGone (found entries.now p) gone }
+{
+    is_gone(entries.row(p), gone)
+}
+
+/// Whether it is so that no other page of the process has an entry, or that one has. The row is that of the others.
+pub fn are_others_gone(
+    entries: &Grid<Entry>,
+    p: ProcNo,
+    page: PageNo,
+    row: &BTreeMap<PageNo, Entry>,
+    gone: bool,
+) -> bool
+    requires { get nat_cmp row.now ≡ put page None (found entries.now p) }
+    ensures { IsTrue result ↔ AreGone (put page None (found entries.now p)) gone }
+{
+    let _page = page;
+    let _p = p;
+    let _entries = entries;
+    is_gone(row, gone)
 }
 
 impl<V: Copy + Drop> Grid<V> {

@@ -18,7 +18,7 @@ use gup_jobs::refused::Refused;
 use gup_jobs::taken::has_none;
 use gup_parts::space::PAGE_NUMBERS;
 use gup_rows::clearing::clear;
-use gup_rows::grid::{are_gone, has_page};
+use gup_rows::grid::{are_gone, are_others_gone, has_page};
 
 impl Trial {
     // Whether a fork copies the page with this frame.
@@ -306,7 +306,7 @@ impl Trial {
         let table = after_failure(&step, *self.table.get(p));
         need(self.job.get(a).is_forking(p, c, done, step))?;
         need(self.prepared.get(a).is_none())?;
-        need(are_gone(self.entry.row(c), ends))?;
+        need(are_gone(&self.entry, c, ends))?;
         let done = same_pages(self.alloc, done)?;
         let sequence = sum(*self.sequence.get(p), 1)?;
         self.procs.fail(c);
@@ -335,7 +335,7 @@ impl Trial {
         need(self.job.get(a).is_forking(p, c, done, ForkStep::Failing))?;
         need(is_entry(self.entry.get(c, page), &entry))?;
         let row = self.entry.without(c, page)?;
-        need(are_gone(&row, ends))?;
+        need(are_others_gone(&self.entry, c, page, &row, ends))?;
         give_back(
             &mut self.count,
             &mut self.mark,

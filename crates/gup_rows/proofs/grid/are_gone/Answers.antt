@@ -1,5 +1,7 @@
-use Rattle.gup_rows.proofs.GridLemmas.{gone_is}
+use Rattle.std.proofs.Common.{◌≡◌, ℕ, ◌↔◌, Option, IsTrue, subst}
+use Rattle.gup_base.specs.declared.entry.Entry.{Entry}
+use Rattle.gup_events.specs.Event.{AreGone}
 use Rattle.gup_rows.proofs.grid.are_gone.Goals as goal
 
 pub returns : goal.returns
-returns c = gone_is c.args.row.now c.is_empty.result c.args.gone c.is_empty.ensures
+returns c = subst (λ (f : ℕ → Option Entry). IsTrue c.is_gone.result ↔ AreGone f c.args.gone) c.row.ensures c.is_gone.ensures
