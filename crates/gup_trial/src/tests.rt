@@ -435,11 +435,10 @@ impl Run {
         step: ForkStep,
     ) {
         let done = done.as_slice();
-        if self.roll(24) == 0 {
-            let tried = self.trial.fail_fork(a, p, c, done, step, false);
-            self.tell(28, tried);
-            let tried = self.trial.fail_fork(a, p, c, done, step, true);
-            self.tell(30, tried);
+        if self.roll(12) == 0 {
+            let ends = self.roll(2) == 0;
+            let tried = self.trial.fail_fork(a, p, c, done, step, ends);
+            self.tell(if ends { 30 } else { 28 }, tried);
             return;
         }
         match step {
