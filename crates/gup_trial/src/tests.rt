@@ -463,7 +463,8 @@ impl Run {
             let tried = self.trial.begin_fork(a, p, process(n));
             self.tell(19, tried);
         } else {
-            let tried = self.trial.fail_unborn(a, p, process(n));
+            let failed = process(n.wrapping_add(1));
+            let tried = self.trial.fail_unborn(a, failed, process(n));
             self.tell(31, tried);
         }
     }
