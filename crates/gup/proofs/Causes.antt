@@ -13,14 +13,14 @@ use Rattle.gup_plain.specs.declared.note.What.TheVariants.{Silent, Idle, Wait, E
 use Rattle.gup_script.specs.declared.op.Op.{Op}
 use Rattle.gup_script.specs.declared.op.Op.TheVariants.{Map, Unmap, Protect, Discard, Load, Store, Pin, Unpin, Give, Take, Transfer, Fork, Exit}
 use Rattle.gup_script.specs.Script.{ScriptValue}
-use Rattle.gup_follows.specs.Follows.{notes_of_turn}
-use Rattle.gup_follows.specs.Order.{Turn, journal_of, places_behind}
-use Rattle.gup_follows.specs.Place.{Place, Doer, doer, present_op}
+use Rattle.gup_spec_journal.specs.Follows.{notes_of_turn}
+use Rattle.gup_spec_journal.specs.Order.{Turn, journal_of, places_behind}
+use Rattle.gup_spec_journal.specs.Place.{Place, Doer, doer, present_op}
 use Rattle.gup_plain.specs.Denial.{is_denial}
-use Rattle.gup_follows.specs.Denial.{denial}
-use Rattle.gup_follows.specs.Plain.{Judged, judged_before, judged_far, refusal_of, refusal_in, IsAnswerOf, IsAnswerAfter, IsRightAt, ArePlain}
-use Rattle.gup_turns.specs.Cause.{FindsNoFrame, LacksFrame, LacksExactly, IsKnownCause, IsKnownAnswer, IsKnown, AreKnown, answers_in, answered_in}
-use Rattle.gup_turns.specs.Run.{RunState, Runs, run_after, turn_in}
+use Rattle.gup_spec_journal.specs.Denial.{denial}
+use Rattle.gup_spec_journal.specs.Plain.{Judged, judged_before, judged_far, refusal_of, refusal_in, IsAnswerOf, IsAnswerAfter, IsRightAt, ArePlain}
+use Rattle.gup_spec_turns.specs.Cause.{FindsNoFrame, LacksFrame, LacksExactly, IsKnownCause, IsKnownAnswer, IsKnown, AreKnown, answers_in, answered_in}
+use Rattle.gup_spec_turns.specs.Run.{RunState, Runs, run_after, turn_in}
 use Rattle.gup_lines.specs.Text.{words_after, outcomes_from, outcomes_of}
 use Rattle.gup.specs.Cause.{is_ok, IsCausedAt, judged_note, judged_turn, IsCausedTurn, AreCaused}
 

@@ -7,9 +7,9 @@ use Rattle.gup_plain.specs.declared.note.Waiting.{Waiting}
 use Rattle.gup_plain.specs.declared.note.Waiting.TheVariants as waitings
 use Rattle.gup_script.specs.declared.op.Op.{Op}
 use Rattle.gup_script.specs.Script.{ScriptValue}
-use Rattle.gup_follows.specs.Place.{has_finished, ops_of, doer}
-use Rattle.gup_turns.specs.Cause.{HaveFinished, WaitsForBirthOrPin}
-use Rattle.gup_turns.specs.Run.{RunState, op_in, waiting_with, waiting_in, is_ready, can_go, IsCoreRun}
+use Rattle.gup_spec_journal.specs.Place.{has_finished, ops_of, doer}
+use Rattle.gup_spec_turns.specs.Cause.{HaveFinished, WaitsForBirthOrPin}
+use Rattle.gup_spec_turns.specs.Run.{RunState, op_in, waiting_with, waiting_in, is_ready, can_go, IsCoreRun}
 use Rattle.gup_lines.specs.Text.{NamesWaiting, text_of}
 use Rattle.gup.specs.Report.{HasRun, IsRunOf, IsEnd}
 use Rattle.gup.specs.Stuck.{IsFinishedRun, IsStuckRun, AreWaiting, stuck_of, stuck_lines, stuck_text, run_text}

@@ -9,12 +9,12 @@ use Rattle.gup_plain.specs.declared.note.What.{What}
 use Rattle.gup_plain.specs.declared.note.What.TheVariants.{Silent, Idle, Wait, Event, Done}
 use Rattle.gup_script.specs.declared.op.Op.{Op}
 use Rattle.gup_script.specs.Script.{ScriptValue}
-use Rattle.gup_follows.specs.Denial.{denial}
-use Rattle.gup_follows.specs.Order.{Turn, journal_of}
-use Rattle.gup_follows.specs.Place.{Place, place_after, Doer, first_place, doer, present_op}
-use Rattle.gup_follows.specs.Plain.{Judged, plain_after, judged_first, judged_far, refusal_in}
-use Rattle.gup_turns.specs.Cause.{FindsNoFrame, LacksExactly}
-use Rattle.gup_turns.specs.Run.{RunState, Runs, run_start, run_after}
+use Rattle.gup_spec_journal.specs.Denial.{denial}
+use Rattle.gup_spec_journal.specs.Order.{Turn, journal_of}
+use Rattle.gup_spec_journal.specs.Place.{Place, place_after, Doer, first_place, doer, present_op}
+use Rattle.gup_spec_journal.specs.Plain.{Judged, plain_after, judged_first, judged_far, refusal_in}
+use Rattle.gup_spec_turns.specs.Cause.{FindsNoFrame, LacksExactly}
+use Rattle.gup_spec_turns.specs.Run.{RunState, Runs, run_start, run_after}
 
 -- is it an answer that refuses nothing? A short pin had a page refused.
 abbrev pub is_ok : Answer → Bool

@@ -1,26 +1,26 @@
 -- What the top call is asked, and what it may answer.
 use Rattle.std.specs.Prelude.{◌≡◌, ℕ, ◌⊎◌, Bool, false, List, [], ◌∷◌, ◌++◌, codes, decimal, drop, length, Option, None, Some}
 use Rattle.gup_plain.specs.Note.{NoteValue}
-use Rattle.gup_turns.specs.Cost.{operations}
-use Rattle.gup_turns.specs.Run.{RunState, IsCoreRun}
+use Rattle.gup_spec_turns.specs.Cost.{operations}
+use Rattle.gup_spec_turns.specs.Run.{RunState, IsCoreRun}
 use Rattle.gup_sched.specs.Ran.{SaysStuck}
 use Rattle.gup_lines.specs.Text.{outcomes_of}
 use Rattle.gup_io.specs.Faults.{EndsInFault}
 use Rattle.gup_io.specs.Transfers.{AppendsPart}
-use Rattle.gup_follows.specs.Plain.{IsPlain}
-use Rattle.gup_follows.specs.Follows.{Follows}
-use Rattle.gup_follows.specs.Order.{InOrder}
-use Rattle.gup_follows.specs.Place.{starts_born}
-use Rattle.gup_owners.specs.Owners.{OwnsBytes, events_of}
+use Rattle.gup_spec_journal.specs.Plain.{IsPlain}
+use Rattle.gup_spec_journal.specs.Follows.{Follows}
+use Rattle.gup_spec_journal.specs.Order.{InOrder}
+use Rattle.gup_spec_journal.specs.Place.{starts_born}
+use Rattle.gup_law_owners.specs.Owners.{OwnsBytes, events_of}
 use Rattle.gup.specs.declared.top.Unread.{Unread}
 use Rattle.gup.specs.declared.top.Unread.TheVariants.{Failed, Fault, NoMemory}
 use Rattle.gup.specs.Cause.{HasCauses}
 use Rattle.gup.specs.Stuck.{IsFinishedRun, IsStuckRun, AreWaiting, run_text}
-use Rattle.gup_reader.specs.Fault.{HasFault}
-use Rattle.gup_reader.specs.Grammar.{Accepts}
-use Rattle.gup_reader.specs.declared.refusal.Reason.{Reason}
-use Rattle.gup_reader.specs.declared.refusal.Reason.TheVariants as reasons
-use Rattle.gup_reader.specs.declared.refusal.ScriptFault.{ScriptFault}
+use Rattle.gup_read.specs.Fault.{HasFault}
+use Rattle.gup_read.specs.Grammar.{Accepts}
+use Rattle.gup_read.specs.declared.refusal.Reason.{Reason}
+use Rattle.gup_read.specs.declared.refusal.Reason.TheVariants as reasons
+use Rattle.gup_read.specs.declared.refusal.ScriptFault.{ScriptFault}
 use Rattle.gup_script.specs.Script.{ScriptValue}
 
 -- The one command so far: the word `run` alone.

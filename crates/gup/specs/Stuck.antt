@@ -3,9 +3,9 @@ use Rattle.std.specs.Prelude.{◌≡◌, ℕ, ◌<◌, false, List, [], ◌++◌
 use Rattle.gup_plain.specs.Note.{NoteValue}
 use Rattle.gup_plain.specs.declared.note.Waiting.{Waiting}
 use Rattle.gup_script.specs.Script.{ScriptValue}
-use Rattle.gup_follows.specs.Place.{has_finished}
-use Rattle.gup_turns.specs.Cause.{HaveFinished, WaitsForBirthOrPin}
-use Rattle.gup_turns.specs.Run.{RunState, IsCoreRun, waiting_in}
+use Rattle.gup_spec_journal.specs.Place.{has_finished}
+use Rattle.gup_spec_turns.specs.Cause.{HaveFinished, WaitsForBirthOrPin}
+use Rattle.gup_spec_turns.specs.Run.{RunState, IsCoreRun, waiting_in}
 use Rattle.gup_sched.specs.Ran.{IsStuckAt}
 use Rattle.gup_lines.specs.Text.{stuck_line, text_of}
 

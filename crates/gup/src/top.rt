@@ -4,13 +4,13 @@ ghost use Rattle.std.specs.Io.KnownBytes.{Appends};
 ghost use Rattle.gup_io.specs.Transfers.{Loses, AppendsPart};
 ghost use Rattle.gup_io.specs.Faults.{HasCause, EndsInFault};
 ghost use Rattle.gup_script.specs.Script.{ScriptValue};
-ghost use Rattle.gup_follows.specs.Place.{starts_born};
-ghost use Rattle.gup_follows.specs.Plain.{IsPlain};
-ghost use Rattle.gup_follows.specs.Follows.{Follows};
-ghost use Rattle.gup_follows.specs.Order.{InOrder};
-ghost use Rattle.gup_owners.specs.Owners.{OwnsBytes, events_of};
-ghost use Rattle.gup_turns.specs.Cost.{operations};
-ghost use Rattle.gup_turns.specs.Run.{RunState, IsCoreRun};
+ghost use Rattle.gup_spec_journal.specs.Place.{starts_born};
+ghost use Rattle.gup_spec_journal.specs.Plain.{IsPlain};
+ghost use Rattle.gup_spec_journal.specs.Follows.{Follows};
+ghost use Rattle.gup_spec_journal.specs.Order.{InOrder};
+ghost use Rattle.gup_law_owners.specs.Owners.{OwnsBytes, events_of};
+ghost use Rattle.gup_spec_turns.specs.Cost.{operations};
+ghost use Rattle.gup_spec_turns.specs.Run.{RunState, IsCoreRun};
 ghost use Rattle.gup_lines.specs.Text.{text_of, outcomes_of};
 ghost use Rattle.gup.specs.Cause.{HasCauses};
 ghost use Rattle.gup.specs.Stuck.{IsFinishedRun, IsStuckRun, run_text};
@@ -20,12 +20,12 @@ use crate::text::{journal_text, push_stuck_lines, refusal_line};
 use gup_base::NoMemory;
 use gup_core::Machine;
 use gup_io::{ReadToEnd, Sink, Source, read_up_to, write_all};
-use gup_owners::plain_journals_are_owned;
+use gup_law_owners::plain_journals_are_owned;
 use gup_plain::Journal;
-use gup_reader::{ReadRefusal, ScriptFault, one_script, read_script, scripts_have_no_fault};
+use gup_read::{ReadRefusal, ScriptFault, one_script, read_script, scripts_have_no_fault};
 use gup_sched::run_all;
 use gup_script::Script;
-use gup_turns::{
+use gup_spec_turns::{
     core_run_follows, core_run_is_in_order, core_run_is_known, core_run_is_plain,
     finished_runs_answer_all, no_frame_has_its_cause, runs_end_at_waits,
 };

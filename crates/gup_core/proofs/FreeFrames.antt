@@ -4,7 +4,7 @@ use Rattle.gup_base.specs.declared.entry.Zone.{Zone}
 use Rattle.gup_base.specs.declared.entry.Zone.TheVariants.{Movable, Normal}
 use Rattle.gup_frames.specs.Frames.{FramesValue, free_in, free_of}
 use Rattle.gup_space.specs.Shows.{ShowsFrames}
-use Rattle.gup_events.specs.State.{CoreState}
+use Rattle.gup_spec_events.specs.State.{CoreState}
 use Rattle.gup_core.specs.Machine.{free_frames_in}
 
 same_free : (F G : FramesValue) (first n : ℕ) → ((f : ℕ) → F.count f ≡ G.count f) → free_in F first n ≡ free_in G first n

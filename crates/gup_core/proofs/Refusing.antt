@@ -7,17 +7,17 @@ use Rattle.gup_plain.specs.State.{Birth as CoreBirth, born, failed}
 use Rattle.gup_plain.specs.declared.note.What.{What}
 use Rattle.gup_script.specs.declared.op.Op.{Op}
 use Rattle.gup_script.specs.declared.op.Op.TheVariants.{Map, Unmap, Protect, Discard, Load, Store, Pin, Unpin, Give, Take, Transfer, Fork, Exit}
-use Rattle.gup_follows.specs.Place.{Doer, birth_by, birth_for}
+use Rattle.gup_spec_journal.specs.Place.{Doer, birth_by, birth_for}
 use Rattle.gup_maps.specs.Table.{at}
 use Rattle.gup_frames.specs.Frames.{FramesValue, frames_of}
 use Rattle.gup_space.specs.Space.{SpaceParts, space_of}
 use Rattle.gup_space.specs.Shows.{ShowsFrames, ShowsSpace}
-use Rattle.gup_events.specs.State.{CoreState, Job, idle, marking, moving, forking, walking, ForkStep, between, counted, lowered, cleared, copying, failing}
-use Rattle.gup_events.specs.Event.{CoreEvent, fail_unborn}
-use Rattle.gup_events.specs.Invariant.{run}
-use Rattle.gup_events.specs.Sound.{IsSound, forking_of}
-use Rattle.gup_turns.specs.Turn.{Taken, op_turn, failed_turn, turn_at, turn_of, waits_born}
-use Rattle.gup_turns.specs.Reached.{StandsFork, place_in}
+use Rattle.gup_spec_events.specs.State.{CoreState, Job, idle, marking, moving, forking, walking, ForkStep, between, counted, lowered, cleared, copying, failing}
+use Rattle.gup_spec_events.specs.Event.{CoreEvent, fail_unborn}
+use Rattle.gup_spec_events.specs.Invariant.{run}
+use Rattle.gup_spec_events.specs.Sound.{IsSound, forking_of}
+use Rattle.gup_spec_turns.specs.Turn.{Taken, op_turn, failed_turn, turn_at, turn_of, waits_born}
+use Rattle.gup_spec_turns.specs.Reached.{StandsFork, place_in}
 use Rattle.gup_ops.specs.declared.forks.ForkPlace.{ForkPlace}
 use Rattle.gup_core.specs.declared.births.Birth.{Birth}
 use Rattle.gup_core.specs.declared.births.Birth.TheVariants.{Unborn, Growing, Born, Failed}

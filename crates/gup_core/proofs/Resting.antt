@@ -9,18 +9,18 @@ use Rattle.gup_script.specs.declared.op.Op.{Op}
 use Rattle.gup_script.specs.declared.op.Op.TheVariants.{Map, Unmap, Protect, Discard, Load, Store, Pin, Unpin, Give, Take, Transfer, Fork, Exit}
 use Rattle.gup_script.specs.Script.{ScriptValue}
 use Rattle.gup_script.specs.Valid.{IsScript}
-use Rattle.gup_follows.specs.Place.{ops_of, process_of, present_op}
+use Rattle.gup_spec_journal.specs.Place.{ops_of, process_of, present_op}
 use Rattle.gup_frames.specs.Frames.{FramesValue, IsFrame, frames_of}
 use Rattle.gup_space.specs.Space.{SpaceValue, space_of}
 use Rattle.gup_space.specs.Shows.{ShowsFrames, ShowsSpace}
 use Rattle.gup_handles.specs.Handles.{HandleValue, handles_of}
 use Rattle.gup_handles.specs.Handles as kept
-use Rattle.gup_events.specs.Event.{bias, frames_of as frames_taken}
-use Rattle.gup_events.specs.State.{CoreState, Taken, Job, idle, marking, moving, forking, walking, between, counted, lowered, cleared, copying, failing}
-use Rattle.gup_events.specs.Sound.{IsSound, keeps_table, keeps_structure}
-use Rattle.gup_turns.specs.Run.{RunState, run_start, run_after}
-use Rattle.gup_turns.specs.Turn.{first_behind}
-use Rattle.gup_turns.specs.Reached.{turned, ForkPlace, fork_place, place_in, IsStanding, IsNoFork, StandsFork, IsForking, HasCounted, IsPrepared, StandsHandle, given_back, back_in}
+use Rattle.gup_spec_events.specs.Event.{bias, frames_of as frames_taken}
+use Rattle.gup_spec_events.specs.State.{CoreState, Taken, Job, idle, marking, moving, forking, walking, between, counted, lowered, cleared, copying, failing}
+use Rattle.gup_spec_events.specs.Sound.{IsSound, keeps_table, keeps_structure}
+use Rattle.gup_spec_turns.specs.Run.{RunState, run_start, run_after}
+use Rattle.gup_spec_turns.specs.Turn.{first_behind}
+use Rattle.gup_spec_turns.specs.Reached.{turned, ForkPlace, fork_place, place_in, IsStanding, IsNoFork, StandsFork, IsForking, HasCounted, IsPrepared, StandsHandle, given_back, back_in}
 use Rattle.gup_ops.specs.Far.{HasFar}
 use Rattle.gup_ops.specs.Forked.{IsCountedIn, IsCopyOf, IsReadyAt}
 use Rattle.gup_ops.specs.Pins.{IsPin, frames_in}

@@ -3,16 +3,16 @@ use Rattle.std.proofs.Common.{◌≡◌, ℕ, Bool, true, false, ◌<◌, if◌t
 use Rattle.std.proofs.lemmas.Option.{slice_get_within}
 use Rattle.gup_plain.specs.State.{born, unborn}
 use Rattle.gup_script.specs.Script.{ScriptValue}
-use Rattle.gup_follows.specs.Place.{present_op, first_place, starts_born, doer}
+use Rattle.gup_spec_journal.specs.Place.{present_op, first_place, starts_born, doer}
 use Rattle.arrayvec.specs.ArrayVec.{ArrayVec}
 use Rattle.gup_device.specs.Store.{StoreValue}
-use Rattle.gup_events.specs.State.{CoreState}
+use Rattle.gup_spec_events.specs.State.{CoreState}
 use Rattle.gup_frames.specs.Frames.{FramesValue, frames_of, no_references}
 use Rattle.gup_handles.specs.Handles.{HandlesValue, handles_of, unmade}
 use Rattle.gup_space.specs.Space.{SpaceValue, SpaceParts, space_of, no_space}
 use Rattle.gup_space.specs.Shows.{ShowsFrames, ShowsSpace}
-use Rattle.gup_turns.specs.Run.{run_start}
-use Rattle.gup_turns.specs.ScriptLemmas.{all_at}
+use Rattle.gup_spec_turns.specs.Run.{run_start}
+use Rattle.gup_spec_turns.specs.ScriptLemmas.{all_at}
 use Rattle.gup_ops.specs.declared.forks.ForkPlace.TheVariants.{Unbegun}
 use Rattle.gup_ops.specs.Forked.{place_of}
 use Rattle.gup_ops.specs.Pins.{ShowsPins}

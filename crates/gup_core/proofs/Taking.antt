@@ -10,14 +10,14 @@ use Rattle.gup_plain.specs.declared.note.What.TheVariants.{Idle, Wait}
 use Rattle.gup_script.specs.declared.op.Op.{Op}
 use Rattle.gup_script.specs.declared.op.Op.TheVariants.{Map, Unmap, Protect, Discard, Load, Store, Pin, Unpin, Give, Take, Transfer, Fork, Exit}
 use Rattle.gup_script.specs.Script.{ScriptValue}
-use Rattle.gup_follows.specs.Place.{Place, Doer, doer, place_behind, process_of, present_op, birth_for}
-use Rattle.gup_follows.specs.Follows.{notes_of_turn}
-use Rattle.gup_follows.specs.Order.{Turn, places_behind, pointer_after}
-use Rattle.gup_events.specs.State.{CoreState}
-use Rattle.gup_events.specs.Invariant.{run}
-use Rattle.gup_turns.specs.Turn.{Taken, turn_of, waiting_for}
-use Rattle.gup_turns.specs.Run.{RunState, op_in, waiting_with, waiting_in, taken_by, taken_in, run_after, written_in}
-use Rattle.gup_turns.specs.Reached.{IsStanding, place_in}
+use Rattle.gup_spec_journal.specs.Place.{Place, Doer, doer, place_behind, process_of, present_op, birth_for}
+use Rattle.gup_spec_journal.specs.Follows.{notes_of_turn}
+use Rattle.gup_spec_journal.specs.Order.{Turn, places_behind, pointer_after}
+use Rattle.gup_spec_events.specs.State.{CoreState}
+use Rattle.gup_spec_events.specs.Invariant.{run}
+use Rattle.gup_spec_turns.specs.Turn.{Taken, turn_of, waiting_for}
+use Rattle.gup_spec_turns.specs.Run.{RunState, op_in, waiting_with, waiting_in, taken_by, taken_in, run_after, written_in}
+use Rattle.gup_spec_turns.specs.Reached.{IsStanding, place_in}
 use Rattle.gup_ops.specs.declared.forks.ForkPlace.{ForkPlace}
 use Rattle.gup_ops.specs.declared.said.Said.{Said}
 use Rattle.gup_ops.specs.Far.{far_in}

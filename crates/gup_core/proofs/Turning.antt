@@ -19,11 +19,11 @@ use Rattle.gup_space.specs.Shows.{ShowsFrames, ShowsSpace, change_of}
 use Rattle.gup_space.specs.ShowsLemmas.{leave_other}
 use Rattle.gup_fork.specs.Forks.{fork_change_of}
 use Rattle.gup_handles.specs.Handles.{handles_of}
-use Rattle.gup_events.specs.State.{CoreState, Taken as TakenPage}
-use Rattle.gup_events.specs.Event.{CoreEvent, frames_of as frames_taken}
-use Rattle.gup_events.specs.Invariant.{run}
-use Rattle.gup_turns.specs.Turn.{Taken, op_turn, fork_turn, pin_turn}
-use Rattle.gup_turns.specs.Reached.{IsNoFork, fork_place}
+use Rattle.gup_spec_events.specs.State.{CoreState, Taken as TakenPage}
+use Rattle.gup_spec_events.specs.Event.{CoreEvent, frames_of as frames_taken}
+use Rattle.gup_spec_events.specs.Invariant.{run}
+use Rattle.gup_spec_turns.specs.Turn.{Taken, op_turn, fork_turn, pin_turn}
+use Rattle.gup_spec_turns.specs.Reached.{IsNoFork, fork_place}
 use Rattle.gup_ops.specs.declared.forks.ForkPlace.{ForkPlace}
 use Rattle.gup_ops.specs.declared.said.Said.{Said}
 use Rattle.gup_ops.specs.Alone.{IsAlone}

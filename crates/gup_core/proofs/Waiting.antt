@@ -9,13 +9,13 @@ use Rattle.gup_script.specs.declared.op.Op.{Op}
 use Rattle.gup_script.specs.declared.op.Op.TheVariants.{Map, Unmap, Protect, Discard, Load, Store, Pin, Unpin, Give, Take, Transfer, Fork, Exit}
 use Rattle.gup_space.specs.Space.{SpaceValue}
 use Rattle.gup_space.specs.Shows.{ShowsSpace}
-use Rattle.gup_events.specs.State.{CoreState, Job, idle, marking, moving, forking, walking, between, counted, lowered, cleared, copying, failing}
-use Rattle.gup_turns.specs.Turn.{both_if, fork_locks, locks_needed, held_by_other, first_waiting, waits_for_locks, waits_at, waits_born, waiting_for, first_behind, allows_store}
-use Rattle.gup_turns.specs.Reached.{ForkPlace, fork_place, place_in, IsNoFork, StandsFork}
+use Rattle.gup_spec_events.specs.State.{CoreState, Job, idle, marking, moving, forking, walking, between, counted, lowered, cleared, copying, failing}
+use Rattle.gup_spec_turns.specs.Turn.{both_if, fork_locks, locks_needed, held_by_other, first_waiting, waits_for_locks, waits_at, waits_born, waiting_for, first_behind, allows_store}
+use Rattle.gup_spec_turns.specs.Reached.{ForkPlace, fork_place, place_in, IsNoFork, StandsFork}
 use Rattle.gup_handles.specs.Handles.{HandleValue, IsGivenTo as IsKeptFor}
 use Rattle.gup_handles.specs.Handles as kept
-use Rattle.gup_follows.specs.Order.{is_given_to, taking_waits, handle_waits}
-use Rattle.gup_follows.specs.Place.{Doer, birth_by}
+use Rattle.gup_spec_journal.specs.Order.{is_given_to, taking_waits, handle_waits}
+use Rattle.gup_spec_journal.specs.Place.{Doer, birth_by}
 use Rattle.gup_ops.specs.Pins.{IsPin}
 use Rattle.gup_ops.specs.Tidy.{needs_table}
 use Rattle.gup_core.specs.Locks.{fork_needs, child_in}

@@ -2,7 +2,7 @@
 use Rattle.std.specs.Prelude.{◌≡◌, ℕ, true, false, Option, Some, None}
 use Rattle.gup_script.specs.declared.op.Op.{Op}
 use Rattle.gup_script.specs.declared.op.Op.TheVariants.{Map, Unmap, Protect, Discard, Load, Store, Pin, Unpin, Give, Take, Transfer, Fork, Exit}
-use Rattle.gup_follows.specs.Place.{Doer}
+use Rattle.gup_spec_journal.specs.Place.{Doer}
 
 abbrev pub HasProcess : Op → Type 0
 HasProcess (Map page n rights) = Unit {0}

@@ -5,16 +5,16 @@ use Rattle.gup_base.specs.declared.entry.Zone.{Zone}
 use Rattle.gup_plain.specs.Note.{NoteValue}
 use Rattle.gup_plain.specs.State.{Birth, born, unborn, growing, failed}
 use Rattle.gup_script.specs.Script.{ScriptValue}
-use Rattle.gup_follows.specs.Place.{present_op, doer}
-use Rattle.gup_follows.specs.Follows.{notes_of_turn}
+use Rattle.gup_spec_journal.specs.Place.{present_op, doer}
+use Rattle.gup_spec_journal.specs.Follows.{notes_of_turn}
 use Rattle.gup_frames.specs.Frames.{frames_of, free_of}
 use Rattle.gup_space.specs.Space.{SpaceValue, SpaceParts, space_of}
 use Rattle.gup_space.specs.Shows.{ShowsFrames, ShowsSpace}
 use Rattle.gup_handles.specs.Handles.{handles_of}
-use Rattle.gup_events.specs.State.{CoreState}
-use Rattle.gup_events.specs.Event.{frames_of as frames_taken}
-use Rattle.gup_turns.specs.Run.{RunState, run_start, run_after, taken_in}
-use Rattle.gup_turns.specs.Reached.{turned, place_in}
+use Rattle.gup_spec_events.specs.State.{CoreState}
+use Rattle.gup_spec_events.specs.Event.{frames_of as frames_taken}
+use Rattle.gup_spec_turns.specs.Run.{RunState, run_start, run_after, taken_in}
+use Rattle.gup_spec_turns.specs.Reached.{turned, place_in}
 use Rattle.gup_ops.specs.Forked.{place_of}
 use Rattle.gup_ops.specs.Pins.{ShowsPins}
 use Rattle.gup_held.specs.Held.{ShowsStore, slots_in}

@@ -5,12 +5,12 @@ use Rattle.gup_plain.specs.Event.{page_numbers}
 use Rattle.gup_script.specs.declared.op.Op.{Op}
 use Rattle.gup_script.specs.declared.op.Op.TheVariants.{Pin, Fork}
 use Rattle.gup_script.specs.Valid.{IsScript}
-use Rattle.gup_follows.specs.Place.{ops_of, process_of}
+use Rattle.gup_spec_journal.specs.Place.{ops_of, process_of}
 use Rattle.gup_frames.specs.Frames.{frames_of}
 use Rattle.gup_space.specs.Space.{SpaceValue, SpaceParts, space_of}
 use Rattle.gup_handles.specs.Handles.{handles_of, unmade}
-use Rattle.gup_events.specs.Event.{bias}
-use Rattle.gup_turns.specs.Reached.{IsNoFork}
+use Rattle.gup_spec_events.specs.Event.{bias}
+use Rattle.gup_spec_turns.specs.Reached.{IsNoFork}
 use Rattle.gup_ops.specs.Far.{HasFar}
 use Rattle.gup_ops.specs.Forked.{place_of, IsReadyAt}
 use Rattle.gup_ops.specs.Pins.{IsWeighed}

@@ -2,7 +2,7 @@
 use Rattle.std.specs.Prelude.{◌≡◌, ℕ, ◌+◌, Bool, if◌then◌else◌, List, replicate, Option}
 use Rattle.gup_script.specs.declared.op.Op.{Op}
 use Rattle.gup_script.specs.declared.op.Op.TheVariants.{Map, Unmap, Protect, Discard, Load, Store, Pin, Unpin, Give, Take, Transfer, Fork, Exit}
-use Rattle.gup_follows.specs.Place.{Place}
+use Rattle.gup_spec_journal.specs.Place.{Place}
 use Rattle.gup_ops.specs.declared.forks.ForkPlace.{ForkPlace}
 use Rattle.gup_ops.specs.declared.forks.ForkPlace.TheVariants.{Unbegun}
 use Rattle.gup_ops.specs.Far.{far_in}

@@ -1,6 +1,6 @@
 //! Which processes are born.
 ghost use Rattle.std.specs.Prelude.{◌≡◌, ℕ, ◌<◌, length, slice_get, Some, IfOk, IfSome, IsTrue, if◌then◌else◌};
-ghost use Rattle.gup_follows.specs.Place.{starts_born};
+ghost use Rattle.gup_spec_journal.specs.Place.{starts_born};
 ghost use Rattle.gup_core.specs.declared.births.Birth.TheVariants.{Unborn, Born};
 ghost use Rattle.gup_core.specs.Births.{HasFailed};
 

@@ -1,18 +1,18 @@
 //! What actors wait for: processes to be born, pins to be given to them, and locks that others hold.
 ghost use Rattle.std.specs.Prelude.{◌≡◌, ℕ, ◌<◌, length, slice_get, Some, IsSome, IfSome};
 ghost use Rattle.gup_script.specs.declared.op.Op.TheVariants.{Fork};
-ghost use Rattle.gup_events.specs.State.{CoreState};
+ghost use Rattle.gup_spec_events.specs.State.{CoreState};
 ghost use Rattle.gup_space.specs.Space.{space_of};
 ghost use Rattle.gup_handles.specs.Handles.{handles_of};
-ghost use Rattle.gup_turns.specs.Turn.{waits_for_lock as lock_waited, waits_for_locks as locks_waited};
-ghost use Rattle.gup_turns.specs.Turn.{both_if, held_by_other as other_holding, locks_needed as needed, waiting_for};
-ghost use Rattle.gup_turns.specs.Reached.{place_in};
+ghost use Rattle.gup_spec_turns.specs.Turn.{waits_for_lock as lock_waited, waits_for_locks as locks_waited};
+ghost use Rattle.gup_spec_turns.specs.Turn.{both_if, held_by_other as other_holding, locks_needed as needed, waiting_for};
+ghost use Rattle.gup_spec_turns.specs.Reached.{place_in};
 ghost use Rattle.gup_ops.specs.Forked.{place_of};
 ghost use Rattle.gup_ops.specs.Pins.{ShowsPins};
 ghost use Rattle.gup_ops.specs.Tidy.{AreNumbered};
 ghost use Rattle.gup_core.specs.Locks.{locks_of, fork_needs, child_in};
-ghost use Rattle.gup_follows.specs.Place.{Doer};
-ghost use Rattle.gup_follows.specs.Order.{is_given_to, taking_waits};
+ghost use Rattle.gup_spec_journal.specs.Place.{Doer};
+ghost use Rattle.gup_spec_journal.specs.Order.{is_given_to, taking_waits};
 ghost use Rattle.gup_core.specs.Doers.{HasProcess, IsProcessOf};
 ghost use Rattle.gup_core.specs.Machine.{EachSpace, ShowsSpaces, ShowsParts};
 ghost use Rattle.gup_core.specs.Goes.{StandsAt};

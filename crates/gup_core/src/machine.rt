@@ -1,7 +1,7 @@
 //! The machine for many processes and actors.
 ghost use Rattle.std.specs.Prelude.{◌≡◌, ℕ, ◌<◌, length, slice_get, Some, IfOk};
-ghost use Rattle.gup_follows.specs.Place.{has_finished};
-ghost use Rattle.gup_turns.specs.Run.{RunState, waiting_in};
+ghost use Rattle.gup_spec_journal.specs.Place.{has_finished};
+ghost use Rattle.gup_spec_turns.specs.Run.{RunState, waiting_in};
 ghost use Rattle.gup_core.specs.Machine.{Shows, TakesTurns, IsNew, free_frames_in};
 ghost use Rattle.gup_core.specs.Rest.{IsAtRest};
 
@@ -74,7 +74,7 @@ impl Machine {
         ensures script { self.new.script ≡ self.old.script }
     {
         self.rests();
-        gup_turns::reached_states_stand();
+        gup_spec_turns::reached_states_stand();
         let seat = self.seat(actor);
         let number = next_turn(self.turns);
         self.turns = number;
@@ -110,7 +110,7 @@ impl Machine {
         ensures { (r : RunState) → Shows self.now r → result ≡ waiting_in self.now.script r actor }
     {
         self.rests();
-        gup_turns::reached_states_stand();
+        gup_spec_turns::reached_states_stand();
         let seat = self.seat(actor);
         let Some(op) = op_at(ops(&self.script, actor), seat.answered) else {
             return None;
@@ -148,6 +148,6 @@ impl Machine {
     {
         let _actors = self.script.actors();
         self.parts.frames.are_there();
-        gup_turns::reached_states_stand();
+        gup_spec_turns::reached_states_stand();
     }
 }

@@ -1,6 +1,6 @@
 //! The notes of one turn.
 ghost use Rattle.std.specs.Prelude.{◌≡◌, ◌≤◌, length, [], ◌∷◌};
-ghost use Rattle.gup_follows.specs.Follows.{note_of, notes_of_turn};
+ghost use Rattle.gup_spec_journal.specs.Follows.{note_of, notes_of_turn};
 
 use gup_base::ActorNo;
 use gup_plain::{Note, What};

@@ -5,8 +5,8 @@ use Rattle.gup_base.specs.declared.entry.Entry.{Entry}
 use Rattle.gup_plain.specs.Put.{put}
 use Rattle.gup_frames.specs.Frames.{FramesValue}
 use Rattle.gup_space.specs.Shows.{Change}
-use Rattle.gup_events.specs.Event.{entry_of}
-use Rattle.gup_events.specs.Invariant.{frame_of}
+use Rattle.gup_spec_events.specs.Event.{entry_of}
+use Rattle.gup_spec_events.specs.Invariant.{frame_of}
 use Rattle.gup_fault.specs.Faults.{page_word, KeepsBytes}
 use Rattle.gup_fault.proofs.Puts.{put_here, put_away}
 

@@ -8,9 +8,9 @@ use Rattle.gup_space.specs.Space.{SpaceValue, with_entry}
 use Rattle.gup_space.specs.Shows.{Change, unlocked, AreEvents}
 use Rattle.gup_space.specs.After.{taking, filling, counting, marking_it, upgrading, breaking, putting, IsMadeBy}
 use Rattle.gup_space.specs.ShowsLemmas.{are_events, same_shown}
-use Rattle.gup_events.specs.Event.{CoreEvent, entry_of, take_frame, fill, upgrade, break_entry, put_entry}
-use Rattle.gup_events.specs.Invariant.{frame_of}
-use Rattle.gup_events.specs.Fault.{Fault, events_of, refusal_of, fills, fills_writable, marks, breaks}
+use Rattle.gup_spec_events.specs.Event.{CoreEvent, entry_of, take_frame, fill, upgrade, break_entry, put_entry}
+use Rattle.gup_spec_events.specs.Invariant.{frame_of}
+use Rattle.gup_spec_events.specs.Fault.{Fault, events_of, refusal_of, fills, fills_writable, marks, breaks}
 use Rattle.gup_fault.specs.Faults.{KeepsBytes, IsFault, one_event, page_word, HasEntry, IsExclusiveEntry}
 use Rattle.gup_fault.proofs.Puts.{put_here, put_away}
 use Rattle.gup_fault.proofs.Bytes.{keeps_frames, keeps_replaced}

@@ -6,9 +6,9 @@ use Rattle.gup_plain.specs.declared.answer.Answer.TheVariants as answers
 use Rattle.gup_frames.specs.Frames.{FramesValue, with_mark}
 use Rattle.gup_space.specs.Space.{SpaceValue, with_entry}
 use Rattle.gup_space.specs.Shows.{Change}
-use Rattle.gup_events.specs.Event.{entry_of, upgrade}
-use Rattle.gup_events.specs.Invariant.{frame_of}
-use Rattle.gup_events.specs.Fault.{marks, unshares, makes_writable}
+use Rattle.gup_spec_events.specs.Event.{entry_of, upgrade}
+use Rattle.gup_spec_events.specs.Invariant.{frame_of}
+use Rattle.gup_spec_events.specs.Fault.{marks, unshares, makes_writable}
 use Rattle.gup_fault.specs.declared.denied.NoFrame.{NoFrame as NoFrameError}
 use Rattle.gup_fault.specs.Refused.{frame_denial}
 use Rattle.gup_fault.specs.Faults.{IsFault, IsUnchanged, IsExclusiveEntry, IsMarked, IsWritable, IsReadOnly, KeepsAlone}

@@ -5,9 +5,9 @@ use Rattle.gup_plain.specs.declared.answer.Answer.{Answer}
 use Rattle.gup_frames.specs.Frames.{FramesValue}
 use Rattle.gup_space.specs.Shows.{Change, AreEvents}
 use Rattle.gup_space.specs.Counted.{AreCounted}
-use Rattle.gup_events.specs.Event.{CoreEvent}
-use Rattle.gup_events.specs.Invariant.{frame_of}
-use Rattle.gup_events.specs.Fault.{Fault, events_of, refusal_of}
+use Rattle.gup_spec_events.specs.Event.{CoreEvent}
+use Rattle.gup_spec_events.specs.Invariant.{frame_of}
+use Rattle.gup_spec_events.specs.Fault.{Fault, events_of, refusal_of}
 
 -- the word of a page: that of its frame, or 0 where it has no entry
 abbrev pub page_word : FramesValue → Option Entry → (w : ℕ) → ℕ

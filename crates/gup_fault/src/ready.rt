@@ -2,7 +2,7 @@
 ghost use Rattle.std.specs.Prelude.{◌≡◌, ℕ, true, false, Some, None, Ok, OnOk, IsSome};
 ghost use Rattle.gup_base.specs.declared.entry.Entry.{Entry as EntryValue};
 ghost use Rattle.gup_frames.specs.Frames.{frames_of, free_frame};
-ghost use Rattle.gup_events.specs.Fault.{read_fault, unshare_fault, unshares, write_fault, makes_writable};
+ghost use Rattle.gup_spec_events.specs.Fault.{read_fault, unshare_fault, unshares, write_fault, makes_writable};
 ghost use Rattle.gup_space.specs.Space.{space_of, HasRoom};
 ghost use Rattle.gup_space.specs.Shows.{change_of};
 ghost use Rattle.gup_space.specs.Counted.{IsCounted};

@@ -3,8 +3,8 @@ ghost use Rattle.std.specs.Prelude.{◌≡◌, ℕ, ◌+◌, true, false, Some, 
 ghost use Rattle.gup_base.specs.declared.entry.Entry.{Entry as EntryValue};
 ghost use Rattle.gup_base.specs.declared.entry.Rights.TheVariants.{RW};
 ghost use Rattle.gup_frames.specs.Frames.{frames_of, free_frame};
-ghost use Rattle.gup_events.specs.Event.{upgrade as upgrades};
-ghost use Rattle.gup_events.specs.Fault.{fills, fills_writable, marks, breaks};
+ghost use Rattle.gup_spec_events.specs.Event.{upgrade as upgrades};
+ghost use Rattle.gup_spec_events.specs.Fault.{fills, fills_writable, marks, breaks};
 ghost use Rattle.gup_space.specs.Space.{space_of, HasRoom};
 ghost use Rattle.gup_space.specs.Shows.{change_of, AreEvents};
 ghost use Rattle.gup_space.specs.Counted.{IsCounted};

@@ -5,7 +5,7 @@ use Rattle.gup_base.specs.declared.entry.Rights.{Rights}
 use Rattle.gup_frames.specs.Frames.{FramesValue, with_mark, with_word}
 use Rattle.gup_space.specs.Space.{SpaceValue, with_entry}
 use Rattle.gup_space.specs.ShowsLemmas.{same_shown}
-use Rattle.gup_events.specs.Event.{copy_word, place_child, entry_of, is_writable}
+use Rattle.gup_spec_events.specs.Event.{copy_word, place_child, entry_of, is_writable}
 use Rattle.gup_fork.specs.Forks.{with_table, AreForkEvents}
 use Rattle.gup_fork.specs.ForkAfter.{writing, placing}
 use Rattle.gup_fork.specs.ForkLemmas.{are_shown_fork_events}

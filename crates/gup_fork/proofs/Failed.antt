@@ -6,10 +6,10 @@ use Rattle.gup_plain.specs.Event.{page_numbers}
 use Rattle.gup_frames.specs.Frames.{FramesValue}
 use Rattle.gup_space.specs.Space.{SpaceValue, with_entry}
 use Rattle.gup_space.specs.After.{IsShownAs}
-use Rattle.gup_events.specs.State.{ForkStep}
-use Rattle.gup_events.specs.Event.{CoreEvent, fail_fork, put_child}
-use Rattle.gup_events.specs.Failure.{are_gone, puts_entry, puts_entries, fails}
-use Rattle.gup_events.specs.Gone.{no_puts}
+use Rattle.gup_spec_events.specs.State.{ForkStep}
+use Rattle.gup_spec_events.specs.Event.{CoreEvent, fail_fork, put_child}
+use Rattle.gup_spec_events.specs.Failure.{are_gone, puts_entry, puts_entries, fails}
+use Rattle.gup_spec_events.specs.Gone.{no_puts}
 use Rattle.gup_fork.specs.Forks.{with_structure, with_table, AreForkEvents, without_entry, without_entries, table_behind, without_maps, emptied}
 use Rattle.gup_fork.specs.ForkAfter.{AreOfFork, failing_at, putting, parent_behind, all_frames_behind, all_parent_behind, all_child_behind}
 use Rattle.gup_fork.specs.ForkLemmas.{are_shown_fork_events}

@@ -4,7 +4,7 @@ ghost use Rattle.std.specs.Prelude.{◌≡◌, ℕ, [], ◌∷◌, List, Some, N
 ghost use Rattle.gup_base.specs.declared.entry.Entry.{Entry as EntryValue};
 ghost use Rattle.gup_base.specs.declared.entry.Rights.{Rights as RightsValue};
 ghost use Rattle.gup_frames.specs.Frames.{frames_of, IsFrame, with_mark, with_word};
-ghost use Rattle.gup_events.specs.Event.{copy_word as copies_word, place_child as places_child, entry_of, is_writable};
+ghost use Rattle.gup_spec_events.specs.Event.{copy_word as copies_word, place_child as places_child, entry_of, is_writable};
 ghost use Rattle.gup_space.specs.Space.{SpaceParts, space_of, with_entry, HasRoom};
 ghost use Rattle.gup_space.specs.Counted.{IsCounted};
 ghost use Rattle.gup_fork.specs.Forks.{fork_change_of, with_table, AreForkEvents};

@@ -3,8 +3,8 @@ ghost use Rattle.std.specs.Prelude.{◌≡◌, ℕ, ◌+◌, ◌<◌, ◌≤◌,
 ghost use Rattle.gup_base.specs.declared.entry.Entry.{Entry as EntryValue};
 ghost use Rattle.gup_plain.specs.Event.{page_numbers};
 ghost use Rattle.gup_frames.specs.Frames.{frames_of, IsFrame, without_references};
-ghost use Rattle.gup_events.specs.State.{ForkStep};
-ghost use Rattle.gup_events.specs.Failure.{fails};
+ghost use Rattle.gup_spec_events.specs.State.{ForkStep};
+ghost use Rattle.gup_spec_events.specs.Failure.{fails};
 ghost use Rattle.gup_maps.specs.Maps.{IsNextPage};
 ghost use Rattle.gup_space.specs.Space.{space_of, with_entry, without_page, AreMapped};
 ghost use Rattle.gup_space.specs.Counted.{AreCounted};

@@ -6,7 +6,7 @@ ghost use Rattle.std.specs.Prelude.{◌≡◌, ℕ, ◌+◌, ◌<◌, ◌^◌, f
 ghost use Rattle.gup_base.specs.declared.entry.Entry.{Entry as EntryValue};
 ghost use Rattle.gup_base.specs.declared.entry.Zone.{Zone as ZoneValue};
 ghost use Rattle.gup_frames.specs.Frames.{FrameLists, frames_of, free_of};
-ghost use Rattle.gup_events.specs.Event.{begin_fork, end_fork, entry_of};
+ghost use Rattle.gup_spec_events.specs.Event.{begin_fork, end_fork, entry_of};
 ghost use Rattle.gup_space.specs.Space.{SpaceParts, space_of, HasRoom};
 ghost use Rattle.gup_space.specs.Counted.{IsCounted};
 ghost use Rattle.gup_fork.specs.Forks.{fork_change_of, with_structure, with_table, AreForkEvents, with_maps_of, copies_frame, shares, shared, with_shared};

@@ -1,8 +1,8 @@
 -- What handles are to a state of the core machine, and which events their changes are.
 use Rattle.std.specs.Prelude.{◌≡◌, ℕ, ◌⊎◌, List, Option, Some, None}
 use Rattle.gup_plain.specs.State as plain
-use Rattle.gup_events.specs.State.{CoreState}
-use Rattle.gup_events.specs.Event.{CoreEvent, happens, unpin_page, put_reference}
+use Rattle.gup_spec_events.specs.State.{CoreState}
+use Rattle.gup_spec_events.specs.Event.{CoreEvent, happens, unpin_page, put_reference}
 use Rattle.gup_handles.specs.Handles.{HandleValue, HandlesValue, unmade, held, given, got, gone, but_last}
 
 -- What a state has of a handle: the plain handle, the frames of its pages, and the holder and frame of a reference. A pin

@@ -3,8 +3,8 @@ ghost use Rattle.std.specs.Prelude.{◌≡◌, ℕ, Bool, ◌<◌, ◌≤◌, �
 ghost use Rattle.std.specs.Bool.{OnTrue};
 ghost use Rattle.arrayvec.specs.ArrayVec.{array_vec_len};
 ghost use Rattle.gup_plain.specs.Put.{put};
-ghost use Rattle.gup_events.specs.State.{CoreState};
-ghost use Rattle.gup_events.specs.Event.{happens, make_handle, give_handle, take_handle, get_reference, frames_of, writes_taken};
+ghost use Rattle.gup_spec_events.specs.State.{CoreState};
+ghost use Rattle.gup_spec_events.specs.Event.{happens, make_handle, give_handle, take_handle, get_reference, frames_of, writes_taken};
 ghost use Rattle.gup_handles.specs.Handles.{handles_of, unmade, held, got, IsPinOf, IsHeldBy, IsGivenTo, given_to, taken_by, without_last, HasLast};
 ghost use Rattle.gup_handles.specs.Shows.{ShowsHandles, IsEvent, drops};
 

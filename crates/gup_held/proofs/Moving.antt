@@ -16,10 +16,10 @@ use Rattle.gup_space.specs.After.{moving_out, moving_in}
 use Rattle.gup_space.specs.Shows.{ShowsFrames}
 use Rattle.gup_space.specs.ShowsLemmas.{shows_frames}
 use Rattle.gup_handles.specs.Handles.{HandleValue, HandlesValue, unmade, held, given, got, gone}
-use Rattle.gup_events.specs.State.{CoreState}
-use Rattle.gup_events.specs.Event.{happens, move_out, move_in}
-use Rattle.gup_follows.specs.Follows.{moves_word}
-use Rattle.gup_turns.specs.Turn.{frame_at, moves_value, moves_from, moved_if, word_turn, transfer_turn, transfer_turn_by}
+use Rattle.gup_spec_events.specs.State.{CoreState}
+use Rattle.gup_spec_events.specs.Event.{happens, move_out, move_in}
+use Rattle.gup_spec_journal.specs.Follows.{moves_word}
+use Rattle.gup_spec_turns.specs.Turn.{frame_at, moves_value, moves_from, moved_if, word_turn, transfer_turn, transfer_turn_by}
 use Rattle.gup_ops.specs.declared.said.Said.{Said}
 use Rattle.gup_ops.specs.Said.{whats_of}
 use Rattle.gup_ops.specs.Pins.{IsPin, ShowsPins, IsWeighed, frames_in}

@@ -13,11 +13,11 @@ use Rattle.gup_frames.specs.Frames.{FramesValue, FrameLists, frames_of, with_wor
 use Rattle.gup_device.specs.Store.{store_of}
 use Rattle.gup_space.specs.Shows.{ShowsFrames}
 use Rattle.gup_handles.specs.Handles.{HandleValue, HandlesValue, handles_of, unmade, held, given, got, gone, without_last, HasLast}
-use Rattle.gup_events.specs.State.{CoreState}
-use Rattle.gup_events.specs.Event.{bias}
-use Rattle.gup_events.specs.Invariant.{run}
-use Rattle.gup_follows.specs.Follows.{moves_word}
-use Rattle.gup_turns.specs.Turn.{Taken, transfer_turn}
+use Rattle.gup_spec_events.specs.State.{CoreState}
+use Rattle.gup_spec_events.specs.Event.{bias}
+use Rattle.gup_spec_events.specs.Invariant.{run}
+use Rattle.gup_spec_journal.specs.Follows.{moves_word}
+use Rattle.gup_spec_turns.specs.Turn.{Taken, transfer_turn}
 use Rattle.gup_ops.specs.declared.said.Said.{Said}
 use Rattle.gup_ops.specs.Pins.{ShowsPins, frames_in}
 

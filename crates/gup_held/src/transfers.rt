@@ -5,7 +5,7 @@ ghost use Rattle.gup_plain.specs.declared.answer.Answer.TheVariants as answers;
 ghost use Rattle.gup_frames.specs.Frames.{frames_of, IsFrame};
 ghost use Rattle.gup_device.specs.Store.{store_of, IsSlot};
 ghost use Rattle.gup_handles.specs.Handles.{handles_of};
-ghost use Rattle.gup_follows.specs.Follows.{moves_word};
+ghost use Rattle.gup_spec_journal.specs.Follows.{moves_word};
 ghost use Rattle.gup_ops.specs.Said.{whats_of};
 ghost use Rattle.gup_ops.specs.Pins.{IsWeighed};
 ghost use Rattle.gup_held.specs.Held.{IsTransferTurn, HasMoved, IsMoved, IsRefused, handle_change_of, slots_in, fits_in, refusal_in};

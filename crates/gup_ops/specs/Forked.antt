@@ -10,10 +10,10 @@ use Rattle.gup_frames.specs.Frames.{FramesValue, IsFrame}
 use Rattle.gup_space.specs.Space.{SpaceValue}
 use Rattle.gup_space.specs.Shows.{ShowsFrames, ShowsSpace}
 use Rattle.gup_fork.specs.Forks.{ForkChange}
-use Rattle.gup_events.specs.State.{CoreState}
-use Rattle.gup_events.specs.Invariant.{run}
-use Rattle.gup_turns.specs.Turn.{Taken, fork_turn}
-use Rattle.gup_turns.specs.Reached.{ForkPlace, unbegun, from_page, at_page, wants_frame, at_word, place_in, KeepsFrame, StandsFork}
+use Rattle.gup_spec_events.specs.State.{CoreState}
+use Rattle.gup_spec_events.specs.Invariant.{run}
+use Rattle.gup_spec_turns.specs.Turn.{Taken, fork_turn}
+use Rattle.gup_spec_turns.specs.Reached.{ForkPlace, unbegun, from_page, at_page, wants_frame, at_word, place_in, KeepsFrame, StandsFork}
 use Rattle.gup_ops.specs.declared.forks.ForkPlace.{ForkPlace as KeptPlace}
 use Rattle.gup_ops.specs.declared.forks.ForkPlace.TheVariants.{Unbegun, From, At, Wanting, Copying}
 

@@ -4,7 +4,7 @@ ghost use Rattle.gup_script.specs.Valid.{IsOp};
 ghost use Rattle.gup_frames.specs.Frames.{frames_of};
 ghost use Rattle.gup_space.specs.Space.{space_of};
 ghost use Rattle.gup_space.specs.Shows.{change_of};
-ghost use Rattle.gup_turns.specs.Turn.{op_turn};
+ghost use Rattle.gup_spec_turns.specs.Turn.{op_turn};
 ghost use Rattle.gup_ops.specs.Tidy.{IsTidy, needs_table as table_needed};
 ghost use Rattle.gup_ops.specs.Said.{whats_of, IsTurnOf};
 ghost use Rattle.gup_ops.specs.Alone.{IsAlone};

@@ -1,8 +1,8 @@
 -- Who can go, and whom the pointer gives the turn.
 use Rattle.std.proofs.Common.{◌≡◌, ℕ, ◌-◌, ◌<◌, Bool, true, false, cond, Some, length, refl, sym, ap, subst, zero, suc, arith}
 use Rattle.gup_script.specs.Script.{ScriptValue}
-use Rattle.gup_follows.specs.Order.{behind}
-use Rattle.gup_turns.specs.Run.{RunState, can_go, pointed}
+use Rattle.gup_spec_journal.specs.Order.{behind}
+use Rattle.gup_spec_turns.specs.Run.{RunState, can_go, pointed}
 
 -- whom the pointer gives the turn can go
 pub pointed_goes : (script : ScriptValue) (r : RunState) (n from a : ℕ) → pointed script r n from ≡ Some a → can_go script r a ≡ true

@@ -1,9 +1,9 @@
 -- What a run of the machine has led to.
 use Rattle.std.specs.Prelude.{◌≡◌, ℕ, ◌<◌, Bool, true, false, length}
 use Rattle.gup_script.specs.Script.{ScriptValue}
-use Rattle.gup_follows.specs.Place.{has_finished}
-use Rattle.gup_turns.specs.Cause.{HaveFinished}
-use Rattle.gup_turns.specs.Run.{RunState}
+use Rattle.gup_spec_journal.specs.Place.{has_finished}
+use Rattle.gup_spec_turns.specs.Cause.{HaveFinished}
+use Rattle.gup_spec_turns.specs.Run.{RunState}
 
 -- an actor has operations left that it hasn't answered
 abbrev pub IsStuckAt : ScriptValue → RunState → Type 0

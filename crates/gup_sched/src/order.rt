@@ -1,7 +1,7 @@
 //! Whose turn the pointer gives.
 ghost use Rattle.std.specs.Prelude.{◌≡◌, ℕ, ◌<◌, ◌≤◌, IfSome, length};
-ghost use Rattle.gup_follows.specs.Order.{behind};
-ghost use Rattle.gup_turns.specs.Run.{RunState, can_go, pointed};
+ghost use Rattle.gup_spec_journal.specs.Order.{behind};
+ghost use Rattle.gup_spec_turns.specs.Run.{RunState, can_go, pointed};
 ghost use Rattle.gup_core.specs.Machine.{Shows};
 ghost use Rattle.gup_sched.specs.Ran.{SaysStuck};
 

@@ -1,8 +1,8 @@
 //! The run of a machine.
 ghost use Rattle.std.specs.Prelude.{◌≡◌, ℕ, ◌+◌, ◌*◌, ◌<◌, ◌≤◌, ◌++◌, List, length, IfOk, OnOk, OnErr};
 ghost use Rattle.gup_plain.specs.Note.{NoteValue};
-ghost use Rattle.gup_turns.specs.Cost.{operations, forks};
-ghost use Rattle.gup_turns.specs.Run.{RunState, IsCoreRun};
+ghost use Rattle.gup_spec_turns.specs.Cost.{operations, forks};
+ghost use Rattle.gup_spec_turns.specs.Run.{RunState, IsCoreRun};
 ghost use Rattle.gup_core.specs.Machine.{Shows, TakesTurn, IsNew};
 ghost use Rattle.gup_sched.specs.Ran.{SaysStuck};
 
@@ -11,7 +11,7 @@ use gup_base::{ActorNo, NoMemory};
 use gup_core::{Machine, Turn};
 use gup_plain::Journal;
 use gup_script::Script;
-use gup_turns::{reached_states_stand, turns_are_spent};
+use gup_spec_turns::{reached_states_stand, turns_are_spent};
 use std::alloc::Global;
 
 /// What a run leaves: its journal, whether it is stuck, which it is where an actor has operations left, and the

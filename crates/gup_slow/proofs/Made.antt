@@ -6,8 +6,8 @@ use Rattle.gup_base.specs.declared.entry.Want.{Want}
 use Rattle.gup_frames.specs.Frames.{FramesValue, with_references}
 use Rattle.gup_space.specs.Space.{SpaceValue}
 use Rattle.gup_space.specs.Shows.{Change, ShowsFrames, ShowsSpace, unlocked, AreEvents}
-use Rattle.gup_events.specs.State.{CoreState}
-use Rattle.gup_events.specs.Event.{happens, raise_flag, pin_page}
+use Rattle.gup_spec_events.specs.State.{CoreState}
+use Rattle.gup_spec_events.specs.Event.{happens, raise_flag, pin_page}
 use Rattle.gup_slow.specs.Pins.{pins}
 
 abbrev ch : (F F' : FramesValue) (S S' : SpaceValue) → Change

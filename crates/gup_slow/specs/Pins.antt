@@ -4,7 +4,7 @@ use Rattle.gup_base.specs.declared.entry.Entry.{Entry}
 use Rattle.gup_base.specs.declared.entry.Want.{Want}
 use Rattle.gup_frames.specs.Frames.{FramesValue, IsFrame}
 use Rattle.gup_space.specs.Space.{SpaceValue}
-use Rattle.gup_events.specs.Event.{CoreEvent, raise_flag, pin_page}
+use Rattle.gup_spec_events.specs.Event.{CoreEvent, raise_flag, pin_page}
 
 -- The entry and its frame are right for the pin: the frame has a reference, is marked, and has room for the weight of a
 -- pin; the entry is writable where the pin is to write, and the frame is of the normal zone where it is for long.

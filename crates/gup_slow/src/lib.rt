@@ -4,7 +4,7 @@
 
 ghost use Rattle.std.specs.Prelude.{◌≡◌, ℕ, true, Some};
 ghost use Rattle.gup_frames.specs.Frames.{frames_of, with_references};
-ghost use Rattle.gup_events.specs.Invariant.{frame_of};
+ghost use Rattle.gup_spec_events.specs.Invariant.{frame_of};
 ghost use Rattle.gup_space.specs.Space.{space_of};
 ghost use Rattle.gup_space.specs.Shows.{change_of, AreEvents};
 ghost use Rattle.gup_slow.specs.Pins.{IsReady, pins};

@@ -7,7 +7,7 @@ use Rattle.gup_plain.specs.Put.{put}
 use Rattle.gup_frames.specs.Frames.{FramesValue, taken, with_references, without_references, with_mark, with_word, copied}
 use Rattle.gup_space.specs.Shows.{Change, unlocked}
 use Rattle.gup_space.specs.Space.{SpaceValue, with_entry, with_rights, with_pages}
-use Rattle.gup_events.specs.Event.{CoreEvent, entry_of, take_frame, fill, count_one, set_mark, upgrade, break_entry, put_entry, drop_entry, discard_entry, map_pages, lower_entry, protect_pages, load, store, raise_flag, pin_page, make_handle, unpin_page, give_handle, take_handle, move_out, move_in, bias}
+use Rattle.gup_spec_events.specs.Event.{CoreEvent, entry_of, take_frame, fill, count_one, set_mark, upgrade, break_entry, put_entry, drop_entry, discard_entry, map_pages, lower_entry, protect_pages, load, store, raise_flag, pin_page, make_handle, unpin_page, give_handle, take_handle, move_out, move_in, bias}
 
 -- the event is one of faults, mappings, pins or data that concerns process p alone, or no process
 pub data IsOf (p : ℕ) : CoreEvent → Type 0 where

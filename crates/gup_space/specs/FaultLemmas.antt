@@ -5,8 +5,8 @@ use Rattle.gup_base.specs.declared.entry.Entry.{Entry}
 use Rattle.gup_base.specs.declared.entry.Rights.{Rights}
 use Rattle.gup_base.specs.declared.entry.Rights.TheVariants.{R, RW}
 use Rattle.gup_space.specs.After.{AreOf, taking, filling, counting, marking_it, upgrading, breaking, putting, dropping, discarding}
-use Rattle.gup_events.specs.Event.{upgrade}
-use Rattle.gup_events.specs.Fault.{events_of, fills, breaks, marks, read_fault, unshares, unshare_fault, makes_writable, fills_writable, write_fault, takes_down, discards}
+use Rattle.gup_spec_events.specs.Event.{upgrade}
+use Rattle.gup_spec_events.specs.Fault.{events_of, fills, breaks, marks, read_fault, unshares, unshare_fault, makes_writable, fills_writable, write_fault, takes_down, discards}
 
 fills_own : (a p page : ℕ) (free : Option ℕ) → AreOf p (events_of (fills a p page free))
 fills_own a p page None = tt

@@ -9,8 +9,8 @@ use Rattle.gup_space.specs.Space.{SpaceValue, with_entry, without_page}
 use Rattle.gup_space.specs.Shows.{Change, unlocked, AreEvents}
 use Rattle.gup_space.specs.After.{dropping, discarding, putting, IsShownAs}
 use Rattle.gup_space.specs.ShowsLemmas.{are_events, same_shown}
-use Rattle.gup_events.specs.Event.{drop_entry, discard_entry, put_entry}
-use Rattle.gup_events.specs.Fault.{takes_down, discards}
+use Rattle.gup_spec_events.specs.Event.{drop_entry, discard_entry, put_entry}
+use Rattle.gup_spec_events.specs.Fault.{takes_down, discards}
 
 abbrev pub ch : (F F' : FramesValue) (S S' : SpaceValue) → Change
 ch F F' S S' = record { old_frames = F; new_frames = F'; old_space = S; new_space = S' }

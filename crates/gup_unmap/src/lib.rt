@@ -4,7 +4,7 @@
 
 ghost use Rattle.std.specs.Prelude.{◌≡◌, ℕ, ◌≤◌, is_some, true, false, Some, None};
 ghost use Rattle.gup_frames.specs.Frames.{frames_of, IsFrame, without_references};
-ghost use Rattle.gup_events.specs.Fault.{takes_down, discards};
+ghost use Rattle.gup_spec_events.specs.Fault.{takes_down, discards};
 ghost use Rattle.gup_space.specs.Space.{space_of, with_entry};
 ghost use Rattle.gup_space.specs.Shows.{change_of, AreEvents};
 ghost use Rattle.gup_space.specs.Counted.{IsCounted};

@@ -3,8 +3,8 @@ use Rattle.std.proofs.Common.{◌≡◌, ◌+◌, ◌++◌, ℕ, List, Option, S
 use Rattle.std.specs.Option.{IfSome}
 use Rattle.gup_plain.specs.declared.note.Waiting.{Waiting}
 use Rattle.gup_script.specs.Script.{ScriptValue}
-use Rattle.gup_turns.specs.Cause.{WaitsForBirthOrPin}
-use Rattle.gup_turns.specs.Run.{RunState, waiting_in}
+use Rattle.gup_spec_turns.specs.Cause.{WaitsForBirthOrPin}
+use Rattle.gup_spec_turns.specs.Run.{RunState, waiting_in}
 use Rattle.gup_lines.specs.Text.{NamesWaiting}
 use Rattle.gup.specs.Stuck.{stuck_of, stuck_lines}
 use Rattle.gup.proofs.Ended.{names_process}

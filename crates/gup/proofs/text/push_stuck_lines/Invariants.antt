@@ -1,5 +1,5 @@
 use Rattle.std.proofs.Common.{◌≡◌, ◌++◌}
-use Rattle.gup_turns.specs.Run.{RunState}
+use Rattle.gup_spec_turns.specs.Run.{RunState}
 use Rattle.gup_core.specs.Machine.{Shows}
 use Rattle.gup.specs.Stuck.{stuck_lines}
 use Rattle.gup.proofs.text.push_stuck_lines.Given as goal

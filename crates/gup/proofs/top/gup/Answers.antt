@@ -2,14 +2,14 @@ use Rattle.std.proofs.Common.{◌≡◌, ℕ, List, subst, refl, length, inl, in
 use Rattle.std.specs.Prelude.{◌⊎◌}
 use Rattle.std.specs.Io.KnownBytes.{Appends}
 use Rattle.gup_script.specs.Script.{ScriptValue}
-use Rattle.gup_follows.specs.Place.{starts_born}
-use Rattle.gup_follows.specs.Plain.{IsPlain}
-use Rattle.gup_follows.specs.Follows.{Follows}
-use Rattle.gup_follows.specs.Order.{InOrder}
-use Rattle.gup_owners.specs.Owners.{OwnsBytes, events_of}
+use Rattle.gup_spec_journal.specs.Place.{starts_born}
+use Rattle.gup_spec_journal.specs.Plain.{IsPlain}
+use Rattle.gup_spec_journal.specs.Follows.{Follows}
+use Rattle.gup_spec_journal.specs.Order.{InOrder}
+use Rattle.gup_law_owners.specs.Owners.{OwnsBytes, events_of}
 use Rattle.gup_lines.specs.Text.{outcomes_of, text_of}
-use Rattle.gup_turns.specs.Cost.{operations}
-use Rattle.gup_turns.specs.Run.{RunState, IsCoreRun}
+use Rattle.gup_spec_turns.specs.Cost.{operations}
+use Rattle.gup_spec_turns.specs.Run.{RunState, IsCoreRun}
 use Rattle.gup.specs.Cause.{HasCauses}
 use Rattle.gup.specs.Report.{IsPartlyTold, IsEnd, IsUnreadFor}
 use Rattle.gup.specs.Stuck.{IsFinishedRun, IsStuckRun, run_text}

@@ -1,9 +1,9 @@
 use Rattle.std.proofs.Common.{◌≡◌, ℕ, ◌++◌, Bool, false, List, ap, subst, ◌∙◌}
 use Rattle.gup_script.specs.Script.{ScriptValue}
-use Rattle.gup_follows.specs.Place.{first_place}
-use Rattle.gup_follows.specs.Plain.{ArePlain, judged_first}
-use Rattle.gup_turns.specs.Cause.{AreKnown, HaveFinished}
-use Rattle.gup_turns.specs.Run.{RunState, run_start}
+use Rattle.gup_spec_journal.specs.Place.{first_place}
+use Rattle.gup_spec_journal.specs.Plain.{ArePlain, judged_first}
+use Rattle.gup_spec_turns.specs.Cause.{AreKnown, HaveFinished}
+use Rattle.gup_spec_turns.specs.Run.{RunState, run_start}
 use Rattle.gup_sched.specs.Ran.{SaysStuck}
 use Rattle.gup.specs.Stuck.{stuck_text}
 use Rattle.gup.proofs.Causes.{caused, outcomes_answered}

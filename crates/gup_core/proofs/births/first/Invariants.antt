@@ -1,5 +1,5 @@
 use Rattle.std.proofs.Common.{◌≡◌, ◌<◌, ℕ, length, slice_get, Some, if◌then◌else◌}
-use Rattle.gup_follows.specs.Place.{starts_born}
+use Rattle.gup_spec_journal.specs.Place.{starts_born}
 use Rattle.gup_core.specs.declared.births.Birth.TheVariants.{Unborn, Born}
 use Rattle.gup_core.proofs.births.first.Given as goal
 

@@ -1,5 +1,5 @@
 use Rattle.std.proofs.Common.{◌≡◌, ℕ, List, length, slice_get, Option, Some}
-use Rattle.gup_follows.specs.Place.{doer}
+use Rattle.gup_spec_journal.specs.Place.{doer}
 use Rattle.gup_core.specs.Stores.{IsEmptyStore}
 use Rattle.gup_core.proofs.parts.empty_stores.Given as goal
 

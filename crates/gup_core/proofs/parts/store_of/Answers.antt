@@ -1,5 +1,5 @@
 use Rattle.std.proofs.Common.{◌≡◌, ℕ, ◌<◌, length, sym, ap, ◌∙◌, subst, IfOk}
-use Rattle.gup_follows.specs.Place.{doer}
+use Rattle.gup_spec_journal.specs.Place.{doer}
 use Rattle.gup_core.specs.Stores.{IsEmptyStore}
 use Rattle.gup_core.proofs.Scripts.{slots_found, slots_fit}
 use Rattle.gup_core.proofs.Singles.{some_is}

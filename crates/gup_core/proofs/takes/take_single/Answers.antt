@@ -3,9 +3,9 @@ use Rattle.gup_script.specs.declared.op.Op.{Op}
 use Rattle.gup_script.specs.declared.op.Op.TheVariants.{Pin, Unpin, Give, Take, Transfer}
 use Rattle.gup_script.specs.Valid.{IsOp}
 use Rattle.gup_space.specs.Space.{space_of}
-use Rattle.gup_turns.specs.Turn.{op_turn}
+use Rattle.gup_spec_turns.specs.Turn.{op_turn}
 use Rattle.gup_ops.specs.Far.{HasFar}
-use Rattle.gup_events.specs.State.{CoreState}
+use Rattle.gup_spec_events.specs.State.{CoreState}
 use Rattle.gup_held.specs.Held.{LeadsHandle, slots_in}
 use Rattle.gup_ops.specs.Said.{whats_of}
 use Rattle.gup_ops.specs.Tidy.{needs_table}

@@ -2,7 +2,7 @@ use Rattle.std.proofs.Common.{◌≡◌, Some, true, ap, sym, refl, ◌∙◌}
 use Rattle.gup_plain.specs.declared.answer.Answer.TheVariants as answers
 use Rattle.gup_frames.specs.Frames.{FramesValue, frames_of, free_frame, with_mark, copied, without_references}
 use Rattle.gup_space.specs.Space.{space_of}
-use Rattle.gup_events.specs.Fault.{breaks}
+use Rattle.gup_spec_events.specs.Fault.{breaks}
 use Rattle.gup_fault.proofs.Puts.{free_is_free, free_is_other}
 use Rattle.gup_fault.proofs.Made.{changes_alike, refused, broken, broken_frames, broken_mark, exclusive, still_held}
 use Rattle.gup_fault.proofs.steps.break_entry.Goals as goal

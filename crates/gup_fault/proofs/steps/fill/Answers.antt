@@ -2,7 +2,7 @@ use Rattle.std.proofs.Common.{◌≡◌, Some, true, false, ap, sym, refl, ◌�
 use Rattle.gup_plain.specs.declared.answer.Answer.TheVariants as answers
 use Rattle.gup_frames.specs.Frames.{FramesValue, frames_of, free_frame, with_mark}
 use Rattle.gup_space.specs.Space.{space_of}
-use Rattle.gup_events.specs.Fault.{fills}
+use Rattle.gup_spec_events.specs.Fault.{fills}
 use Rattle.gup_fault.proofs.Puts.{free_is_free}
 use Rattle.gup_fault.proofs.Made.{changes_alike, refused, filled, filled_frames, filled_mark, exclusive}
 use Rattle.gup_fault.proofs.steps.fill.Goals as goal

@@ -5,7 +5,7 @@ use Rattle.gup_plain.specs.declared.note.What.TheVariants.{Done}
 use Rattle.gup_frames.specs.Frames.{frames_of}
 use Rattle.gup_handles.specs.Handles.{handles_of}
 use Rattle.gup_ops.specs.Said.{whats_of}
-use Rattle.gup_follows.specs.Follows.{moves_word}
+use Rattle.gup_spec_journal.specs.Follows.{moves_word}
 use Rattle.gup_held.specs.Held.{IsTransferTurn, HasMoved, slots_in, refusal_in, refused_said}
 use Rattle.gup_held.proofs.Holding.{handle_change}
 use Rattle.gup_held.proofs.Moving.{transfer_alike, transfer_refused, page_there, moved_whats, said_of, word_says, word_moved, moved_slots, slot_within, same_denial, refused_so, moved_so}

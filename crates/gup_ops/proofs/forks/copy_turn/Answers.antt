@@ -1,6 +1,6 @@
 use Rattle.std.proofs.Common.{◌≡◌, ◌+◌, ◌<◌, ap, ◌∙◌, arith}
 use Rattle.gup_fork.specs.Forks.{fork_change_of}
-use Rattle.gup_turns.specs.Reached.{at_word}
+use Rattle.gup_spec_turns.specs.Reached.{at_word}
 use Rattle.gup_ops.specs.Said.{whats_of}
 use Rattle.gup_ops.proofs.Forking.{notes_alike}
 use Rattle.gup_ops.proofs.Copying.{word_turned}

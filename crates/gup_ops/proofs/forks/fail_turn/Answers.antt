@@ -2,9 +2,9 @@ use Rattle.std.proofs.Common.{None, ap, ◌∙◌}
 use Rattle.gup_frames.specs.Frames.{frames_of}
 use Rattle.gup_space.specs.Space.{SpaceValue, space_of}
 use Rattle.gup_fork.specs.Forks.{fork_change_of}
-use Rattle.gup_events.specs.State.{copying}
-use Rattle.gup_events.specs.Failure.{fails}
-use Rattle.gup_turns.specs.Reached.{unbegun, wants_frame}
+use Rattle.gup_spec_events.specs.State.{copying}
+use Rattle.gup_spec_events.specs.Failure.{fails}
+use Rattle.gup_spec_turns.specs.Reached.{unbegun, wants_frame}
 use Rattle.gup_ops.specs.Said.{whats_of}
 use Rattle.gup_ops.proofs.Forking.{notes_alike, other_parent}
 use Rattle.gup_ops.proofs.Copying.{fork_failed}

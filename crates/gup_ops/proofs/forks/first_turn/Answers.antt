@@ -2,8 +2,8 @@ use Rattle.std.proofs.Common.{[], ◌∷◌, ap}
 use Rattle.gup_frames.specs.Frames.{frames_of}
 use Rattle.gup_space.specs.Space.{space_of}
 use Rattle.gup_fork.specs.Forks.{fork_change_of}
-use Rattle.gup_events.specs.Event.{begin_fork}
-use Rattle.gup_turns.specs.Reached.{unbegun, from_page}
+use Rattle.gup_spec_events.specs.Event.{begin_fork}
+use Rattle.gup_spec_turns.specs.Reached.{unbegun, from_page}
 use Rattle.gup_ops.specs.Said.{whats_of}
 use Rattle.gup_ops.proofs.Forking.{begun, notes_alike, other_parent}
 use Rattle.gup_ops.proofs.forks.first_turn.Goals as goal

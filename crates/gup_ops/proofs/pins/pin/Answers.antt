@@ -8,7 +8,7 @@ use Rattle.gup_plain.specs.declared.note.What.TheVariants.{Event, Done}
 use Rattle.gup_frames.specs.Frames.{frames_of}
 use Rattle.gup_space.specs.Space.{space_of}
 use Rattle.gup_handles.specs.Handles.{handles_of}
-use Rattle.gup_events.specs.Invariant.{frame_of}
+use Rattle.gup_spec_events.specs.Invariant.{frame_of}
 use Rattle.gup_fault.specs.Refused.{answer_of}
 use Rattle.gup_ops.specs.Said.{whats_of}
 use Rattle.gup_ops.proofs.Pinning.{pin_change, pin_alike, raised_tidy, fault_at, pinned_page, pin_refused, pin_short, tried_whats, short_whats}

@@ -1,6 +1,6 @@
 use Rattle.std.proofs.Common.{◌≡◌, ℕ, ◌<◌, true}
-use Rattle.gup_follows.specs.Place.{has_finished}
-use Rattle.gup_turns.specs.Run.{RunState}
+use Rattle.gup_spec_journal.specs.Place.{has_finished}
+use Rattle.gup_spec_turns.specs.Run.{RunState}
 use Rattle.gup_core.specs.Machine.{Shows}
 use Rattle.gup_sched.proofs.order.is_stuck.Given as goal
 

@@ -1,5 +1,5 @@
 use Rattle.std.proofs.Common.{◌≡◌, ◌<◌, ◌-◌}
-use Rattle.gup_turns.specs.Run.{RunState, pointed}
+use Rattle.gup_spec_turns.specs.Run.{RunState, pointed}
 use Rattle.gup_core.specs.Machine.{Shows}
 use Rattle.gup_sched.proofs.order.next_to_go.Given as goal
 

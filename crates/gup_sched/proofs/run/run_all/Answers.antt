@@ -2,8 +2,8 @@ use Rattle.std.proofs.Common.{◌≡◌, ℕ, ◌+◌, ◌-◌, ◌<◌, ◌≤�
 use Rattle.std.proofs.lemmas.Option.{slice_get_read}
 use Rattle.gup_plain.specs.Note.{NoteValue}
 use Rattle.gup_script.specs.Script.{ScriptValue}
-use Rattle.gup_follows.specs.Order.{behind}
-use Rattle.gup_turns.specs.Run.{RunState, run_start, run_after, pointed}
+use Rattle.gup_spec_journal.specs.Order.{behind}
+use Rattle.gup_spec_turns.specs.Run.{RunState, run_start, run_after, pointed}
 use Rattle.gup_sched.specs.Ran.{SaysStuck}
 use Rattle.gup_sched.proofs.Underway.{has_costs, IsWritten, written_first, written_turn, IsPointed, pointed_first, pointed_turn, pointed_end, few_turns, most}
 use Rattle.gup_sched.proofs.run.run_all.Goals as goal

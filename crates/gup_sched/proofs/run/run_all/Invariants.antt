@@ -1,5 +1,5 @@
 use Rattle.std.proofs.Common.{◌<◌, ◌-◌}
-use Rattle.gup_turns.specs.Run.{RunState}
+use Rattle.gup_spec_turns.specs.Run.{RunState}
 use Rattle.gup_sched.proofs.Underway.{IsWritten, IsPointed, most}
 use Rattle.gup_sched.proofs.run.run_all.Given as goal
 

@@ -1,5 +1,5 @@
 use Rattle.std.proofs.Common.{◌≡◌, Some, slice_get, sym, ap, ◌∙◌, subst}
-use Rattle.gup_turns.specs.Run.{RunState, waiting_in}
+use Rattle.gup_spec_turns.specs.Run.{RunState, waiting_in}
 use Rattle.gup_core.specs.Machine.{MachineValue, Shows, machine_of}
 use Rattle.gup_core.specs.Rest.{IsAtRest}
 use Rattle.gup_core.proofs.Taking.{waiting_is}

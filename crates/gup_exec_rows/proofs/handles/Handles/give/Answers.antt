@@ -1,0 +1,27 @@
+use Rattle.std.proofs.Common.{◌≡◌, ℕ, ◌<◌, Bool, true, false, List, length, sym, subst, ap, ◌∙◌, arith}
+use Rattle.std.specs.Bool.{MatchBool}
+use Rattle.gup_plain.specs.Put.{put}
+use Rattle.gup_plain.specs.State.{Handle, unmade, gone, held}
+use Rattle.gup_plain.specs.Event.{IsHeldBy, IsGivenTo, given_to, held_by}
+use Rattle.gup_exec_parts.specs.TableLemmas.{place_put, place_is}
+use Rattle.gup_exec_rows.specs.Handles.{handles_in}
+use Rattle.gup_exec_rows.proofs.handles.Handles.give.Goals as goal
+
+chosen : {P Q : Type 0} (R : Type 0) (b : Bool) → P → MatchBool b (P × Q) ((P → ⊥) × R) → Q
+chosen R true p h = h.1
+chosen R false p h = absurd (h.0 p)
+
+pub returns : goal.returns
+unfolding handles_in
+returns c =
+    let items : List Handle = c.args.self.now.pins.items in
+    let was : Handle = c.index_mut-pin.result.now in
+    let index = c.get.ensures.value in
+    let small = c.get.ensures.below in
+    let inside : c.args.h < length items = omega (arith, c.args.self.now.pins.ok.0, c.args.self.now.sized) in
+    let same : handles_in c.args.self.now c.args.h ≡ was = place_is (λ (x : Handle). x) unmade items c.args.h c.get.result was c.get.ensures.value inside c.index_mut-pin.ensures.value in
+    let P : Handle → Type 0 = λ x. IsHeldBy x c.args.a in
+    let now = chosen _ c.give-held.result (subst P same c.requires) c.give-held.ensures in
+    let change : Handle → Handle = λ (x : Handle). given_to x c.args.to in
+    place_put (λ (x : Handle). x) unmade items c.args.h c.get.result c.give-held.new.self c.get.ensures.value inside
+    ∙ ap (λ (x : Handle). put c.args.h x (handles_in c.args.self.now)) (now ∙ ap change (sym same))

@@ -1,0 +1,12 @@
+use Rattle.std.proofs.Common.{◌≡◌, ℕ, List, Option, Some, refl, ap, ◌∙◌}
+use Rattle.gup_exec_parts.specs.Words.{word_of}
+use Rattle.gup_exec_rows.specs.Row.{at}
+use Rattle.gup_exec_rows.specs.RowLemmas.{through_put}
+use Rattle.gup_exec_rows.specs.Sheets.{words_in, sheet_words}
+use Rattle.gup_exec_rows.proofs.sheets.Sheets.put.Goals as goal
+
+pub returns : goal.returns
+unfolding words_in
+returns c =
+    ap (λ (f : ℕ → Option (List ℕ)). λ k. sheet_words (f k)) c.put.ensures
+    ∙ through_put sheet_words c.args.f (Some c.args.words) (at c.args.self.now.rows) (word_of c.args.words) refl

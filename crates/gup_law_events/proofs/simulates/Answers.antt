@@ -1,0 +1,61 @@
+-- A case an event, each from the crate of its group.
+use Rattle.gup_spec_events.specs.Event.{take_frame, fill, count_one, set_mark, upgrade, break_entry, put_entry, map_pages, lower_entry, protect_pages, drop_entry, discard_entry, load, store, move_out, move_in, empty_mirror, fill_mirror, look, raise_flag, pin_page, make_handle, unpin_page, give_handle, take_handle, get_reference, put_reference, clear_entry, count_moved, place_frame, restore_entry, begin_fork, count_page, share_entry, share_mark, share_child, pass_page, copy_word, place_child, end_fork, fail_fork, put_child, fail_unborn, enter_walk, read_sequence, read_entry, grab_frame, miss_frame, recheck_same, recheck_other, read_mark, read_again, drop_grab, drop_last, drop_first, leave_walk}
+use Rattle.gup_law_events.proofs.simulates.Goals as goal
+
+pub returns : goal.returns
+returns c s (take_frame a f) sound can = c.faults_simulate.ensures.take_frame a f s sound can
+returns c s (fill a p page f) sound can = c.faults_simulate.ensures.fill a p page f s sound can
+returns c s (count_one a p page f writable) sound can = c.faults_simulate.ensures.count_one a p page f writable s sound can
+returns c s (set_mark a p page f) sound can = c.faults_simulate.ensures.set_mark a p page f s sound can
+returns c s (upgrade a p page f) sound can = c.faults_simulate.ensures.upgrade a p page f s sound can
+returns c s (break_entry a p page old new was writable) sound can = c.faults_simulate.ensures.break_entry a p page old new was writable s sound can
+returns c s (put_entry a f) sound can = c.faults_simulate.ensures.put_entry a f s sound can
+returns c s (map_pages a p page n rights) sound can = c.mappings_simulate.ensures.map_pages a p page n rights s sound can
+returns c s (lower_entry a p page f) sound can = c.mappings_simulate.ensures.lower_entry a p page f s sound can
+returns c s (protect_pages a p page n rights) sound can = c.mappings_simulate.ensures.protect_pages a p page n rights s sound can
+returns c s (drop_entry a p page was) sound can = c.mappings_simulate.ensures.drop_entry a p page was s sound can
+returns c s (discard_entry a p page was) sound can = c.mappings_simulate.ensures.discard_entry a p page was s sound can
+returns c s (load a p page word f value) sound can = c.data_simulates.ensures.load a p page word f value s sound can
+returns c s (store a p page word f value) sound can = c.data_simulates.ensures.store a p page word f value s sound can
+returns c s (move_out a h index slot f value) sound can = c.data_simulates.ensures.move_out a h index slot f value s sound can
+returns c s (move_in a h index slot f value) sound can = c.data_simulates.ensures.move_in a h index slot f value s sound can
+returns c s (empty_mirror a m) sound can = c.mirrors_simulate.ensures.empty_mirror a m s sound can
+returns c s (fill_mirror a m p page f writable) sound can = c.mirrors_simulate.ensures.fill_mirror a m p page f writable s sound can
+returns c s (look a m word f value) sound can = c.mirrors_simulate.ensures.look a m word f value s sound can
+returns c s (raise_flag a p) sound can = c.pins_simulate.ensures.raise_flag a p s sound can
+returns c s (pin_page a p page entry write long) sound can = c.pins_simulate.ensures.pin_page a p page entry write long s sound can
+returns c s (make_handle a h) sound can = c.pins_simulate.ensures.make_handle a h s sound can
+returns c s (unpin_page a h f left) sound can = c.pins_simulate.ensures.unpin_page a h f left s sound can
+returns c s (give_handle a h to) sound can = c.pins_simulate.ensures.give_handle a h to s sound can
+returns c s (take_handle a h) sound can = c.pins_simulate.ensures.take_handle a h s sound can
+returns c s (get_reference a p page f k writable) sound can = c.pins_simulate.ensures.get_reference a p page f k writable s sound can
+returns c s (put_reference a f k) sound can = c.pins_simulate.ensures.put_reference a f k s sound can
+returns c s (clear_entry a p page entry allowed) sound can = c.moves_simulate.ensures.clear_entry a p page entry allowed s sound can
+returns c s (count_moved a p page entry allowed count) sound can = c.moves_simulate.ensures.count_moved a p page entry allowed count s sound can
+returns c s (place_frame a p page f entry allowed) sound can = c.moves_simulate.ensures.place_frame a p page f entry allowed s sound can
+returns c s (restore_entry a p page entry allowed count) sound can = c.moves_simulate.ensures.restore_entry a p page entry allowed count s sound can
+returns c s (begin_fork a p child) sound can = c.forks_simulate.ensures.begin_fork a p child s sound can
+returns c s (count_page a p child done page entry copies) sound can = c.forks_simulate.ensures.count_page a p child done page entry copies s sound can
+returns c s (share_entry a p child done page f writable) sound can = c.forks_simulate.ensures.share_entry a p child done page f writable s sound can
+returns c s (share_mark a p child done page f writable) sound can = c.forks_simulate.ensures.share_mark a p child done page f writable s sound can
+returns c s (share_child a p child done page f writable) sound can = c.forks_simulate.ensures.share_child a p child done page f writable s sound can
+returns c s (pass_page a p child done page) sound can = c.forks_simulate.ensures.pass_page a p child done page s sound can
+returns c s (copy_word a p child done page word to entry) sound can = c.forks_simulate.ensures.copy_word a p child done page word to entry s sound can
+returns c s (place_child a p child done page to rights) sound can = c.forks_simulate.ensures.place_child a p child done page to rights s sound can
+returns c s (end_fork a p child done) sound can = c.forks_simulate.ensures.end_fork a p child done s sound can
+returns c s (fail_fork a p child done step ends) sound can = c.forks_simulate.ensures.fail_fork a p child done step ends s sound can
+returns c s (put_child a p child done page entry ends) sound can = c.forks_simulate.ensures.put_child a p child done page entry ends s sound can
+returns c s (fail_unborn a p child) sound can = c.forks_simulate.ensures.fail_unborn a p child s sound can
+returns c s (enter_walk a p write long) sound can = c.walks_simulate.ensures.enter_walk a p write long s sound can
+returns c s (read_sequence a p write long sequence) sound can = c.walks_simulate.ensures.read_sequence a p write long sequence s sound can
+returns c s (read_entry a p write long sequence page was) sound can = c.walks_simulate.ensures.read_entry a p write long sequence page was s sound can
+returns c s (grab_frame a p write long sequence page entry) sound can = c.walks_simulate.ensures.grab_frame a p write long sequence page entry s sound can
+returns c s (miss_frame a p write long sequence page entry) sound can = c.walks_simulate.ensures.miss_frame a p write long sequence page entry s sound can
+returns c s (recheck_same a p write long sequence page entry) sound can = c.walks_simulate.ensures.recheck_same a p write long sequence page entry s sound can
+returns c s (recheck_other a p write long sequence page entry) sound can = c.walks_simulate.ensures.recheck_other a p write long sequence page entry s sound can
+returns c s (read_mark a p write long sequence page entry mark) sound can = c.walks_simulate.ensures.read_mark a p write long sequence page entry mark s sound can
+returns c s (read_again a p write long sequence step now) sound can = c.walks_simulate.ensures.read_again a p write long sequence step now s sound can
+returns c s (drop_grab a p write long sequence f) sound can = c.walks_simulate.ensures.drop_grab a p write long sequence f s sound can
+returns c s (drop_last a p write long sequence left last) sound can = c.walks_simulate.ensures.drop_last a p write long sequence left last s sound can
+returns c s (drop_first a p write long sequence first left) sound can = c.walks_simulate.ensures.drop_first a p write long sequence first left s sound can
+returns c s (leave_walk a p write long sequence) sound can = c.walks_simulate.ensures.leave_walk a p write long sequence s sound can

@@ -1,0 +1,34 @@
+-- By induction over the notes.
+use Rattle.std.proofs.Common.{List, [], ◌∷◌, ◌++◌}
+use Rattle.std.specs.Prelude.{Option, Some, None}
+use Rattle.gup_plain.specs.Note.{NoteValue}
+use Rattle.gup_plain.specs.State.{PlainState}
+use Rattle.gup_plain.specs.declared.event.PlainEvent.{PlainEvent}
+use Rattle.gup_plain.specs.declared.note.What.{What}
+use Rattle.gup_plain.specs.declared.note.What.TheVariants.{Silent, Idle, Wait, Event, Done}
+use Rattle.gup_script.specs.declared.op.Op.{Op}
+use Rattle.gup_script.specs.Script.{ScriptValue}
+use Rattle.gup_exec_plain.specs.LastWrite.{ArePossible}
+use Rattle.gup_spec_journal.specs.Place.{Place, Doer, doer, present_op}
+use Rattle.gup_spec_journal.specs.Plain.{Judged, judged_first, judged_after, ArePlain, IsRightAt, plain_after}
+use Rattle.gup_law_owners.specs.Owners.{event_in, events_of}
+use Rattle.gup_law_owners.proofs.plain_journals_are_possible.Goals as goal
+
+-- one note
+first_possible : (s : PlainState) (who : Doer) (place : Place) (op : Option Op) (what : What) (rest : List PlainEvent) → IsRightAt s who place op what → ArePossible (plain_after s what) rest → ArePossible s (event_in what ++ rest)
+first_possible s who place (Some op) (Event e) rest right possible = (right.0, possible)
+first_possible s who place None (Event e) rest right possible = absurd right
+first_possible s who place op Silent rest right possible = possible
+first_possible s who place op Idle rest right possible = possible
+first_possible s who place op (Wait waiting) rest right possible = possible
+first_possible s who place op (Done answer) rest right possible = possible
+
+all_possible : (script : ScriptValue) (j : Judged) (notes : List NoteValue) → ArePlain script j notes → ArePossible j.plain (events_of notes)
+all_possible script j [] plain = tt
+all_possible script j (note ∷ notes) plain =
+    let place = j.places note.actor in
+    first_possible j.plain (doer script note.actor) place (present_op script note.actor place) note.what (events_of notes) plain.0
+    (all_possible script (judged_after j note) notes plain.1)
+
+pub returns : goal.returns
+returns c = λ script notes plain. all_possible script (judged_first script) notes plain

@@ -1,5 +1,0 @@
-use Rattle.gup_laws.proofs.Possible.{they_can_happen}
-use Rattle.gup_laws.proofs.runs_are_possible.Goals as goal
-
-pub returns : goal.returns
-returns c = they_can_happen

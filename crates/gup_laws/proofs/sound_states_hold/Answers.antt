@@ -1,6 +1,0 @@
--- What is published of a sound state, by the view of it.
-use Rattle.gup_laws.proofs.Published.{published}
-use Rattle.gup_laws.proofs.sound_states_hold.Goals as goal
-
-pub returns : goal.returns
-returns c = λ s sound. published sound.0 s sound.1

@@ -1,6 +1,0 @@
--- The start, by its clauses.
-use Rattle.gup_laws.proofs.Start.{sound_start}
-use Rattle.gup_laws.proofs.starts_sound.Goals as goal
-
-pub returns : goal.returns
-returns c = sound_start

@@ -1,7 +1,0 @@
--- The number of pages, from the start on.
-use Rattle.gup_plain.specs.State.{start}
-use Rattle.gup_model.proofs.Counting.{none_counted, counts_after}
-use Rattle.gup_model.proofs.law.pages_are_counted.Goals as goal
-
-pub returns : goal.returns
-returns c = λ is_born events possible. counts_after (start is_born) events possible (λ p. none_counted)

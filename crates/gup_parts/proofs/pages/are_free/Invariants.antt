@@ -1,8 +1,0 @@
-use Rattle.std.proofs.Common.{◌≡◌, ℕ, ◌+◌, ◌<◌, None}
-use Rattle.std.specs.BTreeMap.{get}
-use Rattle.std.specs.Ordering.{nat_cmp}
-use Rattle.gup_parts.proofs.pages.are_free.Given as goal
-
--- none of the pages so far is mapped
-abbrev pub invariant-loop-k : goal.invariant-loop-k
-invariant-loop-k l = (j : ℕ) → j < l.k → get nat_cmp l.pages (l.first + j) ≡ None

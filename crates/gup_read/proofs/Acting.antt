@@ -1,0 +1,177 @@
+-- An action of an actor, with all its tests: what it comes to when its operation is put behind the actor's others.
+use Rattle.std.proofs.Common.{◌≡◌, ℕ, ◌<◌, false, List, [], ◌∷◌, Option, Some, unwrap_or, Result, Ok, Err, refl, sym, ap, subst, ◌∙◌, lit<}
+use Rattle.std.specs.Prelude.{nat_lt}
+use Rattle.std.proofs.lemmas.Bool.Decides.{Decides-ltb}
+use Rattle.gup_read_words.specs.SpelledNumbers.{number_read, index_read, count_read}
+use Rattle.gup_read_words.specs.SpelledPlaces.{address_read, range_read}
+use Rattle.gup_read_words.specs.Text.{address_in, range_in, index_in, count_in}
+use Rattle.gup_script.specs.declared.op.Op.{Op}
+use Rattle.gup_read.specs.declared.refusal.Reason.{Reason}
+use Rattle.gup_read.specs.declared.refusal.Reason.TheVariants as reasons
+use Rattle.gup_read_words.specs.Spelling.{IsRange, IsAddress, IsIndex, IsCount}
+use Rattle.gup_read.specs.Said.{Word, Action, maps, unmaps, protects, discards, loads, stores, exits, pins, forks, unpins, takes, gives, transfers, write_word, action_words, IsShaped}
+use Rattle.gup_read_outline.specs.Outline.{Outline, with_operation}
+use Rattle.gup_script.specs.Limits.{most_operations, most_pinned, most_words}
+use Rattle.gup_read.specs.Grammar.{ActionNumbers, ActionNames, ActionOnce, ActionLimits, NamesPin, NamesActor, Means, IsBuilt, with_declared, Does}
+use Rattle.gup_read.specs.Fault.{ActionFault}
+use Rattle.gup_read.specs.Reading.{◌>>=◌, check, need, with_pinned}
+use Rattle.gup_read.proofs.Chains.{Tried, stops, goes, checked, both, carried, tried_ok, tried_err, tried_pass, tried_stop}
+use Rattle.gup_read.proofs.Judged.{Ends, built, later, Judged}
+
+-- ---- what an action means
+
+-- a word, or two, say one pair of numbers at most
+one_pair : (o : Option (ℕ × ℕ)) (a b c d : ℕ) → o ≡ Some (a, b) → o ≡ Some (c, d) → (a ≡ c) × (b ≡ d)
+one_pair o a b c d x y =
+    let same : Some (a, b) ≡ Some (c, d) = sym x ∙ y in
+    (ap (λ (v : Option (ℕ × ℕ)). (unwrap_or v (a, b)).0) same, ap (λ (v : Option (ℕ × ℕ)). (unwrap_or v (a, b)).1) same)
+
+one_range : (most : ℕ) (first count : Word) (page n other m : ℕ) → IsRange most first count page n → IsRange most first count other m → (page ≡ other) × (n ≡ m)
+one_range most first count page n other m h g =
+    one_pair (range_in most first count) page n other m (range_read most first count page n h) (range_read most first count other m g)
+
+one_address : (word : Word) (page w other v : ℕ) → IsAddress word page w → IsAddress word other v → (page ≡ other) × (w ≡ v)
+one_address word page w other v h g = one_pair (address_in word) page w other v (address_read word page w h) (address_read word other v g)
+
+one_number : (o : Option ℕ) (m n : ℕ) → o ≡ Some m → o ≡ Some n → m ≡ n
+one_number o m n x y = let same : Some m ≡ Some n = sym x ∙ y in ap (λ (v : Option ℕ). unwrap_or v m) same
+
+one_index : (word : Word) (m n : ℕ) → IsIndex word m → IsIndex word n → m ≡ n
+one_index word m n h g = one_number (index_in word) m n (index_read word m h) (index_read word n g)
+
+one_count : (word : Word) (m n : ℕ) → IsCount 1 most_words word m → IsCount 1 most_words word n → m ≡ n
+one_count word m n h g =
+    one_number (count_in 1 most_words word) m n (count_read 1 most_words word m (lit< tt) h) (count_read 1 most_words word n (lit< tt) g)
+
+one_pin : (st : Outline) (word : Word) (m n : ℕ) → NamesPin st word m → NamesPin st word n → m ≡ n
+one_pin st word m n h g = cc
+
+one_actor : (st : Outline) (word : Word) (m n : ℕ) → NamesActor st word m → NamesActor st word n → m ≡ n
+one_actor st word m n h g = cc
+
+means_one : (st : Outline) (action : Action) (x y : Op) → Means st action x → Means st action y → x ≡ y
+means_one st (maps first count rights) x y h g = let same = one_range 1024 first count h.0 h.1 g.0 g.1 h.2 g.2 in cc (h.3, g.3)
+means_one st (unmaps first count) x y h g = let same = one_range 1024 first count h.0 h.1 g.0 g.1 h.2 g.2 in cc (h.3, g.3)
+means_one st (protects first count rights) x y h g = let same = one_range 1024 first count h.0 h.1 g.0 g.1 h.2 g.2 in cc (h.3, g.3)
+means_one st (discards first count) x y h g = let same = one_range 1024 first count h.0 h.1 g.0 g.1 h.2 g.2 in cc (h.3, g.3)
+means_one st (loads address) x y h g = let same = one_address address h.0 h.1 g.0 g.1 h.2 g.2 in cc (h.3, g.3)
+means_one st (stores address value) x y h g =
+    let same = one_address address h.0 h.1 g.0 g.1 h.3 g.3 in
+    cc (h.5, g.5, number_read value h.2 h.4, number_read value g.2 g.4)
+means_one st exits x y h g = h ∙ sym g
+means_one st (pins false handle first count write false) x y h g =
+    let same = one_range most_pinned first count h.0 h.1 g.0 g.1 h.2 g.2 in cc (h.3, g.3)
+means_one st (forks child) x y h g = cc (h.1, h.2, g.1, g.2)
+means_one st (unpins handle) x y h g = let same = one_pin st handle h.0 g.0 h.1 g.1 in cc (h.2, g.2)
+means_one st (takes handle) x y h g = let same = one_pin st handle h.0 g.0 h.1 g.1 in cc (h.2, g.2)
+means_one st (gives handle to) x y h g =
+    let same = one_pin st handle h.0 g.0 h.2 g.2 in
+    let other = one_actor st to h.1 g.1 h.3 g.3 in
+    cc (h.4, g.4)
+means_one st (transfers outward handle index slot count) x y h g =
+    let same = one_pin st handle h.0 g.0 h.4 g.4 in
+    let first = one_index index h.1 g.1 h.5 g.5 in
+    let other = one_index slot h.2 g.2 h.6 g.6 in
+    let n = one_count count h.3 g.3 h.7 g.7 in
+    cc (h.8, g.8)
+means_one st _ x y h g = absurd h
+
+-- ---- what an action declares
+
+abbrev pub behind_first : List Word → List Word
+behind_first [] = []
+behind_first (word ∷ words) = words
+
+-- the name of its handle is the first word behind the operation's own
+pub pinned_declared : (st : Outline) (action : Action) (op : Op) (word : Word) (fields : List Word) → Means st action op → word ∷ fields ≡ action_words action → with_pinned op fields st ≡ with_declared action st
+pinned_declared st (maps first count rights) op word fields m same = rw m.3 refl
+pinned_declared st (unmaps first count) op word fields m same = rw m.3 refl
+pinned_declared st (protects first count rights) op word fields m same = rw m.3 refl
+pinned_declared st (discards first count) op word fields m same = rw m.3 refl
+pinned_declared st (loads address) op word fields m same = rw m.3 refl
+pinned_declared st (stores address value) op word fields m same = rw m.5 refl
+pinned_declared st exits op word fields m same = rw m refl
+pinned_declared st (pins false handle first count write false) op word fields m same =
+    let behind : fields ≡ handle ∷ first ∷ count ∷ write_word write ∷ [] = ap behind_first same in
+    rw (m.3, behind) refl
+pinned_declared st (forks child) op word fields m same = rw m.2 refl
+pinned_declared st (unpins handle) op word fields m same = rw m.2 refl
+pinned_declared st (takes handle) op word fields m same = rw m.2 refl
+pinned_declared st (gives handle to) op word fields m same = rw m.4 refl
+pinned_declared st (transfers outward handle index slot count) op word fields m same = rw m.8 refl
+pinned_declared st _ op word fields m same = absurd m
+
+-- ---- an action of an actor, with all its tests
+
+abbrev Done : Outline → (actor : ℕ) → Action → Result Outline Reason → Type 0
+Done st a action result = (op : Op) × Means st action op × (result ≡ Ok (with_operation a op (with_declared action st)))
+
+abbrev Limited : Outline → (actor : ℕ) → Action → Result Outline Reason → Type 0
+Limited st a action = Tried reasons.Limit (ActionLimits st action) (Tried reasons.Later (IsBuilt action) (Done st a action))
+
+abbrev pub Acts : Outline → (actor : ℕ) → Action → Result Outline Reason → Type 0
+Acts st a action =
+    Tried reasons.Shape (IsShaped action)
+    (Tried reasons.Number (ActionNumbers action)
+    (Tried reasons.Name (ActionNames st a action)
+    (Tried reasons.Twice (ActionOnce st action) (Limited st a action))))
+
+-- what is left to do once the words are judged
+abbrev pub placed : Outline → (actor : ℕ) → (fields : List Word) → Option Op → Result Outline Reason
+placed st a fields op =
+    check reasons.Limit (nat_lt st.operations most_operations) >>= λ _. need reasons.Later op >>= λ o. Ok (with_operation a o (with_pinned o fields st))
+
+ended : (st : Outline) (a : ℕ) (action : Action) (word : Word) (fields : List Word) (result : Result (Option Op) Reason) → word ∷ fields ≡ action_words action → Ends st action result → Tried reasons.Limit (st.operations < most_operations) (Tried reasons.Later (IsBuilt action) (Done st a action)) (result >>= placed st a fields)
+ended st a action word fields result same (built op given now means) =
+    subst (λ (r : Result (Option Op) Reason). Tried reasons.Limit (st.operations < most_operations) (Tried reasons.Later (IsBuilt action) (Done st a action)) (r >>= placed st a fields)) (sym given)
+    (checked _ (Decides-ltb st.operations most_operations) (λ l. goes now (op, means, ap (λ (next : Outline). Ok (with_operation a op next)) (pinned_declared st action op word fields means same))))
+ended st a action word fields result same (later given unbuilt) =
+    subst (λ (r : Result (Option Op) Reason). Tried reasons.Limit (st.operations < most_operations) (Tried reasons.Later (IsBuilt action) (Done st a action)) (r >>= placed st a fields)) (sym given)
+    (checked _ (Decides-ltb st.operations most_operations) (λ l. stops refl unbuilt))
+
+pub acts : (st : Outline) (a : ℕ) (action : Action) (word : Word) (fields : List Word) (result : Result (Option Op) Reason) → word ∷ fields ≡ action_words action → Judged st a action result → Acts st a action (result >>= placed st a fields)
+acts st a action word fields result same =
+    carried _ (carried _ (carried _ (carried _ (λ t. both (carried _ (ended st a action word fields result same) t)))))
+
+abbrev all_right : Outline → Result Outline Reason
+all_right st = Ok st
+
+pub acts_ok : (st : Outline) (a : ℕ) (action : Action) (result : Result Outline Reason) (next : Outline) → Acts st a action result → result ≡ Ok next → Does st a action next
+acts_ok st a action result next t e =
+    let shaped = tried_ok t e in
+    let numbers = tried_ok shaped.1 e in
+    let names = tried_ok numbers.1 e in
+    let once = tried_ok names.1 e in
+    let limits = tried_ok once.1 e in
+    let all = tried_ok limits.1 e in
+    let done = all.1 in
+    let given : all_right (with_operation a done.0 (with_declared action st)) ≡ all_right next = sym done.2 ∙ e in
+    (shaped.0, numbers.0, names.0, once.0, limits.0, all.0, (done.0, done.1, cc))
+
+pub acts_read : (st : Outline) (a : ℕ) (action : Action) (result : Result Outline Reason) (next : Outline) → Acts st a action result → Does st a action next → result ≡ Ok next
+acts_read st a action result next t h =
+    let numbers = tried_pass t h.0 in
+    let names = tried_pass numbers h.1 in
+    let once = tried_pass names h.2 in
+    let limits = tried_pass once h.3 in
+    let all = tried_pass limits h.4 in
+    let does = h.6 in
+    let done = tried_pass all h.5 in
+    let one = means_one st action done.0 does.0 done.1 does.1 in
+    done.2 ∙ ap (λ (op : Op). Ok (with_operation a op (with_declared action st))) one ∙ ap (λ (s : Outline). Ok s) (sym does.2)
+
+pub acts_err : (st : Outline) (a : ℕ) (action : Action) (result : Result Outline Reason) (q : Reason) → Acts st a action result → result ≡ Err q → ActionFault st a action q
+acts_err st a action result q t e =
+    tried_err t e (λ numbers. tried_err numbers e (λ names. tried_err names e (λ once.
+    tried_err once e (λ limits. tried_err limits e (λ all. late all))))) where
+      late : Tried reasons.Later (IsBuilt action) (Done st a action) result → (q ≡ reasons.Later) × (IsBuilt action → ⊥)
+      late (stops because failed) = (cc, failed)
+      late (goes passed on) = absurd (cc (on.2))
+
+pub acts_stop : (st : Outline) (a : ℕ) (action : Action) (result : Result Outline Reason) (q : Reason) → Acts st a action result → ActionFault st a action q → result ≡ Err q
+acts_stop st a action result q t f =
+    tried_stop t f (λ numbers f1. tried_stop numbers f1 (λ names f2. tried_stop names f2 (λ once f3.
+    tried_stop once f3 (λ limits f4. tried_stop limits f4 (λ all f5. late all f5))))) where
+      late : Tried reasons.Later (IsBuilt action) (Done st a action) result → (q ≡ reasons.Later) × (IsBuilt action → ⊥) → result ≡ Err q
+      late (stops because failed) f = cc
+      late (goes passed on) f = absurd (f.1 passed)

@@ -1,0 +1,116 @@
+-- What the words of a device's operations, and of the mover's, that come later come to: transfers of parts, mirrors,
+-- moves.
+use Rattle.std.proofs.Common.{◌≡◌, ℕ, ◌+◌, ◌≤◌, Bool, true, false, cond, List, [], ◌∷◌, length, Option, Some, None, refl, arith, sym, ap, subst, ◌∙◌, inl, inr}
+use Rattle.std.specs.Prelude.{codes}
+use Rattle.std.specs.Bool.{Decides}
+use Rattle.std.specs.Str.{bytes_eq}
+use Rattle.std.proofs.lemmas.Bool.{leb-true, le-leb}
+use Rattle.gup_base.specs.declared.entry.Zone.{Zone}
+use Rattle.gup_base.specs.declared.entry.Zone.TheVariants.{Movable, Normal}
+use Rattle.gup_read_words.specs.Text.{segment_in}
+use Rattle.gup_read_words.specs.SpelledPlaces.{segment_found, segment_read}
+use Rattle.gup_read_names.specs.Names.{find}
+use Rattle.gup_read.specs.Said.{Word, transfers_parts, mirrors, looks, moves, parts_word, zone_word}
+use Rattle.gup_read_outline.specs.Outline.{Outline}
+use Rattle.gup_read.specs.Grammar.{AreSegments}
+use Rattle.gup_read.specs.Reading.{is_zone, segments_in, at_most_64, parts_in, mirror_in, look_in, move_in}
+use Rattle.gup_read.proofs.Chains.{goes, checked, both, same_word}
+use Rattle.gup_read.proofs.ActionWords.{said_with, zone_in}
+use Rattle.gup_read.proofs.Judged.{later, Judged, Told, index_step, page_step, word_no_step, process_step, pin_step, mirror_Decides, slot_Decides}
+
+-- ---- the parts of a transfer
+
+segments_found : (words : List Word) (total : ℕ) → segments_in words ≡ Some total → AreSegments words total
+segments_found [] total e = cc
+segments_found (word ∷ words) total e = way (segment_in word) refl (segments_in words) refl (λ rest. segments_found words rest) where
+  way : (o : Option (ℕ × ℕ)) → segment_in word ≡ o → (r : Option ℕ) → segments_in words ≡ r → ((rest : ℕ) → segments_in words ≡ Some rest → AreSegments words rest) → AreSegments (word ∷ words) total
+  way (Some part) o (Some rest) r found =
+      let sum : Some (part.1 + rest) ≡ Some total = rw (o, r) at e in
+      (part.0, part.1, rest, segment_found word part.0 part.1 o, found rest r, cc)
+  way (Some part) o None r found =
+      let none = rw (o, r) at e in
+      absurd cc
+  way None o r s found =
+      let none = rw o at e in
+      absurd cc
+
+segments_read : (words : List Word) (total : ℕ) → AreSegments words total → segments_in words ≡ Some total
+segments_read [] total h = ap (λ (n : ℕ). Some n) (sym h)
+segments_read (word ∷ words) total h = rw (segment_read word h.0 h.1 h.3, segments_read words h.2 h.4) (ap (λ (n : ℕ). Some n) (sym h.5))
+
+total_Decides : (words : List Word) → Decides (at_most_64 (segments_in words)) ((total : ℕ) × AreSegments words total × (total ≤ 64))
+total_Decides words = way (segments_in words) refl where
+  way : (o : Option ℕ) → segments_in words ≡ o → Decides (at_most_64 o) ((total : ℕ) × AreSegments words total × (total ≤ 64))
+  way None e = (λ h. absurd cc, λ h. absurd (cc (e, segments_read words h.0 h.1)))
+  way (Some total) e = (
+    λ h. (total, segments_found words total e, leb-true total 64 h),
+    λ h. let same : total ≡ h.0 = cc (e, segments_read words h.0 h.1) in rw same (le-leb h.0 64 h.2),
+  )
+
+pub parts_told : (st : Outline) (a : ℕ) (outward : Bool) (fields : List Word) → Told st a (parts_word outward ∷ fields) (parts_in st fields)
+unfolding parts_in
+parts_told st a outward (handle ∷ slot ∷ first ∷ more) =
+    inl (
+      transfers_parts outward handle slot first more,
+      refl,
+      checked _ (leb-true (length more) 7, le-leb (length more) 7) (λ l.
+          both (index_step slot _ (λ s g. checked _ (total_Decides (first ∷ more)) (λ t.
+          pin_step st handle _ (λ h p. goes tt (goes tt (later refl (λ b. b)))))))),
+    )
+parts_told st a true _ = inr (refl, refl)
+parts_told st a false _ = inr (refl, refl)
+
+-- ---- mirrors
+
+pub mirror_told : (st : Outline) (a : ℕ) (fields : List Word) → Told st a (codes "mirror" ∷ fields) (mirror_in st a fields)
+unfolding mirror_in
+mirror_told st a (mirror ∷ process ∷ page ∷ []) =
+    inl (
+      mirrors mirror process page,
+      refl,
+      goes tt (page_step page _ (λ p h.
+          both (checked _ (slot_Decides a mirror (find st.names mirror)) (λ m. process_step st process _ (λ q g. goes tt (goes tt (later refl (λ b. b)))))))),
+    )
+mirror_told st a _ = inr (refl, refl)
+
+pub look_told : (st : Outline) (a : ℕ) (fields : List Word) → Told st a (codes "look" ∷ fields) (look_in st a fields)
+unfolding look_in
+look_told st a (mirror ∷ word ∷ []) =
+    inl (
+      looks mirror word,
+      refl,
+      goes tt (word_no_step word _ (λ w h.
+          checked _ (mirror_Decides a (find st.names mirror)) (λ m. goes tt (goes tt (later refl (λ b. b)))))),
+    )
+look_told st a _ = inr (refl, refl)
+
+-- ---- moves
+
+zone_found : (word : Word) (zone : Zone) → zone_in word ≡ Some zone → word ≡ zone_word zone
+zone_found word zone e = way (bytes_eq word (codes "normal")) refl (bytes_eq word (codes "movable")) refl e where
+  way : (b : Bool) → bytes_eq word (codes "normal") ≡ b → (c : Bool) → bytes_eq word (codes "movable") ≡ c → cond b (Some Normal) (cond c (Some Movable) None) ≡ Some zone → word ≡ zone_word zone
+  way true n c m e = let same : Normal ≡ zone = cc in same_word word (codes "normal") n ∙ ap zone_word same
+  way false n true m e = let same : Movable ≡ zone = cc in same_word word (codes "movable") m ∙ ap zone_word same
+  way false n false m e = absurd cc
+
+no_zone : (word : Word) → zone_in word ≡ None → is_zone word ≡ false
+no_zone word e = grind arith
+
+is_zone_word : (zone : Zone) → is_zone (zone_word zone) ≡ true
+is_zone_word Normal = refl
+is_zone_word Movable = refl
+
+pub move_told : (st : Outline) (a : ℕ) (fields : List Word) → Told st a (codes "move" ∷ fields) (move_in st fields)
+unfolding move_in
+move_told st a (process ∷ page ∷ word ∷ []) = way (zone_in word) refl where
+  way : (o : Option Zone) → zone_in word ≡ o → Told st a (codes "move" ∷ process ∷ page ∷ word ∷ []) (move_in st (process ∷ page ∷ word ∷ []))
+  way None e = inr (rw (no_zone word e) refl, ap (said_with (moves process page)) e)
+  way (Some zone) e =
+      let is = zone_found word zone e in
+      inl (
+        moves process page zone,
+        ap (λ (w : Word). codes "move" ∷ process ∷ page ∷ w ∷ []) is,
+        subst (λ (w : Word). Judged st a (moves process page zone) (move_in st (process ∷ page ∷ w ∷ []))) (sym is)
+            (rw (is_zone_word zone) (goes tt (page_step page _ (λ p h. process_step st process _ (λ q g. goes tt (goes tt (later refl (λ b. b)))))))),
+      )
+move_told st a _ = inr (refl, refl)

@@ -1,0 +1,277 @@
+-- What is true of every outline that lines make, and how a line that declares keeps it.
+use Rattle.std.proofs.Common.{◌≡◌, ◌⊎◌, ℕ, ◌+◌, ◌<◌, ◌≤◌, Bool, true, false, cond, List, [], ◌∷◌, length, append-nil, All, sum_by, refl, sym, Option, Some, None, inl, inr, arith}
+use Rattle.std.specs.Prelude.{bytes_eq}
+use Rattle.std.specs.List.{AllByRecursion}
+use Rattle.std.proofs.lemmas.List.{length_push, length-append}
+use Rattle.std.proofs.lemmas.List.Elements.{All-nil}
+use Rattle.std.proofs.lemmas.List.Sums.{sum_by_push}
+use Rattle.gup_read_names.specs.Names.{Entry, find, declared}
+use Rattle.gup_read_names.specs.declared.names.Named.{Named}
+use Rattle.gup_read_names.specs.declared.names.Named.TheVariants as named
+use Rattle.gup_script.specs.declared.op.Kind.{Kind}
+use Rattle.gup_script.specs.declared.op.Kind.TheVariants.{Thread, Device, Mover}
+use Rattle.gup_script.specs.declared.op.Op.{Op}
+use Rattle.gup_script.specs.Script.{ScriptValue, Process, Actor, FrameCounts}
+use Rattle.gup_read_outline.specs.Outline.{Outline, empty_outline, with_process, with_actor, with_handle, with_turns, with_seed, is_thread, is_device, is_mover, how_many}
+use Rattle.gup_script.specs.Limits.{most_handles, most_operations, most_turns}
+use Rattle.gup_read.specs.Said.{Word}
+use Rattle.gup_read.specs.Grammar.{NamesProcess, NamesActor, NamesPin, AreFrameCounts}
+use Rattle.gup_script.specs.Valid.{IsOp, KindFits, FitsKind, AreDeclared}
+use Rattle.gup_read.proofs.Verdicts.{given, same_given}
+use Rattle.gup_read.proofs.Lists.{each_append, each_like}
+use Rattle.gup_read.proofs.Forking.{OpAt, IsForkOf, IsPinOf, AreOnce, declared_stay, actor_once}
+
+pub record Stands (st : Outline) : Type 0 where
+  pub processes_in : (word : Word) (p : ℕ) → NamesProcess st word p → p < length st.script.processes
+  pub actors_in : (word : Word) (a : ℕ) → NamesActor st word a → a < length st.script.actors
+  pub pins_in : (word : Word) (h : ℕ) → NamesPin st word h → h < length st.script.handles
+  pub few_frames : st.script.frames.movable + st.script.frames.normal ≤ 1024
+  pub few_tables : st.script.frames.tables ≤ 8192
+  pub few_processes : length st.script.processes ≤ 16
+  pub few_threads : how_many is_thread st ≤ 64
+  pub few_devices : how_many is_device st ≤ 16
+  pub few_movers : how_many is_mover st ≤ 1
+  pub few_handles : length st.script.handles ≤ most_handles
+  pub kinds : AllByRecursion (λ (a : Actor). KindFits st.script a.kind) st.script.actors
+  pub ops : AllByRecursion (λ (a : Actor). All IsOp a.ops) st.script.actors
+  pub ops_fit : AllByRecursion (λ (a : Actor). All (FitsKind a.kind) a.ops) st.script.actors
+  pub declared : AllByRecursion (λ (a : Actor). All (AreDeclared st.script) a.ops) st.script.actors
+  pub forks_once : AreOnce IsForkOf st.script.actors
+  pub pins_once : AreOnce IsPinOf st.script.actors
+  pub counted : sum_by (λ (a : Actor). length a.ops) st.script.actors ≡ st.operations
+  pub few_ops : st.operations ≤ most_operations
+  pub turns : AllByRecursion (λ a. a < length st.script.actors) st.script.turns
+  pub few_turns : length st.script.turns ≤ most_turns
+
+pub stands_empty : (counts : FrameCounts) → AreFrameCounts counts.movable counts.normal counts.tables → Stands (empty_outline counts)
+stands_empty counts h = record {
+  processes_in = λ word p e. absurd cc;
+  actors_in = λ word a e. absurd cc;
+  pins_in = λ word n e. absurd cc;
+  few_frames = h.0;
+  few_tables = h.1;
+  few_processes = omega arith;
+  few_threads = omega arith;
+  few_devices = omega arith;
+  few_movers = omega arith;
+  few_handles = omega arith;
+  kinds = tt;
+  ops = tt;
+  ops_fit = tt;
+  declared = tt;
+  forks_once = λ a b j k child e f. absurd (nothing a j e.0 e.1);
+  pins_once = λ a b j k handle e f. absurd (nothing a j e.0 e.1);
+  counted = refl;
+  few_ops = omega arith;
+  turns = tt;
+  few_turns = omega arith;
+} where
+  nothing : (a k : ℕ) (op : Op) → OpAt [] a k op → ⊥
+  nothing a k op e = absurd cc
+
+-- ---- names
+
+same_named : (b : Bool) (x y : Named) → cond b (Some x) None ≡ given y → x ≡ y
+same_named true x y e = same_given x y e
+same_named false x y e = absurd cc
+
+either : (b : Bool) (x y : Named) (o p : Option Named) → (p ≡ Some y → (o ≡ Some y) ⊎ (x ≡ y)) → (z : Named) → cond b (Some z) p ≡ Some y → (cond b (Some z) o ≡ Some y) ⊎ (x ≡ y)
+either true x y o p rest z e = inl e
+either false x y o p rest z e = rest e
+
+-- what is found behind one more declaration was found before, or is what it declared
+pub found_behind : (es : List Entry) (name word : List ℕ) (x y : Named) → find (declared es name x) word ≡ Some y → (find es word ≡ Some y) ⊎ (x ≡ y)
+found_behind [] name word x y e = inr (same_named (bytes_eq name word) x y e)
+found_behind (entry ∷ es) name word x y e =
+    either (bytes_eq entry.name word) x y (find es word) (find (declared es name x) word) (found_behind es name word x y) entry.named e
+
+same_process : (p q : ℕ) → named.Process p ≡ named.Process q → p ≡ q
+same_process p q e = cc
+
+same_actor : (a b : ℕ) → named.Actor a ≡ named.Actor b → a ≡ b
+same_actor a b e = cc
+
+same_pin : (h g : ℕ) → named.Pin h ≡ named.Pin g → h ≡ g
+same_pin h g e = cc
+
+process_no_actor : (p a : ℕ) → named.Process p ≡ named.Actor a → ⊥
+process_no_actor p a e = cc
+
+process_no_pin : (p h : ℕ) → named.Process p ≡ named.Pin h → ⊥
+process_no_pin p h e = cc
+
+actor_no_pin : (a h : ℕ) → named.Actor a ≡ named.Pin h → ⊥
+actor_no_pin a h e = cc
+
+-- ---- one more process
+
+pub kind_fits : (s t : ScriptValue) → length s.processes ≤ length t.processes → (k : Kind) → KindFits s k → KindFits t k
+kind_fits s t more (Thread p) h = omega arith
+kind_fits s t more (Device slots) h = h
+kind_fits s t more Mover h = h
+
+pub stands_process : (st : Outline) (name : Word) (born : Bool) → Stands st → length st.script.processes < 16 → Stands (with_process name born st)
+stands_process st name born h few =
+    let next = with_process name born st in
+    let process : Process = record { name = name; born = born } in
+    let long : length next.script.processes ≡ length st.script.processes + 1 = length_push st.script.processes process in
+    record {
+      processes_in = λ word p e. elim (found_behind st.names name word (named.Process (length st.script.processes)) (named.Process p) e) [
+        | inl old ↦ let lt = h.processes_in word p old in omega arith
+        | inr new ↦ let same = same_process (length st.script.processes) p new in omega arith
+      ];
+      actors_in = λ word a e. elim (found_behind st.names name word (named.Process (length st.script.processes)) (named.Actor a) e) [
+        | inl old ↦ h.actors_in word a old
+        | inr new ↦ absurd (process_no_actor (length st.script.processes) a new)
+      ];
+      pins_in = λ word n e. elim (found_behind st.names name word (named.Process (length st.script.processes)) (named.Pin n) e) [
+        | inl old ↦ h.pins_in word n old
+        | inr new ↦ absurd (process_no_pin (length st.script.processes) n new)
+      ];
+      few_frames = h.few_frames;
+      few_tables = h.few_tables;
+      few_processes = omega arith;
+      few_threads = h.few_threads;
+      few_devices = h.few_devices;
+      few_movers = h.few_movers;
+      few_handles = h.few_handles;
+      kinds = each_like (λ (a : Actor). KindFits st.script a.kind) (λ a. KindFits next.script a.kind) st.script.actors (λ a. kind_fits st.script next.script (omega arith) a.kind) h.kinds;
+      ops = h.ops;
+      ops_fit = h.ops_fit;
+      declared = declared_stay st.script next.script (process ∷ []) refl (omega arith) (omega arith) st.script.actors h.declared;
+      forks_once = h.forks_once;
+      pins_once = h.pins_once;
+      counted = h.counted;
+      few_ops = h.few_ops;
+      turns = h.turns;
+      few_turns = h.few_turns;
+    }
+
+-- ---- one more actor
+
+pub stands_actor : (st : Outline) (name : Word) (kind : Kind) → Stands st → KindFits st.script kind → how_many is_thread st + cond (is_thread kind) 1 0 ≤ 64 → how_many is_device st + cond (is_device kind) 1 0 ≤ 16 → how_many is_mover st + cond (is_mover kind) 1 0 ≤ 1 → Stands (with_actor name kind st)
+stands_actor st name kind h fits threads devices movers =
+    let next = with_actor name kind st in
+    let actors = st.script.actors in
+    let actor : Actor = record { name = name; kind = kind; ops = [] } in
+    let long : length next.script.actors ≡ length actors + 1 = length_push actors actor in
+    record {
+      processes_in = λ word p e. elim (found_behind st.names name word (named.Actor (length actors)) (named.Process p) e) [
+        | inl old ↦ h.processes_in word p old
+        | inr new ↦ absurd (process_no_actor p (length actors) (sym new))
+      ];
+      actors_in = λ word a e. elim (found_behind st.names name word (named.Actor (length actors)) (named.Actor a) e) [
+        | inl old ↦ let lt = h.actors_in word a old in omega arith
+        | inr new ↦ let same = same_actor (length actors) a new in omega arith
+      ];
+      pins_in = λ word n e. elim (found_behind st.names name word (named.Actor (length actors)) (named.Pin n) e) [
+        | inl old ↦ h.pins_in word n old
+        | inr new ↦ absurd (actor_no_pin (length actors) n new)
+      ];
+      few_frames = h.few_frames;
+      few_tables = h.few_tables;
+      few_processes = h.few_processes;
+      few_threads = let sum = sum_by_push (λ (a : Actor). cond (is_thread a.kind) 1 0) actors actor in omega arith;
+      few_devices = let sum = sum_by_push (λ (a : Actor). cond (is_device a.kind) 1 0) actors actor in omega arith;
+      few_movers = let sum = sum_by_push (λ (a : Actor). cond (is_mover a.kind) 1 0) actors actor in omega arith;
+      few_handles = h.few_handles;
+      kinds = each_append (λ (a : Actor). KindFits st.script a.kind) actors (actor ∷ []) h.kinds (fits, tt);
+      ops = each_append (λ (a : Actor). All IsOp a.ops) actors (actor ∷ []) h.ops (All-nil IsOp, tt);
+      ops_fit = each_append (λ (a : Actor). All (FitsKind a.kind) a.ops) actors (actor ∷ []) h.ops_fit (All-nil (FitsKind kind), tt);
+      declared = declared_stay st.script next.script [] (sym (append-nil st.script.processes)) (omega arith) (omega arith) next.script.actors (each_append (λ (a : Actor). All (AreDeclared st.script) a.ops) actors (actor ∷ []) h.declared (All-nil (AreDeclared st.script), tt));
+      forks_once = actor_once IsForkOf actors actor refl h.forks_once;
+      pins_once = actor_once IsPinOf actors actor refl h.pins_once;
+      counted = let sum = sum_by_push (λ (a : Actor). length a.ops) actors actor in let old = h.counted in omega arith;
+      few_ops = h.few_ops;
+      turns = each_like (λ a. a < length actors) (λ a. a < length next.script.actors) st.script.turns (λ a lt. omega arith) h.turns;
+      few_turns = h.few_turns;
+    }
+
+-- ---- one more handle
+
+pub stands_handle : (st : Outline) (name : Word) → Stands st → length st.script.handles < most_handles → Stands (with_handle name st)
+stands_handle st name h few =
+    let next = with_handle name st in
+    let handles = st.script.handles in
+    let long : length next.script.handles ≡ length handles + 1 = length_push handles name in
+    record {
+      processes_in = λ word p e. elim (found_behind st.names name word (named.Pin (length handles)) (named.Process p) e) [
+        | inl old ↦ h.processes_in word p old
+        | inr new ↦ absurd (process_no_pin p (length handles) (sym new))
+      ];
+      actors_in = λ word a e. elim (found_behind st.names name word (named.Pin (length handles)) (named.Actor a) e) [
+        | inl old ↦ h.actors_in word a old
+        | inr new ↦ absurd (actor_no_pin a (length handles) (sym new))
+      ];
+      pins_in = λ word n e. elim (found_behind st.names name word (named.Pin (length handles)) (named.Pin n) e) [
+        | inl old ↦ let lt = h.pins_in word n old in omega arith
+        | inr new ↦ let same = same_pin (length handles) n new in omega arith
+      ];
+      few_frames = h.few_frames;
+      few_tables = h.few_tables;
+      few_processes = h.few_processes;
+      few_threads = h.few_threads;
+      few_devices = h.few_devices;
+      few_movers = h.few_movers;
+      few_handles = omega arith;
+      kinds = each_like (λ (a : Actor). KindFits st.script a.kind) (λ a. KindFits next.script a.kind) st.script.actors (λ a. kind_fits st.script next.script (omega arith) a.kind) h.kinds;
+      ops = h.ops;
+      ops_fit = h.ops_fit;
+      declared = declared_stay st.script next.script [] (sym (append-nil st.script.processes)) (omega arith) (omega arith) st.script.actors h.declared;
+      forks_once = h.forks_once;
+      pins_once = h.pins_once;
+      counted = h.counted;
+      few_ops = h.few_ops;
+      turns = h.turns;
+      few_turns = h.few_turns;
+    }
+
+-- ---- the seed, and more turns
+
+pub stands_seed : (st : Outline) (seed : ℕ) → Stands st → Stands (with_seed seed st)
+stands_seed st seed h = record {
+  processes_in = h.processes_in;
+  actors_in = h.actors_in;
+  pins_in = h.pins_in;
+  few_frames = h.few_frames;
+  few_tables = h.few_tables;
+  few_processes = h.few_processes;
+  few_threads = h.few_threads;
+  few_devices = h.few_devices;
+  few_movers = h.few_movers;
+  few_handles = h.few_handles;
+  kinds = h.kinds;
+  ops = h.ops;
+  ops_fit = h.ops_fit;
+  declared = h.declared;
+  forks_once = h.forks_once;
+  pins_once = h.pins_once;
+  counted = h.counted;
+  few_ops = h.few_ops;
+  turns = h.turns;
+  few_turns = h.few_turns;
+}
+
+pub stands_turns : (st : Outline) (turns : List ℕ) → Stands st → AllByRecursion (λ a. a < length st.script.actors) turns → length st.script.turns + length turns ≤ most_turns → Stands (with_turns turns st)
+stands_turns st turns h of_actors few = record {
+  processes_in = h.processes_in;
+  actors_in = h.actors_in;
+  pins_in = h.pins_in;
+  few_frames = h.few_frames;
+  few_tables = h.few_tables;
+  few_processes = h.few_processes;
+  few_threads = h.few_threads;
+  few_devices = h.few_devices;
+  few_movers = h.few_movers;
+  few_handles = h.few_handles;
+  kinds = h.kinds;
+  ops = h.ops;
+  ops_fit = h.ops_fit;
+  declared = h.declared;
+  forks_once = h.forks_once;
+  pins_once = h.pins_once;
+  counted = h.counted;
+  few_ops = h.few_ops;
+  turns = each_append (λ a. a < length st.script.actors) st.script.turns turns h.turns of_actors;
+  few_turns = let long = length-append st.script.turns turns in omega arith;
+}

@@ -1,0 +1,142 @@
+//! The lines behind the `frames` line: each adds what it declares, an operation or turns to a `Reader`, or is refused
+//! for the first fault that it has.
+ghost use Rattle.std.specs.Prelude.{◌≡◌, map, OnOk};
+ghost use Rattle.gup_read.specs.Steps.{Makes, IsDeclarable};
+ghost use Rattle.gup_read.specs.Reading.{with_pinned, on_in, process_in, thread_in, device_in, mover_in, seed_in, next_in};
+
+use crate::operations::actor_op;
+use crate::refusal::{Reason, Trouble, check};
+use crate::turns::{random_line, turns_line};
+use gup_read_outline::Reader;
+use gup_script::{Kind, Op};
+use gup_read_words::{count, is_name, number};
+use std::alloc::AllocError;
+
+const MAX_PROCESSES: usize = 16;
+
+const MAX_THREADS: usize = 64;
+
+const MAX_DEVICES: usize = 16;
+
+/// How many words the store of a device may have.
+const MAX_SLOTS: u64 = 4_096;
+
+/// Declares the handle of a pin, whose name is the first word behind the operation's own.
+fn declare_pinned(reader: &mut Reader, op: &Op, fields: &[&str]) -> Result<(), AllocError>
+    requires { IsDeclarable op.now (map (λ word. word.now) fields.now) reader.old }
+    ensures { OnOk result (reader.new ≡ with_pinned op.now (map (λ word. word.now) fields.now) reader.old) }
+{
+    match (op, fields) {
+        (Op::Pin { .. }, [name, ..]) => reader.add_handle(name),
+        _ => Ok(()),
+    }
+}
+
+#[tactic(auto, unfolding(crate::specs::Reading::on_in))]
+fn on_line(reader: &mut Reader, fields: &[&str]) -> Result<(), Trouble>
+    ensures { Makes (on_in reader.old (map (λ word. word.now) fields.now)) reader.new result }
+{
+    let [name, word, fields @ ..] = fields else {
+        return Err(Trouble::Fault(Reason::Shape));
+    };
+    let actor = reader.actor(name).ok_or(Reason::Name)?;
+    let op = actor_op(reader, actor, word, fields)?;
+    check(reader.has_room(), Reason::Limit)?;
+    let op = op.ok_or(Reason::Later)?;
+    declare_pinned(reader, &op, fields)?;
+    reader.add_operation(actor, op)?;
+    Ok(())
+}
+
+/// A `process` line, or a `child` line, whose process is not born at the start.
+#[tactic(auto, unfolding(crate::specs::Reading::process_in))]
+fn process_line(reader: &mut Reader, born: bool, fields: &[&str]) -> Result<(), Trouble>
+    ensures { Makes (process_in born reader.old (map (λ word. word.now) fields.now)) reader.new result }
+{
+    let [name] = fields else {
+        return Err(Trouble::Fault(Reason::Shape));
+    };
+    check(is_name(name), Reason::Name)?;
+    check(reader.is_unused(name), Reason::Twice)?;
+    check(reader.processes() < MAX_PROCESSES, Reason::Limit)?;
+    reader.add_process(name, born)?;
+    Ok(())
+}
+
+#[tactic(auto, unfolding(crate::specs::Reading::thread_in))]
+fn thread_line(reader: &mut Reader, fields: &[&str]) -> Result<(), Trouble>
+    ensures { Makes (thread_in reader.old (map (λ word. word.now) fields.now)) reader.new result }
+{
+    let [name, process] = fields else {
+        return Err(Trouble::Fault(Reason::Shape));
+    };
+    check(is_name(name), Reason::Name)?;
+    let process = reader.process(process).ok_or(Reason::Name)?;
+    check(reader.is_unused(name), Reason::Twice)?;
+    check(reader.threads() < MAX_THREADS, Reason::Limit)?;
+    reader.add_actor(name, Kind::Thread(process))?;
+    Ok(())
+}
+
+#[tactic(auto, unfolding(crate::specs::Reading::device_in))]
+fn device_line(reader: &mut Reader, fields: &[&str]) -> Result<(), Trouble>
+    ensures { Makes (device_in reader.old (map (λ word. word.now) fields.now)) reader.new result }
+{
+    let [name, slots] = fields else {
+        return Err(Trouble::Fault(Reason::Shape));
+    };
+    let slots = count(1, MAX_SLOTS, slots).ok_or(Reason::Number)?;
+    check(is_name(name), Reason::Name)?;
+    check(reader.is_unused(name), Reason::Twice)?;
+    check(reader.devices() < MAX_DEVICES, Reason::Limit)?;
+    reader.add_actor(name, Kind::Device(slots as u16))?;
+    Ok(())
+}
+
+#[tactic(auto, unfolding(crate::specs::Reading::mover_in))]
+fn mover_line(reader: &mut Reader, fields: &[&str]) -> Result<(), Trouble>
+    ensures { Makes (mover_in reader.old (map (λ word. word.now) fields.now)) reader.new result }
+{
+    let [name] = fields else {
+        return Err(Trouble::Fault(Reason::Shape));
+    };
+    check(is_name(name), Reason::Name)?;
+    check(reader.is_unused(name) && !reader.has_mover(), Reason::Twice)?;
+    reader.add_actor(name, Kind::Mover)?;
+    Ok(())
+}
+
+#[tactic(auto, unfolding(crate::specs::Reading::seed_in))]
+fn seed_line(reader: &mut Reader, fields: &[&str]) -> Result<(), Trouble>
+    ensures { Makes (seed_in reader.old (map (λ word. word.now) fields.now)) reader.new result }
+{
+    let [seed] = fields else {
+        return Err(Trouble::Fault(Reason::Shape));
+    };
+    let seed = number(seed).ok_or(Reason::Number)?;
+    check(!reader.is_seeded(), Reason::Twice)?;
+    reader.set_seed(seed);
+    Ok(())
+}
+
+/// A line behind the `frames` line, by its words.
+#[tactic(auto, unfolding(crate::specs::Reading::next_in))]
+pub fn next_line(reader: &mut Reader, words: &[&str]) -> Result<(), Trouble>
+    ensures { Makes (next_in reader.old (map (λ word. word.now) words.now)) reader.new result }
+{
+    let [word, fields @ ..] = words else {
+        return Err(Trouble::Fault(Reason::Word));
+    };
+    match *word {
+        "on" => on_line(reader, fields),
+        "process" => process_line(reader, true, fields),
+        "child" => process_line(reader, false, fields),
+        "thread" => thread_line(reader, fields),
+        "device" => device_line(reader, fields),
+        "mover" => mover_line(reader, fields),
+        "seed" => seed_line(reader, fields),
+        "turns" => turns_line(reader, fields),
+        "random" => random_line(reader, fields),
+        _ => Err(Trouble::Fault(Reason::Word)),
+    }
+}

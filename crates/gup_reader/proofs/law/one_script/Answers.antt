@@ -1,5 +1,0 @@
-use Rattle.gup_reader.proofs.Public.{one_script}
-use Rattle.gup_reader.proofs.law.one_script.Goals as goal
-
-pub returns : goal.returns
-returns c = one_script

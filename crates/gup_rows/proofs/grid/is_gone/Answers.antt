@@ -1,5 +1,0 @@
-use Rattle.gup_rows.proofs.GridLemmas.{gone_is}
-use Rattle.gup_rows.proofs.grid.is_gone.Goals as goal
-
-pub returns : goal.returns
-returns c = gone_is c.args.row.now c.is_empty.result c.args.gone c.is_empty.ensures

@@ -1,5 +1,0 @@
-use Rattle.std.proofs.Common.{arith}
-use Rattle.gup_rows.proofs.row.Row+V+1024.put.Goals as goal
-
-pub set-requires : goal.set-requires
-set-requires g c = let small = c.get.ensures.below in omega arith

@@ -1,0 +1,244 @@
+-- A journal follows its script where each actor's notes are those of its operations in order, and the notes of one
+-- operation have one of the shapes of its kind. Each turn of an actor is later than the one in front of it.
+use Rattle.std.specs.Prelude.{◌≡◌, ℕ, ◌+◌, ◌≤◌, ◌<◌, ◌==◌, ◌&&◌, ◌⊎◌, Bool, true, false, not, IsTrue, List, [], ◌∷◌, ◌++◌, map, filter, zero, suc}
+use Rattle.gup_plain.specs.Event.{words}
+use Rattle.gup_plain.specs.Note.{NoteValue}
+use Rattle.gup_plain.specs.declared.answer.Answer.{Answer}
+use Rattle.gup_plain.specs.declared.answer.Answer.TheVariants as answers
+use Rattle.gup_plain.specs.declared.answer.Cause.{Cause}
+use Rattle.gup_plain.specs.declared.answer.Cause.TheVariants as causes
+use Rattle.gup_plain.specs.declared.event.PlainEvent.{PlainEvent}
+use Rattle.gup_plain.specs.declared.event.PlainEvent.TheVariants as events
+use Rattle.gup_plain.specs.declared.note.What.{What}
+use Rattle.gup_plain.specs.declared.note.What.TheVariants.{Silent, Idle, Wait, Event, Done}
+use Rattle.gup_script.specs.declared.op.Op.{Op}
+use Rattle.gup_script.specs.declared.op.Op.TheVariants.{Map, Unmap, Protect, Discard, Load, Store, Pin, Unpin, Give, Take, Transfer, Fork, Exit}
+use Rattle.gup_script.specs.Script.{ScriptValue}
+use Rattle.gup_spec_journal.specs.Place.{process_of, ops_of}
+
+-- an operation: its actor, the actor's process, and its number in the actor, from 1
+pub record Who : Type 0 where
+  pub actor : ℕ
+  pub proc : ℕ
+  pub number : ℕ
+
+abbrev pub note_of : (turn actor number : ℕ) → What → NoteValue
+note_of turn actor number what = record { turn = turn; actor = actor; op = number; what = what }
+
+abbrev pub notes_of_turn : (turn actor number : ℕ) → List What → List NoteValue
+notes_of_turn turn actor number whats = map (note_of turn actor number) whats
+
+-- the notes are those of one turn of the operation
+abbrev pub IsTurn : Who → List What → List NoteValue → Type 0
+IsTurn who whats notes = (turn : ℕ) × (notes ≡ notes_of_turn turn who.actor who.number whats)
+
+-- each note is of a turn behind this one
+abbrev pub AreBehind : (turn : ℕ) → List NoteValue → Type 0
+AreBehind turn [] = Unit {0}
+AreBehind turn (note ∷ notes) = (turn < note.turn) × AreBehind turn notes
+
+-- each note in front is of an earlier turn than each of the rest
+abbrev pub AreBefore : (front rest : List NoteValue) → Type 0
+AreBefore [] rest = Unit {0}
+AreBefore (note ∷ front) rest = AreBehind note.turn rest × AreBefore front rest
+
+-- notes of the first kind, and behind them, in later turns, notes of the second
+abbrev pub Then : (First Second : List NoteValue → Type 0) → List NoteValue → Type 0
+Then First Second notes =
+    (front rest : List NoteValue) × (notes ≡ front ++ rest) × AreBefore front rest × First front × Second rest
+
+-- which refusals an operation has
+abbrev pub refuses : Op → Answer → Bool
+refuses (Load page word) answers.Missing = true
+refuses (Load page word) answers.NoFrame = true
+refuses (Store page word value) answers.Missing = true
+refuses (Store page word value) answers.Forbidden = true
+refuses (Store page word value) answers.NoFrame = true
+refuses (Map page n rights) answers.Overlap = true
+refuses (Map page n rights) answers.Full = true
+refuses (Protect page n rights) answers.Missing = true
+refuses (Pin handle page n write) answers.Missing = true
+refuses (Pin handle page n write) answers.Forbidden = true
+refuses (Pin handle page n write) answers.NoFrame = true
+refuses (Unpin handle) answers.NotHeld = true
+refuses (Give handle to) answers.NotHeld = true
+refuses (Transfer handle outward index slot n) answers.NotHeld = true
+refuses (Transfer handle outward index slot n) answers.Forbidden = not outward
+refuses (Transfer handle outward index slot n) answers.Range = true
+refuses (Transfer handle outward index slot n) answers.Unborn = false
+-- a fork of a failed process has a shape of its own
+refuses (Fork child) answers.Unborn = false
+refuses op answers.Unborn = true
+refuses op answer = false
+
+-- a refusal is one turn
+abbrev pub IsRefused : Who → Op → List NoteValue → Type 0
+IsRefused who op notes = (answer : Answer) × IsTrue (refuses op answer) × IsTurn who (Done answer ∷ []) notes
+
+-- one page in a turn: with its event, or passed in silence
+abbrev pub TakesDown : Who → PlainEvent → List NoteValue → Type 0
+TakesDown who event notes = IsTurn who (Event event ∷ []) notes ⊎ IsTurn who (Silent ∷ []) notes
+
+-- the last page, with the answer
+abbrev pub TakesDownLast : Who → PlainEvent → List NoteValue → Type 0
+TakesDownLast who event notes =
+    IsTurn who (Event event ∷ Done answers.Plain ∷ []) notes ⊎ IsTurn who (Done answers.Plain ∷ []) notes
+
+-- n pages from this one on, one a turn, in rising order, each with this event
+abbrev pub TakesDownAll : Who → (ℕ → PlainEvent) → (page n : ℕ) → List NoteValue → Type 0
+TakesDownAll who event page zero notes = ⊥
+TakesDownAll who event page (suc zero) notes = TakesDownLast who (event page) notes
+TakesDownAll who event page (suc (suc n)) notes =
+    Then (TakesDown who (event page)) (TakesDownAll who event (page + 1) (suc n)) notes
+
+-- so many pages, one a turn, and then the answer
+abbrev pub TakesDownWhole : Who → (pages : ℕ) → List NoteValue → Type 0
+TakesDownWhole who zero notes = IsTurn who (Done answers.Plain ∷ []) notes
+TakesDownWhole who (suc pages) notes =
+    (page : ℕ)
+    × Then (IsTurn who (Event (events.Unmap who.actor who.proc page) ∷ [])) (TakesDownWhole who pages) notes
+
+-- of a page that a fork copies so many words are left, from this one on, one a turn; then the copy is placed
+abbrev pub CopiesWords : Who → (child page word left : ℕ) → List NoteValue → Type 0
+CopiesWords who child page word zero notes = IsTurn who (Silent ∷ []) notes
+CopiesWords who child page word (suc left) notes =
+    Then (IsTurn who (Event (events.ForkWord who.proc child page word) ∷ []))
+    (CopiesWords who child page (word + 1) left) notes
+
+-- a frame is taken for a page, and then all its words are copied, from this one on
+abbrev pub CopiesFrom : Who → (child page word : ℕ) → List NoteValue → Type 0
+CopiesFrom who child page word notes = (left : ℕ) × (word + left ≡ words) × CopiesWords who child page word left notes
+
+abbrev pub CopiesPage : Who → (child page : ℕ) → List NoteValue → Type 0
+CopiesPage who child page notes = Then (IsTurn who (Silent ∷ [])) (CopiesFrom who child page 0) notes
+
+-- a page that a fork has counted is shared in one turn, or copied
+abbrev pub SharesOrCopies : Who → (child page : ℕ) → List NoteValue → Type 0
+SharesOrCopies who child page notes =
+    IsTurn who (Event (events.ForkPage who.proc child page) ∷ []) notes ⊎ CopiesPage who child page notes
+
+-- a page of a fork: it is passed in one turn, or counted in one and shared in the next, or counted in one and copied in
+-- those behind it
+abbrev pub ForksPage : Who → (child page : ℕ) → List NoteValue → Type 0
+ForksPage who child page notes =
+    IsTurn who (Event (events.ForkPage who.proc child page) ∷ []) notes
+    ⊎ Then (IsTurn who (Silent ∷ [])) (SharesOrCopies who child page) notes
+
+-- behind a page that it counted a fork finds no frame for a copy
+abbrev pub FailsFork : Who → (child : ℕ) → List NoteValue → Type 0
+FailsFork who child notes =
+    Then (IsTurn who (Silent ∷ [])) (IsTurn who (Event (events.ForkFail child) ∷ Done answers.NoFrame ∷ [])) notes
+
+-- so many pages of a fork, in rising order from this one on, and then its end, or its failure
+abbrev pub ForksPages : Who → (child from pages : ℕ) → List NoteValue → Type 0
+ForksPages who child from zero notes =
+    IsTurn who (Event (events.ForkEnd who.proc child) ∷ Done answers.Plain ∷ []) notes ⊎ FailsFork who child notes
+ForksPages who child from (suc pages) notes =
+    (page : ℕ) × (from ≤ page) × Then (ForksPage who child page) (ForksPages who child (page + 1) pages) notes
+
+-- a fork: its beginning, its pages, its end or its failure
+abbrev pub Forks : Who → (child : ℕ) → List NoteValue → Type 0
+Forks who child notes =
+    (pages : ℕ)
+    × Then (IsTurn who (Event (events.ForkBegin who.proc child) ∷ [])) (ForksPages who child 0 pages) notes
+
+-- what may refuse a page of a pin
+abbrev pub EndsPin : Cause → Type 0
+EndsPin causes.Missing = Unit {0}
+EndsPin causes.Forbidden = Unit {0}
+EndsPin causes.NoFrame = Unit {0}
+EndsPin (causes.Unmovable count) = ⊥
+
+-- the page behind the first `got` of n is refused: the pin has those, where there are some
+abbrev pub EndsShort : Who → (handle n got : ℕ) → List NoteValue → Type 0
+EndsShort who handle n got notes =
+    (0 < got) × (cause : Cause) × EndsPin cause
+    × IsTurn who (Event (events.PinOk who.actor handle) ∷ Done (answers.Short got n cause) ∷ []) notes
+
+-- Of the n pages of a pin the first `got` are taken, and so many are left: they are tried in rising order, one a turn, to
+-- the last one or to the first that is refused. The last turn makes the handle.
+abbrev pub PinsPages : Who → (handle page n : ℕ) → (write : Bool) → (got left : ℕ) → List NoteValue → Type 0
+PinsPages who handle page n write got zero notes = ⊥
+PinsPages who handle page n write got (suc zero) notes =
+    IsTurn who (Event (events.PinTry who.actor who.proc (page + got) write) ∷ Event (events.PinOk who.actor handle)
+    ∷ Done (answers.Pinned n) ∷ []) notes
+    ⊎ EndsShort who handle n got notes
+PinsPages who handle page n write got (suc (suc left)) notes =
+    Then (IsTurn who (Event (events.PinTry who.actor who.proc (page + got) write) ∷ []))
+    (PinsPages who handle page n write (got + 1) (suc left)) notes
+    ⊎ EndsShort who handle n got notes
+
+-- an unpin gives back so many pages, one a turn, and then the last, with which the pin is gone
+abbrev pub Unpins : Who → (handle more : ℕ) → List NoteValue → Type 0
+Unpins who handle zero notes = IsTurn who (Event (events.Unpin who.actor handle) ∷ Done answers.Plain ∷ []) notes
+Unpins who handle (suc more) notes = Then (IsTurn who (Silent ∷ [])) (Unpins who handle more) notes
+
+-- a word of a transfer, out of a pin's pages or into them
+abbrev pub moves_word : (actor handle : ℕ) → (outward : Bool) → (index slot value : ℕ) → PlainEvent
+moves_word actor handle true index slot value = events.MoveOut actor handle index slot value
+moves_word actor handle false index slot value = events.MoveIn actor handle index slot value
+
+-- n words from these on, one a turn, in rising order
+abbrev pub MovesWords : Who → (handle : ℕ) → (outward : Bool) → (index slot n : ℕ) → List NoteValue → Type 0
+MovesWords who handle outward index slot zero notes = ⊥
+MovesWords who handle outward index slot (suc zero) notes =
+    (value : ℕ)
+    × IsTurn who (Event (moves_word who.actor handle outward index slot value) ∷ Done answers.Words ∷ []) notes
+MovesWords who handle outward index slot (suc (suc n)) notes =
+    (value : ℕ)
+    × Then (IsTurn who (Event (moves_word who.actor handle outward index slot value) ∷ []))
+    (MovesWords who handle outward (index + 1) (slot + 1) (suc n)) notes
+
+-- the shapes of an operation's notes
+abbrev pub Shape : Who → Op → List NoteValue → Type 0
+Shape who (Load page word) notes =
+    ((value : ℕ) × IsTurn who (Event (events.Load who.actor who.proc page word value) ∷ Done (answers.Value value) ∷ []) notes)
+    ⊎ IsRefused who (Load page word) notes
+Shape who (Store page word value) notes =
+    IsTurn who (Event (events.Store who.actor who.proc page word value) ∷ Done answers.Plain ∷ []) notes
+    ⊎ IsRefused who (Store page word value) notes
+Shape who (Map page n rights) notes =
+    IsTurn who (Event (events.Map who.actor who.proc page n rights) ∷ Done answers.Plain ∷ []) notes
+    ⊎ IsRefused who (Map page n rights) notes
+Shape who (Protect page n rights) notes =
+    IsTurn who (Event (events.Protect who.actor who.proc page n rights) ∷ Done answers.Plain ∷ []) notes
+    ⊎ IsRefused who (Protect page n rights) notes
+Shape who (Unmap page n) notes =
+    TakesDownAll who (events.Unmap who.actor who.proc) page n notes ⊎ IsRefused who (Unmap page n) notes
+Shape who (Discard page n) notes =
+    TakesDownAll who (events.Discard who.actor who.proc) page n notes ⊎ IsRefused who (Discard page n) notes
+Shape who (Pin handle page n write) notes =
+    PinsPages who handle page n write 0 n notes ⊎ IsRefused who (Pin handle page n write) notes
+Shape who (Unpin handle) notes = ((more : ℕ) × Unpins who handle more notes) ⊎ IsRefused who (Unpin handle) notes
+Shape who (Give handle to) notes =
+    IsTurn who (Event (events.Give who.actor handle to) ∷ Done answers.Plain ∷ []) notes
+    ⊎ IsRefused who (Give handle to) notes
+Shape who (Take handle) notes =
+    IsTurn who (Event (events.Take who.actor handle) ∷ Done answers.Plain ∷ []) notes
+    ⊎ IsRefused who (Take handle) notes
+Shape who (Transfer handle outward index slot n) notes =
+    MovesWords who handle outward index slot n notes ⊎ IsRefused who (Transfer handle outward index slot n) notes
+Shape who (Fork child) notes =
+    Forks who child notes ⊎ IsTurn who (Event (events.ForkFail child) ∷ Done answers.Unborn ∷ []) notes
+Shape who Exit notes = ((pages : ℕ) × TakesDownWhole who pages notes) ⊎ IsRefused who Exit notes
+
+-- the notes are those of some of the operations, from the first on, each in one of its shapes and behind the one before
+abbrev pub Shapes : (actor proc number : ℕ) → List Op → List NoteValue → Type 0
+Shapes actor proc number [] notes = notes ≡ []
+Shapes actor proc number (op ∷ ops) notes =
+    (notes ≡ [])
+    ⊎ Then (Shape (record { actor = actor; proc = proc; number = number }) op) (Shapes actor proc (number + 1) ops) notes
+
+-- the notes of an actor's operations: neither that it waits nor that it has finished
+abbrev pub is_of_operation : What → Bool
+is_of_operation Silent = true
+is_of_operation (Event e) = true
+is_of_operation (Done answer) = true
+is_of_operation Idle = false
+is_of_operation (Wait waiting) = false
+
+abbrev pub own_notes : ℕ → List NoteValue → List NoteValue
+own_notes a notes = filter (λ (n : NoteValue). (n.actor == a) && is_of_operation n.what) notes
+
+abbrev pub Follows : ScriptValue → List NoteValue → Type 0
+Follows script notes = (a : ℕ) → Shapes a (process_of script a) 1 (ops_of script a) (own_notes a notes)

@@ -1,0 +1,71 @@
+-- What is true beside soundness while no operation gets, moves, mirrors or walks, and of which events turns are made.
+use Rattle.std.proofs.Common.{◌≡◌, ℕ, Bool, false, List, [], ◌∷◌, Option, None, refl}
+use Rattle.gup_base.specs.declared.entry.Entry.{Entry}
+use Rattle.gup_base.specs.declared.entry.Rights.{Rights}
+use Rattle.gup_spec_events.specs.State.{CoreState, ForkStep, start}
+use Rattle.gup_spec_events.specs.Event.{CoreEvent, take_frame, fill, count_one, set_mark, upgrade, break_entry, put_entry, map_pages, lower_entry, protect_pages, drop_entry, discard_entry, load, store, raise_flag, pin_page, make_handle, unpin_page, give_handle, take_handle, move_out, move_in, begin_fork, count_page, share_entry, share_mark, share_child, copy_word, place_child, pass_page, end_fork, fail_fork, put_child, fail_unborn}
+
+-- no mirror is filled, and nothing is got
+pub record IsCalm (s : CoreState) : Type 0 where
+  pub unmirrored : (m : ℕ) → s.mirrored m ≡ None
+  pub no_gets : (k : ℕ) → s.got k ≡ None
+
+pub starts_calm : (movable normal : ℕ) (is_born : ℕ → Bool) → IsCalm (start movable normal is_born)
+starts_calm movable normal is_born = record { unmirrored = λ m. refl; no_gets = λ k. refl }
+
+-- What an operation is about, beside its process: pages alone, the pin that it makes, or one that it gives, takes, gives
+-- back or moves words of.
+pub data Strand : Type 0 where
+  of_pages : Strand
+  of_pin : (handle : ℕ) → Strand
+  of_handle : (handle : ℕ) → Strand
+
+-- The events of a turn of actor a that gives, takes or gives back a pin, or moves a word of one: they are of no process.
+pub data IsHandleEvent (a h : ℕ) : CoreEvent → Type 0 where
+  unpinning : (f : ℕ) (left : List ℕ) → IsHandleEvent a h (unpin_page a h f left)
+  giving : (to : ℕ) → IsHandleEvent a h (give_handle a h to)
+  taking_over : IsHandleEvent a h (take_handle a h)
+  moving_out : (index slot f value : ℕ) → IsHandleEvent a h (move_out a h index slot f value)
+  moving_in : (index slot f value : ℕ) → IsHandleEvent a h (move_in a h index slot f value)
+
+abbrev pub AreHandleEvents : (a h : ℕ) → List CoreEvent → Type 0
+AreHandleEvents a h [] = Unit {0}
+AreHandleEvents a h (e ∷ es) = IsHandleEvent a h e × AreHandleEvents a h es
+
+-- The events of which a turn of actor a of process p is made, whose operation is a fork into process c, or none (then c
+-- is p), and is about this.
+pub data IsTurnEvent (a p c : ℕ) (strand : Strand) : CoreEvent → Type 0 where
+  taking : (f : ℕ) → IsTurnEvent a p c strand (take_frame a f)
+  filling : (page f : ℕ) → IsTurnEvent a p c strand (fill a p page f)
+  counting_one : (page f : ℕ) (writable : Bool) → IsTurnEvent a p c strand (count_one a p page f writable)
+  marking_it : (page f : ℕ) → IsTurnEvent a p c strand (set_mark a p page f)
+  upgrading : (page f : ℕ) → IsTurnEvent a p c strand (upgrade a p page f)
+  breaking : (page old new : ℕ) (was writable : Bool) → IsTurnEvent a p c strand (break_entry a p page old new was writable)
+  putting : (f : ℕ) → IsTurnEvent a p c strand (put_entry a f)
+  mapping : (page n : ℕ) (rights : Rights) → IsTurnEvent a p c strand (map_pages a p page n rights)
+  lowering : (page f : ℕ) → IsTurnEvent a p c strand (lower_entry a p page f)
+  protecting : (page n : ℕ) (rights : Rights) → IsTurnEvent a p c strand (protect_pages a p page n rights)
+  dropping : (page : ℕ) (was : Option Entry) → IsTurnEvent a p c strand (drop_entry a p page was)
+  discarding : (page : ℕ) (was : Option Entry) → IsTurnEvent a p c strand (discard_entry a p page was)
+  loading : (page word f value : ℕ) → IsTurnEvent a p c strand (load a p page word f value)
+  storing : (page word f value : ℕ) → IsTurnEvent a p c strand (store a p page word f value)
+  raising : (h : ℕ) → strand ≡ of_pin h → IsTurnEvent a p c strand (raise_flag a p)
+  pinning : (h : ℕ) → strand ≡ of_pin h → (page : ℕ) (e : Entry) (write : Bool) → IsTurnEvent a p c strand (pin_page a p page e write false)
+  making : (h : ℕ) → strand ≡ of_pin h → IsTurnEvent a p c strand (make_handle a h)
+  handling : {e : CoreEvent} (h : ℕ) → strand ≡ of_handle h → IsHandleEvent a h e → IsTurnEvent a p c strand e
+  beginning : IsTurnEvent a p c strand (begin_fork a p c)
+  counting : (done : List ℕ) (page : ℕ) (e : Entry) (copies : Bool) → IsTurnEvent a p c strand (count_page a p c done page e copies)
+  sharing_entry : (done : List ℕ) (page f : ℕ) (writable : Bool) → IsTurnEvent a p c strand (share_entry a p c done page f writable)
+  sharing_mark : (done : List ℕ) (page f : ℕ) (writable : Bool) → IsTurnEvent a p c strand (share_mark a p c done page f writable)
+  sharing_child : (done : List ℕ) (page f : ℕ) (writable : Bool) → IsTurnEvent a p c strand (share_child a p c done page f writable)
+  passing : (done : List ℕ) (page : ℕ) → IsTurnEvent a p c strand (pass_page a p c done page)
+  ending : (done : List ℕ) → IsTurnEvent a p c strand (end_fork a p c done)
+  copying_word : (done : List ℕ) (page word to : ℕ) (e : Entry) → IsTurnEvent a p c strand (copy_word a p c done page word to e)
+  placing : (done : List ℕ) (page to : ℕ) (rights : Rights) → IsTurnEvent a p c strand (place_child a p c done page to rights)
+  failing_at : (done : List ℕ) (step : ForkStep) (ends : Bool) → IsTurnEvent a p c strand (fail_fork a p c done step ends)
+  putting_child : (done : List ℕ) (page : ℕ) (e : Entry) (ends : Bool) → IsTurnEvent a p c strand (put_child a p c done page e ends)
+  failing_unborn : IsTurnEvent a p c strand (fail_unborn a p c)
+
+abbrev pub AreTurnEvents : (a p c : ℕ) → Strand → List CoreEvent → Type 0
+AreTurnEvents a p c strand [] = Unit {0}
+AreTurnEvents a p c strand (e ∷ es) = IsTurnEvent a p c strand e × AreTurnEvents a p c strand es

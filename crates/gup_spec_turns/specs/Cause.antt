@@ -1,0 +1,154 @@
+-- Why an operation of a core run finds no frame, which answers it has at all, and what an actor waits for.
+use Rattle.std.specs.Prelude.{◌≡◌, ℕ, ◌+◌, ◌<◌, ◌⊎◌, Bool, true, false, Option, Some, None, IsSome, List, [], ◌∷◌, length, map, Contains}
+use Rattle.std.specs.List.{AllByRecursion}
+use Rattle.gup_base.specs.declared.entry.Allowed.{Allowed}
+use Rattle.gup_base.specs.declared.entry.Allowed.TheVariants.{Any}
+use Rattle.gup_base.specs.declared.entry.Entry.{Entry}
+use Rattle.gup_base.specs.declared.entry.Rights.TheVariants.{RW}
+use Rattle.gup_plain.specs.Note.{NoteValue}
+use Rattle.gup_plain.specs.State.{born}
+use Rattle.gup_plain.specs.declared.answer.Answer.{Answer}
+use Rattle.gup_plain.specs.declared.answer.Answer.TheVariants as answers
+use Rattle.gup_plain.specs.declared.answer.Cause.{Cause}
+use Rattle.gup_plain.specs.declared.answer.Cause.TheVariants as causes
+use Rattle.gup_plain.specs.declared.note.What.{What}
+use Rattle.gup_plain.specs.declared.note.What.TheVariants.{Silent, Idle, Wait, Event, Done}
+use Rattle.gup_plain.specs.declared.note.Waiting.{Waiting}
+use Rattle.gup_plain.specs.declared.note.Waiting.TheVariants as waitings
+use Rattle.gup_script.specs.declared.op.Op.{Op}
+use Rattle.gup_script.specs.declared.op.Op.TheVariants.{Map, Unmap, Protect, Discard, Load, Store, Pin, Unpin, Give, Take, Transfer, Fork, Exit}
+use Rattle.gup_script.specs.Script.{ScriptValue}
+use Rattle.gup_spec_events.specs.State.{CoreState}
+use Rattle.gup_spec_events.specs.Event.{IsAllowed}
+use Rattle.gup_spec_journal.specs.Order.{Turn}
+use Rattle.gup_spec_journal.specs.Place.{doer, birth_for, process_of, has_finished}
+use Rattle.gup_spec_turns.specs.Reached.{wants_frame, place_in}
+use Rattle.gup_spec_turns.specs.Run.{RunState, op_in, waiting_in}
+
+-- each frame of these zones has a reference
+abbrev pub AreHeld : CoreState → Allowed → Type 0
+AreHeld s allowed = (f : ℕ) → f < s.movable + s.normal → IsAllowed s allowed f → s.count f ≡ 0 → ⊥
+
+-- the zones from which the turns of an operation take frames
+abbrev pub allowed_of : Op → Allowed
+allowed_of op = Any
+
+-- others may have the frame of a page's entry too: it is unmarked, and its count isn't 1
+abbrev pub MayBeShared : CoreState → ℕ → Type 0
+MayBeShared s f = (s.mark f ≡ false) × (s.count f ≡ 1 → ⊥)
+
+-- By its entry, a page needs a frame to be the only one that has it, and to be written.
+abbrev pub NeedsOwn : CoreState → Option Entry → Type 0
+NeedsOwn s None = Unit {0}
+NeedsOwn s (Some e) = MayBeShared s e.frame
+
+abbrev pub NeedsWritable : CoreState → Option Entry → Type 0
+NeedsWritable s None = Unit {0}
+NeedsWritable s (Some e) = (e.writable ≡ false) × MayBeShared s e.frame
+
+-- A page needs a frame for a load, a store or a pin, if its rights allow that: a load of a page needs one where it has no
+-- entry, and a pin to read also where others may have its frame.
+abbrev pub NeedsForLoad : CoreState → (p page : ℕ) → Type 0
+NeedsForLoad s p page = IsSome (s.right p page) × (s.entry p page ≡ None)
+
+abbrev pub NeedsForStore : CoreState → (p page : ℕ) → Type 0
+NeedsForStore s p page = (s.right p page ≡ Some RW) × NeedsWritable s (s.entry p page)
+
+abbrev pub NeedsForPin : CoreState → (p page : ℕ) → (write : Bool) → Type 0
+NeedsForPin s p page true = NeedsForStore s p page
+NeedsForPin s p page false = IsSome (s.right p page) × NeedsOwn s (s.entry p page)
+
+-- An operation needs a frame at its next turn: a load, a store and a pin for their page, a pin's being the one behind those
+-- that it has, and a fork for the page that it copies, where it has none for it yet.
+abbrev pub NeedsFor : CoreState → (a p far : ℕ) → Op → Type 0
+NeedsFor s a p far (Load page word) = NeedsForLoad s p page
+NeedsFor s a p far (Store page word value) = NeedsForStore s p page
+NeedsFor s a p far (Pin handle page n write) = NeedsForPin s p (page + far) write
+NeedsFor s a p far (Fork child) = (page : ℕ) × (place_in s a ≡ wants_frame page)
+NeedsFor s a p far (Map page n rights) = ⊥
+NeedsFor s a p far (Unmap page n) = ⊥
+NeedsFor s a p far (Protect page n rights) = ⊥
+NeedsFor s a p far (Discard page n) = ⊥
+NeedsFor s a p far (Unpin handle) = ⊥
+NeedsFor s a p far (Give handle to) = ⊥
+NeedsFor s a p far (Take handle) = ⊥
+NeedsFor s a p far (Transfer handle outward index slot n) = ⊥
+NeedsFor s a p far Exit = ⊥
+
+-- the actor's next turn is one of this operation, which it waits for nothing to do, in a process that is born; and it
+-- needs a frame
+abbrev pub NeedsFrame : ScriptValue → RunState → (a : ℕ) → Op → Type 0
+NeedsFrame script r a op =
+    (op_in script r a ≡ Some op) × (waiting_in script r a ≡ None) × (birth_for r.core.birth (doer script a) ≡ born)
+    × NeedsFor r.core a (process_of script a) (r.places a).far op
+
+-- it needs one, and none that its operation may take is free
+abbrev pub FindsNoFrame : ScriptValue → RunState → (a : ℕ) → Type 0
+FindsNoFrame script r a = (op : Op) × NeedsFrame script r a op × AreHeld r.core (allowed_of op)
+
+-- the turn answers for want of a frame, or that is the cause of its short pin
+abbrev pub LacksFrame : List What → Type 0
+LacksFrame whats =
+    Contains whats (Done answers.NoFrame)
+    ⊎ ((got wanted : ℕ) × Contains whats (Done (answers.Short got wanted causes.NoFrame)))
+
+-- a turn from this state answers so exactly where it lacks a frame
+abbrev pub LacksExactly : ScriptValue → RunState → Turn → Type 0
+LacksExactly script r turn =
+    (LacksFrame turn.whats → FindsNoFrame script r turn.actor)
+    × (FindsNoFrame script r turn.actor → LacksFrame turn.whats)
+
+-- the answers that operations have so far, and the causes of short pins
+abbrev pub IsKnownCause : Cause → Type 0
+IsKnownCause causes.Missing = Unit {0}
+IsKnownCause causes.Forbidden = Unit {0}
+IsKnownCause causes.NoFrame = Unit {0}
+IsKnownCause (causes.Unmovable count) = ⊥
+
+abbrev pub IsKnownAnswer : Answer → Type 0
+IsKnownAnswer answers.Plain = Unit {0}
+IsKnownAnswer (answers.Value value) = Unit {0}
+IsKnownAnswer answers.Missing = Unit {0}
+IsKnownAnswer answers.Forbidden = Unit {0}
+IsKnownAnswer answers.NoFrame = Unit {0}
+IsKnownAnswer answers.Overlap = Unit {0}
+IsKnownAnswer (answers.Pinned pages) = Unit {0}
+IsKnownAnswer (answers.Short got wanted cause) = IsKnownCause cause
+IsKnownAnswer answers.Words = Unit {0}
+IsKnownAnswer answers.NotHeld = Unit {0}
+IsKnownAnswer answers.Range = Unit {0}
+IsKnownAnswer answers.Full = Unit {0}
+IsKnownAnswer answers.Unborn = Unit {0}
+IsKnownAnswer _ = ⊥
+
+abbrev pub IsKnown : What → Type 0
+IsKnown (Done answer) = IsKnownAnswer answer
+IsKnown Silent = Unit {0}
+IsKnown Idle = Unit {0}
+IsKnown (Wait waiting) = Unit {0}
+IsKnown (Event event) = Unit {0}
+
+abbrev pub AreKnown : List NoteValue → Type 0
+AreKnown notes = AllByRecursion (λ (note : NoteValue). IsKnown note.what) notes
+
+-- how many operations notes answer
+abbrev pub answers_in : List What → ℕ
+answers_in [] = 0
+answers_in (Done answer ∷ whats) = answers_in whats + 1
+answers_in (Silent ∷ whats) = answers_in whats
+answers_in (Idle ∷ whats) = answers_in whats
+answers_in (Wait waiting ∷ whats) = answers_in whats
+answers_in (Event event ∷ whats) = answers_in whats
+
+abbrev pub answered_in : List NoteValue → ℕ
+answered_in notes = answers_in (map (λ (note : NoteValue). note.what) notes)
+
+-- every actor has answered all its operations
+abbrev pub HaveFinished : ScriptValue → RunState → Type 0
+HaveFinished script end = (a : ℕ) → a < length script.actors → has_finished script a (end.places a) ≡ true
+
+-- an actor waits for a process of the script to be born, or for a pin of the script to be given to it
+abbrev pub WaitsForBirthOrPin : ScriptValue → Waiting → Type 0
+WaitsForBirthOrPin script waiting =
+    ((p : ℕ) × (p < length script.processes) × (waiting ≡ waitings.Process p))
+    ⊎ ((h : ℕ) × (h < length script.handles) × (waiting ≡ waitings.Handle h))
