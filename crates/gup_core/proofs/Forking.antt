@@ -6,8 +6,8 @@ use Rattle.gup_base.specs.declared.entry.Entry.{Entry}
 use Rattle.gup_plain.specs.Event.{page_numbers, words}
 use Rattle.gup_space.specs.Space.{SpaceValue}
 use Rattle.gup_space.specs.Shows.{ShowsSpace}
-use Rattle.gup_fork.specs.ForkAfter.{IsForkEvent, beginning, counting, lowering, unmarking, giving, passing, ending, writing, placing, failing_at, putting}
-use Rattle.gup_fork.specs.ForkLemmas.{leaves_others, job_stays, birth_stays}
+use Rattle.gup_fork.proofs.ForkAfter.{IsForkEvent, beginning, counting, lowering, unmarking, giving, passing, ending, writing, placing, failing_at, putting}
+use Rattle.gup_fork.proofs.ForkLemmas.{leaves_others, job_stays, birth_stays}
 use Rattle.gup_spec_events.specs.State.{CoreState, Job, idle, marking, moving, forking, walking, ForkStep, between, counted, lowered, cleared, copying, failing}
 use Rattle.gup_spec_events.specs.Event.{CoreEvent, happens, take_frame}
 use Rattle.gup_spec_events.specs.Failure.{are_gone, puts_entry, puts_entries}

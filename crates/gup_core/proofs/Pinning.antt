@@ -7,7 +7,7 @@ use Rattle.gup_base.specs.declared.entry.Rights.{Rights}
 use Rattle.gup_plain.specs.Denial.{is_held_by, transfer_denial}
 use Rattle.gup_plain.specs.State.{Birth}
 use Rattle.gup_plain.specs.declared.answer.Answer.{Answer}
-use Rattle.gup_space.specs.After.{IsOf, AreOf, flagging, pinning, making, unpinning, giving, taking_over, moving_out, moving_in}
+use Rattle.gup_space.proofs.After.{IsOf, AreOf, flagging, pinning, making, unpinning, giving, taking_over, moving_out, moving_in}
 use Rattle.gup_spec_events.specs.State.{CoreState, Taken as TakenPage, Job}
 use Rattle.gup_spec_events.specs.Event.{CoreEvent, happens, raise_flag, pin_page, make_handle, unpin_page, give_handle, take_handle, move_out, move_in}
 use Rattle.gup_spec_events.specs.Fault.{Fault, events_of, unshare_fault, unshares, marks, breaks}

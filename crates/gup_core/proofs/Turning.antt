@@ -14,9 +14,9 @@ use Rattle.gup_script.specs.declared.op.Op.{Op}
 use Rattle.gup_script.specs.declared.op.Op.TheVariants.{Pin, Fork}
 use Rattle.gup_frames.specs.Frames.{FrameLists, frames_of}
 use Rattle.gup_space.specs.Space.{SpaceParts, space_of}
-use Rattle.gup_space.specs.After.{AreOf}
+use Rattle.gup_space.proofs.After.{AreOf}
 use Rattle.gup_space.specs.Shows.{ShowsFrames, ShowsSpace, change_of}
-use Rattle.gup_space.specs.ShowsLemmas.{leave_other}
+use Rattle.gup_space.proofs.ShowsLemmas.{leave_other}
 use Rattle.gup_fork.specs.Forks.{fork_change_of}
 use Rattle.gup_handles.specs.Handles.{handles_of}
 use Rattle.gup_spec_events.specs.State.{CoreState, Taken as TakenPage}

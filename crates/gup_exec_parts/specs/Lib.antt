@@ -6,6 +6,3 @@ pub mod Pages
 pub mod Space
 pub mod Pin
 pub mod Actor
-pub mod TableLemmas
-pub mod SpaceLemmas
-pub mod TakenLemmas

@@ -10,7 +10,7 @@ use Rattle.gup_exec_plain.specs.declared.parts.Parts.{Parts}
 use Rattle.gup_exec_plain.specs.Parts.{state_of, spaces_of, other_state, with_spaces, pending_of, stores_of, handles_of}
 use Rattle.gup_exec_parts.specs.Actor.{store_of}
 use Rattle.gup_exec_parts.specs.Tables.{at_place}
-use Rattle.gup_exec_parts.specs.TableLemmas.{place_put, place_is, put_same}
+use Rattle.gup_exec_parts.proofs.TableLemmas.{place_put, place_is, put_same}
 
 -- the actor with this number is at this index, and is so
 pub record AtActor (v : Parts) (a i : ℕ) (was : Actor) : Type 0 where

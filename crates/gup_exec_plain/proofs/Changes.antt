@@ -11,7 +11,7 @@ use Rattle.gup_exec_parts.specs.declared.pages.Page.{Page}
 use Rattle.gup_exec_parts.specs.Pages.{right_in, object_in, with_object, with_rights, own_objects, pages_from}
 use Rattle.gup_exec_plain.specs.Parts.{with_spaces}
 use Rattle.gup_exec_parts.specs.Space.{SpaceState, blank}
-use Rattle.gup_exec_parts.specs.TableLemmas.{put_same}
+use Rattle.gup_exec_parts.proofs.TableLemmas.{put_same}
 
 -- ---- a function behind a change
 

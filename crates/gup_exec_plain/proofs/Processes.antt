@@ -18,9 +18,9 @@ use Rattle.gup_exec_parts.specs.Pages.{with_object, with_rights, own_objects, pa
 use Rattle.gup_exec_plain.specs.Parts.{state_of, spaces_of, other_state, with_spaces, IsMade}
 use Rattle.gup_exec_parts.specs.Space.{SpaceState, seen, blank, birth_of, copied_of}
 use Rattle.gup_exec_parts.specs.Tables.{at_place}
-use Rattle.gup_exec_parts.specs.TableLemmas.{place_put, place_is, put_same}
+use Rattle.gup_exec_parts.proofs.TableLemmas.{place_put, place_is, put_same}
 use Rattle.gup_exec_plain.proofs.Changes.{after_birth, after_unmap, after_discard, after_map, after_protect, after_grow, after_page, after_word, after_end, after_fail}
-use Rattle.gup_exec_parts.specs.SpaceLemmas.{page_numbers-is}
+use Rattle.gup_exec_parts.proofs.SpaceLemmas.{page_numbers-is}
 
 -- the process with this number is at this index, and is so
 pub record At (v : Parts) (p i : ℕ) (was : Space) : Type 0 where

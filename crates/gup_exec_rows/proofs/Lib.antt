@@ -2,3 +2,4 @@ pub mod GridLemmas
 pub mod ObjectLemmas
 pub mod ProcLemmas
 pub mod ClearingLemmas
+pub mod RowLemmas

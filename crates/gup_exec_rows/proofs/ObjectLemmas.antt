@@ -8,9 +8,9 @@ use Rattle.std.specs.Ordering.{nat_cmp, is_eq}
 use Rattle.gup_base.specs.declared.entry.Rights.{Rights}
 use Rattle.gup_plain.specs.Put.{put, spread}
 use Rattle.gup_plain.specs.State.{named_or_zero}
-use Rattle.gup_exec_parts.specs.TableLemmas.{updated}
+use Rattle.gup_exec_parts.proofs.TableLemmas.{updated}
 use Rattle.gup_exec_rows.specs.Objects.{numbers, object_of}
-use Rattle.gup_exec_rows.specs.RowLemmas.{through_put}
+use Rattle.gup_exec_rows.proofs.RowLemmas.{through_put}
 
 -- one more object in a map
 pub numbers_put : (m n : BTreeMap ℕ ℕ) (k o : ℕ) → ((q : ℕ) → get nat_cmp n q ≡ cond (is_eq (nat_cmp k q)) (Some o) (get nat_cmp m q)) → numbers n ≡ put k o (numbers m)

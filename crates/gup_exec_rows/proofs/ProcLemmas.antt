@@ -7,9 +7,9 @@ use Rattle.gup_plain.specs.Put.{put, put2}
 use Rattle.gup_plain.specs.State.{Birth}
 use Rattle.gup_exec_parts.specs.declared.space.Space.{Space}
 use Rattle.gup_exec_parts.specs.Space.{SpaceState, seen, blank}
-use Rattle.gup_exec_parts.specs.TableLemmas.{place_put, place_is, put_same}
+use Rattle.gup_exec_parts.proofs.TableLemmas.{place_put, place_is, put_same}
 use Rattle.gup_exec_parts.specs.Tables.{at_place}
-use Rattle.gup_exec_rows.specs.RowLemmas.{through_put, through_put2}
+use Rattle.gup_exec_rows.proofs.RowLemmas.{through_put, through_put2}
 
 abbrev spaces : List Space → ℕ → SpaceState
 spaces items = at_place seen blank items

@@ -1,5 +1,4 @@
 pub mod Row
-pub mod RowLemmas
 pub mod Grid
 pub mod Objects
 pub mod Sheets

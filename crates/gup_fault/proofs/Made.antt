@@ -6,8 +6,8 @@ use Rattle.gup_plain.specs.declared.answer.Answer.{Answer}
 use Rattle.gup_frames.specs.Frames.{FramesValue, taken, with_mark, copied, without_references}
 use Rattle.gup_space.specs.Space.{SpaceValue, with_entry}
 use Rattle.gup_space.specs.Shows.{Change, unlocked, AreEvents}
-use Rattle.gup_space.specs.After.{taking, filling, counting, marking_it, upgrading, breaking, putting, IsMadeBy}
-use Rattle.gup_space.specs.ShowsLemmas.{are_events, same_shown}
+use Rattle.gup_space.proofs.After.{taking, filling, counting, marking_it, upgrading, breaking, putting, IsMadeBy}
+use Rattle.gup_space.proofs.ShowsLemmas.{are_events, same_shown}
 use Rattle.gup_spec_events.specs.Event.{CoreEvent, entry_of, take_frame, fill, upgrade, break_entry, put_entry}
 use Rattle.gup_spec_events.specs.Invariant.{frame_of}
 use Rattle.gup_spec_events.specs.Fault.{Fault, events_of, refusal_of, fills, fills_writable, marks, breaks}

@@ -4,11 +4,11 @@ use Rattle.gup_base.specs.declared.entry.Entry.{Entry}
 use Rattle.gup_base.specs.declared.entry.Rights.{Rights}
 use Rattle.gup_frames.specs.Frames.{FramesValue, with_mark, with_word}
 use Rattle.gup_space.specs.Space.{SpaceValue, with_entry}
-use Rattle.gup_space.specs.ShowsLemmas.{same_shown}
+use Rattle.gup_space.proofs.ShowsLemmas.{same_shown}
 use Rattle.gup_spec_events.specs.Event.{copy_word, place_child, entry_of, is_writable}
 use Rattle.gup_fork.specs.Forks.{with_table, AreForkEvents}
-use Rattle.gup_fork.specs.ForkAfter.{writing, placing}
-use Rattle.gup_fork.specs.ForkLemmas.{are_shown_fork_events}
+use Rattle.gup_fork.proofs.ForkAfter.{writing, placing}
+use Rattle.gup_fork.proofs.ForkLemmas.{are_shown_fork_events}
 use Rattle.gup_fork.proofs.Steps.{change, same_frame}
 
 -- the word read is the one of the page's frame

@@ -5,14 +5,14 @@ use Rattle.gup_base.specs.declared.entry.Entry.{Entry}
 use Rattle.gup_plain.specs.Event.{page_numbers}
 use Rattle.gup_frames.specs.Frames.{FramesValue}
 use Rattle.gup_space.specs.Space.{SpaceValue, with_entry}
-use Rattle.gup_space.specs.After.{IsShownAs}
+use Rattle.gup_space.proofs.After.{IsShownAs}
 use Rattle.gup_spec_events.specs.State.{ForkStep}
 use Rattle.gup_spec_events.specs.Event.{CoreEvent, fail_fork, put_child}
 use Rattle.gup_spec_events.specs.Failure.{are_gone, puts_entry, puts_entries, fails}
-use Rattle.gup_spec_events.specs.Gone.{no_puts}
+use Rattle.gup_spec_events.proofs.Gone.{no_puts}
 use Rattle.gup_fork.specs.Forks.{with_structure, with_table, AreForkEvents, without_entry, without_entries, table_behind, without_maps, emptied}
-use Rattle.gup_fork.specs.ForkAfter.{AreOfFork, failing_at, putting, parent_behind, all_frames_behind, all_parent_behind, all_child_behind}
-use Rattle.gup_fork.specs.ForkLemmas.{are_shown_fork_events}
+use Rattle.gup_fork.proofs.ForkAfter.{AreOfFork, failing_at, putting, parent_behind, all_frames_behind, all_parent_behind, all_child_behind}
+use Rattle.gup_fork.proofs.ForkLemmas.{are_shown_fork_events}
 use Rattle.gup_fork.proofs.Steps.{change}
 
 -- ---- the references that are given back, one entry and then all

@@ -10,8 +10,8 @@ use Rattle.gup_frames.specs.Frames.{FramesValue, free_in, free_of, with_mark}
 use Rattle.gup_space.specs.Space.{SpaceValue}
 use Rattle.gup_spec_events.specs.Event.{begin_fork, end_fork}
 use Rattle.gup_fork.specs.Forks.{ForkChange, with_structure, with_table, AreForkEvents, with_maps_of, shares, shared, with_shared}
-use Rattle.gup_fork.specs.ForkAfter.{beginning, lowering, unmarking, giving, ending}
-use Rattle.gup_fork.specs.ForkLemmas.{are_fork_events}
+use Rattle.gup_fork.proofs.ForkAfter.{beginning, lowering, unmarking, giving, ending}
+use Rattle.gup_fork.proofs.ForkLemmas.{are_fork_events}
 
 abbrev pub change : (F F' : FramesValue) (P P' C C' : SpaceValue) → ForkChange
 change F F' P P' C C' =

@@ -11,9 +11,9 @@ use Rattle.gup_plain.specs.declared.event.PlainEvent.TheVariants as events
 use Rattle.gup_plain.specs.declared.note.What.{What}
 use Rattle.gup_plain.specs.declared.note.What.TheVariants.{Silent, Event, Done}
 use Rattle.gup_frames.specs.Frames.{FramesValue, IsFrame, without_references}
-use Rattle.gup_space.specs.After.{unpinning, giving, taking_over}
+use Rattle.gup_space.proofs.After.{unpinning, giving, taking_over}
 use Rattle.gup_space.specs.Shows.{ShowsFrames}
-use Rattle.gup_space.specs.ShowsLemmas.{shows_frames}
+use Rattle.gup_space.proofs.ShowsLemmas.{shows_frames}
 use Rattle.gup_handles.specs.Handles.{HandleValue, HandlesValue, unmade, held, given, got, gone, IsPinOf, IsGivenTo, given_to, taken_by, but_last, held_or_gone, without_last, HasLast}
 use Rattle.gup_spec_events.specs.State.{CoreState}
 use Rattle.gup_spec_events.specs.Event.{happens, unpin_page, give_handle, take_handle}

@@ -12,9 +12,9 @@ use Rattle.gup_plain.specs.declared.note.What.{What}
 use Rattle.gup_plain.specs.declared.note.What.TheVariants.{Event, Done}
 use Rattle.gup_frames.specs.Frames.{FramesValue, IsFrame}
 use Rattle.gup_device.specs.Store.{StoreValue}
-use Rattle.gup_space.specs.After.{moving_out, moving_in}
+use Rattle.gup_space.proofs.After.{moving_out, moving_in}
 use Rattle.gup_space.specs.Shows.{ShowsFrames}
-use Rattle.gup_space.specs.ShowsLemmas.{shows_frames}
+use Rattle.gup_space.proofs.ShowsLemmas.{shows_frames}
 use Rattle.gup_handles.specs.Handles.{HandleValue, HandlesValue, unmade, held, given, got, gone}
 use Rattle.gup_spec_events.specs.State.{CoreState}
 use Rattle.gup_spec_events.specs.Event.{happens, move_out, move_in}

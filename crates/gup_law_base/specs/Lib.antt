@@ -1,13 +1,1 @@
-pub mod Clauses
-pub mod Rows
-pub mod Holders
-pub mod Tally
-pub mod Renamed
-pub mod Lonely
-pub mod Steps
-pub mod Named
-pub mod Done
-pub mod Children
-pub mod PinLists
 pub mod Simulated
-pub mod Left

@@ -9,7 +9,7 @@ use Rattle.gup_plain.specs.Put.{put, spread}
 use Rattle.gup_plain.specs.Event.{page_numbers}
 use Rattle.gup_spec_events.specs.Event.{entry_of}
 use Rattle.std.proofs.lemmas.List.Elements.{All-nil}
-use Rattle.gup_law_base.specs.Holders.{no_element, first_element}
+use Rattle.gup_law_base.proofs.Holders.{no_element, first_element}
 use Rattle.gup_spec_events.specs.State.{start}
 use Rattle.gup_spec_events.specs.Invariant.{AllCan}
 use Rattle.gup_law_events.specs.Possible.{first_born, one_run}

@@ -10,10 +10,10 @@ use Rattle.gup_spec_events.specs.State.{CoreState, Taken, Counted, one, Job, idl
 use Rattle.gup_spec_events.specs.Event.{bias, is_odd}
 use Rattle.gup_spec_events.specs.Invariant.{HasCleared, IsEntry, Names, IsSettled, IsExclusive, IsSharing, IsUndisturbed, IsParted, IsUncopied, StandsFor, IsAsPinned, AwaitsMark, IsWalked, AreNormal, Holds, frame_of, is_unsettled}
 use Rattle.gup_spec_events.specs.Sound.{View, Moving, Forking, Walking, moving_of, forking_of, walking_of, is_open, is_failing, unkept, shared_page, IsUncopiedBy, IsSoundBy}
-use Rattle.gup_law_base.specs.Rows.{contains_at, at_within}
-use Rattle.gup_law_base.specs.Done.{some_there}
-use Rattle.gup_law_base.specs.Steps.{even_apart}
-use Rattle.gup_law_base.specs.Lonely.{whole_is, handle_counts, taken_counts, grabbed_counted, mapped_names, born_mapped}
+use Rattle.gup_law_base.proofs.Rows.{contains_at, at_within}
+use Rattle.gup_law_base.proofs.Done.{some_there}
+use Rattle.gup_law_base.proofs.Steps.{even_apart}
+use Rattle.gup_law_base.proofs.Lonely.{whole_is, handle_counts, taken_counts, grabbed_counted, mapped_names, born_mapped}
 use Rattle.gup_law_events.proofs.Counted.{walked_is, counts}
 
 -- 1. Jobs, back from what they are seen as

@@ -6,8 +6,8 @@ use Rattle.gup_base.specs.declared.entry.Rights.{Rights}
 use Rattle.gup_plain.specs.State.{growing, named_or_zero}
 use Rattle.gup_spec_events.specs.State.{CoreState, plain_of}
 use Rattle.gup_spec_events.specs.Sound.{View, IsSoundBy}
-use Rattle.gup_law_base.specs.Done.{some_there}
-use Rattle.gup_law_base.specs.Named.{named_here}
+use Rattle.gup_law_base.proofs.Done.{some_there}
+use Rattle.gup_law_base.proofs.Named.{named_here}
 use Rattle.gup_plain.specs.Event.{AreForking}
 
 -- the child of a fork names an object of its own where it is mapped

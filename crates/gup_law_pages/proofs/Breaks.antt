@@ -8,11 +8,11 @@ use Rattle.gup_plain.specs.Put.{put, put2}
 use Rattle.gup_spec_events.specs.State.{CoreState}
 use Rattle.gup_spec_events.specs.Event.{Can, happens, entry_of, break_entry, put_entry}
 use Rattle.gup_spec_events.specs.Sound.{View, IsSoundBy, IsSound, Simulates}
-use Rattle.gup_law_base.specs.Clauses.{References, CountIs, WholeEntry, WholeMoved, WholeFree, WholeKept, WholeOther, MovedGone, WholeNames, OwnAlone, OwnMade, OwnNames, OwnEntry, OwnWords, OwnMarked, OwnMarking, MarkedOwn, EntryMapped, EntryMarked, EntryAllowed, EntryWords, Untouched, HandleMarked, HandleOwn, HandleFlag, TakenMarked, TakenOwn, WalkOwn, WalkUnowned, WalkKept, WalkWritable, PreparedOnce, PreparedUnmarked, PreparedUnowned, PreparedZero, MarkingEntry, MarkingOwn, MovingOnce, ForkFresh, CopyWords, CopyThere, ShareHandle, ShareTaken, ShareLowered, ShareUnowned, MirrorEntry, ForkLeft}
-use Rattle.gup_law_base.specs.Left.{left_born}
-use Rattle.gup_law_base.specs.Tally.{tally_is, tally_entry, tally_prepared, tally_owed}
-use Rattle.gup_law_base.specs.Steps.{shared_is_step, lowered_is_shared}
-use Rattle.gup_law_base.specs.Lonely.{handle_counts, taken_counts, prepared_whole, prepared_alone, born_mapped, unmarked_unowned, owed_counts, owed_alone, owed_whole, owed_prepared, owed_moving}
+use Rattle.gup_law_base.proofs.Clauses.{References, CountIs, WholeEntry, WholeMoved, WholeFree, WholeKept, WholeOther, MovedGone, WholeNames, OwnAlone, OwnMade, OwnNames, OwnEntry, OwnWords, OwnMarked, OwnMarking, MarkedOwn, EntryMapped, EntryMarked, EntryAllowed, EntryWords, Untouched, HandleMarked, HandleOwn, HandleFlag, TakenMarked, TakenOwn, WalkOwn, WalkUnowned, WalkKept, WalkWritable, PreparedOnce, PreparedUnmarked, PreparedUnowned, PreparedZero, MarkingEntry, MarkingOwn, MovingOnce, ForkFresh, CopyWords, CopyThere, ShareHandle, ShareTaken, ShareLowered, ShareUnowned, MirrorEntry, ForkLeft}
+use Rattle.gup_law_base.proofs.Left.{left_born}
+use Rattle.gup_law_base.proofs.Tally.{tally_is, tally_entry, tally_prepared, tally_owed}
+use Rattle.gup_law_base.proofs.Steps.{shared_is_step, lowered_is_shared}
+use Rattle.gup_law_base.proofs.Lonely.{handle_counts, taken_counts, prepared_whole, prepared_alone, born_mapped, unmarked_unowned, owed_counts, owed_alone, owed_whole, owed_prepared, owed_moving}
 
 -- the old frame was no page's alone; the new one is prepared, so it was in no entry and under no pin
 pub simulates-break_entry : (s : CoreState) (a p page old new : ℕ) (was writable : Bool) → IsSound s → Can s (break_entry a p page old new was writable) → Simulates s (break_entry a p page old new was writable)

@@ -12,11 +12,11 @@ use Rattle.gup_spec_events.specs.State.{CoreState, plain_of}
 use Rattle.gup_spec_events.specs.Event.{Can, happens, entry_of, map_pages, lower_entry, protect_pages, drop_entry, discard_entry}
 use Rattle.gup_spec_events.specs.Invariant.{frame_of}
 use Rattle.gup_spec_events.specs.Sound.{View, IsSoundBy, IsSound, Simulates}
-use Rattle.gup_law_base.specs.Clauses.{References, WholeEntry, WholeMoved, WholeFree, WholeKept, WholeOther, MovedGone, RightNames, WholeNames, NamesObject, GrowingRights, UnbornUnmapped, FailedUnmapped, OwnMade, OwnNames, OwnEntry, OwnWords, OwnMarked, OwnMarking, MarkedOwn, EntryMapped, EntryMarked, EntryAllowed, EntryWords, Untouched, NamesAlone, NamesMade, RightNumbered, HandleFlag, TakenMade, TakenNames, MarkingEntry, MarkingOwn, ForkFresh, ForkMapped, CopyWords, ShareHandle, ShareTaken, ShareLowered, ShareUnowned, MirrorEntry, MirrorNames, ForkLeft}
-use Rattle.gup_law_base.specs.Left.{left_born}
-use Rattle.gup_law_base.specs.Tally.{tally_is, tally_entry, tally_owed}
-use Rattle.gup_law_base.specs.Named.{by_pages}
-use Rattle.gup_law_base.specs.Children.{no_child, copied_made}
+use Rattle.gup_law_base.proofs.Clauses.{References, WholeEntry, WholeMoved, WholeFree, WholeKept, WholeOther, MovedGone, RightNames, WholeNames, NamesObject, GrowingRights, UnbornUnmapped, FailedUnmapped, OwnMade, OwnNames, OwnEntry, OwnWords, OwnMarked, OwnMarking, MarkedOwn, EntryMapped, EntryMarked, EntryAllowed, EntryWords, Untouched, NamesAlone, NamesMade, RightNumbered, HandleFlag, TakenMade, TakenNames, MarkingEntry, MarkingOwn, ForkFresh, ForkMapped, CopyWords, ShareHandle, ShareTaken, ShareLowered, ShareUnowned, MirrorEntry, MirrorNames, ForkLeft}
+use Rattle.gup_law_base.proofs.Left.{left_born}
+use Rattle.gup_law_base.proofs.Tally.{tally_is, tally_entry, tally_owed}
+use Rattle.gup_law_base.proofs.Named.{by_pages}
+use Rattle.gup_law_base.proofs.Children.{no_child, copied_made}
 
 -- pages without rights, of a born process, have no entries
 unmapped_empty : (v : View) (s : CoreState) (p page n : ℕ) → IsSoundBy v s → s.birth p ≡ born → ((k : ℕ) → k < n → s.right p (page + k) ≡ None) → (g : ℕ) (e : Entry) → v.whole p g ≡ Some e → within page n g ≡ true → ⊥

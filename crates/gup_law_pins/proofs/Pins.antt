@@ -9,13 +9,13 @@ use Rattle.gup_spec_events.specs.State.{CoreState, Taken, idle, plain_of}
 use Rattle.gup_spec_events.specs.Event.{Can, happens, bias, entry_of, IsNormal, IsUntaken, AreAlike, raise_flag, pin_page, make_handle, unpin_page, give_handle, take_handle, get_reference, put_reference}
 use Rattle.gup_spec_events.specs.Invariant.{got_frame}
 use Rattle.gup_spec_events.specs.Sound.{View, is_open, IsSoundBy, IsSound, Simulates}
-use Rattle.gup_law_base.specs.Clauses.{References, CountIs, FlagBorn, OwnAlone, OwnMade, OwnNames, OwnEntry, OwnWords, OwnMarked, OwnMarking, MarkedOwn, EntryMarked, HandlePages, HandleMarked, HandleOwn, HandleFlag, HandleNormal, TakenMarked, TakenOwn, TakenMade, TakenFlag, TakenNames, TakenNormal, TakenWrite, TakenLong, TakenApart, WalkFlag, WalkEmpty, WalkProc, WalkWrite, WalkLong, WalkUntaken, WalkOwn, WalkUnowned, WalkKept, WalkLast, WalkWritable, PreparedOnce, PreparedUnmarked, PreparedUnowned, MarkingOwn, MovingOnce, ShareHandle, ShareTaken, ShareUnowned}
-use Rattle.gup_law_base.specs.Rows.{at_either, at_end, at_longer, at_within, no_rows}
-use Rattle.gup_law_base.specs.Tally.{tally_is, tally_taken, tally_pinned, tally_got}
-use Rattle.gup_law_base.specs.Renamed.{tally_handle}
-use Rattle.gup_law_base.specs.Steps.{shared_is_step}
-use Rattle.gup_law_base.specs.Lonely.{once_wholes, handle_counts, taken_counts, prepared_whole, born_mapped, got_counts, got_alone, got_whole, got_prepared, got_moving, pin_alone, pin_whole, pin_handle, pin_taken}
-use Rattle.gup_law_base.specs.PinLists.{all_alike, all_untaken, write_more, long_more, untold, told_more, allows, no_pages, as_many, frame_at, are_taken, told_handle, left_pages, left_objects, unpin_can, unpin_same}
+use Rattle.gup_law_base.proofs.Clauses.{References, CountIs, FlagBorn, OwnAlone, OwnMade, OwnNames, OwnEntry, OwnWords, OwnMarked, OwnMarking, MarkedOwn, EntryMarked, HandlePages, HandleMarked, HandleOwn, HandleFlag, HandleNormal, TakenMarked, TakenOwn, TakenMade, TakenFlag, TakenNames, TakenNormal, TakenWrite, TakenLong, TakenApart, WalkFlag, WalkEmpty, WalkProc, WalkWrite, WalkLong, WalkUntaken, WalkOwn, WalkUnowned, WalkKept, WalkLast, WalkWritable, PreparedOnce, PreparedUnmarked, PreparedUnowned, MarkingOwn, MovingOnce, ShareHandle, ShareTaken, ShareUnowned}
+use Rattle.gup_law_base.proofs.Rows.{at_either, at_end, at_longer, at_within, no_rows}
+use Rattle.gup_law_base.proofs.Tally.{tally_is, tally_taken, tally_pinned, tally_got}
+use Rattle.gup_law_base.proofs.Renamed.{tally_handle}
+use Rattle.gup_law_base.proofs.Steps.{shared_is_step}
+use Rattle.gup_law_base.proofs.Lonely.{once_wholes, handle_counts, taken_counts, prepared_whole, born_mapped, got_counts, got_alone, got_whole, got_prepared, got_moving, pin_alone, pin_whole, pin_handle, pin_taken}
+use Rattle.gup_law_base.proofs.PinLists.{all_alike, all_untaken, write_more, long_more, untold, told_more, allows, no_pages, as_many, frame_at, are_taken, told_handle, left_pages, left_objects, unpin_can, unpin_same}
 
 -- the process is born
 pub simulates-raise_flag : (s : CoreState) (a p : ℕ) → IsSound s → Can s (raise_flag a p) → Simulates s (raise_flag a p)

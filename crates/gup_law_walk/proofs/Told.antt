@@ -9,8 +9,8 @@ use Rattle.gup_plain.specs.Put.{put}
 use Rattle.gup_plain.specs.State.{Pending}
 use Rattle.gup_plain.specs.Event.{pending_pages}
 use Rattle.gup_spec_events.specs.State.{CoreState, Taken, plain_of, pending_of}
-use Rattle.gup_law_base.specs.Rows.{at_contains, mapped_at}
-use Rattle.gup_law_base.specs.PinLists.{put_mapped}
+use Rattle.gup_law_base.proofs.Rows.{at_contains, mapped_at}
+use Rattle.gup_law_base.proofs.PinLists.{put_mapped}
 
 -- a page that was taken is pending
 pub told_contains : (ts : List Taken) (k : ℕ) (t : Taken) → slice_get ts k ≡ Some t → Contains (pending_pages (map pending_of ts)) t.page

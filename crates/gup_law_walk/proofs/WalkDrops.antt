@@ -7,10 +7,10 @@ use Rattle.gup_spec_events.specs.State.{CoreState, Taken, Job, walking, WalkStep
 use Rattle.gup_spec_events.specs.Event.{Can, happens, bias, writes_taken, long_taken, step_left, without_references, drop_grab, drop_last, drop_first}
 use Rattle.gup_spec_events.specs.Invariant.{is_inside, step_frame}
 use Rattle.gup_spec_events.specs.Sound.{View, Walking, walk_frame, is_open, tried_page, tried_entry, rechecked_entry, unkept, held, Tally, IsSoundBy, IsSound, Simulates}
-use Rattle.gup_law_base.specs.Clauses.{References, Grabs, CountIs, PreparedOnce, MovingOnce}
-use Rattle.gup_law_base.specs.Rows.{at_end, at_longer, at_within}
-use Rattle.gup_law_base.specs.Tally.{changed, tally_is, tally_step, tally_drop, number_here}
-use Rattle.gup_law_base.specs.Lonely.{taken_counts, taken_alone, grab_counts, grab_alone}
+use Rattle.gup_law_base.proofs.Clauses.{References, Grabs, CountIs, PreparedOnce, MovingOnce}
+use Rattle.gup_law_base.proofs.Rows.{at_end, at_longer, at_within}
+use Rattle.gup_law_base.proofs.Tally.{changed, tally_is, tally_step, tally_drop, number_here}
+use Rattle.gup_law_base.proofs.Lonely.{taken_counts, taken_alone, grab_counts, grab_alone}
 use Rattle.gup_law_walk.proofs.Switches.{ArePages, AreSettled, IsWalk, IsActor, actor_is, switched, switched_view, switches, put_there}
 use Rattle.gup_law_walk.proofs.Steps.{walking_light, walk_of, in_walk, rests, walk_seen, walk_known, walk_light}
 use Rattle.gup_law_walk.proofs.TallyTaken.{tally_last, tally_first}

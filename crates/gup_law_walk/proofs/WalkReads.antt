@@ -7,9 +7,9 @@ use Rattle.gup_plain.specs.Put.{put}
 use Rattle.gup_spec_events.specs.State.{CoreState, Taken, Job, walking, ready, read, grabbed, stopped}
 use Rattle.gup_spec_events.specs.Event.{Can, bias, is_wrong, step_read, read_entry, grab_frame, miss_frame}
 use Rattle.gup_spec_events.specs.Sound.{View, Walking, walk_frame, IsSoundBy, IsSound, Simulates}
-use Rattle.gup_law_base.specs.Clauses.{Grabs, CountIs}
-use Rattle.gup_law_base.specs.Tally.{tally_grab}
-use Rattle.gup_law_base.specs.PinLists.{all_untaken}
+use Rattle.gup_law_base.proofs.Clauses.{Grabs, CountIs}
+use Rattle.gup_law_base.proofs.Tally.{tally_grab}
+use Rattle.gup_law_base.proofs.PinLists.{all_untaken}
 use Rattle.gup_law_walk.proofs.Switches.{IsWalk, actor_is, switched, switched_view, switches}
 use Rattle.gup_law_walk.proofs.Steps.{walking_light, walk_of, in_walk, rests, tries, walk_seen, walk_known, walk_light, next_step}
 

@@ -8,11 +8,11 @@ use Rattle.gup_plain.specs.State.{Pending, born}
 use Rattle.gup_spec_events.specs.State.{CoreState, Taken, Job, walking, grabbed, rechecked, plain_of}
 use Rattle.gup_spec_events.specs.Event.{Can, bias, IsUntaken, AreAlike, writes_taken, long_taken, recheck_same}
 use Rattle.gup_spec_events.specs.Sound.{View, Walking, walk_frame, IsSoundBy, IsSound, Simulates}
-use Rattle.gup_law_base.specs.Clauses.{References, Grabs, CountIs, PreparedOnce, MovingOnce}
-use Rattle.gup_law_base.specs.Rows.{at_either, at_within, all_from}
-use Rattle.gup_law_base.specs.Tally.{tally_is, tally_taken, tally_drop, number_here}
-use Rattle.gup_law_base.specs.Lonely.{once_wholes, prepared_whole, born_mapped, grab_counts}
-use Rattle.gup_law_base.specs.PinLists.{all_alike, all_untaken, write_more, long_more, untold, told_more, allows}
+use Rattle.gup_law_base.proofs.Clauses.{References, Grabs, CountIs, PreparedOnce, MovingOnce}
+use Rattle.gup_law_base.proofs.Rows.{at_either, at_within, all_from}
+use Rattle.gup_law_base.proofs.Tally.{tally_is, tally_taken, tally_drop, number_here}
+use Rattle.gup_law_base.proofs.Lonely.{once_wholes, prepared_whole, born_mapped, grab_counts}
+use Rattle.gup_law_base.proofs.PinLists.{all_alike, all_untaken, write_more, long_more, untold, told_more, allows}
 use Rattle.gup_law_walk.proofs.Switches.{ArePages, IsWalk, IsActor, actor_is, switched, switched_view, switches, put_there}
 use Rattle.gup_law_walk.proofs.Steps.{walking_light, walk_of, in_walk, walk_seen, walk_known, walk_light}
 

@@ -16,8 +16,8 @@ use Rattle.gup_frames.specs.Frames.{FramesValue}
 use Rattle.gup_space.specs.Space.{SpaceValue}
 use Rattle.gup_space.specs.Shows.{ShowsFrames, ShowsSpace}
 use Rattle.gup_fork.specs.Forks.{ForkChange, AreForkEvents, copies_frame, shares}
-use Rattle.gup_fork.specs.ForkAfter.{counting, passing}
-use Rattle.gup_fork.specs.ForkLemmas.{are_fork_events}
+use Rattle.gup_fork.proofs.ForkAfter.{counting, passing}
+use Rattle.gup_fork.proofs.ForkLemmas.{are_fork_events}
 use Rattle.gup_spec_events.specs.State.{CoreState, Job, idle, marking, moving, forking, walking, between, counted, lowered, cleared, copying, failing}
 use Rattle.gup_spec_events.specs.Event.{CoreEvent, bias, begin_fork, count_page, pass_page, end_fork, copies_page}
 use Rattle.gup_spec_turns.specs.Turn.{Taken, first_behind, next_page, next_turn, page_turn, share_turn, fork_turn}

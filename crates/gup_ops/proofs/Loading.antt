@@ -9,10 +9,10 @@ use Rattle.gup_plain.specs.declared.answer.Answer.{Answer}
 use Rattle.gup_plain.specs.declared.note.What.TheVariants.{Done}
 use Rattle.gup_frames.specs.Frames.{FramesValue, IsFrame, free_frame, frames_in, with_word}
 use Rattle.gup_space.specs.Space.{SpaceValue}
-use Rattle.gup_space.specs.After.{storing}
+use Rattle.gup_space.proofs.After.{storing}
 use Rattle.gup_space.specs.Counted.{IsCounted}
 use Rattle.gup_space.specs.Shows.{Change, ShowsFrames, ShowsSpace}
-use Rattle.gup_space.specs.ShowsLemmas.{shows_frames, shows_space, events_lead}
+use Rattle.gup_space.proofs.ShowsLemmas.{shows_frames, shows_space, events_lead}
 use Rattle.gup_spec_events.specs.State.{CoreState}
 use Rattle.gup_spec_events.specs.Event.{CoreEvent, happens, upgrade, load, store}
 use Rattle.gup_spec_events.specs.Invariant.{run}

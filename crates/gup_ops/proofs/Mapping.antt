@@ -15,9 +15,9 @@ use Rattle.gup_plain.specs.declared.note.What.{What}
 use Rattle.gup_plain.specs.declared.note.What.TheVariants.{Event, Done}
 use Rattle.gup_frames.specs.Frames.{FramesValue}
 use Rattle.gup_space.specs.Space.{SpaceValue, with_pages, with_rights, with_entry}
-use Rattle.gup_space.specs.After.{mapping, lowering, protecting, IsShownAs}
+use Rattle.gup_space.proofs.After.{mapping, lowering, protecting, IsShownAs}
 use Rattle.gup_space.specs.Shows.{ShowsFrames, ShowsSpace}
-use Rattle.gup_space.specs.ShowsLemmas.{shows_frames, shows_space, shown_as}
+use Rattle.gup_space.proofs.ShowsLemmas.{shows_frames, shows_space, shown_as}
 use Rattle.gup_spec_events.specs.State.{CoreState}
 use Rattle.gup_spec_events.specs.Event.{CoreEvent, happens, entry_of, map_pages, lower_entry, protect_pages}
 use Rattle.gup_spec_events.specs.Invariant.{run}

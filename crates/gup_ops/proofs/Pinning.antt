@@ -12,9 +12,9 @@ use Rattle.gup_plain.specs.declared.note.What.{What}
 use Rattle.gup_plain.specs.declared.note.What.TheVariants.{Event, Done}
 use Rattle.gup_frames.specs.Frames.{FramesValue, with_references}
 use Rattle.gup_space.specs.Space.{SpaceValue}
-use Rattle.gup_space.specs.After.{flagging, pinning, making}
+use Rattle.gup_space.proofs.After.{flagging, pinning, making}
 use Rattle.gup_space.specs.Shows.{ShowsFrames, ShowsSpace}
-use Rattle.gup_space.specs.ShowsLemmas.{shows_frames, shows_space, events_lead}
+use Rattle.gup_space.proofs.ShowsLemmas.{shows_frames, shows_space, events_lead}
 use Rattle.gup_handles.specs.Handles.{HandlesValue, held}
 use Rattle.gup_spec_events.specs.State.{CoreState, Taken as TakenPage}
 use Rattle.gup_spec_events.specs.Event.{CoreEvent, happens, pin_page, make_handle, writes_taken, objects_taken, frames_of as frames_taken}

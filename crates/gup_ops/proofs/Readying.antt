@@ -8,7 +8,7 @@ use Rattle.gup_base.specs.declared.entry.Rights.TheVariants.{R, RW}
 use Rattle.gup_frames.specs.Frames.{FramesValue, IsFrame, free_frame}
 use Rattle.gup_space.specs.Space.{SpaceValue}
 use Rattle.gup_space.specs.Shows.{Change, ShowsFrames, ShowsSpace}
-use Rattle.gup_space.specs.ShowsLemmas.{events_lead}
+use Rattle.gup_space.proofs.ShowsLemmas.{events_lead}
 use Rattle.gup_spec_events.specs.State.{CoreState}
 use Rattle.gup_spec_events.specs.Event.{happens, upgrade}
 use Rattle.gup_spec_events.specs.Invariant.{run}

@@ -11,7 +11,7 @@ use Rattle.gup_frames.specs.Frames.{FramesValue}
 use Rattle.gup_maps.specs.Maps.{IsNextPage, IsLastPage}
 use Rattle.gup_space.specs.Space.{SpaceValue}
 use Rattle.gup_space.specs.Shows.{Change, ShowsFrames, ShowsSpace, AreEvents}
-use Rattle.gup_space.specs.ShowsLemmas.{events_lead}
+use Rattle.gup_space.proofs.ShowsLemmas.{events_lead}
 use Rattle.gup_spec_events.specs.State.{CoreState}
 use Rattle.gup_spec_events.specs.Invariant.{run}
 use Rattle.gup_spec_events.specs.Fault.{takes_down, discards}

@@ -2,8 +2,8 @@
 use Rattle.std.proofs.Common.{◌≡◌, ℕ, ◌<◌, false, List, [], ◌∷◌, Option, Some, unwrap_or, Result, Ok, Err, refl, sym, ap, subst, ◌∙◌, lit<}
 use Rattle.std.specs.Prelude.{nat_lt}
 use Rattle.std.proofs.lemmas.Bool.Decides.{Decides-ltb}
-use Rattle.gup_read_words.specs.SpelledNumbers.{number_read, index_read, count_read}
-use Rattle.gup_read_words.specs.SpelledPlaces.{address_read, range_read}
+use Rattle.gup_read_words.proofs.SpelledNumbers.{number_read, index_read, count_read}
+use Rattle.gup_read_words.proofs.SpelledPlaces.{address_read, range_read}
 use Rattle.gup_read_words.specs.Text.{address_in, range_in, index_in, count_in}
 use Rattle.gup_script.specs.declared.op.Op.{Op}
 use Rattle.gup_read.specs.declared.refusal.Reason.{Reason}

@@ -6,7 +6,7 @@ use Rattle.std.proofs.lemmas.Bool.Decides.{Decides-and, Decides-like, not_from_D
 use Rattle.std.proofs.lemmas.Slice.Eq.{bytes_eq-Decides}
 use Rattle.gup_read_words.specs.Text.{number_in}
 use Rattle.gup_read_words.specs.Spelling.{IsNumber}
-use Rattle.gup_read_words.specs.SpelledNumbers.{number_found, number_read}
+use Rattle.gup_read_words.proofs.SpelledNumbers.{number_found, number_read}
 use Rattle.gup_read.specs.declared.refusal.Reason.{Reason}
 use Rattle.gup_read.specs.declared.refusal.Reason.TheVariants as reasons
 use Rattle.gup_script.specs.Script.{FrameCounts}

@@ -6,9 +6,9 @@ use Rattle.std.proofs.lemmas.Bool.{ltb-true, lt-ltb}
 use Rattle.std.proofs.lemmas.Bool.Decides.{Decides-eqb}
 use Rattle.gup_read_words.specs.Text.{number_in, count_in, index_in, page_in, word_no_in, address_in, range_in, is_name}
 use Rattle.gup_read_words.specs.Spelling.{IsNumber, IsCount, IsIndex, IsPage, IsWordNo, IsAddress, IsRange, IsName}
-use Rattle.gup_read_words.specs.SpelledNumbers.{number_found, number_read, count_found, count_read, index_found, index_read, page_found, page_read, word_no_found, word_no_read}
-use Rattle.gup_read_words.specs.SpelledPlaces.{address_found, address_read, range_found, range_read}
-use Rattle.gup_read_words.specs.SpelledNames.{name_found, name_read}
+use Rattle.gup_read_words.proofs.SpelledNumbers.{number_found, number_read, count_found, count_read, index_found, index_read, page_found, page_read, word_no_found, word_no_read}
+use Rattle.gup_read_words.proofs.SpelledPlaces.{address_found, address_read, range_found, range_read}
+use Rattle.gup_read_words.proofs.SpelledNames.{name_found, name_read}
 use Rattle.gup_read_names.specs.Names.{find}
 use Rattle.gup_read_names.specs.declared.names.Named.{Named}
 use Rattle.gup_read_names.specs.declared.names.Named.TheVariants as named

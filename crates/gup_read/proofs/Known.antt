@@ -2,8 +2,8 @@
 use Rattle.std.proofs.Common.{◌≡◌, ℕ, ◌<◌, Bool, true, false, not, List, Option, Some, None, is_none, refl, ap, ◌^◌, Decides}
 use Rattle.gup_read_words.specs.Text.{number_in, count_in, is_name}
 use Rattle.gup_read_words.specs.Spelling.{IsNumber, IsCount, IsName}
-use Rattle.gup_read_words.specs.SpelledNumbers.{number_found, number_read, count_found, count_read}
-use Rattle.gup_read_words.specs.SpelledNames.{name_found, name_read}
+use Rattle.gup_read_words.proofs.SpelledNumbers.{number_found, number_read, count_found, count_read}
+use Rattle.gup_read_words.proofs.SpelledNames.{name_found, name_read}
 use Rattle.gup_read_names.specs.Names.{find, is_unused}
 use Rattle.gup_read_names.specs.declared.names.Named.{Named}
 use Rattle.gup_read_names.specs.declared.names.Named.TheVariants as named

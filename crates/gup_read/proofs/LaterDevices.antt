@@ -8,7 +8,7 @@ use Rattle.std.proofs.lemmas.Bool.{leb-true, le-leb}
 use Rattle.gup_base.specs.declared.entry.Zone.{Zone}
 use Rattle.gup_base.specs.declared.entry.Zone.TheVariants.{Movable, Normal}
 use Rattle.gup_read_words.specs.Text.{segment_in}
-use Rattle.gup_read_words.specs.SpelledPlaces.{segment_found, segment_read}
+use Rattle.gup_read_words.proofs.SpelledPlaces.{segment_found, segment_read}
 use Rattle.gup_read_names.specs.Names.{find}
 use Rattle.gup_read.specs.Said.{Word, transfers_parts, mirrors, looks, moves, parts_word, zone_word}
 use Rattle.gup_read_outline.specs.Outline.{Outline}

@@ -4,7 +4,7 @@ use Rattle.std.proofs.lemmas.Bool.{ltb-true, ltb-false, lt-ltb, le-ltb}
 use Rattle.std.proofs.lemmas.Bool.Decides.{not_from_Decides}
 use Rattle.gup_read_words.specs.Text.{parts, is_printable}
 use Rattle.gup_read_words.specs.Spelling.{IsPrintable}
-use Rattle.gup_read_words.specs.SpelledNames.{printable_found, printable_read}
+use Rattle.gup_read_words.proofs.SpelledNames.{printable_found, printable_read}
 use Rattle.gup_read.specs.declared.refusal.Reason.{Reason}
 use Rattle.gup_read.specs.declared.refusal.Reason.TheVariants as reasons
 use Rattle.gup_read.specs.declared.refusal.ScriptFault.{ScriptFault}

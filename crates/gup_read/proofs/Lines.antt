@@ -4,7 +4,7 @@ use Rattle.std.proofs.lemmas.Bool.Decides.{Decides-and, Decides-eqb, not_from_De
 use Rattle.std.proofs.lemmas.List.Splits.{length-slice_split}
 use Rattle.gup_read_words.specs.Text.{parts, is_printable, is_passed, are_spaced, is_some_word}
 use Rattle.gup_read_words.specs.Spelling.{IsPrintable}
-use Rattle.gup_read_words.specs.SpelledNames.{printable_found, printable_read}
+use Rattle.gup_read_words.proofs.SpelledNames.{printable_found, printable_read}
 use Rattle.gup_read.specs.declared.refusal.Reason.{Reason}
 use Rattle.gup_read.specs.declared.refusal.Reason.TheVariants as reasons
 use Rattle.gup_read_outline.specs.Outline.{empty_outline}

@@ -6,8 +6,8 @@ use Rattle.std.proofs.lemmas.Bool.{ltb-true, lt-ltb, leb-true, le-leb}
 use Rattle.std.proofs.lemmas.Bool.Decides.{Decides-eqb, Decides-or, Decides-and}
 use Rattle.gup_read_words.specs.Text.{number_in, turn_name, turn_times}
 use Rattle.gup_read_words.specs.Spelling.{IsNumber, IsTurnWord}
-use Rattle.gup_read_words.specs.SpelledNumbers.{number_found, number_read}
-use Rattle.gup_read_words.specs.SpelledTurns.{turn_found, turn_read}
+use Rattle.gup_read_words.proofs.SpelledNumbers.{number_found, number_read}
+use Rattle.gup_read_words.proofs.SpelledTurns.{turn_found, turn_read}
 use Rattle.gup_read_names.specs.Names.{find}
 use Rattle.gup_read.specs.declared.refusal.Reason.TheVariants.{Number, Name, Twice, Limit}
 use Rattle.gup_read_outline.specs.Outline.{Outline, with_turns, draws}

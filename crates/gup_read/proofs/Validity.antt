@@ -4,7 +4,7 @@ use Rattle.std.specs.List.{AllByRecursion}
 use Rattle.std.proofs.Math.Nat.{mod-lt}
 use Rattle.std.proofs.lemmas.List.Elements.{All-from_recursion}
 use Rattle.gup_read_words.specs.Spelling.{IsNumber}
-use Rattle.gup_read_words.specs.SpelledNumbers.{number_read}
+use Rattle.gup_read_words.proofs.SpelledNumbers.{number_read}
 use Rattle.gup_read_words.specs.Text.{parts, number_in}
 use Rattle.gup_script.specs.declared.op.Kind.{Kind}
 use Rattle.gup_script.specs.declared.op.Kind.TheVariants.{Thread, Device, Mover}

@@ -8,7 +8,7 @@ use Rattle.std.proofs.lemmas.Str.Parse.{IsNumeralModel, numerals_by_value, tells
 use Rattle.std.proofs.lemmas.Bool.Decides.{nat_tests}
 use Rattle.gup_read_words.specs.Text.{number_in, is_padded}
 use Rattle.gup_read_words.specs.Spelling.{IsNumber}
-use Rattle.gup_read_words.specs.SpelledNumbers.{number_found, number_read}
+use Rattle.gup_read_words.proofs.SpelledNumbers.{number_found, number_read}
 
 number_cases : (word : List ℕ) → ((n : ℕ) × IsNumber word n) ⊎ (number_in word ≡ None)
 number_cases word = read (number_in word) refl where

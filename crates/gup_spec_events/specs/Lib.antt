@@ -4,4 +4,3 @@ pub mod Invariant
 pub mod Sound
 pub mod Fault
 pub mod Failure
-pub mod Gone

@@ -14,7 +14,7 @@ use Rattle.gup_script.specs.declared.op.Op.TheVariants.{Map, Unmap, Protect, Dis
 use Rattle.gup_spec_events.specs.State.{CoreState, Job, idle, marking, moving, forking, walking, ForkStep, between, counted, lowered, cleared, copying, failing}
 use Rattle.gup_spec_events.specs.Event.{CoreEvent, happens, begin_fork, count_page, copies_page, fail_fork, put_child, fail_unborn}
 use Rattle.gup_spec_events.specs.Failure.{are_gone, puts_entry, puts_entries, fails}
-use Rattle.gup_spec_events.specs.Gone.{no_puts}
+use Rattle.gup_spec_events.proofs.Gone.{no_puts}
 use Rattle.gup_spec_events.specs.Invariant.{run}
 use Rattle.gup_spec_events.specs.Sound.{Forking, forking_of}
 use Rattle.gup_spec_journal.specs.Place.{Place, Doer, birth_by, birth_for, place_behind}

@@ -11,7 +11,7 @@ use Rattle.gup_plain.specs.declared.event.PlainEvent.TheVariants as events
 use Rattle.gup_spec_events.specs.State.{CoreState, idle, forking, copying, failing}
 use Rattle.gup_spec_events.specs.Event.{CoreEvent, happens, fail_fork, put_child, AreGone}
 use Rattle.gup_spec_events.specs.Failure.{are_gone, puts_entry, puts_entries, fails}
-use Rattle.gup_spec_events.specs.Gone.{no_puts, are_said}
+use Rattle.gup_spec_events.proofs.Gone.{no_puts, are_said}
 use Rattle.gup_spec_events.specs.Invariant.{AllCan, run}
 use Rattle.gup_spec_events.specs.Sound.{IsSound}
 use Rattle.gup_law_events.specs.Law.{all_told}

@@ -7,8 +7,8 @@ use Rattle.gup_plain.specs.Put.{put}
 use Rattle.gup_frames.specs.Frames.{FramesValue, without_references}
 use Rattle.gup_space.specs.Space.{SpaceValue, with_entry, without_page}
 use Rattle.gup_space.specs.Shows.{Change, unlocked, AreEvents}
-use Rattle.gup_space.specs.After.{dropping, discarding, putting, IsShownAs}
-use Rattle.gup_space.specs.ShowsLemmas.{are_events, same_shown}
+use Rattle.gup_space.proofs.After.{dropping, discarding, putting, IsShownAs}
+use Rattle.gup_space.proofs.ShowsLemmas.{are_events, same_shown}
 use Rattle.gup_spec_events.specs.Event.{drop_entry, discard_entry, put_entry}
 use Rattle.gup_spec_events.specs.Fault.{takes_down, discards}
 

@@ -3,7 +3,7 @@ use Rattle.std.proofs.Math.Path.{fun_ext}
 use Rattle.std.specs.BTreeMap.{BTreeMap}
 use Rattle.gup_exec_parts.specs.Actor.{slots_in, store_of}
 use Rattle.gup_exec_parts.specs.declared.actor.Actor.{Actor}
-use Rattle.gup_exec_parts.specs.TableLemmas.{place_push}
+use Rattle.gup_exec_parts.proofs.TableLemmas.{place_push}
 use Rattle.gup_exec_parts.proofs.actor.idle.Goals as goal
 
 -- a store without entries has zeros

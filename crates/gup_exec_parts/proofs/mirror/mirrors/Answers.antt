@@ -1,6 +1,6 @@
 use Rattle.std.proofs.Common.{Option, None, refl, arith}
 use Rattle.gup_plain.specs.State.{Noted}
-use Rattle.gup_exec_parts.specs.TableLemmas.{place_push}
+use Rattle.gup_exec_parts.proofs.TableLemmas.{place_push}
 use Rattle.gup_exec_parts.proofs.mirror.mirrors.Goals as goal
 
 pub loop-m-preserved : goal.loop-m-preserved

@@ -7,7 +7,7 @@ use Rattle.gup_plain.specs.Put.{spread}
 use Rattle.gup_exec_parts.specs.declared.pages.Page.{Page}
 use Rattle.gup_exec_parts.specs.Pages.{pages_from, page_with}
 use Rattle.gup_exec_parts.proofs.ResultLemmas.{at_err, at_ok}
-use Rattle.gup_exec_parts.specs.TableLemmas.{still, grown, undone}
+use Rattle.gup_exec_parts.proofs.TableLemmas.{still, grown, undone}
 use Rattle.gup_exec_parts.proofs.pages.map.Goals as goal
 
 pub insert-requires : goal.insert-requires

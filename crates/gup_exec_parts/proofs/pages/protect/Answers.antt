@@ -4,7 +4,7 @@ use Rattle.std.specs.Ordering.{nat_cmp}
 use Rattle.gup_plain.specs.Put.{spread}
 use Rattle.gup_exec_parts.specs.declared.pages.Page.{Page}
 use Rattle.gup_exec_parts.specs.Pages.{with_rights}
-use Rattle.gup_exec_parts.specs.TableLemmas.{still, grown}
+use Rattle.gup_exec_parts.proofs.TableLemmas.{still, grown}
 use Rattle.gup_exec_parts.proofs.pages.protect.Goals as goal
 
 pub set_rights-requires : goal.set_rights-requires

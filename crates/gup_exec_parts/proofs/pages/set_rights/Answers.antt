@@ -2,7 +2,7 @@ use Rattle.std.proofs.Common.{◌≡◌, Some, sym}
 use Rattle.std.specs.BTreeMap.{get}
 use Rattle.std.specs.Ordering.{nat_cmp}
 use Rattle.gup_exec_parts.specs.declared.pages.Page.{Page}
-use Rattle.gup_exec_parts.specs.TableLemmas.{updated}
+use Rattle.gup_exec_parts.proofs.TableLemmas.{updated}
 use Rattle.gup_exec_parts.proofs.pages.set_rights.Goals as goal
 
 pub returns-in-Some-clause-pages : goal.returns-in-Some-clause-pages

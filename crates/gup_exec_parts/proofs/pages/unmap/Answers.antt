@@ -2,7 +2,7 @@ use Rattle.std.proofs.Common.{ℕ, Option, None, IsSome, refl, sym, subst, arith
 use Rattle.std.specs.BTreeMap.{get}
 use Rattle.std.specs.Ordering.{nat_cmp}
 use Rattle.gup_exec_parts.specs.declared.pages.Page.{Page}
-use Rattle.gup_exec_parts.specs.TableLemmas.{still, grown}
+use Rattle.gup_exec_parts.proofs.TableLemmas.{still, grown}
 use Rattle.gup_exec_parts.proofs.pages.unmap.Goals as goal
 
 pub remove-requires : goal.remove-requires

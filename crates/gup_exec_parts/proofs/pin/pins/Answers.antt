@@ -1,6 +1,6 @@
 use Rattle.std.proofs.Common.{arith}
 use Rattle.gup_plain.specs.State.{Handle, unmade}
-use Rattle.gup_exec_parts.specs.TableLemmas.{place_push}
+use Rattle.gup_exec_parts.proofs.TableLemmas.{place_push}
 use Rattle.gup_exec_parts.proofs.pin.pins.Goals as goal
 
 pub loop-h-preserved : goal.loop-h-preserved

@@ -1,6 +1,6 @@
 use Rattle.std.proofs.Common.{arith}
 use Rattle.gup_exec_parts.specs.Space.{seen, blank}
-use Rattle.gup_exec_parts.specs.TableLemmas.{place_push}
+use Rattle.gup_exec_parts.proofs.TableLemmas.{place_push}
 use Rattle.gup_exec_parts.proofs.space.spaces.Goals as goal
 
 pub loop-p-preserved : goal.loop-p-preserved

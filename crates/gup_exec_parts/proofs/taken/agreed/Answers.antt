@@ -1,5 +1,5 @@
 use Rattle.std.proofs.Common.{sym, refl}
-use Rattle.gup_exec_parts.specs.TakenLemmas.{agreed-is}
+use Rattle.gup_exec_parts.proofs.TakenLemmas.{agreed-is}
 use Rattle.gup_exec_parts.proofs.taken.agreed.Goals as goal
 
 pub returns-then-all_write : goal.returns-then-all_write

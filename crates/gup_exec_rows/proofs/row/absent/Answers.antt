@@ -1,5 +1,5 @@
 use Rattle.std.proofs.Common.{None, refl, arith}
-use Rattle.gup_exec_parts.specs.TableLemmas.{place_push}
+use Rattle.gup_exec_parts.proofs.TableLemmas.{place_push}
 use Rattle.gup_exec_rows.proofs.row.absent.Goals as goal
 
 pub loop-k-preserved : goal.loop-k-preserved

@@ -1,5 +1,5 @@
 use Rattle.std.proofs.Common.{sym, ◌∙◌, arith}
-use Rattle.gup_read_words.specs.SpelledPlaces.{range_found}
+use Rattle.gup_read_words.proofs.SpelledPlaces.{range_found}
 use Rattle.gup_read.proofs.operations.pinned_range.Goals as goal
 
 pub overflow_cast-result : goal.overflow_cast-result

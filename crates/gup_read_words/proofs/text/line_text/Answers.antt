@@ -4,7 +4,7 @@ use Rattle.std.specs.Borrow.{Bor}
 use Rattle.std.specs.Option.{option_copied}
 use Rattle.std.specs.Result.{result_ok}
 use Rattle.gup_read_words.specs.Text.{is_printable}
-use Rattle.gup_read_words.specs.SpelledNames.{printable_found, printable_text}
+use Rattle.gup_read_words.proofs.SpelledNames.{printable_found, printable_text}
 use Rattle.gup_read_words.proofs.text.line_text.Goals as goal
 
 -- a conversion that refuses only what is no text gives the text

@@ -4,7 +4,7 @@ use Rattle.gup_base.specs.declared.entry.Rights.{Rights}
 use Rattle.gup_spec_events.specs.Event.{entry_of}
 use Rattle.gup_spec_events.specs.State.{CoreState, Job, forking, between, copying}
 use Rattle.gup_exec_parts.specs.Contents.{content_of}
-use Rattle.gup_exec_parts.specs.SpaceLemmas.{page_numbers-is}
+use Rattle.gup_exec_parts.proofs.SpaceLemmas.{page_numbers-is}
 use Rattle.gup_plain.specs.Event.{page_numbers}
 use Rattle.gup_plain.specs.Put.{put, put2, spread}
 use Rattle.gup_plain.specs.State.{Birth, named_or_zero}

@@ -3,7 +3,7 @@ use Rattle.gup_plain.specs.Event.{page_numbers}
 use Rattle.gup_exec_parts.specs.declared.pages.Page.{Page}
 use Rattle.gup_exec_parts.specs.Pages.{right_in}
 use Rattle.gup_exec_parts.specs.Space.{seen}
-use Rattle.gup_exec_parts.specs.SpaceLemmas.{page_numbers-is, absurd_truth, too-far, right_none}
+use Rattle.gup_exec_parts.proofs.SpaceLemmas.{page_numbers-is, absurd_truth, too-far, right_none}
 use Rattle.gup_exec_parts.proofs.space.Space.can_map.Goals as goal
 
 pub returns-then-get-from-gt-PAGE_NUMBERS : goal.returns-then-get-from-gt-PAGE_NUMBERS

@@ -2,7 +2,7 @@ use Rattle.std.proofs.Common.{◌≡◌, ℕ, Bool, true, false, List, sym, ap, 
 use Rattle.gup_plain.specs.Put.{put, spread}
 use Rattle.gup_exec_parts.specs.Flags.{flag_of}
 use Rattle.gup_exec_parts.specs.Space.{copied_of}
-use Rattle.gup_exec_parts.specs.TableLemmas.{at_found, key_updated}
+use Rattle.gup_exec_parts.proofs.TableLemmas.{at_found, key_updated}
 use Rattle.gup_exec_parts.proofs.space.Space.copy_page.Goals as goal
 
 pub returns-in-Some-clause-copied : goal.returns-in-Some-clause-copied

@@ -1,6 +1,6 @@
 use Rattle.std.proofs.Common.{◌≡◌, ℕ, ◌<◌, ◌↔◌, Bool, false, IsTrue, sym, subst}
 use Rattle.gup_exec_parts.specs.Flags.{flag_of}
-use Rattle.gup_exec_parts.specs.TableLemmas.{at_found}
+use Rattle.gup_exec_parts.proofs.TableLemmas.{at_found}
 use Rattle.gup_exec_parts.proofs.space.Space.has_copied_none.Goals as goal
 
 pub returns-in-Some : goal.returns-in-Some

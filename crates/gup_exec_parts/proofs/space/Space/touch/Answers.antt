@@ -1,7 +1,7 @@
 use Rattle.std.proofs.Common.{ℕ, Bool, false, sym, ◌∙◌}
 use Rattle.gup_exec_parts.specs.Flags.{flag_of}
 use Rattle.gup_exec_parts.specs.Space.{copied_of}
-use Rattle.gup_exec_parts.specs.TableLemmas.{at_absent, key_updated, put_same}
+use Rattle.gup_exec_parts.proofs.TableLemmas.{at_absent, key_updated, put_same}
 use Rattle.gup_exec_parts.proofs.space.Space.touch.Goals as goal
 
 pub returns-in_ok-insert-clause-copied : goal.returns-in_ok-insert-clause-copied

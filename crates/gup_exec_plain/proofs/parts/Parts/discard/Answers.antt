@@ -1,6 +1,6 @@
 use Rattle.std.proofs.Common.{IsSome, refl, subst}
 use Rattle.gup_exec_plain.proofs.Processes.{At, discarded, found}
-use Rattle.gup_exec_parts.specs.SpaceLemmas.{right_some}
+use Rattle.gup_exec_parts.proofs.SpaceLemmas.{right_some}
 use Rattle.gup_exec_parts.specs.Space.{SpaceState}
 use Rattle.gup_exec_parts.specs.declared.space.Space.{Space}
 use Rattle.gup_exec_plain.proofs.parts.Parts.discard.Goals as goal

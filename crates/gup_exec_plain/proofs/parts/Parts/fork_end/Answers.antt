@@ -1,7 +1,7 @@
 use Rattle.std.proofs.Common.{◌≡◌, ℕ, ◌<◌, true, IsSome, refl, subst, sym}
 use Rattle.gup_plain.specs.State.{growing}
 use Rattle.gup_exec_plain.proofs.Processes.{At, ended}
-use Rattle.gup_exec_parts.specs.SpaceLemmas.{absurd_truth, all_keys, right_some, some_right}
+use Rattle.gup_exec_parts.proofs.SpaceLemmas.{absurd_truth, all_keys, right_some, some_right}
 use Rattle.gup_exec_parts.specs.Pages.{right_in}
 use Rattle.gup_exec_parts.specs.Space.{SpaceState, copied_of}
 use Rattle.gup_exec_parts.specs.declared.space.Space.{Space}

@@ -3,7 +3,7 @@ use Rattle.gup_plain.specs.Put.{put, spread}
 use Rattle.gup_plain.specs.declared.event.PlainEvent.TheVariants as events
 use Rattle.gup_exec_plain.proofs.Processes.{At, page_copied, untouched}
 use Rattle.gup_exec_plain.proofs.Refusals.{refused}
-use Rattle.gup_exec_parts.specs.SpaceLemmas.{absurd_truth}
+use Rattle.gup_exec_parts.proofs.SpaceLemmas.{absurd_truth}
 use Rattle.gup_exec_plain.specs.Parts.{state_of}
 use Rattle.gup_exec_parts.specs.Space.{SpaceState}
 use Rattle.gup_exec_parts.specs.declared.space.Space.{Space}

@@ -3,7 +3,7 @@ use Rattle.gup_plain.specs.Event.{page_numbers}
 use Rattle.gup_plain.specs.declared.event.PlainEvent.TheVariants as events
 use Rattle.gup_exec_plain.proofs.Processes.{At, mapped, same_pages, found}
 use Rattle.gup_exec_plain.proofs.Refusals.{refused}
-use Rattle.gup_exec_parts.specs.SpaceLemmas.{absurd_truth, right_none, page_numbers-is}
+use Rattle.gup_exec_parts.proofs.SpaceLemmas.{absurd_truth, right_none, page_numbers-is}
 use Rattle.gup_exec_plain.specs.Parts.{state_of}
 use Rattle.gup_exec_parts.specs.Space.{SpaceState, seen, CanMap}
 use Rattle.gup_exec_parts.specs.declared.space.Space.{Space}

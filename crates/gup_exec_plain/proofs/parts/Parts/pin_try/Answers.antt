@@ -5,7 +5,7 @@ use Rattle.gup_plain.specs.State.{Pending}
 use Rattle.gup_plain.specs.declared.event.PlainEvent.TheVariants as events
 use Rattle.gup_exec_plain.proofs.Actors.{AtActor, pending-at, taken_changed, same_taken}
 use Rattle.gup_exec_plain.proofs.Refusals.{refused}
-use Rattle.gup_exec_parts.specs.TakenLemmas.{lacks, taken-has}
+use Rattle.gup_exec_parts.proofs.TakenLemmas.{lacks, taken-has}
 use Rattle.gup_exec_plain.specs.Parts.{state_of, pending_of}
 use Rattle.gup_exec_parts.specs.declared.actor.Actor.{Actor}
 use Rattle.gup_exec_plain.proofs.parts.Parts.pin_try.Goals as goal

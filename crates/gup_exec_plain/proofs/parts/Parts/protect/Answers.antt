@@ -1,6 +1,6 @@
 use Rattle.std.proofs.Common.{ℕ, ◌+◌, ◌<◌, IsSome, refl, subst, sym, ◌∙◌}
 use Rattle.gup_exec_plain.proofs.Processes.{At, protected, found}
-use Rattle.gup_exec_parts.specs.SpaceLemmas.{absurd_truth, right_some}
+use Rattle.gup_exec_parts.proofs.SpaceLemmas.{absurd_truth, right_some}
 use Rattle.gup_exec_parts.specs.Space.{SpaceState, seen, CanProtect, HasNumbers}
 use Rattle.gup_exec_parts.specs.declared.space.Space.{Space}
 use Rattle.gup_exec_plain.proofs.parts.Parts.protect.Goals as goal

@@ -3,7 +3,7 @@ use Rattle.std.specs.BTreeMap.{get, BTreeMap}
 use Rattle.std.specs.Ordering.{nat_cmp}
 use Rattle.gup_exec_rows.specs.Grid.{found}
 use Rattle.gup_exec_rows.specs.Row.{at}
-use Rattle.gup_exec_rows.specs.RowLemmas.{through_put2}
+use Rattle.gup_exec_rows.proofs.RowLemmas.{through_put2}
 use Rattle.gup_exec_rows.proofs.grid.Grid.put_at.Goals as goal
 
 pub returns : goal.returns

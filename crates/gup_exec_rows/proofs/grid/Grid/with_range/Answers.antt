@@ -2,7 +2,7 @@ use Rattle.std.proofs.Common.{◌≡◌, ℕ, Some, refl, subst, arith}
 use Rattle.std.specs.BTreeMap.{get}
 use Rattle.std.specs.Ordering.{nat_cmp}
 use Rattle.gup_plain.specs.Put.{spread}
-use Rattle.gup_exec_parts.specs.TableLemmas.{updated, grown}
+use Rattle.gup_exec_parts.proofs.TableLemmas.{updated, grown}
 use Rattle.gup_exec_rows.specs.Grid.{found}
 use Rattle.gup_exec_rows.proofs.grid.Grid.with_range.Goals as goal
 

@@ -2,7 +2,7 @@ use Rattle.std.proofs.Common.{◌≡◌, None, ap, ◌∙◌}
 use Rattle.std.specs.BTreeMap.{get}
 use Rattle.std.specs.Ordering.{nat_cmp}
 use Rattle.gup_plain.specs.Put.{put}
-use Rattle.gup_exec_parts.specs.TableLemmas.{updated}
+use Rattle.gup_exec_parts.proofs.TableLemmas.{updated}
 use Rattle.gup_exec_rows.proofs.grid.Grid.without.Goals as goal
 
 pub returns : goal.returns

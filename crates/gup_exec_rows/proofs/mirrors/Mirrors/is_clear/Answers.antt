@@ -1,4 +1,4 @@
-use Rattle.gup_exec_parts.specs.SpaceLemmas.{all_keys}
+use Rattle.gup_exec_parts.proofs.SpaceLemmas.{all_keys}
 use Rattle.gup_exec_rows.specs.Mirrors.{frames_in, notes_in, IsElsewhere}
 use Rattle.gup_exec_rows.proofs.mirrors.Mirrors.is_clear.Goals as goal
 

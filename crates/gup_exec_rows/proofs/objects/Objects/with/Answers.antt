@@ -1,7 +1,7 @@
 use Rattle.std.proofs.Common.{◌≡◌, ℕ, Option, Some, refl, ap, ◌∙◌}
 use Rattle.gup_exec_rows.specs.Grid.{found}
 use Rattle.gup_exec_rows.specs.Objects.{objects_in, numbers, object_of}
-use Rattle.gup_exec_rows.specs.RowLemmas.{through_put}
+use Rattle.gup_exec_rows.proofs.RowLemmas.{through_put}
 use Rattle.gup_exec_rows.proofs.objects.Objects.with.Goals as goal
 
 pub returns : goal.returns

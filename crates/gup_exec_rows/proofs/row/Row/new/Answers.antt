@@ -1,4 +1,4 @@
-use Rattle.gup_exec_rows.specs.RowLemmas.{at_none}
+use Rattle.gup_exec_rows.proofs.RowLemmas.{at_none}
 use Rattle.gup_exec_rows.proofs.row.Row.new.Goals as goal
 
 pub returns : goal.returns

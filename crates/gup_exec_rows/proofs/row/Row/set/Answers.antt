@@ -1,5 +1,5 @@
 use Rattle.std.proofs.Common.{sym, ◌∙◌, arith}
-use Rattle.gup_exec_rows.specs.RowLemmas.{at_put}
+use Rattle.gup_exec_rows.proofs.RowLemmas.{at_put}
 use Rattle.gup_exec_rows.proofs.row.Row.set.Goals as goal
 
 pub returns : goal.returns

@@ -1,5 +1,5 @@
 use Rattle.std.proofs.Common.{◌≡◌, Some, None, sym, ◌∙◌, arith}
-use Rattle.gup_exec_rows.specs.RowLemmas.{at_is}
+use Rattle.gup_exec_rows.proofs.RowLemmas.{at_is}
 use Rattle.gup_exec_rows.proofs.row.Row.value.Goals as goal
 
 pub returns-in-Some : goal.returns-in-Some

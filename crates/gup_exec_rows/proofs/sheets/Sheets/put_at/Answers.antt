@@ -1,6 +1,6 @@
 use Rattle.std.proofs.Common.{◌≡◌, ℕ, List, Option, Some, refl, ap, ◌∙◌}
 use Rattle.gup_exec_rows.specs.Row.{at}
-use Rattle.gup_exec_rows.specs.RowLemmas.{through_put2}
+use Rattle.gup_exec_rows.proofs.RowLemmas.{through_put2}
 use Rattle.gup_exec_rows.specs.Sheets.{words_in, sheet_words}
 use Rattle.gup_exec_rows.proofs.sheets.Sheets.put_at.Goals as goal
 

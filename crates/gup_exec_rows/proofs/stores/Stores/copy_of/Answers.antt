@@ -8,7 +8,7 @@ use Rattle.std.specs.Option.{option_map_or}
 use Rattle.std.specs.Ordering.{nat_cmp}
 use Rattle.gup_plain.specs.Put.{put}
 use Rattle.gup_exec_parts.specs.Actor.{slots_in}
-use Rattle.gup_exec_parts.specs.TableLemmas.{key_updated}
+use Rattle.gup_exec_parts.proofs.TableLemmas.{key_updated}
 use Rattle.gup_exec_rows.specs.Stores.{slots_of}
 use Rattle.gup_exec_rows.proofs.GridLemmas.{changed, get-copied}
 use Rattle.gup_exec_rows.proofs.stores.Stores.copy_of.Goals as goal

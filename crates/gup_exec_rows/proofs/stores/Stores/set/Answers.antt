@@ -2,7 +2,7 @@ use Rattle.std.proofs.Common.{◌≡◌, ℕ, refl, ap, ◌∙◌}
 use Rattle.std.specs.BTreeMap.{BTreeMap}
 use Rattle.gup_exec_parts.specs.Actor.{slots_in}
 use Rattle.gup_exec_rows.specs.Row.{at}
-use Rattle.gup_exec_rows.specs.RowLemmas.{through_put2}
+use Rattle.gup_exec_rows.proofs.RowLemmas.{through_put2}
 use Rattle.gup_exec_rows.specs.Stores.{slots_of}
 use Rattle.gup_exec_rows.proofs.stores.Stores.set.Goals as goal
 

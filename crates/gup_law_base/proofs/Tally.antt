@@ -10,8 +10,8 @@ use Rattle.gup_spec_events.specs.State.{Taken}
 use Rattle.gup_spec_events.specs.Event.{bias}
 use Rattle.gup_spec_events.specs.Invariant.{Holder, entry_of_page, cleared_by, prepared_by, owed_by, got_as, page_of_pin, page_taken, grabbed_by, weight, HasNoRepetition, frame_of, got_frame, taken_frame}
 use Rattle.gup_spec_events.specs.Sound.{Moving, Walking, moved_frame, walk_frame, held, held_by_walk, Tally}
-use Rattle.gup_law_base.specs.Rows.{at_end, at_others, none_past}
-use Rattle.gup_law_base.specs.Holders.{same_holders, by_holder, first_element, later_element, taken_out, IsWithout, element_weighs, elements_weigh}
+use Rattle.gup_law_base.proofs.Rows.{at_end, at_others, none_past}
+use Rattle.gup_law_base.proofs.Holders.{same_holders, by_holder, first_element, later_element, taken_out, IsWithout, element_weighs, elements_weigh}
 
 -- what a holder of this weight that holds `old` and will hold `new` does to the counts
 abbrev pub amount : Option ℕ → (weight f : ℕ) → ℕ

@@ -4,7 +4,7 @@ use Rattle.std.specs.Prelude.{ℕ, ◌==◌, Bool, true, false, if◌then◌else
 use Rattle.gup_base.specs.declared.entry.Entry.{Entry}
 use Rattle.gup_base.specs.declared.entry.Rights.{Rights}
 use Rattle.gup_base.specs.declared.entry.Rights.TheVariants.{R, RW}
-use Rattle.gup_space.specs.After.{AreOf, taking, filling, counting, marking_it, upgrading, breaking, putting, dropping, discarding}
+use Rattle.gup_space.proofs.After.{AreOf, taking, filling, counting, marking_it, upgrading, breaking, putting, dropping, discarding}
 use Rattle.gup_spec_events.specs.Event.{upgrade}
 use Rattle.gup_spec_events.specs.Fault.{events_of, fills, breaks, marks, read_fault, unshares, unshare_fault, makes_writable, fills_writable, write_fault, takes_down, discards}
 

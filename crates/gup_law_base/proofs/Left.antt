@@ -7,7 +7,7 @@ use Rattle.gup_plain.specs.Put.{put, put2}
 use Rattle.gup_plain.specs.State.{born, growing, failed}
 use Rattle.gup_spec_events.specs.State.{CoreState, ForkStep, failing}
 use Rattle.gup_spec_events.specs.Sound.{View, Forking, IsSoundBy, is_failing}
-use Rattle.gup_law_base.specs.Done.{changed_fork, fork_after}
+use Rattle.gup_law_base.proofs.Done.{changed_fork, fork_after}
 
 -- a fork that is there when one is over is another's
 without_fork : (forks : ℕ → Option Forking) (a b : ℕ) (k : Forking) → put a None forks b ≡ Some k → (b ≡ a → ⊥) × (forks b ≡ Some k)

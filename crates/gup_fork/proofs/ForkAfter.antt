@@ -4,7 +4,7 @@ use Rattle.gup_base.specs.declared.entry.Entry.{Entry}
 use Rattle.gup_base.specs.declared.entry.Rights.{Rights}
 use Rattle.gup_frames.specs.Frames.{FramesValue, with_mark, with_word, with_references, without_references}
 use Rattle.gup_space.specs.Space.{SpaceValue, with_entry}
-use Rattle.gup_space.specs.After.{IsShownAs}
+use Rattle.gup_space.proofs.After.{IsShownAs}
 use Rattle.gup_spec_events.specs.State.{ForkStep}
 use Rattle.gup_spec_events.specs.Event.{CoreEvent, begin_fork, count_page, share_entry, share_mark, share_child, copy_word, place_child, pass_page, end_fork, fail_fork, put_child, entry_of, is_writable}
 use Rattle.gup_fork.specs.Forks.{ForkChange, with_maps_of, with_shared, table_behind, without_maps}

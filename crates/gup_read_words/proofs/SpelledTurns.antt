@@ -4,9 +4,9 @@ use Rattle.std.proofs.Common.{◌≡◌, ℕ, ◌≤◌, Bool, true, false, cond
 use Rattle.std.specs.List.{position_or_len, before_first, after_first}
 use Rattle.gup_read_words.specs.Text.{count_in, is_star, most_times, turn_name, turn_times}
 use Rattle.gup_read_words.specs.Spelling.{Lacks, turn_word, IsTurnWord}
-use Rattle.gup_read_words.specs.Steps.{same_given}
-use Rattle.gup_read_words.specs.Cuts.{joined, cut_found, cut_read, uncut_found, uncut_read}
-use Rattle.gup_read_words.specs.SpelledNumbers.{count_found, count_read}
+use Rattle.gup_read_words.proofs.Steps.{same_given}
+use Rattle.gup_read_words.proofs.Cuts.{joined, cut_found, cut_read, uncut_found, uncut_read}
+use Rattle.gup_read_words.proofs.SpelledNumbers.{count_found, count_read}
 
 pub turn_found : (word : List ℕ) (times : ℕ) → turn_times word ≡ Some times → IsTurnWord word (turn_name word) times
 unfolding turn_times turn_name

@@ -3,7 +3,7 @@ use Rattle.std.proofs.Common.{◌≡◌, ℕ, ◌<◌, ◌==◌, Bool, true, fal
 use Rattle.std.proofs.Math.Path.{fun_ext}
 use Rattle.std.proofs.lemmas.Bool.Decides.{nat_tests}
 use Rattle.gup_plain.specs.Put.{put, put2, within, spread}
-use Rattle.gup_exec_parts.specs.TableLemmas.{place_put, place_is, put_same}
+use Rattle.gup_exec_parts.proofs.TableLemmas.{place_put, place_is, put_same}
 use Rattle.gup_exec_rows.specs.Row.{or_blank, standing, at}
 
 chosen : {X Y : Type 0} (g : X → Y) (b : Bool) (x x' : X) (y y' : Y) → (b ≡ true → g x ≡ y) → (b ≡ false → g x' ≡ y') → g (if b then x else x') ≡ (if b then y else y')

@@ -5,7 +5,7 @@ use Rattle.std.proofs.lemmas.Bool.Decides.{nat_tests}
 use Rattle.std.proofs.lemmas.Map.Made.{Contains-tail}
 use Rattle.gup_plain.specs.Put.{put}
 use Rattle.gup_spec_events.specs.Sound.{Forking}
-use Rattle.gup_law_base.specs.Holders.{first_element, later_element}
+use Rattle.gup_law_base.proofs.Holders.{first_element, later_element}
 
 -- it is the changed one, or another actor's
 pub changed_fork : (forks : ℕ → Option Forking) (a : ℕ) (x : Forking) (b : ℕ) (k : Forking) → put a (Some x) forks b ≡ Some k → ((b ≡ a) × (x ≡ k)) ⊎ ((b ≡ a → ⊥) × (forks b ≡ Some k))
