@@ -25,10 +25,7 @@ use gup_plain::Journal;
 use gup_read::{ReadRefusal, ScriptFault, one_script, read_script, scripts_have_no_fault};
 use gup_sched::run_all;
 use gup_script::Script;
-use gup_spec_turns::{
-    core_run_follows, core_run_is_in_order, core_run_is_known, core_run_is_plain,
-    finished_runs_answer_all, no_frame_has_its_cause, runs_end_at_waits,
-};
+use gup_law_journal::{core_run_follows, core_run_is_in_order, core_run_is_known, core_run_is_plain, finished_runs_answer_all, no_frame_has_its_cause, runs_end_at_waits};
 use std::alloc::Global;
 
 /// The most bytes of a script, and one more: a longer text is refused without reading on.

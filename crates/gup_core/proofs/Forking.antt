@@ -9,11 +9,11 @@ use Rattle.gup_space.specs.Shows.{ShowsSpace}
 use Rattle.gup_fork.proofs.ForkAfter.{IsForkEvent, beginning, counting, lowering, unmarking, giving, passing, ending, writing, placing, failing_at, putting}
 use Rattle.gup_fork.proofs.ForkLemmas.{leaves_others, job_stays, birth_stays}
 use Rattle.gup_spec_events.specs.State.{CoreState, Job, idle, marking, moving, forking, walking, ForkStep, between, counted, lowered, cleared, copying, failing}
-use Rattle.gup_spec_events.specs.Event.{CoreEvent, happens, take_frame}
+use Rattle.gup_spec_events.specs.Event.{CoreEvent, happens, take_frame, run}
 use Rattle.gup_spec_events.specs.Failure.{are_gone, puts_entry, puts_entries}
-use Rattle.gup_spec_events.specs.Invariant.{run}
-use Rattle.gup_spec_turns.specs.Turn.{page_turn, next_page, next_turn, frame_turn, copy_turn, copying_turn, free_frame, fork_step_turn, fork_turn}
-use Rattle.gup_spec_turns.specs.Reached.{fork_place, place_in}
+use Rattle.gup_spec_turns.specs.ForkTurns.{page_turn, next_page, next_turn, frame_turn, copy_turn, copying_turn, fork_step_turn, fork_turn}
+use Rattle.gup_spec_turns.specs.Taken.{free_frame}
+use Rattle.gup_spec_turns.specs.ForkPlace.{fork_place, place_in}
 use Rattle.gup_core.proofs.Owning.{AreAll, through, two_lists, pins_of}
 
 -- an event of a turn of a fork of process p into c by actor a

@@ -13,7 +13,12 @@ use Rattle.gup_script.specs.declared.op.Op.{Op}
 use Rattle.gup_script.specs.declared.op.Op.TheVariants.{Map, Unmap, Protect, Discard, Load, Store, Pin, Unpin, Give, Take, Transfer, Fork, Exit}
 use Rattle.gup_spec_events.specs.State.{CoreState, Job, idle, marking, moving, forking, walking, ForkStep, between, counted, lowered, cleared, copying, failing}
 use Rattle.gup_spec_events.specs.Fault.{Fault}
-use Rattle.gup_spec_turns.specs.Turn.{op_turn, load_fault, loads_after, store_fault, stores_after, map_turn_by, unmap_turn_by, protect_turn_by, discard_turn_by, exit_turn_by, lowest_page, pin_fault, pinned_if, ends_pin, pin_turn_by, but_last, unpinned, unpin_turn_by, give_turn_by, transfer_turn_by, page_turn, next_page, next_turn, frame_turn, copy_turn, copying_turn, free_frame, fork_step_turn, fork_turn, failed_turn, turn_at}
+use Rattle.gup_spec_turns.specs.Turn.{op_turn, failed_turn, turn_at}
+use Rattle.gup_spec_turns.specs.PageTurns.{load_fault, loads_after, store_fault, stores_after, map_turn_by, unmap_turn_by, protect_turn_by, discard_turn_by, exit_turn_by, lowest_page}
+use Rattle.gup_spec_turns.specs.PinTurns.{pin_fault, pinned_if, ends_pin, pin_turn_by, but_last, unpinned, unpin_turn_by, give_turn_by}
+use Rattle.gup_spec_turns.specs.DeviceTurns.{transfer_turn_by}
+use Rattle.gup_spec_turns.specs.ForkTurns.{page_turn, next_page, next_turn, frame_turn, copy_turn, copying_turn, fork_step_turn, fork_turn}
+use Rattle.gup_spec_turns.specs.Taken.{free_frame}
 
 abbrev pub NoTwo : List What → Type 0
 NoTwo (Event event ∷ Event next ∷ []) = ⊥

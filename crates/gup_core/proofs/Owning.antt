@@ -12,11 +12,13 @@ use Rattle.gup_script.specs.declared.op.Op.{Op}
 use Rattle.gup_script.specs.declared.op.Op.TheVariants.{Map, Unmap, Protect, Discard, Load, Store, Pin, Unpin, Give, Take, Transfer, Fork, Exit}
 use Rattle.gup_space.proofs.After.{IsOf, AreOf, taking, filling, counting, marking_it, upgrading, breaking, putting, dropping, discarding, mapping, lowering, protecting, loading, storing}
 use Rattle.gup_spec_events.specs.State.{CoreState, Taken as TakenPage, Job, idle, marking}
-use Rattle.gup_spec_events.specs.Event.{CoreEvent, happens, take_frame, fill, count_one, set_mark, upgrade, break_entry, put_entry, drop_entry, discard_entry, map_pages, lower_entry, protect_pages, load, store}
+use Rattle.gup_spec_events.specs.Event.{CoreEvent, happens, take_frame, fill, count_one, set_mark, upgrade, break_entry, put_entry, drop_entry, discard_entry, map_pages, lower_entry, protect_pages, load, store, run}
 use Rattle.gup_spec_events.specs.Fault.{Fault, events_of, fills, fills_writable, breaks, marks, read_fault, makes_writable, write_fault, gives_back}
-use Rattle.gup_spec_events.specs.Invariant.{run}
-use Rattle.gup_spec_turns.specs.Turn.{op_turn, load_fault, loads_after, store_fault_by, stores_after, allows_store, free_frame, map_turn_by, unmap_turn_by, lowers_entry, lowers, lowers_for, protect_turn_by, discard_turn_by, exit_turn_by, lowest_page}
-use Rattle.gup_spec_turns.specs.Reached.{fork_place, place_in, unbegun}
+use Rattle.gup_spec_turns.specs.Turn.{op_turn}
+use Rattle.gup_spec_turns.specs.PageTurns.{load_fault, loads_after, store_fault_by, stores_after, map_turn_by, unmap_turn_by, lowers_entry, lowers, lowers_for, protect_turn_by, discard_turn_by, exit_turn_by, lowest_page}
+use Rattle.gup_spec_turns.specs.Taken.{allows_store, free_frame}
+use Rattle.gup_spec_turns.specs.ForkPlace.{fork_place, place_in}
+use Rattle.gup_spec_turns.specs.Reached.{unbegun}
 use Rattle.gup_ops.specs.Alone.{IsAlone}
 
 -- an event of a turn of actor a over process p

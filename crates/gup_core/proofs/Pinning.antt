@@ -9,11 +9,12 @@ use Rattle.gup_plain.specs.State.{Birth}
 use Rattle.gup_plain.specs.declared.answer.Answer.{Answer}
 use Rattle.gup_space.proofs.After.{IsOf, AreOf, flagging, pinning, making, unpinning, giving, taking_over, moving_out, moving_in}
 use Rattle.gup_spec_events.specs.State.{CoreState, Taken as TakenPage, Job}
-use Rattle.gup_spec_events.specs.Event.{CoreEvent, happens, raise_flag, pin_page, make_handle, unpin_page, give_handle, take_handle, move_out, move_in}
+use Rattle.gup_spec_events.specs.Event.{CoreEvent, happens, raise_flag, pin_page, make_handle, unpin_page, give_handle, take_handle, move_out, move_in, run}
 use Rattle.gup_spec_events.specs.Fault.{Fault, events_of, unshare_fault, unshares, marks, breaks}
-use Rattle.gup_spec_events.specs.Invariant.{run}
-use Rattle.gup_spec_turns.specs.Turn.{free_frame, raises, pin_fault, makes_if, ends_pin, pin_turn_by, pin_turn, last_of, but_last, unpin_turn_by, unpin_turn, give_turn_by, give_turn, take_turn, moves, moves_value, transfer_turn_by, transfer_turn, frame_at}
-use Rattle.gup_spec_turns.specs.Reached.{fork_place, place_in}
+use Rattle.gup_spec_turns.specs.Taken.{free_frame}
+use Rattle.gup_spec_turns.specs.PinTurns.{raises, pin_fault, makes_if, ends_pin, pin_turn_by, pin_turn, last_of, but_last, unpin_turn_by, unpin_turn, give_turn_by, give_turn, take_turn}
+use Rattle.gup_spec_turns.specs.DeviceTurns.{moves, moves_value, transfer_turn_by, transfer_turn, frame_at}
+use Rattle.gup_spec_turns.specs.ForkPlace.{fork_place, place_in}
 use Rattle.gup_core.proofs.Owning.{IsOwn, AreOwn, AreAll, through, two_lists, is_of, counts, marks_it, fills_own, breaks_own, write_fault_own, birth_stays, IsUnforked, job_stays, fork_stays, Pins, own_leaves_pins}
 
 -- ---- pins

@@ -14,10 +14,11 @@ use Rattle.gup_space.specs.Shows.{ShowsSpace}
 use Rattle.gup_handles.specs.Handles.{handles_of}
 use Rattle.gup_spec_events.specs.Event.{bias}
 use Rattle.gup_spec_events.specs.State.{CoreState, Job, idle, marking, moving, forking, walking, between, counted as counted_page, lowered, cleared, copying, failing}
-use Rattle.gup_spec_turns.specs.Turn.{waits_for_locks, locks_needed, waits_born, waiting_for, both_if}
+use Rattle.gup_spec_turns.specs.Waits.{waits_for_locks, locks_needed, waits_born, waiting_for, both_if}
 use Rattle.gup_spec_turns.specs.Run.{RunState, op_in}
-use Rattle.gup_spec_turns.specs.Reached.{IsStanding, IsNoFork, StandsFork}
-use Rattle.gup_spec_turns.specs.ScriptLemmas.{op_is_op, child_declared, thread_birth, has_ops_declared}
+use Rattle.gup_law_turns.specs.Standing.{IsStanding}
+use Rattle.gup_spec_turns.specs.ForkPlace.{IsNoFork, StandsFork}
+use Rattle.gup_law_turns.proofs.ScriptLemmas.{op_is_op, child_declared, thread_birth, has_ops_declared}
 use Rattle.gup_ops.specs.Tidy.{needs_table}
 use Rattle.gup_core.specs.declared.seats.Seat.{Seat}
 use Rattle.gup_core.specs.Births.{HasFailed}

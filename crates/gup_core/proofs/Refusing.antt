@@ -13,11 +13,12 @@ use Rattle.gup_frames.specs.Frames.{FramesValue, frames_of}
 use Rattle.gup_space.specs.Space.{SpaceParts, space_of}
 use Rattle.gup_space.specs.Shows.{ShowsFrames, ShowsSpace}
 use Rattle.gup_spec_events.specs.State.{CoreState, Job, idle, marking, moving, forking, walking, ForkStep, between, counted, lowered, cleared, copying, failing}
-use Rattle.gup_spec_events.specs.Event.{CoreEvent, fail_unborn}
-use Rattle.gup_spec_events.specs.Invariant.{run}
-use Rattle.gup_spec_events.specs.Sound.{IsSound, forking_of}
-use Rattle.gup_spec_turns.specs.Turn.{Taken, op_turn, failed_turn, turn_at, turn_of, waits_born}
-use Rattle.gup_spec_turns.specs.Reached.{StandsFork, place_in}
+use Rattle.gup_spec_events.specs.Event.{CoreEvent, fail_unborn, run}
+use Rattle.gup_law_base.specs.Sound.{IsSound, forking_of}
+use Rattle.gup_spec_turns.specs.Taken.{Taken}
+use Rattle.gup_spec_turns.specs.Turn.{op_turn, failed_turn, turn_at, turn_of}
+use Rattle.gup_spec_turns.specs.Waits.{waits_born}
+use Rattle.gup_spec_turns.specs.ForkPlace.{StandsFork, place_in}
 use Rattle.gup_ops.specs.declared.forks.ForkPlace.{ForkPlace}
 use Rattle.gup_core.specs.declared.births.Birth.{Birth}
 use Rattle.gup_core.specs.declared.births.Birth.TheVariants.{Unborn, Growing, Born, Failed}

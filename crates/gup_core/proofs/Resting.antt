@@ -17,10 +17,11 @@ use Rattle.gup_handles.specs.Handles.{HandleValue, handles_of}
 use Rattle.gup_handles.specs.Handles as kept
 use Rattle.gup_spec_events.specs.Event.{bias, frames_of as frames_taken}
 use Rattle.gup_spec_events.specs.State.{CoreState, Taken, Job, idle, marking, moving, forking, walking, between, counted, lowered, cleared, copying, failing}
-use Rattle.gup_spec_events.specs.Sound.{IsSound, keeps_table, keeps_structure}
-use Rattle.gup_spec_turns.specs.Run.{RunState, run_start, run_after}
-use Rattle.gup_spec_turns.specs.Turn.{first_behind}
-use Rattle.gup_spec_turns.specs.Reached.{turned, ForkPlace, fork_place, place_in, IsStanding, IsNoFork, StandsFork, IsForking, HasCounted, IsPrepared, StandsHandle, given_back, back_in}
+use Rattle.gup_law_base.specs.Sound.{IsSound, keeps_table, keeps_structure}
+use Rattle.gup_spec_turns.specs.Run.{RunState, run_start, run_after, turned}
+use Rattle.gup_spec_turns.specs.ForkTurns.{first_behind}
+use Rattle.gup_spec_turns.specs.ForkPlace.{ForkPlace, fork_place, place_in, IsNoFork, StandsFork, IsForking, HasCounted, IsPrepared}
+use Rattle.gup_law_turns.specs.Standing.{IsStanding, StandsHandle, given_back, back_in}
 use Rattle.gup_ops.specs.Far.{HasFar}
 use Rattle.gup_ops.specs.Forked.{IsCountedIn, IsCopyOf, IsReadyAt}
 use Rattle.gup_ops.specs.Pins.{IsPin, frames_in}

@@ -5,7 +5,7 @@ use Rattle.gup_script.specs.declared.op.Op.TheVariants.{Map, Unmap, Protect, Dis
 use Rattle.gup_space.specs.Space.{SpaceValue}
 use Rattle.gup_ops.specs.Alone.{IsAlone}
 use Rattle.gup_ops.specs.Tidy.{needs_table}
-use Rattle.gup_spec_turns.specs.Reached.{IsNoFork}
+use Rattle.gup_spec_turns.specs.ForkPlace.{IsNoFork}
 use Rattle.gup_core.specs.Doers.{HasProcess}
 
 -- ---- the process of an operation

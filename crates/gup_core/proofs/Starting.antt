@@ -12,7 +12,7 @@ use Rattle.gup_handles.specs.Handles.{HandlesValue, handles_of, unmade}
 use Rattle.gup_space.specs.Space.{SpaceValue, SpaceParts, space_of, no_space}
 use Rattle.gup_space.specs.Shows.{ShowsFrames, ShowsSpace}
 use Rattle.gup_spec_turns.specs.Run.{run_start}
-use Rattle.gup_spec_turns.specs.ScriptLemmas.{all_at}
+use Rattle.gup_law_turns.proofs.ScriptLemmas.{all_at}
 use Rattle.gup_ops.specs.declared.forks.ForkPlace.TheVariants.{Unbegun}
 use Rattle.gup_ops.specs.Forked.{place_of}
 use Rattle.gup_ops.specs.Pins.{ShowsPins}

@@ -14,10 +14,13 @@ use Rattle.gup_spec_journal.specs.Place.{Place, Doer, doer, place_behind, proces
 use Rattle.gup_spec_journal.specs.Follows.{notes_of_turn}
 use Rattle.gup_spec_journal.specs.Order.{Turn, places_behind, pointer_after}
 use Rattle.gup_spec_events.specs.State.{CoreState}
-use Rattle.gup_spec_events.specs.Invariant.{run}
-use Rattle.gup_spec_turns.specs.Turn.{Taken, turn_of, waiting_for}
+use Rattle.gup_spec_events.specs.Event.{run}
+use Rattle.gup_spec_turns.specs.Taken.{Taken}
+use Rattle.gup_spec_turns.specs.Turn.{turn_of}
+use Rattle.gup_spec_turns.specs.Waits.{waiting_for}
 use Rattle.gup_spec_turns.specs.Run.{RunState, op_in, waiting_with, waiting_in, taken_by, taken_in, run_after, written_in}
-use Rattle.gup_spec_turns.specs.Reached.{IsStanding, place_in}
+use Rattle.gup_law_turns.specs.Standing.{IsStanding}
+use Rattle.gup_spec_turns.specs.ForkPlace.{place_in}
 use Rattle.gup_ops.specs.declared.forks.ForkPlace.{ForkPlace}
 use Rattle.gup_ops.specs.declared.said.Said.{Said}
 use Rattle.gup_ops.specs.Far.{far_in}

@@ -20,10 +20,12 @@ use Rattle.gup_space.proofs.ShowsLemmas.{leave_other}
 use Rattle.gup_fork.specs.Forks.{fork_change_of}
 use Rattle.gup_handles.specs.Handles.{handles_of}
 use Rattle.gup_spec_events.specs.State.{CoreState, Taken as TakenPage}
-use Rattle.gup_spec_events.specs.Event.{CoreEvent, frames_of as frames_taken}
-use Rattle.gup_spec_events.specs.Invariant.{run}
-use Rattle.gup_spec_turns.specs.Turn.{Taken, op_turn, fork_turn, pin_turn}
-use Rattle.gup_spec_turns.specs.Reached.{IsNoFork, fork_place}
+use Rattle.gup_spec_events.specs.Event.{CoreEvent, frames_of as frames_taken, run}
+use Rattle.gup_spec_turns.specs.Taken.{Taken}
+use Rattle.gup_spec_turns.specs.Turn.{op_turn}
+use Rattle.gup_spec_turns.specs.ForkTurns.{fork_turn}
+use Rattle.gup_spec_turns.specs.PinTurns.{pin_turn}
+use Rattle.gup_spec_turns.specs.ForkPlace.{IsNoFork, fork_place}
 use Rattle.gup_ops.specs.declared.forks.ForkPlace.{ForkPlace}
 use Rattle.gup_ops.specs.declared.said.Said.{Said}
 use Rattle.gup_ops.specs.Alone.{IsAlone}

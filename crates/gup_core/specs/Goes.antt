@@ -9,11 +9,14 @@ use Rattle.gup_frames.specs.Frames.{FramesValue, frames_of}
 use Rattle.gup_space.specs.Space.{SpaceParts, space_of}
 use Rattle.gup_handles.specs.Handles.{handles_of, unmade, IsGivenTo as IsKeptFor}
 use Rattle.gup_spec_events.specs.State.{CoreState, idle}
-use Rattle.gup_spec_events.specs.Invariant.{run}
-use Rattle.gup_spec_events.specs.Sound.{IsSound}
+use Rattle.gup_spec_events.specs.Event.{run}
+use Rattle.gup_law_base.specs.Sound.{IsSound}
 use Rattle.gup_spec_journal.specs.Place.{Doer}
-use Rattle.gup_spec_turns.specs.Turn.{Taken, op_turn, turn_of, waiting_for}
-use Rattle.gup_spec_turns.specs.Reached.{place_in, IsNoFork, KeepsFrame, StandsFork, StandsPin}
+use Rattle.gup_spec_turns.specs.Taken.{Taken}
+use Rattle.gup_spec_turns.specs.Turn.{op_turn, turn_of}
+use Rattle.gup_spec_turns.specs.Waits.{waiting_for}
+use Rattle.gup_spec_turns.specs.ForkPlace.{place_in, IsNoFork, KeepsFrame, StandsFork}
+use Rattle.gup_spec_turns.specs.PinPlace.{StandsPin}
 use Rattle.gup_ops.specs.declared.forks.ForkPlace.{ForkPlace}
 use Rattle.gup_ops.specs.Far.{HasFar, far_in}
 use Rattle.gup_ops.specs.Forked.{place_of, IsReadyAt}

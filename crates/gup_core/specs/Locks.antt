@@ -5,8 +5,9 @@ use Rattle.gup_plain.specs.Event.{page_numbers}
 use Rattle.gup_plain.specs.Put.{lowest}
 use Rattle.gup_script.specs.declared.op.Op.{Op}
 use Rattle.gup_script.specs.declared.op.Op.TheVariants.{Map, Unmap, Protect, Discard, Load, Store, Pin, Unpin, Give, Take, Transfer, Fork, Exit}
-use Rattle.gup_spec_turns.specs.Turn.{Locks, both_locks, no_lock}
-use Rattle.gup_spec_turns.specs.Reached.{ForkPlace, unbegun, from_page, at_page, wants_frame, at_word}
+use Rattle.gup_spec_turns.specs.Waits.{Locks, both_locks, no_lock}
+use Rattle.gup_spec_turns.specs.ForkPlace.{ForkPlace}
+use Rattle.gup_spec_turns.specs.Reached.{unbegun, from_page, at_page, wants_frame, at_word}
 use Rattle.gup_core.specs.declared.locks.Locks.{Locks as KeptLocks}
 
 abbrev pub locks_of : KeptLocks → Locks

@@ -13,8 +13,8 @@ use Rattle.gup_space.specs.Shows.{ShowsFrames, ShowsSpace}
 use Rattle.gup_handles.specs.Handles.{handles_of}
 use Rattle.gup_spec_events.specs.State.{CoreState}
 use Rattle.gup_spec_events.specs.Event.{frames_of as frames_taken}
-use Rattle.gup_spec_turns.specs.Run.{RunState, run_start, run_after, taken_in}
-use Rattle.gup_spec_turns.specs.Reached.{turned, place_in}
+use Rattle.gup_spec_turns.specs.Run.{RunState, run_start, run_after, taken_in, turned}
+use Rattle.gup_spec_turns.specs.ForkPlace.{place_in}
 use Rattle.gup_ops.specs.Forked.{place_of}
 use Rattle.gup_ops.specs.Pins.{ShowsPins}
 use Rattle.gup_held.specs.Held.{ShowsStore, slots_in}

@@ -10,7 +10,7 @@ use Rattle.gup_frames.specs.Frames.{frames_of}
 use Rattle.gup_space.specs.Space.{SpaceValue, SpaceParts, space_of}
 use Rattle.gup_handles.specs.Handles.{handles_of, unmade}
 use Rattle.gup_spec_events.specs.Event.{bias}
-use Rattle.gup_spec_turns.specs.Reached.{IsNoFork}
+use Rattle.gup_spec_turns.specs.ForkPlace.{IsNoFork}
 use Rattle.gup_ops.specs.Far.{HasFar}
 use Rattle.gup_ops.specs.Forked.{place_of, IsReadyAt}
 use Rattle.gup_ops.specs.Pins.{IsWeighed}

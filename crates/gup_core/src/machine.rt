@@ -74,7 +74,7 @@ impl Machine {
         ensures script { self.new.script ≡ self.old.script }
     {
         self.rests();
-        gup_spec_turns::reached_states_stand();
+        gup_law_turns::reached_states_stand();
         let seat = self.seat(actor);
         let number = next_turn(self.turns);
         self.turns = number;
@@ -110,7 +110,7 @@ impl Machine {
         ensures { (r : RunState) → Shows self.now r → result ≡ waiting_in self.now.script r actor }
     {
         self.rests();
-        gup_spec_turns::reached_states_stand();
+        gup_law_turns::reached_states_stand();
         let seat = self.seat(actor);
         let Some(op) = op_at(ops(&self.script, actor), seat.answered) else {
             return None;
@@ -148,6 +148,6 @@ impl Machine {
     {
         let _actors = self.script.actors();
         self.parts.frames.are_there();
-        gup_spec_turns::reached_states_stand();
+        gup_law_turns::reached_states_stand();
     }
 }

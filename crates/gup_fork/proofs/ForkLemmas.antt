@@ -9,8 +9,7 @@ use Rattle.gup_space.specs.Shows.{ShowsFrames, ShowsSpace}
 use Rattle.gup_space.specs.Space.{SpaceValue}
 use Rattle.gup_space.proofs.ShowsLemmas.{shown_as}
 use Rattle.gup_spec_events.specs.State.{CoreState, ForkStep, between, counted, lowered, cleared, copying, failing}
-use Rattle.gup_spec_events.specs.Event.{CoreEvent, happens}
-use Rattle.gup_spec_events.specs.Invariant.{run}
+use Rattle.gup_spec_events.specs.Event.{CoreEvent, happens, run}
 use Rattle.gup_fork.specs.Forks.{ForkChange, AreForkEvents, table_behind}
 use Rattle.gup_fork.proofs.ForkAfter.{IsForkEvent, beginning, counting, lowering, unmarking, giving, passing, ending, writing, placing, failing_at, putting, AreOfFork, frames_behind, parent_behind, child_behind, all_frames_behind, all_parent_behind, all_child_behind, IsMadeByFork, IsShownByFork}
 

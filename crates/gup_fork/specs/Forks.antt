@@ -6,8 +6,7 @@ use Rattle.gup_frames.specs.Frames.{FramesValue, FrameLists, frames_of, with_mar
 use Rattle.gup_space.specs.Shows.{ShowsFrames, ShowsSpace}
 use Rattle.gup_space.specs.Space.{SpaceValue, SpaceParts, space_of, with_entry}
 use Rattle.gup_spec_events.specs.State.{CoreState, ForkStep, between, counted, lowered, cleared, copying, failing}
-use Rattle.gup_spec_events.specs.Event.{CoreEvent, bias, entry_of, share_entry, share_mark, share_child}
-use Rattle.gup_spec_events.specs.Invariant.{run}
+use Rattle.gup_spec_events.specs.Event.{CoreEvent, bias, entry_of, share_entry, share_mark, share_child, run}
 
 -- frames, a parent and its child, before a call and behind it
 pub record ForkChange : Type 0 where

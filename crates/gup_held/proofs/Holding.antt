@@ -17,7 +17,8 @@ use Rattle.gup_space.proofs.ShowsLemmas.{shows_frames}
 use Rattle.gup_handles.specs.Handles.{HandleValue, HandlesValue, unmade, held, given, got, gone, IsPinOf, IsGivenTo, given_to, taken_by, but_last, held_or_gone, without_last, HasLast}
 use Rattle.gup_spec_events.specs.State.{CoreState}
 use Rattle.gup_spec_events.specs.Event.{happens, unpin_page, give_handle, take_handle}
-use Rattle.gup_spec_turns.specs.Turn.{Taken, last_of, unpinned, unpin_turn, unpin_turn_by, give_turn, give_turn_by, take_turn}
+use Rattle.gup_spec_turns.specs.Taken.{Taken}
+use Rattle.gup_spec_turns.specs.PinTurns.{last_of, unpinned, unpin_turn, unpin_turn_by, give_turn, give_turn_by, take_turn}
 use Rattle.gup_ops.specs.Pins.{IsPin, ShowsPins, IsWeighed}
 use Rattle.gup_held.specs.Held.{HandleChange, LeadsHandle, IsHandleTurn, unpin_said, done_said}
 

@@ -14,10 +14,10 @@ use Rattle.gup_device.specs.Store.{store_of}
 use Rattle.gup_space.specs.Shows.{ShowsFrames}
 use Rattle.gup_handles.specs.Handles.{HandleValue, HandlesValue, handles_of, unmade, held, given, got, gone, without_last, HasLast}
 use Rattle.gup_spec_events.specs.State.{CoreState}
-use Rattle.gup_spec_events.specs.Event.{bias}
-use Rattle.gup_spec_events.specs.Invariant.{run}
+use Rattle.gup_spec_events.specs.Event.{bias, run}
 use Rattle.gup_spec_journal.specs.Follows.{moves_word}
-use Rattle.gup_spec_turns.specs.Turn.{Taken, transfer_turn}
+use Rattle.gup_spec_turns.specs.Taken.{Taken}
+use Rattle.gup_spec_turns.specs.DeviceTurns.{transfer_turn}
 use Rattle.gup_ops.specs.declared.said.Said.{Said}
 use Rattle.gup_ops.specs.Pins.{ShowsPins, frames_in}
 

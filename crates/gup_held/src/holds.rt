@@ -4,7 +4,7 @@ ghost use Rattle.gup_plain.specs.declared.answer.Answer.TheVariants as answers;
 ghost use Rattle.gup_plain.specs.declared.event.PlainEvent.TheVariants as events;
 ghost use Rattle.gup_frames.specs.Frames.{FrameLists, frames_of};
 ghost use Rattle.gup_handles.specs.Handles.{handles_of, IsPinOf, IsGivenTo, given_to, taken_by};
-ghost use Rattle.gup_spec_turns.specs.Turn.{unpin_turn, give_turn, take_turn};
+ghost use Rattle.gup_spec_turns.specs.PinTurns.{unpin_turn, give_turn, take_turn};
 ghost use Rattle.gup_ops.specs.Said.{whats_of};
 ghost use Rattle.gup_ops.specs.Pins.{IsWeighed};
 ghost use Rattle.gup_held.specs.Held.{IsHandleTurn, IsUnpin, IsDone, IsRefused, handle_change_of, refused_said};

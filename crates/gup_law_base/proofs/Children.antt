@@ -6,7 +6,7 @@ use Rattle.gup_base.specs.declared.entry.Rights.{Rights}
 use Rattle.gup_plain.specs.Put.{put}
 use Rattle.gup_plain.specs.State.{growing, born}
 use Rattle.gup_spec_events.specs.State.{CoreState, Job, idle, marking, moving, forking, walking, ForkStep, copying}
-use Rattle.gup_spec_events.specs.Sound.{View, Forking, forking_of, IsSoundBy, IsUncopiedBy, fork_child, step_page, is_failing, keeps_structure, birth_of_child}
+use Rattle.gup_law_base.specs.Sound.{View, Forking, forking_of, IsSoundBy, IsUncopiedBy, fork_child, step_page, is_failing, keeps_structure, birth_of_child}
 
 forking_keeps : (job : Job) (k : Forking) → forking_of job ≡ Some k → keeps_structure job ≡ Some k.proc
 forking_keeps (forking p c done step) k is = cc

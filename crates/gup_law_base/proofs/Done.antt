@@ -4,7 +4,7 @@ use Rattle.std.specs.Prelude.{Option, Some, None, IsSome, Contains}
 use Rattle.std.proofs.lemmas.Bool.Decides.{nat_tests}
 use Rattle.std.proofs.lemmas.Map.Made.{Contains-tail}
 use Rattle.gup_plain.specs.Put.{put}
-use Rattle.gup_spec_events.specs.Sound.{Forking}
+use Rattle.gup_law_base.specs.Sound.{Forking}
 use Rattle.gup_law_base.proofs.Holders.{first_element, later_element}
 
 -- it is the changed one, or another actor's

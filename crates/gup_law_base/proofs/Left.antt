@@ -6,7 +6,7 @@ use Rattle.gup_base.specs.declared.entry.Entry.{Entry}
 use Rattle.gup_plain.specs.Put.{put, put2}
 use Rattle.gup_plain.specs.State.{born, growing, failed}
 use Rattle.gup_spec_events.specs.State.{CoreState, ForkStep, failing}
-use Rattle.gup_spec_events.specs.Sound.{View, Forking, IsSoundBy, is_failing}
+use Rattle.gup_law_base.specs.Sound.{View, Forking, IsSoundBy, is_failing}
 use Rattle.gup_law_base.proofs.Done.{changed_fork, fork_after}
 
 -- a fork that is there when one is over is another's

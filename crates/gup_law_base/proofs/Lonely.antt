@@ -10,7 +10,7 @@ use Rattle.gup_plain.specs.State.{born}
 use Rattle.gup_spec_events.specs.State.{CoreState, Taken, one, Job, idle, marking, moving, forking, walking}
 use Rattle.gup_spec_events.specs.Event.{bias}
 use Rattle.gup_spec_events.specs.Invariant.{Holder, entry_of_page, cleared_by, prepared_by, owed_by, got_as, page_of_pin, page_taken, grabbed_by, weight, frame_of, got_frame, taken_frame}
-use Rattle.gup_spec_events.specs.Sound.{View, Moving, moved_frame, moving_of, walk_frame, keeps_table, held, held_by_walk, IsSoundBy}
+use Rattle.gup_law_base.specs.Sound.{View, Moving, moved_frame, moving_of, walk_frame, keeps_table, held, held_by_walk, IsSoundBy}
 use Rattle.gup_law_base.proofs.Holders.{kind, first, second, by_holder}
 use Rattle.gup_law_base.proofs.Tally.{held_weighs, held_weigh}
 

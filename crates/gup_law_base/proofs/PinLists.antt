@@ -13,7 +13,7 @@ use Rattle.gup_plain.specs.Event.{AllowsPin, AreTaken, IsHeldBy, pending_pages, 
 use Rattle.gup_spec_events.specs.State.{CoreState, Taken, plain_of, pending_of}
 use Rattle.gup_spec_events.specs.Event.{happens, told, after_told, IsUntaken, AreAlike, frames_of, objects_taken, writes_taken, long_taken, make_handle, unpin_page}
 use Rattle.gup_spec_events.specs.Invariant.{CanTell}
-use Rattle.gup_spec_events.specs.Sound.{View, IsSoundBy}
+use Rattle.gup_law_base.specs.Sound.{View, IsSoundBy}
 use Rattle.gup_law_base.proofs.Rows.{all_at, all_from, contains_at, at_mapped, mapped_at}
 use Rattle.gup_law_base.proofs.Lonely.{born_mapped}
 

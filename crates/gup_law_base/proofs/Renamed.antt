@@ -11,7 +11,7 @@ use Rattle.gup_plain.specs.Put.{put}
 use Rattle.gup_spec_events.specs.State.{Taken}
 use Rattle.gup_spec_events.specs.Event.{frames_of}
 use Rattle.gup_spec_events.specs.Invariant.{Holder, entry_of_page, cleared_by, prepared_by, owed_by, got_as, page_of_pin, page_taken, grabbed_by, weight, HasNoRepetition, taken_frame}
-use Rattle.gup_spec_events.specs.Sound.{Moving, held, Tally}
+use Rattle.gup_law_base.specs.Sound.{Moving, held, Tally}
 use Rattle.gup_law_base.proofs.Rows.{contains_at, at_contains, at_mapped, mapped_at}
 
 module _ (to : Holder → Holder) (back : (x : Holder) → to (to x) ≡ x) (even : (x : Holder) → weight (to x) ≡ weight x) where

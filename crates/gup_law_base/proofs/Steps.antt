@@ -4,7 +4,7 @@ use Rattle.std.specs.Prelude.{Some, not}
 use Rattle.std.proofs.lemmas.Bool.Decides.{nat_tests}
 use Rattle.gup_spec_events.specs.State.{Job, idle, marking, moving, forking, walking, ForkStep, between, counted, lowered, cleared, copying, failing}
 use Rattle.gup_spec_events.specs.Event.{MayPrepare, is_odd}
-use Rattle.gup_spec_events.specs.Sound.{Forking, forking_of, step_page, shared_page, lowered_page}
+use Rattle.gup_law_base.specs.Sound.{Forking, forking_of, step_page, shared_page, lowered_page}
 
 pub shared_is_step : (step : ForkStep) (g : ℕ) → shared_page step ≡ Some g → step_page step ≡ Some g
 shared_is_step between g is = is

@@ -9,7 +9,7 @@ use Rattle.gup_plain.specs.Put.{put, put2}
 use Rattle.gup_spec_events.specs.State.{Taken}
 use Rattle.gup_spec_events.specs.Event.{bias}
 use Rattle.gup_spec_events.specs.Invariant.{Holder, entry_of_page, cleared_by, prepared_by, owed_by, got_as, page_of_pin, page_taken, grabbed_by, weight, HasNoRepetition, frame_of, got_frame, taken_frame}
-use Rattle.gup_spec_events.specs.Sound.{Moving, Walking, moved_frame, walk_frame, held, held_by_walk, Tally}
+use Rattle.gup_law_base.specs.Sound.{Moving, Walking, moved_frame, walk_frame, held, held_by_walk, Tally}
 use Rattle.gup_law_base.proofs.Rows.{at_end, at_others, none_past}
 use Rattle.gup_law_base.proofs.Holders.{same_holders, by_holder, first_element, later_element, taken_out, IsWithout, element_weighs, elements_weigh}
 

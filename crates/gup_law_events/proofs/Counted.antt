@@ -6,7 +6,7 @@ use Rattle.std.proofs.lemmas.List.Elements.{Contains-append_left, Contains-appen
 use Rattle.std.proofs.lemmas.List.Sums.{sum_by-append}
 use Rattle.gup_spec_events.specs.State.{CoreState, Job, idle, marking, moving, forking, walking}
 use Rattle.gup_spec_events.specs.Invariant.{Holder, entry_of_page, cleared_by, prepared_by, owed_by, got_as, page_of_pin, page_taken, grabbed_by, weight, HasNoRepetition, CountsReferences, holds, cleared_frame, grabbed_frame}
-use Rattle.gup_spec_events.specs.Sound.{View, moving_of, walking_of, moved_frame, walk_frame, held, held_by_walk, IsSoundBy}
+use Rattle.gup_law_base.specs.Sound.{View, moving_of, walking_of, moved_frame, walk_frame, held, held_by_walk, IsSoundBy}
 use Rattle.gup_law_base.proofs.Holders.{first_element, later_element}
 
 -- two lists without repetition that have no element in common

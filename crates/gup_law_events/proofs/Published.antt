@@ -9,7 +9,7 @@ use Rattle.gup_plain.specs.State.{born, failed}
 use Rattle.gup_spec_events.specs.State.{CoreState, Taken, Counted, one, Job, idle, marking, moving, forking, walking, ForkStep, between, counted, lowered, cleared, copying, failing, WalkStep, entered, ready, read, grabbed, rechecked, differed, refused, stopped, dropping, over}
 use Rattle.gup_spec_events.specs.Event.{bias, is_odd}
 use Rattle.gup_spec_events.specs.Invariant.{HasCleared, IsEntry, Names, IsSettled, IsExclusive, IsSharing, IsUndisturbed, IsParted, IsUncopied, StandsFor, IsAsPinned, AwaitsMark, IsWalked, AreNormal, Holds, frame_of, is_unsettled}
-use Rattle.gup_spec_events.specs.Sound.{View, Moving, Forking, Walking, moving_of, forking_of, walking_of, is_open, is_failing, unkept, shared_page, IsUncopiedBy, IsSoundBy}
+use Rattle.gup_law_base.specs.Sound.{View, Moving, Forking, Walking, moving_of, forking_of, walking_of, is_open, is_failing, unkept, shared_page, IsUncopiedBy, IsSoundBy}
 use Rattle.gup_law_base.proofs.Rows.{contains_at, at_within}
 use Rattle.gup_law_base.proofs.Done.{some_there}
 use Rattle.gup_law_base.proofs.Steps.{even_apart}

@@ -5,9 +5,9 @@ use Rattle.std.specs.Prelude.{Option, Some, None}
 use Rattle.gup_plain.specs.declared.event.PlainEvent.{PlainEvent}
 use Rattle.gup_plain.specs.State.{PlainState}
 use Rattle.gup_spec_events.specs.State.{CoreState, plain_of}
-use Rattle.gup_spec_events.specs.Event.{CoreEvent, Can, happens, told, after_told}
-use Rattle.gup_spec_events.specs.Invariant.{CanTell, AllCan, run}
-use Rattle.gup_spec_events.specs.Sound.{IsSound, Simulates}
+use Rattle.gup_spec_events.specs.Event.{CoreEvent, Can, happens, told, after_told, run}
+use Rattle.gup_spec_events.specs.Invariant.{CanTell, AllCan}
+use Rattle.gup_law_base.specs.Sound.{IsSound, Simulates}
 use Rattle.gup_law_events.specs.Law.{with_told, all_told}
 use Rattle.gup_exec_plain.specs.LastWrite.{ArePossible, after}
 

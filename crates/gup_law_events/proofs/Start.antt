@@ -4,7 +4,7 @@ use Rattle.std.specs.Prelude.{Option, Some, None, if◌then◌else◌}
 use Rattle.gup_plain.specs.State.{born, unborn, growing}
 use Rattle.gup_spec_events.specs.State.{start}
 use Rattle.gup_spec_events.specs.Invariant.{Holder, entry_of_page, cleared_by, prepared_by, owed_by, got_as, page_of_pin, page_taken, grabbed_by}
-use Rattle.gup_spec_events.specs.Sound.{View, held, held_by_walk, Tally, IsSound}
+use Rattle.gup_law_base.specs.Sound.{View, held, held_by_walk, Tally, IsSound}
 use Rattle.gup_law_base.proofs.Holders.{no_element}
 
 abbrev nothing : View

@@ -9,7 +9,7 @@ use Rattle.gup_plain.specs.State.{born, growing, named_or_zero}
 use Rattle.gup_plain.specs.Event.{words}
 use Rattle.gup_spec_events.specs.State.{CoreState, between, copying, plain_of, cleared}
 use Rattle.gup_spec_events.specs.Event.{Can, happens, entry_of, is_writable, is_odd, copy_word, place_child}
-use Rattle.gup_spec_events.specs.Sound.{View, Forking, IsUncopiedBy, is_failing, copied_words, IsSoundBy, IsSound, Simulates, step_page, shared_page, lowered_page, is_open, birth_of_child}
+use Rattle.gup_law_base.specs.Sound.{View, Forking, IsUncopiedBy, is_failing, copied_words, IsSoundBy, IsSound, Simulates, step_page, shared_page, lowered_page, is_open, birth_of_child}
 use Rattle.gup_law_base.proofs.Clauses.{References, MarksAre, MovesAre, ForksAre, WholeEntry, WholeMoved, WholeFree, WholeKept, WholeOther, MovedGone, WholeNames, MarksTable, MovesTable, ForksTable, ForksStructure, TableHeld, StructureHeld, TableBorn, ForkParent, ForkBirth, GrowingForked, OwnAlone, OwnMade, OwnNames, OwnEntry, OwnWords, OwnMarked, OwnMarking, MarkedOwn, EntryMapped, EntryMarked, EntryAllowed, EntryWords, Untouched, HandleMarked, HandleOwn, HandleFlag, TakenMarked, TakenOwn, PreparedOnce, PreparedUnmarked, PreparedUnowned, PreparedZero, MarkingEntry, MarkingOwn, ForkFresh, ForkCopied, ForkUncopied, ForkUndone, ForkMapped, CopyWords, CopyThere, ShareHandle, ShareTaken, ShareLowered, ShareUnowned, MirrorEntry, WalksAre, ForkOdd, WalkOwn, WalkUnowned, WalkKept, WalkWritable, ForkAlone, ForkLeft}
 use Rattle.gup_law_base.proofs.Left.{alone_next, left_growing, left_next}
 use Rattle.gup_law_base.proofs.Named.{named_here}

@@ -6,7 +6,7 @@ use Rattle.gup_base.specs.declared.entry.Entry.{Entry}
 use Rattle.gup_plain.specs.Put.{put}
 use Rattle.gup_spec_events.specs.State.{CoreState, WalkStep, entered, ready, read, grabbed, rechecked, differed, refused, stopped, dropping, over}
 use Rattle.gup_spec_events.specs.Invariant.{is_inside}
-use Rattle.gup_spec_events.specs.Sound.{View, rechecked_entry, IsSoundBy}
+use Rattle.gup_law_base.specs.Sound.{View, rechecked_entry, IsSoundBy}
 use Rattle.gup_law_base.proofs.Clauses.{WalkBelow, WalkOwn, WalkUnowned, WalkKept, WalkWritable}
 
 -- a walk that has yet to read a mark is between its two readings of the sequence

@@ -7,7 +7,7 @@ use Rattle.gup_plain.specs.State.{unborn, growing}
 use Rattle.gup_plain.specs.Event.{IsUnbornOrGrowing}
 use Rattle.gup_spec_events.specs.State.{CoreState, between, plain_of}
 use Rattle.gup_spec_events.specs.Event.{Can, happens, is_odd, end_fork, fail_unborn}
-use Rattle.gup_spec_events.specs.Sound.{View, Forking, IsSoundBy, IsSound, Simulates}
+use Rattle.gup_law_base.specs.Sound.{View, Forking, IsSoundBy, IsSound, Simulates}
 use Rattle.gup_law_base.proofs.Clauses.{MarksAre, MovesAre, ForksAre, RightNames, ForksTable, ForksStructure, TableHeld, StructureHeld, TableBorn, ForkParent, ForkBirth, GrowingLocked, GrowingForked, GrowingRights, UnbornUnmapped, FailedUnmapped, FlagBorn, EntryMapped, EntryAllowed, EntryWords, Untouched, RightNumbered, PreparedZero, ForkFresh, ForkCopied, ForkUncopied, ForkUndone, ForkMapped, CopyWords, CopyThere, ShareHandle, ShareTaken, ShareLowered, ShareUnowned, MirrorBorn, WalksAre, ForkOdd, QuietEven, WalkBelow, WalkOwn, WalkUnowned, WalkKept, WalkWritable, ForkAlone, ForkLeft}
 use Rattle.gup_law_base.proofs.Left.{alone_without, left_without}
 use Rattle.gup_law_base.proofs.Steps.{odd_next}

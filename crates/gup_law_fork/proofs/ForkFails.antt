@@ -9,7 +9,7 @@ use Rattle.gup_plain.specs.State.{born, failed, growing}
 use Rattle.gup_plain.specs.Event.{IsUnbornOrGrowing}
 use Rattle.gup_spec_events.specs.State.{CoreState, forking, ForkStep, between, counted, lowered, cleared, copying, failing, plain_of}
 use Rattle.gup_spec_events.specs.Event.{Can, happens, MayFail, is_odd, fail_fork, put_child}
-use Rattle.gup_spec_events.specs.Sound.{View, Forking, keeps_table, step_page, is_failing, IsSoundBy, IsSound, Simulates, IsUncopiedBy, shared_page, lowered_page, is_open}
+use Rattle.gup_law_base.specs.Sound.{View, Forking, keeps_table, step_page, is_failing, IsSoundBy, IsSound, Simulates, IsUncopiedBy, shared_page, lowered_page, is_open}
 use Rattle.gup_law_base.proofs.Clauses.{References, MarksAre, MovesAre, ForksAre, WholeEntry, WholeMoved, WholeFree, WholeKept, WholeOther, MovedGone, RightNames, WholeNames, NamesObject, MarksTable, MovesTable, ForksTable, ForksStructure, TableHeld, StructureHeld, TableBorn, ForkParent, ForkBirth, GrowingLocked, GrowingForked, GrowingRights, UnbornUnmapped, FailedUnmapped, FlagBorn, OwnAlone, OwnMade, OwnNames, OwnEntry, OwnWords, OwnMarked, OwnMarking, MarkedOwn, EntryMapped, EntryMarked, EntryAllowed, EntryWords, Untouched, NamesAlone, NamesMade, RightNumbered, HandleMarked, HandleOwn, HandleFlag, TakenMarked, TakenOwn, TakenNames, PreparedOnce, PreparedUnmarked, PreparedUnowned, PreparedZero, MarkingEntry, MarkingOwn, MovingOnce, ForkFresh, ForkCopied, ForkUncopied, ForkUndone, ForkMapped, CopyWords, CopyThere, ShareHandle, ShareTaken, ShareLowered, ShareUnowned, MirrorBorn, MirrorEntry, MirrorNames, WalksAre, CountIs, ForkOdd, QuietEven, WalkBelow, WalkOwn, WalkUnowned, WalkKept, WalkWritable, ForkAlone, ForkLeft}
 use Rattle.gup_law_base.proofs.Left.{alone_next, alone_without, left_with, left_without, left_more, left_none}
 use Rattle.gup_law_base.proofs.Steps.{odd_next}

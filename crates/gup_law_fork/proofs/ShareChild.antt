@@ -9,7 +9,7 @@ use Rattle.gup_plain.specs.State.{growing, born}
 use Rattle.gup_plain.specs.Event.{words}
 use Rattle.gup_spec_events.specs.State.{CoreState, between, cleared, plain_of}
 use Rattle.gup_spec_events.specs.Event.{Can, happens, entry_of, is_done, is_odd, share_child, pass_page}
-use Rattle.gup_spec_events.specs.Sound.{View, Forking, marking_of, moving_of, IsSoundBy, IsSound, Simulates, IsUncopiedBy, is_failing, copied_words, birth_of_child, step_page, shared_page, lowered_page, is_open}
+use Rattle.gup_law_base.specs.Sound.{View, Forking, marking_of, moving_of, IsSoundBy, IsSound, Simulates, IsUncopiedBy, is_failing, copied_words, birth_of_child, step_page, shared_page, lowered_page, is_open}
 use Rattle.gup_law_base.proofs.Clauses.{References, MarksAre, MovesAre, ForksAre, WholeEntry, WholeMoved, WholeFree, WholeKept, WholeOther, MovedGone, WholeNames, MarksTable, MovesTable, ForksTable, ForksStructure, TableHeld, StructureHeld, TableBorn, ForkParent, ForkBirth, GrowingForked, OwnNames, OwnEntry, OwnWords, OwnMarked, OwnMarking, MarkedOwn, EntryMapped, EntryMarked, EntryAllowed, EntryWords, Untouched, PreparedOnce, PreparedZero, MarkingEntry, MovingOnce, ForkFresh, ForkCopied, ForkUncopied, ForkUndone, ForkMapped, CopyWords, CopyThere, ShareHandle, ShareTaken, ShareLowered, ShareUnowned, MirrorEntry, WalksAre, CountIs, ForkOdd, ForkAlone, ForkLeft}
 use Rattle.gup_law_base.proofs.Left.{alone_next, left_growing, left_next}
 use Rattle.gup_law_base.proofs.Tally.{tally_is, tally_entry}

@@ -5,7 +5,7 @@ use Rattle.std.proofs.lemmas.Bool.Decides.{nat_tests}
 use Rattle.gup_base.specs.declared.entry.Rights.{Rights}
 use Rattle.gup_plain.specs.State.{growing, named_or_zero}
 use Rattle.gup_spec_events.specs.State.{CoreState, plain_of}
-use Rattle.gup_spec_events.specs.Sound.{View, IsSoundBy}
+use Rattle.gup_law_base.specs.Sound.{View, IsSoundBy}
 use Rattle.gup_law_base.proofs.Done.{some_there}
 use Rattle.gup_law_base.proofs.Named.{named_here}
 use Rattle.gup_plain.specs.Event.{AreForking}

@@ -8,7 +8,7 @@ use Rattle.gup_plain.specs.State.{born}
 use Rattle.gup_spec_events.specs.State.{CoreState, Taken, counted, lowered, cleared}
 use Rattle.gup_spec_events.specs.Event.{Can, happens, entry_of, is_odd, share_entry, share_mark}
 use Rattle.gup_spec_events.specs.Invariant.{is_inside}
-use Rattle.gup_spec_events.specs.Sound.{View, Forking, Walking, is_failing, marking_of, moving_of, IsSoundBy, IsSound, Simulates, IsUncopiedBy, step_page, shared_page, lowered_page, is_open, birth_of_child, copied_words}
+use Rattle.gup_law_base.specs.Sound.{View, Forking, Walking, is_failing, marking_of, moving_of, IsSoundBy, IsSound, Simulates, IsUncopiedBy, step_page, shared_page, lowered_page, is_open, birth_of_child, copied_words}
 use Rattle.gup_law_base.proofs.Clauses.{References, MarksAre, MovesAre, ForksAre, WholeEntry, WholeMoved, WholeFree, WholeKept, WholeOther, MovedGone, WholeNames, ForksTable, ForksStructure, TableHeld, StructureHeld, ForkParent, ForkBirth, GrowingForked, OwnAlone, OwnMade, OwnNames, OwnEntry, OwnWords, OwnMarked, OwnMarking, MarkedOwn, EntryMapped, EntryMarked, EntryAllowed, EntryWords, Untouched, HandleMarked, HandleOwn, HandleFlag, TakenMarked, TakenOwn, PreparedUnmarked, PreparedUnowned, PreparedZero, MarkingEntry, MarkingOwn, ForkFresh, ForkCopied, ForkUncopied, ForkUndone, ForkMapped, CopyWords, CopyThere, ShareHandle, ShareTaken, ShareLowered, ShareUnowned, MirrorEntry, WalksAre, ForkOdd, WalkOwn, WalkUnowned, WalkKept, WalkWritable, ForkAlone, ForkLeft}
 use Rattle.gup_law_base.proofs.Left.{alone_next, left_born, left_next}
 use Rattle.gup_law_base.proofs.Done.{fork_after}

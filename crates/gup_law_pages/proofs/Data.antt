@@ -10,7 +10,7 @@ use Rattle.gup_plain.specs.State.{born, objects_of, named_or_zero}
 use Rattle.gup_plain.specs.Event.{words, object_at}
 use Rattle.gup_spec_events.specs.State.{CoreState, copying, plain_of}
 use Rattle.gup_spec_events.specs.Event.{Can, happens, entry_of, load, store, move_out, move_in}
-use Rattle.gup_spec_events.specs.Sound.{View, Forking, IsSoundBy, IsSound, Simulates, step_page, is_failing}
+use Rattle.gup_law_base.specs.Sound.{View, Forking, IsSoundBy, IsSound, Simulates, step_page, is_failing}
 use Rattle.gup_law_base.proofs.Clauses.{OwnWords, EntryWords, Untouched, PreparedZero, CopyWords}
 use Rattle.gup_law_base.proofs.Lonely.{born_mapped}
 use Rattle.gup_law_base.proofs.Named.{named_here, is_to_write}

@@ -8,7 +8,7 @@ use Rattle.gup_plain.specs.Put.{put, put2}
 use Rattle.gup_spec_events.specs.State.{CoreState, idle}
 use Rattle.gup_spec_events.specs.Event.{Can, happens, MayPrepare, entry_of, take_frame, fill, count_one, set_mark, upgrade}
 use Rattle.gup_spec_events.specs.Invariant.{frame_of}
-use Rattle.gup_spec_events.specs.Sound.{View, Marking, IsSoundBy, IsSound, Simulates}
+use Rattle.gup_law_base.specs.Sound.{View, Marking, IsSoundBy, IsSound, Simulates}
 use Rattle.gup_law_base.proofs.Clauses.{References, CountIs, MarksAre, MovesAre, ForksAre, WalksAre, WholeEntry, WholeMoved, WholeFree, WholeKept, WholeOther, MovedGone, WholeNames, MarksTable, MovesTable, ForksTable, TableHeld, StructureHeld, TableBorn, OwnAlone, OwnMade, OwnNames, OwnEntry, OwnWords, OwnMarked, OwnMarking, MarkedOwn, EntryMapped, EntryMarked, EntryAllowed, EntryWords, Untouched, HandleMarked, HandleOwn, HandleFlag, TakenMarked, TakenOwn, WalkOwn, WalkUnowned, WalkKept, WalkWritable, PreparedOnce, PreparedUnmarked, PreparedUnowned, PreparedZero, MarkingEntry, MarkingOwn, MovingOnce, ForkFresh, CopyWords, CopyThere, ShareHandle, ShareTaken, ShareLowered, ShareUnowned, MirrorEntry, ForkLeft}
 use Rattle.gup_law_base.proofs.Left.{left_born}
 use Rattle.gup_law_base.proofs.Tally.{tally_is, tally_entry, tally_prepared}

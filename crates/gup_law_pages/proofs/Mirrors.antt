@@ -9,7 +9,7 @@ use Rattle.gup_plain.specs.Event.{CanHappen}
 use Rattle.gup_spec_events.specs.State.{CoreState, plain_of}
 use Rattle.gup_spec_events.specs.Event.{Can, happens, entry_of, empty_mirror, fill_mirror, look}
 use Rattle.gup_spec_events.specs.Invariant.{frame_of}
-use Rattle.gup_spec_events.specs.Sound.{IsSoundBy, IsSound, Simulates}
+use Rattle.gup_law_base.specs.Sound.{IsSoundBy, IsSound, Simulates}
 use Rattle.gup_law_base.proofs.Clauses.{MirrorNoted, MirrorBorn, MirrorEntry, MirrorNames}
 use Rattle.gup_law_base.proofs.Lonely.{born_mapped}
 use Rattle.gup_law_base.proofs.Named.{named_here}

@@ -8,7 +8,7 @@ use Rattle.gup_plain.specs.State.{Pending, objects_of}
 use Rattle.gup_spec_events.specs.State.{CoreState, Taken, idle, plain_of}
 use Rattle.gup_spec_events.specs.Event.{Can, happens, bias, entry_of, IsNormal, IsUntaken, AreAlike, raise_flag, pin_page, make_handle, unpin_page, give_handle, take_handle, get_reference, put_reference}
 use Rattle.gup_spec_events.specs.Invariant.{got_frame}
-use Rattle.gup_spec_events.specs.Sound.{View, is_open, IsSoundBy, IsSound, Simulates}
+use Rattle.gup_law_base.specs.Sound.{View, is_open, IsSoundBy, IsSound, Simulates}
 use Rattle.gup_law_base.proofs.Clauses.{References, CountIs, FlagBorn, OwnAlone, OwnMade, OwnNames, OwnEntry, OwnWords, OwnMarked, OwnMarking, MarkedOwn, EntryMarked, HandlePages, HandleMarked, HandleOwn, HandleFlag, HandleNormal, TakenMarked, TakenOwn, TakenMade, TakenFlag, TakenNames, TakenNormal, TakenWrite, TakenLong, TakenApart, WalkFlag, WalkEmpty, WalkProc, WalkWrite, WalkLong, WalkUntaken, WalkOwn, WalkUnowned, WalkKept, WalkLast, WalkWritable, PreparedOnce, PreparedUnmarked, PreparedUnowned, MarkingOwn, MovingOnce, ShareHandle, ShareTaken, ShareUnowned}
 use Rattle.gup_law_base.proofs.Rows.{at_either, at_end, at_longer, at_within, no_rows}
 use Rattle.gup_law_base.proofs.Tally.{tally_is, tally_taken, tally_pinned, tally_got}

@@ -5,7 +5,7 @@ use Rattle.std.proofs.lemmas.Bool.Decides.{nat_tests}
 use Rattle.gup_base.specs.declared.entry.Entry.{Entry}
 use Rattle.gup_plain.specs.Put.{put}
 use Rattle.gup_spec_events.specs.State.{CoreState}
-use Rattle.gup_spec_events.specs.Sound.{View, IsSoundBy}
+use Rattle.gup_law_base.specs.Sound.{View, IsSoundBy}
 use Rattle.gup_law_base.proofs.Clauses.{OwnAlone, OwnMade, OwnNames, OwnEntry, OwnWords, OwnMarked, OwnMarking, MarkedOwn, EntryMarked, HandleMarked, HandleOwn, HandleFlag, TakenMarked, TakenOwn, WalkOwn, WalkUnowned, WalkKept, WalkWritable, PreparedUnmarked, PreparedUnowned, MarkingOwn, ShareUnowned}
 use Rattle.gup_law_base.proofs.Named.{by_points}
 use Rattle.gup_law_base.proofs.Lonely.{whole_counts, handle_counts, taken_counts}

@@ -4,7 +4,7 @@ use Rattle.std.specs.Prelude.{Some, None, slice_get}
 use Rattle.gup_base.specs.declared.entry.Entry.{Entry}
 use Rattle.gup_spec_events.specs.State.{CoreState, Taken, Job, idle, walking, WalkStep, entered}
 use Rattle.gup_spec_events.specs.Invariant.{is_inside, step_frame}
-use Rattle.gup_spec_events.specs.Sound.{View, Walking, walking_of, walk_frame, is_open, tried_page, tried_entry, rechecked_entry, unkept, IsSoundBy}
+use Rattle.gup_law_base.specs.Sound.{View, Walking, walking_of, walk_frame, is_open, tried_page, tried_entry, rechecked_entry, unkept, IsSoundBy}
 use Rattle.gup_law_base.proofs.Tally.{tally_step}
 use Rattle.gup_law_walk.proofs.Switches.{IsLight, ArePages, AreSettled, IsWalk, IsActor, actor_is, switched, switched_view, switches}
 

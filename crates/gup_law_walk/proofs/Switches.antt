@@ -8,7 +8,7 @@ use Rattle.gup_plain.specs.Put.{put}
 use Rattle.gup_spec_events.specs.State.{CoreState, Taken, Job, entered}
 use Rattle.gup_spec_events.specs.Event.{writes_taken, long_taken, is_odd}
 use Rattle.gup_spec_events.specs.Invariant.{is_inside}
-use Rattle.gup_spec_events.specs.Sound.{View, Forking, Walking, marking_of, moving_of, forking_of, walking_of, keeps_table, keeps_structure, shared_page, is_open, tried_page, tried_entry, rechecked_entry, unkept, IsSoundBy}
+use Rattle.gup_law_base.specs.Sound.{View, Forking, Walking, marking_of, moving_of, forking_of, walking_of, keeps_table, keeps_structure, shared_page, is_open, tried_page, tried_entry, rechecked_entry, unkept, IsSoundBy}
 use Rattle.gup_law_base.proofs.Tally.{number_here}
 use Rattle.gup_law_base.proofs.Clauses.{References, Grabs, CountIs, MarksAre, MovesAre, ForksAre, WalksAre, TableHeld, StructureHeld, TakenMarked, TakenOwn, TakenMade, TakenFlag, TakenNames, TakenNormal, TakenWrite, TakenLong, TakenApart, WalkFlag, WalkEmpty, WalkEven, WalkBelow, WalkProc, WalkWrite, WalkLong, WalkUntaken, WalkWrites, WalkNormal, WalkOwn, WalkUnowned, WalkKept, WalkLast, WalkWritable, PreparedOnce, MovingOnce, ShareTaken}
 

@@ -8,7 +8,7 @@ use Rattle.gup_plain.specs.Put.{put}
 use Rattle.gup_spec_events.specs.State.{Taken}
 use Rattle.gup_spec_events.specs.Event.{bias}
 use Rattle.gup_spec_events.specs.Invariant.{Holder, entry_of_page, cleared_by, prepared_by, owed_by, got_as, page_of_pin, page_taken, grabbed_by, weight, HasNoRepetition, taken_frame}
-use Rattle.gup_spec_events.specs.Sound.{Moving, held, Tally}
+use Rattle.gup_law_base.specs.Sound.{Moving, held, Tally}
 use Rattle.gup_law_base.proofs.Rows.{at_end, at_others, none_past, contains_at, at_contains, at_mapped, mapped_at}
 use Rattle.gup_law_base.proofs.Holders.{same_holders, first_element, later_element}
 use Rattle.gup_law_base.proofs.Tally.{changed, tally_change, number_here}

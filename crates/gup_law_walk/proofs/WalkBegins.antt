@@ -4,7 +4,7 @@ use Rattle.std.specs.Prelude.{Some, None, slice_get, if◌then◌else◌}
 use Rattle.gup_plain.specs.Put.{put}
 use Rattle.gup_spec_events.specs.State.{CoreState, Taken, Job, idle, walking, entered, ready, over}
 use Rattle.gup_spec_events.specs.Event.{Can, happens, is_odd, enter_walk, read_sequence, leave_walk}
-use Rattle.gup_spec_events.specs.Sound.{View, Walking, walking_of, walk_frame, is_open, IsSoundBy, IsSound, Simulates}
+use Rattle.gup_law_base.specs.Sound.{View, Walking, walking_of, walk_frame, is_open, IsSoundBy, IsSound, Simulates}
 use Rattle.gup_law_walk.proofs.Switches.{IsLight, AreSettled, IsWalk, actor_is, switched, switched_view}
 use Rattle.gup_law_walk.proofs.Steps.{idle_light, walking_light, walk_of, none_taken, in_walk, outside, changes_job, walk_seen, walk_known, walk_light, next_step}
 

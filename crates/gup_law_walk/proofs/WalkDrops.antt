@@ -6,7 +6,7 @@ use Rattle.gup_plain.specs.Put.{put}
 use Rattle.gup_spec_events.specs.State.{CoreState, Taken, Job, walking, WalkStep, entered, differed, refused, stopped, dropping, over}
 use Rattle.gup_spec_events.specs.Event.{Can, happens, bias, writes_taken, long_taken, step_left, without_references, drop_grab, drop_last, drop_first}
 use Rattle.gup_spec_events.specs.Invariant.{is_inside, step_frame}
-use Rattle.gup_spec_events.specs.Sound.{View, Walking, walk_frame, is_open, tried_page, tried_entry, rechecked_entry, unkept, held, Tally, IsSoundBy, IsSound, Simulates}
+use Rattle.gup_law_base.specs.Sound.{View, Walking, walk_frame, is_open, tried_page, tried_entry, rechecked_entry, unkept, held, Tally, IsSoundBy, IsSound, Simulates}
 use Rattle.gup_law_base.proofs.Clauses.{References, Grabs, CountIs, PreparedOnce, MovingOnce}
 use Rattle.gup_law_base.proofs.Rows.{at_end, at_longer, at_within}
 use Rattle.gup_law_base.proofs.Tally.{changed, tally_is, tally_step, tally_drop, number_here}

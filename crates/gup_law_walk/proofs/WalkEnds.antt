@@ -7,7 +7,7 @@ use Rattle.gup_plain.specs.Put.{put}
 use Rattle.gup_spec_events.specs.State.{CoreState, Taken, walking, ForkStep, between, counted, lowered, cleared, copying, failing, WalkStep, entered, ready, read, grabbed, rechecked, differed, refused, stopped, dropping, over}
 use Rattle.gup_spec_events.specs.Event.{Can, MayRest, is_odd, step_left, read_again}
 use Rattle.gup_spec_events.specs.Invariant.{is_inside, step_frame}
-use Rattle.gup_spec_events.specs.Sound.{View, Forking, Walking, shared_page, is_failing, unkept, IsSoundBy, IsSound, Simulates}
+use Rattle.gup_law_base.specs.Sound.{View, Forking, Walking, shared_page, is_failing, unkept, IsSoundBy, IsSound, Simulates}
 use Rattle.gup_law_base.proofs.Rows.{at_within}
 use Rattle.gup_law_base.proofs.Steps.{even_apart}
 use Rattle.gup_law_walk.proofs.Switches.{AreSettled, IsWalk}

@@ -6,7 +6,7 @@ use Rattle.gup_base.specs.declared.entry.Entry.{Entry}
 use Rattle.gup_plain.specs.Put.{put}
 use Rattle.gup_spec_events.specs.State.{CoreState, Taken, Job, walking, ready, read, grabbed, stopped}
 use Rattle.gup_spec_events.specs.Event.{Can, bias, is_wrong, step_read, read_entry, grab_frame, miss_frame}
-use Rattle.gup_spec_events.specs.Sound.{View, Walking, walk_frame, IsSoundBy, IsSound, Simulates}
+use Rattle.gup_law_base.specs.Sound.{View, Walking, walk_frame, IsSoundBy, IsSound, Simulates}
 use Rattle.gup_law_base.proofs.Clauses.{Grabs, CountIs}
 use Rattle.gup_law_base.proofs.Tally.{tally_grab}
 use Rattle.gup_law_base.proofs.PinLists.{all_untaken}

@@ -7,7 +7,7 @@ use Rattle.gup_plain.specs.Put.{put}
 use Rattle.gup_plain.specs.State.{Pending, born}
 use Rattle.gup_spec_events.specs.State.{CoreState, Taken, Job, walking, grabbed, rechecked, plain_of}
 use Rattle.gup_spec_events.specs.Event.{Can, bias, IsUntaken, AreAlike, writes_taken, long_taken, recheck_same}
-use Rattle.gup_spec_events.specs.Sound.{View, Walking, walk_frame, IsSoundBy, IsSound, Simulates}
+use Rattle.gup_law_base.specs.Sound.{View, Walking, walk_frame, IsSoundBy, IsSound, Simulates}
 use Rattle.gup_law_base.proofs.Clauses.{References, Grabs, CountIs, PreparedOnce, MovingOnce}
 use Rattle.gup_law_base.proofs.Rows.{at_either, at_within, all_from}
 use Rattle.gup_law_base.proofs.Tally.{tally_is, tally_taken, tally_drop, number_here}

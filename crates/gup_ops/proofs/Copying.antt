@@ -18,12 +18,13 @@ use Rattle.gup_space.proofs.After.{taking}
 use Rattle.gup_space.proofs.ShowsLemmas.{shows_frames, shows_space}
 use Rattle.gup_fork.specs.Forks.{ForkChange, AreForkEvents}
 use Rattle.gup_spec_events.specs.State.{CoreState, Job, idle, marking, moving, forking, walking, ForkStep, between, counted, lowered, cleared, copying, failing}
-use Rattle.gup_spec_events.specs.Event.{CoreEvent, happens, take_frame, copy_word, place_child, fail_fork, put_child}
+use Rattle.gup_spec_events.specs.Event.{CoreEvent, happens, take_frame, copy_word, place_child, fail_fork, put_child, run}
 use Rattle.gup_spec_events.specs.Failure.{are_gone, fails, puts_entry, puts_entries}
 use Rattle.gup_spec_events.proofs.Gone.{no_puts}
-use Rattle.gup_spec_events.specs.Invariant.{run}
-use Rattle.gup_spec_turns.specs.Turn.{fork_turn, frame_turn, copy_turn, copying_turn, entry_in, rights_in}
-use Rattle.gup_spec_turns.specs.Reached.{unbegun, from_page, wants_frame, at_word, copying_place, fork_place, StandsFork}
+use Rattle.gup_spec_turns.specs.ForkTurns.{fork_turn, frame_turn, copy_turn, copying_turn, rights_in}
+use Rattle.gup_spec_turns.specs.Taken.{entry_in}
+use Rattle.gup_spec_turns.specs.Reached.{unbegun, from_page, wants_frame, at_word}
+use Rattle.gup_spec_turns.specs.ForkPlace.{copying_place, fork_place, StandsFork}
 use Rattle.gup_ops.specs.Forked.{IsForkTurn}
 use Rattle.gup_ops.proofs.Leading.{run_behind}
 use Rattle.gup_ops.proofs.Searching.{free_agrees}

@@ -7,9 +7,8 @@ use Rattle.gup_frames.specs.Frames.{FramesValue}
 use Rattle.gup_space.specs.Space.{SpaceValue}
 use Rattle.gup_space.specs.Shows.{Change, ShowsFrames, ShowsSpace}
 use Rattle.gup_spec_events.specs.State.{CoreState, start}
-use Rattle.gup_spec_events.specs.Event.{CoreEvent, happens}
-use Rattle.gup_spec_events.specs.Invariant.{run}
-use Rattle.gup_spec_turns.specs.Turn.{Taken, answers_with}
+use Rattle.gup_spec_events.specs.Event.{CoreEvent, happens, run}
+use Rattle.gup_spec_turns.specs.Taken.{Taken, answers_with}
 use Rattle.gup_ops.specs.Said.{Leads, IsTurnOf}
 
 abbrev pub ch : (F F' : FramesValue) (S S' : SpaceValue) → Change

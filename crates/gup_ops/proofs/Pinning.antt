@@ -17,11 +17,12 @@ use Rattle.gup_space.specs.Shows.{ShowsFrames, ShowsSpace}
 use Rattle.gup_space.proofs.ShowsLemmas.{shows_frames, shows_space, events_lead}
 use Rattle.gup_handles.specs.Handles.{HandlesValue, held}
 use Rattle.gup_spec_events.specs.State.{CoreState, Taken as TakenPage}
-use Rattle.gup_spec_events.specs.Event.{CoreEvent, happens, pin_page, make_handle, writes_taken, objects_taken, frames_of as frames_taken}
-use Rattle.gup_spec_events.specs.Invariant.{run, frame_of}
+use Rattle.gup_spec_events.specs.Event.{CoreEvent, happens, pin_page, make_handle, writes_taken, objects_taken, frames_of as frames_taken, run}
+use Rattle.gup_spec_events.specs.Invariant.{frame_of}
 use Rattle.gup_spec_events.specs.Fault.{Fault, events_of, refusal_of}
 use Rattle.gup_fault.specs.Faults.{IsFault}
-use Rattle.gup_spec_turns.specs.Turn.{Taken, raises, entry_in, makes_if, pinned_if, pins, cause_of, ends_pin, pin_turn, pin_turn_by}
+use Rattle.gup_spec_turns.specs.Taken.{Taken, entry_in}
+use Rattle.gup_spec_turns.specs.PinTurns.{raises, makes_if, pinned_if, pins, cause_of, ends_pin, pin_turn, pin_turn_by}
 use Rattle.gup_ops.specs.Pins.{IsPin, ShowsPins, PinChange, LeadsPin, IsPinTurn, raised, fault_to_pin}
 use Rattle.gup_ops.specs.Tidy.{IsTidy}
 use Rattle.gup_ops.proofs.Leading.{ch, run_behind}

@@ -10,14 +10,14 @@ use Rattle.gup_space.specs.Space.{SpaceValue}
 use Rattle.gup_space.specs.Shows.{Change, ShowsFrames, ShowsSpace}
 use Rattle.gup_space.proofs.ShowsLemmas.{events_lead}
 use Rattle.gup_spec_events.specs.State.{CoreState}
-use Rattle.gup_spec_events.specs.Event.{happens, upgrade}
-use Rattle.gup_spec_events.specs.Invariant.{run}
+use Rattle.gup_spec_events.specs.Event.{happens, upgrade, run}
 use Rattle.gup_spec_events.specs.Fault.{Fault, events_of, refusal_of, fills, breaks, marks, unshares, unshare_fault, makes_writable, fills_writable, write_fault}
 use Rattle.gup_fault.specs.declared.denied.Denied.{Denied}
 use Rattle.gup_fault.specs.Refused.{denial_of}
 use Rattle.gup_fault.specs.Faults.{HasEntry, IsMarked, IsWritable, IsFault}
 use Rattle.gup_slow.specs.Pins.{IsReady}
-use Rattle.gup_spec_turns.specs.Turn.{pin_fault, free_frame as free_in_state}
+use Rattle.gup_spec_turns.specs.PinTurns.{pin_fault}
+use Rattle.gup_spec_turns.specs.Taken.{free_frame as free_in_state}
 use Rattle.gup_ops.specs.Pins.{raised, fault_to_pin, want_of}
 use Rattle.gup_ops.specs.Tidy.{IsTidy}
 use Rattle.gup_ops.proofs.Leading.{state_of, has_frames, has_space}

@@ -11,9 +11,11 @@ use Rattle.gup_space.specs.Space.{SpaceValue}
 use Rattle.gup_space.specs.Shows.{ShowsFrames, ShowsSpace}
 use Rattle.gup_fork.specs.Forks.{ForkChange}
 use Rattle.gup_spec_events.specs.State.{CoreState}
-use Rattle.gup_spec_events.specs.Invariant.{run}
-use Rattle.gup_spec_turns.specs.Turn.{Taken, fork_turn}
-use Rattle.gup_spec_turns.specs.Reached.{ForkPlace, unbegun, from_page, at_page, wants_frame, at_word, place_in, KeepsFrame, StandsFork}
+use Rattle.gup_spec_events.specs.Event.{run}
+use Rattle.gup_spec_turns.specs.Taken.{Taken}
+use Rattle.gup_spec_turns.specs.ForkTurns.{fork_turn}
+use Rattle.gup_spec_turns.specs.ForkPlace.{ForkPlace, place_in, KeepsFrame, StandsFork}
+use Rattle.gup_spec_turns.specs.Reached.{unbegun, from_page, at_page, wants_frame, at_word}
 use Rattle.gup_ops.specs.declared.forks.ForkPlace.{ForkPlace as KeptPlace}
 use Rattle.gup_ops.specs.declared.forks.ForkPlace.TheVariants.{Unbegun, From, At, Wanting, Copying}
 

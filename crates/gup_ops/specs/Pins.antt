@@ -9,11 +9,11 @@ use Rattle.gup_space.specs.Space.{SpaceValue}
 use Rattle.gup_space.specs.Shows.{ShowsFrames, ShowsSpace}
 use Rattle.gup_handles.specs.Handles.{HandleValue, HandlesValue, unmade, held, given, got, gone}
 use Rattle.gup_spec_events.specs.State.{CoreState}
-use Rattle.gup_spec_events.specs.Event.{bias, frames_of as frames_taken}
+use Rattle.gup_spec_events.specs.Event.{bias, frames_of as frames_taken, run}
 use Rattle.gup_spec_events.specs.Fault.{Fault, write_fault, unshare_fault}
-use Rattle.gup_spec_events.specs.Invariant.{run}
-use Rattle.gup_spec_turns.specs.Turn.{Taken, pin_turn}
-use Rattle.gup_spec_turns.specs.Reached.{StandsPin}
+use Rattle.gup_spec_turns.specs.Taken.{Taken}
+use Rattle.gup_spec_turns.specs.PinTurns.{pin_turn}
+use Rattle.gup_spec_turns.specs.PinPlace.{StandsPin}
 
 -- what a state has of a handle: the plain pin, of some objects, and the frames of the pages that it still has
 abbrev pub IsPin : HandleValue → plain.Handle → (pinned : List ℕ) → Type 0

@@ -8,8 +8,8 @@ use Rattle.gup_plain.specs.declared.note.What.{What}
 use Rattle.gup_plain.specs.declared.note.What.TheVariants.{Silent, Event, Done}
 use Rattle.gup_space.specs.Shows.{Change, ShowsFrames, ShowsSpace}
 use Rattle.gup_spec_events.specs.State.{CoreState}
-use Rattle.gup_spec_events.specs.Invariant.{run}
-use Rattle.gup_spec_turns.specs.Turn.{Taken}
+use Rattle.gup_spec_events.specs.Event.{run}
+use Rattle.gup_spec_turns.specs.Taken.{Taken}
 use Rattle.gup_ops.specs.declared.said.Said.{Said}
 
 -- a turn without an event that answers nothing is silent; a pin is made at an event of its own, behind that of its page

@@ -7,7 +7,7 @@ use Rattle.gup_script.specs.declared.op.Op.{Op}
 use Rattle.gup_script.specs.declared.op.Op.TheVariants.{Map, Unmap, Protect, Discard, Load, Store, Pin, Unpin, Give, Take, Transfer, Fork, Exit}
 use Rattle.gup_frames.specs.Frames.{FramesValue, IsFrame}
 use Rattle.gup_space.specs.Space.{SpaceValue}
-use Rattle.gup_spec_turns.specs.Turn.{allows_store}
+use Rattle.gup_spec_turns.specs.Taken.{allows_store}
 
 -- each mapped page has the number of one
 abbrev pub AreNumbered : SpaceValue → Type 0

@@ -3,7 +3,7 @@ ghost use Rattle.std.specs.Prelude.{◌≡◌, ◌+◌, ◌≤◌, ◌<◌, ◌^
 ghost use Rattle.gup_frames.specs.Frames.{frames_of};
 ghost use Rattle.gup_space.specs.Space.{space_of, AreMapped};
 ghost use Rattle.gup_space.specs.Shows.{change_of};
-ghost use Rattle.gup_spec_turns.specs.Turn.{map_turn, protect_turn};
+ghost use Rattle.gup_spec_turns.specs.PageTurns.{map_turn, protect_turn};
 ghost use Rattle.gup_ops.specs.Tidy.{IsTidy};
 ghost use Rattle.gup_ops.specs.Said.{whats_of, IsTurnOf};
 ghost use Rattle.gup_ops.specs.Lowered.{IsLowered, IsLoweredFor};

@@ -9,7 +9,7 @@ ghost use Rattle.gup_fault.specs.Refused.{answer_of as answered, denial_of};
 ghost use Rattle.gup_fault.specs.Faults.{IsFault};
 ghost use Rattle.gup_slow.specs.Pins.{IsReady};
 ghost use Rattle.gup_handles.specs.Handles.{handles_of, unmade, held};
-ghost use Rattle.gup_spec_turns.specs.Turn.{cause_of as cause};
+ghost use Rattle.gup_spec_turns.specs.PinTurns.{cause_of as cause};
 ghost use Rattle.gup_ops.specs.Tidy.{IsTidy};
 ghost use Rattle.gup_ops.specs.Said.{whats_of};
 ghost use Rattle.gup_ops.specs.Pins.{IsPinTurn, raised, fault_to_pin, want_of};

@@ -3,7 +3,7 @@ ghost use Rattle.std.specs.Prelude.{◌≡◌, Some, None};
 ghost use Rattle.gup_frames.specs.Frames.{frames_of};
 ghost use Rattle.gup_space.specs.Space.{space_of};
 ghost use Rattle.gup_space.specs.Shows.{change_of};
-ghost use Rattle.gup_spec_turns.specs.Turn.{unmap_turn, discard_turn, exit_turn};
+ghost use Rattle.gup_spec_turns.specs.PageTurns.{unmap_turn, discard_turn, exit_turn};
 ghost use Rattle.gup_ops.specs.Tidy.{IsTidy};
 ghost use Rattle.gup_ops.specs.Said.{whats_of, passed_said, IsTurnOf};
 

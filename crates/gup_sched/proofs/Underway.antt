@@ -8,8 +8,8 @@ use Rattle.gup_script.specs.Valid.{IsScript}
 use Rattle.gup_spec_journal.specs.Follows.{notes_of_turn}
 use Rattle.gup_spec_journal.specs.Order.{Turn, journal_of, behind, pointer_after}
 use Rattle.gup_spec_turns.specs.Cost.{cost, operations, forks}
-use Rattle.gup_spec_turns.specs.Reached.{turned, IsStanding}
-use Rattle.gup_spec_turns.specs.Run.{RunState, run_start, run_after, turn_in, taken_in, can_go, pointed, written_in, next_by, next_actor, Runs, IsCoreRun}
+use Rattle.gup_spec_turns.specs.Run.{turned, RunState, run_start, run_after, turn_in, taken_in, can_go, pointed, written_in, next_by, next_actor, Runs, IsCoreRun}
+use Rattle.gup_law_turns.specs.Standing.{IsStanding}
 use Rattle.gup_core.specs.Machine.{MachineValue, Shows, TakesTurn, IsNew, counted}
 use Rattle.gup_sched.proofs.Going.{pointed_goes}
 

@@ -11,7 +11,8 @@ use gup_base::{ActorNo, NoMemory};
 use gup_core::{Machine, Turn};
 use gup_plain::Journal;
 use gup_script::Script;
-use gup_spec_turns::{reached_states_stand, turns_are_spent};
+use gup_law_costs::turns_are_spent;
+use gup_law_turns::reached_states_stand;
 use std::alloc::Global;
 
 /// What a run leaves: its journal, whether it is stuck, which it is where an actor has operations left, and the

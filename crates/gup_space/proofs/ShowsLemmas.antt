@@ -7,8 +7,7 @@ use Rattle.gup_frames.specs.Frames.{FramesValue}
 use Rattle.gup_space.specs.Shows.{ShowsFrames, ShowsSpace, Change, unlocked, AreEvents}
 use Rattle.gup_space.proofs.After.{IsOf, taking, filling, counting, marking_it, upgrading, breaking, putting, dropping, discarding, mapping, lowering, protecting, loading, storing, flagging, pinning, making, unpinning, giving, taking_over, moving_out, moving_in, AreOf, frames_after, space_after, all_frames_after, all_space_after, IsShownAs, IsMadeBy}
 use Rattle.gup_spec_events.specs.State.{CoreState}
-use Rattle.gup_spec_events.specs.Event.{CoreEvent, happens}
-use Rattle.gup_spec_events.specs.Invariant.{run}
+use Rattle.gup_spec_events.specs.Event.{CoreEvent, happens, run}
 
 pub leaves_other : (p q : ℕ) (space : SpaceValue) (s : CoreState) {e : CoreEvent} → (p ≡ q → ⊥) → IsOf p e → ShowsSpace q space s → ShowsSpace q space (happens s e)
 leaves_other p q space s other (taking a f) h =

@@ -3,8 +3,7 @@ use Rattle.std.specs.Prelude.{◌≡◌, ℕ, List, None}
 use Rattle.gup_frames.specs.Frames.{FramesValue, FrameLists, frames_of}
 use Rattle.gup_space.specs.Space.{SpaceValue, SpaceParts, space_of}
 use Rattle.gup_spec_events.specs.State.{CoreState}
-use Rattle.gup_spec_events.specs.Event.{CoreEvent}
-use Rattle.gup_spec_events.specs.Invariant.{run}
+use Rattle.gup_spec_events.specs.Event.{CoreEvent, run}
 
 -- the state has these frames
 pub record ShowsFrames (frames : FramesValue) (s : CoreState) : Type 0 where

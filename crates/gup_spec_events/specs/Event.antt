@@ -1,5 +1,5 @@
 -- The core events: when each can happen, what it changes, and the plain event that stands at it.
-use Rattle.std.specs.Prelude.{◌≡◌, ℕ, ◌+◌, ◌-◌, ◌*◌, ◌/◌, ◌%◌, ◌<◌, ◌≤◌, ◌==◌, ◌&&◌, ◌||◌, nat_le, nat_lt, not, Bool, true, false, if◌then◌else◌, List, [], ◌∷◌, ◌++◌, map, length, slice_get, All, Contains, Option, Some, None, IsSome, zero, suc}
+use Rattle.std.specs.Prelude.{◌≡◌, ℕ, ◌+◌, ◌-◌, ◌/◌, ◌%◌, ◌<◌, ◌≤◌, ◌==◌, ◌&&◌, ◌||◌, nat_le, nat_lt, not, Bool, true, false, if◌then◌else◌, List, [], ◌∷◌, ◌++◌, map, slice_get, All, Contains, Option, Some, None, IsSome, zero}
 use Rattle.std.specs.Option.{option_map}
 pub use Rattle.gup_base.specs.Counts.{bias}
 use Rattle.gup_base.specs.declared.entry.Allowed.{Allowed}
@@ -672,3 +672,7 @@ told e = None
 abbrev pub after_told : PlainState → Option PlainEvent → PlainState
 after_told s None = s
 after_told s (Some e) = happened s e
+
+abbrev pub run : CoreState → List CoreEvent → CoreState
+run s [] = s
+run s (e ∷ es) = run (happens s e) es

@@ -5,12 +5,11 @@
 use Rattle.std.specs.Prelude.{◌≡◌, ℕ, ◌+◌, ◌<◌, ◌≤◌, ◌⊎◌, Bool, true, false, not, List, [], ◌∷◌, length, slice_get, Contains, sum_by, Option, Some, None, IsSome, suc}
 use Rattle.gup_base.specs.declared.entry.Allowed.{Allowed}
 use Rattle.gup_base.specs.declared.entry.Entry.{Entry}
-use Rattle.gup_base.specs.declared.entry.Rights.{Rights}
 use Rattle.gup_base.specs.declared.entry.Rights.TheVariants.{RW}
 use Rattle.gup_plain.specs.Event.{CanHappen, words}
-use Rattle.gup_plain.specs.State.{PlainState, Noted, Handle, failed, born, objects_of}
+use Rattle.gup_plain.specs.State.{PlainState, Noted, failed, born, objects_of}
 use Rattle.gup_plain.specs.declared.event.PlainEvent.{PlainEvent}
-use Rattle.gup_spec_events.specs.State.{CoreState, Taken, Job, idle, marking, moving, forking, walking, Counted, one, ForkStep, counted, lowered, cleared, copying, failing, WalkStep, entered, ready, read, grabbed, rechecked, differed, refused, stopped, dropping, over, plain_of}
+use Rattle.gup_spec_events.specs.State.{CoreState, Taken, Job, moving, forking, walking, Counted, one, ForkStep, counted, lowered, cleared, copying, failing, WalkStep, entered, ready, read, grabbed, rechecked, differed, refused, stopped, dropping, over, plain_of}
 use Rattle.gup_spec_events.specs.Event.{CoreEvent, Can, happens, told, after_told, bias, IsNormal}
 
 -- 1. References: whatever may hold a frame
@@ -285,7 +284,3 @@ pub record Tells (s : CoreState) (e : CoreEvent) : Type 0 where
 abbrev pub AllCan : CoreState → List CoreEvent → Type 0
 AllCan s [] = Unit {0}
 AllCan s (e ∷ es) = Can s e × AllCan (happens s e) es
-
-abbrev pub run : CoreState → List CoreEvent → CoreState
-run s [] = s
-run s (e ∷ es) = run (happens s e) es

@@ -1,6 +1,5 @@
 pub mod State
 pub mod Event
 pub mod Invariant
-pub mod Sound
 pub mod Fault
 pub mod Failure

@@ -2,6 +2,12 @@ pub mod Turn
 pub mod Run
 pub mod Cause
 pub mod Pages
-pub mod Reached
 pub mod Cost
-pub mod ScriptLemmas
+pub mod ForkPlace
+pub mod PinPlace
+pub mod Taken
+pub mod PageTurns
+pub mod PinTurns
+pub mod DeviceTurns
+pub mod ForkTurns
+pub mod Waits

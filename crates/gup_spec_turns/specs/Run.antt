@@ -1,15 +1,17 @@
 -- The core run of a script, and turns in any order.
-use Rattle.std.specs.Prelude.{◌≡◌, ℕ, ◌+◌, ◌<◌, Bool, true, false, if◌then◌else◌, List, [], ◌∷◌, Option, Some, None, slice_get, length, zero, suc}
+use Rattle.std.specs.Prelude.{◌≡◌, ℕ, ◌+◌, ◌<◌, Bool, true, false, if◌then◌else◌, List, [], ◌∷◌, Option, Some, None, slice_get, length, zero, suc, map}
 use Rattle.gup_plain.specs.Note.{NoteValue}
 use Rattle.gup_plain.specs.declared.note.What.TheVariants.{Idle, Wait}
 use Rattle.gup_plain.specs.declared.note.Waiting.{Waiting}
 use Rattle.gup_script.specs.declared.op.Op.{Op}
 use Rattle.gup_script.specs.Script.{ScriptValue}
-use Rattle.gup_spec_events.specs.State.{CoreState, start}
-use Rattle.gup_spec_events.specs.Invariant.{run}
+use Rattle.gup_spec_events.specs.State.{CoreState, start, Taken}
+use Rattle.gup_spec_events.specs.Event.{run}
 use Rattle.gup_spec_journal.specs.Place.{Place, first_place, Doer, doer, present_op, starts_born}
 use Rattle.gup_spec_journal.specs.Order.{Turn, places_behind, journal_of, behind, pointer_after}
-use Rattle.gup_spec_turns.specs.Turn.{Taken, turn_of, waiting_for}
+use Rattle.gup_spec_turns.specs.Taken.{Taken}
+use Rattle.gup_spec_turns.specs.Turn.{turn_of}
+use Rattle.gup_spec_turns.specs.Waits.{waiting_for}
 
 -- The core state, each actor's place, the pointer, and how many turns are over.
 pub record RunState : Type 0 where
@@ -109,3 +111,12 @@ AreBetween script r = (a : ℕ) → a < length script.actors → (r.places a).fa
 abbrev pub IsCoreRun : ScriptValue → List NoteValue → RunState → Type 0
 IsCoreRun script notes end =
     (turns : List Turn) × (notes ≡ journal_of 1 (λ _. first_place) turns) × Runs script (run_start script) turns end
+
+-- the state behind turns of these actors
+abbrev pub turned : ScriptValue → RunState → List ℕ → RunState
+turned script r [] = r
+turned script r (a ∷ actors) = turned script (run_after script r a) actors
+
+-- who takes each of these turns
+abbrev pub actors_of : List Turn → List ℕ
+actors_of turns = map (λ (turn : Turn). turn.actor) turns

@@ -1,7 +1,7 @@
 -- From the start on, which is sound.
 use Rattle.gup_spec_events.specs.State.{start}
-use Rattle.gup_spec_events.specs.Invariant.{run}
-use Rattle.gup_spec_events.specs.Sound.{IsSound}
+use Rattle.gup_spec_events.specs.Event.{run}
+use Rattle.gup_law_base.specs.Sound.{IsSound}
 use Rattle.gup_law_events.proofs.Start.{sound_start}
 use Rattle.gup_law_events.proofs.Published.{published}
 use Rattle.gup_law_events.proofs.Runs.{sound_run, possible_run, stands_run}

@@ -1,5 +1,5 @@
 use Rattle.std.proofs.Common.{◌≡◌, ℕ, Option, Some, None, sym, ap, ◌∙◌, subst, inl, inr}
-use Rattle.gup_spec_turns.specs.Turn.{waits_born}
+use Rattle.gup_spec_turns.specs.Waits.{waits_born}
 use Rattle.gup_core.specs.declared.births.Birth.{Birth}
 use Rattle.gup_core.specs.declared.births.Birth.TheVariants.{Growing}
 use Rattle.gup_core.specs.Doers.{IsProcessOf}

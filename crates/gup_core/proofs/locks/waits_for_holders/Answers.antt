@@ -1,6 +1,6 @@
 use Rattle.std.proofs.Common.{◌≡◌, ℕ, Bool, true, false, Option, None, Some, is_some, not, refl, sym, ap, ◌∙◌}
 use Rattle.gup_plain.specs.declared.note.Waiting.{Waiting}
-use Rattle.gup_spec_turns.specs.Turn.{Locks, locks_needed, first_waiting, waits_for_lock, waits_for_locks}
+use Rattle.gup_spec_turns.specs.Waits.{Locks, locks_needed, first_waiting, waits_for_lock, waits_for_locks}
 use Rattle.gup_core.proofs.locks.waits_for_holders.Goals as goal
 
 -- nobody waits for locks that nobody holds

@@ -9,7 +9,7 @@ use Rattle.gup_script.specs.declared.script.Process.{Process as DeclaredProcess}
 use Rattle.gup_script.specs.declared.script.Actor.{Actor as DeclaredActor}
 use Rattle.gup_script.specs.Views.{process_value, actor_value}
 use Rattle.gup_script.specs.Valid.{IsScript, IsOp, IsOfThread, AreDeclared, KindFits, FitsKind, ForksAt, PinsAt}
-use Rattle.gup_spec_turns.specs.ScriptLemmas.{all_at}
+use Rattle.gup_law_turns.proofs.ScriptLemmas.{all_at}
 use Rattle.gup_ops.specs.Alone.{IsAlone}
 use Rattle.gup_core.proofs.tests.script.Goals as goal
 

@@ -1,11 +1,10 @@
-use Rattle.std.proofs.Common.{sym, ap, ◌∙◌}
+use Rattle.std.proofs.Common.{sym, ap, ◌∙◌, None}
 use Rattle.gup_frames.specs.Frames.{frames_of}
 use Rattle.gup_handles.specs.Handles.{handles_of}
-use Rattle.gup_spec_turns.specs.Turn.{give_turn}
+use Rattle.gup_spec_turns.specs.PinTurns.{give_turn}
 use Rattle.gup_ops.specs.Said.{whats_of}
 use Rattle.gup_held.proofs.Holding.{on_ok, handle_change, handle_alike, passed, pin_given, given_whats}
 use Rattle.gup_held.proofs.holds.give.Goals as goal
-use Rattle.std.proofs.Common.{None}
 
 pub returns-clause-turn : goal.returns-clause-turn
 returns-clause-turn c frames =

@@ -1,7 +1,7 @@
 use Rattle.std.proofs.Common.{None, ap}
 use Rattle.gup_frames.specs.Frames.{frames_of}
 use Rattle.gup_handles.specs.Handles.{handles_of}
-use Rattle.gup_spec_turns.specs.Turn.{take_turn}
+use Rattle.gup_spec_turns.specs.PinTurns.{take_turn}
 use Rattle.gup_ops.specs.Said.{whats_of}
 use Rattle.gup_held.proofs.Holding.{handle_change, handle_alike, pin_taken, taken_whats}
 use Rattle.gup_held.proofs.holds.take_over.Goals as goal

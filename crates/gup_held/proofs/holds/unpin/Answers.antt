@@ -1,7 +1,7 @@
 use Rattle.std.proofs.Common.{true, false, None, sym, ap, ◌∙◌}
 use Rattle.gup_frames.specs.Frames.{frames_of}
 use Rattle.gup_handles.specs.Handles.{handles_of}
-use Rattle.gup_spec_turns.specs.Turn.{unpin_turn}
+use Rattle.gup_spec_turns.specs.PinTurns.{unpin_turn}
 use Rattle.gup_ops.specs.Said.{whats_of}
 use Rattle.gup_held.proofs.Holding.{handle_change, handle_alike, passed, failed, last_weighed, page_unpinned, unpinned_whats, still_says, gone_says}
 use Rattle.gup_held.proofs.holds.unpin.Goals as goal

@@ -1,5 +1,5 @@
 use Rattle.std.proofs.Common.{◌≡◌, Some, None, slice_get, sym, ap, ◌∙◌, subst, arith}
-use Rattle.gup_spec_turns.specs.ScriptLemmas.{op_is_op}
+use Rattle.gup_law_turns.proofs.ScriptLemmas.{op_is_op}
 use Rattle.gup_core.specs.Machine.{MachineValue, machine_of, TakesTurns}
 use Rattle.gup_core.specs.Rest.{IsAtRest}
 use Rattle.gup_core.specs.Seats.{seat_behind}

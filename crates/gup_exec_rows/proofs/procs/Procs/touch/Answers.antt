@@ -1,4 +1,4 @@
-use Rattle.std.proofs.Common.{◌≡◌, ℕ, Bool, true, false, List, refl, ap, arith}
+use Rattle.std.proofs.Common.{◌≡◌, ℕ, Bool, true, false, List, refl, ap, arith, Result, Ok, Err, OnOk}
 use Rattle.gup_plain.specs.Put.{put, spread}
 use Rattle.gup_plain.specs.State.{Birth, growing, born, failed}
 use Rattle.gup_exec_parts.specs.Space.{SpaceState, birth_of}
@@ -7,7 +7,6 @@ use Rattle.gup_exec_parts.specs.declared.space.Space.{Space}
 use Rattle.gup_exec_rows.proofs.ProcLemmas.{AtProc, births_put, births_kept, copies_put, copies_kept, copies_put2, has_room, gets_room}
 use Rattle.gup_exec_rows.specs.Procs.{births, copies, space_at, HasRoom}
 use Rattle.gup_exec_rows.proofs.procs.Procs.touch.Goals as goal
-use Rattle.std.proofs.Common.{Result, Ok, Err, OnOk}
 
 on-ok : {T E P Q : Type 0} (r : Result T E) → (P → Q) → OnOk r P → OnOk r Q
 on-ok (Ok x) more h = more h

@@ -1,0 +1,511 @@
+-- What a turn of any operation does to mapped pages and jobs, and what it takes of the cost: a fork's, and the others'.
+use Rattle.std.proofs.Common.{◌≡◌, ℕ, ◌+◌, ◌-◌, ◌*◌, ◌<◌, ◌≤◌, ◌==◌, ◌++◌, Bool, true, false, is_some, List, [], ◌∷◌, Option, Some, None, inl, inr, refl, ap, sym, subst, ◌∙◌, zero, suc, arith, nat_lt, eqb-true}
+use Rattle.std.specs.Prelude.{◌⊎◌, ◌&&◌, not}
+use Rattle.std.proofs.lemmas.Bool.Decides.{nat_tests}
+use Rattle.gup_base.specs.declared.entry.Entry.{Entry}
+use Rattle.gup_base.specs.declared.entry.Rights.{Rights}
+use Rattle.gup_plain.specs.Put.{put}
+use Rattle.gup_plain.specs.Event.{page_numbers, words}
+use Rattle.gup_plain.specs.State.{Birth, unborn, growing, born, failed}
+use Rattle.gup_plain.specs.declared.answer.Answer.TheVariants as answers
+use Rattle.gup_plain.specs.declared.note.What.TheVariants.{Silent}
+use Rattle.gup_script.specs.declared.op.Op.{Op}
+use Rattle.gup_script.specs.declared.op.Op.TheVariants.{Map, Unmap, Protect, Discard, Load, Store, Pin, Unpin, Give, Take, Transfer, Fork, Exit}
+use Rattle.gup_spec_events.specs.State.{CoreState, Job, idle, marking, moving, forking, walking, ForkStep, between, counted, lowered, cleared, copying, failing}
+use Rattle.gup_spec_events.specs.Event.{CoreEvent, happens, begin_fork, count_page, copies_page, fail_fork, put_child, fail_unborn, run}
+use Rattle.gup_spec_events.specs.Failure.{are_gone, puts_entry, puts_entries, fails}
+use Rattle.gup_spec_events.proofs.Gone.{no_puts}
+use Rattle.gup_law_base.specs.Sound.{Forking, forking_of}
+use Rattle.gup_spec_journal.specs.Place.{Place, Doer, birth_by, birth_for, place_behind}
+use Rattle.gup_spec_turns.specs.Cost.{mapped_by, fork_turns, fork_left, GoesOn, IsWithinBound}
+use Rattle.gup_spec_turns.specs.Pages.{mapped_pages, pages_from}
+use Rattle.gup_spec_turns.specs.ForkPlace.{ForkPlace, copying_place, fork_place, place_in, IsForking, StandsFork}
+use Rattle.gup_spec_turns.specs.Reached.{unbegun, from_page, at_page, wants_frame, at_word}
+use Rattle.gup_spec_turns.specs.Taken.{Taken, answers_with, free_frame}
+use Rattle.gup_spec_turns.specs.ForkTurns.{first_behind, next_page, page_turn, next_turn, share_turn, frame_turn, copy_turn, copying_turn, fork_turn}
+use Rattle.gup_spec_turns.specs.Turn.{op_turn, turn_at, failed_turn, turn_of}
+use Rattle.gup_law_costs.proofs.Bounds.{StandsShort, IsMoved, still, TakesCost, takes_cost}
+use Rattle.gup_law_costs.proofs.PinBounds.{op_moved, kept_rights}
+use Rattle.gup_law_turns.proofs.Mapped.{mapped_none, pages_few, pages_behind}
+use Rattle.gup_law_turns.proofs.Puts.{put_same, put_other, some_same}
+use Rattle.gup_law_turns.proofs.Searches.{IsLowest, lowest_some}
+use Rattle.gup_law_turns.proofs.Shapes.{IsOfProcess, child_of}
+use Rattle.gup_law_turns.proofs.Turned.{idle_place, run_behind}
+
+-- A turn leaves the pages of all processes but its own, or the child that it brings, and those of each that grows while
+-- another actor keeps its parent's structure lock. It leaves the jobs of other actors and what these have prepared, takes
+-- of the cost, and is within its bound.
+pub record IsSpent (s : CoreState) (a p : ℕ) (place : Place) (op : Op) (turn : Taken) : Type 0 where
+  pub others : (q : ℕ) → (q == child_of p (Some op)) ≡ false → (run s turn.events).right q ≡ s.right q
+  pub grown : (q parent b : ℕ) → s.birth q ≡ growing parent → s.structure parent ≡ Some b → (b == a) ≡ false → (run s turn.events).right q ≡ s.right q
+  pub jobs : (b : ℕ) → (b == a) ≡ false → (run s turn.events).job b ≡ s.job b
+  pub prepared : (b : ℕ) → (b == a) ≡ false → (run s turn.events).prepared b ≡ s.prepared b
+  pub takes : TakesCost s (run s turn.events) a op place (place_behind place turn.whats) (mapped_pages (s.right (child_of p (Some op)))) (mapped_pages ((run s turn.events).right (child_of p (Some op))))
+  pub bound : IsWithinBound op a p place (place_behind place turn.whats) s (run s turn.events)
+  pub gained : (q : ℕ) → s.birth q ≡ born → mapped_pages ((run s turn.events).right q) ≤ mapped_pages (s.right q) + mapped_by op
+
+-- a process of the same pages has gained none
+no_more : (f g : ℕ → Option Rights) (n : ℕ) → f ≡ g → mapped_pages f ≤ mapped_pages g + n
+no_more f g n same = let pages = ap mapped_pages same in omega (arith, pages)
+
+-- two processes of which one is born and the other isn't
+apart_born : (births : ℕ → Birth) (p q : ℕ) (b : Birth) → births p ≡ b → (b ≡ born → ⊥) → births q ≡ born → (q == p) ≡ false
+apart_born births p q b is other birth = go (q == p) refl
+  where
+    go : (c : Bool) → (q == p) ≡ c → c ≡ false
+    go true same =
+        let one : q ≡ p = grind (arith, nat_tests) in
+        absurd (other (sym is ∙ sym (ap births one) ∙ birth))
+    go false same = refl
+
+unborn_born : unborn ≡ born → ⊥
+unborn_born is = cc is
+
+growing_born : (parent : ℕ) → growing parent ≡ born → ⊥
+growing_born parent is = cc is
+
+-- two processes of which one grows and the other doesn't
+apart_grown : (births : ℕ → Birth) (p q parent : ℕ) (b : Birth) → births p ≡ b → (b ≡ growing parent → ⊥) → births q ≡ growing parent → (q == p) ≡ false
+apart_grown births p q parent b is other grows = go (q == p) refl
+  where
+    go : (c : Bool) → (q == p) ≡ c → c ≡ false
+    go true same =
+        let one : q ≡ p = grind (arith, nat_tests) in
+        absurd (other (sym is ∙ sym (ap births one) ∙ grows))
+    go false same = refl
+
+born_grown : (parent : ℕ) → born ≡ growing parent → ⊥
+born_grown parent is = cc is
+
+unborn_grown : (parent : ℕ) → unborn ≡ growing parent → ⊥
+unborn_grown parent is = cc is
+
+same_parent : {p q : ℕ} → growing p ≡ growing q → p ≡ q
+same_parent is = cc
+
+-- two that grow while different actors keep their parents' structure locks
+apart_locked : (s : CoreState) (p q parent a b : ℕ) → s.birth p ≡ growing parent → s.structure parent ≡ Some a → (other : ℕ) → s.birth q ≡ growing other → s.structure other ≡ Some b → (b == a) ≡ false → (q == p) ≡ false
+apart_locked s p q parent a b grows locked other grows_too locked_too apart = go (q == p) refl
+  where
+    go : (c : Bool) → (q == p) ≡ c → c ≡ false
+    go true same =
+        let one : q ≡ p = grind (arith, nat_tests) in
+        let parents : parent ≡ other = same_parent (sym grows ∙ sym (ap s.birth one) ∙ grows_too) in
+        let holders : a ≡ b = some_same (sym locked ∙ ap s.structure parents ∙ locked_too) in
+        absurd (let no : ⊥ = grind (arith, nat_tests) in no)
+    go false same = refl
+
+-- a fork stands in the middle
+abbrev IsMiddle : ForkPlace → Type 0
+IsMiddle unbegun = ⊥
+IsMiddle (from_page page) = Unit {0}
+IsMiddle (at_page page) = Unit {0}
+IsMiddle (wants_frame page) = Unit {0}
+IsMiddle (at_word page word to) = Unit {0}
+
+-- there its turns are all that it costs
+left_turns : (right : ℕ → Option Rights) (x : ForkPlace) → IsMiddle x → fork_left right x ≡ fork_turns right x
+left_turns right unbegun middle = absurd middle
+left_turns right (from_page page) middle = refl
+left_turns right (at_page page) middle = refl
+left_turns right (wants_frame page) middle = refl
+left_turns right (at_word page word to) middle = refl
+
+-- a copy that has begun is in the middle, and costs at most as much as one that wants its frame
+copying_middle : (page word : ℕ) (prepared : Option ℕ) → IsMiddle (copying_place page word prepared)
+copying_middle page word None = tt
+copying_middle page word (Some to) = tt
+
+copying_few : (right : ℕ → Option Rights) (page word : ℕ) (prepared : Option ℕ) → fork_turns right (copying_place page word prepared) ≤ 515 * pages_from right (page + 1) + 515
+copying_few right page word None = omega arith
+copying_few right page word (Some to) = omega arith
+
+-- where a fork stands, by its actor's job and the frame that this has prepared
+pub place_by : (t : CoreState) (a : ℕ) (job : Job) (prepared : Option ℕ) → t.job a ≡ job → t.prepared a ≡ prepared → place_in t a ≡ fork_place job prepared
+place_by t a job prepared is has = ap (λ (j : Job). fork_place j (t.prepared a)) is ∙ ap (fork_place job) has
+
+module _ (a p c : ℕ) (done : List ℕ) where
+  -- The references of a failed child that are given back leave all mappings, other actors' jobs, and what actors have prepared.
+  record GivesBack (s t : CoreState) : Type 0 where
+    right : t.right ≡ s.right
+    others : (b : ℕ) → (b == a) ≡ false → t.job b ≡ s.job b
+    prepared : t.prepared ≡ s.prepared
+
+  gives_both : (s t u : CoreState) → GivesBack s t → GivesBack t u → GivesBack s u
+  gives_both s t u now later =
+      record {
+        right = later.right ∙ now.right;
+        others = λ b other. later.others b other ∙ now.others b other;
+        prepared = later.prepared ∙ now.prepared;
+      }
+
+  puts_one : (s : CoreState) (page : ℕ) (entry : Option Entry) (ends : Bool) → GivesBack s (run s (puts_entry a p c done page entry ends))
+  puts_one s page None ends = record { right = refl; others = λ b other. refl; prepared = refl }
+  puts_one s page (Some e) true = record { right = refl; others = λ b other. put_other a b idle s.job other; prepared = refl }
+  puts_one s page (Some e) false = record { right = refl; others = λ b other. refl; prepared = refl }
+
+  puts_all : (s : CoreState) (entry : ℕ → Option Entry) (first n : ℕ) → GivesBack s (run s (puts_entries a p c done entry first n))
+  puts_all s entry first zero = record { right = refl; others = λ b other. refl; prepared = refl }
+  puts_all s entry first (suc n) =
+      let one : List CoreEvent = puts_entry a p c done first (entry first) (are_gone entry (first + 1) n) in
+      let more : List CoreEvent = puts_entries a p c done entry (first + 1) n in
+      let t : CoreState = run s one in
+      subst (GivesBack s) (sym (run_behind s one more)) (gives_both s t (run t more) (puts_one s first (entry first) (are_gone entry (first + 1) n)) (puts_all t entry (first + 1) n))
+
+  -- with the last of them the actor is in the middle of nothing
+  puts_end : (s : CoreState) (entry : ℕ → Option Entry) (first n : ℕ) → are_gone entry first n ≡ false → (run s (puts_entries a p c done entry first n)).job a ≡ idle
+  puts_end s entry first zero some = absurd (cc)
+  puts_end s entry first (suc n) some =
+      at_entry (entry first) some (λ t left. puts_end t entry (first + 1) n left)
+    where
+      rest : List CoreEvent
+      rest = puts_entries a p c done entry (first + 1) n
+
+      Later : Type 0
+      Later = (t : CoreState) → are_gone entry (first + 1) n ≡ false → (run t rest).job a ≡ idle
+
+      by_last : (e : Entry) (ends : Bool) → are_gone entry (first + 1) n ≡ ends → Later → (run (happens s (put_child a p c done first e ends)) rest).job a ≡ idle
+      by_last e true gone later =
+          ap (λ (es : List CoreEvent). (run (happens s (put_child a p c done first e true)) es).job a) (no_puts a p c done entry (first + 1) n gone)
+          ∙ put_same a idle s.job
+      by_last e false gone later = later (happens s (put_child a p c done first e false)) gone
+
+      at_entry : (here : Option Entry) → not (is_some here) && are_gone entry (first + 1) n ≡ false → Later → (run s (puts_entry a p c done first here (are_gone entry (first + 1) n) ++ rest)).job a ≡ idle
+      at_entry None left later = later s left
+      at_entry (Some e) left later = by_last e (are_gone entry (first + 1) n) refl later
+
+  -- the failure of a fork: its child has no mappings, and its actor is in the middle of nothing
+  record IsFailed (s t : CoreState) : Type 0 where
+    right : t.right ≡ put c (λ _. None) s.right
+    own : t.job a ≡ idle
+    others : (b : ℕ) → (b == a) ≡ false → t.job b ≡ s.job b
+    prepared : t.prepared ≡ s.prepared
+
+  fails_by : (s : CoreState) (step : ForkStep) (entry : ℕ → Option Entry) (n : ℕ) (ends : Bool) → are_gone entry 0 n ≡ ends → IsFailed s (run (happens s (fail_fork a p c done step ends)) (puts_entries a p c done entry 0 n))
+  fails_by s step entry n true gone =
+      subst (λ (es : List CoreEvent). IsFailed s (run (happens s (fail_fork a p c done step true)) es)) (sym (no_puts a p c done entry 0 n gone))
+      (record { right = refl; own = put_same a idle s.job; others = λ b other. put_other a b idle s.job other; prepared = refl })
+  fails_by s step entry n false gone =
+      let t : CoreState = happens s (fail_fork a p c done step false) in
+      let back = puts_all t entry 0 n in
+      record {
+        right = back.right;
+        own = puts_end t entry 0 n gone;
+        others = λ b other. back.others b other ∙ put_other a b (forking p c done failing) s.job other;
+        prepared = back.prepared;
+      }
+
+  fails_so : (s : CoreState) (step : ForkStep) (entry : ℕ → Option Entry) → IsFailed s (run s (fails a p c done step entry))
+  fails_so s step entry = fails_by s step entry page_numbers (are_gone entry 0 page_numbers) refl
+
+module _ (s : CoreState) (a p : ℕ) (place : Place) where
+  -- an operation that isn't a fork
+  moved_spent : (op : Op) (turn : Taken) → child_of p (Some op) ≡ p → ((q parent : ℕ) → s.birth q ≡ growing parent → (run s turn.events).right q ≡ s.right q) → StandsShort s a op place → IsMoved s a p place op turn → IsSpent s a p place op turn
+  moved_spent op turn own grown short moved =
+      let t : CoreState = run s turn.events in
+      let takes = takes_cost op a p place (place_behind place turn.whats) s t short moved.jobs.idle moved.gained moved.bound in
+      record {
+        others = λ q other. moved.others q (subst (λ (k : ℕ). (q == k) ≡ false) own other);
+        grown = λ q parent b grows locked apart. grown q parent grows;
+        jobs = moved.jobs.others;
+        prepared = moved.jobs.prepared;
+        takes = subst (λ (k : ℕ). TakesCost s t a op place (place_behind place turn.whats) (mapped_pages (s.right k)) (mapped_pages (t.right k))) (sym own) takes;
+        bound = moved.bound;
+        gained = λ q birth. gains q (q == p) refl;
+      }
+    where
+      gains : (q : ℕ) (c : Bool) → (q == p) ≡ c → mapped_pages ((run s turn.events).right q) ≤ mapped_pages (s.right q) + mapped_by op
+      gains q true same =
+          subst (λ (k : ℕ). mapped_pages ((run s turn.events).right k) ≤ mapped_pages (s.right k) + mapped_by op) (sym (eqb-true q p same)) moved.gained
+      gains q false other = no_more ((run s turn.events).right q) (s.right q) (mapped_by op) (moved.others q other)
+
+  -- of a born process
+  page_op_spent : (slots : ℕ) (op : Op) → child_of p (Some op) ≡ p → s.birth p ≡ born → (s.job a ≡ idle) × StandsShort s a op place → IsSpent s a p place op (op_turn s a p slots place.far op)
+  page_op_spent slots op own birth stands =
+      let moved = op_moved s a p place stands.0 slots op stands.1 in
+      moved_spent op (op_turn s a p slots place.far op) own (λ q parent grows. moved.others q (apart_grown s.birth p q parent born birth (born_grown parent) grows)) stands.1 moved
+
+  -- of whoever holds a pin
+  handle_op_spent : (slots : ℕ) (op : Op) → child_of p (Some op) ≡ p → (IsOfProcess op → ⊥) → (s.job a ≡ idle) × StandsShort s a op place → IsSpent s a p place op (op_turn s a p slots place.far op)
+  handle_op_spent slots op own none stands =
+      let same = kept_rights s a p slots place.far op none in
+      moved_spent op (op_turn s a p slots place.far op) own (λ q parent grows. ap (λ (f : ℕ → ℕ → Option Rights). f q) same) stands.1 (op_moved s a p place stands.0 slots op stands.1)
+
+  -- of a failed process: it is refused
+  refused_spent : (op : Op) → child_of p (Some op) ≡ p → (s.job a ≡ idle) × StandsShort s a op place → IsSpent s a p place op (answers_with answers.Unborn)
+  refused_spent op own stands =
+      moved_spent op (answers_with answers.Unborn) own (λ q parent grows. refl) stands.1 (still s a p place stands.0 op (answers_with answers.Unborn) refl refl refl refl)
+
+  -- forks
+
+  module _ (child : ℕ) where
+    -- a fork goes on from one place in the middle to another, and leaves all mappings
+    fork_goes : (turn : Taken) (x y : ForkPlace) → IsMiddle x → IsMiddle y → place_in s a ≡ x → place_in (run s turn.events) a ≡ y → (run s turn.events).right ≡ s.right → ((b : ℕ) → (b == a) ≡ false → (run s turn.events).job b ≡ s.job b) → ((b : ℕ) → (b == a) ≡ false → (run s turn.events).prepared b ≡ s.prepared b) → GoesOn place (place_behind place turn.whats) → fork_turns (s.right child) y < fork_turns (s.right child) x → IsSpent s a p place (Fork child) turn
+    fork_goes turn x y from to was is same jobs prepared goes less =
+        let t : CoreState = run s turn.events in
+        let before : fork_turns (s.right child) (place_in s a) ≡ fork_turns (s.right child) x = ap (fork_turns (s.right child)) was in
+        let after : fork_turns (t.right child) (place_in t a) ≡ fork_turns (s.right child) y =
+        ap (fork_turns (t.right child)) is ∙ ap (λ (f : ℕ → ℕ → Option Rights). fork_turns (f child) y) same in
+        let left_before : fork_left (s.right child) (place_in s a) ≡ fork_turns (s.right child) x = ap (fork_left (s.right child)) was ∙ left_turns (s.right child) x from in
+        let left_after : fork_left (t.right child) (place_in t a) ≡ fork_turns (s.right child) y =
+        ap (fork_left (t.right child)) is ∙ ap (λ (f : ℕ → ℕ → Option Rights). fork_left (f child) y) same ∙ left_turns (s.right child) y to in
+        let pages : mapped_pages (t.right child) ≡ mapped_pages (s.right child) = ap (λ (f : ℕ → ℕ → Option Rights). mapped_pages (f child)) same in
+        record {
+          others = λ q other. ap (λ (f : ℕ → ℕ → Option Rights). f q) same;
+          grown = λ q parent b grows locked apart. ap (λ (f : ℕ → ℕ → Option Rights). f q) same;
+          jobs = jobs;
+          prepared = prepared;
+          takes = inr (goes.0, omega (arith, left_before, left_after, pages, less));
+          bound = inr (goes, omega (arith, before, after, less));
+          gained = λ q birth. no_more (t.right q) (s.right q) 0 (ap (λ (f : ℕ → ℕ → Option Rights). f q) same);
+        }
+
+    -- its beginning
+    begin_spent : s.job a ≡ idle → s.birth child ≡ unborn → mapped_pages (s.right p) ≤ 1024 → IsSpent s a p place (Fork child) (fork_turn s a p child idle)
+    begin_spent rests birth few =
+        let t : CoreState = happens s (begin_fork a p child) in
+        let right : t.right child ≡ s.right p = put_same child (s.right p) s.right in
+        let was : place_in s a ≡ unbegun = idle_place s a rests in
+        let is : place_in t a ≡ from_page 0 = place_by t a (forking p child [] between) (s.prepared a) (put_same a (forking p child [] between) s.job) refl in
+        let most = pages_few 0 (s.right p) in
+        let before : fork_turns (s.right child) (place_in s a) ≡ 527362 = ap (fork_turns (s.right child)) was in
+        let after : fork_turns (t.right child) (place_in t a) ≡ 515 * pages_from (s.right p) 0 + 1 =
+        ap (fork_turns (t.right child)) is ∙ ap (λ (f : ℕ → Option Rights). 515 * pages_from f 0 + 1) right in
+        let left_before : fork_left (s.right child) (place_in s a) ≡ 528386 = ap (fork_left (s.right child)) was in
+        let left_after : fork_left (t.right child) (place_in t a) ≡ 515 * pages_from (s.right p) 0 + 1 =
+        ap (fork_left (t.right child)) is ∙ ap (λ (f : ℕ → Option Rights). 515 * pages_from f 0 + 1) right in
+        let pages : mapped_pages (t.right child) ≡ mapped_pages (s.right p) = ap mapped_pages right in
+        record {
+          others = λ q other. put_other child q (s.right p) s.right other;
+          grown = λ q parent b grows locked apart. put_other child q (s.right p) s.right (apart_grown s.birth child q parent unborn birth (unborn_grown parent) grows);
+          jobs = λ b other. put_other a b (forking p child [] between) s.job other;
+          prepared = λ b other. refl;
+          takes = inr (refl, omega (arith, left_before, left_after, pages, most, few));
+          bound = inr ((refl, refl), omega (arith, before, after, most, few));
+          gained = λ q born_too. no_more (t.right q) (s.right q) 0 (put_other child q (s.right p) s.right (apart_born s.birth child q unborn birth unborn_born born_too));
+        }
+
+    -- its end
+    end_spent : (q c : ℕ) (done : List ℕ) → s.job a ≡ forking q c done between → IsSpent s a p place (Fork child) (next_turn s a p child done None)
+    end_spent q c done is =
+        let t : CoreState = run s (next_turn s a p child done None).events in
+        let left : fork_left (s.right child) (place_in s a) ≡ 515 * pages_from (s.right child) (first_behind done) + 1 = ap (λ (j : Job). fork_left (s.right child) (fork_place j (s.prepared a))) is in
+        record {
+          others = λ q other. refl;
+          grown = λ q parent b grows locked apart. refl;
+          jobs = λ b other. put_other a b idle s.job other;
+          prepared = λ b other. refl;
+          takes = inl (refl, put_same a idle s.job, omega (arith, left));
+          bound = inl refl;
+          gained = λ q birth. no_more (t.right q) (s.right q) 0 refl;
+        }
+
+    -- the page that is next
+    page_spent : (q c : ℕ) (done : List ℕ) (page : ℕ) (entry : Option Entry) → s.job a ≡ forking q c done between → next_page (s.right child) done ≡ Some page → IsSpent s a p place (Fork child) (page_turn s a p child done page entry)
+    page_spent q c done page entry is next =
+        let found : IsLowest (first_behind done) (page_numbers - first_behind done) (λ (g : ℕ). is_some (s.right child g)) page =
+        lowest_some (first_behind done) (page_numbers - first_behind done) page (λ (g : ℕ). is_some (s.right child g)) next in
+        let least : first_behind done ≤ page = found.from in
+        let inside : page < first_behind done + (page_numbers - first_behind done) = found.below in
+        let fewer = pages_behind (first_behind done) page (s.right child) least (omega arith) found.passes in
+        go entry fewer
+      where
+        was : place_in s a ≡ from_page (first_behind done)
+        was = ap (λ (j : Job). fork_place j (s.prepared a)) is
+
+        -- whether it is to be copied or to be shared
+        counts : (e : Entry) (copies : Bool) → pages_from (s.right child) (page + 1) < pages_from (s.right child) (first_behind done) → IsSpent s a p place (Fork child) (record { events = count_page a p child done page e copies ∷ []; whats = Silent ∷ [] })
+        counts e true fewer =
+            let turn : Taken = record { events = count_page a p child done page e true ∷ []; whats = Silent ∷ [] } in
+            let job : Job = forking p child done (copying page 0) in
+            let few = copying_few (s.right child) page 0 (s.prepared a) in
+            fork_goes turn (from_page (first_behind done)) (copying_place page 0 (s.prepared a)) tt (copying_middle page 0 (s.prepared a)) was
+            (place_by (run s turn.events) a job (s.prepared a) (put_same a job s.job) refl) refl (λ b other. put_other a b job s.job other) (λ b other. refl) (refl, refl) (omega (arith, few, fewer))
+        counts e false fewer =
+            let turn : Taken = record { events = count_page a p child done page e false ∷ []; whats = Silent ∷ [] } in
+            let job : Job = forking p child done (counted page) in
+            fork_goes turn (from_page (first_behind done)) (at_page page) tt tt was
+            (place_by (run s turn.events) a job (s.prepared a) (put_same a job s.job) refl) refl (λ b other. put_other a b job s.job other) (λ b other. refl) (refl, refl) (omega (arith, fewer))
+
+        go : (entry : Option Entry) → pages_from (s.right child) (page + 1) < pages_from (s.right child) (first_behind done) → IsSpent s a p place (Fork child) (page_turn s a p child done page entry)
+        go None fewer =
+            let turn : Taken = page_turn s a p child done page None in
+            let job : Job = forking p child (page ∷ done) between in
+            fork_goes turn (from_page (first_behind done)) (from_page (page + 1)) tt tt was
+            (place_by (run s turn.events) a job (s.prepared a) (put_same a job s.job) refl) refl (λ b other. put_other a b job s.job other) (λ b other. refl) (refl, refl) (omega (arith, fewer))
+        go (Some e) fewer = counts e (copies_page s p e.frame) fewer
+
+    -- the page that was counted is shared
+    share_spent : (q c : ℕ) (done : List ℕ) (page : ℕ) (entry : Option Entry) → s.job a ≡ forking q c done (counted page) → IsSpent s a p place (Fork child) (share_turn a p child done page entry)
+    share_spent q c done page entry is =
+        let turn : Taken = share_turn a p child done page entry in
+        let one : Job = forking p child done (lowered page) in
+        let two : Job = forking p child done (cleared page) in
+        let job : Job = forking p child (page ∷ done) between in
+        let last : ℕ → Job = put a two (put a one s.job) in
+        fork_goes turn (at_page page) (from_page (page + 1)) tt tt (ap (λ (j : Job). fork_place j (s.prepared a)) is)
+        (place_by (run s turn.events) a job (s.prepared a) (put_same a job last) refl) refl
+        (λ b other. put_other a b job last other ∙ put_other a b two (put a one s.job) other ∙ put_other a b one s.job other) (λ b other. refl) (refl, refl) (omega arith)
+
+    -- where no frame is free for its copy the fork fails
+    fail_spent : (q c : ℕ) (done : List ℕ) (page word : ℕ) → IsForking s a p child q c done → IsSpent s a p place (Fork child) (frame_turn s a p child done page word None)
+    fail_spent q c done page word forks =
+        let turn : Taken = frame_turn s a p child done page word None in
+        let t : CoreState = run s turn.events in
+        let lost = fails_so a p child done s (copying page word) (s.entry child) in
+        let none : ℕ → Option Rights = λ _. None in
+        let row : t.right child ≡ none = ap (λ (f : ℕ → ℕ → Option Rights). f child) lost.right ∙ put_same child none s.right in
+        let pages : mapped_pages (t.right child) ≡ 0 = ap mapped_pages row ∙ mapped_none none (λ k. refl) in
+        let left = some_left (s.right child) (place_in s a) in
+        record {
+          others = λ q other. ap (λ (f : ℕ → ℕ → Option Rights). f q) lost.right ∙ put_other child q none s.right other;
+          grown = λ q parent b grows locked apart.
+              ap (λ (f : ℕ → ℕ → Option Rights). f q) lost.right ∙ put_other child q none s.right (apart_locked s child q p a b forks.birth forks.locked parent grows locked apart);
+          jobs = lost.others;
+          prepared = λ b other. ap (λ (f : ℕ → Option ℕ). f b) lost.prepared;
+          takes = inl (refl, lost.own, omega (arith, pages, left));
+          bound = inl refl;
+          gained = λ q birth.
+              no_more (t.right q) (s.right q) 0 (ap (λ (f : ℕ → ℕ → Option Rights). f q) lost.right ∙ put_other child q none s.right (apart_born s.birth child q (growing p) forks.birth (growing_born p) birth));
+        }
+      where
+        some_left : (right : ℕ → Option Rights) (x : ForkPlace) → 0 < fork_left right x
+        some_left right unbegun = omega arith
+        some_left right (from_page page) = omega arith
+        some_left right (at_page page) = omega arith
+        some_left right (wants_frame page) = omega arith
+        some_left right (at_word page word to) = omega arith
+
+    -- the counted page is copied: the frame for it, its words, and its place in the child
+    copying_spent : (q c : ℕ) (done : List ℕ) (page word : ℕ) (prepared : Option ℕ) → s.job a ≡ forking q c done (copying page word) → s.prepared a ≡ prepared → IsForking s a p child q c done → IsSpent s a p place (Fork child) (copying_turn s a p child done page word prepared)
+    copying_spent q c done page word None is has forks = takes (free_frame s)
+      where
+        takes : (free : Option ℕ) → IsSpent s a p place (Fork child) (frame_turn s a p child done page word free)
+        takes None = fail_spent q c done page word forks
+        takes (Some f) =
+            let turn : Taken = frame_turn s a p child done page word (Some f) in
+            fork_goes turn (wants_frame page) (at_word page word f) tt tt (place_by s a (forking q c done (copying page word)) None is has)
+            (place_by (run s turn.events) a (forking q c done (copying page word)) (Some f) is (put_same a (Some f) s.prepared)) refl (λ b other. refl) (λ b other. put_other a b (Some f) s.prepared other) (refl, refl) (omega arith)
+    copying_spent q c done page word (Some to) is has forks = copies (nat_lt word words) refl
+      where
+        was : place_in s a ≡ at_word page word to
+        was = place_by s a (forking q c done (copying page word)) (Some to) is has
+
+        copies : (more : Bool) → nat_lt word words ≡ more → IsSpent s a p place (Fork child) (copy_turn s a p child done page word to more)
+        copies true test =
+            let turn : Taken = copy_turn s a p child done page word to true in
+            let job : Job = forking p child done (copying page (word + 1)) in
+            let inside : word < words = grind (arith, nat_tests) in
+            fork_goes turn (at_word page word to) (at_word page (word + 1) to) tt tt was
+            (place_by (run s turn.events) a job (Some to) (put_same a job s.job) has) refl (λ b other. put_other a b job s.job other) (λ b other. refl) (refl, refl) (omega (arith, inside))
+        copies false test =
+            let turn : Taken = copy_turn s a p child done page word to false in
+            let job : Job = forking p child (page ∷ done) between in
+            fork_goes turn (at_word page word to) (from_page (page + 1)) tt tt was
+            (place_by (run s turn.events) a job None (put_same a job s.job) (put_same a None s.prepared)) refl (λ b other. put_other a b job s.job other) (λ b other. put_other a b None s.prepared other) (refl, refl) (omega arith)
+
+    fork_spent : (job : Job) → s.job a ≡ job → StandsFork s a p child job (s.prepared a) → mapped_pages (s.right p) ≤ 1024 → IsSpent s a p place (Fork child) (fork_turn s a p child job)
+    fork_spent idle is stands few = begin_spent is stands few
+    fork_spent (marking q page f) is stands few = absurd stands
+    fork_spent (moving q page e allowed count) is stands few = absurd stands
+    fork_spent (walking q write long sequence step) is stands few = absurd stands
+    fork_spent (forking q c done between) is stands few = next (next_page (s.right child) done) refl
+      where
+        next : (found : Option ℕ) → next_page (s.right child) done ≡ found → IsSpent s a p place (Fork child) (next_turn s a p child done found)
+        next None same = end_spent q c done is
+        next (Some page) same = page_spent q c done page (s.entry p page) is same
+    fork_spent (forking q c done (counted page)) is stands few = share_spent q c done page (s.entry p page) is
+    fork_spent (forking q c done (lowered page)) is stands few = absurd stands
+    fork_spent (forking q c done (cleared page)) is stands few = absurd stands
+    fork_spent (forking q c done (copying page word)) is stands few = copying_spent q c done page word (s.prepared a) is refl stands.0
+    fork_spent (forking q c done failing) is stands few = absurd stands
+
+    -- one of a failed process makes its child failed too
+    unborn_spent : s.job a ≡ idle → s.birth child ≡ unborn → IsSpent s a p place (Fork child) (failed_turn a p (Fork child))
+    unborn_spent rests birth =
+        let t : CoreState = happens s (fail_unborn a p child) in
+        let none : ℕ → Option Rights = λ _. None in
+        let pages : mapped_pages (t.right child) ≡ 0 = ap mapped_pages (put_same child none s.right) ∙ mapped_none none (λ k. refl) in
+        let left : fork_left (s.right child) (place_in s a) ≡ 528386 = ap (fork_left (s.right child)) (idle_place s a rests) in
+        record {
+          others = λ q other. put_other child q none s.right other;
+          grown = λ q parent b grows locked apart. put_other child q none s.right (apart_grown s.birth child q parent unborn birth (unborn_grown parent) grows);
+          jobs = λ b other. refl;
+          prepared = λ b other. refl;
+          takes = inl (refl, rests, omega (arith, pages, left));
+          bound = inl refl;
+          gained = λ q born_too. no_more (t.right q) (s.right q) 0 (put_other child q none s.right (apart_born s.birth child q unborn birth unborn_born born_too));
+        }
+
+    -- no fork of a failed process is in the middle
+    unborn_by : (job : Job) → s.job a ≡ job → StandsFork s a p child job (s.prepared a) → ((k : Forking) → forking_of job ≡ Some k → s.birth k.proc ≡ born) → s.birth p ≡ failed → IsSpent s a p place (Fork child) (failed_turn a p (Fork child))
+    unborn_by idle is stands parent lost = unborn_spent is stands
+    unborn_by (marking q page f) is stands parent lost = absurd stands
+    unborn_by (moving q page e allowed count) is stands parent lost = absurd stands
+    unborn_by (walking q write long sequence step) is stands parent lost = absurd stands
+    unborn_by (forking q c done step) is stands parent lost = absurd (born_failed step stands)
+      where
+        not_both : q ≡ p → ⊥
+        not_both own =
+            let birth : s.birth q ≡ born = parent (record { proc = q; child = c; done = done; step = step }) refl in
+            cc (sym birth ∙ ap s.birth own ∙ lost)
+
+        born_failed : (x : ForkStep) → StandsFork s a p child (forking q c done x) (s.prepared a) → ⊥
+        born_failed between there = not_both there.parent
+        born_failed (counted page) there = not_both there.0.parent
+        born_failed (lowered page) there = there
+        born_failed (cleared page) there = there
+        born_failed (copying page word) there = not_both there.0.parent
+        born_failed failing there = there
+
+  -- where an operation stands: its actor is idle, unless it forks
+  abbrev pub StandsAt : Op → Type 0
+  StandsAt (Fork child) = StandsFork s a p child (s.job a) (s.prepared a)
+  StandsAt op = (s.job a ≡ idle) × StandsShort s a op place
+
+  -- every operation of a born process, or of whoever waits for no birth
+  op_spent : (slots : ℕ) (op : Op) → (IsOfProcess op → s.birth p ≡ born) → mapped_pages (s.right p) ≤ 1024 → StandsAt op → IsSpent s a p place op (op_turn s a p slots place.far op)
+  op_spent slots (Fork child) birth few stands = fork_spent child (s.job a) refl stands few
+  op_spent slots (Map page n rights) birth few stands = page_op_spent slots (Map page n rights) refl (birth tt) stands
+  op_spent slots (Unmap page n) birth few stands = page_op_spent slots (Unmap page n) refl (birth tt) stands
+  op_spent slots (Protect page n rights) birth few stands = page_op_spent slots (Protect page n rights) refl (birth tt) stands
+  op_spent slots (Discard page n) birth few stands = page_op_spent slots (Discard page n) refl (birth tt) stands
+  op_spent slots (Load page word) birth few stands = page_op_spent slots (Load page word) refl (birth tt) stands
+  op_spent slots (Store page word value) birth few stands = page_op_spent slots (Store page word value) refl (birth tt) stands
+  op_spent slots (Pin handle page n write) birth few stands = page_op_spent slots (Pin handle page n write) refl (birth tt) stands
+  op_spent slots (Unpin handle) birth few stands = handle_op_spent slots (Unpin handle) refl (λ e. e) stands
+  op_spent slots (Give handle to) birth few stands = handle_op_spent slots (Give handle to) refl (λ e. e) stands
+  op_spent slots (Take handle) birth few stands = handle_op_spent slots (Take handle) refl (λ e. e) stands
+  op_spent slots (Transfer handle outward index slot n) birth few stands = handle_op_spent slots (Transfer handle outward index slot n) refl (λ e. e) stands
+  op_spent slots Exit birth few stands = page_op_spent slots Exit refl (birth tt) stands
+
+  -- every operation of a thread of a failed process
+  failed_spent : (op : Op) → s.birth p ≡ failed → ((k : Forking) → forking_of (s.job a) ≡ Some k → s.birth k.proc ≡ born) → StandsAt op → IsSpent s a p place op (failed_turn a p op)
+  failed_spent (Fork child) lost parent stands = unborn_by child (s.job a) refl stands parent lost
+  failed_spent (Map page n rights) lost parent stands = refused_spent (Map page n rights) refl stands
+  failed_spent (Unmap page n) lost parent stands = refused_spent (Unmap page n) refl stands
+  failed_spent (Protect page n rights) lost parent stands = refused_spent (Protect page n rights) refl stands
+  failed_spent (Discard page n) lost parent stands = refused_spent (Discard page n) refl stands
+  failed_spent (Load page word) lost parent stands = refused_spent (Load page word) refl stands
+  failed_spent (Store page word value) lost parent stands = refused_spent (Store page word value) refl stands
+  failed_spent (Pin handle page n write) lost parent stands = refused_spent (Pin handle page n write) refl stands
+  failed_spent (Unpin handle) lost parent stands = refused_spent (Unpin handle) refl stands
+  failed_spent (Give handle to) lost parent stands = refused_spent (Give handle to) refl stands
+  failed_spent (Take handle) lost parent stands = refused_spent (Take handle) refl stands
+  failed_spent (Transfer handle outward index slot n) lost parent stands = refused_spent (Transfer handle outward index slot n) refl stands
+  failed_spent Exit lost parent stands = refused_spent Exit refl stands
+
+-- only a thread is of a failed process
+failed_proc : (who : Doer) (births : ℕ → Birth) → birth_for births who ≡ failed → births who.proc ≡ failed
+failed_proc who births is = go who.thread is
+  where
+    go : (t : Bool) → birth_by t (births who.proc) ≡ failed → births who.proc ≡ failed
+    go true lost = lost
+    go false lost = absurd (cc lost)
+
+-- the turn of whoever is of a born process, or of a failed one
+pub turn_spent : (s : CoreState) (who : Doer) (place : Place) (op : Op) → (birth_for s.birth who ≡ born) ⊎ (birth_for s.birth who ≡ failed) → (IsOfProcess op → s.birth who.proc ≡ birth_for s.birth who) → ((k : Forking) → forking_of (s.job who.actor) ≡ Some k → s.birth k.proc ≡ born) → mapped_pages (s.right who.proc) ≤ 1024 → StandsAt s who.actor who.proc place op → IsSpent s who.actor who.proc place op (turn_of s who place.far op)
+turn_spent s who place op (inl birth) own parent few stands =
+    subst (λ (b : Birth). IsSpent s who.actor who.proc place op (turn_at b (failed_turn who.actor who.proc op) (op_turn s who.actor who.proc who.slots place.far op))) (sym birth) (op_spent s who.actor who.proc place who.slots op (λ of. own of ∙ birth) few stands)
+turn_spent s who place op (inr lost) own parent few stands =
+    subst (λ (b : Birth). IsSpent s who.actor who.proc place op (turn_at b (failed_turn who.actor who.proc op) (op_turn s who.actor who.proc who.slots place.far op))) (sym lost) (failed_spent s who.actor who.proc place op (failed_proc who s.birth lost) parent stands)

@@ -1,0 +1,9 @@
+pub mod Pointer
+pub mod Holding
+pub mod Ordering
+pub mod Owning
+pub mod Following
+pub mod FollowRuns
+pub mod Ends
+pub mod Answered
+pub mod Causes

@@ -1,0 +1,67 @@
+-- What is known of each state that turns lead to, whoever takes them.
+use Rattle.std.specs.Prelude.{◌≡◌, ℕ, ◌+◌, ◌*◌, ◌≤◌, ◌<◌, ◌==◌, Bool, true, if◌then◌else◌, List, [], length, slice_get, Option, Some, None, IsSome}
+use Rattle.gup_base.specs.declared.entry.Entry.{Entry}
+use Rattle.gup_plain.specs.Event.{page_numbers}
+use Rattle.gup_plain.specs.State.{unborn, Handle, unmade, held, given, gone}
+use Rattle.gup_script.specs.declared.op.Op.{Op}
+use Rattle.gup_script.specs.declared.op.Op.TheVariants.{Unmap, Discard, Pin, Unpin, Transfer, Fork}
+use Rattle.gup_script.specs.Limits.{most_pinned}
+use Rattle.gup_script.specs.Script.{ScriptValue}
+use Rattle.gup_spec_events.specs.State.{idle, counted}
+use Rattle.gup_spec_events.specs.Event.{bias}
+use Rattle.gup_spec_events.specs.Invariant.{Holds}
+use Rattle.gup_law_base.specs.Sound.{IsSound}
+use Rattle.gup_spec_journal.specs.Place.{ops_of, present_op, process_of}
+use Rattle.gup_spec_turns.specs.Pages.{mapped_pages}
+use Rattle.gup_spec_turns.specs.Run.{RunState}
+use Rattle.gup_spec_turns.specs.ForkPlace.{StandsFork, KeepsFrame, IsPrepared, IsNoFork}
+use Rattle.gup_spec_turns.specs.PinPlace.{IsNoPin, StandsPin}
+
+-- how many pages of a pin its holder has given back: those of the unpin that it is in the middle of
+abbrev pub given_back : Option Op → (handle far : ℕ) → ℕ
+given_back (Some (Unpin h)) handle far = if h == handle then far else 0
+given_back op handle far = 0
+
+-- A pin that is made has at most 16 pages, and all of them but those that its holder has given back; at least one is left.
+abbrev pub StandsHandle : (back : ℕ → ℕ) → (pinned : List ℕ) → Handle → Type 0
+StandsHandle back pinned unmade = pinned ≡ []
+StandsHandle back pinned gone = pinned ≡ []
+StandsHandle back pinned (held by objects write) =
+    (0 < length pinned) × (length objects ≤ most_pinned) × (length pinned + back by ≡ length objects)
+StandsHandle back pinned (given to objects write) =
+    (0 < length pinned) × (length objects ≤ most_pinned) × (length pinned ≡ length objects)
+
+abbrev pub back_in : ScriptValue → RunState → (handle a : ℕ) → ℕ
+back_in script r handle a = given_back (present_op script a (r.places a)) handle (r.places a).far
+
+-- The core state is sound, and all that is published of core states holds of it. Those that are not unborn are declared. Each
+-- entry is of a mapped page, and its frame has a reference. No actor but one that forks is in the middle of anything, none but
+-- one that pins has taken pages, and none but one that copies a page has prepared a frame. An operation that goes over pages or
+-- words stands at one of them, an unpin has given back fewer than the most pages of a pin, and no actor has answered more
+-- operations than it has. Pins are of declared handles, and the weight of each of their pages is in the count of its
+-- frame. Counts and sequences stay small.
+pub record IsStanding (script : ScriptValue) (r : RunState) : Type 0 where
+  pub sound : IsSound r.core
+  pub holds : Holds r.core
+  pub declared : (p : ℕ) → (r.core.birth p ≡ unborn → ⊥) → p < length script.processes
+  pub mapped : (p page : ℕ) (e : Entry) → r.core.entry p page ≡ Some e → IsSome (r.core.right p page)
+  pub counted : (p page : ℕ) (e : Entry) → r.core.entry p page ≡ Some e → r.core.count e.frame ≡ 0 → ⊥
+  pub few_pages : (p : ℕ) → mapped_pages (r.core.right p) ≤ 1024
+  pub few_counts : (f : ℕ) → r.core.count f ≤ 16 * page_numbers + bias * 17680
+  pub few_forks : (p : ℕ) → r.core.sequence p ≤ 32
+  pub idle_jobs : (a : ℕ) → IsNoFork (present_op script a (r.places a)) → r.core.job a ≡ idle
+  pub forks : (a child : ℕ) → present_op script a (r.places a) ≡ Some (Fork child) → StandsFork r.core a (process_of script a) child (r.core.job a) (r.core.prepared a)
+  pub keeps : (a : ℕ) → KeepsFrame (r.core.job a) (r.core.prepared a)
+  pub prepared : (a f : ℕ) → r.core.prepared a ≡ Some f → IsPrepared r.core f
+  pub untaken : (a : ℕ) → IsNoPin (present_op script a (r.places a)) → r.core.taken a ≡ []
+  pub pins : (a handle page n : ℕ) (write : Bool) → present_op script a (r.places a) ≡ Some (Pin handle page n write) → StandsPin r.core a (process_of script a) handle page n write (r.places a).far
+  pub flagged : (a handle page n : ℕ) (write : Bool) → present_op script a (r.places a) ≡ Some (Pin handle page n write) → 0 < (r.places a).far → r.core.has_pinned (process_of script a) ≡ true
+  pub handles : (h : ℕ) → StandsHandle (back_in script r h) (r.core.pinned h) (r.core.handle h)
+  pub made : (h : ℕ) → (r.core.handle h ≡ unmade → ⊥) → h < length script.handles
+  pub weighed : (h k f : ℕ) → slice_get (r.core.pinned h) k ≡ Some f → bias ≤ r.core.count f
+  pub ungot : (h : ℕ) → r.core.got h ≡ None
+  pub unmaps : (a page n : ℕ) → present_op script a (r.places a) ≡ Some (Unmap page n) → (r.places a).far < n
+  pub discards : (a page n : ℕ) → present_op script a (r.places a) ≡ Some (Discard page n) → (r.places a).far < n
+  pub unpins : (a handle : ℕ) → present_op script a (r.places a) ≡ Some (Unpin handle) → (r.places a).far < most_pinned
+  pub transfers : (a handle : ℕ) (outward : Bool) (index slot n : ℕ) → present_op script a (r.places a) ≡ Some (Transfer handle outward index slot n) → (r.places a).far < n
+  pub answered : (a : ℕ) → (r.places a).answered ≤ length (ops_of script a)

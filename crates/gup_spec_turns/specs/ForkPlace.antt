@@ -1,0 +1,114 @@
+-- Where a fork stands between two turns.
+use Rattle.std.specs.Prelude.{◌≡◌, ℕ, ◌+◌, ◌≤◌, ◌<◌, List, Contains, Option, Some, None, IsSome}
+use Rattle.gup_base.specs.declared.entry.Entry.{Entry}
+use Rattle.gup_plain.specs.Event.{words}
+use Rattle.gup_plain.specs.State.{unborn, growing}
+use Rattle.gup_script.specs.declared.op.Op.{Op}
+use Rattle.gup_script.specs.declared.op.Op.TheVariants.{Map, Unmap, Protect, Discard, Load, Store, Pin, Unpin, Give, Take, Transfer, Fork, Exit}
+use Rattle.gup_spec_events.specs.State.{CoreState, Job, idle, marking, moving, forking, walking, between, counted, lowered, cleared, copying, failing}
+use Rattle.gup_spec_turns.specs.ForkTurns.{first_behind}
+
+-- Where a fork stands between two turns: it has not begun; it looks for its next page from this one on; it has counted this
+-- page, and is to share it, or to copy it and wants a frame for that; or it has copied so many words of this page into that
+-- frame.
+pub data ForkPlace : Type 0 where
+  unbegun : ForkPlace
+  from_page : (page : ℕ) → ForkPlace
+  at_page : (page : ℕ) → ForkPlace
+  wants_frame : (page : ℕ) → ForkPlace
+  at_word : (page word to : ℕ) → ForkPlace
+
+abbrev pub copying_place : (page word : ℕ) → (prepared : Option ℕ) → ForkPlace
+copying_place page word None = wants_frame page
+copying_place page word (Some to) = at_word page word to
+
+abbrev pub fork_place : Job → (prepared : Option ℕ) → ForkPlace
+fork_place (forking p c done between) prepared = from_page (first_behind done)
+fork_place (forking p c done (counted page)) prepared = at_page page
+fork_place (forking p c done (lowered page)) prepared = unbegun
+fork_place (forking p c done (cleared page)) prepared = unbegun
+fork_place (forking p c done (copying page word)) prepared = copying_place page word prepared
+fork_place (forking p c done failing) prepared = unbegun
+fork_place idle prepared = unbegun
+fork_place (marking p page f) prepared = unbegun
+fork_place (moving p page e allowed count) prepared = unbegun
+fork_place (walking p write long sequence step) prepared = unbegun
+
+-- where the fork of this actor stands, if it does one
+abbrev pub place_in : CoreState → ℕ → ForkPlace
+place_in s a = fork_place (s.job a) (s.prepared a)
+
+-- Actor a is in the middle of a fork of process p into this child: it holds the structure lock; the child's pages below
+-- the place where it looks for the next one are done, and those from there on have no entry.
+pub record IsForking (s : CoreState) (a p child q c : ℕ) (done : List ℕ) : Type 0 where
+  pub parent : q ≡ p
+  pub into : c ≡ child
+  pub birth : s.birth child ≡ growing p
+  pub locked : s.structure p ≡ Some a
+  pub below : (page : ℕ) → Contains done page → page < first_behind done
+  pub done_all : (page : ℕ) → page < first_behind done → IsSome (s.right child page) → Contains done page
+  pub fresh : (page : ℕ) → first_behind done ≤ page → s.entry child page ≡ None
+
+-- it has counted this page, the lowest mapped one that is not done, and keeps the table lock until the page is done
+pub record HasCounted (s : CoreState) (a p child : ℕ) (done : List ℕ) (page : ℕ) : Type 0 where
+  pub above : first_behind done ≤ page
+  pub lowest : (g : ℕ) → first_behind done ≤ g → g < page → s.right child g ≡ None
+  pub locked : s.table p ≡ Some a
+  pub entry : IsSome (s.entry p page)
+  pub mapped : IsSome (s.right child page)
+
+-- of a page that it copies it has copied some words, or none yet where it wants a frame
+abbrev pub HasCopied : (word : ℕ) → (prepared : Option ℕ) → Type 0
+HasCopied word None = word ≡ 0
+HasCopied word (Some to) = word ≤ words
+
+-- where a fork of process p stands between two turns, by the job of its actor and the frame that this has prepared
+abbrev pub StandsFork : CoreState → (a p child : ℕ) → Job → (prepared : Option ℕ) → Type 0
+StandsFork s a p child idle prepared = s.birth child ≡ unborn
+StandsFork s a p child (forking q c done between) prepared = IsForking s a p child q c done
+StandsFork s a p child (forking q c done (counted page)) prepared =
+    IsForking s a p child q c done × HasCounted s a p child done page
+StandsFork s a p child (forking q c done (copying page word)) prepared =
+    IsForking s a p child q c done × HasCounted s a p child done page × HasCopied word prepared
+StandsFork s a p child (forking q c done (lowered page)) prepared = ⊥
+StandsFork s a p child (forking q c done (cleared page)) prepared = ⊥
+StandsFork s a p child (forking q c done failing) prepared = ⊥
+StandsFork s a p child (marking q page f) prepared = ⊥
+StandsFork s a p child (moving q page e allowed count) prepared = ⊥
+StandsFork s a p child (walking q write long sequence step) prepared = ⊥
+
+-- an actor keeps a frame only where its fork copies a page
+abbrev pub KeepsFrame : Job → (prepared : Option ℕ) → Type 0
+KeepsFrame idle prepared = prepared ≡ None
+KeepsFrame (marking q page f) prepared = prepared ≡ None
+KeepsFrame (moving q page e allowed count) prepared = prepared ≡ None
+KeepsFrame (walking q write long sequence step) prepared = prepared ≡ None
+KeepsFrame (forking q c done between) prepared = prepared ≡ None
+KeepsFrame (forking q c done (counted page)) prepared = prepared ≡ None
+KeepsFrame (forking q c done (lowered page)) prepared = prepared ≡ None
+KeepsFrame (forking q c done (cleared page)) prepared = prepared ≡ None
+KeepsFrame (forking q c done (copying page word)) prepared = Unit {0}
+KeepsFrame (forking q c done failing) prepared = prepared ≡ None
+
+-- a frame that an actor has prepared is one of the machine, is not free, and stands in no entry
+pub record IsPrepared (s : CoreState) (f : ℕ) : Type 0 where
+  pub there : f < s.movable + s.normal
+  pub counted : s.count f ≡ 0 → ⊥
+  pub apart : (p page : ℕ) (e : Entry) → s.entry p page ≡ Some e → f ≡ e.frame → ⊥
+
+-- an actor that has no fork to do, or none at present, is in the middle of nothing
+abbrev pub IsNoFork : Option Op → Type 0
+IsNoFork None = Unit {0}
+IsNoFork (Some (Map page n rights)) = Unit {0}
+IsNoFork (Some (Unmap page n)) = Unit {0}
+IsNoFork (Some (Protect page n rights)) = Unit {0}
+IsNoFork (Some (Discard page n)) = Unit {0}
+IsNoFork (Some (Load page word)) = Unit {0}
+IsNoFork (Some (Store page word value)) = Unit {0}
+IsNoFork (Some (Fork child)) = ⊥
+IsNoFork (Some (Pin handle page n write)) = Unit {0}
+IsNoFork (Some (Unpin handle)) = Unit {0}
+IsNoFork (Some (Give handle to)) = Unit {0}
+IsNoFork (Some (Take handle)) = Unit {0}
+IsNoFork (Some (Transfer handle outward index slot n)) = Unit {0}
+IsNoFork (Some Exit) = Unit {0}

@@ -1,0 +1,118 @@
+-- The turns of operations on pins: pin, unpin, give, take.
+use Rattle.std.specs.Prelude.{ℕ, ◌+◌, ◌-◌, ◌==◌, Bool, true, false, List, [], ◌∷◌, ◌++◌, length, take, slice_index, Ok, Err, zero, suc}
+use Rattle.gup_base.specs.declared.entry.Entry.{Entry}
+use Rattle.gup_plain.specs.declared.answer.Answer.{Answer}
+use Rattle.gup_plain.specs.declared.answer.Answer.TheVariants as answers
+use Rattle.gup_plain.specs.declared.answer.Cause.{Cause}
+use Rattle.gup_plain.specs.declared.answer.Cause.TheVariants as causes
+use Rattle.gup_plain.specs.declared.event.PlainEvent.TheVariants as events
+use Rattle.gup_plain.specs.declared.note.What.{What}
+use Rattle.gup_plain.specs.declared.note.What.TheVariants.{Silent, Event, Done}
+use Rattle.gup_script.specs.declared.op.Op.TheVariants.{Unpin, Give, Take}
+use Rattle.gup_spec_events.specs.State.{CoreState}
+use Rattle.gup_spec_events.specs.Event.{CoreEvent, raise_flag, pin_page, make_handle, unpin_page, give_handle, take_handle, run}
+use Rattle.gup_spec_events.specs.Fault.{Fault, write_fault, unshare_fault}
+use Rattle.gup_plain.specs.Denial.{is_held_by}
+use Rattle.gup_spec_turns.specs.Taken.{Taken, answers_with, free_frame, entry_in}
+
+-- pin: one page a turn
+
+-- has-pinned is set before the first page is tried
+abbrev pub raises : (a p far : ℕ) → List CoreEvent
+raises a p zero = raise_flag a p ∷ []
+raises a p (suc far) = []
+
+-- a page of a write pin needs a writable entry, one of a read pin an exclusive frame
+abbrev pub pin_fault : CoreState → (a p page : ℕ) → (write : Bool) → Fault
+pin_fault s a p page true = write_fault a p page (s.right p page) (s.entry p page) s.mark s.count (free_frame s)
+pin_fault s a p page false = unshare_fault a p page (s.right p page) (s.entry p page) s.mark s.count (free_frame s)
+
+-- the last page's turn makes the handle, and has the answer
+abbrev pub makes_if : (last : Bool) → (a handle : ℕ) → List CoreEvent
+makes_if true a handle = make_handle a handle ∷ []
+makes_if false a handle = []
+
+abbrev pub pinned_if : (last : Bool) → (a handle n : ℕ) → List What
+pinned_if true a handle n = Event (events.PinOk a handle) ∷ Done (answers.Pinned n) ∷ []
+pinned_if false a handle n = []
+
+-- behind these events the page is pinned by its entry
+abbrev pub pins_behind : List CoreEvent → (a p handle page n : ℕ) → (write last : Bool) → Entry → Taken
+pins_behind before a p handle page n write last e =
+    record {
+      events = before ++ pin_page a p page e write false ∷ makes_if last a handle;
+      whats = Event (events.PinTry a p page write) ∷ pinned_if last a handle n;
+    }
+
+abbrev pub pins : CoreState → List CoreEvent → (a p handle page n : ℕ) → (write last : Bool) → Taken
+pins s before a p handle page n write last =
+    pins_behind before a p handle page n write last (entry_in ((run s before).entry p page))
+
+-- the answer that refuses a page, as the cause of a short pin
+abbrev pub cause_of : Answer → Cause
+cause_of answers.Forbidden = causes.Forbidden
+cause_of answers.NoFrame = causes.NoFrame
+cause_of (answers.Unmovable count) = causes.Unmovable count
+cause_of answer = causes.Missing
+
+-- a page is refused: a pin that has pages has those, and one without any is refused
+abbrev pub ends_pin : (a p handle n got : ℕ) → Answer → Taken
+ends_pin a p handle n zero answer = record { events = raises a p 0; whats = Done answer ∷ [] }
+ends_pin a p handle n (suc got) answer =
+    record {
+      events = make_handle a handle ∷ [];
+      whats = Event (events.PinOk a handle) ∷ Done (answers.Short (suc got) n (cause_of answer)) ∷ [];
+    }
+
+abbrev pub pin_turn_by : Fault → CoreState → (a p handle page n far : ℕ) → (write : Bool) → Taken
+pin_turn_by (Err answer) s a p handle page n far write = ends_pin a p handle n far answer
+pin_turn_by (Ok before) s a p handle page n far write =
+    pins s (raises a p far ++ before) a p handle page n write (far + 1 == n)
+
+abbrev pub pin_turn : CoreState → (a p handle page n far : ℕ) → (write : Bool) → Taken
+pin_turn s a p handle page n far write =
+    pin_turn_by (pin_fault s a p (page + far) write) s a p handle (page + far) n far write
+
+-- unpin: the last page that the pin still has, one a turn
+
+abbrev pub last_of : List ℕ → ℕ
+last_of frames = slice_index frames (length frames - 1)
+
+abbrev pub but_last : List ℕ → List ℕ
+but_last frames = take (length frames - 1) frames
+
+-- with the last of all the pin is gone
+abbrev pub unpinned : (left : List ℕ) → (a handle : ℕ) → List What
+unpinned [] a handle = Event (events.Unpin a handle) ∷ Done answers.Plain ∷ []
+unpinned (f ∷ left) a handle = Silent ∷ []
+
+abbrev pub unpin_turn_by : (held : Bool) → (a handle : ℕ) → (pinned : List ℕ) → Taken
+unpin_turn_by false a handle pinned = answers_with answers.NotHeld
+unpin_turn_by true a handle pinned =
+    record {
+      events = unpin_page a handle (last_of pinned) (but_last pinned) ∷ [];
+      whats = unpinned (but_last pinned) a handle;
+    }
+
+abbrev pub unpin_turn : CoreState → (a handle : ℕ) → Taken
+unpin_turn s a handle = unpin_turn_by (is_held_by (s.handle handle) a) a handle (s.pinned handle)
+
+-- give and take
+
+abbrev pub give_turn_by : (held : Bool) → (a handle to : ℕ) → Taken
+give_turn_by false a handle to = answers_with answers.NotHeld
+give_turn_by true a handle to =
+    record {
+      events = give_handle a handle to ∷ [];
+      whats = Event (events.Give a handle to) ∷ Done answers.Plain ∷ [];
+    }
+
+abbrev pub give_turn : CoreState → (a handle to : ℕ) → Taken
+give_turn s a handle to = give_turn_by (is_held_by (s.handle handle) a) a handle to
+
+abbrev pub take_turn : (a handle : ℕ) → Taken
+take_turn a handle =
+    record {
+      events = take_handle a handle ∷ [];
+      whats = Event (events.Take a handle) ∷ Done answers.Plain ∷ [];
+    }

@@ -1,0 +1,49 @@
+-- What a turn is: core events and notes, and what turns of several operations have in common.
+use Rattle.std.specs.Prelude.{ℕ, ◌+◌, ◌==◌, Bool, true, false, List, [], ◌∷◌, Option, Some, None}
+use Rattle.gup_base.specs.declared.entry.Entry.{Entry}
+use Rattle.gup_plain.specs.Put.{lowest}
+use Rattle.gup_plain.specs.declared.answer.Answer.{Answer}
+use Rattle.gup_plain.specs.declared.answer.Answer.TheVariants as answers
+use Rattle.gup_plain.specs.declared.note.What.{What}
+use Rattle.gup_plain.specs.declared.note.What.TheVariants.{Silent, Done}
+use Rattle.gup_spec_events.specs.State.{CoreState}
+use Rattle.gup_spec_events.specs.Event.{CoreEvent}
+
+-- a turn: its core events in order, and its notes
+pub record Taken : Type 0 where
+  pub events : List CoreEvent
+  pub whats : List What
+
+-- a turn that changes nothing and ends the operation
+abbrev pub answers_with : Answer → Taken
+answers_with answer = record { events = []; whats = Done answer ∷ [] }
+
+-- The frame that a fault takes: the lowest free one of the movable zone, else the lowest free one of the normal
+-- zone. The movable frames have the lower numbers.
+abbrev pub free_frame : CoreState → Option ℕ
+free_frame s = lowest 0 (s.movable + s.normal) (λ f. s.count f == 0)
+
+-- the entry that the page has, seen as a frame and whether it may be written
+abbrev pub frame_in : Option Entry → ℕ
+frame_in None = 0
+frame_in (Some e) = e.frame
+
+-- does the entry allow a store?
+abbrev pub allows_store : Option Entry → Bool
+allows_store None = false
+allows_store (Some e) = e.writable
+
+-- unmap: one page a turn
+
+-- the last page's turn has the answer too
+abbrev pub done_if : (last : Bool) → List What
+done_if true = Done answers.Plain ∷ []
+done_if false = []
+
+abbrev pub silent_or_done : (last : Bool) → List What
+silent_or_done true = Done answers.Plain ∷ []
+silent_or_done false = Silent ∷ []
+
+abbrev pub entry_in : Option Entry → Entry
+entry_in None = record { frame = 0; writable = false }
+entry_in (Some e) = e
