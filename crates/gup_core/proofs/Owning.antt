@@ -19,7 +19,7 @@ use Rattle.gup_spec_turns.specs.PageTurns.{load_fault, loads_after, store_fault_
 use Rattle.gup_spec_turns.specs.Taken.{allows_store, free_frame}
 use Rattle.gup_spec_turns.specs.ForkPlace.{fork_place, place_in}
 use Rattle.gup_spec_turns.specs.Reached.{unbegun}
-use Rattle.gup_ops.specs.Alone.{IsAlone}
+use Rattle.gup_op_pages.specs.Alone.{IsAlone}
 
 -- an event of a turn of actor a over process p
 pub data IsOwn (a p : ℕ) : CoreEvent → Type 0 where

@@ -19,7 +19,7 @@ use Rattle.gup_spec_turns.specs.Run.{RunState, op_in}
 use Rattle.gup_law_turns.specs.Standing.{IsStanding}
 use Rattle.gup_spec_turns.specs.ForkPlace.{IsNoFork, StandsFork}
 use Rattle.gup_law_turns.proofs.ScriptLemmas.{op_is_op, child_declared, thread_birth, has_ops_declared}
-use Rattle.gup_ops.specs.Tidy.{needs_table}
+use Rattle.gup_op_base.specs.Tidy.{needs_table}
 use Rattle.gup_core.specs.declared.seats.Seat.{Seat}
 use Rattle.gup_core.specs.Births.{HasFailed}
 use Rattle.gup_core.specs.Doers.{HasProcess, IsProcessOf}

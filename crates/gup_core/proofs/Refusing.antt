@@ -19,7 +19,7 @@ use Rattle.gup_spec_turns.specs.Taken.{Taken}
 use Rattle.gup_spec_turns.specs.Turn.{op_turn, failed_turn, turn_at, turn_of}
 use Rattle.gup_spec_turns.specs.Waits.{waits_born}
 use Rattle.gup_spec_turns.specs.ForkPlace.{StandsFork, place_in}
-use Rattle.gup_ops.specs.declared.forks.ForkPlace.{ForkPlace}
+use Rattle.gup_op_fork.specs.declared.forks.ForkPlace.{ForkPlace}
 use Rattle.gup_core.specs.declared.births.Birth.{Birth}
 use Rattle.gup_core.specs.declared.births.Birth.TheVariants.{Unborn, Growing, Born, Failed}
 use Rattle.gup_core.specs.declared.parts.Parts.{Parts}

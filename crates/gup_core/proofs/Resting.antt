@@ -22,10 +22,10 @@ use Rattle.gup_spec_turns.specs.Run.{RunState, run_start, run_after, turned}
 use Rattle.gup_spec_turns.specs.ForkTurns.{first_behind}
 use Rattle.gup_spec_turns.specs.ForkPlace.{ForkPlace, fork_place, place_in, IsNoFork, StandsFork, IsForking, HasCounted, IsPrepared}
 use Rattle.gup_law_turns.specs.Standing.{IsStanding, StandsHandle, given_back, back_in}
-use Rattle.gup_ops.specs.Far.{HasFar}
-use Rattle.gup_ops.specs.Forked.{IsCountedIn, IsCopyOf, IsReadyAt}
-use Rattle.gup_ops.specs.Pins.{IsPin, frames_in}
-use Rattle.gup_ops.specs.Tidy.{IsTidy}
+use Rattle.gup_op_base.specs.Far.{HasFar}
+use Rattle.gup_op_fork.specs.Forked.{IsCountedIn, IsCopyOf, IsReadyAt}
+use Rattle.gup_op_pins.specs.Pins.{IsPin, frames_in}
+use Rattle.gup_op_base.specs.Tidy.{IsTidy}
 use Rattle.gup_core.specs.declared.seats.Seat.{Seat}
 use Rattle.gup_core.specs.Machine.{MachineValue, Shows, ShowsParts, IsReached, IsMachine}
 use Rattle.gup_core.specs.Goes.{StandsAt}

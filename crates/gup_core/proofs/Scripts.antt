@@ -12,7 +12,7 @@ use Rattle.gup_script.specs.Valid.{IsScript, IsOp, IsOfDevice, KindFits}
 use Rattle.gup_spec_journal.specs.Place.{Doer, doer, is_thread, thread_in, slots_of_kind, slots_in, ops_in, ops_of, process_in, process_of, process_of_kind}
 use Rattle.gup_law_turns.proofs.ScriptLemmas.{all_at, is_of_thread}
 use Rattle.gup_core.specs.Doers.{HasProcess, IsProcessOf}
-use Rattle.gup_ops.specs.Far.{HasFar}
+use Rattle.gup_op_base.specs.Far.{HasFar}
 use Rattle.gup_core.specs.Seats.{far_behind}
 
 -- what is said of each declared actor holds of what the script has: how many slots its store has

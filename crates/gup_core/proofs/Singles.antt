@@ -3,8 +3,8 @@ use Rattle.std.proofs.Common.{◌≡◌, ℕ, true, Option, Some, None, IfSome, 
 use Rattle.gup_script.specs.declared.op.Op.{Op}
 use Rattle.gup_script.specs.declared.op.Op.TheVariants.{Map, Unmap, Protect, Discard, Load, Store, Pin, Unpin, Give, Take, Transfer, Fork, Exit}
 use Rattle.gup_space.specs.Space.{SpaceValue}
-use Rattle.gup_ops.specs.Alone.{IsAlone}
-use Rattle.gup_ops.specs.Tidy.{needs_table}
+use Rattle.gup_op_pages.specs.Alone.{IsAlone}
+use Rattle.gup_op_base.specs.Tidy.{needs_table}
 use Rattle.gup_spec_turns.specs.ForkPlace.{IsNoFork}
 use Rattle.gup_core.specs.Doers.{HasProcess}
 

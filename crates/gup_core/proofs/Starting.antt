@@ -13,10 +13,10 @@ use Rattle.gup_space.specs.Space.{SpaceValue, SpaceParts, space_of, no_space}
 use Rattle.gup_space.specs.Shows.{ShowsFrames, ShowsSpace}
 use Rattle.gup_spec_turns.specs.Run.{run_start}
 use Rattle.gup_law_turns.proofs.ScriptLemmas.{all_at}
-use Rattle.gup_ops.specs.declared.forks.ForkPlace.TheVariants.{Unbegun}
-use Rattle.gup_ops.specs.Forked.{place_of}
-use Rattle.gup_ops.specs.Pins.{ShowsPins}
-use Rattle.gup_held.specs.Held.{ShowsStore, slots_in as kept_slots}
+use Rattle.gup_op_fork.specs.declared.forks.ForkPlace.TheVariants.{Unbegun}
+use Rattle.gup_op_fork.specs.Forked.{place_of}
+use Rattle.gup_op_pins.specs.Pins.{ShowsPins}
+use Rattle.gup_op_pins.specs.Held.{ShowsStore, slots_in as kept_slots}
 use Rattle.gup_core.specs.declared.births.Birth.{Birth}
 use Rattle.gup_core.specs.declared.births.Birth.TheVariants.{Unborn, Born}
 use Rattle.gup_core.specs.declared.seats.Seat.{Seat}

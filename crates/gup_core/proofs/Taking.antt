@@ -21,11 +21,11 @@ use Rattle.gup_spec_turns.specs.Waits.{waiting_for}
 use Rattle.gup_spec_turns.specs.Run.{RunState, op_in, waiting_with, waiting_in, taken_by, taken_in, run_after, written_in}
 use Rattle.gup_law_turns.specs.Standing.{IsStanding}
 use Rattle.gup_spec_turns.specs.ForkPlace.{place_in}
-use Rattle.gup_ops.specs.declared.forks.ForkPlace.{ForkPlace}
-use Rattle.gup_ops.specs.declared.said.Said.{Said}
-use Rattle.gup_ops.specs.Far.{far_in}
-use Rattle.gup_ops.specs.Forked.{place_of}
-use Rattle.gup_ops.specs.Said.{whats_by, whats_of}
+use Rattle.gup_op_fork.specs.declared.forks.ForkPlace.{ForkPlace}
+use Rattle.gup_op_base.specs.declared.said.Said.{Said}
+use Rattle.gup_op_base.specs.Far.{far_in}
+use Rattle.gup_op_fork.specs.Forked.{place_of}
+use Rattle.gup_op_base.specs.Said.{whats_by, whats_of}
 use Rattle.gup_core.specs.declared.parts.Parts.{Parts}
 use Rattle.gup_core.specs.declared.seats.Seat.{Seat}
 use Rattle.gup_core.specs.Doers.{IsProcessOf}

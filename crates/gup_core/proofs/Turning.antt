@@ -26,14 +26,14 @@ use Rattle.gup_spec_turns.specs.Turn.{op_turn}
 use Rattle.gup_spec_turns.specs.ForkTurns.{fork_turn}
 use Rattle.gup_spec_turns.specs.PinTurns.{pin_turn}
 use Rattle.gup_spec_turns.specs.ForkPlace.{IsNoFork, fork_place}
-use Rattle.gup_ops.specs.declared.forks.ForkPlace.{ForkPlace}
-use Rattle.gup_ops.specs.declared.said.Said.{Said}
-use Rattle.gup_ops.specs.Alone.{IsAlone}
-use Rattle.gup_ops.specs.Far.{far_in}
-use Rattle.gup_ops.specs.Forked.{place_of, birth_behind, LeadsFork, IsForkTurn}
-use Rattle.gup_ops.specs.Pins.{IsPin, ShowsPins, LeadsPin, IsPinTurn}
-use Rattle.gup_held.specs.Held.{ShowsStore, LeadsHandle}
-use Rattle.gup_ops.specs.Said.{answer_what, event_what, whats_by, whats_of, Leads, IsTurnOf}
+use Rattle.gup_op_fork.specs.declared.forks.ForkPlace.{ForkPlace}
+use Rattle.gup_op_base.specs.declared.said.Said.{Said}
+use Rattle.gup_op_pages.specs.Alone.{IsAlone}
+use Rattle.gup_op_base.specs.Far.{far_in}
+use Rattle.gup_op_fork.specs.Forked.{place_of, birth_behind, LeadsFork, IsForkTurn}
+use Rattle.gup_op_pins.specs.Pins.{IsPin, ShowsPins, LeadsPin, IsPinTurn}
+use Rattle.gup_op_pins.specs.Held.{ShowsStore, LeadsHandle}
+use Rattle.gup_op_base.specs.Said.{answer_what, event_what, whats_by, whats_of, Leads, IsTurnOf}
 use Rattle.gup_core.specs.declared.births.Birth.{Birth}
 use Rattle.gup_core.specs.Births.{birth_said}
 use Rattle.gup_core.specs.declared.parts.Parts.{Parts}

@@ -18,8 +18,8 @@ use Rattle.gup_handles.specs.Handles.{HandleValue, IsGivenTo as IsKeptFor}
 use Rattle.gup_handles.specs.Handles as kept
 use Rattle.gup_spec_journal.specs.Order.{is_given_to, taking_waits, handle_waits}
 use Rattle.gup_spec_journal.specs.Place.{Doer, birth_by}
-use Rattle.gup_ops.specs.Pins.{IsPin}
-use Rattle.gup_ops.specs.Tidy.{needs_table}
+use Rattle.gup_op_pins.specs.Pins.{IsPin}
+use Rattle.gup_op_base.specs.Tidy.{needs_table}
 use Rattle.gup_core.specs.Locks.{fork_needs, child_in}
 use Rattle.gup_core.specs.Goes.{StandsAt}
 

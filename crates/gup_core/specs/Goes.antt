@@ -17,12 +17,13 @@ use Rattle.gup_spec_turns.specs.Turn.{op_turn, turn_of}
 use Rattle.gup_spec_turns.specs.Waits.{waiting_for}
 use Rattle.gup_spec_turns.specs.ForkPlace.{place_in, IsNoFork, KeepsFrame, StandsFork}
 use Rattle.gup_spec_turns.specs.PinPlace.{StandsPin}
-use Rattle.gup_ops.specs.declared.forks.ForkPlace.{ForkPlace}
-use Rattle.gup_ops.specs.Far.{HasFar, far_in}
-use Rattle.gup_ops.specs.Forked.{place_of, IsReadyAt}
-use Rattle.gup_ops.specs.Pins.{IsWeighed, PinChange}
-use Rattle.gup_held.specs.Held.{IsWhole, slots_in, HandleChange}
-use Rattle.gup_ops.specs.Tidy.{IsTidy, needs_table}
+use Rattle.gup_op_fork.specs.declared.forks.ForkPlace.{ForkPlace}
+use Rattle.gup_op_base.specs.Far.{HasFar, far_in}
+use Rattle.gup_op_fork.specs.Forked.{place_of, IsReadyAt}
+use Rattle.gup_op_pins.specs.Pins.{IsWeighed, PinChange}
+use Rattle.gup_op_devices.specs.Transfers.{IsWhole}
+use Rattle.gup_op_pins.specs.Held.{slots_in, HandleChange}
+use Rattle.gup_op_base.specs.Tidy.{IsTidy, needs_table}
 use Rattle.gup_core.specs.declared.births.Birth.{Birth}
 use Rattle.gup_core.specs.declared.parts.Parts.{Parts}
 use Rattle.gup_core.specs.Doers.{HasProcess, IsProcessOf}

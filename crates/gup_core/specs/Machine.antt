@@ -15,9 +15,9 @@ use Rattle.gup_spec_events.specs.State.{CoreState}
 use Rattle.gup_spec_events.specs.Event.{frames_of as frames_taken}
 use Rattle.gup_spec_turns.specs.Run.{RunState, run_start, run_after, taken_in, turned}
 use Rattle.gup_spec_turns.specs.ForkPlace.{place_in}
-use Rattle.gup_ops.specs.Forked.{place_of}
-use Rattle.gup_ops.specs.Pins.{ShowsPins}
-use Rattle.gup_held.specs.Held.{ShowsStore, slots_in}
+use Rattle.gup_op_fork.specs.Forked.{place_of}
+use Rattle.gup_op_pins.specs.Pins.{ShowsPins}
+use Rattle.gup_op_pins.specs.Held.{ShowsStore, slots_in}
 use Rattle.gup_core.specs.declared.births.Birth.{Birth as KeptBirth}
 use Rattle.gup_core.specs.declared.births.Birth.TheVariants.{Unborn, Growing, Born, Failed}
 use Rattle.gup_core.specs.declared.parts.Parts.{Parts}

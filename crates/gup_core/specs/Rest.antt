@@ -11,10 +11,10 @@ use Rattle.gup_space.specs.Space.{SpaceValue, SpaceParts, space_of}
 use Rattle.gup_handles.specs.Handles.{handles_of, unmade}
 use Rattle.gup_spec_events.specs.Event.{bias}
 use Rattle.gup_spec_turns.specs.ForkPlace.{IsNoFork}
-use Rattle.gup_ops.specs.Far.{HasFar}
-use Rattle.gup_ops.specs.Forked.{place_of, IsReadyAt}
-use Rattle.gup_ops.specs.Pins.{IsWeighed}
-use Rattle.gup_ops.specs.Tidy.{IsTidy}
+use Rattle.gup_op_base.specs.Far.{HasFar}
+use Rattle.gup_op_fork.specs.Forked.{place_of, IsReadyAt}
+use Rattle.gup_op_pins.specs.Pins.{IsWeighed}
+use Rattle.gup_op_base.specs.Tidy.{IsTidy}
 use Rattle.gup_core.specs.declared.seats.Seat.{Seat}
 use Rattle.gup_core.specs.Machine.{MachineValue, AreParts, EachSpace}
 

@@ -3,9 +3,9 @@ use Rattle.std.specs.Prelude.{◌≡◌, ℕ, ◌+◌, Bool, if◌then◌else◌
 use Rattle.gup_script.specs.declared.op.Op.{Op}
 use Rattle.gup_script.specs.declared.op.Op.TheVariants.{Map, Unmap, Protect, Discard, Load, Store, Pin, Unpin, Give, Take, Transfer, Fork, Exit}
 use Rattle.gup_spec_journal.specs.Place.{Place}
-use Rattle.gup_ops.specs.declared.forks.ForkPlace.{ForkPlace}
-use Rattle.gup_ops.specs.declared.forks.ForkPlace.TheVariants.{Unbegun}
-use Rattle.gup_ops.specs.Far.{far_in}
+use Rattle.gup_op_fork.specs.declared.forks.ForkPlace.{ForkPlace}
+use Rattle.gup_op_fork.specs.declared.forks.ForkPlace.TheVariants.{Unbegun}
+use Rattle.gup_op_base.specs.Far.{far_in}
 use Rattle.gup_core.specs.declared.seats.Seat.{Seat}
 
 -- the actor stands there

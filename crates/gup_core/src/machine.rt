@@ -12,7 +12,7 @@ use crate::takes::take_op;
 use crate::turn::{Head, Turn};
 use crate::turns::{next_turn, notes, op_at, ops, process};
 use gup_base::{ActorNo, NoMemory, Zone};
-use gup_ops::is_last;
+use gup_op_base::is_last;
 use gup_plain::{Waiting, What};
 use gup_script::Script;
 use std::alloc::Global;

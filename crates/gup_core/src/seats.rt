@@ -1,11 +1,11 @@
 //! Where each actor stands.
 ghost use Rattle.std.specs.Prelude.{◌≡◌, ℕ, ◌+◌, ◌<◌, ◌^◌, length, slice_get, Some, IfOk};
 ghost use Rattle.gup_script.specs.Valid.{IsOp};
-ghost use Rattle.gup_ops.specs.Far.{HasFar};
+ghost use Rattle.gup_op_base.specs.Far.{HasFar};
 ghost use Rattle.gup_core.specs.Seats.{seat_behind, far_behind, first_seats};
 
 use gup_base::{ActorNo, NoMemory};
-use gup_ops::ForkPlace;
+use gup_op_fork::ForkPlace;
 use gup_script::Op;
 use std::alloc::Global;
 

@@ -1,6 +1,6 @@
 ghost use Rattle.std.specs.Prelude.{◌≡◌, ◌<◌, ◌≤◌, ◌^◌, true, IsTrue, All, length, IfOk};
 ghost use Rattle.gup_script.specs.Valid.{IsOp, IsPages};
-ghost use Rattle.gup_ops.specs.Alone.{IsAlone};
+ghost use Rattle.gup_op_pages.specs.Alone.{IsAlone};
 
 use super::*;
 use gup_base::{ActorNo, HandleNo, NoMemory, PageNo, ProcNo, Rights, WordNo, Zone};

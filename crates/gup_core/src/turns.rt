@@ -3,13 +3,13 @@ ghost use Rattle.std.specs.Prelude.{◌≡◌, ◌<◌, false, length, slice_get
 ghost use Rattle.gup_spec_journal.specs.Follows.{notes_of_turn};
 ghost use Rattle.gup_script.specs.declared.op.Kind.TheVariants.{Thread};
 ghost use Rattle.gup_spec_journal.specs.Place.{ops_of, doer, is_thread};
-ghost use Rattle.gup_ops.specs.Said.{whats_of};
+ghost use Rattle.gup_op_base.specs.Said.{whats_of};
 ghost use Rattle.gup_core.specs.Doers.{IsProcessOf};
 ghost use Rattle.gup_core.specs.Machine.{counted};
 
 use crate::turn::{Head, Turn};
 use gup_base::{ActorNo, ProcNo};
-use gup_ops::Said;
+use gup_op_base::Said;
 use gup_plain::What;
 use gup_script::{Kind, Op, Script};
 

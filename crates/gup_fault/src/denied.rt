@@ -1,7 +1,9 @@
 //! Why a fault is refused.
 ghost use Rattle.std.specs.Prelude.{◌≡◌};
 ghost use Rattle.gup_fault.specs.declared.denied.Denied.TheVariants.{NoFrame as WantsFrame};
+ghost use Rattle.gup_fault.specs.Refused.{answer_of as answered};
 
+use gup_plain::Answer;
 use std::error::Error;
 use std::fmt;
 
@@ -45,5 +47,16 @@ impl From<NoFrame> for Denied {
 
     fn from(_none: NoFrame) -> Denied {
         Denied::NoFrame
+    }
+}
+
+/// What an operation answers whose page can't be made ready.
+pub fn answer_of(denied: Denied) -> Answer
+    ensures { result ≡ answered denied }
+{
+    match denied {
+        Denied::Missing => Answer::Missing,
+        Denied::Forbidden => Answer::Forbidden,
+        Denied::NoFrame => Answer::NoFrame,
     }
 }

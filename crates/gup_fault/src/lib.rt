@@ -6,7 +6,7 @@ mod denied;
 mod ready;
 mod steps;
 
-pub use denied::{Denied, NoFrame};
+pub use denied::{Denied, NoFrame, answer_of};
 pub use ready::{ready_read, ready_write, unshare};
 pub use steps::{break_copy, fill, mark, upgrade};
 

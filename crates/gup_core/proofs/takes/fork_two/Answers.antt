@@ -1,8 +1,8 @@
 use Rattle.std.proofs.Common.{◌<◌, length, slice_get, slice_set, ◌++◌, sym, ap, ◌∙◌, arith}
 use Rattle.gup_space.specs.Space.{SpaceParts}
 use Rattle.gup_fork.specs.Forks.{fork_change_of}
-use Rattle.gup_ops.specs.Forked.{place_of, IsForkTurn}
-use Rattle.gup_ops.specs.Said.{whats_of}
+use Rattle.gup_op_fork.specs.Forked.{place_of, IsForkTurn}
+use Rattle.gup_op_base.specs.Said.{whats_of}
 use Rattle.gup_core.proofs.Parting.{front_there, back_there, front_now, back_now, others_now, below_other, four}
 use Rattle.gup_core.proofs.takes.fork_two.Goals as goal
 

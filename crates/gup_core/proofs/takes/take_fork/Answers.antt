@@ -2,7 +2,7 @@ use Rattle.std.proofs.Common.{◌≡◌, ℕ, List, length, slice_get, Some, ref
 use Rattle.std.specs.Vec.{with_items}
 use Rattle.gup_space.specs.Space.{SpaceParts}
 use Rattle.gup_core.specs.declared.births.Birth.{Birth}
-use Rattle.gup_ops.specs.Said.{whats_of}
+use Rattle.gup_op_base.specs.Said.{whats_of}
 use Rattle.gup_core.specs.declared.parts.Parts.{Parts}
 use Rattle.gup_core.proofs.Parting.{written_back}
 use Rattle.gup_core.proofs.Turning.{IsForkTurns, forked}

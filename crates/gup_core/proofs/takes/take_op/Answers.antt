@@ -1,6 +1,6 @@
 use Rattle.std.proofs.Common.{ℕ, refl, sym, ◌∙◌, subst}
 use Rattle.gup_script.specs.declared.op.Op.{Op}
-use Rattle.gup_ops.specs.Said.{whats_of}
+use Rattle.gup_op_base.specs.Said.{whats_of}
 use Rattle.gup_core.specs.declared.parts.Parts.{Parts}
 use Rattle.gup_core.specs.Doers.{HasProcess}
 use Rattle.gup_core.specs.Goes.{IsTurnOfAll}

@@ -2,8 +2,8 @@ use Rattle.std.proofs.Common.{ℕ, sym, ◌∙◌}
 use Rattle.std.specs.Vec.{with_item}
 use Rattle.arrayvec.specs.ArrayVec.{ArrayVec}
 use Rattle.gup_space.specs.Space.{SpaceParts}
-use Rattle.gup_ops.specs.Pins.{IsPinTurn}
-use Rattle.gup_ops.specs.Said.{whats_of}
+use Rattle.gup_op_pins.specs.Pins.{IsPinTurn}
+use Rattle.gup_op_base.specs.Said.{whats_of}
 use Rattle.gup_core.specs.declared.parts.Parts.{Parts}
 use Rattle.gup_core.specs.Goes.{pin_change}
 use Rattle.gup_core.proofs.Parting.{was_there, now_there, four}

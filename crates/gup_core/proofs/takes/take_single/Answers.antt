@@ -4,11 +4,11 @@ use Rattle.gup_script.specs.declared.op.Op.TheVariants.{Pin, Unpin, Give, Take, 
 use Rattle.gup_script.specs.Valid.{IsOp}
 use Rattle.gup_space.specs.Space.{space_of}
 use Rattle.gup_spec_turns.specs.Turn.{op_turn}
-use Rattle.gup_ops.specs.Far.{HasFar}
+use Rattle.gup_op_base.specs.Far.{HasFar}
 use Rattle.gup_spec_events.specs.State.{CoreState}
-use Rattle.gup_held.specs.Held.{LeadsHandle, slots_in}
-use Rattle.gup_ops.specs.Said.{whats_of}
-use Rattle.gup_ops.specs.Tidy.{needs_table}
+use Rattle.gup_op_pins.specs.Held.{LeadsHandle, slots_in}
+use Rattle.gup_op_base.specs.Said.{whats_of}
+use Rattle.gup_op_base.specs.Tidy.{needs_table}
 use Rattle.gup_core.specs.Doers.{HasProcess}
 use Rattle.gup_core.specs.Machine.{ShowsParts}
 use Rattle.gup_core.specs.Goes.{StandsAt, IsTurnOfAll, handle_change}

@@ -1,7 +1,8 @@
 use Rattle.std.proofs.Common.{◌≡◌, ℕ, List, Option, refl, sym, ◌∙◌}
 use Rattle.std.specs.Vec.{with_item}
-use Rattle.gup_held.specs.Held.{IsTransferTurn, slots_in}
-use Rattle.gup_ops.specs.Said.{whats_of}
+use Rattle.gup_op_devices.specs.Transfers.{IsTransferTurn}
+use Rattle.gup_op_pins.specs.Held.{slots_in}
+use Rattle.gup_op_base.specs.Said.{whats_of}
 use Rattle.gup_core.specs.declared.parts.Parts.{Parts}
 use Rattle.gup_core.specs.Goes.{handle_change}
 use Rattle.gup_core.proofs.Parting.{was_there, now_there, other_there, kept_at, two}

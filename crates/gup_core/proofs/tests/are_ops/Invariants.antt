@@ -1,7 +1,7 @@
 use Rattle.std.proofs.Common.{ℕ, ◌<◌, get_or}
 use Rattle.gup_script.specs.declared.op.Op.{Op}
 use Rattle.gup_script.specs.Valid.{IsOp}
-use Rattle.gup_ops.specs.Alone.{IsAlone}
+use Rattle.gup_op_pages.specs.Alone.{IsAlone}
 use Rattle.gup_core.proofs.tests.are_ops.Given as goal
 
 -- those so far are in range, of one process and no pins

@@ -10,7 +10,7 @@ use Rattle.gup_script.specs.declared.script.Actor.{Actor as DeclaredActor}
 use Rattle.gup_script.specs.Views.{process_value, actor_value}
 use Rattle.gup_script.specs.Valid.{IsScript, IsOp, IsOfThread, AreDeclared, KindFits, FitsKind, ForksAt, PinsAt}
 use Rattle.gup_law_turns.proofs.ScriptLemmas.{all_at}
-use Rattle.gup_ops.specs.Alone.{IsAlone}
+use Rattle.gup_op_pages.specs.Alone.{IsAlone}
 use Rattle.gup_core.proofs.tests.script.Goals as goal
 
 -- a script of three processes, four threads and a handle, of which the last thread pins a page, and then forks into the last process

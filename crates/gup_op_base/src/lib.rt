@@ -1,0 +1,8 @@
+//! What the turn of an operation says, and what is true of a process between two turns.
+#![tactic(auto)]
+
+mod page;
+mod said;
+
+pub use page::page_behind;
+pub use said::{Said, done, happened, is_last, refused, silent};

@@ -1,0 +1,201 @@
+//! Transfers of words between the pages of a pin and the store of a device.
+ghost use Rattle.std.specs.Prelude.{◌≡◌, ℕ, ◌+◌, ◌==◌, ◌*◌, ◌/◌, ◌%◌, ◌≤◌, ◌<◌, length, slice_get, Some, None, if◌then◌else◌};
+ghost use Rattle.gup_plain.specs.declared.answer.Answer.{Answer as AnswerValue};
+ghost use Rattle.gup_plain.specs.declared.answer.Answer.TheVariants as answers;
+ghost use Rattle.gup_frames.specs.Frames.{frames_of, IsFrame};
+ghost use Rattle.gup_device.specs.Store.{store_of, IsSlot};
+ghost use Rattle.gup_handles.specs.Handles.{handles_of};
+ghost use Rattle.gup_spec_journal.specs.Follows.{moves_word};
+ghost use Rattle.gup_op_base.specs.Said.{whats_of};
+ghost use Rattle.gup_op_pins.specs.Pins.{IsWeighed};
+ghost use Rattle.gup_op_devices.specs.Transfers.{IsTransferTurn, HasMoved, IsMoved, fits_in, refusal_in};
+ghost use Rattle.gup_op_pins.specs.Held.{IsRefused, handle_change_of, slots_in};
+
+use gup_base::{ActorNo, FrameNo, HandleNo, WordNo};
+use gup_device::Store;
+use gup_frames::Frames;
+use gup_handles::Handles;
+use gup_op_base::{Said, refused};
+use gup_plain::{Answer, PlainEvent};
+
+// The words of a page.
+const WORDS: u32 = 512;
+
+/// One word of a transfer of `n` words, of which `far` are moved: word `index` + `far` of the pin's pages, out into slot
+/// `slot` + `far` of the actor's store, or in from there. A device reads and writes frames and no pages: no fault comes,
+/// and no page table is read.
+///
+/// The transfer is refused as a whole, before its first word moves: `NotHeld` where the actor doesn't hold the pin, then
+/// `Forbidden` where it would write the pages of a pin to read, then `Range` where a word lies past the pin's pages or a
+/// slot past the store.
+pub fn transfer(
+    frames: &mut Frames,
+    handles: &Handles,
+    store: &mut Option<Store>,
+    actor: ActorNo,
+    handle: HandleNo,
+    outward: bool,
+    index: u32,
+    slot: u32,
+    n: u8,
+    far: u16,
+) -> Said
+    requires weighed { IsWeighed (frames_of frames.old) (handles_of handles.now handle) }
+    requires within { far < n }
+    requires most { n ≤ 64 }
+    ensures slots { slots_in store.new ≡ slots_in store.old }
+    ensures turn { IsTransferTurn (handle_change_of frames.old frames.new handles.now handles.now store.old store.new)
+        actor handle outward index slot n far (whats_of result) }
+    ensures moved { refusal_in (handles_of handles.now handle) actor outward (slots_in store.old) index slot n ≡ None
+        → IsMoved (handle_change_of frames.old frames.new handles.now handles.now store.old store.new)
+        actor handle outward (index + far) (slot + far) (far + 1 == n) result }
+    ensures refused { (denied : AnswerValue)
+        → refusal_in (handles_of handles.now handle) actor outward (slots_in store.old) index slot n ≡ Some denied
+        → IsRefused (handle_change_of frames.old frames.new handles.now handles.now store.old store.new) denied result }
+{
+    let slots = slots_of(store);
+    if let Some(denied) = refusal(handles, actor, handle, outward, slots, index, slot, n) {
+        return refused(denied);
+    }
+    // What isn't refused has a store, and is of a pin that the actor holds.
+    let Some(store) = store else {
+        return refused(Answer::Range);
+    };
+    let Ok((pages, _)) = handles.pages(handle, actor) else {
+        return refused(Answer::NotHeld);
+    };
+    let at = index + u32::from(far);
+    let place = slot + u32::from(far);
+    let value = move_word(
+        frames,
+        store,
+        frame_at(pages, at),
+        word_at(at),
+        place as u16,
+        outward,
+    );
+    let event = moved(actor, handle, outward, at, place, value);
+    moved_said(event, far + 1 == u16::from(n))
+}
+
+// How many words the store has, if there is one.
+fn slots_of(store: &Option<Store>) -> u16
+    ensures slots { result ≡ slots_in store.now }
+    ensures few { result ≤ 4096 }
+{
+    match store {
+        Some(store) => store.words(),
+        None => 0,
+    }
+}
+
+// What refuses a transfer of n words, if something does.
+fn refusal(
+    handles: &Handles,
+    actor: ActorNo,
+    handle: HandleNo,
+    outward: bool,
+    slots: u16,
+    index: u32,
+    slot: u32,
+    n: u8,
+) -> Option<Answer>
+    ensures { result ≡ refusal_in (handles_of handles.now handle) actor outward slots index slot n }
+{
+    let Ok((pages, may_write)) = handles.pages(handle, actor) else {
+        return Some(Answer::NotHeld);
+    };
+    if !outward && !may_write {
+        return Some(Answer::Forbidden);
+    }
+    if !fits(pages.len(), slots, index, slot, n) {
+        return Some(Answer::Range);
+    }
+    None
+}
+
+// Whether n words from this index on are words of so many pages, and n slots from this one on are of a store of so many.
+fn fits(pages: usize, slots: u16, index: u32, slot: u32, n: u8) -> bool
+    requires { pages ≤ 16 }
+    ensures { result ≡ fits_in pages slots index slot n }
+{
+    let words = u64::from(n);
+    u64::from(index) + words <= u64::from(WORDS) * pages as u64
+        && u64::from(slot) + words <= u64::from(slots)
+}
+
+// The frame that has the word with this index, and the word's place in it.
+fn frame_at(pages: &[FrameNo], index: u32) -> FrameNo
+    requires { index < 512 * length pages.now }
+    ensures { slice_get pages.now (index / 512) ≡ Some result }
+{
+    pages[(index / WORDS) as usize]
+}
+
+fn word_at(index: u32) -> WordNo
+    ensures { result ≡ index % 512 }
+{
+    WordNo::new(u64::from(index % WORDS)).unwrap()
+}
+
+// Moves a word of the frame out into the slot, or in from there.
+fn move_word(
+    frames: &mut Frames,
+    store: &mut Store,
+    frame: FrameNo,
+    word: WordNo,
+    slot: u16,
+    outward: bool,
+) -> u64
+    requires slot { IsSlot (store_of store.old) slot }
+    requires there { IsFrame (frames_of frames.old) frame }
+    ensures { HasMoved outward (frames_of frames.old) (frames_of frames.new) store.old store.new frame word slot result }
+{
+    if outward {
+        store.word_out(frames, frame, word, slot)
+    } else {
+        store.word_in(frames, frame, word, slot)
+    }
+}
+
+// The event of a word that moved.
+fn moved(
+    actor: ActorNo,
+    handle: HandleNo,
+    outward: bool,
+    index: u32,
+    slot: u32,
+    value: u64,
+) -> PlainEvent
+    ensures { result ≡ moves_word actor handle outward index slot value }
+{
+    if outward {
+        PlainEvent::MoveOut {
+            actor,
+            handle,
+            index,
+            slot,
+            value,
+        }
+    } else {
+        PlainEvent::MoveIn {
+            actor,
+            handle,
+            index,
+            slot,
+            value,
+        }
+    }
+}
+
+// The event, and the answer where it is of the last word.
+fn moved_said(event: PlainEvent, last: bool) -> Said
+    ensures { result ≡ record { event = Some event; next = None; answer = if last then Some answers.Words else None } }
+{
+    let answer = if last { Some(Answer::Words) } else { None };
+    Said {
+        event: Some(event),
+        next: None,
+        answer,
+    }
+}

@@ -1,0 +1,281 @@
+-- What a turn of a fork makes of frames, the parent and the child is the turn table's.
+use Rattle.std.proofs.Common.{◌≡◌, ℕ, ◌+◌, ◌-◌, ◌^◌, ◌<◌, ◌≤◌, ◌&&◌, Bool, true, false, not, if◌then◌else◌, MatchOption, List, [], ◌∷◌, Option, Some, None, IsSome, is_some, refl, ap, sym, subst, ◌∙◌, arith}
+use Rattle.std.specs.Prelude.{nat_le}
+use Rattle.std.proofs.lemmas.Bool.{false≢true}
+use Rattle.std.proofs.lemmas.Bool.Decides.{nat_tests}
+use Rattle.gup_base.specs.declared.entry.Entry.{Entry}
+use Rattle.gup_base.specs.declared.entry.Rights.{Rights}
+use Rattle.gup_plain.specs.Event.{page_numbers}
+use Rattle.gup_plain.specs.Put.{put, lowest}
+use Rattle.gup_plain.specs.State.{born, growing}
+use Rattle.gup_plain.specs.declared.answer.Answer.TheVariants as answers
+use Rattle.gup_plain.specs.declared.event.PlainEvent.TheVariants as events
+use Rattle.gup_plain.specs.declared.note.What.{What}
+use Rattle.gup_plain.specs.declared.note.What.TheVariants.{Silent, Event, Done}
+use Rattle.gup_frames.specs.Frames.{FramesValue}
+use Rattle.gup_space.specs.Space.{SpaceValue}
+use Rattle.gup_space.specs.Shows.{ShowsFrames, ShowsSpace}
+use Rattle.gup_fork.specs.Forks.{ForkChange, AreForkEvents, copies_frame, shares}
+use Rattle.gup_fork.proofs.ForkAfter.{counting, passing}
+use Rattle.gup_fork.proofs.ForkLemmas.{are_fork_events}
+use Rattle.gup_spec_events.specs.State.{CoreState, Job, idle, marking, moving, forking, walking, between, counted, lowered, cleared, copying, failing}
+use Rattle.gup_spec_events.specs.Event.{CoreEvent, bias, begin_fork, count_page, pass_page, end_fork, copies_page}
+use Rattle.gup_spec_turns.specs.Taken.{Taken}
+use Rattle.gup_spec_turns.specs.ForkTurns.{first_behind, next_page, next_turn, page_turn, share_turn, fork_turn}
+use Rattle.gup_spec_turns.specs.ForkPlace.{ForkPlace, copying_place, fork_place, KeepsFrame, StandsFork}
+use Rattle.gup_spec_turns.specs.Reached.{unbegun, from_page, at_page, wants_frame, at_word}
+use Rattle.gup_op_fork.specs.Forked.{LeadsFork, IsForkTurn}
+use Rattle.gup_maps.specs.Maps.{IsNextPage, IsLastPage}
+use Rattle.gup_op_base.proofs.Searching.{lowest_same}
+use Rattle.gup_op_pages.proofs.Unmapping.{found_at, none_found, unmapped_is, below_numbers}
+
+abbrev pub change : (F F' : FramesValue) (P P' C C' : SpaceValue) → ForkChange
+change F F' P P' C C' =
+    record { old_frames = F; new_frames = F'; old_parent = P; new_parent = P'; old_child = C; new_child = C' }
+
+pub put_here : {X : Type 0} (k : ℕ) (x : X) (f : ℕ → X) → put k x f k ≡ x
+put_here k x f = grind (arith, nat_tests)
+
+-- the same turn in other words
+pub leads_alike : (k : ForkChange) (a p c : ℕ) (s : CoreState) (turn other : Taken) (new : ForkPlace) (whats : List What) → other ≡ turn → LeadsFork k a p c s turn new whats → LeadsFork k a p c s other new whats
+leads_alike k a p c s turn other new whats same h = subst (λ (t : Taken). LeadsFork k a p c s t new whats) (sym same) h
+
+-- a fork that copies a page stands at none of the other places
+abbrev is_copying : ForkPlace → Bool
+is_copying unbegun = false
+is_copying (from_page page) = false
+is_copying (at_page page) = false
+is_copying (wants_frame page) = true
+is_copying (at_word page word to) = true
+
+not_copying : (page word : ℕ) (prepared : Option ℕ) (place : ForkPlace) → is_copying place ≡ false → copying_place page word prepared ≡ place → ⊥
+not_copying page word None place other is = false≢true (sym other ∙ ap is_copying (sym is))
+not_copying page word (Some to) place other is = false≢true (sym other ∙ ap is_copying (sym is))
+
+-- ---- the beginning
+
+pub begun : (k : ForkChange) (a p c : ℕ) → AreForkEvents k (λ q d. begin_fork a q d ∷ []) → IsForkTurn k a p c unbegun (from_page 0) (Event (events.ForkBegin p c) ∷ [])
+begun k a p c made s apart frames parent child keeps = go (s.job a)
+  where
+    go : (job : Job) → StandsFork s a p c job (s.prepared a) → fork_place job (s.prepared a) ≡ unbegun → LeadsFork k a p c s (fork_turn s a p c job) (from_page 0) (Event (events.ForkBegin p c) ∷ [])
+    go idle stands place =
+        let behind = made s p c apart frames parent child in
+        record {
+          says = refl;
+          frames = behind.0;
+          parent = behind.1;
+          child = behind.2;
+          place = ap (λ j. fork_place j (s.prepared a)) (put_here a (forking p c [] between) s.job);
+          birth = put_here c (growing p) s.birth;
+        }
+    go (forking q d done between) stands place = absurd (cc)
+    go (forking q d done (counted page)) stands place = absurd (cc)
+    go (forking q d done (lowered page)) stands place = absurd stands
+    go (forking q d done (cleared page)) stands place = absurd stands
+    go (forking q d done (copying page n)) stands place = absurd (not_copying page n (s.prepared a) unbegun refl place)
+    go (forking q d done failing) stands place = absurd stands
+    go (marking q page f) stands place = absurd stands
+    go (moving q page e allowed count) stands place = absurd stands
+    go (walking q write long sequence step) stands place = absurd stands
+
+-- ---- the next page
+
+-- where a fork looks for its next page, as the child that the state shows
+looks_on : (C : SpaceValue) (c : ℕ) (s : CoreState) (done : List ℕ) (from : ℕ) (found : Option ℕ) → ShowsSpace c C s → from_page (first_behind done) ≡ from_page from → lowest from (page_numbers - from) (λ page. is_some (C.right page)) ≡ found → next_page (s.right c) done ≡ found
+looks_on C c s done from found child place is =
+    let at : first_behind done ≡ from = same_page (first_behind done) from place in
+    lowest_same (first_behind done) (page_numbers - first_behind done) (λ page. is_some (s.right c page)) (λ page. is_some (C.right page)) (λ page. ap is_some (child.right page))
+    ∙ ap (λ first. lowest first (page_numbers - first) (λ page. is_some (C.right page))) at
+    ∙ is
+  where
+    same_page : (m n : ℕ) → from_page m ≡ from_page n → m ≡ n
+    same_page m n same = cc
+
+pub ended : (k : ForkChange) (a p c from : ℕ) → ((done : List ℕ) → AreForkEvents k (λ q d. end_fork a q d done ∷ [])) → lowest from (page_numbers - from) (λ page. is_some (k.old_child.right page)) ≡ None → IsForkTurn k a p c (from_page from) unbegun (Event (events.ForkEnd p c) ∷ Done answers.Plain ∷ [])
+ended k a p c from made none s apart frames parent child keeps = go (s.job a)
+  where
+    go : (job : Job) → StandsFork s a p c job (s.prepared a) → fork_place job (s.prepared a) ≡ from_page from → LeadsFork k a p c s (fork_turn s a p c job) unbegun (Event (events.ForkEnd p c) ∷ Done answers.Plain ∷ [])
+    go (forking q d done between) stands place =
+        let behind = made done s p c apart frames parent child in
+        leads_alike k a p c s _ _ _ _
+        (ap (λ o. next_turn s a p c done o) (looks_on k.old_child c s done from None child place none))
+        (record {
+          says = refl;
+          frames = behind.0;
+          parent = behind.1;
+          child = behind.2;
+          place = ap (λ j. fork_place j (s.prepared a)) (put_here a idle s.job);
+          birth = put_here c born s.birth;
+        })
+    go idle stands place = absurd (cc)
+    go (forking q d done (counted page)) stands place = absurd (cc)
+    go (forking q d done (lowered page)) stands place = absurd stands
+    go (forking q d done (cleared page)) stands place = absurd stands
+    go (forking q d done (copying page n)) stands place = absurd (not_copying page n (s.prepared a) (from_page from) refl place)
+    go (forking q d done failing) stands place = absurd stands
+    go (marking q page f) stands place = absurd stands
+    go (moving q page e allowed count) stands place = absurd stands
+    go (walking q write long sequence step) stands place = absurd stands
+
+-- a page without an entry changes nothing
+pass_events : (F : FramesValue) (P C : SpaceValue) (a page : ℕ) (done : List ℕ) → AreForkEvents (change F F P P C C) (λ q d. pass_page a q d done page ∷ [])
+pass_events F P C a page done =
+    are_fork_events (change F F P P C C) a (λ q d. pass_page a q d done page ∷ [])
+    (λ q d. record { own = (passing done page, tt); frames = refl; parent = refl; child = refl })
+
+pub passed : (F : FramesValue) (P C : SpaceValue) (a p c from page : ℕ) → lowest from (page_numbers - from) (λ g. is_some (C.right g)) ≡ Some page → P.entry page ≡ None → IsForkTurn (change F F P P C C) a p c (from_page from) (from_page (page + 1)) (Event (events.ForkPage p c page) ∷ [])
+passed F P C a p c from page found empty s apart frames parent child keeps = go (s.job a)
+  where
+    go : (job : Job) → StandsFork s a p c job (s.prepared a) → fork_place job (s.prepared a) ≡ from_page from → LeadsFork (change F F P P C C) a p c s (fork_turn s a p c job) (from_page (page + 1)) (Event (events.ForkPage p c page) ∷ [])
+    go (forking q d done between) stands place =
+        let behind = pass_events F P C a page done s p c apart frames parent child in
+        leads_alike (change F F P P C C) a p c s _ _ _ _
+        (ap (λ o. next_turn s a p c done o) (looks_on C c s done from (Some page) child place found)
+        ∙ ap (λ e. page_turn s a p c done page e) (parent.entry page ∙ empty))
+        (record {
+          says = refl;
+          frames = behind.0;
+          parent = behind.1;
+          child = behind.2;
+          place = ap (λ j. fork_place j (s.prepared a)) (put_here a (forking p c (page ∷ done) between) s.job);
+          birth = stands.birth;
+        })
+    go idle stands place = absurd (cc)
+    go (forking q d done (counted g)) stands place = absurd (cc)
+    go (forking q d done (lowered g)) stands place = absurd stands
+    go (forking q d done (cleared g)) stands place = absurd stands
+    go (forking q d done (copying g n)) stands place = absurd (not_copying g n (s.prepared a) (from_page from) refl place)
+    go (forking q d done failing) stands place = absurd stands
+    go (marking q g f) stands place = absurd stands
+    go (moving q g e allowed count) stands place = absurd stands
+    go (walking q write long sequence step) stands place = absurd stands
+
+-- a page that is counted keeps the table lock
+count_events : (F : FramesValue) (P P' C : SpaceValue) (a page : ℕ) (e : Entry) (copied : Bool) (done : List ℕ) → P' ≡ record P { table = Some a } → AreForkEvents (change F F P P' C C) (λ q d. count_page a q d done page e copied ∷ [])
+count_events F P P' C a page e copied done locked =
+    are_fork_events (change F F P P' C C) a (λ q d. count_page a q d done page e copied ∷ [])
+    (λ q d. record { own = (counting done page e copied, tt); frames = refl; parent = locked; child = refl })
+
+-- the state copies what the frames and the parent that it shows do
+copies_alike : (F : FramesValue) (P : SpaceValue) (p f : ℕ) (s : CoreState) → ShowsFrames F s → ShowsSpace p P s → copies_page s p f ≡ copies_frame F P f
+copies_alike F P p f s frames parent =
+    ap (λ (b : Bool). b && (s.has_pinned p && nat_le bias (s.count f))) (frames.mark f)
+    ∙ ap (λ (b : Bool). F.mark f && (b && nat_le bias (s.count f))) parent.has_pinned
+    ∙ ap (λ (n : ℕ). F.mark f && (P.has_pinned && nat_le bias n)) (frames.count f)
+
+-- a page that was counted is to be copied, or shared
+abbrev pub counted_place : (copied : Bool) → (page : ℕ) → ForkPlace
+counted_place true page = wants_frame page
+counted_place false page = at_page page
+
+counted_at : (p c page : ℕ) (done : List ℕ) (copied : Bool) (prepared : Option ℕ) → prepared ≡ None → fork_place (forking p c done (if copied then copying page 0 else counted page)) prepared ≡ counted_place copied page
+counted_at p c page done true prepared none = ap (copying_place page 0) none
+counted_at p c page done false prepared none = refl
+
+page_counted : (F : FramesValue) (P P' C : SpaceValue) (a p c from page : ℕ) (e : Entry) (copied : Bool) → lowest from (page_numbers - from) (λ g. is_some (C.right g)) ≡ Some page → P.entry page ≡ Some e → copied ≡ copies_frame F P e.frame → P' ≡ record P { table = Some a } → IsForkTurn (change F F P P' C C) a p c (from_page from) (counted_place copied page) (Silent ∷ [])
+page_counted F P P' C a p c from page e copied found entry is locked s apart frames parent child keeps = go (s.job a) keeps
+  where
+    go : (job : Job) → KeepsFrame job (s.prepared a) → StandsFork s a p c job (s.prepared a) → fork_place job (s.prepared a) ≡ from_page from → LeadsFork (change F F P P' C C) a p c s (fork_turn s a p c job) (counted_place copied page) (Silent ∷ [])
+    go (forking q d done between) none stands place =
+        let behind = count_events F P P' C a page e copied done locked s p c apart frames parent child in
+        leads_alike (change F F P P' C C) a p c s
+        (record { events = count_page a p c done page e copied ∷ []; whats = Silent ∷ [] }) _ _ _
+        (ap (λ o. next_turn s a p c done o) (looks_on C c s done from (Some page) child place found)
+        ∙ ap (λ o. page_turn s a p c done page o) (parent.entry page ∙ entry)
+        ∙ ap (λ (b : Bool). record { events = count_page a p c done page e b ∷ []; whats = Silent ∷ [] }) (copies_alike F P p e.frame s frames parent ∙ sym is))
+        (record {
+          says = refl;
+          frames = behind.0;
+          parent = behind.1;
+          child = behind.2;
+          place =
+              ap (λ j. fork_place j (s.prepared a)) (put_here a (forking p c done (if copied then copying page 0 else counted page)) s.job)
+              ∙ counted_at p c page done copied (s.prepared a) none;
+          birth = stands.birth;
+        })
+    go idle keeps stands place = absurd (cc)
+    go (forking q d done (counted g)) keeps stands place = absurd (cc)
+    go (forking q d done (lowered g)) keeps stands place = absurd stands
+    go (forking q d done (cleared g)) keeps stands place = absurd stands
+    go (forking q d done (copying g n)) keeps stands place = absurd (not_copying g n (s.prepared a) (from_page from) refl place)
+    go (forking q d done failing) keeps stands place = absurd stands
+    go (marking q g f) keeps stands place = absurd stands
+    go (moving q g e allowed count) keeps stands place = absurd stands
+    go (walking q write long sequence step) keeps stands place = absurd stands
+
+-- ---- the share of a page
+
+page_shared : (k : ForkChange) (a p c page : ℕ) (e : Entry) → k.old_parent.entry page ≡ Some e → ((done : List ℕ) → AreForkEvents k (λ q d. shares a q d done page e)) → IsForkTurn k a p c (at_page page) (from_page (page + 1)) (Event (events.ForkPage p c page) ∷ [])
+page_shared k a p c page e entry made s apart frames parent child keeps = go (s.job a)
+  where
+    same_page : (m n : ℕ) → at_page m ≡ at_page n → m ≡ n
+    same_page m n same = cc
+
+    go : (job : Job) → StandsFork s a p c job (s.prepared a) → fork_place job (s.prepared a) ≡ at_page page → LeadsFork k a p c s (fork_turn s a p c job) (from_page (page + 1)) (Event (events.ForkPage p c page) ∷ [])
+    go (forking q d done (counted g)) stands place =
+        let behind = made done s p c apart frames parent child in
+        leads_alike k a p c s _ _ _ _
+        (ap (λ h. share_turn a p c done h (s.entry p h)) (same_page g page place)
+        ∙ ap (λ o. share_turn a p c done page o) (parent.entry page ∙ entry))
+        (record {
+          says = refl;
+          frames = behind.0;
+          parent = behind.1;
+          child = behind.2;
+          place = ap (λ j. fork_place j (s.prepared a)) (put_here a (forking p c (page ∷ done) between) (put a (forking p c done (cleared page)) (put a (forking p c done (lowered page)) s.job)));
+          birth = stands.0.birth;
+        })
+    go idle stands place = absurd (cc)
+    go (forking q d done between) stands place = absurd (cc)
+    go (forking q d done (lowered g)) stands place = absurd stands
+    go (forking q d done (cleared g)) stands place = absurd stands
+    go (forking q d done (copying g n)) stands place = absurd (not_copying g n (s.prepared a) (at_page page) refl place)
+    go (forking q d done failing) stands place = absurd stands
+    go (marking q g f) stands place = absurd stands
+    go (moving q g e allowed count) stands place = absurd stands
+    go (walking q write long sequence step) stands place = absurd stands
+
+-- ---- the child's next page
+
+pub next_found : (C : SpaceValue) (from : ℕ) (found : Option ℕ) → ((g : ℕ) (rights : Rights) → C.right g ≡ Some rights → g < page_numbers) → MatchOption found (IsLastPage C.right from) (IsNextPage C.right from) → found ≡ lowest from (page_numbers - from) (λ g. is_some (C.right g))
+next_found C from None numbered last =
+    sym (none_found from (page_numbers - from) (λ g. is_some (C.right g)) (λ g above. unmapped_is (C.right g) (last g above)))
+next_found C from (Some page) numbered next =
+    let below : page < page_numbers = below_numbers C page numbered next.mapped in
+    let above : from ≤ page = next.above in
+    sym (found_at from (page_numbers - from) page (λ g. is_some (C.right g)) above (omega arith) next.mapped (λ g least less. unmapped_is (C.right g) (next.least g least less)))
+
+-- no page has a number from 2^35 on
+pub none_past : (from : ℕ) (test : ℕ → Bool) → 2 ^ 35 ≤ from → None ≡ lowest from (page_numbers - from) test
+unfolding page_numbers
+none_past from test past = let none : 2 ^ 35 - from ≡ 0 = omega arith in rw none refl
+
+-- ---- what the code has at hand
+
+-- the same turn with other notes
+pub notes_alike : (k : ForkChange) (a p c : ℕ) (old new : ForkPlace) (whats other : List What) → other ≡ whats → IsForkTurn k a p c old new whats → IsForkTurn k a p c old new other
+notes_alike k a p c old new whats other same h s apart frames parent child keeps stands place =
+    subst (λ (ws : List What). LeadsFork k a p c s (fork_turn s a p c (s.job a)) new ws) (sym same) (h s apart frames parent child keeps stands place)
+
+-- the same events, with the parent in other words
+pub other_parent : (F F' : FramesValue) (P P' P'' C C' : SpaceValue) (events : (p c : ℕ) → List CoreEvent) → P'' ≡ P' → AreForkEvents (change F F' P P' C C') events → AreForkEvents (change F F' P P'' C C') events
+other_parent F F' P P' P'' C C' events same h =
+    subst (λ (x : SpaceValue). AreForkEvents (change F F' P x C C') events) (sym same) h
+
+pub count_turned : (F : FramesValue) (P P' C : SpaceValue) (a p c from page : ℕ) (copied : Bool) → lowest from (page_numbers - from) (λ g. is_some (C.right g)) ≡ Some page → IsSome (P.entry page) → ((e : Entry) → P.entry page ≡ Some e → copied ≡ copies_frame F P e.frame) → P' ≡ record P { table = Some a } → IsForkTurn (change F F P P' C C) a p c (from_page from) (counted_place copied page) (Silent ∷ [])
+count_turned F P P' C a p c from page copied found some is locked = go (P.entry page) refl some
+  where
+    go : (entry : Option Entry) → P.entry page ≡ entry → IsSome entry → IsForkTurn (change F F P P' C C) a p c (from_page from) (counted_place copied page) (Silent ∷ [])
+    go None entry some = absurd (cc)
+    go (Some e) entry some = page_counted F P P' C a p c from page e copied found entry (is e entry) locked
+
+pub share_turned : (k : ForkChange) (a p c page : ℕ) → IsSome (k.old_parent.entry page) → ((done : List ℕ) (e : Entry) → k.old_parent.entry page ≡ Some e → AreForkEvents k (λ q d. shares a q d done page e)) → IsForkTurn k a p c (at_page page) (from_page (page + 1)) (Event (events.ForkPage p c page) ∷ [])
+share_turned k a p c page some made = go (k.old_parent.entry page) refl some
+  where
+    go : (entry : Option Entry) → k.old_parent.entry page ≡ entry → IsSome entry → IsForkTurn k a p c (at_page page) (from_page (page + 1)) (Event (events.ForkPage p c page) ∷ [])
+    go None entry some = absurd (cc)
+    go (Some e) entry some = page_shared k a p c page e entry (λ done. made done e entry)
+
+pub no_entry : (found entry : Option Entry) (none : Bool) → is_some found ≡ not none → none ≡ true → found ≡ entry → entry ≡ None
+no_entry None entry none test is same = sym same
+no_entry (Some e) entry none test is same = absurd (cc)

@@ -1,0 +1,6 @@
+//! The turns of a fork, over its parent, its child and the frames.
+#![tactic(auto)]
+
+mod forks;
+
+pub use forks::{ForkPlace, fork, next_page};

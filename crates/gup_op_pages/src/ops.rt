@@ -1,0 +1,81 @@
+//! A turn of an operation.
+ghost use Rattle.std.specs.Prelude.{◌≡◌, ℕ, true, Some, None};
+ghost use Rattle.gup_script.specs.Valid.{IsOp};
+ghost use Rattle.gup_frames.specs.Frames.{frames_of};
+ghost use Rattle.gup_space.specs.Space.{space_of};
+ghost use Rattle.gup_space.specs.Shows.{change_of};
+ghost use Rattle.gup_spec_turns.specs.Turn.{op_turn};
+ghost use Rattle.gup_op_base.specs.Tidy.{IsTidy, needs_table as table_needed};
+ghost use Rattle.gup_op_base.specs.Said.{whats_of, IsTurnOf};
+ghost use Rattle.gup_op_pages.specs.Alone.{IsAlone};
+ghost use Rattle.gup_op_base.specs.Far.{HasFar, far_in};
+
+use crate::loads::{allows_store, load, store};
+use crate::mappings::{map, protect};
+use gup_op_base::{Said, page_behind, refused};
+use crate::unmaps::{discard, exit, unmap};
+use gup_base::{ActorNo, ProcNo};
+use gup_frames::Frames;
+use gup_plain::Answer;
+use gup_script::Op;
+use gup_space::Space;
+
+/// Takes a turn of the operation, which is over one process and the frames and has gone over so many pages. Nobody holds
+/// the table lock, if the turn needs it.
+pub fn take(
+    space: &mut Space,
+    frames: &mut Frames,
+    actor: ActorNo,
+    proc: ProcNo,
+    far: u16,
+    op: &Op,
+) -> Said
+    requires tidy { IsTidy (frames_of frames.old) (space_of space.old) }
+    requires table { table_needed (space_of space.old) op.now ≡ true → (space_of space.old).table ≡ None }
+    requires op { IsOp op.now }
+    requires far { HasFar op.now far }
+    requires alone { IsAlone op.now }
+    ensures { (slots k : ℕ) → far ≡ far_in (Some op.now) k
+        → IsTurnOf (change_of frames.old frames.new space.old space.new) proc
+        (λ s. op_turn s actor proc slots k op.now) (whats_of result) }
+{
+    match *op {
+        Op::Map { page, n, rights } => map(space, frames, actor, proc, page, n, rights),
+        Op::Unmap { page, n } => unmap(
+            space,
+            frames,
+            actor,
+            proc,
+            page_behind(page, far),
+            far + 1 == n,
+        ),
+        Op::Protect { page, n, rights } => protect(space, frames, actor, proc, page, n, rights),
+        Op::Discard { page, n } => discard(
+            space,
+            frames,
+            actor,
+            proc,
+            page_behind(page, far),
+            far + 1 == n,
+        ),
+        Op::Load { page, word } => load(space, frames, actor, proc, page, word),
+        Op::Store { page, word, value } => store(space, frames, actor, proc, page, word, value),
+        Op::Pin { .. } | Op::Unpin { .. } | Op::Give { .. } => refused(Answer::Unborn),
+        Op::Take { .. } | Op::Transfer { .. } | Op::Fork { .. } => refused(Answer::Unborn),
+        Op::Exit => exit(space, frames, actor, proc),
+    }
+}
+
+/// Whether a turn of the operation needs the table lock of its process: a load or a store does where its entry doesn't
+/// allow it, and what is done with a pin that is made does not.
+pub fn needs_table(space: &Space, op: &Op) -> bool
+    ensures { result ≡ table_needed (space_of space.now) op.now }
+{
+    match *op {
+        Op::Load { page, .. } => space.entry(page).is_none(),
+        Op::Store { page, .. } => !allows_store(space.entry(page)),
+        Op::Map { .. } | Op::Unmap { .. } | Op::Protect { .. } | Op::Discard { .. } => true,
+        Op::Pin { .. } | Op::Fork { .. } | Op::Exit => true,
+        Op::Unpin { .. } | Op::Give { .. } | Op::Take { .. } | Op::Transfer { .. } => false,
+    }
+}

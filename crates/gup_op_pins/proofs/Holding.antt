@@ -1,0 +1,240 @@
+-- What an unpin, a give or a take makes of frames and pins is the turn's.
+use Rattle.std.proofs.Common.{◌≡◌, ℕ, ◌-◌, ◌≤◌, ◌==◌, Bool, true, false, cond, List, [], ◌∷◌, ◌++◌, length, slice_get, slice_index, Option, Some, None, Result, Ok, Err, IsOk, OnOk, is_err, is_ok, refl, sym, ap, ◌∙◌, subst, eqb-true, length-append, arith}
+use Rattle.std.proofs.Math.Seq.{get_or-append_seam}
+use Rattle.std.proofs.lemmas.Bool.Decides.{nat_tests}
+use Rattle.gup_plain.specs.Denial.{is_held_by}
+use Rattle.gup_plain.specs.Event.{given_to as given_in_state, held_by as held_in_state}
+use Rattle.gup_plain.specs.Put.{put}
+use Rattle.gup_plain.specs.State as plain
+use Rattle.gup_plain.specs.declared.answer.Answer.TheVariants as answers
+use Rattle.gup_plain.specs.declared.event.PlainEvent.TheVariants as events
+use Rattle.gup_plain.specs.declared.note.What.{What}
+use Rattle.gup_plain.specs.declared.note.What.TheVariants.{Silent, Event, Done}
+use Rattle.gup_frames.specs.Frames.{FramesValue, IsFrame, without_references}
+use Rattle.gup_space.proofs.After.{unpinning, giving, taking_over}
+use Rattle.gup_space.specs.Shows.{ShowsFrames}
+use Rattle.gup_space.proofs.ShowsLemmas.{shows_frames}
+use Rattle.gup_handles.specs.Handles.{HandleValue, HandlesValue, unmade, held, given, got, gone, IsPinOf, IsGivenTo, given_to, taken_by, but_last, held_or_gone, without_last, HasLast}
+use Rattle.gup_spec_events.specs.State.{CoreState}
+use Rattle.gup_spec_events.specs.Event.{happens, unpin_page, give_handle, take_handle}
+use Rattle.gup_spec_turns.specs.Taken.{Taken}
+use Rattle.gup_spec_turns.specs.PinTurns.{last_of, unpinned, unpin_turn, unpin_turn_by, give_turn, give_turn_by, take_turn}
+use Rattle.gup_op_pins.specs.Pins.{IsPin, ShowsPins, IsWeighed}
+use Rattle.gup_op_pins.specs.Held.{HandleChange, LeadsHandle, IsHandleTurn, unpin_said, done_said}
+
+abbrev pub handle_change : (F F' : FramesValue) (H H' : HandlesValue) (W W' : Option (List ℕ)) → HandleChange
+handle_change F F' H H' W W' =
+    record { old_frames = F; new_frames = F'; old_pins = H; new_pins = H'; old_store = W; new_store = W' }
+
+-- the same notes in other words
+pub handle_alike : (c : HandleChange) (a : ℕ) (turn : CoreState → Taken) (whats other : List What) → other ≡ whats → IsHandleTurn c a turn whats → IsHandleTurn c a turn other
+handle_alike c a turn whats other same h = subst (λ (ws : List What). IsHandleTurn c a turn ws) (sym same) h
+
+-- the same turn in other words
+pub leads_handle_alike : (c : HandleChange) (a : ℕ) (s : CoreState) (turn other : Taken) (whats : List What) → other ≡ turn → LeadsHandle c a s turn whats → LeadsHandle c a s other whats
+leads_handle_alike c a s turn other whats same h = subst (λ (t : Taken). LeadsHandle c a s t whats) (sym same) h
+
+pub on_ok : {E : Type 0} {P : Type 0} (r : Result (Unit {0}) E) → is_err r ≡ false → OnOk r P → P
+on_ok (Ok ok) is h = h
+on_ok (Err e) is h = absurd (cc)
+
+pub passed : {A E : Type 0} (r : Result A E) → is_err r ≡ false → IsOk r
+passed (Ok value) is = refl
+passed (Err e) is = absurd (cc)
+
+pub failed : {A E : Type 0} (r : Result A E) → is_ok r ≡ false → IsOk r → ⊥
+failed (Ok value) is ok = absurd (cc)
+failed (Err e) is ok = absurd (cc)
+
+-- one handle changes
+pins_changed : (H : HandlesValue) (h : ℕ) (v : HandleValue) (handle : plain.Handle) (pages : ℕ → List ℕ) (s : CoreState) → IsPin v handle (pages h)
+    → ((k : ℕ) → (k ≡ h → ⊥) → pages k ≡ s.pinned k) → ShowsPins H s → (k : ℕ) → IsPin (put h v H k) (put h handle s.handle k) (pages k)
+pins_changed H h v handle pages s pin others shown k = go (k == h) refl
+  where
+    go : (here : Bool) → (k == h) ≡ here → IsPin (cond here v (H k)) (cond here handle (s.handle k)) (pages k)
+    go true is = subst (λ j. IsPin v handle (pages j)) (sym (eqb-true k h is)) pin
+    go false is =
+        let apart : k ≡ h → ⊥ = λ same. grind (arith, nat_tests) in
+        subst (λ (ps : List ℕ). IsPin (H k) (s.handle k) ps) (sym (others k apart)) (shown k)
+
+-- a pin that an actor holds is held in the state
+held_there : (v : HandleValue) (handle : plain.Handle) (pinned : List ℕ) (a : ℕ) → IsPinOf v a → IsPin v handle pinned → is_held_by handle a ≡ true
+held_there (held by frames write) handle pinned a is pin =
+    let same : (by == a) ≡ true = grind (arith, nat_tests) in ap (λ h. is_held_by h a) pin.0.1 ∙ same
+held_there unmade handle pinned a none pin = absurd none
+held_there (given to frames write) handle pinned a none pin = absurd none
+held_there (got by frame) handle pinned a none pin = absurd none
+held_there gone handle pinned a none pin = absurd none
+
+-- ---- give
+
+given_shown : (v : HandleValue) (handle : plain.Handle) (pinned : List ℕ) (a to : ℕ) → IsPinOf v a → IsPin v handle pinned → IsPin (given_to to v) (given_in_state handle to) pinned
+given_shown (held by frames write) handle pinned a to is pin = ((pin.0.0, ap (λ h. given_in_state h to) pin.0.1), pin.1)
+given_shown unmade handle pinned a to none pin = absurd none
+given_shown (given by frames write) handle pinned a to none pin = absurd none
+given_shown (got by frame) handle pinned a to none pin = absurd none
+given_shown gone handle pinned a to none pin = absurd none
+
+abbrev pub given_whats : (a handle to : ℕ) → List What
+given_whats a handle to = Event (events.Give a handle to) ∷ Done answers.Plain ∷ []
+
+pub pin_given : (F : FramesValue) (H H' : HandlesValue) (a h to : ℕ) → IsPinOf (H h) a → H' ≡ put h (given_to to (H h)) H
+    → IsHandleTurn (handle_change F F H H' None None) a (λ s. give_turn s a h to) (given_whats a h to)
+pin_given F H H' a h to is new_pins s frames shown store =
+    let c : HandleChange = handle_change F F H H' None None in
+    let t : CoreState = happens s (give_handle a h to) in
+    leads_handle_alike c a s _ _ _ (ap (λ b. give_turn_by b a h to) (held_there (H h) (s.handle h) (s.pinned h) a is (shown h)))
+    (record {
+      says = refl;
+      frames = shows_frames 0 F s (giving a h to) frames;
+      pins =
+          subst (λ (x : HandlesValue). ShowsPins x t) (sym new_pins)
+          (pins_changed H h (given_to to (H h)) (given_in_state (s.handle h) to) s.pinned s (given_shown (H h) (s.handle h) (s.pinned h) a to is (shown h)) (λ k apart. refl) shown);
+      store = tt;
+    })
+
+-- ---- take
+
+taken_shown : (v : HandleValue) (handle : plain.Handle) (pinned : List ℕ) (a : ℕ) → IsGivenTo v a → IsPin v handle pinned → IsPin (taken_by a v) (held_in_state handle a) pinned
+taken_shown (given to frames write) handle pinned a is pin = ((pin.0.0, ap (λ h. held_in_state h a) pin.0.1), pin.1)
+taken_shown unmade handle pinned a none pin = absurd none
+taken_shown (held by frames write) handle pinned a none pin = absurd none
+taken_shown (got by frame) handle pinned a none pin = absurd none
+taken_shown gone handle pinned a none pin = absurd none
+
+abbrev pub taken_whats : (a handle : ℕ) → List What
+taken_whats a handle = Event (events.Take a handle) ∷ Done answers.Plain ∷ []
+
+pub pin_taken : (F : FramesValue) (H H' : HandlesValue) (a h : ℕ) (took : Bool) → IsGivenTo (H h) a → took ≡ true → H' ≡ cond took (put h (taken_by a (H h)) H) H
+    → IsHandleTurn (handle_change F F H H' None None) a (λ s. take_turn a h) (taken_whats a h)
+pin_taken F H H' a h true is took new_pins s frames shown store =
+    let t : CoreState = happens s (take_handle a h) in
+    record {
+      says = refl;
+      frames = shows_frames 0 F s (taking_over a h) frames;
+      pins =
+          subst (λ (x : HandlesValue). ShowsPins x t) (sym new_pins)
+          (pins_changed H h (taken_by a (H h)) (held_in_state (s.handle h) a) s.pinned s (taken_shown (H h) (s.handle h) (s.pinned h) a is (shown h)) (λ k apart. refl) shown);
+      store = tt;
+    }
+pin_taken F H H' a h false is took new_pins s frames shown store = absurd (cc)
+
+-- ---- unpin
+
+last_there : (front : List ℕ) (f : ℕ) → slice_get (front ++ f ∷ []) (length front) ≡ Some f
+last_there [] f = refl
+last_there (g ∷ front) f = last_there front f
+
+last_is : (front : List ℕ) (f : ℕ) → last_of (front ++ f ∷ []) ≡ f
+last_is front f =
+    let at : length (front ++ f ∷ []) - 1 ≡ length front = omega (arith, length-append front (f ∷ [])) in
+    ap (λ k. slice_index (front ++ f ∷ []) k) at ∙ get_or-append_seam front f [] 0
+
+-- the frame of the last page is there, and has the weight of a pin
+pub last_weighed : (F : FramesValue) (v : HandleValue) (a frame : ℕ) → IsWeighed F v → IsPinOf v a → HasLast v frame → IsFrame F frame × (1024 ≤ F.count frame)
+last_weighed F (held by frames write) a frame weighed is last =
+    weighed (length (but_last frames)) frame (ap (λ (l : List ℕ). slice_get l (length (but_last frames))) last ∙ last_there (but_last frames) frame)
+last_weighed F unmade a frame weighed none last = absurd none
+last_weighed F (given to frames write) a frame weighed none last = absurd none
+last_weighed F (got by f) a frame weighed none last = absurd none
+last_weighed F gone a frame weighed none last = absurd none
+
+-- what an unpin says that leaves pages, and one that leaves none
+abbrev pub unpinned_whats : (left : Bool) → (a handle : ℕ) → List What
+unpinned_whats true a handle = Silent ∷ []
+unpinned_whats false a handle = Event (events.Unpin a handle) ∷ Done answers.Plain ∷ []
+
+unpin_says : (by a h : ℕ) (left : List ℕ) (write still : Bool) → by ≡ a → (still ≡ true → IsPinOf (held_or_gone by left write) a) → (still ≡ false → IsPinOf (held_or_gone by left write) a → ⊥)
+    → unpinned left a h ≡ unpinned_whats still a h
+unpin_says by a h [] write true is some none = absurd (some refl)
+unpin_says by a h [] write false is some none = refl
+unpin_says by a h (f ∷ left) write true is some none = refl
+unpin_says by a h (f ∷ left) write false is some none = absurd (none refl is)
+
+unpinned_shown : (by : ℕ) (frames left : List ℕ) (write : Bool) (handle : plain.Handle) (pinned : List ℕ) → IsPin (held by frames write) handle pinned
+    → IsPin (held_or_gone by left write) (elim left [ [] ↦ plain.gone | g ∷ gs ↦ handle ]) left
+unpinned_shown by frames [] write handle pinned pin = refl
+unpinned_shown by frames (f ∷ left) write handle pinned pin = (pin.0, refl)
+
+unpin_by : (F F' : FramesValue) (H H' : HandlesValue) (by a h frame : ℕ) (frames : List ℕ) (write still : Bool) → H h ≡ held by frames write → by ≡ a → frames ≡ but_last frames ++ frame ∷ []
+    → F' ≡ without_references frame 1024 F → H' ≡ put h (held_or_gone by (but_last frames) write) H
+    → (still ≡ true → IsPinOf (held_or_gone by (but_last frames) write) a) → (still ≡ false → IsPinOf (held_or_gone by (but_last frames) write) a → ⊥)
+    → IsHandleTurn (handle_change F F' H H' None None) a (λ s. unpin_turn s a h) (unpinned_whats still a h)
+unpin_by F F' H H' by a h frame frames write still is mine last new_frames new_pins some none s shown_frames shown store =
+    let c : HandleChange = handle_change F F' H H' None None in
+    let left : List ℕ = but_last frames in
+    let pin : IsPin (held by frames write) (s.handle h) (s.pinned h) = subst (λ (v : HandleValue). IsPin v (s.handle h) (s.pinned h)) is (shown h) in
+    let held_so : is_held_by (s.handle h) a ≡ true = held_there (held by frames write) (s.handle h) (s.pinned h) a mine pin in
+    let f_is : last_of frames ≡ frame = ap last_of last ∙ last_is left frame in
+    let t : CoreState = happens s (unpin_page a h (last_of frames) left) in
+    leads_handle_alike c a s _ _ _ (ap (λ b. unpin_turn_by b a h (s.pinned h)) held_so ∙ ap (λ (ps : List ℕ). unpin_turn_by true a h ps) pin.1)
+    (record {
+      says = unpin_says by a h left write still mine some none;
+      frames =
+          subst (λ (x : FramesValue). ShowsFrames x t) (ap (λ f. without_references f 1024 F) f_is ∙ sym new_frames)
+          (shows_frames 0 F s (unpinning a h (last_of frames) left) shown_frames);
+      pins =
+          subst (λ (x : HandlesValue). ShowsPins x t) (sym new_pins)
+          (pins_changed H h (held_or_gone by left write) (elim left [ [] ↦ plain.gone | g ∷ gs ↦ s.handle h ]) (put h left s.pinned) s
+          (subst (λ (ps : List ℕ). IsPin (held_or_gone by left write) (elim left [ [] ↦ plain.gone | g ∷ gs ↦ s.handle h ]) ps) (sym (here s))
+          (unpinned_shown by frames left write (s.handle h) (s.pinned h) pin))
+          (λ k apart. others s k apart) shown);
+      store = tt;
+    })
+  where
+    here : (s : CoreState) → put h (but_last frames) s.pinned h ≡ but_last frames
+    here s = grind (arith, nat_tests)
+
+    others : (s : CoreState) (k : ℕ) → (k ≡ h → ⊥) → put h (but_last frames) s.pinned k ≡ s.pinned k
+    others s k apart = grind (arith, nat_tests)
+
+put_at : (h : ℕ) (v : HandleValue) (H : HandlesValue) → put h v H h ≡ v
+put_at h v H = grind (arith, nat_tests)
+
+pub page_unpinned : (F F' : FramesValue) (H H' : HandlesValue) (a h frame : ℕ) (still : Bool) → IsPinOf (H h) a → HasLast (H h) frame
+    → F' ≡ without_references frame 1024 F → H' ≡ put h (without_last (H h)) H → (still ≡ true → IsPinOf (H' h) a) → (still ≡ false → IsPinOf (H' h) a → ⊥)
+    → IsHandleTurn (handle_change F F' H H' None None) a (λ s. unpin_turn s a h) (unpinned_whats still a h)
+page_unpinned F F' H H' a h frame still mine last new_frames new_pins some none = go (H h) refl mine last new_pins
+  where
+    now : (v : HandleValue) → H' ≡ put h v H → H' h ≡ v
+    now v new = ap (λ (f : HandlesValue). f h) new ∙ put_at h v H
+
+    go : (v : HandleValue) → H h ≡ v → IsPinOf v a → HasLast v frame → H' ≡ put h (without_last v) H
+        → IsHandleTurn (handle_change F F' H H' None None) a (λ s. unpin_turn s a h) (unpinned_whats still a h)
+    go (held by frames write) is mine_so last_so new =
+        let v : HandleValue = held_or_gone by (but_last frames) write in
+        unpin_by F F' H H' by a h frame frames write still is mine_so last_so new_frames new
+        (λ so. subst (λ (x : HandleValue). IsPinOf x a) (now v new) (some so))
+        (λ so holds. none so (subst (λ (x : HandleValue). IsPinOf x a) (sym (now v new)) holds))
+    go unmade is none_so last_so new = absurd none_so
+    go (given to frames write) is none_so last_so new = absurd none_so
+    go (got by f) is none_so last_so new = absurd none_so
+    go gone is none_so last_so new = absurd none_so
+
+-- ---- what is said, whatever the other handles are
+
+-- an unpin is silent that leaves a pin
+pub still_says : (v : HandleValue) (a h : ℕ) → IsPinOf v a → unpin_said v a h ≡ record { event = None; next = None; answer = None }
+still_says (held by frames write) a h is = refl
+still_says unmade a h none = absurd none
+still_says (given to frames write) a h none = absurd none
+still_says (got by frame) a h none = absurd none
+still_says gone a h none = absurd none
+
+none_left : (by : ℕ) (left : List ℕ) (write : Bool) (a : ℕ) → by ≡ a → (IsPinOf (held_or_gone by left write) a → ⊥) → held_or_gone by left write ≡ gone
+none_left by [] write a is none = refl
+none_left by (f ∷ left) write a is none = absurd (none is)
+
+pin_gone : (v : HandleValue) (a : ℕ) → IsPinOf v a → (IsPinOf (without_last v) a → ⊥) → without_last v ≡ gone
+pin_gone (held by frames write) a is none = none_left by (but_last frames) write a is none
+pin_gone unmade a none left = absurd none
+pin_gone (given to frames write) a none left = absurd none
+pin_gone (got by frame) a none left = absurd none
+pin_gone gone a none left = absurd none
+
+-- and one that leaves none ends
+pub gone_says : (H H' : HandlesValue) (a h : ℕ) → IsPinOf (H h) a → H' ≡ put h (without_last (H h)) H → (IsPinOf (H' h) a → ⊥) → unpin_said (H' h) a h ≡ done_said (events.Unpin a h)
+gone_says H H' a h mine new none =
+    let now : H' h ≡ without_last (H h) = ap (λ (f : HandlesValue). f h) new ∙ put_at h (without_last (H h)) H in
+    ap (λ (v : HandleValue). unpin_said v a h)
+    (now ∙ pin_gone (H h) a mine (λ holds. none (subst (λ (v : HandleValue). IsPinOf v a) (sym now) holds)))

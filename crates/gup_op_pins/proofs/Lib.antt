@@ -1,0 +1,3 @@
+pub mod Pinning
+pub mod Readying
+pub mod Holding

@@ -1,0 +1,324 @@
+-- What a turn of a pin makes of frames, a process, pins and what was taken is the turn's.
+use Rattle.std.proofs.Common.{◌≡◌, ℕ, ◌+◌, ◌<◌, ◌==◌, Bool, true, false, cond, List, [], ◌∷◌, ◌++◌, length, slice_get, Option, Some, None, Ok, Err, zero, suc, refl, sym, ap, ◌∙◌, subst, arith}
+use Rattle.std.proofs.lemmas.List.{map-append}
+use Rattle.std.proofs.lemmas.Bool.Decides.{nat_tests}
+use Rattle.gup_base.specs.declared.entry.Entry.{Entry}
+use Rattle.gup_plain.specs.Put.{put}
+use Rattle.gup_plain.specs.State as plain
+use Rattle.gup_plain.specs.declared.answer.Answer.{Answer}
+use Rattle.gup_plain.specs.declared.answer.Answer.TheVariants as answers
+use Rattle.gup_plain.specs.declared.event.PlainEvent.TheVariants as events
+use Rattle.gup_plain.specs.declared.note.What.{What}
+use Rattle.gup_plain.specs.declared.note.What.TheVariants.{Event, Done}
+use Rattle.gup_frames.specs.Frames.{FramesValue, with_references}
+use Rattle.gup_space.specs.Space.{SpaceValue}
+use Rattle.gup_space.proofs.After.{flagging, pinning, making}
+use Rattle.gup_space.specs.Shows.{ShowsFrames, ShowsSpace}
+use Rattle.gup_space.proofs.ShowsLemmas.{shows_frames, shows_space, events_lead}
+use Rattle.gup_handles.specs.Handles.{HandlesValue, held}
+use Rattle.gup_spec_events.specs.State.{CoreState, Taken as TakenPage}
+use Rattle.gup_spec_events.specs.Event.{CoreEvent, happens, pin_page, make_handle, writes_taken, objects_taken, frames_of as frames_taken, run}
+use Rattle.gup_spec_events.specs.Invariant.{frame_of}
+use Rattle.gup_spec_events.specs.Fault.{Fault, events_of, refusal_of}
+use Rattle.gup_fault.specs.Faults.{IsFault}
+use Rattle.gup_spec_turns.specs.Taken.{Taken, entry_in}
+use Rattle.gup_spec_turns.specs.PinTurns.{raises, makes_if, pinned_if, pins, cause_of, ends_pin, pin_turn, pin_turn_by}
+use Rattle.gup_op_pins.specs.Pins.{IsPin, ShowsPins, PinChange, LeadsPin, IsPinTurn, raised, fault_to_pin}
+use Rattle.gup_op_base.specs.Tidy.{IsTidy}
+use Rattle.gup_op_base.proofs.Leading.{ch, run_behind}
+use Rattle.gup_op_pins.proofs.Readying.{IsLeft, pin_fault_same, fault_raised, pin_fault_leaves}
+
+abbrev pub pin_change : (F F' : FramesValue) (S S' : SpaceValue) (H H' : HandlesValue) (T T' : List ℕ) → PinChange
+pin_change F F' S S' H H' T T' =
+    record { old_frames = F; new_frames = F'; old_space = S; new_space = S'; old_pins = H; new_pins = H'; old_taken = T; new_taken = T' }
+
+-- the same notes in other words
+pub pin_alike : (c : PinChange) (a p handle page n : ℕ) (write : Bool) (far : ℕ) (whats other : List What) → other ≡ whats → IsPinTurn c a p handle page n write far whats → IsPinTurn c a p handle page n write far other
+pin_alike c a p handle page n write far whats other same h = subst (λ (ws : List What). IsPinTurn c a p handle page n write far ws) (sym same) h
+
+-- the same turn in other words
+turn_alike : (c : PinChange) (a p : ℕ) (s : CoreState) (turn other : Taken) (whats : List What) → other ≡ turn → LeadsPin c a p s turn whats → LeadsPin c a p s other whats
+turn_alike c a p s turn other whats same h = subst (λ (t : Taken). LeadsPin c a p s t whats) (sym same) h
+
+-- has-pinned set before the first page
+pub raised_tidy : (F : FramesValue) (S : SpaceValue) (far : ℕ) → IsTidy F S → IsTidy F (raised far S)
+raised_tidy F S zero tidy =
+    record { numbered = tidy.numbered; mapped = tidy.mapped; there = tidy.there; counted = tidy.counted; marked = tidy.marked }
+raised_tidy F S (suc far) tidy = tidy
+
+pub raised_unlocked : (S : SpaceValue) (far : ℕ) → S.table ≡ None → (raised far S).table ≡ None
+raised_unlocked S zero unlocked = unlocked
+raised_unlocked S (suc far) unlocked = unlocked
+
+raise_frames : (F : FramesValue) (a p far : ℕ) (s : CoreState) → ShowsFrames F s → ShowsFrames F (run s (raises a p far))
+raise_frames F a p zero s h = shows_frames p F s (flagging a) h
+raise_frames F a p (suc far) s h = h
+
+raise_space : (S : SpaceValue) (a p far : ℕ) (s : CoreState) → ShowsSpace p S s → ShowsSpace p (raised far S) (run s (raises a p far))
+raise_space S a p zero s h = shows_space p S s (flagging a) h
+raise_space S a p (suc far) s h = h
+
+raise_flags : (a p far : ℕ) (s : CoreState) → (0 < far → s.has_pinned p ≡ true) → (run s (raises a p far)).has_pinned p ≡ true
+raise_flags a p zero s before = grind (arith, nat_tests)
+raise_flags a p (suc far) s before = before (omega arith)
+
+raise_handle : (a p far : ℕ) (s : CoreState) → (run s (raises a p far)).handle ≡ s.handle
+raise_handle a p zero s = refl
+raise_handle a p (suc far) s = refl
+
+raise_pinned : (a p far : ℕ) (s : CoreState) → (run s (raises a p far)).pinned ≡ s.pinned
+raise_pinned a p zero s = refl
+raise_pinned a p (suc far) s = refl
+
+raise_taken : (a p far : ℕ) (s : CoreState) → (run s (raises a p far)).taken ≡ s.taken
+raise_taken a p zero s = refl
+raise_taken a p (suc far) s = refl
+
+-- pins are shown by the same handles and pinned pages
+shows_same : (H : HandlesValue) (s t : CoreState) → t.handle ≡ s.handle → t.pinned ≡ s.pinned → ShowsPins H s → ShowsPins H t
+shows_same H s t handles pages h k =
+    subst (λ (f : ℕ → plain.Handle). IsPin (H k) (f k) (t.pinned k)) (sym handles)
+    (subst (λ (f : ℕ → List ℕ). IsPin (H k) (s.handle k) (f k)) (sym pages) (h k))
+
+-- ---- a handle is made of what was taken
+
+writes_behind : (taken : List TakenPage) (last : TakenPage) (write : Bool) → ((k : ℕ) (t : TakenPage) → slice_get taken k ≡ Some t → t.write ≡ write) → last.write ≡ write
+    → writes_taken (taken ++ last ∷ []) ≡ write
+writes_behind [] last write each is = is
+writes_behind (t ∷ taken) last write each is = each 0 t refl
+
+writes_some : (taken : List TakenPage) (write : Bool) → 0 < length taken → ((k : ℕ) (t : TakenPage) → slice_get taken k ≡ Some t → t.write ≡ write) → writes_taken taken ≡ write
+writes_some [] write some each = absurd (omega arith)
+writes_some (t ∷ taken) write some each = each 0 t refl
+
+pins_made : (H : HandlesValue) (a h : ℕ) (frames : List ℕ) (write : Bool) (s : CoreState) → frames_taken (s.taken a) ≡ frames → writes_taken (s.taken a) ≡ write → ShowsPins H s
+    → ShowsPins (put h (held a frames write) H) (happens s (make_handle a h))
+pins_made H a h frames write s taken writes shown k = go (k == h)
+  where
+    objects : List ℕ
+    objects = objects_taken (s.taken a)
+
+    go : (here : Bool) → IsPin (cond here (held a frames write) (H k)) (cond here (plain.held a objects (writes_taken (s.taken a))) (s.handle k)) (cond here (frames_taken (s.taken a)) (s.pinned k))
+    go true = ((objects, ap (λ w. plain.held a objects w) writes), taken)
+    go false = shown k
+
+none_taken : (a h : ℕ) (s : CoreState) → frames_taken ((happens s (make_handle a h)).taken a) ≡ []
+none_taken a h s = grind (arith, nat_tests)
+
+-- ---- a page is taken
+
+-- frames, the process, pins and what was taken are as they are behind the change
+pub record IsBehind (c : PinChange) (a p : ℕ) (s : CoreState) : Type 0 where
+  pub frames : ShowsFrames c.new_frames s
+  pub space : ShowsSpace p c.new_space s
+  pub pins : ShowsPins c.new_pins s
+  pub taken : frames_taken (s.taken a) ≡ c.new_taken
+
+-- what a turn makes of pins and what was taken: the last page's is the handle's
+abbrev pub IsMade : (last : Bool) → PinChange → (a handle frame : ℕ) → (write : Bool) → Type 0
+IsMade true c a handle frame write =
+    (c.new_pins ≡ put handle (held a (c.old_taken ++ frame ∷ []) write) c.old_pins) × (c.new_taken ≡ [])
+IsMade false c a handle frame write = (c.new_pins ≡ c.old_pins) × (c.new_taken ≡ c.old_taken ++ frame ∷ [])
+
+abbrev taken_page : CoreState → (p page : ℕ) → Entry → Bool → TakenPage
+taken_page s p page e write =
+    record { proc = p; page = page; frame = e.frame; object = s.object p page; write = write; long = false }
+
+page_taken : (a p page : ℕ) (e : Entry) (write : Bool) (s : CoreState) → (happens s (pin_page a p page e write false)).taken a ≡ s.taken a ++ taken_page s p page e write ∷ []
+page_taken a p page e write s = grind (arith, nat_tests)
+
+frames_behind : (taken : List TakenPage) (last : TakenPage) (frames : List ℕ) → frames_taken taken ≡ frames → frames_taken (taken ++ last ∷ []) ≡ frames ++ last.frame ∷ []
+frames_behind taken last frames is = map-append (λ (t : TakenPage). t.frame) taken (last ∷ []) ∙ ap (λ (fs : List ℕ). fs ++ last.frame ∷ []) is
+
+frame_is : (entry : Option Entry) (frame : ℕ) → frame_of entry ≡ Some frame → (entry_in entry).frame ≡ frame
+frame_is None frame is = absurd (cc)
+frame_is (Some e) frame is = cc
+
+-- has-pinned is set already
+flag_again : (p : ℕ) (S : SpaceValue) (s : CoreState) → s.has_pinned p ≡ true → ShowsSpace p S s → ShowsSpace p (record S { has_pinned = true }) s
+flag_again p S s flag h =
+    record { right = h.right; pages = h.pages; entry = h.entry; sequence = h.sequence; has_pinned = flag; structure = h.structure; table = h.table }
+
+take_page : (c : PinChange) (F1 : FramesValue) (S2 : SpaceValue) (a p handle page frame : ℕ) (write last : Bool) (e : Entry) (s : CoreState)
+    → e.frame ≡ frame → c.new_frames ≡ with_references frame 1024 F1 → c.new_space ≡ record S2 { has_pinned = true } → IsMade last c a handle frame write
+    → ShowsFrames F1 s → ShowsSpace p S2 s → ShowsPins c.old_pins s → frames_taken (s.taken a) ≡ c.old_taken → s.has_pinned p ≡ true
+    → ((k : ℕ) (t : TakenPage) → slice_get (s.taken a) k ≡ Some t → t.write ≡ write)
+    → IsBehind c a p (run s (pin_page a p page e write false ∷ makes_if last a handle))
+take_page c F1 S2 a p handle page frame write last e s is new_frames new_space made frames space shown taken flag writes = go last made
+  where
+    t : CoreState
+    t = happens s (pin_page a p page e write false)
+
+    frames_now : ShowsFrames c.new_frames t
+    frames_now =
+        subst (λ (x : FramesValue). ShowsFrames x t) (ap (λ f. with_references f 1024 F1) is ∙ sym new_frames)
+        (shows_frames p F1 s (pinning a page e write false) frames)
+
+    space_now : ShowsSpace p c.new_space t
+    space_now =
+        subst (λ (x : SpaceValue). ShowsSpace p x t) (sym new_space)
+        (flag_again p S2 t flag (shows_space p S2 s (pinning a page e write false) space))
+
+    pages : t.taken a ≡ s.taken a ++ taken_page s p page e write ∷ []
+    pages = page_taken a p page e write s
+
+    taken_now : frames_taken (t.taken a) ≡ c.old_taken ++ frame ∷ []
+    taken_now =
+        ap frames_taken pages ∙ frames_behind (s.taken a) (taken_page s p page e write) c.old_taken taken
+        ∙ ap (λ f. c.old_taken ++ f ∷ []) is
+
+    writes_now : writes_taken (t.taken a) ≡ write
+    writes_now = ap writes_taken pages ∙ writes_behind (s.taken a) (taken_page s p page e write) write writes refl
+
+    go : (more : Bool) → IsMade more c a handle frame write → IsBehind c a p (run t (makes_if more a handle))
+    go true by =
+        record {
+          frames = shows_frames p c.new_frames t (making a handle) frames_now;
+          space = shows_space p c.new_space t (making a handle) space_now;
+          pins =
+              subst (λ (x : HandlesValue). ShowsPins x (happens t (make_handle a handle))) (sym by.0)
+              (pins_made c.old_pins a handle (c.old_taken ++ frame ∷ []) write t taken_now writes_now shown);
+          taken = none_taken a handle t ∙ sym by.1;
+        }
+    go false by =
+        record {
+          frames = frames_now;
+          space = space_now;
+          pins = subst (λ (x : HandlesValue). ShowsPins x t) (sym by.0) shown;
+          taken = taken_now ∙ sym by.1;
+        }
+
+-- what the turn of a page that is pinned says
+abbrev pub tried_whats : (last : Bool) → (a p handle page n : ℕ) → (write : Bool) → List What
+tried_whats last a p handle page n write = Event (events.PinTry a p page write) ∷ pinned_if last a handle n
+
+-- the pin behind events that lead there
+pins_lead : (c : PinChange) (es : List CoreEvent) (a p handle page n : ℕ) (write last : Bool) (s t : CoreState) → run s es ≡ t
+    → IsBehind c a p (run t (pin_page a p page (entry_in (t.entry p page)) write false ∷ makes_if last a handle))
+    → LeadsPin c a p s (pins s es a p handle page n write last) (tried_whats last a p handle page n write)
+pins_lead c es a p handle page n write last s t same behind =
+    let rest : CoreState → List CoreEvent = λ u. pin_page a p page (entry_in (u.entry p page)) write false ∷ makes_if last a handle in
+    let here : IsBehind c a p (run (run s es) (rest (run s es))) = subst (λ (u : CoreState). IsBehind c a p (run u (rest u))) (sym same) behind in
+    let all : IsBehind c a p (run s (es ++ rest (run s es))) = subst (IsBehind c a p) (sym (run_behind s es (rest (run s es)))) here in
+    record { says = refl; frames = all.frames; space = all.space; pins = all.pins; taken = all.taken }
+
+-- what a fault of a pin comes to
+pin_after : (c : PinChange) (fault : Fault) (a p handle page n far : ℕ) (write last : Bool) (s : CoreState) → (far + 1 == n) ≡ last → refusal_of fault ≡ None
+    → ((t : CoreState) → t ≡ run (run s (raises a p far)) (events_of fault)
+    → IsBehind c a p (run t (pin_page a p page (entry_in (t.entry p page)) write false ∷ makes_if last a handle)))
+    → LeadsPin c a p s (pin_turn_by fault s a p handle page n far write) (tried_whats last a p handle page n write)
+pin_after c (Err answer) a p handle page n far write last s is refused behind = absurd (cc)
+pin_after c (Ok before) a p handle page n far write last s is unrefused behind =
+    turn_alike c a p s _ _ _ (ap (λ b. pins s (raises a p far ++ before) a p handle page n write b) is)
+    (pins_lead c (raises a p far ++ before) a p handle page n write last s (run (run s (raises a p far)) before) (run_behind s (raises a p far) before)
+    (behind (run (run s (raises a p far)) before) refl))
+
+-- a fault of a page of a pin that stands at this one
+abbrev pub PinFault : (F F1 : FramesValue) (S S2 : SpaceValue) (page far : ℕ) → (write : Bool) → Option Answer → Type 0
+PinFault F F1 S S2 page far write denied =
+    IsFault (ch F F1 (raised far S) S2) denied (λ b q. fault_to_pin F (raised far S) b q page write)
+
+-- as the code names the process and the page
+pub fault_at : (F F1 : FramesValue) (S S1 S2 : SpaceValue) (page far at : ℕ) (write : Bool) (denied : Option Answer) → S1 ≡ raised far S → at ≡ page + far
+    → IsFault (ch F F1 S1 S2) denied (λ b q. fault_to_pin F S1 b q at write) → PinFault F F1 S S2 (page + far) far write denied
+fault_at F F1 S S1 S2 page far at write denied space is h =
+    subst (λ (x : SpaceValue). IsFault (ch F F1 x S2) denied (λ b q. fault_to_pin F x b q (page + far) write)) space
+    (subst (λ g. IsFault (ch F F1 S1 S2) denied (λ b q. fault_to_pin F S1 b q g write)) is h)
+
+turn_is : (F : FramesValue) (S : SpaceValue) (a p handle page n far : ℕ) (write : Bool) (s : CoreState) → ShowsFrames F s → ShowsSpace p S s
+    → pin_turn s a p handle page n far write ≡ pin_turn_by (fault_to_pin F (raised far S) a p (page + far) write) s a p handle (page + far) n far write
+turn_is F S a p handle page n far write s frames space =
+    ap (λ (x : Fault). pin_turn_by x s a p handle (page + far) n far write)
+    (pin_fault_same F S a p (page + far) write s frames space ∙ sym (fault_raised F S a p (page + far) far write))
+
+-- the page is pinned
+pub pinned_page : (c : PinChange) (F1 : FramesValue) (S2 : SpaceValue) (a p handle page n far frame : ℕ) (write last : Bool) → (far + 1 == n) ≡ last → c.old_space.table ≡ None
+    → PinFault c.old_frames F1 c.old_space S2 (page + far) far write None → frame_of (S2.entry (page + far)) ≡ Some frame
+    → c.new_frames ≡ with_references frame 1024 F1 → c.new_space ≡ record S2 { has_pinned = true } → IsMade last c a handle frame write
+    → IsPinTurn c a p handle page n write far (tried_whats last a p handle (page + far) n write)
+pinned_page c F1 S2 a p handle page n far frame write last is unlocked fault at new_frames new_space made s frames space shown taken stands flag =
+    turn_alike c a p s _ _ _ (turn_is c.old_frames c.old_space a p handle page n far write s frames space)
+    (pin_after c (fault_to_pin F (raised far S) a p (page + far) write) a p handle (page + far) n far write last s is (fault.refused a p) (λ t here. behind t here))
+  where
+    F : FramesValue
+    F = c.old_frames
+
+    S : SpaceValue
+    S = c.old_space
+
+    t0 : CoreState
+    t0 = run s (raises a p far)
+
+    t1 : CoreState
+    t1 = run t0 (events_of (fault_to_pin F (raised far S) a p (page + far) write))
+
+    shows : ShowsFrames F1 t1 × ShowsSpace p S2 t1
+    shows =
+        events_lead fault.events t0 a p (raise_frames F a p far s frames) (raise_space S a p far s space)
+        ((raise_space S a p far s space).table ∙ raised_unlocked S far unlocked)
+
+    same : IsLeft t0 t1
+    same = pin_fault_leaves F (raised far S) a p (page + far) write t0
+
+    taken_same : t1.taken a ≡ s.taken a
+    taken_same = ap (λ (f : ℕ → List TakenPage). f a) (same.taken ∙ raise_taken a p far s)
+
+    behind : (t : CoreState) → t ≡ t1 → IsBehind c a p (run t (pin_page a p (page + far) (entry_in (t.entry p (page + far))) write false ∷ makes_if last a handle))
+    behind t here =
+        subst (λ (u : CoreState). IsBehind c a p (run u (pin_page a p (page + far) (entry_in (u.entry p (page + far))) write false ∷ makes_if last a handle))) (sym here)
+        (take_page c F1 S2 a p handle (page + far) frame write last (entry_in (t1.entry p (page + far))) t1
+        (ap (λ o. (entry_in o).frame) (shows.1.entry (page + far)) ∙ frame_is (S2.entry (page + far)) frame at) new_frames new_space made
+        shows.0 shows.1
+        (shows_same c.old_pins s t1 (same.handle ∙ raise_handle a p far s) (same.pinned ∙ raise_pinned a p far s) shown)
+        (ap frames_taken taken_same ∙ taken)
+        (ap (λ (f : ℕ → Bool). f p) same.has_pinned ∙ raise_flags a p far s flag)
+        (λ k x found. (stands.taken.each k x (ap (λ (l : List TakenPage). slice_get l k) (sym taken_same) ∙ found)).2))
+
+-- ---- a page is refused
+
+refused_after : (c : PinChange) (fault : Fault) (a p handle page n far : ℕ) (write : Bool) (answer : Answer) (s : CoreState) (whats : List What) → refusal_of fault ≡ Some answer
+    → LeadsPin c a p s (ends_pin a p handle n far answer) whats → LeadsPin c a p s (pin_turn_by fault s a p handle page n far write) whats
+refused_after c (Ok before) a p handle page n far write answer s whats refused h = absurd (cc)
+refused_after c (Err denied) a p handle page n far write answer s whats refused h =
+    let same : denied ≡ answer = cc in
+    turn_alike c a p s _ _ _ (ap (λ (x : Answer). ends_pin a p handle n far x) same) h
+
+-- without a page the pin is refused
+pub pin_refused : (c : PinChange) (F1 : FramesValue) (S2 : SpaceValue) (a p handle page n far : ℕ) (write : Bool) (answer : Answer) → far ≡ 0
+    → PinFault c.old_frames F1 c.old_space S2 (page + far) far write (Some answer) → c.new_frames ≡ F1 → c.new_space ≡ S2 → c.new_pins ≡ c.old_pins → c.new_taken ≡ c.old_taken
+    → IsPinTurn c a p handle page n write far (Done answer ∷ [])
+pin_refused c F1 S2 a p handle page n zero write answer first fault new_frames new_space new_pins new_taken s frames space shown taken stands flag =
+    turn_alike c a p s _ _ _ (turn_is c.old_frames c.old_space a p handle page n 0 write s frames space)
+    (refused_after c (fault_to_pin c.old_frames (raised 0 c.old_space) a p (page + 0) write) a p handle (page + 0) n 0 write answer s (Done answer ∷ []) (fault.refused a p)
+    (record {
+      says = refl;
+      frames = subst (λ (x : FramesValue). ShowsFrames x (run s (raises a p 0))) (sym (new_frames ∙ (fault.unchanged answer refl).0)) (raise_frames c.old_frames a p 0 s frames);
+      space = subst (λ (x : SpaceValue). ShowsSpace p x (run s (raises a p 0))) (sym (new_space ∙ (fault.unchanged answer refl).1)) (raise_space c.old_space a p 0 s space);
+      pins = subst (λ (x : HandlesValue). ShowsPins x (run s (raises a p 0))) (sym new_pins) shown;
+      taken = taken ∙ sym new_taken;
+    }))
+pin_refused c F1 S2 a p handle page n (suc far) write answer first fault new_frames new_space new_pins new_taken s frames space shown taken stands flag = absurd (omega arith)
+
+-- what the turn of a short pin says
+abbrev pub short_whats : (a handle n far : ℕ) → Answer → List What
+short_whats a handle n far answer =
+    Event (events.PinOk a handle) ∷ Done (answers.Short far n (cause_of answer)) ∷ []
+
+-- behind others the pin has those
+pub pin_short : (c : PinChange) (F1 : FramesValue) (S2 : SpaceValue) (a p handle page n far : ℕ) (write : Bool) (answer : Answer) → (far ≡ 0 → ⊥)
+    → PinFault c.old_frames F1 c.old_space S2 (page + far) far write (Some answer) → c.new_frames ≡ F1 → c.new_space ≡ S2
+    → c.new_pins ≡ put handle (held a c.old_taken write) c.old_pins → c.new_taken ≡ []
+    → IsPinTurn c a p handle page n write far (short_whats a handle n far answer)
+pin_short c F1 S2 a p handle page n zero write answer some fault new_frames new_space new_pins new_taken s frames space shown taken stands flag = absurd (some refl)
+pin_short c F1 S2 a p handle page n (suc far) write answer some fault new_frames new_space new_pins new_taken s frames space shown taken stands flag =
+    let t : CoreState = happens s (make_handle a handle) in
+    let writes : writes_taken (s.taken a) ≡ write = writes_some (s.taken a) write (omega (arith, stands.taken.many)) (λ k x found. (stands.taken.each k x found).2) in
+    turn_alike c a p s _ _ _ (turn_is c.old_frames c.old_space a p handle page n (suc far) write s frames space)
+    (refused_after c (fault_to_pin c.old_frames c.old_space a p (page + suc far) write) a p handle (page + suc far) n (suc far) write answer s (short_whats a handle n (suc far) answer) (fault.refused a p)
+    (record {
+      says = refl;
+      frames = subst (λ (x : FramesValue). ShowsFrames x t) (sym (new_frames ∙ (fault.unchanged answer refl).0)) (shows_frames p c.old_frames s (making a handle) frames);
+      space = subst (λ (x : SpaceValue). ShowsSpace p x t) (sym (new_space ∙ (fault.unchanged answer refl).1)) (shows_space p c.old_space s (making a handle) space);
+      pins = subst (λ (x : HandlesValue). ShowsPins x t) (sym new_pins) (pins_made c.old_pins a handle c.old_taken write s taken writes shown);
+      taken = none_taken a handle s ∙ sym new_taken;
+    }))

@@ -1,0 +1,179 @@
+//! Pins: they are made page by page.
+ghost use Rattle.std.specs.Prelude.{◌≡◌, ℕ, ◌+◌, ◌≤◌, ◌<◌, ◌^◌, true, false, [], OnOk, Some, None};
+ghost use Rattle.arrayvec.specs.ArrayVec.{array_vec_len};
+ghost use Rattle.gup_plain.specs.Put.{put};
+ghost use Rattle.gup_frames.specs.Frames.{frames_of};
+ghost use Rattle.gup_space.specs.Space.{space_of};
+ghost use Rattle.gup_space.specs.Shows.{change_of};
+ghost use Rattle.gup_fault.specs.Refused.{answer_of as answered, denial_of};
+ghost use Rattle.gup_fault.specs.Faults.{IsFault};
+ghost use Rattle.gup_slow.specs.Pins.{IsReady};
+ghost use Rattle.gup_handles.specs.Handles.{handles_of, unmade, held};
+ghost use Rattle.gup_spec_turns.specs.PinTurns.{cause_of as cause};
+ghost use Rattle.gup_op_base.specs.Tidy.{IsTidy};
+ghost use Rattle.gup_op_base.specs.Said.{whats_of};
+ghost use Rattle.gup_op_pins.specs.Pins.{IsPinTurn, raised, fault_to_pin, want_of};
+
+use gup_op_base::{Said, done, happened, page_behind, refused};
+use arrayvec::ArrayVec;
+use gup_base::{ActorNo, Allowed, FrameNo, HandleNo, PageNo, ProcNo, Want};
+use gup_fault::{Denied, answer_of, ready_write, unshare};
+use gup_frames::Frames;
+use gup_handles::Handles;
+use gup_plain::{Answer, Cause, PlainEvent};
+use gup_slow::pin_page;
+use gup_space::Space;
+
+/// One page of a pin of `n` pages from `page` on, of which `far` are taken. The page is made ready and its frame gets the
+/// weight of a pin (Linux's `__get_user_pages`, `mm/gup.c`). The last page's turn makes the handle, and so does the turn of
+/// a page that is refused behind others: the pin then has those (this project's own: Linux leaves a short count to its
+/// caller). Where the first page is refused, the pin is. Has-pinned is set before the first page is tried.
+pub fn pin(
+    space: &mut Space,
+    frames: &mut Frames,
+    handles: &mut Handles,
+    taken: &mut ArrayVec<FrameNo, 16>,
+    actor: ActorNo,
+    proc: ProcNo,
+    handle: HandleNo,
+    page: PageNo,
+    n: u8,
+    write: bool,
+    far: u16,
+) -> Said
+    requires tidy { IsTidy (frames_of frames.old) (space_of space.old) }
+    requires table { (space_of space.old).table ≡ None }
+    requires few { (f : ℕ) → (frames_of frames.old).count f < 2 ^ 40 }
+    requires unmade { handles_of handles.old handle ≡ unmade }
+    requires taken { array_vec_len taken.old ≡ far }
+    requires pinned { 0 < far → (space_of space.old).has_pinned ≡ true }
+    requires within { far < n }
+    requires most { n ≤ 16 }
+    requires range { page + n ≤ 2 ^ 35 }
+    ensures { IsPinTurn (record {
+      old_frames = frames_of frames.old;
+      new_frames = frames_of frames.new;
+      old_space = space_of space.old;
+      new_space = space_of space.new;
+      old_pins = handles_of handles.old;
+      new_pins = handles_of handles.new;
+      old_taken = taken.old.items;
+      new_taken = taken.new.items;
+    }) actor proc handle page n write far (whats_of result) }
+{
+    raise_flag(space, far);
+    let page = page_behind(page, far);
+    match ready(space, frames, page, write) {
+        Ok(()) => {
+            let want = Want { write, long: false };
+            taken.push(pin_page(space, frames, page, want));
+            let tried = PlainEvent::PinTry {
+                actor,
+                proc,
+                page,
+                write,
+            };
+            if far + 1 < u16::from(n) {
+                return happened(tried);
+            }
+            hold(handles, taken, actor, handle, write);
+            Said {
+                event: Some(tried),
+                next: Some(PlainEvent::PinOk { actor, handle }),
+                answer: Some(Answer::Pinned(n)),
+            }
+        }
+        Err(denied) if far == 0 => refused(answer_of(denied)),
+        Err(denied) => {
+            let answer = Answer::Short {
+                got: far as u8,
+                wanted: n,
+                cause: cause_of(denied),
+            };
+            hold(handles, taken, actor, handle, write);
+            done(PlainEvent::PinOk { actor, handle }, answer)
+        }
+    }
+}
+
+// Before the first page is tried the process has pinned.
+fn raise_flag(space: &mut Space, far: u16)
+    ensures { space_of space.new ≡ raised far (space_of space.old) }
+{
+    if far == 0 {
+        space.set_pinned();
+    }
+}
+
+// Makes the page ready for a pin: its frame is exclusive, and its entry writable where the pin is to write.
+fn ready(space: &mut Space, frames: &mut Frames, page: PageNo, write: bool) -> Result<(), Denied>
+    requires tidy { IsTidy (frames_of frames.old) (space_of space.old) }
+    requires table { (space_of space.old).table ≡ None }
+    requires few { (f : ℕ) → (frames_of frames.old).count f < 2 ^ 40 }
+    ensures fault { IsFault (change_of frames.old frames.new space.old space.new) (denial_of result)
+        (λ a p. fault_to_pin (frames_of frames.old) (space_of space.old) a p page write) }
+    ensures ready { OnOk result (IsReady (frames_of frames.new) (space_of space.new) page (want_of write)) }
+{
+    if write {
+        ready_to_write(space, frames, page)
+    } else {
+        ready_to_read(space, frames, page)
+    }
+}
+
+// The same of a pin to write, and of one to read.
+fn ready_to_write(space: &mut Space, frames: &mut Frames, page: PageNo) -> Result<(), Denied>
+    requires tidy { IsTidy (frames_of frames.old) (space_of space.old) }
+    requires table { (space_of space.old).table ≡ None }
+    requires few { (f : ℕ) → (frames_of frames.old).count f < 2 ^ 40 }
+    ensures fault { IsFault (change_of frames.old frames.new space.old space.new) (denial_of result)
+        (λ a p. fault_to_pin (frames_of frames.old) (space_of space.old) a p page true) }
+    ensures ready { OnOk result (IsReady (frames_of frames.new) (space_of space.new) page (want_of true)) }
+{
+    space.has_room(page);
+    let ready = ready_write(space, frames, page, Allowed::Any);
+    frames.are_there();
+    ready
+}
+
+fn ready_to_read(space: &mut Space, frames: &mut Frames, page: PageNo) -> Result<(), Denied>
+    requires tidy { IsTidy (frames_of frames.old) (space_of space.old) }
+    requires table { (space_of space.old).table ≡ None }
+    requires few { (f : ℕ) → (frames_of frames.old).count f < 2 ^ 40 }
+    ensures fault { IsFault (change_of frames.old frames.new space.old space.new) (denial_of result)
+        (λ a p. fault_to_pin (frames_of frames.old) (space_of space.old) a p page false) }
+    ensures ready { OnOk result (IsReady (frames_of frames.new) (space_of space.new) page (want_of false)) }
+{
+    space.has_room(page);
+    let ready = unshare(space, frames, page, Allowed::Any);
+    frames.are_there();
+    ready
+}
+
+// What the running pin has taken is the handle's.
+fn hold(
+    handles: &mut Handles,
+    taken: &mut ArrayVec<FrameNo, 16>,
+    actor: ActorNo,
+    handle: HandleNo,
+    write: bool,
+)
+    requires unmade { handles_of handles.old handle ≡ unmade }
+    requires some { 0 < array_vec_len taken.old }
+    ensures held { handles_of handles.new ≡ put handle (held actor taken.old.items write) (handles_of handles.old) }
+    ensures empty { taken.new.items ≡ [] }
+{
+    handles.hold(handle, actor, taken, write);
+    taken.clear();
+}
+
+// Why a page ended a short pin.
+fn cause_of(denied: Denied) -> Cause
+    ensures { result ≡ cause (answered denied) }
+{
+    match denied {
+        Denied::Missing => Cause::Missing,
+        Denied::Forbidden => Cause::Forbidden,
+        Denied::NoFrame => Cause::NoFrame,
+    }
+}

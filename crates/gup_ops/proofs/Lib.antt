@@ -1,9 +1,0 @@
-pub mod Searching
-pub mod Leading
-pub mod Loading
-pub mod Unmapping
-pub mod Mapping
-pub mod Forking
-pub mod Copying
-pub mod Readying
-pub mod Pinning

@@ -1,4 +1,0 @@
-use Rattle.gup_ops.proofs.forks.fork.Goals as goal
-
-pub returns-in-Unbegun : goal.returns-in-Unbegun
-returns-in-Unbegun c = rw c.in-Unbegun.is (c.first_turn.ensures c.args.frames.now)
