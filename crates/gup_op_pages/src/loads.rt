@@ -12,7 +12,7 @@ ghost use Rattle.gup_op_base.specs.Said.{whats_of, loaded_said, stored_said, IsT
 
 use gup_op_base::{Said, done, refused};
 use gup_base::{ActorNo, Allowed, Entry, PageNo, ProcNo, WordNo};
-use gup_fault::{Denied, ready_read, ready_write};
+use gup_fault::{answer_of, ready_read, ready_write};
 use gup_frames::Frames;
 use gup_plain::{Answer, PlainEvent};
 use gup_space::Space;
