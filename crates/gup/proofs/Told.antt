@@ -5,9 +5,9 @@ use Rattle.std.proofs.lemmas.Bool.{leb-true, leb-false}
 use Rattle.std.proofs.lemmas.Bool.Decides.{nat_tests}
 use Rattle.std.proofs.lemmas.List.{take_all, length-take, length-take-le, drop_all}
 use Rattle.gup_script.specs.Script.{ScriptValue}
-use Rattle.gup_read.specs.Grammar.{Accepts}
-use Rattle.gup_read.specs.Fault.{HasFault}
-use Rattle.gup_read.specs.declared.refusal.ScriptFault.{ScriptFault}
+use Rattle.gup_spec_grammar.specs.Grammar.{Accepts}
+use Rattle.gup_spec_grammar.specs.Fault.{HasFault}
+use Rattle.gup_spec_grammar.specs.declared.fault.ScriptFault.{ScriptFault}
 use Rattle.gup_io.specs.Faults.{HasCause, EndsInFault}
 use Rattle.gup_io.specs.Transfers.{Loses}
 use Rattle.gup.specs.Report.{OfScript, AreScript, IsScriptOf, IsRefusedFor}

@@ -16,11 +16,11 @@ use Rattle.gup.specs.declared.top.Unread.{Unread}
 use Rattle.gup.specs.declared.top.Unread.TheVariants.{Failed, Fault, NoMemory}
 use Rattle.gup.specs.Cause.{HasCauses}
 use Rattle.gup.specs.Stuck.{IsFinishedRun, IsStuckRun, AreWaiting, run_text}
-use Rattle.gup_read.specs.Fault.{HasFault}
-use Rattle.gup_read.specs.Grammar.{Accepts}
-use Rattle.gup_read.specs.declared.refusal.Reason.{Reason}
-use Rattle.gup_read.specs.declared.refusal.Reason.TheVariants as reasons
-use Rattle.gup_read.specs.declared.refusal.ScriptFault.{ScriptFault}
+use Rattle.gup_spec_grammar.specs.Fault.{HasFault}
+use Rattle.gup_spec_grammar.specs.Grammar.{Accepts}
+use Rattle.gup_spec_grammar.specs.declared.fault.Reason.{Reason}
+use Rattle.gup_spec_grammar.specs.declared.fault.Reason.TheVariants as reasons
+use Rattle.gup_spec_grammar.specs.declared.fault.ScriptFault.{ScriptFault}
 use Rattle.gup_script.specs.Script.{ScriptValue}
 
 -- The one command so far: the word `run` alone.

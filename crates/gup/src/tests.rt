@@ -4,7 +4,7 @@ use super::*;
 use crate::examples::EXAMPLES;
 use crate::top::Report;
 use gup_io::{Failed, MemSink, MemSource, Sink, Source, SureSource};
-use gup_read::{Reason, ScriptFault};
+use gup_spec_grammar::{Reason, ScriptFault};
 use std::alloc::{AllocError, Global};
 use std::process::Abort;
 use std::test::Fail;

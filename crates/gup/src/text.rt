@@ -13,7 +13,7 @@ use gup_base::{ActorNo, NoMemory};
 use gup_core::Machine;
 use gup_lines::{Outcome, outcomes, push_line, push_stuck};
 use gup_plain::{Journal, Waiting};
-use gup_read::{Reason, ScriptFault};
+use gup_spec_grammar::{Reason, ScriptFault};
 use gup_script::Script;
 use itoa::Buffer;
 use std::alloc::Global;

@@ -6,14 +6,14 @@ use Rattle.gup_read_words.proofs.SpelledNumbers.{number_read, index_read, count_
 use Rattle.gup_read_words.proofs.SpelledPlaces.{address_read, range_read}
 use Rattle.gup_read_words.specs.Text.{address_in, range_in, index_in, count_in}
 use Rattle.gup_script.specs.declared.op.Op.{Op}
-use Rattle.gup_read.specs.declared.refusal.Reason.{Reason}
-use Rattle.gup_read.specs.declared.refusal.Reason.TheVariants as reasons
-use Rattle.gup_read_words.specs.Spelling.{IsRange, IsAddress, IsIndex, IsCount}
-use Rattle.gup_read.specs.Said.{Word, Action, maps, unmaps, protects, discards, loads, stores, exits, pins, forks, unpins, takes, gives, transfers, write_word, action_words, IsShaped}
-use Rattle.gup_read_outline.specs.Outline.{Outline, with_operation}
+use Rattle.gup_spec_grammar.specs.declared.fault.Reason.{Reason}
+use Rattle.gup_spec_grammar.specs.declared.fault.Reason.TheVariants as reasons
+use Rattle.gup_spec_grammar.specs.Spelling.{IsRange, IsAddress, IsIndex, IsCount}
+use Rattle.gup_spec_grammar.specs.Said.{Word, Action, maps, unmaps, protects, discards, loads, stores, exits, pins, forks, unpins, takes, gives, transfers, write_word, action_words, IsShaped}
+use Rattle.gup_spec_grammar.specs.Outline.{Outline, with_operation}
 use Rattle.gup_script.specs.Limits.{most_operations, most_pinned, most_words}
-use Rattle.gup_read.specs.Grammar.{ActionNumbers, ActionNames, ActionOnce, ActionLimits, NamesPin, NamesActor, Means, IsBuilt, with_declared, Does}
-use Rattle.gup_read.specs.Fault.{ActionFault}
+use Rattle.gup_spec_grammar.specs.Grammar.{ActionNumbers, ActionNames, ActionOnce, ActionLimits, NamesPin, NamesActor, Means, IsBuilt, with_declared, Does}
+use Rattle.gup_spec_grammar.specs.Fault.{ActionFault}
 use Rattle.gup_read.specs.Reading.{◌>>=◌, check, need, with_pinned}
 use Rattle.gup_read.proofs.Chains.{Tried, stops, goes, checked, both, carried, tried_ok, tried_err, tried_pass, tried_stop}
 use Rattle.gup_read.proofs.Judged.{Ends, built, later, Judged}

@@ -1,11 +1,11 @@
 -- What is read of a text is right by the grammar, and so is a refusal.
 use Rattle.std.proofs.Common.{ℕ, List, Result, Ok, Err, sym, subst}
 use Rattle.std.specs.Prelude.{IfOk, IfErr}
-use Rattle.gup_read.specs.declared.refusal.ReadRefusal.{ReadRefusal}
-use Rattle.gup_read.specs.declared.refusal.ReadRefusal.TheVariants as refusals
+use Rattle.gup_spec_grammar.specs.declared.fault.ReadRefusal.{ReadRefusal}
+use Rattle.gup_spec_grammar.specs.declared.fault.ReadRefusal.TheVariants as refusals
 use Rattle.gup_script.specs.Script.{ScriptValue}
-use Rattle.gup_read.specs.Grammar.{Accepts}
-use Rattle.gup_read.specs.Fault.{IsRefusalOf}
+use Rattle.gup_spec_grammar.specs.Grammar.{Accepts}
+use Rattle.gup_spec_grammar.specs.Fault.{IsRefusalOf}
 use Rattle.gup_read.specs.Reading.{reading}
 use Rattle.gup_read.specs.Steps.{IsRead}
 use Rattle.gup_read.proofs.Laws.{found, fault_found}

@@ -6,9 +6,9 @@ use Rattle.gup_base.specs.declared.entry.Rights.{Rights}
 use Rattle.gup_base.specs.declared.entry.Rights.TheVariants.{R, RW}
 use Rattle.gup_read_words.specs.Text.{range_in}
 use Rattle.gup_script.specs.declared.op.Op.TheVariants as ops
-use Rattle.gup_read.specs.declared.refusal.Reason.TheVariants as reasons
-use Rattle.gup_read.specs.Said.{Word, maps, unmaps, protects, discards, loads, stores, forks, exits, rights_word}
-use Rattle.gup_read_outline.specs.Outline.{Outline}
+use Rattle.gup_spec_grammar.specs.declared.fault.Reason.TheVariants as reasons
+use Rattle.gup_spec_grammar.specs.Said.{Word, maps, unmaps, protects, discards, loads, stores, forks, exits, rights_word}
+use Rattle.gup_spec_grammar.specs.Outline.{Outline}
 use Rattle.gup_read.specs.Reading.{◌>>=◌, need, rights_in, map_in, unmap_in, protect_in, discard_in, load_in, store_in, fork_in, exit_in}
 use Rattle.gup_read.proofs.Chains.{goes, checked, both, same_word}
 use Rattle.gup_read.proofs.ActionWords.{said_with}

@@ -2,12 +2,12 @@
 use Rattle.std.proofs.Common.{◌≡◌, ℕ, Bool, true, false, not, cond, List, [], ◌∷◌, length, Option, Some, None, Ok, Err, refl, sym, ap, subst, ◌∙◌, inl, inr, lit<}
 use Rattle.std.specs.Prelude.{codes}
 use Rattle.std.specs.Str.{bytes_eq}
-use Rattle.gup_read_words.specs.Spelling.{IsRange}
+use Rattle.gup_spec_grammar.specs.Spelling.{IsRange}
 use Rattle.gup_script.specs.declared.op.Op.TheVariants as ops
 use Rattle.gup_script.specs.Limits.{most_pinned, most_words}
-use Rattle.gup_read.specs.declared.refusal.Reason.TheVariants as reasons
-use Rattle.gup_read.specs.Said.{Word, pins, unpins, takes, gives, transfers, pin_word, write_word, transfer_word}
-use Rattle.gup_read_outline.specs.Outline.{Outline}
+use Rattle.gup_spec_grammar.specs.declared.fault.Reason.TheVariants as reasons
+use Rattle.gup_spec_grammar.specs.Said.{Word, pins, unpins, takes, gives, transfers, pin_word, write_word, transfer_word}
+use Rattle.gup_spec_grammar.specs.Outline.{Outline}
 use Rattle.gup_read.specs.Reading.{◌>>=◌, check, way_in, pinned_in, pin_in, unpin_in, take_in, give_in, transfer_in}
 use Rattle.gup_read.proofs.Chains.{goes, checked, both, all_three, same_word, unused_Decides}
 use Rattle.gup_read.proofs.ActionWords.{said_with, action_in}

@@ -4,9 +4,9 @@ use Rattle.std.proofs.Common.{◌≡◌, ℕ, ◌⊎◌, Bool, true, false, List
 use Rattle.std.specs.Bool.{Decides}
 use Rattle.std.specs.Str.{bytes_eq}
 use Rattle.std.proofs.lemmas.Slice.Eq.{bytes_eq-Decides}
-use Rattle.gup_read_names.specs.Names.{Entry, find, is_unused}
-use Rattle.gup_read.specs.declared.refusal.Reason.{Reason}
-use Rattle.gup_read.specs.Fault.{Unless}
+use Rattle.gup_spec_grammar.specs.Names.{Entry, find, is_unused}
+use Rattle.gup_spec_grammar.specs.declared.fault.Reason.{Reason}
+use Rattle.gup_spec_grammar.specs.Fault.{Unless}
 use Rattle.gup_read.specs.Reading.{◌>>=◌, check, need}
 
 -- ---- a chain that gave something

@@ -4,15 +4,16 @@ use Rattle.std.specs.List.{position_or_len}
 use Rattle.std.proofs.lemmas.Bool.{not-true, ltb-true, lt-ltb, le-ltb}
 use Rattle.std.proofs.lemmas.List.Sums.{prefix_len_passes}
 use Rattle.std.proofs.lemmas.List.Splits.{slice_split_none, slice_split_first, length-slice_split}
-use Rattle.gup_read_words.specs.Text.{parts, is_printable}
-use Rattle.gup_read.specs.declared.refusal.Reason.TheVariants as reasons
-use Rattle.gup_read.specs.declared.refusal.ScriptFault.{ScriptFault}
+use Rattle.gup_spec_grammar.specs.Spelling.{parts}
+use Rattle.gup_read_words.specs.Text.{is_printable}
+use Rattle.gup_spec_grammar.specs.declared.fault.Reason.TheVariants as reasons
+use Rattle.gup_spec_grammar.specs.declared.fault.ScriptFault.{ScriptFault}
 use Rattle.gup_read.specs.declared.refusal.Trouble.{Trouble}
 use Rattle.gup_read.specs.declared.refusal.Trouble.TheVariants as trouble
 use Rattle.gup_read.specs.declared.stage.Stage.{Stage as CodeStage}
 use Rattle.gup_read.specs.declared.stage.Stage.TheVariants.{BeforeHead, BeforeFrames}
-use Rattle.gup_read_outline.specs.Outline.{Outline}
-use Rattle.gup_read.specs.Grammar.{Stage, before_head, before_frames, open_at}
+use Rattle.gup_spec_grammar.specs.Outline.{Outline}
+use Rattle.gup_spec_grammar.specs.Grammar.{Stage, before_head, before_frames, open_at}
 use Rattle.gup_read.specs.Reading.{line_in, fault_at, end_in, behind, lines_in, reading}
 use Rattle.gup_read.specs.Steps.{IsTrouble, IsRefusal, refusal_at}
 use Rattle.gup_read.specs.StageViews.{stage_value}

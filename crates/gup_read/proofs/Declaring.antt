@@ -3,15 +3,15 @@ use Rattle.std.proofs.Common.{◌≡◌, ◌<◌, ◌&&◌, Bool, true, false, n
 use Rattle.std.specs.Prelude.{codes}
 use Rattle.std.proofs.lemmas.Bool.Decides.{Decides-ltb, Decides-and}
 use Rattle.gup_read_words.specs.Text.{number_in, count_in, is_name}
-use Rattle.gup_read_words.specs.Spelling.{IsCount, IsName}
-use Rattle.gup_read_names.specs.Names.{find, is_unused}
+use Rattle.gup_spec_grammar.specs.Spelling.{IsCount, IsName}
+use Rattle.gup_spec_grammar.specs.Names.{find, is_unused}
 use Rattle.gup_script.specs.declared.op.Kind.TheVariants.{Thread, Device, Mover}
-use Rattle.gup_read.specs.declared.refusal.Reason.TheVariants.{Number, Name, Twice, Limit}
-use Rattle.gup_read_outline.specs.Outline.{Outline, with_process, with_actor, with_seed, is_thread, is_device, how_many, has_mover}
+use Rattle.gup_spec_grammar.specs.declared.fault.Reason.TheVariants.{Number, Name, Twice, Limit}
+use Rattle.gup_spec_grammar.specs.Outline.{Outline, with_process, with_actor, with_seed, is_thread, is_device, how_many, has_mover}
 use Rattle.gup_script.specs.Limits.{most_processes, most_threads, most_devices, most_slots}
-use Rattle.gup_read.specs.Said.{Word, a_process, a_child, a_thread, a_device, a_mover, a_seed}
-use Rattle.gup_read.specs.Grammar.{IsUnused}
-use Rattle.gup_read.specs.Fault.{Unless, Fails}
+use Rattle.gup_spec_grammar.specs.Said.{Word, a_process, a_child, a_thread, a_device, a_mover, a_seed}
+use Rattle.gup_spec_grammar.specs.Grammar.{IsUnused}
+use Rattle.gup_spec_grammar.specs.Fault.{Unless, Fails}
 use Rattle.gup_read_outline.specs.Named.{process_of}
 use Rattle.gup_read.specs.Reading.{process_in, thread_in, device_in, mover_in, seed_in}
 use Rattle.gup_read.proofs.Verdicts.{Judges, Finds, same_given, checked, skipped, needed, ended, done, merged}

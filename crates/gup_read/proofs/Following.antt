@@ -5,12 +5,12 @@ use Rattle.std.specs.List.{list_any}
 use Rattle.std.proofs.lemmas.Bool.Decides.{not_from_Decides}
 use Rattle.std.proofs.lemmas.Map.Made.{Contains-tail}
 use Rattle.std.proofs.lemmas.Slice.Eq.{bytes_eq-Decides}
-use Rattle.gup_read.specs.declared.refusal.Reason.{Reason}
-use Rattle.gup_read.specs.declared.refusal.Reason.TheVariants.{Word}
-use Rattle.gup_read_outline.specs.Outline.{Outline}
-use Rattle.gup_read.specs.Said.{Said, said_words, declaring_words, Word as Letters}
-use Rattle.gup_read.specs.Grammar.{Declares, first_word, IsNext}
-use Rattle.gup_read.specs.Fault.{Unless, DeclaringFault, NextFault}
+use Rattle.gup_spec_grammar.specs.declared.fault.Reason.{Reason}
+use Rattle.gup_spec_grammar.specs.declared.fault.Reason.TheVariants.{Word}
+use Rattle.gup_spec_grammar.specs.Outline.{Outline}
+use Rattle.gup_spec_grammar.specs.Said.{Said, said_words, declaring_words, Word as Letters}
+use Rattle.gup_spec_grammar.specs.Grammar.{Declares, first_word, IsNext}
+use Rattle.gup_spec_grammar.specs.Fault.{Unless, DeclaringFault, NextFault}
 use Rattle.gup_read.specs.Reading.{on_in, next_in}
 use Rattle.gup_read.proofs.Lists.{neither}
 use Rattle.gup_read.proofs.Verdicts.{Judges, adjusted, parted, refused}

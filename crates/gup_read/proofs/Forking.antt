@@ -8,7 +8,7 @@ use Rattle.gup_script.specs.declared.op.Op.{Op}
 use Rattle.gup_script.specs.declared.op.Op.TheVariants.{Map, Unmap, Protect, Discard, Load, Store, Pin, Unpin, Give, Take, Transfer, Fork, Exit}
 use Rattle.gup_script.specs.Script.{ScriptValue, Process, Actor, ops_in}
 use Rattle.gup_script.specs.Valid.{IsChild, AreDeclared}
-use Rattle.gup_read_outline.specs.Outline.{with_op, is_child_at, forks_child}
+use Rattle.gup_spec_grammar.specs.Outline.{with_op, is_child_at, forks_child}
 use Rattle.gup_read.proofs.Lists.{each_like, all_at, none_passes}
 
 -- ---- children that are declared

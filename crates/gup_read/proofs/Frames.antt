@@ -5,16 +5,16 @@ use Rattle.std.proofs.lemmas.Bool.{leb-true, le-leb}
 use Rattle.std.proofs.lemmas.Bool.Decides.{Decides-and, Decides-like, not_from_Decides}
 use Rattle.std.proofs.lemmas.Slice.Eq.{bytes_eq-Decides}
 use Rattle.gup_read_words.specs.Text.{number_in}
-use Rattle.gup_read_words.specs.Spelling.{IsNumber}
+use Rattle.gup_spec_grammar.specs.Spelling.{IsNumber}
 use Rattle.gup_read_words.proofs.SpelledNumbers.{number_found, number_read}
-use Rattle.gup_read.specs.declared.refusal.Reason.{Reason}
-use Rattle.gup_read.specs.declared.refusal.Reason.TheVariants as reasons
+use Rattle.gup_spec_grammar.specs.declared.fault.Reason.{Reason}
+use Rattle.gup_spec_grammar.specs.declared.fault.Reason.TheVariants as reasons
 use Rattle.gup_script.specs.Script.{FrameCounts}
 use Rattle.gup_script.specs.Limits.{most_frames, most_tables}
-use Rattle.gup_read.specs.Said.{Word}
-use Rattle.gup_read.specs.Grammar.{AreFrames, AreFrameCounts, frames_words, head_words}
-use Rattle.gup_read.specs.Fault.{Unless, Fails}
-use Rattle.gup_read_outline.specs.Outline.{frame_counts}
+use Rattle.gup_spec_grammar.specs.Said.{Word}
+use Rattle.gup_spec_grammar.specs.Grammar.{AreFrames, AreFrameCounts, frames_words, head_words}
+use Rattle.gup_spec_grammar.specs.Fault.{Unless, Fails}
+use Rattle.gup_spec_grammar.specs.Outline.{frame_counts}
 use Rattle.gup_read.specs.Reading.{counts_in, frames_in, is_head}
 use Rattle.gup_read.proofs.Verdicts.{Judges, needed, ended, parted, refused, ok_not_err}
 use Rattle.gup_read.proofs.Known.{number_finds}

@@ -5,20 +5,20 @@ use Rattle.std.specs.Bool.{Decides}
 use Rattle.std.proofs.lemmas.Bool.{ltb-true, lt-ltb}
 use Rattle.std.proofs.lemmas.Bool.Decides.{Decides-eqb}
 use Rattle.gup_read_words.specs.Text.{number_in, count_in, index_in, page_in, word_no_in, address_in, range_in, is_name}
-use Rattle.gup_read_words.specs.Spelling.{IsNumber, IsCount, IsIndex, IsPage, IsWordNo, IsAddress, IsRange, IsName}
+use Rattle.gup_spec_grammar.specs.Spelling.{IsNumber, IsCount, IsIndex, IsPage, IsWordNo, IsAddress, IsRange, IsName}
 use Rattle.gup_read_words.proofs.SpelledNumbers.{number_found, number_read, count_found, count_read, index_found, index_read, page_found, page_read, word_no_found, word_no_read}
 use Rattle.gup_read_words.proofs.SpelledPlaces.{address_found, address_read, range_found, range_read}
 use Rattle.gup_read_words.proofs.SpelledNames.{name_found, name_read}
-use Rattle.gup_read_names.specs.Names.{find}
-use Rattle.gup_read_names.specs.declared.names.Named.{Named}
-use Rattle.gup_read_names.specs.declared.names.Named.TheVariants as named
+use Rattle.gup_spec_grammar.specs.Names.{find}
+use Rattle.gup_spec_grammar.specs.declared.named.Named.{Named}
+use Rattle.gup_spec_grammar.specs.declared.named.Named.TheVariants as named
 use Rattle.gup_script.specs.declared.op.Op.{Op}
-use Rattle.gup_read.specs.declared.refusal.Reason.{Reason}
-use Rattle.gup_read.specs.declared.refusal.Reason.TheVariants as reasons
-use Rattle.gup_read.specs.Said.{Word, Action, action_words, IsShaped}
-use Rattle.gup_read_outline.specs.Outline.{Outline, is_child, is_forked, next_handle, is_receiver}
+use Rattle.gup_spec_grammar.specs.declared.fault.Reason.{Reason}
+use Rattle.gup_spec_grammar.specs.declared.fault.Reason.TheVariants as reasons
+use Rattle.gup_spec_grammar.specs.Said.{Word, Action, action_words, IsShaped}
+use Rattle.gup_spec_grammar.specs.Outline.{Outline, is_child, is_forked, next_handle, is_receiver}
 use Rattle.gup_script.specs.Limits.{most_handles}
-use Rattle.gup_read.specs.Grammar.{ActionNumbers, ActionNames, ActionOnce, HandleLimits, Means, IsBuilt, NamesProcess, NamesActor, NamesPin}
+use Rattle.gup_spec_grammar.specs.Grammar.{ActionNumbers, ActionNames, ActionOnce, HandleLimits, Means, IsBuilt, NamesProcess, NamesActor, NamesPin}
 use Rattle.gup_read.specs.Reading.{◌>>=◌, check, need}
 use Rattle.gup_read_outline.specs.Named.{process_of, actor_of, pin_of, is_got_name, is_mirror_of, may_mirror}
 use Rattle.gup_read.proofs.Chains.{Tried, stops, goes, needed}

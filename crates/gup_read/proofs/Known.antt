@@ -1,14 +1,14 @@
 -- The tests on names and words, and what each of them decides.
 use Rattle.std.proofs.Common.{◌≡◌, ℕ, ◌<◌, Bool, true, false, not, List, Option, Some, None, is_none, refl, ap, ◌^◌, Decides}
 use Rattle.gup_read_words.specs.Text.{number_in, count_in, is_name}
-use Rattle.gup_read_words.specs.Spelling.{IsNumber, IsCount, IsName}
+use Rattle.gup_spec_grammar.specs.Spelling.{IsNumber, IsCount, IsName}
 use Rattle.gup_read_words.proofs.SpelledNumbers.{number_found, number_read, count_found, count_read}
 use Rattle.gup_read_words.proofs.SpelledNames.{name_found, name_read}
-use Rattle.gup_read_names.specs.Names.{find, is_unused}
-use Rattle.gup_read_names.specs.declared.names.Named.{Named}
-use Rattle.gup_read_names.specs.declared.names.Named.TheVariants as named
-use Rattle.gup_read_outline.specs.Outline.{Outline}
-use Rattle.gup_read.specs.Grammar.{IsUnused, NamesProcess, NamesActor}
+use Rattle.gup_spec_grammar.specs.Names.{find, is_unused}
+use Rattle.gup_spec_grammar.specs.declared.named.Named.{Named}
+use Rattle.gup_spec_grammar.specs.declared.named.Named.TheVariants as named
+use Rattle.gup_spec_grammar.specs.Outline.{Outline}
+use Rattle.gup_spec_grammar.specs.Grammar.{IsUnused, NamesProcess, NamesActor}
 use Rattle.gup_read_outline.specs.Named.{process_of, actor_of}
 use Rattle.gup_read.proofs.Verdicts.{Finds}
 

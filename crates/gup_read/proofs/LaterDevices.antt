@@ -9,10 +9,10 @@ use Rattle.gup_base.specs.declared.entry.Zone.{Zone}
 use Rattle.gup_base.specs.declared.entry.Zone.TheVariants.{Movable, Normal}
 use Rattle.gup_read_words.specs.Text.{segment_in}
 use Rattle.gup_read_words.proofs.SpelledPlaces.{segment_found, segment_read}
-use Rattle.gup_read_names.specs.Names.{find}
-use Rattle.gup_read.specs.Said.{Word, transfers_parts, mirrors, looks, moves, parts_word, zone_word}
-use Rattle.gup_read_outline.specs.Outline.{Outline}
-use Rattle.gup_read.specs.Grammar.{AreSegments}
+use Rattle.gup_spec_grammar.specs.Names.{find}
+use Rattle.gup_spec_grammar.specs.Said.{Word, transfers_parts, mirrors, looks, moves, parts_word, zone_word}
+use Rattle.gup_spec_grammar.specs.Outline.{Outline}
+use Rattle.gup_spec_grammar.specs.Grammar.{AreSegments}
 use Rattle.gup_read.specs.Reading.{is_zone, segments_in, at_most_64, parts_in, mirror_in, look_in, move_in}
 use Rattle.gup_read.proofs.Chains.{goes, checked, both, same_word}
 use Rattle.gup_read.proofs.ActionWords.{said_with, zone_in}

@@ -1,9 +1,9 @@
 -- What the words of a thread's operations that come later come to: references.
 use Rattle.std.proofs.Common.{ℕ, List, [], ◌∷◌, refl, inl, inr}
 use Rattle.std.specs.Prelude.{codes}
-use Rattle.gup_read_names.specs.Names.{find}
-use Rattle.gup_read.specs.Said.{Word, gets, puts}
-use Rattle.gup_read_outline.specs.Outline.{Outline}
+use Rattle.gup_spec_grammar.specs.Names.{find}
+use Rattle.gup_spec_grammar.specs.Said.{Word, gets, puts}
+use Rattle.gup_spec_grammar.specs.Outline.{Outline}
 use Rattle.gup_read.specs.Reading.{get_in, put_in}
 use Rattle.gup_read.proofs.Chains.{goes, checked, unused_Decides}
 use Rattle.gup_read.proofs.Judged.{later, Told, page_step, name_Decides, got_Decides, handle_step}

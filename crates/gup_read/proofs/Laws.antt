@@ -2,16 +2,16 @@
 use Rattle.std.proofs.Common.{◌≡◌, ◌⊎◌, ℕ, ◌+◌, ◌<◌, Bool, true, false, cond, ltb, List, [], ◌∷◌, ◌++◌, length, refl, sym, ap, subst, ◌∙◌, Result, Ok, Err, inl, inr, arith}
 use Rattle.std.proofs.lemmas.Bool.{ltb-true, ltb-false, lt-ltb, le-ltb}
 use Rattle.std.proofs.lemmas.Bool.Decides.{not_from_Decides}
-use Rattle.gup_read_words.specs.Text.{parts, is_printable}
-use Rattle.gup_read_words.specs.Spelling.{IsPrintable}
+use Rattle.gup_spec_grammar.specs.Spelling.{parts, IsPrintable}
+use Rattle.gup_read_words.specs.Text.{is_printable}
 use Rattle.gup_read_words.proofs.SpelledNames.{printable_found, printable_read}
-use Rattle.gup_read.specs.declared.refusal.Reason.{Reason}
-use Rattle.gup_read.specs.declared.refusal.Reason.TheVariants as reasons
-use Rattle.gup_read.specs.declared.refusal.ScriptFault.{ScriptFault}
+use Rattle.gup_spec_grammar.specs.declared.fault.Reason.{Reason}
+use Rattle.gup_spec_grammar.specs.declared.fault.Reason.TheVariants as reasons
+use Rattle.gup_spec_grammar.specs.declared.fault.ScriptFault.{ScriptFault}
 use Rattle.gup_script.specs.Script.{ScriptValue}
-use Rattle.gup_read_outline.specs.Outline.{Outline}
-use Rattle.gup_read.specs.Grammar.{most_bytes, Stage, before_head, before_frames, open_at, IsRight, AreRight, Accepts}
-use Rattle.gup_read.specs.Fault.{Unless, LastFault, IsShort, FaultAt, HasFault}
+use Rattle.gup_spec_grammar.specs.Outline.{Outline}
+use Rattle.gup_spec_grammar.specs.Grammar.{most_bytes, Stage, before_head, before_frames, open_at, IsRight, AreRight, Accepts}
+use Rattle.gup_spec_grammar.specs.Fault.{Unless, LastFault, IsShort, FaultAt, HasFault}
 use Rattle.gup_read.specs.Reading.{line_in, fault_at, end_in, behind, lines_in, reading}
 use Rattle.gup_read.proofs.Spaced.{AreNamedAt, stays_named}
 use Rattle.gup_read.proofs.Lines.{judged_line, some_part}

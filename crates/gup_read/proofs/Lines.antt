@@ -2,15 +2,15 @@
 use Rattle.std.proofs.Common.{◌≡◌, ℕ, ◌<◌, Bool, true, false, not, cond, eqb, List, [], ◌∷◌, length, refl, sym, ap, ◌∙◌, Result, Ok, Err, inl, inr, Decides, arith}
 use Rattle.std.proofs.lemmas.Bool.Decides.{Decides-and, Decides-eqb, not_from_Decides}
 use Rattle.std.proofs.lemmas.List.Splits.{length-slice_split}
-use Rattle.gup_read_words.specs.Text.{parts, is_printable, is_passed, are_spaced, is_some_word}
-use Rattle.gup_read_words.specs.Spelling.{IsPrintable}
+use Rattle.gup_spec_grammar.specs.Spelling.{parts, IsPrintable}
+use Rattle.gup_read_words.specs.Text.{is_printable, is_passed, are_spaced, is_some_word}
 use Rattle.gup_read_words.proofs.SpelledNames.{printable_found, printable_read}
-use Rattle.gup_read.specs.declared.refusal.Reason.{Reason}
-use Rattle.gup_read.specs.declared.refusal.Reason.TheVariants as reasons
-use Rattle.gup_read_outline.specs.Outline.{empty_outline}
-use Rattle.gup_read.specs.Said.{Word}
-use Rattle.gup_read.specs.Grammar.{Stage, before_head, before_frames, open_at, IsSaid, IsPassed, IsRight}
-use Rattle.gup_read.specs.Fault.{Unless, AreSpaced, WordsFault, LineFault}
+use Rattle.gup_spec_grammar.specs.declared.fault.Reason.{Reason}
+use Rattle.gup_spec_grammar.specs.declared.fault.Reason.TheVariants as reasons
+use Rattle.gup_spec_grammar.specs.Outline.{empty_outline}
+use Rattle.gup_spec_grammar.specs.Said.{Word}
+use Rattle.gup_spec_grammar.specs.Grammar.{Stage, before_head, before_frames, open_at, IsSaid, IsPassed, IsRight}
+use Rattle.gup_spec_grammar.specs.Fault.{Unless, AreSpaced, WordsFault, LineFault}
 use Rattle.gup_read.specs.Reading.{◌>>=◌, is_head, words_in, said_in, line_in}
 use Rattle.gup_read.proofs.Verdicts.{Judges, same_good, same_bad, not_bad, checked, ended, adjusted, refused}
 use Rattle.gup_read.proofs.Following.{judged_next}

@@ -8,9 +8,9 @@ use Rattle.gup_script.specs.declared.op.Kind.TheVariants.{Thread, Device, Mover}
 use Rattle.gup_script.specs.declared.op.Op.{Op}
 use Rattle.gup_script.specs.declared.op.Op.TheVariants.{Pin, Fork}
 use Rattle.gup_script.specs.Script.{Actor, process_at}
-use Rattle.gup_read_outline.specs.Outline.{Outline, with_handle, is_child, is_forked}
-use Rattle.gup_read.specs.Said.{Word, Action, maps, unmaps, protects, discards, loads, stores, exits, pins, forks, unpins, takes, gives, transfers, action_words, op_words, op_words_of}
-use Rattle.gup_read.specs.Grammar.{NamesProcess, ActionNames, ActionOnce, Means, with_declared, first_word}
+use Rattle.gup_spec_grammar.specs.Outline.{Outline, with_handle, is_child, is_forked}
+use Rattle.gup_spec_grammar.specs.Said.{Word, Action, maps, unmaps, protects, discards, loads, stores, exits, pins, forks, unpins, takes, gives, transfers, action_words, op_words, op_words_of}
+use Rattle.gup_spec_grammar.specs.Grammar.{NamesProcess, ActionNames, ActionOnce, Means, with_declared, first_word}
 use Rattle.gup_script.specs.Valid.{IsOp, FitsKind, IsOfThread, IsOfDevice, AreDeclared}
 use Rattle.gup_read.proofs.Following.{none_among}
 use Rattle.gup_read.proofs.Forking.{IsForkOf, IsPinOf, IsFresh, child_is, fork_no_pin, pin_declared, unforked}

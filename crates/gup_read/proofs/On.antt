@@ -2,15 +2,15 @@
 -- a fault in, is read so.
 use Rattle.std.proofs.Common.{◌≡◌, ℕ, ◌⊎◌, List, [], ◌∷◌, Option, Some, None, Result, Ok, Err, refl, sym, ap, subst, inl, inr}
 use Rattle.std.specs.Prelude.{codes}
-use Rattle.gup_read_names.specs.Names.{find}
+use Rattle.gup_spec_grammar.specs.Names.{find}
 use Rattle.gup_script.specs.declared.op.Op.{Op}
-use Rattle.gup_read.specs.declared.refusal.Reason.{Reason}
-use Rattle.gup_read.specs.declared.refusal.Reason.TheVariants as reasons
+use Rattle.gup_spec_grammar.specs.declared.fault.Reason.{Reason}
+use Rattle.gup_spec_grammar.specs.declared.fault.Reason.TheVariants as reasons
 use Rattle.gup_script.specs.Script.{actor_at}
-use Rattle.gup_read.specs.Said.{Word, Action, action_words}
-use Rattle.gup_read_outline.specs.Outline.{Outline}
-use Rattle.gup_read.specs.Grammar.{Does, NamesActor, IsOpOf, first_word, IsNext}
-use Rattle.gup_read.specs.Fault.{Unless, ActionFault, OpFault, OnFault}
+use Rattle.gup_spec_grammar.specs.Said.{Word, Action, action_words}
+use Rattle.gup_spec_grammar.specs.Outline.{Outline}
+use Rattle.gup_spec_grammar.specs.Grammar.{Does, NamesActor, IsOpOf, first_word, IsNext}
+use Rattle.gup_spec_grammar.specs.Fault.{Unless, ActionFault, OpFault, OnFault}
 use Rattle.gup_read.specs.Reading.{◌>>=◌, need, op_of_actor, on_in}
 use Rattle.gup_read_outline.specs.Named.{actor_of}
 use Rattle.gup_read.proofs.Chains.{Tried, carried, tried_ok, tried_err, tried_pass, tried_stop}

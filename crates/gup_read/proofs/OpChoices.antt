@@ -4,11 +4,11 @@ use Rattle.std.specs.Prelude.{codes, Contains}
 use Rattle.gup_script.specs.declared.op.Kind.{Kind}
 use Rattle.gup_script.specs.declared.op.Kind.TheVariants.{Thread, Device, Mover}
 use Rattle.gup_script.specs.declared.op.Op.{Op}
-use Rattle.gup_read.specs.declared.refusal.Reason.{Reason}
-use Rattle.gup_read.specs.declared.refusal.Reason.TheVariants as reasons
+use Rattle.gup_spec_grammar.specs.declared.fault.Reason.{Reason}
+use Rattle.gup_spec_grammar.specs.declared.fault.Reason.TheVariants as reasons
 use Rattle.gup_script.specs.Script.{Actor}
-use Rattle.gup_read.specs.Said.{Word, op_words, op_words_of}
-use Rattle.gup_read_outline.specs.Outline.{Outline}
+use Rattle.gup_spec_grammar.specs.Said.{Word, op_words, op_words_of}
+use Rattle.gup_spec_grammar.specs.Outline.{Outline}
 use Rattle.gup_read.specs.Reading.{thread_op_in, device_op_in, mover_op_in, op_of_kind, op_of_actor}
 use Rattle.gup_read.proofs.Chains.{Tried}
 use Rattle.gup_read.proofs.Choices.{Chosen, choose, none_left, tried_choice}

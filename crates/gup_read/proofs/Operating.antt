@@ -7,10 +7,10 @@ use Rattle.std.proofs.lemmas.List.Sums.{sum_by-cons}
 use Rattle.gup_script.specs.declared.op.Kind.{Kind}
 use Rattle.gup_script.specs.declared.op.Op.{Op}
 use Rattle.gup_script.specs.Script.{Actor, actor_at}
-use Rattle.gup_read_outline.specs.Outline.{Outline, with_op, with_operation, is_thread, is_device, is_mover}
+use Rattle.gup_spec_grammar.specs.Outline.{Outline, with_op, with_operation, is_thread, is_device, is_mover}
 use Rattle.gup_script.specs.Limits.{most_operations}
-use Rattle.gup_read.specs.Said.{Action, pins, action_words}
-use Rattle.gup_read.specs.Grammar.{HandleLimits, with_declared, IsOpOf, Does, first_word}
+use Rattle.gup_spec_grammar.specs.Said.{Action, pins, action_words}
+use Rattle.gup_spec_grammar.specs.Grammar.{HandleLimits, with_declared, IsOpOf, Does, first_word}
 use Rattle.gup_script.specs.Valid.{IsOp, KindFits, FitsKind, AreDeclared}
 use Rattle.gup_read.proofs.Verdicts.{same_given}
 use Rattle.gup_read.proofs.Lists.{each_like}

@@ -1,12 +1,12 @@
 -- Which line of declarations or turns has these words: at most one, and none where they don't stand in their places.
 use Rattle.std.proofs.Common.{◌≡◌, cond, List, [], ◌∷◌, Option, Some, None, Result, Err, refl, sym, ap, subst, ◌∙◌, inl, inr}
 use Rattle.std.specs.Prelude.{codes, bytes_eq}
-use Rattle.gup_read.specs.declared.refusal.Reason.{Reason}
-use Rattle.gup_read.specs.declared.refusal.Reason.TheVariants.{Shape}
-use Rattle.gup_read_outline.specs.Outline.{Outline}
-use Rattle.gup_read.specs.Said.{Word, Said, a_process, a_child, a_thread, a_device, a_mover, a_seed, some_turns, random_turns, said_words}
-use Rattle.gup_read.specs.Grammar.{Declares, SaidNumbers, SaidNames, SaidOnce, SaidLimits, Becomes}
-use Rattle.gup_read.specs.Fault.{SaidFault, DeclaringFault}
+use Rattle.gup_spec_grammar.specs.declared.fault.Reason.{Reason}
+use Rattle.gup_spec_grammar.specs.declared.fault.Reason.TheVariants.{Shape}
+use Rattle.gup_spec_grammar.specs.Outline.{Outline}
+use Rattle.gup_spec_grammar.specs.Said.{Word, Said, a_process, a_child, a_thread, a_device, a_mover, a_seed, some_turns, random_turns, said_words}
+use Rattle.gup_spec_grammar.specs.Grammar.{Declares, SaidNumbers, SaidNames, SaidOnce, SaidLimits, Becomes}
+use Rattle.gup_spec_grammar.specs.Fault.{SaidFault, DeclaringFault}
 use Rattle.gup_read.proofs.Verdicts.{Judges, given, same_given, refused}
 
 abbrev with_one : (Word → Said) → List Word → Option Said

@@ -5,10 +5,10 @@ use Rattle.std.proofs.lemmas.Option.{slice_get_within}
 use Rattle.gup_script.specs.declared.op.Op.{Op}
 use Rattle.gup_script.specs.declared.op.Op.TheVariants.{Pin}
 use Rattle.gup_script.specs.Script.{Actor, actor_at}
-use Rattle.gup_read.specs.declared.refusal.Reason.{Reason}
-use Rattle.gup_read.specs.Said.{Word, Action, maps, unmaps, protects, discards, loads, stores, exits, pins, forks, unpins, takes, gives, transfers, write_word, action_words, op_words_of}
-use Rattle.gup_read_outline.specs.Outline.{Outline}
-use Rattle.gup_read.specs.Grammar.{ActionOnce, HandleLimits, Means}
+use Rattle.gup_spec_grammar.specs.declared.fault.Reason.{Reason}
+use Rattle.gup_spec_grammar.specs.Said.{Word, Action, maps, unmaps, protects, discards, loads, stores, exits, pins, forks, unpins, takes, gives, transfers, write_word, action_words, op_words_of}
+use Rattle.gup_spec_grammar.specs.Outline.{Outline}
+use Rattle.gup_spec_grammar.specs.Grammar.{ActionOnce, HandleLimits, Means}
 use Rattle.gup_read.specs.Reading.{with_pinned, op_of_actor}
 use Rattle.gup_read.specs.Steps.{IsDeclarable}
 use Rattle.gup_read.proofs.Chains.{tried_ok, unused_Decides}

@@ -1,10 +1,10 @@
 -- What the grammar promises of every text.
 use Rattle.std.proofs.Common.{◌≡◌, ◌⊎◌, ℕ, List, refl, sym, ap, ◌∙◌, Result, Ok, Err, inl, inr}
-use Rattle.gup_read.specs.declared.refusal.ScriptFault.{ScriptFault}
+use Rattle.gup_spec_grammar.specs.declared.fault.ScriptFault.{ScriptFault}
 use Rattle.gup_script.specs.Script.{ScriptValue}
-use Rattle.gup_read_outline.specs.Outline.{Outline}
-use Rattle.gup_read.specs.Grammar.{Accepts}
-use Rattle.gup_read.specs.Fault.{HasFault}
+use Rattle.gup_spec_grammar.specs.Outline.{Outline}
+use Rattle.gup_spec_grammar.specs.Grammar.{Accepts}
+use Rattle.gup_spec_grammar.specs.Fault.{HasFault}
 use Rattle.gup_read.specs.Reading.{reading}
 use Rattle.gup_read.proofs.Laws.{same_read, same_fault, not_faulty, found, again, fault_found, fault_again}
 

@@ -5,14 +5,13 @@ use Rattle.std.specs.List.{AllByRecursion}
 use Rattle.std.proofs.lemmas.Fmt.{decimal_nonempty}
 use Rattle.gup_base.specs.declared.entry.Rights.{Rights}
 use Rattle.gup_base.specs.declared.entry.Rights.TheVariants.{R, RW}
-use Rattle.gup_read_words.specs.Text.{parts}
-use Rattle.gup_read_words.specs.Spelling.{IsName, turn_word, address}
-use Rattle.gup_read_names.specs.Names.{Entry, find, declared}
-use Rattle.gup_read_names.specs.declared.names.Named.{Named}
-use Rattle.gup_read_outline.specs.Outline.{Outline}
-use Rattle.gup_read.specs.Said.{Word, Said, a_process, a_child, a_thread, a_device, a_mover, a_seed, some_turns, random_turns, said_words, Action, maps, unmaps, protects, discards, loads, stores, exits, pins, forks, unpins, takes, gives, transfers, action_words, rights_word, write_word, transfer_word}
-use Rattle.gup_read.specs.Grammar.{TurnsAnActor, Declares, ActionNames, with_declared, Does, IsNext, IsSaid, IsRight, Stage, before_head, before_frames, open_at}
-use Rattle.gup_read.specs.Fault.{AreSpaced}
+use Rattle.gup_spec_grammar.specs.Spelling.{parts, IsName, turn_word, address}
+use Rattle.gup_spec_grammar.specs.Names.{Entry, find, declared}
+use Rattle.gup_spec_grammar.specs.declared.named.Named.{Named}
+use Rattle.gup_spec_grammar.specs.Outline.{Outline}
+use Rattle.gup_spec_grammar.specs.Said.{Word, Said, a_process, a_child, a_thread, a_device, a_mover, a_seed, some_turns, random_turns, said_words, Action, maps, unmaps, protects, discards, loads, stores, exits, pins, forks, unpins, takes, gives, transfers, action_words, rights_word, write_word, transfer_word}
+use Rattle.gup_spec_grammar.specs.Grammar.{TurnsAnActor, Declares, ActionNames, with_declared, Does, IsNext, IsSaid, IsRight, Stage, before_head, before_frames, open_at}
+use Rattle.gup_spec_grammar.specs.Fault.{AreSpaced}
 use Rattle.gup_read.proofs.Verdicts.{given}
 
 -- the empty word names nothing

@@ -5,17 +5,17 @@ use Rattle.std.specs.List.{AllByRecursion}
 use Rattle.std.proofs.lemmas.List.{length_push, length-append}
 use Rattle.std.proofs.lemmas.List.Elements.{All-nil}
 use Rattle.std.proofs.lemmas.List.Sums.{sum_by_push}
-use Rattle.gup_read_names.specs.Names.{Entry, find, declared}
-use Rattle.gup_read_names.specs.declared.names.Named.{Named}
-use Rattle.gup_read_names.specs.declared.names.Named.TheVariants as named
+use Rattle.gup_spec_grammar.specs.Names.{Entry, find, declared}
+use Rattle.gup_spec_grammar.specs.declared.named.Named.{Named}
+use Rattle.gup_spec_grammar.specs.declared.named.Named.TheVariants as named
 use Rattle.gup_script.specs.declared.op.Kind.{Kind}
 use Rattle.gup_script.specs.declared.op.Kind.TheVariants.{Thread, Device, Mover}
 use Rattle.gup_script.specs.declared.op.Op.{Op}
 use Rattle.gup_script.specs.Script.{ScriptValue, Process, Actor, FrameCounts}
-use Rattle.gup_read_outline.specs.Outline.{Outline, empty_outline, with_process, with_actor, with_handle, with_turns, with_seed, is_thread, is_device, is_mover, how_many}
+use Rattle.gup_spec_grammar.specs.Outline.{Outline, empty_outline, with_process, with_actor, with_handle, with_turns, with_seed, is_thread, is_device, is_mover, how_many}
 use Rattle.gup_script.specs.Limits.{most_handles, most_operations, most_turns}
-use Rattle.gup_read.specs.Said.{Word}
-use Rattle.gup_read.specs.Grammar.{NamesProcess, NamesActor, NamesPin, AreFrameCounts}
+use Rattle.gup_spec_grammar.specs.Said.{Word}
+use Rattle.gup_spec_grammar.specs.Grammar.{NamesProcess, NamesActor, NamesPin, AreFrameCounts}
 use Rattle.gup_script.specs.Valid.{IsOp, KindFits, FitsKind, AreDeclared}
 use Rattle.gup_read.proofs.Verdicts.{given, same_given}
 use Rattle.gup_read.proofs.Lists.{each_append, each_like}

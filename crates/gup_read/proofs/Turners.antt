@@ -1,6 +1,6 @@
 -- The turns of a line while they are added: what is left of its words.
 use Rattle.std.proofs.Common.{◌≡◌, ℕ, true, List}
-use Rattle.gup_read_outline.specs.Outline.{Outline, with_turns}
+use Rattle.gup_spec_grammar.specs.Outline.{Outline, with_turns}
 use Rattle.gup_read.specs.Reading.{are_times, are_turners, turns_of}
 
 -- the words that are left, of all of a line that is right

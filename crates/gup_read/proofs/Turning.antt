@@ -5,15 +5,15 @@ use Rattle.std.specs.List.{AllByRecursion}
 use Rattle.std.proofs.lemmas.Bool.{ltb-true, lt-ltb, leb-true, le-leb}
 use Rattle.std.proofs.lemmas.Bool.Decides.{Decides-eqb, Decides-or, Decides-and}
 use Rattle.gup_read_words.specs.Text.{number_in, turn_name, turn_times}
-use Rattle.gup_read_words.specs.Spelling.{IsNumber, IsTurnWord}
+use Rattle.gup_spec_grammar.specs.Spelling.{IsNumber, IsTurnWord}
 use Rattle.gup_read_words.proofs.SpelledNumbers.{number_found, number_read}
 use Rattle.gup_read_words.proofs.SpelledTurns.{turn_found, turn_read}
-use Rattle.gup_read_names.specs.Names.{find}
-use Rattle.gup_read.specs.declared.refusal.Reason.TheVariants.{Number, Name, Twice, Limit}
-use Rattle.gup_read_outline.specs.Outline.{Outline, with_turns, draws}
+use Rattle.gup_spec_grammar.specs.Names.{find}
+use Rattle.gup_spec_grammar.specs.declared.fault.Reason.TheVariants.{Number, Name, Twice, Limit}
+use Rattle.gup_spec_grammar.specs.Outline.{Outline, with_turns, draws}
 use Rattle.gup_script.specs.Limits.{most_turns}
-use Rattle.gup_read.specs.Said.{Word, some_turns, random_turns}
-use Rattle.gup_read.specs.Grammar.{HasTimes, TurnsAnActor, AreTurns, NamesActor, SaidNames, SaidLimits}
+use Rattle.gup_spec_grammar.specs.Said.{Word, some_turns, random_turns}
+use Rattle.gup_spec_grammar.specs.Grammar.{HasTimes, TurnsAnActor, AreTurns, NamesActor, SaidNames, SaidLimits}
 use Rattle.gup_read_outline.specs.Named.{actor_of}
 use Rattle.gup_read.specs.Reading.{turner, are_times, are_turners, or_zero, turns_of, turns_in, random_in}
 use Rattle.gup_read.proofs.Verdicts.{checked, skipped, needed, ended, merged}

@@ -3,16 +3,16 @@ use Rattle.std.proofs.Common.{◌≡◌, ◌⊎◌, ℕ, zero, suc, ◌+◌, ◌
 use Rattle.std.specs.List.{AllByRecursion}
 use Rattle.std.proofs.Math.Nat.{mod-lt}
 use Rattle.std.proofs.lemmas.List.Elements.{All-from_recursion}
-use Rattle.gup_read_words.specs.Spelling.{IsNumber}
+use Rattle.gup_spec_grammar.specs.Spelling.{IsNumber, parts}
 use Rattle.gup_read_words.proofs.SpelledNumbers.{number_read}
-use Rattle.gup_read_words.specs.Text.{parts, number_in}
+use Rattle.gup_read_words.specs.Text.{number_in}
 use Rattle.gup_script.specs.declared.op.Kind.{Kind}
 use Rattle.gup_script.specs.declared.op.Kind.TheVariants.{Thread, Device, Mover}
 use Rattle.gup_script.specs.declared.op.Op.TheVariants.{Pin, Fork}
 use Rattle.gup_script.specs.Script.{ScriptValue, Actor}
-use Rattle.gup_read_outline.specs.Outline.{Outline, is_thread, is_device, is_mover, draws, next_state}
-use Rattle.gup_read.specs.Said.{Word, Said, a_process, a_child, a_thread, a_device, a_mover, a_seed, some_turns, random_turns}
-use Rattle.gup_read.specs.Grammar.{AreTurns, Declares, IsNext, IsSaid, Stage, before_head, before_frames, open_at, IsRight, AreRight, Accepts}
+use Rattle.gup_spec_grammar.specs.Outline.{Outline, is_thread, is_device, is_mover, draws, next_state}
+use Rattle.gup_spec_grammar.specs.Said.{Word, Said, a_process, a_child, a_thread, a_device, a_mover, a_seed, some_turns, random_turns}
+use Rattle.gup_spec_grammar.specs.Grammar.{AreTurns, Declares, IsNext, IsSaid, Stage, before_head, before_frames, open_at, IsRight, AreRight, Accepts}
 use Rattle.gup_read.specs.Reading.{reading}
 use Rattle.gup_script.specs.Valid.{IsOp, KindFits, FitsKind, AreDeclared, PinsAt, IsScript}
 use Rattle.gup_read.proofs.Declaring.{one_found}

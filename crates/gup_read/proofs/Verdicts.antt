@@ -1,7 +1,7 @@
 -- What a chain of tests answers: each answer with what holds of it, both ways.
 use Rattle.std.proofs.Common.{◌≡◌, Bool, true, false, cond, inl, inr, Option, Some, None, Result, Ok, Err, refl, sym, ap, subst, ◌∙◌, Decides}
-use Rattle.gup_read.specs.declared.refusal.Reason.{Reason}
-use Rattle.gup_read.specs.Fault.{Unless, Fails}
+use Rattle.gup_spec_grammar.specs.declared.fault.Reason.{Reason}
+use Rattle.gup_spec_grammar.specs.Fault.{Unless, Fails}
 use Rattle.gup_read.specs.Reading.{◌>>=◌, check, need}
 
 -- The chain answers `Ok x` just where x is good, and `Err r` just where r is bad.

@@ -5,18 +5,19 @@ use Rattle.std.specs.List.{list_all}
 use Rattle.std.specs.Str.{bytes_eq}
 use Rattle.gup_base.specs.declared.entry.Rights.{Rights}
 use Rattle.gup_base.specs.declared.entry.Rights.TheVariants.{R, RW}
-use Rattle.gup_read_words.specs.Text.{parts, is_printable, is_passed, are_spaced, number_in, count_in, index_in, page_in, word_no_in, address_in, range_in, segment_in, turn_name, turn_times, is_name}
-use Rattle.gup_read_names.specs.Names.{find, is_unused}
+use Rattle.gup_spec_grammar.specs.Spelling.{parts}
+use Rattle.gup_read_words.specs.Text.{is_printable, is_passed, are_spaced, number_in, count_in, index_in, page_in, word_no_in, address_in, range_in, segment_in, turn_name, turn_times, is_name}
+use Rattle.gup_spec_grammar.specs.Names.{find, is_unused}
 use Rattle.gup_script.specs.declared.op.Kind.{Kind}
 use Rattle.gup_script.specs.declared.op.Kind.TheVariants.{Thread, Device, Mover}
 use Rattle.gup_script.specs.declared.op.Op.{Op}
 use Rattle.gup_script.specs.declared.op.Op.TheVariants as ops
-use Rattle.gup_read.specs.declared.refusal.Reason.{Reason}
-use Rattle.gup_read.specs.declared.refusal.Reason.TheVariants as reasons
-use Rattle.gup_read.specs.declared.refusal.ScriptFault.{ScriptFault}
+use Rattle.gup_spec_grammar.specs.declared.fault.Reason.{Reason}
+use Rattle.gup_spec_grammar.specs.declared.fault.Reason.TheVariants as reasons
+use Rattle.gup_spec_grammar.specs.declared.fault.ScriptFault.{ScriptFault}
 use Rattle.gup_script.specs.Script.{Actor, FrameCounts, actor_at}
-use Rattle.gup_read.specs.Grammar.{Stage, before_head, before_frames, open_at, most_bytes}
-use Rattle.gup_read_outline.specs.Outline.{Outline, frame_counts, empty_outline, with_process, with_actor, with_handle, with_operation, with_turns, with_seed, is_thread, is_device, how_many, has_mover, is_child, is_forked, next_handle, is_receiver, draws}
+use Rattle.gup_spec_grammar.specs.Grammar.{Stage, before_head, before_frames, open_at, most_bytes}
+use Rattle.gup_spec_grammar.specs.Outline.{Outline, frame_counts, empty_outline, with_process, with_actor, with_handle, with_operation, with_turns, with_seed, is_thread, is_device, how_many, has_mover, is_child, is_forked, next_handle, is_receiver, draws}
 use Rattle.gup_read_outline.specs.Named.{process_of, actor_of, pin_of, is_got_name, is_mirror_of, may_mirror}
 use Rattle.gup_script.specs.Limits.{most_processes, most_threads, most_devices, most_pinned, most_words, most_operations, most_turns, most_slots, most_frames, most_tables}
 

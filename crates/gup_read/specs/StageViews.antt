@@ -1,12 +1,12 @@
 -- How a stage of the code is read as a stage of the grammar, and what a line leads to.
 use Rattle.std.specs.Prelude.{◌≡◌, ℕ, ◌+◌, List, [], ◌∷◌, length, Option, Some, None, Result, Ok, Err}
 use Rattle.std.specs.Borrow.{Bor}
-use Rattle.gup_read_words.specs.Text.{parts}
-use Rattle.gup_read.specs.declared.refusal.Reason.{Reason}
+use Rattle.gup_spec_grammar.specs.Spelling.{parts}
+use Rattle.gup_spec_grammar.specs.declared.fault.Reason.{Reason}
 use Rattle.gup_read.specs.declared.refusal.Trouble.{Trouble}
 use Rattle.gup_read.specs.declared.stage.Stage.{Stage as CodeStage}
 use Rattle.gup_read.specs.declared.stage.Stage.TheVariants.{BeforeHead, BeforeFrames, Open}
-use Rattle.gup_read.specs.Grammar.{Stage, before_head, before_frames, open_at}
+use Rattle.gup_spec_grammar.specs.Grammar.{Stage, before_head, before_frames, open_at}
 use Rattle.gup_read.specs.Steps.{IsTrouble}
 
 abbrev pub stage_value : CodeStage → Stage

@@ -1,18 +1,18 @@
 -- What the functions of the reader answer, beside the functions on lists that they compute. Want of memory says
 -- nothing of the text.
 use Rattle.std.specs.Prelude.{◌≡◌, ℕ, ◌<◌, true, List, ◌∷◌, length, Result, Ok, Err}
-use Rattle.gup_read_names.specs.Names.{is_unused}
+use Rattle.gup_spec_grammar.specs.Names.{is_unused}
 use Rattle.gup_script.specs.declared.op.Op.{Op}
 use Rattle.gup_script.specs.declared.op.Op.TheVariants as ops
 use Rattle.gup_script.specs.Limits.{most_handles}
-use Rattle.gup_read.specs.declared.refusal.Reason.{Reason}
+use Rattle.gup_spec_grammar.specs.declared.fault.Reason.{Reason}
 use Rattle.gup_read.specs.declared.refusal.Trouble.{Trouble}
 use Rattle.gup_read.specs.declared.refusal.Trouble.TheVariants as trouble
-use Rattle.gup_read.specs.declared.refusal.ScriptFault.{ScriptFault}
-use Rattle.gup_read.specs.declared.refusal.ReadRefusal.{ReadRefusal}
-use Rattle.gup_read.specs.declared.refusal.ReadRefusal.TheVariants as refusals
+use Rattle.gup_spec_grammar.specs.declared.fault.ScriptFault.{ScriptFault}
+use Rattle.gup_spec_grammar.specs.declared.fault.ReadRefusal.{ReadRefusal}
+use Rattle.gup_spec_grammar.specs.declared.fault.ReadRefusal.TheVariants as refusals
 use Rattle.gup_script.specs.Script.{ScriptValue}
-use Rattle.gup_read_outline.specs.Outline.{Outline}
+use Rattle.gup_spec_grammar.specs.Outline.{Outline}
 
 -- the trouble is the fault that was found, or want of memory
 abbrev pub IsTrouble : {A : Type 0} → Result A Reason → Trouble → Type 0

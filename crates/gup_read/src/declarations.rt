@@ -5,7 +5,8 @@ ghost use Rattle.gup_read.specs.Steps.{Makes, IsDeclarable};
 ghost use Rattle.gup_read.specs.Reading.{with_pinned, on_in, process_in, thread_in, device_in, mover_in, seed_in, next_in};
 
 use crate::operations::actor_op;
-use crate::refusal::{Reason, Trouble, check};
+use crate::refusal::{Trouble, check};
+use gup_spec_grammar::Reason;
 use crate::turns::{random_line, turns_line};
 use gup_read_outline::Reader;
 use gup_script::{Kind, Op};

@@ -1,9 +1,9 @@
 //! What the grammar promises: the bytes of a text are one script, or have one first fault, and never both.
 ghost use Rattle.std.specs.Prelude.{◌≡◌, ◌⊎◌, ℕ, List};
-ghost use Rattle.gup_read.specs.declared.refusal.ScriptFault.{ScriptFault as Fault};
+ghost use Rattle.gup_spec_grammar.specs.declared.fault.ScriptFault.{ScriptFault as Fault};
 ghost use Rattle.gup_script.specs.Script.{ScriptValue};
-ghost use Rattle.gup_read.specs.Grammar.{Accepts};
-ghost use Rattle.gup_read.specs.Fault.{HasFault};
+ghost use Rattle.gup_spec_grammar.specs.Grammar.{Accepts};
+ghost use Rattle.gup_spec_grammar.specs.Fault.{HasFault};
 
 /// The bytes are at most one script.
 pub fn one_script()

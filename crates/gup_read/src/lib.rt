@@ -11,7 +11,6 @@ mod turns;
 
 pub use law::{one_fault, one_script, script_or_fault, scripts_have_no_fault};
 pub use read::read_script;
-pub use refusal::{ReadRefusal, Reason, ScriptFault};
 
 #[cfg(test)]
 mod tests;

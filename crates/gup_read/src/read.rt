@@ -1,13 +1,14 @@
 //! The reader of a script's text.
 ghost use Rattle.std.specs.Prelude.{◌≡◌, ◌+◌, ◌≤◌, length, if◌then◌else◌, nat_lt, IfOk, IfErr, Some, None, ℕ};
-ghost use Rattle.gup_read_words.specs.Text.{parts};
-ghost use Rattle.gup_read.specs.Grammar.{Accepts, before_head};
-ghost use Rattle.gup_read.specs.Fault.{IsRefusalOf};
+ghost use Rattle.gup_spec_grammar.specs.Spelling.{parts};
+ghost use Rattle.gup_spec_grammar.specs.Grammar.{Accepts, before_head};
+ghost use Rattle.gup_spec_grammar.specs.Fault.{IsRefusalOf};
 ghost use Rattle.gup_read.specs.Steps.{IsReading, IsRead};
 ghost use Rattle.gup_read.specs.StageViews.{stage_value, IsCut};
 ghost use Rattle.gup_read.specs.Reading.{end_in, lines_in, reading};
 
-use crate::refusal::{ReadRefusal, Reason, Trouble};
+use crate::refusal::Trouble;
+use gup_spec_grammar::{ReadRefusal, Reason};
 use crate::stage::Stage;
 use gup_read_outline::Reader;
 use gup_script::Script;

@@ -1,10 +1,11 @@
 //! How far a text is read: nothing, the head, or the `frames` line and all that stands behind it.
 ghost use Rattle.std.specs.Prelude.{◌≡◌, Ok, Err, map, MatchResult};
-ghost use Rattle.gup_read_outline.specs.Outline.{frame_counts};
+ghost use Rattle.gup_spec_grammar.specs.Outline.{frame_counts};
 ghost use Rattle.gup_read.specs.Reading.{counts_in, frames_in, is_head, words_in, line_in};
 
 use crate::declarations::next_line;
-use crate::refusal::{Reason, Trouble, check};
+use crate::refusal::{Trouble, check};
+use gup_spec_grammar::Reason;
 use gup_read_outline::Reader;
 use gup_read_words::{are_spaced, is_passed, line_text, number, words};
 use std::alloc::Global;

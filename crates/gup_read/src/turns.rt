@@ -1,10 +1,11 @@
 //! The lines that write turns. A line is judged wholly before its turns are added, so it costs what it adds.
 ghost use Rattle.std.specs.Prelude.{◌≡◌, ◌+◌, ◌≤◌, true, map, length, nat_le, OnOk};
-ghost use Rattle.gup_read_outline.specs.Outline.{with_turns};
+ghost use Rattle.gup_spec_grammar.specs.Outline.{with_turns};
 ghost use Rattle.gup_read.specs.Steps.{Makes};
 ghost use Rattle.gup_read.specs.Reading.{are_times, are_turners, turns_of, turns_in, random_in};
 
-use crate::refusal::{Reason, Trouble, check};
+use crate::refusal::{Trouble, check};
+use gup_spec_grammar::Reason;
 use gup_read_outline::Reader;
 use gup_read_words::{number, turn_name, turn_times};
 use std::alloc::AllocError;

@@ -9,8 +9,8 @@ use Rattle.std.proofs.lemmas.Cmp.{nat_list_eq_equiv}
 use Rattle.std.proofs.lemmas.List.{map-append}
 use Rattle.indexmap.specs.IndexMap.{IndexMap, insert_entry}
 use Rattle.indexmap.proofs.CallerLemmas.{insert_entry-new}
-use Rattle.gup_read_names.specs.declared.names.Named.{Named}
-use Rattle.gup_read_names.specs.Names.{find, is_unused, declared}
+use Rattle.gup_spec_grammar.specs.declared.named.Named.{Named}
+use Rattle.gup_spec_grammar.specs.Names.{find, is_unused, declared}
 use Rattle.gup_read_names.specs.Views.{entry_of}
 
 pub find_looks_up : {A : Type 0} (es : List (String A × Named)) (name : List ℕ) → find (map entry_of es) name ≡ lookup (λ k. bytes_eq name (string_bytes k)) es

@@ -1,8 +1,8 @@
 -- How the fields of a `Names` are read as its entries.
 use Rattle.std.specs.Prelude.{List, map, String, string_bytes}
-use Rattle.gup_read_names.specs.declared.names.Named.{Named}
+use Rattle.gup_spec_grammar.specs.declared.named.Named.{Named}
 use Rattle.gup_read_names.specs.declared.names.Names.TheInside.{Inside}
-use Rattle.gup_read_names.specs.Names.{Entry}
+use Rattle.gup_spec_grammar.specs.Names.{Entry}
 
 abbrev pub entry_of : {A : Type 0} → String A × Named → Entry
 entry_of e = record { name = string_bytes e.0; named = e.1 }

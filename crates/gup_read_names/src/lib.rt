@@ -3,7 +3,7 @@
 
 mod names;
 
-pub use names::{Named, Names};
+pub use names::Names;
 
 #[cfg(test)]
 mod tests;

@@ -1,24 +1,11 @@
-//! What names name, and the table of the names.
+//! The table of the names.
 ghost use Rattle.std.specs.Prelude.{◌≡◌, true, [], OnOk, OnErr};
-ghost use Rattle.gup_read_names.specs.Names.{find, is_unused, declared};
+ghost use Rattle.gup_spec_grammar.specs.Names.{find, is_unused, declared};
 
-use gup_base::{ActorNo, HandleNo, MirrorNo, ProcNo};
+use gup_spec_grammar::Named;
 use indexmap::IndexMap;
 use std::alloc::{AllocError, Global};
 use std::marker::Model;
-
-/// What a name of a script names.
-#[derive(Clone, Copy, Debug, PartialEq, Eq)]
-pub enum Named {
-    Process(ProcNo),
-    Actor(ActorNo),
-    /// A handle that a `pin` or `pinfast` line makes.
-    Pin(HandleNo),
-    /// A reference that a `get` line takes.
-    Got(HandleNo),
-    /// A mirror slot, and the device whose it is.
-    Mirror(MirrorNo, ActorNo),
-}
 
 /// The names that a script has declared so far, in the order of their declarations, with what each names.
 #[derive(Debug, Drop)]
@@ -28,7 +15,7 @@ pub struct Names {
 
 impl Model for Names {
     ghost use Rattle.std.specs.Prelude.{List};
-    ghost use Rattle.gup_read_names.specs.Names.{Entry};
+    ghost use Rattle.gup_spec_grammar.specs.Names.{Entry};
 
     ghost Value = { List Entry };
 

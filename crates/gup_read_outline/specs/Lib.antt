@@ -1,4 +1,3 @@
-pub mod Outline
 pub mod Named
 pub mod Room
 pub mod ReaderViews

@@ -1,8 +1,8 @@
 -- What a name is found to be, where a line uses it.
 use Rattle.std.specs.Prelude.{ℕ, ◌==◌, Bool, true, false, List, Option, Some, None}
 use Rattle.gup_read_words.specs.Text.{is_name}
-use Rattle.gup_read_names.specs.declared.names.Named.{Named}
-use Rattle.gup_read_names.specs.declared.names.Named.TheVariants as named
+use Rattle.gup_spec_grammar.specs.declared.named.Named.{Named}
+use Rattle.gup_spec_grammar.specs.declared.named.Named.TheVariants as named
 
 abbrev pub process_of : Option Named → Option ℕ
 process_of (Some (named.Process p)) = Some p

@@ -1,6 +1,6 @@
 -- How the fields of a `Reader`, and a stage of reading, are read as their values.
 use Rattle.gup_read_outline.specs.declared.reader.Reader.TheInside.{Inside}
-use Rattle.gup_read_outline.specs.Outline.{Outline}
+use Rattle.gup_spec_grammar.specs.Outline.{Outline}
 use Rattle.gup_script.specs.Views.{script_value}
 use Rattle.gup_read_outline.specs.Room.{IsWithin}
 

@@ -1,6 +1,6 @@
 //! Written turns of one actor in a row, and of actors that a generator draws.
 ghost use Rattle.std.specs.Prelude.{◌≡◌, ◌<◌, ◌≤◌, ◌++◌, replicate, OnOk};
-ghost use Rattle.gup_read_outline.specs.Outline.{next_state, drawn, draws};
+ghost use Rattle.gup_spec_grammar.specs.Outline.{next_state, drawn, draws};
 
 use gup_base::ActorNo;
 use std::alloc::AllocError;

@@ -1,15 +1,16 @@
 //! What the lines of a script so far have made, and how each adds to it.
 ghost use Rattle.std.specs.Prelude.{◌≡◌, ◌↔◌, ◌<◌, ◌≤◌, ◌+◌, true, false, nat_lt, length, replicate, option_map, OnOk, IsTrue};
 ghost use Rattle.std.specs.List.{list_any};
-ghost use Rattle.gup_read_names.specs.Names.{find, is_unused};
+ghost use Rattle.gup_spec_grammar.specs.Names.{find, is_unused};
 ghost use Rattle.gup_script.specs.Script.{actor_at, process_at};
-ghost use Rattle.gup_read_outline.specs.Outline.{frame_counts, empty_outline, with_process, with_actor, with_handle, with_operation, with_turns, with_seed, draws, is_thread, is_device, is_mover, how_many, has_mover, is_child, forks_child, is_forked, next_handle, is_receiver};
+ghost use Rattle.gup_spec_grammar.specs.Outline.{frame_counts, empty_outline, with_process, with_actor, with_handle, with_operation, with_turns, with_seed, draws, is_thread, is_device, is_mover, how_many, has_mover, is_child, forks_child, is_forked, next_handle, is_receiver};
 ghost use Rattle.gup_read_outline.specs.Room.{HasRoomFor};
 ghost use Rattle.gup_read_outline.specs.Named.{process_of, actor_of, pin_of, is_got_name, is_mirror_of, may_mirror};
 
 use crate::drawing::{push_drawn, push_times};
 use gup_base::{ActorNo, HandleNo, ProcNo};
-use gup_read_names::{Named, Names};
+use gup_read_names::Names;
+use gup_spec_grammar::Named;
 use gup_script::{Actor, Contents, Kind, Op, Process};
 use gup_read_words::is_name;
 use std::alloc::{AllocError, Global};
@@ -28,7 +29,7 @@ pub struct Reader {
 }
 
 impl Model for Reader {
-    ghost use Rattle.gup_read_outline.specs.Outline.{Outline};
+    ghost use Rattle.gup_spec_grammar.specs.Outline.{Outline};
 
     ghost Value = { Outline };
 

@@ -8,7 +8,7 @@ use Rattle.std.proofs.lemmas.List.Elements.{All-from_get_or, All-get_or}
 use Rattle.std.proofs.lemmas.List.Sums.{position_or_len_is, fails_before_first, passes_at_first, split_at_first}
 use Rattle.std.proofs.lemmas.Fmt.{decimal_is_IsNumeral}
 use Rattle.std.proofs.lemmas.Str.Parse.{digit_at}
-use Rattle.gup_read_words.specs.Spelling.{IsDigit, Lacks}
+use Rattle.gup_spec_grammar.specs.Spelling.{IsDigit, Lacks}
 
 abbrev pub is_byte : ℕ → ℕ → Bool
 is_byte c b = b == c

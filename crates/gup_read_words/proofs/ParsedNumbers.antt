@@ -7,7 +7,7 @@ use Rattle.std.proofs.lemmas.Fmt.{parse-decimal, decimal_is_IsNumeral, first_dec
 use Rattle.std.proofs.lemmas.Str.Parse.{IsNumeralModel, numerals_by_value, tells_digits, digit_from_value, parse_plain}
 use Rattle.std.proofs.lemmas.Bool.Decides.{nat_tests}
 use Rattle.gup_read_words.specs.Text.{number_in, is_padded}
-use Rattle.gup_read_words.specs.Spelling.{IsNumber}
+use Rattle.gup_spec_grammar.specs.Spelling.{IsNumber}
 use Rattle.gup_read_words.proofs.SpelledNumbers.{number_found, number_read}
 
 number_cases : (word : List ℕ) → ((n : ℕ) × IsNumber word n) ⊎ (number_in word ≡ None)

@@ -8,7 +8,7 @@ use Rattle.std.proofs.lemmas.List.Elements.{All-from_recursion, recursion_from_A
 use Rattle.std.proofs.lemmas.Str.{IsUtf8-from_ascii}
 use Rattle.std.proofs.lemmas.Str.Ascii.{IsAscii-from_all}
 use Rattle.gup_read_words.specs.Text.{is_printable, is_printable_byte, is_name, is_name_byte}
-use Rattle.gup_read_words.specs.Spelling.{IsPrintable, IsLetter, IsDigit, IsName}
+use Rattle.gup_spec_grammar.specs.Spelling.{IsPrintable, IsLetter, IsDigit, IsName}
 
 -- ---- printable bytes
 

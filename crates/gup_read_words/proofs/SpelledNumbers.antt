@@ -8,7 +8,7 @@ use Rattle.std.proofs.lemmas.Bool.Decides.{nat_tests}
 use Rattle.std.proofs.lemmas.Slice.Eq.{bytes_eq-Decides}
 use Rattle.std.proofs.lemmas.Fmt.{decimal_is_IsNumeral}
 use Rattle.gup_read_words.specs.Text.{◌>>=◌, number_in, count_in, index_in, page_in, word_no_in}
-use Rattle.gup_read_words.specs.Spelling.{IsNumber, IsCount, IsIndex, IsPage, IsWordNo}
+use Rattle.gup_spec_grammar.specs.Spelling.{IsNumber, IsCount, IsIndex, IsPage, IsWordNo}
 use Rattle.gup_read_words.proofs.Steps.{step_taken, test_passed}
 
 pub number_found : (word : List ℕ) (n : ℕ) → number_in word ≡ Some n → IsNumber word n

@@ -4,7 +4,7 @@ use Rattle.std.proofs.Common.{◌≡◌, ℕ, ◌+◌, ◌^◌, ◌<◌, ◌≤�
 use Rattle.std.specs.List.{position_or_len, before_first, after_first}
 use Rattle.std.proofs.lemmas.Bool.Decides.{nat_tests}
 use Rattle.gup_read_words.specs.Text.{◌>>=◌, number_in, count_in, index_in, page_in, word_no_in, page_and_word_in, is_dot, address_in, range_in, index_and_count_in, is_colon, segment_in}
-use Rattle.gup_read_words.specs.Spelling.{IsCount, IsIndex, IsPage, IsWordNo, address, IsAddress, IsRange, segment, IsSegment}
+use Rattle.gup_spec_grammar.specs.Spelling.{IsCount, IsIndex, IsPage, IsWordNo, address, IsAddress, IsRange, segment, IsSegment}
 use Rattle.gup_read_words.proofs.Steps.{step_taken, test_passed, way_taken, same_given}
 use Rattle.gup_read_words.proofs.Cuts.{cut_found, cut_read, decimal_lacks}
 use Rattle.gup_read_words.proofs.SpelledNumbers.{number_found, number_read, count_found, count_read, index_found, index_read, page_found, page_read, word_no_found, word_no_read}

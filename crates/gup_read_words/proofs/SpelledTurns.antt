@@ -3,7 +3,7 @@ use Rattle.std.specs.Prelude.{decimal}
 use Rattle.std.proofs.Common.{◌≡◌, ℕ, ◌≤◌, Bool, true, false, cond, ltb, List, Some, length, refl, sym, ap, subst, ◌∙◌, inl, inr, lit<}
 use Rattle.std.specs.List.{position_or_len, before_first, after_first}
 use Rattle.gup_read_words.specs.Text.{count_in, is_star, most_times, turn_name, turn_times}
-use Rattle.gup_read_words.specs.Spelling.{Lacks, turn_word, IsTurnWord}
+use Rattle.gup_spec_grammar.specs.Spelling.{Lacks, turn_word, IsTurnWord}
 use Rattle.gup_read_words.proofs.Steps.{same_given}
 use Rattle.gup_read_words.proofs.Cuts.{joined, cut_found, cut_read, uncut_found, uncut_read}
 use Rattle.gup_read_words.proofs.SpelledNumbers.{count_found, count_read}

@@ -1,7 +1,7 @@
 -- Words, numbers, names and addresses in a text, as functions.
 use Rattle.std.specs.Prelude.{ℕ, ◌+◌, ◌^◌, Bool, true, false, ◌&&◌, ◌||◌, ◌==◌, nat_lt, nat_le, if◌then◌else◌, List, [], ◌∷◌, length, decimal, Option, Some, None, option_and_then}
 use Rattle.std.specs.Char.{is_ascii_lowercase, is_ascii_digit}
-use Rattle.std.specs.List.{slice_split, list_all, position_or_len, before_first, after_first}
+use Rattle.std.specs.List.{list_all, position_or_len, before_first, after_first}
 use Rattle.std.specs.Str.{bytes_eq}
 use Rattle.std.specs.Str.Parse.{digits_value}
 
@@ -9,10 +9,6 @@ use Rattle.std.specs.Str.Parse.{digits_value}
 infixl 10 ◌>>=◌
 abbrev pub ◌>>=◌ : {A B : Type 0} → Option A → (A → Option B) → Option B
 o >>= f = option_and_then f o
-
--- the parts of a text between its bytes c
-abbrev pub parts : ℕ → List ℕ → List (List ℕ)
-parts c text = slice_split (λ b. b == c) text
 
 -- are all bytes such that a line may have them?
 abbrev pub is_printable_byte : ℕ → Bool

@@ -2,7 +2,8 @@
 ghost use Rattle.std.specs.Prelude.{◌≡◌, ◌^◌, ◌≤◌, if◌then◌else◌, Some, None, map, IfOk, IfSome};
 ghost use Rattle.std.specs.List.{list_all};
 ghost use Rattle.std.specs.Option.{option_copied};
-ghost use Rattle.gup_read_words.specs.Text.{parts, is_printable, is_passed, are_spaced, is_padded, number_in, count_in, index_in, page_in, word_no_in, page_and_word_in, address_in, range_in, index_and_count_in, segment_in, turn_name, turn_times, is_name, is_name_byte};
+ghost use Rattle.gup_spec_grammar.specs.Spelling.{parts};
+ghost use Rattle.gup_read_words.specs.Text.{is_printable, is_passed, are_spaced, is_padded, number_in, count_in, index_in, page_in, word_no_in, page_and_word_in, address_in, range_in, index_and_count_in, segment_in, turn_name, turn_times, is_name, is_name_byte};
 
 use gup_base::{PageNo, WordNo};
 use std::alloc::{AllocError, Global};

@@ -1,7 +1,7 @@
 use Rattle.std.proofs.Common.{List, ℕ, subst}
-use Rattle.gup_read.specs.declared.refusal.ReadRefusal.{ReadRefusal}
-use Rattle.gup_read.specs.Fault.{HasFault, IsRefusalOf}
-use Rattle.gup_read.specs.Grammar.{Accepts}
+use Rattle.gup_spec_grammar.specs.declared.fault.ReadRefusal.{ReadRefusal}
+use Rattle.gup_spec_grammar.specs.Fault.{HasFault, IsRefusalOf}
+use Rattle.gup_spec_grammar.specs.Grammar.{Accepts}
 use Rattle.gup.proofs.Told.{told_script, told_refused, loses_first}
 use Rattle.gup.proofs.top.read.Goals as goal
 

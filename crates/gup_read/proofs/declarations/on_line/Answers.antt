@@ -1,5 +1,5 @@
 use Rattle.std.proofs.Common.{◌≡◌, ◌<◌, Some, Ok, length, sym, ap, ◌∙◌, subst, rules}
-use Rattle.gup_read_outline.specs.Outline.{Outline}
+use Rattle.gup_spec_grammar.specs.Outline.{Outline}
 use Rattle.gup_read.proofs.Placing.{actor_within, declarable, still_within}
 use Rattle.gup_read.proofs.declarations.on_line.Goals as goal
 

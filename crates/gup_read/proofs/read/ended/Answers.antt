@@ -1,7 +1,7 @@
 use Rattle.std.proofs.Common.{◌≡◌, cond, length, sym, ap, ◌∙◌}
 use Rattle.std.proofs.lemmas.Bool.{eqb-true, eqb-false}
 use Rattle.gup_read_words.specs.Text.{is_printable}
-use Rattle.gup_read.specs.declared.refusal.Reason.TheVariants as reasons
+use Rattle.gup_spec_grammar.specs.declared.fault.Reason.TheVariants as reasons
 use Rattle.gup_read.specs.Reading.{fault_at}
 use Rattle.gup_read.specs.StageViews.{stage_value}
 use Rattle.gup_read.proofs.Cuts.{refused, no_end, ends, frames_missing}

@@ -1,6 +1,6 @@
 use Rattle.std.proofs.Common.{Result, sym, subst, ap, ◌∙◌}
-use Rattle.gup_read.specs.declared.refusal.ScriptFault.{ScriptFault}
-use Rattle.gup_read_outline.specs.Outline.{Outline}
+use Rattle.gup_spec_grammar.specs.declared.fault.ScriptFault.{ScriptFault}
+use Rattle.gup_spec_grammar.specs.Outline.{Outline}
 use Rattle.gup_read.specs.Reading.{lines_in}
 use Rattle.gup_read.specs.Steps.{IsRefusal, refusal_at}
 use Rattle.gup_read.specs.StageViews.{stage_value}

@@ -1,5 +1,5 @@
 use Rattle.std.proofs.Common.{◌≡◌, ℕ, ◌+◌, ◌-◌, ◌∷◌, ◌++◌, [], List, sym, ap, ◌∙◌, append_assoc, arith}
-use Rattle.gup_read_outline.specs.Outline.{next_state, drawn, draws}
+use Rattle.gup_spec_grammar.specs.Outline.{next_state, drawn, draws}
 use Rattle.gup_read_outline.proofs.Draws.{draws_more}
 use Rattle.gup_read_outline.proofs.drawing.push_drawn.Goals as goal
 

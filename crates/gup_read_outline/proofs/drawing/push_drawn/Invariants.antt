@@ -1,5 +1,5 @@
 use Rattle.std.proofs.Common.{◌≡◌, ◌++◌, ◌-◌}
-use Rattle.gup_read_outline.specs.Outline.{draws}
+use Rattle.gup_spec_grammar.specs.Outline.{draws}
 use Rattle.gup_read_outline.proofs.drawing.push_drawn.Given as goal
 
 abbrev pub invariant-loop : goal.invariant-loop

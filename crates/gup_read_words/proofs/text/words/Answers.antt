@@ -5,7 +5,7 @@ use Rattle.std.specs.Str.Iter.{split_steps}
 use Rattle.std.specs.Str.Pattern.{FindsChar}
 use Rattle.std.proofs.lemmas.Iterator.Adapters.{fact_from_extend}
 use Rattle.std.proofs.lemmas.Iterator.Splits.{YieldsList-from_str_split}
-use Rattle.gup_read_words.specs.Text.{parts}
+use Rattle.gup_spec_grammar.specs.Spelling.{parts}
 use Rattle.gup_read_words.proofs.text.words.Goals as goal
 
 abbrev texts : List (Bor (List ℕ)) → List (List ℕ)

@@ -1,5 +1,5 @@
 use Rattle.std.proofs.Common.{◌≡◌, true, map, ap, ◌∙◌}
-use Rattle.gup_read_names.specs.Names.{is_unused, declared}
+use Rattle.gup_spec_grammar.specs.Names.{is_unused, declared}
 use Rattle.gup_read_names.specs.Views.{entry_of}
 use Rattle.gup_read_names.proofs.Entries.{insert_declares}
 use Rattle.gup_read_names.proofs.names.Names.declare.Goals as goal

@@ -1,5 +1,5 @@
 use Rattle.std.proofs.Common.{sym, ap, ◌∙◌}
-use Rattle.gup_read_names.specs.Names.{find}
+use Rattle.gup_spec_grammar.specs.Names.{find}
 use Rattle.gup_read_names.proofs.Entries.{find_looks_up}
 use Rattle.gup_read_names.proofs.names.Names.find.Goals as goal
 

@@ -1,6 +1,6 @@
 use Rattle.std.proofs.Common.{subst, sym, arith, rules}
 use Rattle.std.proofs.lemmas.List.{length-map, map-append}
-use Rattle.gup_read_outline.specs.Outline.{with_actor}
+use Rattle.gup_spec_grammar.specs.Outline.{with_actor}
 use Rattle.gup_read_outline.specs.Room.{HasRoomFor}
 use Rattle.gup_script.specs.Views.{actor_value}
 use Rattle.gup_read_outline.specs.ReaderViews.{outline_value}

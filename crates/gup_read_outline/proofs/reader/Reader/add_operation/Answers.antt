@@ -3,7 +3,7 @@ use Rattle.std.proofs.Math.ListN.{set}
 use Rattle.std.proofs.lemmas.List.{length-map}
 use Rattle.gup_script.specs.declared.script.Actor.{Actor as Fields}
 use Rattle.gup_script.specs.declared.op.Op.{Op}
-use Rattle.gup_read_outline.specs.Outline.{Outline, with_op, with_operation}
+use Rattle.gup_spec_grammar.specs.Outline.{Outline, with_op, with_operation}
 use Rattle.gup_script.specs.Views.{actor_value}
 use Rattle.gup_read_outline.specs.ReaderViews.{outline_value}
 use Rattle.gup_read_outline.proofs.Actors.{same_actors, operation_added, op_added, op_refused}

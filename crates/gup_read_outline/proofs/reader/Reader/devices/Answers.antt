@@ -1,5 +1,5 @@
 use Rattle.std.proofs.Common.{◌≡◌, sym, ap, ◌∙◌, rules}
-use Rattle.gup_read_outline.specs.Outline.{is_device, how_many}
+use Rattle.gup_spec_grammar.specs.Outline.{is_device, how_many}
 use Rattle.gup_read_outline.proofs.Actors.{count_fields, counted}
 use Rattle.gup_read_outline.proofs.reader.Reader.devices.Goals as goal
 

@@ -3,7 +3,7 @@ use Rattle.std.proofs.lemmas.Iterator.{YieldsList-from_slice}
 use Rattle.std.proofs.lemmas.Iterator.Search.{any_from_yields_List}
 use Rattle.gup_script.specs.declared.script.Actor.{Actor as Fields}
 use Rattle.gup_script.specs.Script.{Actor}
-use Rattle.gup_read_outline.specs.Outline.{is_mover, has_mover}
+use Rattle.gup_spec_grammar.specs.Outline.{is_mover, has_mover}
 use Rattle.gup_read_outline.proofs.Actors.{any_found}
 use Rattle.gup_read_outline.proofs.reader.Reader.has_mover.Goals as goal
 

@@ -4,7 +4,7 @@ use Rattle.std.proofs.lemmas.Iterator.{YieldsList-from_slice}
 use Rattle.std.proofs.lemmas.Iterator.Search.{any_from_yields_List}
 use Rattle.gup_script.specs.declared.script.Actor.{Actor as Fields}
 use Rattle.gup_script.specs.Script.{Actor}
-use Rattle.gup_read_outline.specs.Outline.{Outline, forks_child, is_forked}
+use Rattle.gup_spec_grammar.specs.Outline.{Outline, forks_child, is_forked}
 use Rattle.gup_read_outline.proofs.Actors.{any_found}
 use Rattle.gup_read_outline.proofs.reader.Reader.is_forked.Goals as goal
 

@@ -3,16 +3,15 @@
 -- behind the lines before it.
 use Rattle.std.specs.Prelude.{◌≡◌, ℕ, ◌+◌, ◌≤◌, ◌<◌, ◌⊎◌, true, false, List, [], ◌∷◌, ◌++◌, length, replicate, codes, decimal, Contains, Some, None}
 use Rattle.std.specs.List.{AllByRecursion}
-use Rattle.gup_read_words.specs.Spelling.{IsNumber, IsCount, IsIndex, IsPage, IsWordNo, IsAddress, IsRange, IsSegment, IsTurnWord, IsName, IsPrintable}
-use Rattle.gup_read_words.specs.Text.{parts}
-use Rattle.gup_read_names.specs.Names.{find}
-use Rattle.gup_read_names.specs.declared.names.Named.TheVariants as named
+use Rattle.gup_spec_grammar.specs.Spelling.{IsNumber, IsCount, IsIndex, IsPage, IsWordNo, IsAddress, IsRange, IsSegment, IsTurnWord, IsName, IsPrintable, parts}
+use Rattle.gup_spec_grammar.specs.Names.{find}
+use Rattle.gup_spec_grammar.specs.declared.named.Named.TheVariants as named
 use Rattle.gup_script.specs.declared.op.Kind.TheVariants.{Thread, Device, Mover}
 use Rattle.gup_script.specs.declared.op.Op.{Op}
 use Rattle.gup_script.specs.declared.op.Op.TheVariants as ops
 use Rattle.gup_script.specs.Script.{ScriptValue, FrameCounts, actor_at}
-use Rattle.gup_read.specs.Said.{Word, Said, a_process, a_child, a_thread, a_device, a_mover, a_seed, some_turns, random_turns, said_words, Action, maps, unmaps, protects, discards, loads, stores, exits, pins, gets, puts, forks, unpins, takes, gives, transfers, transfers_parts, mirrors, looks, moves, action_words, IsShaped, op_words_of}
-use Rattle.gup_read_outline.specs.Outline.{Outline, empty_outline, with_process, with_actor, with_handle, with_operation, with_turns, with_seed, is_thread, is_device, how_many, has_mover, is_child, is_forked, is_receiver, draws}
+use Rattle.gup_spec_grammar.specs.Said.{Word, Said, a_process, a_child, a_thread, a_device, a_mover, a_seed, some_turns, random_turns, said_words, Action, maps, unmaps, protects, discards, loads, stores, exits, pins, gets, puts, forks, unpins, takes, gives, transfers, transfers_parts, mirrors, looks, moves, action_words, IsShaped, op_words_of}
+use Rattle.gup_spec_grammar.specs.Outline.{Outline, empty_outline, with_process, with_actor, with_handle, with_operation, with_turns, with_seed, is_thread, is_device, how_many, has_mover, is_child, is_forked, is_receiver, draws}
 use Rattle.gup_script.specs.Limits.{most_processes, most_threads, most_devices, most_handles, most_pinned, most_words, most_operations, most_turns, most_slots, most_frames, most_tables}
 
 -- 1. Numbers: those that a line has are spelled right and in range

@@ -1,5 +1,6 @@
 -- How numbers, pages, addresses, ranges and names are spelled.
-use Rattle.std.specs.Prelude.{◌≡◌, ◌≢◌, ℕ, ◌+◌, ◌^◌, ◌<◌, ◌≤◌, ◌⊎◌, List, [], ◌∷◌, ◌++◌, length, codes, decimal, All}
+use Rattle.std.specs.Prelude.{◌≡◌, ◌≢◌, ℕ, ◌+◌, ◌^◌, ◌<◌, ◌≤◌, ◌⊎◌, List, [], ◌∷◌, ◌++◌, length, codes, decimal, All, ◌==◌}
+use Rattle.std.specs.List.{slice_split}
 
 -- a number below 2^64, or one of a few
 abbrev pub IsNumber : (word : List ℕ) → ℕ → Type 0
@@ -65,3 +66,7 @@ IsName (c ∷ cs) = IsLetter c × All (λ b. IsLetter b ⊎ IsDigit b) cs × (le
 -- the bytes that a line may have
 abbrev pub IsPrintable : List ℕ → Type 0
 IsPrintable line = All (λ b. (32 ≤ b) × (b ≤ 126)) line
+
+-- the parts of a text between its bytes c
+abbrev pub parts : ℕ → List ℕ → List (List ℕ)
+parts c text = slice_split (λ b. b == c) text

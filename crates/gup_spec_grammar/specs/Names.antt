@@ -1,7 +1,7 @@
 -- The one space of names that processes, actors, handles and mirror slots share.
 use Rattle.std.specs.Prelude.{ℕ, Bool, if◌then◌else◌, List, [], ◌∷◌, ◌++◌, Option, Some, None, is_none}
 use Rattle.std.specs.Str.{bytes_eq}
-use Rattle.gup_read_names.specs.declared.names.Named.{Named}
+use Rattle.gup_spec_grammar.specs.declared.named.Named.{Named}
 
 -- a name, and what it names
 pub record Entry : Type 0 where

@@ -1,17 +1,16 @@
 -- The first fault of a text: its line, and there the first of the tests that the line fails, in their order.
 use Rattle.std.specs.Prelude.{◌≡◌, ℕ, ◌+◌, ◌≤◌, ◌<◌, ◌⊎◌, List, [], ◌∷◌, ◌++◌, length, codes, Contains}
 use Rattle.std.specs.List.{AllByRecursion}
-use Rattle.gup_read_words.specs.Spelling.{IsPrintable}
-use Rattle.gup_read_words.specs.Text.{parts}
-use Rattle.gup_read.specs.declared.refusal.Reason.{Reason}
-use Rattle.gup_read.specs.declared.refusal.Reason.TheVariants.{Long, Byte, End, Space, Head, Frames, Word, Shape, Number, Name, Twice, Limit, Later, Short}
-use Rattle.gup_read.specs.declared.refusal.ScriptFault.{ScriptFault}
-use Rattle.gup_read.specs.declared.refusal.ReadRefusal.{ReadRefusal}
-use Rattle.gup_read.specs.declared.refusal.ReadRefusal.TheVariants.{Fault, NoMemory}
+use Rattle.gup_spec_grammar.specs.Spelling.{IsPrintable, parts}
+use Rattle.gup_spec_grammar.specs.declared.fault.Reason.{Reason}
+use Rattle.gup_spec_grammar.specs.declared.fault.Reason.TheVariants.{Long, Byte, End, Space, Head, Frames, Word, Shape, Number, Name, Twice, Limit, Later, Short}
+use Rattle.gup_spec_grammar.specs.declared.fault.ScriptFault.{ScriptFault}
+use Rattle.gup_spec_grammar.specs.declared.fault.ReadRefusal.{ReadRefusal}
+use Rattle.gup_spec_grammar.specs.declared.fault.ReadRefusal.TheVariants.{Fault, NoMemory}
 use Rattle.gup_script.specs.Script.{FrameCounts}
-use Rattle.gup_read.specs.Said.{Said, said_words, declaring_words, Action, action_words, IsShaped, Word as Letters}
-use Rattle.gup_read_outline.specs.Outline.{Outline}
-use Rattle.gup_read.specs.Grammar.{most_bytes, SaidNumbers, ActionNumbers, SaidNames, ActionNames, NamesActor, SaidOnce, ActionOnce, SaidLimits, ActionLimits, IsBuilt, IsOpOf, Stage, before_head, before_frames, open_at, head_words, AreFrames, IsPassed, AreRight}
+use Rattle.gup_spec_grammar.specs.Said.{Said, said_words, declaring_words, Action, action_words, IsShaped, Word as Letters}
+use Rattle.gup_spec_grammar.specs.Outline.{Outline}
+use Rattle.gup_spec_grammar.specs.Grammar.{most_bytes, SaidNumbers, ActionNumbers, SaidNames, ActionNames, NamesActor, SaidOnce, ActionOnce, SaidLimits, ActionLimits, IsBuilt, IsOpOf, Stage, before_head, before_frames, open_at, head_words, AreFrames, IsPassed, AreRight}
 
 -- The reason is this one where the test fails, and else one of the tests behind it.
 abbrev pub Unless : (this : Reason) → (test : Type 0) → (reason : Reason) → (behind : Type 0) → Type 0

@@ -1,8 +1,8 @@
 -- What the lines so far have made: the script up to here, its names, and what counts and comes once.
 use Rattle.std.specs.Prelude.{ℕ, ◌+◌, ◌*◌, ◌/◌, ◌%◌, ◌^◌, ◌==◌, nat_lt, Bool, true, false, not, if◌then◌else◌, List, [], ◌∷◌, ◌++◌, length, count_by, slice_get, Option, Some, None, zero, suc}
 use Rattle.std.specs.List.{list_any}
-use Rattle.gup_read_names.specs.Names.{Entry, declared}
-use Rattle.gup_read_names.specs.declared.names.Named.TheVariants as named
+use Rattle.gup_spec_grammar.specs.Names.{Entry, declared}
+use Rattle.gup_spec_grammar.specs.declared.named.Named.TheVariants as named
 use Rattle.gup_script.specs.declared.op.Kind.{Kind}
 use Rattle.gup_script.specs.declared.op.Kind.TheVariants.{Thread, Device, Mover}
 use Rattle.gup_script.specs.declared.op.Op.{Op}
