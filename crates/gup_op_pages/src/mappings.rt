@@ -112,3 +112,23 @@ fn lower(space: &mut Space, page: PageNo, n: u16)
         lower_page(space, page_behind(page, k));
     }
 }
+
+// Makes the page's entry read-only, where it has one.
+fn lower_page(space: &mut Space, page: PageNo)
+    requires { AreMapped (space_of space.old) }
+    ensures { IsLowered page 1 (space_of space.old) (space_of space.new) }
+{
+    let Some(entry) = space.entry(page) else {
+        return;
+    };
+    if entry.writable {
+        let writable = false;
+        space.set_entry(
+            page,
+            Some(Entry {
+                frame: entry.frame,
+                writable,
+            }),
+        );
+    }
+}

@@ -1,6 +1,7 @@
 use super::*;
 use gup_base::{ActorNo, HandleNo, PageNo, ProcNo, Rights, WordNo};
 use gup_script::{Kind, Op, Script};
+use gup_spec_grammar::{ReadRefusal, Reason, ScriptFault};
 use std::alloc::Global;
 use std::process::Abort;
 use std::test::*;

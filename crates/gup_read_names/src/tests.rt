@@ -1,5 +1,6 @@
 use super::*;
 use gup_base::{ActorNo, HandleNo, MirrorNo, ProcNo};
+use gup_spec_grammar::Named;
 use std::alloc::AllocError;
 use std::test::*;
 
