@@ -4,7 +4,7 @@ use Rattle.gup_base.specs.declared.entry.Rights.{Rights}
 use Rattle.gup_plain.specs.Event.{page_numbers}
 use Rattle.gup_plain.specs.Put.{lowest}
 use Rattle.gup_script.specs.declared.op.Op.{Op}
-use Rattle.gup_script.specs.declared.op.Op.TheVariants.{Map, Unmap, Protect, Discard, Load, Store, Pin, Unpin, Give, Take, Transfer, Fork, Exit}
+use Rattle.gup_script.specs.declared.op.Op.TheVariants.{Fork}
 use Rattle.gup_spec_turns.specs.Waits.{Locks, both_locks, no_lock}
 use Rattle.gup_spec_turns.specs.ForkPlace.{ForkPlace}
 use Rattle.gup_spec_turns.specs.Reached.{unbegun, from_page, at_page, wants_frame, at_word}
@@ -24,16 +24,5 @@ fork_needs right (at_word page word to) = no_lock
 
 -- the child that the operation brings, if it is a fork
 abbrev pub child_in : Op → Option ℕ
-child_in (Map page n rights) = None
-child_in (Unmap page n) = None
-child_in (Protect page n rights) = None
-child_in (Discard page n) = None
-child_in (Load page word) = None
-child_in (Store page word value) = None
-child_in (Pin handle page n write) = None
-child_in (Unpin handle) = None
-child_in (Give handle to) = None
-child_in (Take handle) = None
-child_in (Transfer handle outward index slot n) = None
 child_in (Fork child) = Some child
-child_in Exit = None
+child_in op = None

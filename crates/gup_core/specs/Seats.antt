@@ -1,7 +1,7 @@
 -- Where actors stand in their operations.
 use Rattle.std.specs.Prelude.{◌≡◌, ℕ, ◌+◌, Bool, if◌then◌else◌, List, replicate, Option}
 use Rattle.gup_script.specs.declared.op.Op.{Op}
-use Rattle.gup_script.specs.declared.op.Op.TheVariants.{Map, Unmap, Protect, Discard, Load, Store, Pin, Unpin, Give, Take, Transfer, Fork, Exit}
+use Rattle.gup_script.specs.declared.op.Op.TheVariants.{Unmap, Discard, Pin, Transfer}
 use Rattle.gup_spec_journal.specs.Place.{Place}
 use Rattle.gup_op_fork.specs.declared.forks.ForkPlace.{ForkPlace}
 use Rattle.gup_op_fork.specs.declared.forks.ForkPlace.TheVariants.{Unbegun}
@@ -15,17 +15,9 @@ IsSeat op place seat = (seat.answered ≡ place.answered) × (seat.far ≡ far_i
 abbrev pub far_behind : Op → (far : ℕ) → ℕ
 far_behind (Unmap page n) far = far + 1
 far_behind (Discard page n) far = far + 1
-far_behind (Map page n rights) far = 0
-far_behind (Protect page n rights) far = 0
-far_behind (Load page word) far = 0
-far_behind (Store page word value) far = 0
 far_behind (Pin handle page n write) far = far + 1
-far_behind (Unpin handle) far = 0
-far_behind (Give handle to) far = 0
-far_behind (Take handle) far = 0
 far_behind (Transfer handle outward index slot n) far = far + 1
-far_behind (Fork child) far = 0
-far_behind Exit far = 0
+far_behind op far = 0
 
 -- behind a turn of its operation an actor stands at the next page or word, or at the next operation, and its fork there
 abbrev pub seat_behind : Seat → Op → (answered : Bool) → ForkPlace → Seat

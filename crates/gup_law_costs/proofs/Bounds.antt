@@ -57,17 +57,11 @@ answer_bound Exit a p place next s t is = inl is
 abbrev pub StandsShort : CoreState → (a : ℕ) → Op → Place → Type 0
 StandsShort s a (Unmap page n) place = place.far < n
 StandsShort s a (Discard page n) place = place.far < n
-StandsShort s a (Map page n rights) place = Unit {0}
-StandsShort s a (Protect page n rights) place = Unit {0}
-StandsShort s a (Load page word) place = Unit {0}
-StandsShort s a (Store page word value) place = Unit {0}
 StandsShort s a (Pin handle page n write) place = place.far < n
 StandsShort s a (Unpin handle) place = (place.far < most_pinned) × HasLeft s a handle place.far
-StandsShort s a (Give handle to) place = Unit {0}
-StandsShort s a (Take handle) place = Unit {0}
 StandsShort s a (Transfer handle outward index slot n) place = place.far < n
 StandsShort s a (Fork child) place = ⊥
-StandsShort s a Exit place = Unit {0}
+StandsShort s a op place = Unit {0}
 
 -- the actor is in the middle of nothing, and other actors' jobs stay, and what these have prepared
 pub record KeepsJobs (s : CoreState) (a : ℕ) (t : CoreState) : Type 0 where

@@ -17,18 +17,7 @@ use Rattle.gup_law_turns.proofs.Sums.{sum_at, sum_both, sum_ones, sum_zero}
 -- one where the operation is a fork that brings the child
 abbrev brings : Op → (child : ℕ) → ℕ
 brings (Fork c) child = if child == c then 1 else 0
-brings (Map page n rights) child = 0
-brings (Unmap page n) child = 0
-brings (Protect page n rights) child = 0
-brings (Discard page n) child = 0
-brings (Load page word) child = 0
-brings (Store page word value) child = 0
-brings (Pin handle page n write) child = 0
-brings (Unpin handle) child = 0
-brings (Give handle to) child = 0
-brings (Take handle) child = 0
-brings (Transfer handle outward index slot n) child = 0
-brings Exit child = 0
+brings op child = 0
 
 -- how many of these operations bring it
 abbrev bringing : List Op → (child : ℕ) → ℕ

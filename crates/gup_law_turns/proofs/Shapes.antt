@@ -62,19 +62,13 @@ HasLeft s a handle back =
 
 -- where whoever does it may stand in its present operation
 abbrev pub FitsOp : CoreState → Doer → Op → Place → Type 0
-FitsOp s who (Map page n rights) place = Rests s who.actor × AtFirst place
 FitsOp s who (Unmap page n) place = Rests s who.actor × (place.far < n)
-FitsOp s who (Load page word) place = Rests s who.actor × AtFirst place
-FitsOp s who (Store page word value) place = Rests s who.actor × AtFirst place
-FitsOp s who (Protect page n rights) place = Rests s who.actor × AtFirst place
 FitsOp s who (Discard page n) place = Rests s who.actor × (place.far < n)
 FitsOp s who (Pin handle page n write) place =
     (s.job who.actor ≡ idle) × HadIfBegun place × StandsPin s who.actor who.proc handle page n write place.far
 FitsOp s who (Unpin handle) place =
     Rests s who.actor × (place.had ≡ false) × (0 < place.far → is_held_by (s.handle handle) who.actor ≡ true)
     × HasLeft s who.actor handle place.far
-FitsOp s who (Give handle to) place = Rests s who.actor × AtFirst place
-FitsOp s who (Take handle) place = Rests s who.actor × AtFirst place
 FitsOp s who (Transfer handle outward index slot n) place =
     Rests s who.actor × HadIfBegun place × (place.far < n)
     × (0 < place.far → transfer_denial (s.handle handle) who.actor outward who.slots slot ((index, n) ∷ []) ≡ None)
@@ -82,6 +76,7 @@ FitsOp s who (Transfer handle outward index slot n) place =
 FitsOp s who (Fork child) place =
     (s.taken who.actor ≡ []) × FitsFork s who.actor who.proc child place (s.job who.actor) (s.prepared who.actor)
 FitsOp s who Exit place = Rests s who.actor
+FitsOp s who op place = Rests s who.actor × AtFirst place
 
 abbrev pub FitsAt : CoreState → Doer → Option Op → Place → Type 0
 FitsAt s who None place = Rests s who.actor × AtFirst place
@@ -94,19 +89,11 @@ pub data GoesOver (a p : ℕ) : Op → (page n : ℕ) → (ℕ → PlainEvent) �
 
 -- the operations that only threads of a born process do
 abbrev pub IsOfProcess : Op → Type 0
-IsOfProcess (Map page n rights) = Unit {0}
-IsOfProcess (Unmap page n) = Unit {0}
-IsOfProcess (Protect page n rights) = Unit {0}
-IsOfProcess (Discard page n) = Unit {0}
-IsOfProcess (Load page word) = Unit {0}
-IsOfProcess (Store page word value) = Unit {0}
-IsOfProcess (Pin handle page n write) = Unit {0}
-IsOfProcess (Fork child) = Unit {0}
-IsOfProcess Exit = Unit {0}
 IsOfProcess (Unpin handle) = ⊥
 IsOfProcess (Give handle to) = ⊥
 IsOfProcess (Take handle) = ⊥
 IsOfProcess (Transfer handle outward index slot n) = ⊥
+IsOfProcess op = Unit {0}
 
 -- The turns of an operation that stands at this place, of a device or of a thread of a born process; a fork goes from
 -- where it stands to where it stands then.
@@ -186,37 +173,17 @@ at_rest s a none owed = record { prepared = keeps_none (s.job a) (s.prepared a) 
 
 -- the child that an operation of process p brings, or else p
 abbrev pub child_of : (p : ℕ) → Option Op → ℕ
-child_of p None = p
 child_of p (Some (Fork child)) = child
-child_of p (Some (Map page n rights)) = p
-child_of p (Some (Unmap page n)) = p
-child_of p (Some (Protect page n rights)) = p
-child_of p (Some (Discard page n)) = p
-child_of p (Some (Load page word)) = p
-child_of p (Some (Store page word value)) = p
-child_of p (Some (Pin handle page n write)) = p
-child_of p (Some (Unpin handle)) = p
-child_of p (Some (Give handle to)) = p
-child_of p (Some (Take handle)) = p
-child_of p (Some (Transfer handle outward index slot n)) = p
-child_of p (Some Exit) = p
+child_of p op = p
 
 -- what an operation is about
 abbrev pub strand_of : Option Op → Strand
-strand_of None = of_pages
-strand_of (Some (Map page n rights)) = of_pages
-strand_of (Some (Unmap page n)) = of_pages
-strand_of (Some (Protect page n rights)) = of_pages
-strand_of (Some (Discard page n)) = of_pages
-strand_of (Some (Load page word)) = of_pages
-strand_of (Some (Store page word value)) = of_pages
 strand_of (Some (Pin handle page n write)) = of_pin handle
 strand_of (Some (Unpin handle)) = of_handle handle
 strand_of (Some (Give handle to)) = of_handle handle
 strand_of (Some (Take handle)) = of_handle handle
 strand_of (Some (Transfer handle outward index slot n)) = of_handle handle
-strand_of (Some (Fork child)) = of_pages
-strand_of (Some Exit) = of_pages
+strand_of op = of_pages
 
 -- A turn's core events are the actor's own, they can happen, they leave the actor at rest, and the plain events
 -- that stand at them are those of the notes.

@@ -4,7 +4,7 @@ use Rattle.gup_base.specs.declared.entry.Entry.{Entry}
 use Rattle.gup_base.specs.declared.entry.Rights.{Rights}
 use Rattle.gup_plain.specs.Event.{page_numbers}
 use Rattle.gup_script.specs.declared.op.Op.{Op}
-use Rattle.gup_script.specs.declared.op.Op.TheVariants.{Map, Unmap, Protect, Discard, Load, Store, Pin, Unpin, Give, Take, Transfer, Fork, Exit}
+use Rattle.gup_script.specs.declared.op.Op.TheVariants.{Load, Store, Unpin, Give, Take, Transfer}
 use Rattle.gup_frames.specs.Frames.{FramesValue, IsFrame}
 use Rattle.gup_space.specs.Space.{SpaceValue}
 use Rattle.gup_spec_turns.specs.Taken.{allows_store}
@@ -24,16 +24,10 @@ pub record IsTidy (frames : FramesValue) (space : SpaceValue) : Type 0 where
 -- A load or a store needs the table lock where its entry doesn't allow it, what is of a pin that is made needs none, and
 -- every other operation needs it.
 abbrev pub needs_table : SpaceValue → Op → Bool
-needs_table space (Map page n rights) = true
-needs_table space (Unmap page n) = true
-needs_table space (Protect page n rights) = true
-needs_table space (Discard page n) = true
 needs_table space (Load page word) = is_none (space.entry page)
 needs_table space (Store page word value) = not (allows_store (space.entry page))
-needs_table space (Pin handle page n write) = true
 needs_table space (Unpin handle) = false
 needs_table space (Give handle to) = false
 needs_table space (Take handle) = false
 needs_table space (Transfer handle outward index slot n) = false
-needs_table space (Fork child) = true
-needs_table space Exit = true
+needs_table space op = true

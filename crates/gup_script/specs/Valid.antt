@@ -3,7 +3,7 @@ use Rattle.std.specs.Prelude.{◌≡◌, ℕ, ◌+◌, ◌^◌, ◌<◌, ◌≤�
 use Rattle.gup_script.specs.declared.op.Kind.{Kind}
 use Rattle.gup_script.specs.declared.op.Kind.TheVariants.{Thread, Device, Mover}
 use Rattle.gup_script.specs.declared.op.Op.{Op}
-use Rattle.gup_script.specs.declared.op.Op.TheVariants.{Map, Unmap, Protect, Discard, Load, Store, Pin, Unpin, Give, Take, Transfer, Fork, Exit}
+use Rattle.gup_script.specs.declared.op.Op.TheVariants.{Map, Unmap, Protect, Discard, Load, Store, Pin, Unpin, Give, Take, Transfer, Fork}
 use Rattle.gup_script.specs.Script.{ScriptValue, Process, Actor, process_at, ops_of}
 use Rattle.gup_script.specs.Limits.{most_handles, most_operations, most_pinned, most_turns, most_slots, most_words}
 
@@ -21,11 +21,7 @@ IsOp (Load page word) = (page < 2 ^ 35) × (word < 512)
 IsOp (Store page word value) = (page < 2 ^ 35) × (word < 512) × (value < 2 ^ 64)
 IsOp (Pin handle page n write) = (1 ≤ n) × (n ≤ most_pinned) × (page + n ≤ 2 ^ 35)
 IsOp (Transfer handle outward index slot n) = (1 ≤ n) × (n ≤ most_words) × (index < 2 ^ 32) × (slot < 2 ^ 32)
-IsOp (Unpin handle) = Unit {0}
-IsOp (Give handle to) = Unit {0}
-IsOp (Take handle) = Unit {0}
-IsOp (Fork child) = Unit {0}
-IsOp Exit = Unit {0}
+IsOp op = Unit {0}
 
 -- a process that is declared, and not born at the start
 abbrev pub IsChild : Option Process → Type 0
@@ -41,13 +37,7 @@ AreDeclared s (Unpin handle) = handle < length s.handles
 AreDeclared s (Give handle to) = (handle < length s.handles) × (to < length s.actors)
 AreDeclared s (Take handle) = handle < length s.handles
 AreDeclared s (Transfer handle outward index slot n) = handle < length s.handles
-AreDeclared s (Map page n rights) = Unit {0}
-AreDeclared s (Unmap page n) = Unit {0}
-AreDeclared s (Protect page n rights) = Unit {0}
-AreDeclared s (Discard page n) = Unit {0}
-AreDeclared s (Load page word) = Unit {0}
-AreDeclared s (Store page word value) = Unit {0}
-AreDeclared s Exit = Unit {0}
+AreDeclared s op = Unit {0}
 
 -- the actor's operation at this place is a fork that brings the child
 abbrev pub ForksAt : ScriptValue → (a k child : ℕ) → Type 0
@@ -67,18 +57,7 @@ KindFits s Mover = Unit {0}
 -- only a device moves words
 abbrev pub IsOfThread : Op → Type 0
 IsOfThread (Transfer handle outward index slot n) = ⊥
-IsOfThread (Map page n rights) = Unit {0}
-IsOfThread (Unmap page n) = Unit {0}
-IsOfThread (Protect page n rights) = Unit {0}
-IsOfThread (Discard page n) = Unit {0}
-IsOfThread (Load page word) = Unit {0}
-IsOfThread (Store page word value) = Unit {0}
-IsOfThread (Pin handle page n write) = Unit {0}
-IsOfThread (Unpin handle) = Unit {0}
-IsOfThread (Give handle to) = Unit {0}
-IsOfThread (Take handle) = Unit {0}
-IsOfThread (Fork child) = Unit {0}
-IsOfThread Exit = Unit {0}
+IsOfThread op = Unit {0}
 
 -- and beside that it gives, takes and unpins
 abbrev pub IsOfDevice : Op → Type 0
@@ -86,15 +65,7 @@ IsOfDevice (Unpin handle) = Unit {0}
 IsOfDevice (Give handle to) = Unit {0}
 IsOfDevice (Take handle) = Unit {0}
 IsOfDevice (Transfer handle outward index slot n) = Unit {0}
-IsOfDevice (Map page n rights) = ⊥
-IsOfDevice (Unmap page n) = ⊥
-IsOfDevice (Protect page n rights) = ⊥
-IsOfDevice (Discard page n) = ⊥
-IsOfDevice (Load page word) = ⊥
-IsOfDevice (Store page word value) = ⊥
-IsOfDevice (Pin handle page n write) = ⊥
-IsOfDevice (Fork child) = ⊥
-IsOfDevice Exit = ⊥
+IsOfDevice op = ⊥
 
 -- the operation is one of this kind of actor (the mover has none so far)
 abbrev pub FitsKind : Kind → Op → Type 0

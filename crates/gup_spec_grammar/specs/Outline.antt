@@ -6,7 +6,7 @@ use Rattle.gup_spec_grammar.specs.declared.named.Named.TheVariants as named
 use Rattle.gup_script.specs.declared.op.Kind.{Kind}
 use Rattle.gup_script.specs.declared.op.Kind.TheVariants.{Thread, Device, Mover}
 use Rattle.gup_script.specs.declared.op.Op.{Op}
-use Rattle.gup_script.specs.declared.op.Op.TheVariants.{Map, Unmap, Protect, Discard, Load, Store, Pin, Unpin, Give, Take, Transfer, Fork, Exit}
+use Rattle.gup_script.specs.declared.op.Op.TheVariants.{Pin, Fork}
 use Rattle.gup_script.specs.Script.{ScriptValue, Process, Actor, FrameCounts}
 use Rattle.gup_script.specs.Limits.{most_handles}
 
@@ -108,18 +108,7 @@ is_child st p = is_child_at (slice_get st.script.processes p)
 -- a child that an earlier `fork` line brings
 abbrev pub forks_child : ℕ → Op → Bool
 forks_child p (Fork child) = child == p
-forks_child p (Map page n rights) = false
-forks_child p (Unmap page n) = false
-forks_child p (Protect page n rights) = false
-forks_child p (Discard page n) = false
-forks_child p (Load page word) = false
-forks_child p (Store page word value) = false
-forks_child p (Pin handle page n write) = false
-forks_child p (Unpin handle) = false
-forks_child p (Give handle to) = false
-forks_child p (Take handle) = false
-forks_child p (Transfer handle outward index slot n) = false
-forks_child p Exit = false
+forks_child p op = false
 
 abbrev pub is_forked : Outline → ℕ → Bool
 is_forked st p = list_any (λ (a : Actor). list_any (forks_child p) a.ops) st.script.actors

@@ -4,25 +4,21 @@ use Rattle.gup_plain.specs.State.{PlainState}
 use Rattle.gup_plain.specs.Denial.{denial_at, any_mapped, any_unmapped, load_denial, store_denial, map_denial, protect_denial, pin_denial, holder_denial, is_held_by, transfer_denial}
 use Rattle.gup_plain.specs.declared.answer.Answer.{Answer}
 use Rattle.gup_script.specs.declared.op.Op.{Op}
-use Rattle.gup_script.specs.declared.op.Op.TheVariants.{Map, Unmap, Protect, Discard, Load, Store, Pin, Unpin, Give, Take, Transfer, Fork, Exit}
+use Rattle.gup_script.specs.declared.op.Op.TheVariants.{Map, Protect, Load, Store, Pin, Unpin, Give, Transfer}
 use Rattle.gup_spec_journal.specs.Place.{Doer, birth_for}
 
 -- What denies an operation of a born process. A pin is denied page by page: at the one behind those that it has so far.
 abbrev pub op_denial : PlainState → Doer → (far : ℕ) → Op → Option Answer
 op_denial s who far (Map page n rights) = map_denial (any_mapped (s.right who.proc) page n) (s.pages who.proc) n
-op_denial s who far (Unmap page n) = None
 op_denial s who far (Protect page n rights) = protect_denial (any_unmapped (s.right who.proc) page n)
-op_denial s who far (Discard page n) = None
 op_denial s who far (Load page word) = load_denial (s.right who.proc page)
 op_denial s who far (Store page word value) = store_denial (s.right who.proc page)
 op_denial s who far (Pin handle page n write) = pin_denial write (s.right who.proc (page + far))
 op_denial s who far (Unpin handle) = holder_denial (is_held_by (s.handle handle) who.actor)
 op_denial s who far (Give handle to) = holder_denial (is_held_by (s.handle handle) who.actor)
-op_denial s who far (Take handle) = None
 op_denial s who far (Transfer handle outward index slot n) =
     transfer_denial (s.handle handle) who.actor outward who.slots slot ((index, n) ∷ [])
-op_denial s who far (Fork child) = None
-op_denial s who far Exit = None
+op_denial s who far op = None
 
 -- what denies an operation, if something does: first, of a thread's, that its process failed to come into being
 abbrev pub denial : PlainState → Doer → (far : ℕ) → Op → Option Answer

@@ -9,7 +9,7 @@ use Rattle.gup_plain.specs.declared.note.What.TheVariants.{Idle, Wait}
 use Rattle.gup_plain.specs.declared.note.Waiting.{Waiting}
 use Rattle.gup_plain.specs.declared.note.Waiting.TheVariants as waitings
 use Rattle.gup_script.specs.declared.op.Op.{Op}
-use Rattle.gup_script.specs.declared.op.Op.TheVariants.{Map, Unmap, Protect, Discard, Load, Store, Pin, Unpin, Give, Take, Transfer, Fork, Exit}
+use Rattle.gup_script.specs.declared.op.Op.TheVariants.{Unpin, Give, Take, Transfer, Fork}
 use Rattle.gup_script.specs.Script.{ScriptValue}
 use Rattle.gup_spec_journal.specs.Place.{Place, first_place, place_behind, process_of, doer, birth_for, present_op, has_finished, starts_born}
 use Rattle.gup_spec_journal.specs.Plain.{plain_after}
@@ -70,20 +70,8 @@ finished_in script o a = has_finished script a (o.places a)
 
 -- the operations that keep a lock of their process between two turns
 abbrev pub KeepsLock : Option Op → Type 0
-KeepsLock None = ⊥
 KeepsLock (Some (Fork child)) = Unit {0}
-KeepsLock (Some (Map page n rights)) = ⊥
-KeepsLock (Some (Unmap page n)) = ⊥
-KeepsLock (Some (Protect page n rights)) = ⊥
-KeepsLock (Some (Discard page n)) = ⊥
-KeepsLock (Some (Load page word)) = ⊥
-KeepsLock (Some (Store page word value)) = ⊥
-KeepsLock (Some (Pin handle page n write)) = ⊥
-KeepsLock (Some (Unpin handle)) = ⊥
-KeepsLock (Some (Give handle to)) = ⊥
-KeepsLock (Some (Take handle)) = ⊥
-KeepsLock (Some (Transfer handle outward index slot n)) = ⊥
-KeepsLock (Some Exit) = ⊥
+KeepsLock op = ⊥
 
 -- the operations of which a turn may need a lock: what is done with a pin that is there needs none
 abbrev pub MayNeedLock : Option Op → Type 0
@@ -92,15 +80,7 @@ MayNeedLock (Some (Unpin handle)) = ⊥
 MayNeedLock (Some (Give handle to)) = ⊥
 MayNeedLock (Some (Take handle)) = ⊥
 MayNeedLock (Some (Transfer handle outward index slot n)) = ⊥
-MayNeedLock (Some (Map page n rights)) = Unit {0}
-MayNeedLock (Some (Unmap page n)) = Unit {0}
-MayNeedLock (Some (Protect page n rights)) = Unit {0}
-MayNeedLock (Some (Discard page n)) = Unit {0}
-MayNeedLock (Some (Load page word)) = Unit {0}
-MayNeedLock (Some (Store page word value)) = Unit {0}
-MayNeedLock (Some (Pin handle page n write)) = Unit {0}
-MayNeedLock (Some (Fork child)) = Unit {0}
-MayNeedLock (Some Exit) = Unit {0}
+MayNeedLock (Some op) = Unit {0}
 
 -- Another actor b of the same process is in the middle of an operation that keeps a lock, and a's operation may need it:
 -- so a may wait for b.

@@ -14,7 +14,7 @@ use Rattle.gup_plain.specs.declared.event.PlainEvent.TheVariants as events
 use Rattle.gup_plain.specs.declared.note.What.{What}
 use Rattle.gup_plain.specs.declared.note.What.TheVariants.{Silent, Idle, Wait, Event, Done}
 use Rattle.gup_script.specs.declared.op.Op.{Op}
-use Rattle.gup_script.specs.declared.op.Op.TheVariants.{Map, Unmap, Protect, Discard, Load, Store, Pin, Unpin, Give, Take, Transfer, Fork, Exit}
+use Rattle.gup_script.specs.declared.op.Op.TheVariants.{Unmap, Discard, Unpin, Fork, Exit}
 use Rattle.gup_script.specs.Script.{ScriptValue}
 use Rattle.gup_spec_journal.specs.Place.{Place, first_place, place_after, Doer, doer, birth_for, present_op, starts_born}
 use Rattle.gup_plain.specs.Denial.{is_denial}
@@ -37,34 +37,15 @@ page_in e = 0
 abbrev pub Passes : PlainState → ℕ → Op → (far : ℕ) → Type 0
 Passes s p (Unmap page n) far = far < n → s.right p (page + far) ≡ None
 Passes s p (Discard page n) far = far < n → s.right p (page + far) ≡ None
-Passes s p (Map page n rights) far = Unit {0}
-Passes s p (Protect page n rights) far = Unit {0}
-Passes s p (Load page word) far = Unit {0}
-Passes s p (Store page word value) far = Unit {0}
-Passes s p (Pin handle page n write) far = Unit {0}
-Passes s p (Unpin handle) far = Unit {0}
-Passes s p (Give handle to) far = Unit {0}
-Passes s p (Take handle) far = Unit {0}
-Passes s p (Transfer handle outward index slot n) far = Unit {0}
-Passes s p (Fork child) far = Unit {0}
 Passes s p Exit far = (page : ℕ) → s.right p page ≡ None
+Passes s p op far = Unit {0}
 
 -- The event is due at this place of its operation: an exit takes down the lowest page that is named, and a pin is gone
 -- with the last of its pages.
 abbrev pub IsDue : PlainState → ℕ → Op → (far : ℕ) → PlainEvent → Type 0
 IsDue s p Exit far e = (page : ℕ) → page < page_in e → s.right p page ≡ None
 IsDue s p (Unpin handle) far e = far + 1 ≡ length (objects_of (s.handle handle))
-IsDue s p (Unmap page n) far e = Unit {0}
-IsDue s p (Discard page n) far e = Unit {0}
-IsDue s p (Map page n rights) far e = Unit {0}
-IsDue s p (Protect page n rights) far e = Unit {0}
-IsDue s p (Load page word) far e = Unit {0}
-IsDue s p (Store page word value) far e = Unit {0}
-IsDue s p (Pin handle page n write) far e = Unit {0}
-IsDue s p (Give handle to) far e = Unit {0}
-IsDue s p (Take handle) far e = Unit {0}
-IsDue s p (Transfer handle outward index slot n) far e = Unit {0}
-IsDue s p (Fork child) far e = Unit {0}
+IsDue s p op far e = Unit {0}
 
 -- An answer without an event is the denial, if the plain state gives one, and else no denial.
 abbrev pub IsAnswerOf : Option Answer → Answer → Type 0

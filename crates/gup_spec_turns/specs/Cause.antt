@@ -16,7 +16,7 @@ use Rattle.gup_plain.specs.declared.note.What.TheVariants.{Silent, Idle, Wait, E
 use Rattle.gup_plain.specs.declared.note.Waiting.{Waiting}
 use Rattle.gup_plain.specs.declared.note.Waiting.TheVariants as waitings
 use Rattle.gup_script.specs.declared.op.Op.{Op}
-use Rattle.gup_script.specs.declared.op.Op.TheVariants.{Map, Unmap, Protect, Discard, Load, Store, Pin, Unpin, Give, Take, Transfer, Fork, Exit}
+use Rattle.gup_script.specs.declared.op.Op.TheVariants.{Load, Store, Pin, Fork}
 use Rattle.gup_script.specs.Script.{ScriptValue}
 use Rattle.gup_spec_events.specs.State.{CoreState}
 use Rattle.gup_spec_events.specs.Event.{IsAllowed}
@@ -66,15 +66,7 @@ NeedsFor s a p far (Load page word) = NeedsForLoad s p page
 NeedsFor s a p far (Store page word value) = NeedsForStore s p page
 NeedsFor s a p far (Pin handle page n write) = NeedsForPin s p (page + far) write
 NeedsFor s a p far (Fork child) = (page : ℕ) × (place_in s a ≡ wants_frame page)
-NeedsFor s a p far (Map page n rights) = ⊥
-NeedsFor s a p far (Unmap page n) = ⊥
-NeedsFor s a p far (Protect page n rights) = ⊥
-NeedsFor s a p far (Discard page n) = ⊥
-NeedsFor s a p far (Unpin handle) = ⊥
-NeedsFor s a p far (Give handle to) = ⊥
-NeedsFor s a p far (Take handle) = ⊥
-NeedsFor s a p far (Transfer handle outward index slot n) = ⊥
-NeedsFor s a p far Exit = ⊥
+NeedsFor s a p far op = ⊥
 
 -- the actor's next turn is one of this operation, which it waits for nothing to do, in a process that is born; and it
 -- needs a frame

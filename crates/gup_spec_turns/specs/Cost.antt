@@ -4,7 +4,7 @@ use Rattle.gup_base.specs.declared.entry.Rights.{Rights}
 use Rattle.gup_plain.specs.Event.{most_pages, page_numbers, words}
 use Rattle.gup_plain.specs.Put.{put}
 use Rattle.gup_script.specs.declared.op.Op.{Op}
-use Rattle.gup_script.specs.declared.op.Op.TheVariants.{Map, Unmap, Protect, Discard, Load, Store, Pin, Unpin, Give, Take, Transfer, Fork, Exit}
+use Rattle.gup_script.specs.declared.op.Op.TheVariants.{Map, Unmap, Discard, Pin, Unpin, Transfer, Fork, Exit}
 use Rattle.gup_plain.specs.State.{objects_of}
 use Rattle.gup_script.specs.Limits.{most_pinned}
 use Rattle.gup_script.specs.Script.{ScriptValue, Actor}
@@ -36,32 +36,22 @@ abbrev pub op_cost : Op → ℕ
 op_cost (Map page n rights) = n + 1
 op_cost (Unmap page n) = n
 op_cost (Discard page n) = n
-op_cost (Protect page n rights) = 1
-op_cost (Load page word) = 1
-op_cost (Store page word value) = 1
 op_cost (Pin handle page n write) = n
 op_cost (Unpin handle) = most_pinned
-op_cost (Give handle to) = 1
-op_cost (Take handle) = 1
 op_cost (Transfer handle outward index slot n) = n
 op_cost (Fork child) = 516 * most_pages + 2
-op_cost Exit = 1
+op_cost op = 1
 
 -- the same of one that actor a is in the middle of, of which so many turns are over
 abbrev pub op_left : CoreState → (a : ℕ) → Op → (far : ℕ) → ℕ
 op_left s a (Map page n rights) far = n + 1
 op_left s a (Unmap page n) far = n - far
 op_left s a (Discard page n) far = n - far
-op_left s a (Protect page n rights) far = 1
-op_left s a (Load page word) far = 1
-op_left s a (Store page word value) far = 1
 op_left s a (Pin handle page n write) far = n - far
 op_left s a (Unpin handle) far = most_pinned - far
-op_left s a (Give handle to) far = 1
-op_left s a (Take handle) far = 1
 op_left s a (Transfer handle outward index slot n) far = n - far
 op_left s a (Fork child) far = fork_left (s.right child) (place_in s a)
-op_left s a Exit far = 1
+op_left s a op far = 1
 
 -- of the operations behind those that are answered
 abbrev pub left_cost : CoreState → (a : ℕ) → List Op → (answered far : ℕ) → ℕ
@@ -85,18 +75,7 @@ operations script = sum_by (λ (a : Actor). length a.ops) script.actors
 -- how many of its operations are forks
 abbrev pub is_fork : Op → ℕ
 is_fork (Fork child) = 1
-is_fork (Map page n rights) = 0
-is_fork (Unmap page n) = 0
-is_fork (Protect page n rights) = 0
-is_fork (Discard page n) = 0
-is_fork (Load page word) = 0
-is_fork (Store page word value) = 0
-is_fork (Pin handle page n write) = 0
-is_fork (Unpin handle) = 0
-is_fork (Give handle to) = 0
-is_fork (Take handle) = 0
-is_fork (Transfer handle outward index slot n) = 0
-is_fork Exit = 0
+is_fork op = 0
 
 abbrev pub forks : ScriptValue → ℕ
 forks script = sum_by (λ (a : Actor). sum_by is_fork a.ops) script.actors
@@ -104,18 +83,7 @@ forks script = sum_by (λ (a : Actor). sum_by is_fork a.ops) script.actors
 -- the pages that an operation maps by itself; a fork's child has its own beside those
 abbrev pub mapped_by : Op → ℕ
 mapped_by (Map page n rights) = n
-mapped_by (Unmap page n) = 0
-mapped_by (Protect page n rights) = 0
-mapped_by (Discard page n) = 0
-mapped_by (Load page word) = 0
-mapped_by (Store page word value) = 0
-mapped_by (Pin handle page n write) = 0
-mapped_by (Unpin handle) = 0
-mapped_by (Give handle to) = 0
-mapped_by (Take handle) = 0
-mapped_by (Transfer handle outward index slot n) = 0
-mapped_by (Fork child) = 0
-mapped_by Exit = 0
+mapped_by op = 0
 
 -- those of all the script's mappings
 abbrev pub map_pages : ScriptValue → ℕ
@@ -125,19 +93,14 @@ map_pages script = sum_by (λ (a : Actor). sum_by mapped_by a.ops) script.actors
 -- page and its begin and end, an exit one for each page that its process has or that other threads map meanwhile, and its
 -- answer.
 abbrev pub most_turns : ScriptValue → Op → ℕ
-most_turns script (Map page n rights) = 1
 most_turns script (Unmap page n) = n
-most_turns script (Protect page n rights) = 1
 most_turns script (Discard page n) = n
-most_turns script (Load page word) = 1
-most_turns script (Store page word value) = 1
 most_turns script (Pin handle page n write) = n
 most_turns script (Unpin handle) = most_pinned
-most_turns script (Give handle to) = 1
-most_turns script (Take handle) = 1
 most_turns script (Transfer handle outward index slot n) = n
 most_turns script (Fork child) = 515 * most_pages + 2
 most_turns script Exit = map_pages script + most_pages + 1
+most_turns script op = 1
 
 -- The bounds on an operation's own turns, by what one of them brings.
 
@@ -157,10 +120,6 @@ LosesPage before after = (page : ℕ) × (page < page_numbers) × IsSome (before
 -- the n-th at the latest, and so is an unpin of n pages; each turn of an exit but the one that answers it takes a page of
 -- its process; each of a fork takes of its turns.
 abbrev pub IsWithinBound : Op → (a p : ℕ) → (place next : Place) → (before after : CoreState) → Type 0
-IsWithinBound (Map page n rights) a p place next before after = IsAnswered place next
-IsWithinBound (Protect page n rights) a p place next before after = IsAnswered place next
-IsWithinBound (Load page word) a p place next before after = IsAnswered place next
-IsWithinBound (Store page word value) a p place next before after = IsAnswered place next
 IsWithinBound (Unmap page n) a p place next before after =
     IsAnswered place next ⊎ (GoesOn place next × (next.far < n))
 IsWithinBound (Discard page n) a p place next before after =
@@ -169,8 +128,6 @@ IsWithinBound (Pin handle page n write) a p place next before after =
     IsAnswered place next ⊎ (GoesOn place next × (next.far < n))
 IsWithinBound (Unpin handle) a p place next before after =
     IsAnswered place next ⊎ (GoesOn place next × (next.far < length (objects_of (before.handle handle))))
-IsWithinBound (Give handle to) a p place next before after = IsAnswered place next
-IsWithinBound (Take handle) a p place next before after = IsAnswered place next
 IsWithinBound (Transfer handle outward index slot n) a p place next before after =
     IsAnswered place next ⊎ (GoesOn place next × (next.far < n))
 IsWithinBound (Fork child) a p place next before after =
@@ -179,6 +136,7 @@ IsWithinBound (Fork child) a p place next before after =
     × (fork_turns (after.right child) (place_in after a) < fork_turns (before.right child) (place_in before a)))
 IsWithinBound Exit a p place next before after =
     IsAnswered place next ⊎ (GoesOn place next × LosesPage (before.right p) (after.right p))
+IsWithinBound op a p place next before after = IsAnswered place next
 
 -- the actor's next turn is within the bound of its operation
 abbrev pub IsBoundedTurn : ScriptValue → RunState → ℕ → Op → Type 0

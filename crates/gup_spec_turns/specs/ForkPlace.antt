@@ -4,7 +4,7 @@ use Rattle.gup_base.specs.declared.entry.Entry.{Entry}
 use Rattle.gup_plain.specs.Event.{words}
 use Rattle.gup_plain.specs.State.{unborn, growing}
 use Rattle.gup_script.specs.declared.op.Op.{Op}
-use Rattle.gup_script.specs.declared.op.Op.TheVariants.{Map, Unmap, Protect, Discard, Load, Store, Pin, Unpin, Give, Take, Transfer, Fork, Exit}
+use Rattle.gup_script.specs.declared.op.Op.TheVariants.{Fork}
 use Rattle.gup_spec_events.specs.State.{CoreState, Job, idle, marking, moving, forking, walking, between, counted, lowered, cleared, copying, failing}
 use Rattle.gup_spec_turns.specs.ForkTurns.{first_behind}
 
@@ -98,17 +98,5 @@ pub record IsPrepared (s : CoreState) (f : ℕ) : Type 0 where
 
 -- an actor that has no fork to do, or none at present, is in the middle of nothing
 abbrev pub IsNoFork : Option Op → Type 0
-IsNoFork None = Unit {0}
-IsNoFork (Some (Map page n rights)) = Unit {0}
-IsNoFork (Some (Unmap page n)) = Unit {0}
-IsNoFork (Some (Protect page n rights)) = Unit {0}
-IsNoFork (Some (Discard page n)) = Unit {0}
-IsNoFork (Some (Load page word)) = Unit {0}
-IsNoFork (Some (Store page word value)) = Unit {0}
 IsNoFork (Some (Fork child)) = ⊥
-IsNoFork (Some (Pin handle page n write)) = Unit {0}
-IsNoFork (Some (Unpin handle)) = Unit {0}
-IsNoFork (Some (Give handle to)) = Unit {0}
-IsNoFork (Some (Take handle)) = Unit {0}
-IsNoFork (Some (Transfer handle outward index slot n)) = Unit {0}
-IsNoFork (Some Exit) = Unit {0}
+IsNoFork op = Unit {0}

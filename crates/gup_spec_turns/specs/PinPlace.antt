@@ -1,26 +1,14 @@
 -- Where a pin stands between two turns.
-use Rattle.std.specs.Prelude.{◌≡◌, ℕ, ◌+◌, ◌<◌, Bool, false, List, length, slice_get, Option, Some, None}
+use Rattle.std.specs.Prelude.{◌≡◌, ℕ, ◌+◌, ◌<◌, Bool, false, List, length, slice_get, Option, Some}
 use Rattle.gup_plain.specs.State.{unmade}
 use Rattle.gup_script.specs.declared.op.Op.{Op}
-use Rattle.gup_script.specs.declared.op.Op.TheVariants.{Map, Unmap, Protect, Discard, Load, Store, Pin, Unpin, Give, Take, Transfer, Fork, Exit}
+use Rattle.gup_script.specs.declared.op.Op.TheVariants.{Pin}
 use Rattle.gup_spec_events.specs.State.{CoreState, Taken}
 
 -- an actor that has no pin to do has taken no page
 abbrev pub IsNoPin : Option Op → Type 0
-IsNoPin None = Unit {0}
-IsNoPin (Some (Map page n rights)) = Unit {0}
-IsNoPin (Some (Unmap page n)) = Unit {0}
-IsNoPin (Some (Protect page n rights)) = Unit {0}
-IsNoPin (Some (Discard page n)) = Unit {0}
-IsNoPin (Some (Load page word)) = Unit {0}
-IsNoPin (Some (Store page word value)) = Unit {0}
 IsNoPin (Some (Pin handle page n write)) = ⊥
-IsNoPin (Some (Unpin handle)) = Unit {0}
-IsNoPin (Some (Give handle to)) = Unit {0}
-IsNoPin (Some (Take handle)) = Unit {0}
-IsNoPin (Some (Transfer handle outward index slot n)) = Unit {0}
-IsNoPin (Some (Fork child)) = Unit {0}
-IsNoPin (Some Exit) = Unit {0}
+IsNoPin op = Unit {0}
 
 -- the pages that a pin of process p has taken are the first ones of it, so many
 abbrev pub IsTakenPage : (p page : ℕ) → (write : Bool) → (k : ℕ) → Taken → Type 0

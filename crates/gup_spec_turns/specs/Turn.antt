@@ -39,18 +39,7 @@ failed_turn a p (Fork child) =
       events = fail_unborn a p child ∷ [];
       whats = Event (events.ForkFail child) ∷ Done answers.Unborn ∷ [];
     }
-failed_turn a p (Map page n rights) = answers_with answers.Unborn
-failed_turn a p (Unmap page n) = answers_with answers.Unborn
-failed_turn a p (Protect page n rights) = answers_with answers.Unborn
-failed_turn a p (Discard page n) = answers_with answers.Unborn
-failed_turn a p (Load page word) = answers_with answers.Unborn
-failed_turn a p (Store page word value) = answers_with answers.Unborn
-failed_turn a p (Pin handle page n write) = answers_with answers.Unborn
-failed_turn a p (Unpin handle) = answers_with answers.Unborn
-failed_turn a p (Give handle to) = answers_with answers.Unborn
-failed_turn a p (Take handle) = answers_with answers.Unborn
-failed_turn a p (Transfer handle outward index slot n) = answers_with answers.Unborn
-failed_turn a p Exit = answers_with answers.Unborn
+failed_turn a p op = answers_with answers.Unborn
 
 abbrev pub turn_at : Birth → (refused turn : Taken) → Taken
 turn_at failed refused turn = refused
