@@ -7,7 +7,7 @@ use Rattle.gup_script.specs.declared.op.Op.{Op}
 use Rattle.gup_script.specs.declared.op.Op.TheVariants.{Fork}
 use Rattle.gup_spec_turns.specs.Waits.{Locks, both_locks, no_lock}
 use Rattle.gup_spec_turns.specs.ForkPlace.{ForkPlace}
-use Rattle.gup_spec_turns.specs.Reached.{unbegun, from_page, at_page, wants_frame, at_word}
+use Rattle.gup_spec_turns.specs.Reached.{unbegun, from_page}
 use Rattle.gup_core.specs.declared.locks.Locks.{Locks as KeptLocks}
 
 abbrev pub locks_of : KeptLocks → Locks
@@ -18,9 +18,7 @@ abbrev pub fork_needs : (right : ℕ → Option Rights) → ForkPlace → Locks
 fork_needs right unbegun = both_locks
 fork_needs right (from_page page) =
     record { structure = false; table = is_some (lowest page (page_numbers - page) (λ g. is_some (right g))) }
-fork_needs right (at_page page) = no_lock
-fork_needs right (wants_frame page) = no_lock
-fork_needs right (at_word page word to) = no_lock
+fork_needs right other = no_lock
 
 -- the child that the operation brings, if it is a fork
 abbrev pub child_in : Op → Option ℕ

@@ -5,7 +5,7 @@ use Rattle.gup_plain.specs.Event.{page_numbers}
 use Rattle.gup_frames.specs.Frames.{FramesValue, FrameLists, frames_of, with_mark, with_references, without_references}
 use Rattle.gup_space.specs.Shows.{ShowsFrames, ShowsSpace}
 use Rattle.gup_space.specs.Space.{SpaceValue, SpaceParts, space_of, with_entry}
-use Rattle.gup_spec_events.specs.State.{CoreState, ForkStep, between, counted, lowered, cleared, copying, failing}
+use Rattle.gup_spec_events.specs.State.{CoreState, ForkStep, between}
 use Rattle.gup_spec_events.specs.Event.{CoreEvent, bias, entry_of, share_entry, share_mark, share_child, run}
 
 -- frames, a parent and its child, before a call and behind it
@@ -100,11 +100,7 @@ given_back entry frames =
 -- who holds the parent's table lock behind a failure at this step: a fork that is within a page has it, and gives it back
 abbrev pub table_behind : ForkStep → Option ℕ → Option ℕ
 table_behind between holder = holder
-table_behind (counted page) holder = None
-table_behind (lowered page) holder = None
-table_behind (cleared page) holder = None
-table_behind (copying page word) holder = None
-table_behind failing holder = None
+table_behind step holder = None
 
 -- no page is mapped
 abbrev pub without_maps : SpaceValue → SpaceValue

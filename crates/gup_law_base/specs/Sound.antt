@@ -5,7 +5,7 @@ use Rattle.gup_base.specs.declared.entry.Rights.{Rights}
 use Rattle.gup_base.specs.declared.entry.Rights.TheVariants.{R}
 use Rattle.gup_plain.specs.Event.{page_numbers, words}
 use Rattle.gup_plain.specs.State.{Birth, growing, born, unborn, failed, Noted, objects_of}
-use Rattle.gup_spec_events.specs.State.{CoreState, Taken, Job, idle, marking, moving, forking, walking, Counted, unread, one, more, ForkStep, between, counted, lowered, cleared, copying, failing, WalkStep, entered, ready, read, grabbed, rechecked, differed, refused, stopped, dropping, over, plain_of}
+use Rattle.gup_spec_events.specs.State.{CoreState, Taken, Job, idle, marking, moving, forking, walking, Counted, one, ForkStep, between, counted, lowered, cleared, copying, failing, WalkStep, entered, read, grabbed, rechecked, refused, plain_of}
 use Rattle.gup_spec_events.specs.Event.{CoreEvent, happens, told, after_told, writes_taken, long_taken, is_odd}
 use Rattle.gup_spec_events.specs.Invariant.{Holder, entry_of_page, cleared_by, prepared_by, owed_by, got_as, page_of_pin, page_taken, grabbed_by, frame_of, got_frame, taken_frame, step_frame, is_over, is_inside, weight, HasNoRepetition, CanTell}
 
@@ -90,46 +90,29 @@ step_page (copying page n) = Some page
 step_page failing = None
 
 abbrev pub shared_page : ForkStep → Option ℕ
-shared_page between = None
 shared_page (counted page) = Some page
 shared_page (lowered page) = Some page
 shared_page (cleared page) = Some page
-shared_page (copying page n) = None
-shared_page failing = None
+shared_page step = None
 
 abbrev pub lowered_page : ForkStep → Option ℕ
-lowered_page between = None
-lowered_page (counted page) = None
 lowered_page (lowered page) = Some page
 lowered_page (cleared page) = Some page
-lowered_page (copying page n) = None
-lowered_page failing = None
+lowered_page step = None
 
 abbrev pub is_failing : ForkStep → Bool
-is_failing between = false
-is_failing (counted page) = false
-is_failing (lowered page) = false
-is_failing (cleared page) = false
-is_failing (copying page n) = false
 is_failing failing = true
+is_failing step = false
 
 -- how many words of the page the fork has copied
 abbrev pub copied_words : ForkStep → (page : ℕ) → ℕ
-copied_words between page = 0
-copied_words (counted g) page = 0
-copied_words (lowered g) page = 0
-copied_words (cleared g) page = 0
 copied_words (copying g n) page = if g == page then n else 0
-copied_words failing page = 0
+copied_words step page = 0
 
 -- how many words of the prepared frame are not zero any more
 abbrev pub step_words : ForkStep → ℕ
-step_words between = 0
-step_words (counted g) = 0
-step_words (lowered g) = 0
-step_words (cleared g) = 0
 step_words (copying g n) = n
-step_words failing = 0
+step_words step = 0
 
 abbrev pub words_written : Option Forking → ℕ
 words_written None = 0
@@ -168,54 +151,25 @@ is_open (Some w) = not (is_over w.step)
 
 -- the page and the entry that a walk is trying
 abbrev pub tried_page : WalkStep → Option ℕ
-tried_page entered = None
-tried_page ready = None
 tried_page (read page e) = Some page
 tried_page (grabbed page e) = Some page
-tried_page (rechecked page e) = None
-tried_page (differed f) = None
-tried_page refused = None
-tried_page stopped = None
-tried_page dropping = None
-tried_page over = None
+tried_page step = None
 
 abbrev pub tried_entry : WalkStep → Option Entry
-tried_entry entered = None
-tried_entry ready = None
 tried_entry (read page e) = Some e
 tried_entry (grabbed page e) = Some e
-tried_entry (rechecked page e) = None
-tried_entry (differed f) = None
-tried_entry refused = None
-tried_entry stopped = None
-tried_entry dropping = None
-tried_entry over = None
+tried_entry step = None
 
 -- the entry of the page taken last, whose mark a walk has yet to read
 abbrev pub rechecked_entry : WalkStep → Option Entry
-rechecked_entry entered = None
-rechecked_entry ready = None
-rechecked_entry (read page e) = None
-rechecked_entry (grabbed page e) = None
 rechecked_entry (rechecked page e) = Some e
-rechecked_entry (differed f) = None
-rechecked_entry refused = None
-rechecked_entry stopped = None
-rechecked_entry dropping = None
-rechecked_entry over = None
+rechecked_entry step = None
 
 -- how many of the pages taken, the last of them, a walk doesn't keep as yet
 abbrev pub unkept : WalkStep → ℕ
-unkept entered = 0
-unkept ready = 0
-unkept (read page e) = 0
-unkept (grabbed page e) = 0
 unkept (rechecked page e) = 1
-unkept (differed f) = 0
 unkept refused = 1
-unkept stopped = 0
-unkept dropping = 0
-unkept over = 0
+unkept step = 0
 
 -- no fork into the process is copying the page
 abbrev pub IsUncopiedBy : (ℕ → Option Forking) → (c page : ℕ) → Type 0
@@ -236,13 +190,7 @@ held entry moves prepared owed got pinned taken (grabbed_by a) = None
 -- the frame that a walk has grabbed
 unfoldable pub held_by_walk : (walks : ℕ → Option Walking) → Holder → Option ℕ
 held_by_walk walks (grabbed_by a) = walk_frame (walks a)
-held_by_walk walks (entry_of_page p page) = None
-held_by_walk walks (cleared_by a) = None
-held_by_walk walks (prepared_by a) = None
-held_by_walk walks (owed_by a) = None
-held_by_walk walks (got_as k) = None
-held_by_walk walks (page_of_pin h k) = None
-held_by_walk walks (page_taken a k) = None
+held_by_walk walks other = None
 
 -- the holders of each frame are a list without repetition, and their weights add up to its count
 abbrev pub Tally : (count : ℕ → ℕ) (holds : Holder → Option ℕ) → Type 0

@@ -4,16 +4,13 @@ use Rattle.gup_plain.specs.Note.{NoteValue}
 use Rattle.gup_plain.specs.State.{start}
 use Rattle.gup_plain.specs.declared.event.PlainEvent.{PlainEvent}
 use Rattle.gup_plain.specs.declared.note.What.{What}
-use Rattle.gup_plain.specs.declared.note.What.TheVariants.{Silent, Idle, Wait, Event, Done}
+use Rattle.gup_plain.specs.declared.note.What.TheVariants.{Event}
 use Rattle.gup_exec_plain.specs.LastWrite.{after, written_by, last_written, Reads, Names, IsByOwner}
 
 -- the event that a note tells, if it tells one, as a list
 abbrev pub event_in : What → List PlainEvent
 event_in (Event e) = e ∷ []
-event_in Silent = []
-event_in Idle = []
-event_in (Wait waiting) = []
-event_in (Done answer) = []
+event_in what = []
 
 -- the events of a journal, in its order
 abbrev pub events_of : List NoteValue → List PlainEvent

@@ -10,7 +10,7 @@ use Rattle.gup_plain.specs.declared.answer.Cause.TheVariants as causes
 use Rattle.gup_plain.specs.declared.event.PlainEvent.{PlainEvent}
 use Rattle.gup_plain.specs.declared.event.PlainEvent.TheVariants as events
 use Rattle.gup_plain.specs.declared.note.What.{What}
-use Rattle.gup_plain.specs.declared.note.What.TheVariants.{Silent, Idle, Wait, Event, Done}
+use Rattle.gup_plain.specs.declared.note.What.TheVariants.{Event, Done}
 use Rattle.gup_plain.specs.declared.note.Waiting.{Waiting}
 use Rattle.gup_plain.specs.declared.note.Waiting.TheVariants as waitings
 use Rattle.gup_script.specs.Script.{ScriptValue, Actor, Process, actor_at, process_at, handle_at}
@@ -86,27 +86,9 @@ NamesWaiting script (waitings.Holder actor) = ⊥
 
 -- the word that an event of a transfer moves
 abbrev pub word_in : PlainEvent → Option ℕ
-word_in (events.Map actor proc page n rights) = None
-word_in (events.Unmap actor proc page) = None
-word_in (events.Discard actor proc page) = None
-word_in (events.Protect actor proc page n rights) = None
-word_in (events.Load actor proc page word value) = None
-word_in (events.Store actor proc page word value) = None
-word_in (events.PinTry actor proc page write) = None
-word_in (events.PinDrop actor page) = None
-word_in (events.PinOk actor handle) = None
-word_in (events.Unpin actor handle) = None
-word_in (events.Give actor handle to) = None
-word_in (events.Take actor handle) = None
 word_in (events.MoveOut actor handle index slot value) = Some value
 word_in (events.MoveIn actor handle index slot value) = Some value
-word_in (events.MirrorFill actor mirror proc page) = None
-word_in (events.Look actor mirror word value) = None
-word_in (events.ForkBegin parent child) = None
-word_in (events.ForkPage parent child page) = None
-word_in (events.ForkWord parent child page word) = None
-word_in (events.ForkEnd parent child) = None
-word_in (events.ForkFail child) = None
+word_in event = None
 
 -- the words with one more behind them
 abbrev pub moved_by : List ℕ → Option ℕ → List ℕ
@@ -115,20 +97,15 @@ moved_by words (Some word) = words ++ word ∷ []
 
 -- the words that an actor's operation has moved behind a note of it: none behind its end
 abbrev pub words_after : List ℕ → What → List ℕ
-words_after words Silent = words
-words_after words Idle = words
-words_after words (Wait waiting) = words
 words_after words (Event event) = moved_by words (word_in event)
 words_after words (Done answer) = []
+words_after words what = words
 
 -- The outcome that a note tells, if it ends an operation; `words` are those that the operation has moved.
 abbrev pub outcome_of : (actor op : ℕ) (words : List ℕ) → What → Option Outcome
-outcome_of actor op words Silent = None
-outcome_of actor op words Idle = None
-outcome_of actor op words (Wait waiting) = None
-outcome_of actor op words (Event event) = None
 outcome_of actor op words (Done answer) =
     Some (record { actor = actor; op = op; answer = answer; words = words })
+outcome_of actor op words other = None
 
 -- The outcomes that the notes tell, where each actor's operation has moved these words before them.
 abbrev pub outcomes_from : (moved : ℕ → List ℕ) → List NoteValue → List Outcome

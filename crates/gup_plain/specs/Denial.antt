@@ -1,10 +1,10 @@
 -- The answers by which the plain state denies an operation, by what the operation asks for: each is the first that
 -- applies, and none where the operation is not denied.
-use Rattle.std.specs.Prelude.{ℕ, ◌+◌, ◌*◌, ◌==◌, Bool, true, false, not, ◌||◌, ◌&&◌, nat_lt, nat_le, is_some, if◌then◌else◌, List, [], ◌∷◌, length, sum_by, Option, Some, None, zero, suc}
+use Rattle.std.specs.Prelude.{ℕ, ◌+◌, ◌*◌, ◌==◌, Bool, true, false, not, ◌||◌, ◌&&◌, nat_lt, nat_le, is_some, if◌then◌else◌, List, length, sum_by, Option, Some, None, zero, suc}
 use Rattle.std.specs.List.{list_all}
 use Rattle.gup_base.specs.declared.entry.Rights.{Rights}
 use Rattle.gup_base.specs.declared.entry.Rights.TheVariants.{R, RW}
-use Rattle.gup_plain.specs.State.{Birth, unborn, growing, born, failed, Handle, unmade, held, given, gone, objects_of}
+use Rattle.gup_plain.specs.State.{Birth, failed, Handle, held, objects_of}
 use Rattle.gup_plain.specs.Event.{most_pages, words, may_write}
 use Rattle.gup_plain.specs.declared.answer.Answer.{Answer}
 use Rattle.gup_plain.specs.declared.answer.Answer.TheVariants.{Missing, Forbidden, NotHeld, Range, Overlap, Full, Unborn}
@@ -25,9 +25,7 @@ any_unmapped right page n = any_below n (λ k. not (is_some (right (page + k))))
 -- come into being.
 abbrev pub denial_at : Birth → Option Answer → Option Answer
 denial_at failed denial = Some Unborn
-denial_at born denial = denial
-denial_at unborn denial = denial
-denial_at (growing parent) denial = denial
+denial_at birth denial = denial
 
 -- a page with these rights, to be read (load, get, mirror, move, a read pin) or written (store, a write pin)
 abbrev pub load_denial : Option Rights → Option Answer
@@ -55,9 +53,7 @@ protect_denial false = None
 -- a handle (unpin, give), or a reference (put), that the actor doesn't hold
 abbrev pub is_held_by : Handle → ℕ → Bool
 is_held_by (held by objects write) a = by == a
-is_held_by (given to objects write) a = false
-is_held_by unmade a = false
-is_held_by gone a = false
+is_held_by handle a = false
 
 abbrev pub holder_denial : (holds : Bool) → Option Answer
 holder_denial true = None

@@ -47,15 +47,11 @@ write_flag (t ∷ ts) = t.write
 -- who holds a handle, and whether its pin is one to write
 abbrev pub IsHeldBy : Handle → ℕ → Type 0
 IsHeldBy (held by objects write) a = by ≡ a
-IsHeldBy (given to objects write) a = ⊥
-IsHeldBy unmade a = ⊥
-IsHeldBy gone a = ⊥
+IsHeldBy handle a = ⊥
 
 abbrev pub IsGivenTo : Handle → ℕ → Type 0
 IsGivenTo (given to objects write) a = to ≡ a
-IsGivenTo (held by objects write) a = ⊥
-IsGivenTo unmade a = ⊥
-IsGivenTo gone a = ⊥
+IsGivenTo handle a = ⊥
 
 abbrev pub may_write : Handle → Bool
 may_write (held by objects write) = write

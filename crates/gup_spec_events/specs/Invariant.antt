@@ -9,7 +9,7 @@ use Rattle.gup_base.specs.declared.entry.Rights.TheVariants.{RW}
 use Rattle.gup_plain.specs.Event.{CanHappen, words}
 use Rattle.gup_plain.specs.State.{PlainState, Noted, failed, born, objects_of}
 use Rattle.gup_plain.specs.declared.event.PlainEvent.{PlainEvent}
-use Rattle.gup_spec_events.specs.State.{CoreState, Taken, Job, moving, forking, walking, Counted, one, ForkStep, counted, lowered, cleared, copying, failing, WalkStep, entered, ready, read, grabbed, rechecked, differed, refused, stopped, dropping, over, plain_of}
+use Rattle.gup_spec_events.specs.State.{CoreState, Taken, Job, moving, forking, walking, Counted, one, ForkStep, counted, lowered, cleared, copying, failing, WalkStep, entered, grabbed, rechecked, differed, refused, dropping, over, plain_of}
 use Rattle.gup_spec_events.specs.Event.{CoreEvent, Can, happens, told, after_told, bias, IsNormal}
 
 -- 1. References: whatever may hold a frame
@@ -45,16 +45,9 @@ taken_frame None = None
 taken_frame (Some t) = Some t.frame
 
 abbrev pub step_frame : WalkStep → Option ℕ
-step_frame entered = None
-step_frame ready = None
-step_frame (read page e) = None
 step_frame (grabbed page e) = Some e.frame
-step_frame (rechecked page e) = None
 step_frame (differed f) = Some f
-step_frame refused = None
-step_frame stopped = None
-step_frame dropping = None
-step_frame over = None
+step_frame step = None
 
 abbrev pub grabbed_frame : Job → Option ℕ
 grabbed_frame (walking p write long sequence step) = step_frame step
@@ -107,16 +100,8 @@ Names s p page o = IsSome (s.right p page) × (s.object p page ≡ o)
 -- again and found it the same
 
 abbrev pub is_over : WalkStep → Bool
-is_over entered = false
-is_over ready = false
-is_over (read page e) = false
-is_over (grabbed page e) = false
-is_over (rechecked page e) = false
-is_over (differed f) = false
-is_over refused = false
-is_over stopped = false
-is_over dropping = false
 is_over over = true
+is_over step = false
 
 -- may the actor's walk have to drop what it has taken?
 abbrev pub is_unsettled : Job → Bool
@@ -170,15 +155,9 @@ IsSharing step page = ⊥
 -- is the walk between its two readings of the sequence?
 abbrev pub is_inside : WalkStep → Bool
 is_inside entered = false
-is_inside ready = true
-is_inside (read page e) = true
-is_inside (grabbed page e) = true
-is_inside (rechecked page e) = true
-is_inside (differed f) = true
-is_inside refused = true
-is_inside stopped = true
 is_inside dropping = false
 is_inside over = false
+is_inside step = true
 
 -- The process still has the even sequence that the walk has read: no fork of it has begun meanwhile.
 abbrev pub IsUndisturbed : CoreState → (a p : ℕ) → WalkStep → Type 0

@@ -144,10 +144,8 @@ Forks who child notes =
 
 -- what may refuse a page of a pin
 abbrev pub EndsPin : Cause → Type 0
-EndsPin causes.Missing = Unit {0}
-EndsPin causes.Forbidden = Unit {0}
-EndsPin causes.NoFrame = Unit {0}
 EndsPin (causes.Unmovable count) = ⊥
+EndsPin cause = Unit {0}
 
 -- the page behind the first `got` of n is refused: the pin has those, where there are some
 abbrev pub EndsShort : Who → (handle n got : ℕ) → List NoteValue → Type 0
@@ -231,11 +229,9 @@ Shapes actor proc number (op ∷ ops) notes =
 
 -- the notes of an actor's operations: neither that it waits nor that it has finished
 abbrev pub is_of_operation : What → Bool
-is_of_operation Silent = true
-is_of_operation (Event e) = true
-is_of_operation (Done answer) = true
 is_of_operation Idle = false
 is_of_operation (Wait waiting) = false
+is_of_operation what = true
 
 abbrev pub own_notes : ℕ → List NoteValue → List NoteValue
 own_notes a notes = filter (λ (n : NoteValue). (n.actor == a) && is_of_operation n.what) notes

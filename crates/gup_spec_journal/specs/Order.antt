@@ -3,7 +3,7 @@
 use Rattle.std.specs.Prelude.{◌≡◌, ℕ, ◌+◌, ◌≤◌, ◌<◌, ◌⊎◌, ◌==◌, Bool, true, false, if◌then◌else◌, List, [], ◌∷◌, ◌++◌, length, Option, Some, None, slice_get, zero, suc}
 use Rattle.gup_plain.specs.Note.{NoteValue}
 use Rattle.gup_plain.specs.Put.{put}
-use Rattle.gup_plain.specs.State.{PlainState, Birth, unborn, growing, born, failed, Handle, unmade, held, given, gone, start}
+use Rattle.gup_plain.specs.State.{PlainState, Birth, unborn, growing, born, failed, Handle, given, start}
 use Rattle.gup_plain.specs.declared.note.What.{What}
 use Rattle.gup_plain.specs.declared.note.What.TheVariants.{Idle, Wait}
 use Rattle.gup_plain.specs.declared.note.Waiting.{Waiting}
@@ -33,9 +33,7 @@ journal_of number places (turn ∷ turns) =
 
 abbrev pub is_given_to : Handle → ℕ → Bool
 is_given_to (given to objects write) a = to == a
-is_given_to (held by objects write) a = false
-is_given_to unmade a = false
-is_given_to gone a = false
+is_given_to handle a = false
 
 -- an actor that is to take a pin waits until the pin is given to it
 abbrev pub taking_waits : (given : Bool) → (handle : ℕ) → Option Waiting

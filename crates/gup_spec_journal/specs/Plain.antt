@@ -108,11 +108,9 @@ IsRightOf s who place op (Wait waiting) = Unit {0}
 
 -- behind its last operation an actor has neither events nor answers
 abbrev pub IsRightBehind : What → Type 0
-IsRightBehind Silent = ⊥
-IsRightBehind (Event e) = ⊥
-IsRightBehind (Done answer) = ⊥
 IsRightBehind Idle = Unit {0}
 IsRightBehind (Wait waiting) = Unit {0}
+IsRightBehind what = ⊥
 
 abbrev pub IsRightAt : PlainState → Doer → Place → Option Op → What → Type 0
 IsRightAt s who place (Some op) what = IsRightOf s who place op what
@@ -125,10 +123,7 @@ pub record Judged : Type 0 where
 
 abbrev pub plain_after : PlainState → What → PlainState
 plain_after s (Event e) = happened s e
-plain_after s Silent = s
-plain_after s Idle = s
-plain_after s (Wait waiting) = s
-plain_after s (Done answer) = s
+plain_after s what = s
 
 abbrev pub judged_after : Judged → NoteValue → Judged
 judged_after j note =

@@ -93,10 +93,8 @@ LacksExactly script r turn =
 
 -- the answers that operations have so far, and the causes of short pins
 abbrev pub IsKnownCause : Cause → Type 0
-IsKnownCause causes.Missing = Unit {0}
-IsKnownCause causes.Forbidden = Unit {0}
-IsKnownCause causes.NoFrame = Unit {0}
 IsKnownCause (causes.Unmovable count) = ⊥
+IsKnownCause cause = Unit {0}
 
 abbrev pub IsKnownAnswer : Answer → Type 0
 IsKnownAnswer answers.Plain = Unit {0}
@@ -116,10 +114,7 @@ IsKnownAnswer _ = ⊥
 
 abbrev pub IsKnown : What → Type 0
 IsKnown (Done answer) = IsKnownAnswer answer
-IsKnown Silent = Unit {0}
-IsKnown Idle = Unit {0}
-IsKnown (Wait waiting) = Unit {0}
-IsKnown (Event event) = Unit {0}
+IsKnown what = Unit {0}
 
 abbrev pub AreKnown : List NoteValue → Type 0
 AreKnown notes = AllByRecursion (λ (note : NoteValue). IsKnown note.what) notes

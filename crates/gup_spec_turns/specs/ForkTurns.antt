@@ -8,7 +8,7 @@ use Rattle.gup_plain.specs.Put.{lowest}
 use Rattle.gup_plain.specs.declared.answer.Answer.TheVariants as answers
 use Rattle.gup_plain.specs.declared.event.PlainEvent.TheVariants as events
 use Rattle.gup_plain.specs.declared.note.What.TheVariants.{Silent, Event, Done}
-use Rattle.gup_spec_events.specs.State.{CoreState, Job, idle, marking, moving, forking, walking, ForkStep, between, counted, lowered, cleared, copying, failing}
+use Rattle.gup_spec_events.specs.State.{CoreState, Job, idle, forking, ForkStep, between, counted, copying}
 use Rattle.gup_spec_events.specs.Event.{take_frame, begin_fork, count_page, share_entry, share_mark, share_child, copy_word, place_child, pass_page, end_fork, copies_page}
 use Rattle.gup_spec_events.specs.Failure.{fails}
 use Rattle.gup_spec_turns.specs.Taken.{Taken, free_frame, frame_in, allows_store, entry_in}
@@ -83,15 +83,11 @@ copying_turn s a p c done page word (Some to) = copy_turn s a p c done page word
 abbrev pub fork_step_turn : CoreState → (a p c : ℕ) → List ℕ → ForkStep → Taken
 fork_step_turn s a p c done between = next_turn s a p c done (next_page (s.right c) done)
 fork_step_turn s a p c done (counted page) = share_turn a p c done page (s.entry p page)
-fork_step_turn s a p c done (lowered page) = record { events = []; whats = Silent ∷ [] }
-fork_step_turn s a p c done (cleared page) = record { events = []; whats = Silent ∷ [] }
 fork_step_turn s a p c done (copying page word) = copying_turn s a p c done page word (s.prepared a)
-fork_step_turn s a p c done failing = record { events = []; whats = Silent ∷ [] }
+fork_step_turn s a p c done step = record { events = []; whats = Silent ∷ [] }
 
 abbrev pub fork_turn : CoreState → (a p child : ℕ) → Job → Taken
 fork_turn s a p child (forking q c done step) = fork_step_turn s a p child done step
 fork_turn s a p child idle =
     record { events = begin_fork a p child ∷ []; whats = Event (events.ForkBegin p child) ∷ [] }
-fork_turn s a p child (marking q page f) = record { events = []; whats = Silent ∷ [] }
-fork_turn s a p child (moving q page e allowed count) = record { events = []; whats = Silent ∷ [] }
-fork_turn s a p child (walking q write long sequence step) = record { events = []; whats = Silent ∷ [] }
+fork_turn s a p child job = record { events = []; whats = Silent ∷ [] }

@@ -1,6 +1,6 @@
 -- The turn table: which core events the next turn of an operation is, and what its notes say.
 use Rattle.std.specs.Prelude.{ℕ, ◌+◌, ◌==◌, [], ◌∷◌}
-use Rattle.gup_plain.specs.State.{Birth, unborn, growing, born, failed}
+use Rattle.gup_plain.specs.State.{Birth, failed}
 use Rattle.gup_plain.specs.declared.answer.Answer.TheVariants as answers
 use Rattle.gup_plain.specs.declared.event.PlainEvent.TheVariants as events
 use Rattle.gup_plain.specs.declared.note.What.TheVariants.{Event, Done}
@@ -43,9 +43,7 @@ failed_turn a p op = answers_with answers.Unborn
 
 abbrev pub turn_at : Birth → (refused turn : Taken) → Taken
 turn_at failed refused turn = refused
-turn_at born refused turn = turn
-turn_at unborn refused turn = turn
-turn_at (growing parent) refused turn = turn
+turn_at birth refused turn = turn
 
 abbrev pub turn_of : CoreState → Doer → (far : ℕ) → Op → Taken
 turn_of s who far op =
