@@ -18,7 +18,7 @@ use Rattle.gup_spec_journal.specs.Order.{Turn, journal_of, places_behind}
 use Rattle.gup_spec_journal.specs.Place.{Place, Doer, doer, present_op}
 use Rattle.gup_plain.specs.Denial.{is_denial}
 use Rattle.gup_spec_journal.specs.Denial.{denial}
-use Rattle.gup_spec_journal.specs.Plain.{Judged, judged_before, judged_far, refusal_of, refusal_in, IsAnswerOf, IsAnswerAfter, IsRightAt, ArePlain}
+use Rattle.gup_spec_journal.specs.Plain.{Judged, judged_before, judged_far, refusal_by_cause, refusal_in, IsAnswerOf, IsAnswerAfter, IsRightAt, ArePlain}
 use Rattle.gup_spec_turns.specs.Cause.{FindsNoFrame, LacksFrame, LacksExactly, IsKnownCause, IsKnownAnswer, IsKnown, AreKnown, answers_in, answered_in}
 use Rattle.gup_spec_turns.specs.Run.{RunState, Runs, run_after, turn_in}
 use Rattle.gup_lines.specs.Text.{words_after, outcomes_from, outcomes_of}
@@ -65,7 +65,7 @@ by_place true d a refusal is = inr (undenied a refusal is)
 by_place false d a refusal is = by_denial d a refusal is
 
 -- the cause of a short pin is such a refusal, and judged at its page
-short_refusal : (c : Cause) → IsKnownCause c → IsRefusal (refusal_of c)
+short_refusal : (c : Cause) → IsKnownCause c → IsRefusal (refusal_by_cause c)
 short_refusal causes.Missing known = tt
 short_refusal causes.Forbidden known = tt
 short_refusal causes.NoFrame known = tt
@@ -92,7 +92,7 @@ by_answer op had d (answers.Value v) known is = inl refl
 by_answer op had d (answers.Pinned n) known is = inl refl
 by_answer op had d answers.Words known is = inl refl
 by_answer op had d (answers.Short g w c) known is =
-    inr (by_denial d (refusal_of c) (short_refusal c known) (subst (λ (b : Bool). IsAnswerAfter b d (refusal_of c)) (short_judged op had g w c) is))
+    inr (by_denial d (refusal_by_cause c) (short_refusal c known) (subst (λ (b : Bool). IsAnswerAfter b d (refusal_by_cause c)) (short_judged op had g w c) is))
 by_answer op had d answers.Missing known is = inr (by_place (judged_before op had answers.Missing) d answers.Missing tt is)
 by_answer op had d answers.Forbidden known is = inr (by_place (judged_before op had answers.Forbidden) d answers.Forbidden tt is)
 by_answer op had d answers.NoFrame known is = inr (by_place (judged_before op had answers.NoFrame) d answers.NoFrame tt is)

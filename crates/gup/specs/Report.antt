@@ -11,7 +11,7 @@ use Rattle.gup_spec_journal.specs.Plain.{IsPlain}
 use Rattle.gup_spec_journal.specs.Follows.{Follows}
 use Rattle.gup_spec_journal.specs.Order.{InOrder}
 use Rattle.gup_spec_journal.specs.Place.{starts_born}
-use Rattle.gup_law_owners.specs.Owners.{OwnsBytes, events_of}
+use Rattle.gup_law_owners.specs.Owners.{OwnsBytes, journal_events}
 use Rattle.gup.specs.declared.top.Unread.{Unread}
 use Rattle.gup.specs.declared.top.Unread.TheVariants.{Failed, Fault, NoMemory}
 use Rattle.gup.specs.Cause.{HasCauses}
@@ -92,7 +92,7 @@ pub record IsRunOf (script : ScriptValue) (stuck : Bool) (notes : List NoteValue
   pub follows : Follows script notes
   pub in_order : InOrder script notes
   pub plain : IsPlain script notes
-  pub owned : OwnsBytes (starts_born script) (events_of notes)
+  pub owned : OwnsBytes (starts_born script) (journal_events notes)
   pub causes : HasCauses script notes
   pub end : RunState
   pub core : IsCoreRun script notes end

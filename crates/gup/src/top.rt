@@ -8,7 +8,7 @@ ghost use Rattle.gup_spec_journal.specs.Place.{starts_born};
 ghost use Rattle.gup_spec_journal.specs.Plain.{IsPlain};
 ghost use Rattle.gup_spec_journal.specs.Follows.{Follows};
 ghost use Rattle.gup_spec_journal.specs.Order.{InOrder};
-ghost use Rattle.gup_law_owners.specs.Owners.{OwnsBytes, events_of};
+ghost use Rattle.gup_law_owners.specs.Owners.{OwnsBytes, journal_events};
 ghost use Rattle.gup_spec_turns.specs.Cost.{operations};
 ghost use Rattle.gup_spec_turns.specs.Run.{RunState, IsCoreRun};
 ghost use Rattle.gup_lines.specs.Text.{text_of, outcomes_of};
@@ -252,7 +252,7 @@ pub fn gup<S: Source, K: Sink>(
     // Each process owns its bytes in that journal: what is read of an object was last written to it, or is 0, and what
     // a page names is written by its process, by devices through a pin of it, and by the fork that made it.
     ensures owned { HasRun result.status → OfScript (S.remaining source.old)
-        (λ script. OwnsBytes (starts_born script) (events_of result.journal.notes)) }
+        (λ script. OwnsBytes (starts_born script) (journal_events result.journal.notes)) }
 
     // Each operation has one answer, where all have finished, and each refusal its cause: the plain state denies the
     // operation so, or its turn needs a frame and none is free that it may take; and where that is so it is refused.

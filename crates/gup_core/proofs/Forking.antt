@@ -12,7 +12,7 @@ use Rattle.gup_spec_events.specs.State.{CoreState, Job, idle, marking, moving, f
 use Rattle.gup_spec_events.specs.Event.{CoreEvent, happens, take_frame, run}
 use Rattle.gup_spec_events.specs.Failure.{are_gone, puts_entry, puts_entries}
 use Rattle.gup_spec_turns.specs.ForkTurns.{page_turn, next_page, next_turn, frame_turn, copy_turn, copying_turn, fork_step_turn, fork_turn}
-use Rattle.gup_spec_turns.specs.Taken.{free_frame}
+use Rattle.gup_spec_turns.specs.CoreTurn.{free_frame}
 use Rattle.gup_spec_turns.specs.ForkPlace.{fork_place, place_in}
 use Rattle.gup_core.proofs.Owning.{AreAll, through, two_lists, pins_of}
 

@@ -18,7 +18,7 @@ use Rattle.gup_spec_turns.specs.PageTurns.{load_fault, loads_after, store_fault,
 use Rattle.gup_spec_turns.specs.PinTurns.{pin_fault, pinned_if, ends_pin, pin_turn_by, but_last, unpinned, unpin_turn_by, give_turn_by}
 use Rattle.gup_spec_turns.specs.DeviceTurns.{transfer_turn_by}
 use Rattle.gup_spec_turns.specs.ForkTurns.{page_turn, next_page, next_turn, frame_turn, copy_turn, copying_turn, fork_step_turn, fork_turn}
-use Rattle.gup_spec_turns.specs.Taken.{free_frame}
+use Rattle.gup_spec_turns.specs.CoreTurn.{free_frame}
 
 abbrev pub NoTwo : List What → Type 0
 NoTwo (Event event ∷ Event next ∷ []) = ⊥

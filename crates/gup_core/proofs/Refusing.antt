@@ -15,7 +15,7 @@ use Rattle.gup_space.specs.Shows.{ShowsFrames, ShowsSpace}
 use Rattle.gup_spec_events.specs.State.{CoreState, Job, idle, marking, moving, forking, walking, ForkStep, between, counted, lowered, cleared, copying, failing}
 use Rattle.gup_spec_events.specs.Event.{CoreEvent, fail_unborn, run}
 use Rattle.gup_law_base.specs.Sound.{IsSound, forking_of}
-use Rattle.gup_spec_turns.specs.Taken.{Taken}
+use Rattle.gup_spec_turns.specs.CoreTurn.{CoreTurn}
 use Rattle.gup_spec_turns.specs.Turn.{op_turn, failed_turn, turn_at, turn_of}
 use Rattle.gup_spec_turns.specs.Waits.{waits_born}
 use Rattle.gup_spec_turns.specs.ForkPlace.{StandsFork, place_in}
@@ -63,12 +63,12 @@ pub of_born : (old new : Parts) (a : ℕ) (proc : Option ℕ) (far : ℕ) (op : 
     → ((p slots : ℕ) → IfSome proc (λ q. q ≡ p) → HasSlots old a slots → IsTurnOfAll old new a p slots far op place whats next)
     → IsTurnBy old new a proc far op place whats next
 of_born old new a proc far op place next whats unfailed within turn s who k own of_who slots sound shown place_is stands far_is free =
-    let refused_so : Taken = failed_turn who.actor who.proc op in
+    let refused_so : CoreTurn = failed_turn who.actor who.proc op in
     let other = birth_unfailed old.births.items proc who s unfailed within of_who shown.births in
     let is_born : birth_for s.birth who ≡ born = (born_and_free (birth_for s.birth who) who.proc (waits_born s who.actor who.proc op) other free).0 in
     let is : turn_of s who k op ≡ op_turn s a who.proc who.slots k op =
     ap (λ (b : CoreBirth). turn_at b refused_so (op_turn s who.actor who.proc who.slots k op)) is_born ∙ ap (λ (b : ℕ). op_turn s b who.proc who.slots k op) own in
-    subst (λ (t : Taken). LeadsAll new a s t whats next) (sym is) (turn who.proc who.slots (process_of_doer who proc of_who) slots s k shown place_is stands far_is)
+    subst (λ (t : CoreTurn). LeadsAll new a s t whats next) (sym is) (turn who.proc who.slots (process_of_doer who proc of_who) slots s k shown place_is stands far_is)
 
 -- ---- a refusal
 
@@ -172,7 +172,7 @@ pub refused : (old new : Parts) (a : ℕ) (proc : Option ℕ) (far : ℕ) (op : 
     → IsTurnBy old new a proc far op place whats place
 refused old new a proc far op place whats has frames spaces handles taken stores turn s who k own of_who slots sound shown place_is stands far_is free =
     let p : ℕ = who.proc in
-    let t : Taken = failed_turn who.actor p op in
+    let t : CoreTurn = failed_turn who.actor p op in
     let made : IsRefusal who.actor p op t.events = refusal who.actor p op in
     let has_so : birth_for s.birth who ≡ failed = birth_failed old.births.items proc who s has of_who shown.births in
     let is : turn_of s who k op ≡ t = ap (λ (b : CoreBirth). turn_at b t (op_turn s who.actor p who.slots k op)) has_so in
@@ -189,7 +189,7 @@ refused old new a proc far op place whats has frames spaces handles taken stores
       taken = taken_shown old new s (run s t.events) taken (ap (λ (k : Pins). k.2) stay) shown.taken;
       stores = stores_shown old new s (run s t.events) stores (ap (λ (k : Pins). k.3) stay) shown.stores;
     } in
-    subst (λ (u : Taken). LeadsAll new a s u whats place) (sym is)
+    subst (λ (u : CoreTurn). LeadsAll new a s u whats place) (sym is)
     (record {
       says = led.says;
       parts = parts;

@@ -15,7 +15,7 @@ use Rattle.gup_space.specs.Space.{SpaceValue, space_of}
 use Rattle.gup_space.specs.Shows.{ShowsFrames, ShowsSpace}
 use Rattle.gup_handles.specs.Handles.{HandleValue, handles_of}
 use Rattle.gup_handles.specs.Handles as kept
-use Rattle.gup_spec_events.specs.Event.{bias, frames_of as frames_taken}
+use Rattle.gup_spec_events.specs.Event.{bias, taken_frames as frames_taken}
 use Rattle.gup_spec_events.specs.State.{CoreState, Taken, Job, idle, marking, moving, forking, walking, between, counted, lowered, cleared, copying, failing}
 use Rattle.gup_law_base.specs.Sound.{IsSound, keeps_table, keeps_structure}
 use Rattle.gup_spec_turns.specs.Run.{RunState, run_start, run_after, turned}

@@ -6,10 +6,11 @@ use Rattle.gup_script.specs.declared.op.Kind.{Kind}
 use Rattle.gup_script.specs.declared.op.Kind.TheVariants.{Thread, Device, Mover}
 use Rattle.gup_script.specs.declared.op.Op.{Op}
 use Rattle.gup_script.specs.declared.op.Op.TheVariants.{Map, Unmap, Protect, Discard, Load, Store, Pin, Unpin, Give, Take, Transfer, Fork, Exit}
-use Rattle.gup_script.specs.Limits.{most_pinned, most_slots, most_words}
-use Rattle.gup_script.specs.Script.{ScriptValue, Actor, actor_at}
+use Rattle.gup_script.specs.Limits.{most_pinned, most_words}
+use Rattle.gup_base.specs.Counts.{most_slots}
+use Rattle.gup_script.specs.Script.{ScriptValue, Actor, actor_at, is_thread}
 use Rattle.gup_script.specs.Valid.{IsScript, IsOp, IsOfDevice, KindFits}
-use Rattle.gup_spec_journal.specs.Place.{Doer, doer, is_thread, thread_in, slots_of_kind, slots_in, ops_in, ops_of, process_in, process_of, process_of_kind}
+use Rattle.gup_spec_journal.specs.Place.{Doer, doer, thread_in, slots_of_kind, slots_in, ops_in, ops_of, process_in, process_of, process_of_kind}
 use Rattle.gup_law_turns.proofs.ScriptLemmas.{all_at, is_of_thread}
 use Rattle.gup_core.specs.Doers.{HasProcess, IsProcessOf}
 use Rattle.gup_op_base.specs.Far.{HasFar}

@@ -15,10 +15,10 @@ use Rattle.gup_spec_journal.specs.Follows.{notes_of_turn}
 use Rattle.gup_spec_journal.specs.Order.{Turn, places_behind, pointer_after}
 use Rattle.gup_spec_events.specs.State.{CoreState}
 use Rattle.gup_spec_events.specs.Event.{run}
-use Rattle.gup_spec_turns.specs.Taken.{Taken}
+use Rattle.gup_spec_turns.specs.CoreTurn.{CoreTurn}
 use Rattle.gup_spec_turns.specs.Turn.{turn_of}
 use Rattle.gup_spec_turns.specs.Waits.{waiting_for}
-use Rattle.gup_spec_turns.specs.Run.{RunState, op_in, waiting_with, waiting_in, taken_by, taken_in, run_after, written_in}
+use Rattle.gup_spec_turns.specs.Run.{RunState, op_in, waiting_with, waiting_in, core_turn_by, core_turn_in, run_after, written_in}
 use Rattle.gup_law_turns.specs.Standing.{IsStanding}
 use Rattle.gup_spec_turns.specs.ForkPlace.{place_in}
 use Rattle.gup_op_fork.specs.declared.forks.ForkPlace.{ForkPlace}
@@ -42,13 +42,13 @@ counted_next : (m t : ℕ) → m ≡ min t (2 ^ 32 - 1) → counted m ≡ min (t
 counted_next m t is = grind (arith, nat_tests)
 
 -- What the machine is behind a turn t of an actor shows the state behind it.
-shows_behind : (m : MachineValue) (parts : Parts) (seats : List Seat) (turns : ℕ) (r : RunState) (a : ℕ) (t : Taken)
-    → taken_in m.script r a ≡ t → Shows m r → turns ≡ counted m.turns → ShowsParts parts (run r.core t.events)
+shows_behind : (m : MachineValue) (parts : Parts) (seats : List Seat) (turns : ℕ) (r : RunState) (a : ℕ) (t : CoreTurn)
+    → core_turn_in m.script r a ≡ t → Shows m r → turns ≡ counted m.turns → ShowsParts parts (run r.core t.events)
     → ((b : ℕ) (seat : Seat) → slice_get seats b ≡ Some seat → IsSeat (present_op m.script b (places_behind r.places (record { actor = a; whats = t.whats }) b)) (places_behind r.places (record { actor = a; whats = t.whats }) b) seat)
     → ((b : ℕ) (seat : Seat) → slice_get seats b ≡ Some seat → place_of seat.fork ≡ place_in (run r.core t.events) b)
     → Shows (machine_of m.script parts seats turns) (run_after m.script r a)
 shows_behind m parts seats turns r a t is h count shown places forks =
-    let behind : Taken → RunState =
+    let behind : CoreTurn → RunState =
     λ u. record {
       core = run r.core u.events;
       places = places_behind r.places (record { actor = a; whats = u.whats });
@@ -57,10 +57,10 @@ shows_behind m parts seats turns r a t is h count shown places forks =
     } in
     record {
       reached = reached_behind m.script r a h.reached;
-      parts = subst (λ (u : Taken). ShowsParts parts (behind u).core) (sym is) shown;
+      parts = subst (λ (u : CoreTurn). ShowsParts parts (behind u).core) (sym is) shown;
       seats =
-          subst (λ (u : Taken). (b : ℕ) (seat : Seat) → slice_get seats b ≡ Some seat → IsSeat (present_op m.script b ((behind u).places b)) ((behind u).places b) seat) (sym is) places;
-      forks = subst (λ (u : Taken). (b : ℕ) (seat : Seat) → slice_get seats b ≡ Some seat → place_of seat.fork ≡ place_in (behind u).core b) (sym is) forks;
+          subst (λ (u : CoreTurn). (b : ℕ) (seat : Seat) → slice_get seats b ≡ Some seat → IsSeat (present_op m.script b ((behind u).places b)) ((behind u).places b) seat) (sym is) places;
+      forks = subst (λ (u : CoreTurn). (b : ℕ) (seat : Seat) → slice_get seats b ≡ Some seat → place_of seat.fork ≡ place_in (behind u).core b) (sym is) forks;
       turns = count ∙ counted_next m.turns r.turns h.turns;
     }
 
@@ -108,7 +108,7 @@ still_machine m n a notes was parts seats turns =
 
 -- a turn without an event leaves all but its number
 stays : (m : MachineValue) (r : RunState) (a : ℕ) (seat : Seat) (turns : ℕ) (what : What) → Shows m r → slice_get m.seats a ≡ Some seat → turns ≡ counted m.turns
-    → taken_in m.script r a ≡ record { events = []; whats = what ∷ [] } → place_behind (r.places a) (what ∷ []) ≡ r.places a
+    → core_turn_in m.script r a ≡ record { events = []; whats = what ∷ [] } → place_behind (r.places a) (what ∷ []) ≡ r.places a
     → Shows (machine_of m.script m.parts m.seats turns) (run_after m.script r a)
 stays m r a seat turns what h here count is same =
     shows_behind m m.parts m.seats turns r a (record { events = []; whats = what ∷ [] }) is h count h.parts
@@ -116,19 +116,19 @@ stays m r a seat turns what h here count is same =
     (subst (λ (x : Place). IsSeat (present_op m.script a x) x seat) (sym same) (h.seats a seat here)))
     h.forks
 
-says_so : (m : MachineValue) (r : RunState) (a : ℕ) (seat : Seat) (turns : ℕ) (t : Taken) (whats : List What) → Shows m r → slice_get m.seats a ≡ Some seat → turns ≡ counted m.turns → taken_in m.script r a ≡ t → t.whats ≡ whats
-    → notes_of_turn turns a (seat.answered + 1) whats ≡ notes_of_turn (counted m.turns) a ((r.places a).answered + 1) (taken_in m.script r a).whats
+says_so : (m : MachineValue) (r : RunState) (a : ℕ) (seat : Seat) (turns : ℕ) (t : CoreTurn) (whats : List What) → Shows m r → slice_get m.seats a ≡ Some seat → turns ≡ counted m.turns → core_turn_in m.script r a ≡ t → t.whats ≡ whats
+    → notes_of_turn turns a (seat.answered + 1) whats ≡ notes_of_turn (counted m.turns) a ((r.places a).answered + 1) (core_turn_in m.script r a).whats
 says_so m r a seat turns t whats h here count is says =
     ap (λ k. notes_of_turn k a (seat.answered + 1) whats) count
     ∙ ap (λ k. notes_of_turn (counted m.turns) a (k + 1) whats) (h.seats a seat here).0
     ∙ ap (λ ws. notes_of_turn (counted m.turns) a ((r.places a).answered + 1) ws) (sym says)
-    ∙ ap (λ (u : Taken). notes_of_turn (counted m.turns) a ((r.places a).answered + 1) u.whats) (sym is)
+    ∙ ap (λ (u : CoreTurn). notes_of_turn (counted m.turns) a ((r.places a).answered + 1) u.whats) (sym is)
 
 pub idles : (m : MachineValue) (a : ℕ) (seat : Seat) (turns : ℕ) → slice_get m.seats a ≡ Some seat → op_of_seat m a seat ≡ None → turns ≡ counted m.turns
     → TakesTurns m (machine_of m.script m.parts m.seats turns) a (notes_of_turn turns a (seat.answered + 1) (Idle ∷ []))
 idles m a seat turns here none count r h =
-    let is : taken_in m.script r a ≡ record { events = []; whats = Idle ∷ [] } =
-    ap (λ o. taken_by r.core (doer m.script a) (r.places a).far o (waiting_in m.script r a)) (op_there m r a seat None h here none) in
+    let is : core_turn_in m.script r a ≡ record { events = []; whats = Idle ∷ [] } =
+    ap (λ o. core_turn_by r.core (doer m.script a) (r.places a).far o (waiting_in m.script r a)) (op_there m r a seat None h here none) in
     record {
       said = says_so m r a seat turns (record { events = []; whats = Idle ∷ [] }) (Idle ∷ []) h here count is refl;
       shown = stays m r a seat turns Idle h here count is refl;
@@ -153,9 +153,9 @@ pub waits : (m : MachineValue) (a : ℕ) (seat : Seat) (op : Op) (turns : ℕ) (
     → ((r : RunState) → Shows m r → Some waiting ≡ waiting_in m.script r a)
     → TakesTurns m (machine_of m.script m.parts m.seats turns) a (notes_of_turn turns a (seat.answered + 1) (Wait waiting ∷ []))
 waits m a seat op turns waiting here present count waiting_so r h =
-    let is : taken_in m.script r a ≡ record { events = []; whats = Wait waiting ∷ [] } =
-    ap (λ o. taken_by r.core (doer m.script a) (r.places a).far o (waiting_in m.script r a)) (op_there m r a seat (Some op) h here present)
-    ∙ ap (λ w. taken_by r.core (doer m.script a) (r.places a).far (Some op) w) (sym (waiting_so r h)) in
+    let is : core_turn_in m.script r a ≡ record { events = []; whats = Wait waiting ∷ [] } =
+    ap (λ o. core_turn_by r.core (doer m.script a) (r.places a).far o (waiting_in m.script r a)) (op_there m r a seat (Some op) h here present)
+    ∙ ap (λ w. core_turn_by r.core (doer m.script a) (r.places a).far (Some op) w) (sym (waiting_so r h)) in
     record {
       said = says_so m r a seat turns (record { events = []; whats = Wait waiting ∷ [] }) (Wait waiting ∷ []) h here count is refl;
       shown = stays m r a seat turns (Wait waiting) h here count is refl;
@@ -219,10 +219,10 @@ fork_of_seat seat op true fork = refl
 fork_of_seat seat op false fork = refl
 
 -- the turn is that of the operation, or its refusal
-taken_is : (m : MachineValue) (r : RunState) (a : ℕ) (op : Op) → op_in m.script r a ≡ Some op → waiting_in m.script r a ≡ None → taken_in m.script r a ≡ turn_of r.core (doer m.script a) (r.places a).far op
+taken_is : (m : MachineValue) (r : RunState) (a : ℕ) (op : Op) → op_in m.script r a ≡ Some op → waiting_in m.script r a ≡ None → core_turn_in m.script r a ≡ turn_of r.core (doer m.script a) (r.places a).far op
 taken_is m r a op is none =
-    ap (λ o. taken_by r.core (doer m.script a) (r.places a).far o (waiting_in m.script r a)) is
-    ∙ ap (λ w. taken_by r.core (doer m.script a) (r.places a).far (Some op) w) none
+    ap (λ o. core_turn_by r.core (doer m.script a) (r.places a).far o (waiting_in m.script r a)) is
+    ∙ ap (λ w. core_turn_by r.core (doer m.script a) (r.places a).far (Some op) w) none
 
 pub goes : (m : MachineValue) (a : ℕ) (proc : Option ℕ) (seat next : Seat) (op : Op) (parts : Parts) (seats : List Seat) (turns : ℕ) (said : Said) (fork : ForkPlace)
     → Stand → IsAtRest m → IsProcessOf (doer m.script a) proc → slice_get m.seats a ≡ Some seat → op_of_seat m a seat ≡ Some op → turns ≡ counted m.turns
@@ -237,8 +237,8 @@ goes m a proc seat next op parts seats turns said fork stand rest of_a here pres
     let op_is : op_in m.script r a ≡ Some op = op_there m r a seat (Some op) h here present in
     let at : IsSeat (Some op) (r.places a) seat = subst (λ (o : Option Op). IsSeat o (r.places a) seat) op_is (h.seats a seat here) in
     let free : waiting_for r.core who op ≡ None = ap (λ o. waiting_with r.core who o) (sym op_is) ∙ sym (ready r h) in
-    let t : Taken = turn_of r.core who far op in
-    let is : taken_in m.script r a ≡ t = taken_is m r a op op_is (sym (ready r h)) in
+    let t : CoreTurn = turn_of r.core who far op in
+    let is : core_turn_in m.script r a ≡ t = taken_is m r a op op_is (sym (ready r h)) in
     let led : LeadsAll parts a r.core t (whats_of said) fork =
     turn r.core who far refl of_a (rest.parts.slots a) stands.sound h.parts (h.forks a seat here) (stands_at m.script r a op stands op_is) at.1 free in
     let seated_so : slice_get seats a ≡ Some (seat_behind seat op (is_some said.answer) fork) = seated ∙ ap (λ (s : Seat). Some s) next_is in

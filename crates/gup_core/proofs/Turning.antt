@@ -20,8 +20,8 @@ use Rattle.gup_space.proofs.ShowsLemmas.{leave_other}
 use Rattle.gup_fork.specs.Forks.{fork_change_of}
 use Rattle.gup_handles.specs.Handles.{handles_of}
 use Rattle.gup_spec_events.specs.State.{CoreState, Taken as TakenPage}
-use Rattle.gup_spec_events.specs.Event.{CoreEvent, frames_of as frames_taken, run}
-use Rattle.gup_spec_turns.specs.Taken.{Taken}
+use Rattle.gup_spec_events.specs.Event.{CoreEvent, taken_frames as frames_taken, run}
+use Rattle.gup_spec_turns.specs.CoreTurn.{CoreTurn}
 use Rattle.gup_spec_turns.specs.Turn.{op_turn}
 use Rattle.gup_spec_turns.specs.ForkTurns.{fork_turn}
 use Rattle.gup_spec_turns.specs.PinTurns.{pin_turn}
@@ -179,7 +179,7 @@ pinned old new a p slots far handle page n write fork whats within many taker ta
 -- ---- a turn of an operation on a pin
 
 -- what such a turn leads to
-pub record LeadsPart (new : Parts) (s : CoreState) (turn : Taken) (whats : List What) : Type 0 where
+pub record LeadsPart (new : Parts) (s : CoreState) (turn : CoreTurn) (whats : List What) : Type 0 where
   pub says : turn.whats ≡ whats
   pub frames : ShowsFrames (frames_of new.frames) (run s turn.events)
   pub pins : ShowsPins (handles_of new.handles) (run s turn.events)
@@ -214,7 +214,7 @@ handled old new a p slots far op fork whats single spaces births taken handling 
     }
 
 -- an operation that leaves stores alone
-pub leads_part : (old new : Parts) (a : ℕ) (s : CoreState) (turn : Taken) (whats : List What)
+pub leads_part : (old new : Parts) (a : ℕ) (s : CoreState) (turn : CoreTurn) (whats : List What)
     → new.stores ≡ old.stores → (run s turn.events).store ≡ s.store → ShowsParts old s → LeadsHandle (handle_change old new None None) a s turn whats → LeadsPart new s turn whats
 leads_part old new a s turn whats same stay shown led =
     record {
@@ -225,7 +225,7 @@ leads_part old new a s turn whats same stay shown led =
     }
 
 -- one that changes the actor's own
-pub leads_store : (old new : Parts) (a : ℕ) (s : CoreState) (turn : Taken) (whats : List What) (was now : Option (List ℕ)) → slice_get new.stores.items a ≡ Some now
+pub leads_store : (old new : Parts) (a : ℕ) (s : CoreState) (turn : CoreTurn) (whats : List What) (was now : Option (List ℕ)) → slice_get new.stores.items a ≡ Some now
     → ((b : ℕ) → (b ≡ a → ⊥) → slice_get new.stores.items b ≡ slice_get old.stores.items b)
     → AreHandling a turn.events → ShowsParts old s → LeadsHandle (handle_change old new was now) a s turn whats → LeadsPart new s turn whats
 leads_store old new a s turn whats was now here others own shown led =
@@ -315,7 +315,7 @@ forked old new a p c slots far place next said apart p_in c_in many handles take
     let old_child = there old.spaces.items c c_in in
     let new_parent = there new.spaces.items p (omega (arith, p_in, many)) in
     let new_child = there new.spaces.items c (omega (arith, c_in, many)) in
-    let t : Taken = fork_turn s a p c (s.job a) in
+    let t : CoreTurn = fork_turn s a p c (s.job a) in
     let own : AreForking a p c t.events = fork_is_own s a p c (s.job a) in
     let stay : pins_of (run s t.events) ≡ pins_of s = fork_leave_pins a p c s t.events own in
     let led : LeadsFork (fork_change_of old.frames new.frames old_parent.0 new_parent.0 old_child.0 new_child.0) a p c s t (place_of next) (whats_of said) =

@@ -12,7 +12,7 @@ use Rattle.gup_space.specs.Shows.{ShowsSpace}
 use Rattle.gup_spec_events.specs.State.{CoreState, Job, idle, marking, moving, forking, walking, between, counted, lowered, cleared, copying, failing}
 use Rattle.gup_spec_turns.specs.Waits.{both_if, fork_locks, locks_needed, held_by_other, first_waiting, waits_for_locks, waits_at, waits_born, waiting_for}
 use Rattle.gup_spec_turns.specs.ForkTurns.{first_behind}
-use Rattle.gup_spec_turns.specs.Taken.{allows_store}
+use Rattle.gup_spec_turns.specs.CoreTurn.{allows_store}
 use Rattle.gup_spec_turns.specs.ForkPlace.{ForkPlace, fork_place, place_in, IsNoFork, StandsFork}
 use Rattle.gup_handles.specs.Handles.{HandleValue, IsGivenTo as IsKeptFor}
 use Rattle.gup_handles.specs.Handles as kept

@@ -12,7 +12,7 @@ use Rattle.gup_spec_events.specs.State.{CoreState, idle}
 use Rattle.gup_spec_events.specs.Event.{run}
 use Rattle.gup_law_base.specs.Sound.{IsSound}
 use Rattle.gup_spec_journal.specs.Place.{Doer}
-use Rattle.gup_spec_turns.specs.Taken.{Taken}
+use Rattle.gup_spec_turns.specs.CoreTurn.{CoreTurn}
 use Rattle.gup_spec_turns.specs.Turn.{op_turn, turn_of}
 use Rattle.gup_spec_turns.specs.Waits.{waiting_for}
 use Rattle.gup_spec_turns.specs.ForkPlace.{place_in, IsNoFork, KeepsFrame, StandsFork}
@@ -42,7 +42,7 @@ pub record StandsAt (s : CoreState) (a p far : ℕ) (op : Op) : Type 0 where
 
 -- From this state the actor's turn says this, and leads to these parts. Its fork stands there then, and those of others
 -- stand where they did.
-pub record LeadsAll (new : Parts) (a : ℕ) (s : CoreState) (turn : Taken) (whats : List What) (place : ForkPlace) : Type 0 where
+pub record LeadsAll (new : Parts) (a : ℕ) (s : CoreState) (turn : CoreTurn) (whats : List What) (place : ForkPlace) : Type 0 where
   pub says : turn.whats ≡ whats
   pub parts : ShowsParts new (run s turn.events)
   pub fork : place_of place ≡ place_in (run s turn.events) a
@@ -57,7 +57,7 @@ IsTurnOfAll old new a p slots far op old_fork whats new_fork =
     → LeadsAll new a s (op_turn s a p slots k op) whats new_fork
 
 -- from this state a turn says this, and leads to these births
-pub record LeadsBirths (new : List Birth) (s : CoreState) (turn : Taken) (whats : List What) : Type 0 where
+pub record LeadsBirths (new : List Birth) (s : CoreState) (turn : CoreTurn) (whats : List What) : Type 0 where
   pub says : turn.whats ≡ whats
   pub births : ShowsBirths new (run s turn.events)
 

@@ -12,8 +12,8 @@ use Rattle.gup_space.specs.Space.{SpaceValue, SpaceParts, space_of}
 use Rattle.gup_space.specs.Shows.{ShowsFrames, ShowsSpace}
 use Rattle.gup_handles.specs.Handles.{handles_of}
 use Rattle.gup_spec_events.specs.State.{CoreState}
-use Rattle.gup_spec_events.specs.Event.{frames_of as frames_taken}
-use Rattle.gup_spec_turns.specs.Run.{RunState, run_start, run_after, taken_in, turned}
+use Rattle.gup_spec_events.specs.Event.{taken_frames as frames_taken}
+use Rattle.gup_spec_turns.specs.Run.{RunState, run_start, run_after, core_turn_in, turned}
 use Rattle.gup_spec_turns.specs.ForkPlace.{place_in}
 use Rattle.gup_op_fork.specs.Forked.{place_of}
 use Rattle.gup_op_pins.specs.Pins.{ShowsPins}
@@ -97,7 +97,7 @@ pub record Shows (m : MachineValue) (r : RunState) : Type 0 where
 -- A turn of the machine is the actor's turn of the core run from r: the notes are its, and the machine shows the
 -- state behind it.
 pub record TakesTurn (old new : MachineValue) (actor : ℕ) (r : RunState) (notes : List NoteValue) : Type 0 where
-  pub said : notes ≡ notes_of_turn (counted old.turns) actor ((r.places actor).answered + 1) (taken_in old.script r actor).whats
+  pub said : notes ≡ notes_of_turn (counted old.turns) actor ((r.places actor).answered + 1) (core_turn_in old.script r actor).whats
   pub shown : Shows new (run_after old.script r actor)
 
 -- so it is from each state that the machine shows

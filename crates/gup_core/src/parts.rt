@@ -2,7 +2,7 @@
 ghost use Rattle.std.specs.Prelude.{◌≡◌, ℕ, ◌<◌, ◌≤◌, length, slice_get, Some, None, All, List, IfOk, Option};
 ghost use Rattle.arrayvec.specs.ArrayVec.{ArrayVec as ArrayVecValue};
 ghost use Rattle.gup_spec_journal.specs.Place.{doer, slots_of_kind};
-ghost use Rattle.gup_script.specs.Limits.{most_slots};
+ghost use Rattle.gup_base.specs.Counts.{most_slots};
 ghost use Rattle.gup_script.specs.declared.op.Kind.TheVariants.{Device};
 ghost use Rattle.gup_space.specs.Space.{SpaceParts, space_of, no_space};
 ghost use Rattle.gup_spec_turns.specs.Run.{run_start};

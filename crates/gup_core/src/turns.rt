@@ -2,7 +2,8 @@
 ghost use Rattle.std.specs.Prelude.{◌≡◌, ◌<◌, false, length, slice_get, Some, Option, MatchOption};
 ghost use Rattle.gup_spec_journal.specs.Follows.{notes_of_turn};
 ghost use Rattle.gup_script.specs.declared.op.Kind.TheVariants.{Thread};
-ghost use Rattle.gup_spec_journal.specs.Place.{ops_of, doer, is_thread};
+ghost use Rattle.gup_spec_journal.specs.Place.{ops_of, doer};
+ghost use Rattle.gup_script.specs.Script.{is_thread};
 ghost use Rattle.gup_op_base.specs.Said.{whats_of};
 ghost use Rattle.gup_core.specs.Doers.{IsProcessOf};
 ghost use Rattle.gup_core.specs.Machine.{counted};

@@ -1,6 +1,6 @@
 //! The state of the core machine.
 ghost use Rattle.std.specs.Prelude.{◌≡◌, ◌==◌, if◌then◌else◌, true, false, ◌↔◌, IsTrue, IfOk};
-ghost use Rattle.gup_spec_events.specs.State.{start};
+ghost use Rattle.gup_spec_events.specs.State.{core_start};
 ghost use Rattle.gup_spec_events.specs.Event.{AreUnlocked, IsAllowed, IsIdle, IsNormal, IsUnmirrored};
 ghost use Rattle.gup_plain.specs.State.{born, unborn};
 ghost use Rattle.gup_exec_rows.specs.Procs.{births, copies};
@@ -69,7 +69,7 @@ impl Trial {
     /// The start: so many frames of the movable zone and, behind them, of the normal one, all free and zero; one process
     /// born, and nothing mapped.
     pub fn new(alloc: Global, movable: u16, normal: u16, first: ProcNo) -> Result<Trial, NoMemory>
-        ensures { IfOk result (λ trial. state_of trial ≡ start movable normal (λ p. p == first)) }
+        ensures { IfOk result (λ trial. state_of trial ≡ core_start movable normal (λ p. p == first)) }
     {
         let count = Row::new(alloc, 0)?;
         let mark = Row::new(alloc, false)?;

@@ -1,7 +1,7 @@
 //! The pages that a running pin has taken.
 ghost use Rattle.std.specs.Prelude.{◌≡◌, ◌↔◌, All, IsTrue, IfOk, [], ◌∷◌, ◌++◌};
 ghost use Rattle.gup_spec_events.specs.State.{Taken};
-ghost use Rattle.gup_spec_events.specs.Event.{AreAlike, IsUntaken, frames_of, objects_taken, writes_taken, long_taken};
+ghost use Rattle.gup_spec_events.specs.Event.{AreAlike, IsUntaken, taken_frames, objects_taken, writes_taken, long_taken};
 
 use gup_base::{FrameNo, NoMemory, PageNo, ProcNo};
 use std::alloc::Global;
@@ -122,7 +122,7 @@ pub fn with_one_more(alloc: Global, taken: &[Taken], more: Taken) -> Result<Vec<
 
 /// The frames, in order.
 pub fn frames(alloc: Global, taken: &[Taken]) -> Result<Vec<FrameNo>, NoMemory>
-    ensures { IfOk result (λ frames. frames.items ≡ frames_of taken.now) }
+    ensures { IfOk result (λ frames. frames.items ≡ taken_frames taken.now) }
 {
     Ok(taken.iter().map(|t| t.frame()).collect(alloc)?)
 }

@@ -4,9 +4,9 @@ use Rattle.std.proofs.Math.Nat.{div-lt_iff_lt-mul}
 use Rattle.std.proofs.lemmas.Bool.Decides.{nat_tests}
 use Rattle.std.proofs.lemmas.List.Elements.{All-append, All-filter, All-map, All-cons, All-weaker, All-get_or}
 use Rattle.gup_base.specs.declared.entry.Rights.{Rights}
-use Rattle.gup_plain.specs.Event.{CanHappen, happened, page_numbers, words, object_at, pending_objects, write_flag, AllowsPin, given_to, held_by}
+use Rattle.gup_plain.specs.Event.{CanHappen, happened, page_numbers, words, object_at, pending_objects, write_flag, MayPin, given_to, held_by}
 use Rattle.gup_plain.specs.Put.{put, put2, within, spread}
-use Rattle.gup_plain.specs.State.{PlainState, Birth, start, objects_of, Handle, held, gone, Pending, named_or_zero}
+use Rattle.gup_plain.specs.State.{PlainState, Birth, plain_start, objects_of, Handle, held, gone, Pending, named_or_zero}
 use Rattle.gup_plain.specs.declared.event.PlainEvent.{PlainEvent}
 use Rattle.gup_plain.specs.declared.event.PlainEvent.TheVariants as events
 use Rattle.gup_exec_plain.specs.Parts.{IsMade, Applies, HasAll, IsAsMany}
@@ -152,7 +152,7 @@ nothing-below made = λ i d small. absurd (omega arith)
 one-taken : (made : ℕ) (t : Pending) → t.object < made → AreTakenBelow made (t ∷ [])
 one-taken made t small = All-cons (λ (u : Pending). u.object < made) t [] small (λ i d none. absurd (omega arith))
 
-allowed : (s : PlainState) (p page : ℕ) (write : Bool) → AllowsPin s p page write → IsSome (s.right p page)
+allowed : (s : PlainState) (p page : ℕ) (write : Bool) → MayPin s p page write → IsSome (s.right p page)
 allowed s p page true is = rw is refl
 allowed s p page false is = is
 
@@ -251,7 +251,7 @@ applied_can old new e (Err x) done = tt
 pub born_stays : (s : PlainState) (birth : ℕ → Birth) → IsMade s → IsMade (record s { birth = birth })
 born_stays s birth h = record { pages = h.pages; numbers = h.numbers; handles = h.handles; pending = h.pending; content = h.content }
 
-pub start_is_made : (is_born : ℕ → Bool) → IsMade (start is_born)
+pub start_is_made : (is_born : ℕ → Bool) → IsMade (plain_start is_born)
 start_is_made is_born =
     record {
       pages = λ p page there. absurd (cc);

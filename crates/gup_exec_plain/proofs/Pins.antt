@@ -7,7 +7,7 @@ use Rattle.gup_base.specs.declared.entry.Rights.TheVariants.{RW}
 use Rattle.gup_plain.specs.declared.event.PlainEvent.TheVariants.{Store, PinTry, PinDrop, PinOk, MoveIn}
 use Rattle.gup_plain.specs.Put.{put}
 use Rattle.gup_plain.specs.State.{PlainState, Pending, Handle, objects_of}
-use Rattle.gup_plain.specs.Event.{CanHappen, happened, object_at, words, AllowsPin}
+use Rattle.gup_plain.specs.Event.{CanHappen, happened, object_at, words, MayPin}
 use Rattle.gup_exec_plain.proofs.Puts.{put_each}
 use Rattle.gup_exec_plain.proofs.Tidy.{IsTidy, HandleMade, PendingMade, UnmadeZero}
 
@@ -18,7 +18,7 @@ tidy-Store s a p page word value h c =
     assumption
 
 -- a page that may be pinned is named
-allowed_is_named : (s : PlainState) (p page : ℕ) (write : Bool) → AllowsPin s p page write → IsSome (s.right p page)
+allowed_is_named : (s : PlainState) (p page : ℕ) (write : Bool) → MayPin s p page write → IsSome (s.right p page)
 allowed_is_named s p page true is = grind arith
 allowed_is_named s p page false is = is
 

@@ -5,7 +5,7 @@ use Rattle.std.proofs.Common.{◌≡◌, ℕ, ◌<◌, ◌≤◌, Bool, refl}
 use Rattle.std.specs.Prelude.{Some, All}
 use Rattle.std.proofs.lemmas.List.Elements.{All-nil}
 use Rattle.gup_base.specs.declared.entry.Rights.{Rights}
-use Rattle.gup_plain.specs.State.{PlainState, Pending, objects_of, start}
+use Rattle.gup_plain.specs.State.{PlainState, Pending, objects_of, plain_start}
 use Rattle.gup_plain.specs.Event.{page_numbers}
 
 module _ (s : PlainState) where
@@ -35,7 +35,7 @@ pub record IsTidy (s : PlainState) : Type 0 where
   pub pending_made : PendingMade s
   pub unmade_zero : UnmadeZero s
 
-pub starts_tidy : (is_born : ℕ → Bool) → IsTidy (start is_born)
+pub starts_tidy : (is_born : ℕ → Bool) → IsTidy (plain_start is_born)
 starts_tidy is_born =
     record {
       named_made = λ p g r is. cc;

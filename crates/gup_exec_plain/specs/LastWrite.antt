@@ -5,7 +5,7 @@ use Rattle.gup_base.specs.declared.entry.Rights.{Rights}
 use Rattle.gup_plain.specs.declared.event.PlainEvent.{PlainEvent}
 use Rattle.gup_plain.specs.declared.event.PlainEvent.TheVariants.{Store, Load, MoveOut, MoveIn, Look, ForkPage, ForkWord}
 use Rattle.gup_plain.specs.Event.{CanHappen, happened, words, object_at}
-use Rattle.gup_plain.specs.State.{PlainState, Noted, objects_of, start}
+use Rattle.gup_plain.specs.State.{PlainState, Noted, objects_of, plain_start}
 
 -- each event can happen in the state that those before it lead to
 abbrev pub ArePossible : PlainState → List PlainEvent → Type 0
@@ -73,9 +73,9 @@ IsByOwner s p page o e = ⊥
 -- Over every list of events that can happen from a start on.
 pub record LastWrite (is_born : ℕ → Bool) : Type 0 where
   -- what an event reads was last written, or is 0
-  pub reads : (front : List PlainEvent) (e : PlainEvent) (o w value : ℕ) → ArePossible (start is_born) (front ++ e ∷ []) → Reads (after (start is_born) front) e o w value → value ≡ last_written (start is_born) front o w 0
+  pub reads : (front : List PlainEvent) (e : PlainEvent) (o w value : ℕ) → ArePossible (plain_start is_born) (front ++ e ∷ []) → Reads (after (plain_start is_born) front) e o w value → value ≡ last_written (plain_start is_born) front o w 0
   -- what a page names in the end was written, whenever that was, by its owner
-  pub writes : (front back : List PlainEvent) (e : PlainEvent) (p page o w value : ℕ) → ArePossible (start is_born) (front ++ e ∷ back) → written_by (after (start is_born) front) e o w ≡ Some value → Names (after (start is_born) (front ++ e ∷ back)) p page o → IsByOwner (after (start is_born) front) p page o e
+  pub writes : (front back : List PlainEvent) (e : PlainEvent) (p page o w value : ℕ) → ArePossible (plain_start is_born) (front ++ e ∷ back) → written_by (after (plain_start is_born) front) e o w ≡ Some value → Names (after (plain_start is_born) (front ++ e ∷ back)) p page o → IsByOwner (after (plain_start is_born) front) p page o e
 
 -- The number of a process's pages is that of its named pages: they are the elements of a list without repetition that
 -- is so long.

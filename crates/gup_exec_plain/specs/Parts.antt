@@ -1,6 +1,6 @@
 -- The plain model's state as the program keeps it, in parts.
 use Rattle.std.specs.Prelude.{◌≡◌, ℕ, ◌<◌, ◌≤◌, false, List, [], Option, None, IsSome, All, vec_len, Result, MatchResult}
-use Rattle.gup_plain.specs.State.{PlainState, Handle, unmade, Pending, Noted, start, objects_of}
+use Rattle.gup_plain.specs.State.{PlainState, Handle, unmade, Pending, Noted, plain_start, objects_of}
 use Rattle.gup_plain.specs.Event.{CanHappen, happened, page_numbers}
 use Rattle.gup_plain.specs.declared.event.PlainEvent.{PlainEvent}
 use Rattle.gup_plain.specs.declared.event.PlainEvent.TheVariants as events
@@ -44,7 +44,7 @@ with_spaces s spaces =
 -- the plain state without any
 abbrev pub other_state : Parts → PlainState
 other_state v =
-    record (start (λ _. false)) {
+    record (plain_start (λ _. false)) {
       content = content_of v.contents;
       made = v.contents.made;
       handle = handles_of v;

@@ -1,7 +1,7 @@
 //! What the plain model promises, over every list of its events.
 ghost use Rattle.std.specs.Prelude.{ℕ, ◌==◌, Bool, List};
 ghost use Rattle.gup_plain.specs.declared.event.PlainEvent.{PlainEvent};
-ghost use Rattle.gup_plain.specs.State.{start};
+ghost use Rattle.gup_plain.specs.State.{plain_start};
 ghost use Rattle.gup_exec_plain.specs.Possible.{one_run};
 ghost use Rattle.gup_exec_plain.specs.LastWrite.{ArePossible, after, LastWrite, CountsPages};
 
@@ -14,11 +14,11 @@ pub fn last_write()
 
 /// A process has as many pages as are named.
 pub fn pages_are_counted()
-    ensures { (is_born : ℕ → Bool) (events : List PlainEvent) → ArePossible (start is_born) events → CountsPages (after (start is_born) events) }
+    ensures { (is_born : ℕ → Bool) (events : List PlainEvent) → ArePossible (plain_start is_born) events → CountsPages (after (plain_start is_born) events) }
 {}
 
 /// The laws are not empty: a page is mapped, written, pinned, read and written through the pin, and copied by a fork,
 /// whose child finds what the pin has written.
 pub fn runs_are_possible()
-    ensures { ArePossible (start (λ p. p == 0)) one_run }
+    ensures { ArePossible (plain_start (λ p. p == 0)) one_run }
 {}

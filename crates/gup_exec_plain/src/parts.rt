@@ -1,6 +1,6 @@
 //! The plain model's state, in parts, and the events of pages.
 ghost use Rattle.std.specs.Prelude.{◌≡◌, ◌↔◌, vec_len, false, Some, IsTrue, MatchOption, IfOk};
-ghost use Rattle.gup_plain.specs.State.{IsNamed, born, start};
+ghost use Rattle.gup_plain.specs.State.{IsNamed, born, plain_start};
 ghost use Rattle.gup_plain.specs.declared.event.PlainEvent.TheVariants as events;
 ghost use Rattle.gup_exec_plain.specs.Parts.{state_of, spaces_of, HasAll, IsMade, IsAsMany, Applies};
 ghost use Rattle.gup_exec_parts.specs.Space.{seen};
@@ -31,7 +31,7 @@ impl Parts {
     /// The start: nothing is there but the numbers.
     pub fn new(alloc: Global, processes: u8, actors: u8) -> Result<Parts, NoMemory>
         ensures all { IfOk result HasAll }
-        ensures state { IfOk result (λ parts. state_of parts ≡ start (λ _. false)) }
+        ensures state { IfOk result (λ parts. state_of parts ≡ plain_start (λ _. false)) }
         ensures processes { IfOk result (λ parts. parts.processes ≡ processes) }
         ensures actors { IfOk result (λ parts. vec_len parts.actors ≡ actors) }
     {

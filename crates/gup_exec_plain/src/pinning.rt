@@ -1,6 +1,6 @@
 //! The events of pins and of their handles.
 ghost use Rattle.std.specs.Prelude.{◌≡◌, ◌<◌, vec_len, MatchOption};
-ghost use Rattle.gup_plain.specs.Event.{AllowsPin};
+ghost use Rattle.gup_plain.specs.Event.{MayPin};
 ghost use Rattle.gup_plain.specs.State.{born};
 ghost use Rattle.gup_plain.specs.declared.event.PlainEvent.TheVariants as events;
 ghost use Rattle.gup_exec_plain.specs.Parts.{state_of, HasAll, IsAsMany, Applies};
@@ -15,8 +15,8 @@ impl Parts {
     fn pinnable(&self, p: ProcNo, page: PageNo, write: bool) -> Option<u64>
         requires { HasAll self.now }
         ensures { MatchOption result
-            (((state_of self.now).birth p ≡ born) × AllowsPin (state_of self.now) p page write → ⊥)
-            (λ object. ((state_of self.now).birth p ≡ born) × AllowsPin (state_of self.now) p page write × (object ≡ (state_of self.now).object p page)) }
+            (((state_of self.now).birth p ≡ born) × MayPin (state_of self.now) p page write → ⊥)
+            (λ object. ((state_of self.now).birth p ≡ born) × MayPin (state_of self.now) p page write × (object ≡ (state_of self.now).object p page)) }
     {
         let Some(found) = self.named(p, page) else {
             return None;

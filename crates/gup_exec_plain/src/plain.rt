@@ -2,7 +2,7 @@
 ghost use Rattle.std.specs.Prelude.{◌≡◌, ℕ, ◌<◌, ◌≤◌, ◌↔◌, IsTrue, MatchOption, false, OnOk, OnErr, IfOk, IsErrOf};
 ghost use Rattle.gup_plain.specs.Event.{CanHappen, happened};
 ghost use Rattle.gup_plain.specs.Put.{put};
-ghost use Rattle.gup_plain.specs.State.{start, unborn, born};
+ghost use Rattle.gup_plain.specs.State.{plain_start, unborn, born};
 ghost use Rattle.gup_exec_plain.specs.Parts.{state_of, processes_of, actors_of, HasActor, WantsMemory};
 
 use crate::parts::Parts;
@@ -44,7 +44,7 @@ impl Plain {
     pub fn new(alloc: Global, processes: u8, actors: u8) -> Result<Plain, NoMemory>
         requires processes { processes ≤ 16 }
         requires actors { actors ≤ 81 }
-        ensures state { IfOk result (λ plain. state_of plain ≡ start (λ _. false)) }
+        ensures state { IfOk result (λ plain. state_of plain ≡ plain_start (λ _. false)) }
         ensures processes { IfOk result (λ plain. processes_of plain ≡ processes) }
         ensures actors { IfOk result (λ plain. actors_of plain ≡ actors) }
     {

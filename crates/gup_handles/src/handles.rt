@@ -4,7 +4,7 @@ ghost use Rattle.std.specs.Bool.{OnTrue};
 ghost use Rattle.arrayvec.specs.ArrayVec.{array_vec_len};
 ghost use Rattle.gup_plain.specs.Put.{put};
 ghost use Rattle.gup_spec_events.specs.State.{CoreState};
-ghost use Rattle.gup_spec_events.specs.Event.{happens, make_handle, give_handle, take_handle, get_reference, frames_of, writes_taken};
+ghost use Rattle.gup_spec_events.specs.Event.{happens, make_handle, give_handle, take_handle, get_reference, taken_frames, writes_taken};
 ghost use Rattle.gup_handles.specs.Handles.{handles_of, unmade, held, got, IsPinOf, IsHeldBy, IsGivenTo, given_to, taken_by, without_last, HasLast};
 ghost use Rattle.gup_handles.specs.Shows.{ShowsHandles, IsEvent, drops};
 
@@ -69,7 +69,7 @@ impl Handles {
         requires unmade { handles_of self.old h ≡ unmade }
         requires some { 0 < array_vec_len frames.now }
         ensures held { handles_of self.new ≡ put h (held actor frames.now.items write) (handles_of self.old) }
-        ensures event { (s : CoreState) → frames_of (s.taken actor) ≡ frames.now.items → writes_taken (s.taken actor) ≡ write
+        ensures event { (s : CoreState) → taken_frames (s.taken actor) ≡ frames.now.items → writes_taken (s.taken actor) ≡ write
             → ShowsHandles (handles_of self.old) s → ShowsHandles (handles_of self.new) (happens s (make_handle actor h)) }
     {
         let handle = &mut self.handles[h.get() as usize];

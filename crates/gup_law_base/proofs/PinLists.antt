@@ -9,9 +9,9 @@ use Rattle.gup_base.specs.declared.entry.Rights.{Rights}
 use Rattle.gup_base.specs.declared.entry.Rights.TheVariants.{R, RW}
 use Rattle.gup_plain.specs.Put.{put}
 use Rattle.gup_plain.specs.State.{born, Pending, Handle, unmade, held, gone, objects_of, named_or_zero}
-use Rattle.gup_plain.specs.Event.{AllowsPin, AreTaken, IsHeldBy, pending_pages, pending_objects, write_flag}
+use Rattle.gup_plain.specs.Event.{MayPin, AreTaken, IsHeldBy, pending_pages, pending_objects, write_flag}
 use Rattle.gup_spec_events.specs.State.{CoreState, Taken, plain_of, pending_of}
-use Rattle.gup_spec_events.specs.Event.{happens, told, after_told, IsUntaken, AreAlike, frames_of, objects_taken, writes_taken, long_taken, make_handle, unpin_page}
+use Rattle.gup_spec_events.specs.Event.{happens, told, after_told, IsUntaken, AreAlike, taken_frames, objects_taken, writes_taken, long_taken, make_handle, unpin_page}
 use Rattle.gup_spec_events.specs.Invariant.{CanTell}
 use Rattle.gup_law_base.specs.Sound.{View, IsSoundBy}
 use Rattle.gup_law_base.proofs.Rows.{all_at, all_from, contains_at, at_mapped, mapped_at}
@@ -63,7 +63,7 @@ told_more s a p page t mapped =
 
 module _ (v : View) (s : CoreState) (h : IsSoundBy v s) where
   -- an entry of a born process that is right for a pin
-  pub allows : (p page : ℕ) (e : Entry) (write : Bool) → s.birth p ≡ born → v.whole p page ≡ Some e → (write ≡ true → e.writable ≡ true) → AllowsPin (plain_of s) p page write
+  pub allows : (p page : ℕ) (e : Entry) (write : Bool) → s.birth p ≡ born → v.whole p page ≡ Some e → (write ≡ true → e.writable ≡ true) → MayPin (plain_of s) p page write
   allows p page e false is there writable = born_mapped v s h p page e is there
   allows p page e true is there writable = go (s.right p page) refl
     where
@@ -77,11 +77,11 @@ module _ (v : View) (s : CoreState) (h : IsSoundBy v s) where
 
 -- 2. A handle
 
-pub as_many : (ts : List Taken) → length (frames_of ts) ≤ length (objects_taken ts)
+pub as_many : (ts : List Taken) → length (taken_frames ts) ≤ length (objects_taken ts)
 as_many [] = omega arith
 as_many (t ∷ ts) = omega (arith, as_many ts)
 
-pub frame_at : (ts : List Taken) (k f : ℕ) → slice_get (frames_of ts) k ≡ Some f → (t : Taken) × (slice_get ts k ≡ Some t) × (t.frame ≡ f) × (slice_get (objects_taken ts) k ≡ Some t.object)
+pub frame_at : (ts : List Taken) (k f : ℕ) → slice_get (taken_frames ts) k ≡ Some f → (t : Taken) × (slice_get ts k ≡ Some t) × (t.frame ≡ f) × (slice_get (objects_taken ts) k ≡ Some t.object)
 frame_at ts k f is =
     let from = at_mapped (λ (t : Taken). t.frame) ts k f is in
     (from.0, from.1, from.2, mapped_at (λ (t : Taken). t.object) ts k from.0 from.1)

@@ -9,7 +9,7 @@ use Rattle.std.proofs.lemmas.Option.{slice_get-map}
 use Rattle.gup_base.specs.declared.entry.Entry.{Entry}
 use Rattle.gup_plain.specs.Put.{put}
 use Rattle.gup_spec_events.specs.State.{Taken}
-use Rattle.gup_spec_events.specs.Event.{frames_of}
+use Rattle.gup_spec_events.specs.Event.{taken_frames}
 use Rattle.gup_spec_events.specs.Invariant.{Holder, entry_of_page, cleared_by, prepared_by, owed_by, got_as, page_of_pin, page_taken, grabbed_by, weight, HasNoRepetition, taken_frame}
 use Rattle.gup_law_base.specs.Sound.{Moving, held, Tally}
 use Rattle.gup_law_base.proofs.Rows.{contains_at, at_contains, at_mapped, mapped_at}
@@ -105,7 +105,7 @@ swapped_even a h (page_taken b k) = taken_even a h b k (b == a)
 swapped_even a h (grabbed_by b) = refl
 
 module _ (count : ℕ → ℕ) (entry : ℕ → ℕ → Option Entry) (moves : ℕ → Option Moving) (prepared owed : ℕ → Option ℕ) (got : ℕ → Option (ℕ × ℕ)) (pinned : ℕ → List ℕ) (taken : ℕ → List Taken) where
-  frames_at : (a k : ℕ) → slice_get (frames_of (taken a)) k ≡ taken_frame (slice_get (taken a) k)
+  frames_at : (a k : ℕ) → slice_get (taken_frames (taken a)) k ≡ taken_frame (slice_get (taken a) k)
   frames_at a k = slice_get-map (λ t. t.frame) (taken a) k ∙ go (slice_get (taken a) k)
     where
       go : (o : Option Taken) → option_map (λ t. t.frame) o ≡ taken_frame o
@@ -113,12 +113,12 @@ module _ (count : ℕ → ℕ) (entry : ℕ → ℕ → Option Entry) (moves : �
       go (Some t) = refl
 
   -- the handle had no pages, and gets those that were taken
-  pub tally_handle : (a h : ℕ) → pinned h ≡ [] → Tally count (held entry moves prepared owed got pinned taken) → Tally count (held entry moves prepared owed got (put h (frames_of (taken a)) pinned) (put a [] taken))
+  pub tally_handle : (a h : ℕ) → pinned h ≡ [] → Tally count (held entry moves prepared owed got pinned taken) → Tally count (held entry moves prepared owed got (put h (taken_frames (taken a)) pinned) (put a [] taken))
   unfolding held
   tally_handle a h none tally =
-      tally_renamed (swapped a h) (swapped_back a h) (swapped_even a h) count (held entry moves prepared owed got pinned taken) (held entry moves prepared owed got (put h (frames_of (taken a)) pinned) (put a [] taken)) same tally
+      tally_renamed (swapped a h) (swapped_back a h) (swapped_even a h) count (held entry moves prepared owed got pinned taken) (held entry moves prepared owed got (put h (taken_frames (taken a)) pinned) (put a [] taken)) same tally
     where
-      by_pin : (i k : ℕ) (b : Bool) → slice_get (if b then frames_of (taken a) else pinned i) k ≡ held entry moves prepared owed got pinned taken (swapped_pin a h i k b)
+      by_pin : (i k : ℕ) (b : Bool) → slice_get (if b then taken_frames (taken a) else pinned i) k ≡ held entry moves prepared owed got pinned taken (swapped_pin a h i k b)
       by_pin i k true = frames_at a k
       by_pin i k false = refl
 
@@ -126,7 +126,7 @@ module _ (count : ℕ → ℕ) (entry : ℕ → ℕ → Option Entry) (moves : �
       by_taken c k true = ap (λ (xs : List ℕ). slice_get xs k) (sym none)
       by_taken c k false = refl
 
-      same : (x : Holder) → held entry moves prepared owed got (put h (frames_of (taken a)) pinned) (put a [] taken) x ≡ held entry moves prepared owed got pinned taken (swapped a h x)
+      same : (x : Holder) → held entry moves prepared owed got (put h (taken_frames (taken a)) pinned) (put a [] taken) x ≡ held entry moves prepared owed got pinned taken (swapped a h x)
       same (entry_of_page p page) = refl
       same (cleared_by b) = refl
       same (prepared_by b) = refl

@@ -23,7 +23,7 @@ use Rattle.gup_spec_events.specs.Fault.{Fault, fills, fills_writable, breaks, ma
 use Rattle.gup_spec_journal.specs.Place.{Place, place_behind}
 use Rattle.gup_spec_turns.specs.Cost.{mapped_by, op_left, IsAnswered, IsWithinBound}
 use Rattle.gup_spec_turns.specs.Pages.{mapped_pages}
-use Rattle.gup_spec_turns.specs.Taken.{Taken, answers_with, free_frame, done_if, silent_or_done}
+use Rattle.gup_spec_turns.specs.CoreTurn.{CoreTurn, answers_with, free_frame, done_if, silent_or_done}
 use Rattle.gup_spec_turns.specs.PageTurns.{loads_after, load_turn, stores_after, store_fault_by, map_turn_by, unmap_turn_by, lowers_entry, lowers, lowers_for, protect_turn_by, discard_turn_by, lowest_page, exit_turn_by}
 use Rattle.gup_law_turns.proofs.Mapped.{mapped_spread, mapped_same, mapped_put, mapped_lost}
 use Rattle.gup_law_turns.proofs.Puts.{put_same, put_other}
@@ -78,7 +78,7 @@ used_prepared a frame f g used b other =
     ap (λ (h : ℕ → Option ℕ). h b) used ∙ put_other a b None (put a (Some frame) f) other ∙ put_other a b (Some frame) f other
 
 -- A turn leaves the pages of other processes, adds no more pages than the operation maps, and is within its bound.
-pub record IsMoved (s : CoreState) (a p : ℕ) (place : Place) (op : Op) (turn : Taken) : Type 0 where
+pub record IsMoved (s : CoreState) (a p : ℕ) (place : Place) (op : Op) (turn : CoreTurn) : Type 0 where
   pub others : (q : ℕ) → (q == p) ≡ false → (run s turn.events).right q ≡ s.right q
   pub gained : mapped_pages ((run s turn.events).right p) ≤ mapped_pages (s.right p) + mapped_by op
   pub jobs : KeepsJobs s a (run s turn.events)
@@ -108,7 +108,7 @@ module _ (s : CoreState) (a p : ℕ) (place : Place) (rests : s.job a ≡ idle) 
       }
 
   -- a turn that leaves all mappings as they were, and goes on or answers
-  pub keeping : (op : Op) (turn : Taken) → (run s turn.events).right ≡ s.right → KeepsJobs s a (run s turn.events) → IsWithinBound op a p place (place_behind place turn.whats) s (run s turn.events) → IsMoved s a p place op turn
+  pub keeping : (op : Op) (turn : CoreTurn) → (run s turn.events).right ≡ s.right → KeepsJobs s a (run s turn.events) → IsWithinBound op a p place (place_behind place turn.whats) s (run s turn.events) → IsMoved s a p place op turn
   keeping op turn same jobs bound =
       let pages : mapped_pages ((run s turn.events).right p) ≡ mapped_pages (s.right p) = ap (λ (f : ℕ → ℕ → Option Rights). mapped_pages (f p)) same in
       record {
@@ -119,12 +119,12 @@ module _ (s : CoreState) (a p : ℕ) (place : Place) (rests : s.job a ≡ idle) 
       }
 
   -- one that answers, and leaves jobs and prepared frames too
-  pub still : (op : Op) (turn : Taken) → (run s turn.events).right ≡ s.right → (run s turn.events).job ≡ s.job → (run s turn.events).prepared ≡ s.prepared → IsAnswered place (place_behind place turn.whats) → IsMoved s a p place op turn
+  pub still : (op : Op) (turn : CoreTurn) → (run s turn.events).right ≡ s.right → (run s turn.events).job ≡ s.job → (run s turn.events).prepared ≡ s.prepared → IsAnswered place (place_behind place turn.whats) → IsMoved s a p place op turn
   still op turn same jobs prepared answered =
       keeping op turn same (same_jobs (run s turn.events) jobs prepared) (answer_bound op a p place (place_behind place turn.whats) s (run s turn.events) answered)
 
   -- one that answers, and uses the frame that it prepares
-  still_using : (f : ℕ) (op : Op) (turn : Taken) → (run s turn.events).right ≡ s.right → (run s turn.events).job ≡ s.job → (run s turn.events).prepared ≡ put a None (put a (Some f) s.prepared) → IsAnswered place (place_behind place turn.whats) → IsMoved s a p place op turn
+  still_using : (f : ℕ) (op : Op) (turn : CoreTurn) → (run s turn.events).right ≡ s.right → (run s turn.events).job ≡ s.job → (run s turn.events).prepared ≡ put a None (put a (Some f) s.prepared) → IsAnswered place (place_behind place turn.whats) → IsMoved s a p place op turn
   still_using f op turn same jobs prepared answered =
       keeping op turn same (kept_jobs (run s turn.events) jobs (used_prepared a f s.prepared (run s turn.events).prepared prepared)) (answer_bound op a p place (place_behind place turn.whats) s (run s turn.events) answered)
 
@@ -141,7 +141,7 @@ module _ (s : CoreState) (a p : ℕ) (place : Place) (rests : s.job a ≡ idle) 
   store_moved page word value entry true = still (Store page word value) (stores_after s (Ok []) a p page word value) refl refl refl refl
   store_moved page word value entry false = fault (s.right p page) entry
     where
-      stores_by : Fault → Taken
+      stores_by : Fault → CoreTurn
       stores_by before = stores_after s before a p page word value
 
       by_fill : (free : Option ℕ) → IsMoved s a p place (Store page word value) (stores_after s (fills_writable a p page free) a p page word value)
@@ -154,7 +154,7 @@ module _ (s : CoreState) (a p : ℕ) (place : Place) (rests : s.job a ≡ idle) 
 
       by_count : (e : Entry) (one : Bool) → IsMoved s a p place (Store page word value) (stores_after s (if one then Ok (marks a p page e ++ upgrade a p page e.frame ∷ []) else breaks a p page e true (free_frame s)) a p page word value)
       by_count e true =
-          let turn : Taken = stores_by (Ok (marks a p page e ++ upgrade a p page e.frame ∷ [])) in
+          let turn : CoreTurn = stores_by (Ok (marks a p page e ++ upgrade a p page e.frame ∷ [])) in
           keeping (Store page word value) turn refl (marked_jobs page e.frame (run s turn.events) refl refl) refl
       by_count e false = by_break e (free_frame s)
 
@@ -176,7 +176,7 @@ module _ (s : CoreState) (a p : ℕ) (place : Place) (rests : s.job a ≡ idle) 
   map_moved page n rights (Some answer) = still (Map page n rights) (answers_with answer) refl refl refl refl
   map_moved page n rights None =
       let new : ℕ → Option Rights = spread page n (λ _. Some rights) (s.right p) in
-      let turn : Taken = map_turn_by None a p page n rights in
+      let turn : CoreTurn = map_turn_by None a p page n rights in
       record {
         others = λ q other. put_other p q new s.right other;
         gained = subst (λ (f : ℕ → Option Rights). mapped_pages f ≤ mapped_pages (s.right p) + n) (sym (put_same p new s.right)) (mapped_spread page n rights (s.right p));
@@ -221,7 +221,7 @@ module _ (s : CoreState) (a p : ℕ) (place : Place) (rests : s.job a ≡ idle) 
   pub protect_moved : (page n : ℕ) (rights : Rights) (denied : Option Answer) → protect_denial (any_unmapped (s.right p) page n) ≡ denied → IsMoved s a p place (Protect page n rights) (protect_turn_by denied s a p page n rights)
   protect_moved page n rights (Some answer) is = still (Protect page n rights) (answers_with answer) refl refl refl refl
   protect_moved page n rights None is =
-      let turn : Taken = protect_turn_by None s a p page n rights in
+      let turn : CoreTurn = protect_turn_by None s a p page n rights in
       let new : ℕ → Option Rights = spread page n (λ _. Some rights) (s.right p) in
       let low = lower_for rights page n (protect_pages a p page n rights ∷ []) in
       let all : (run s turn.events).right ≡ put p new s.right =
@@ -274,7 +274,7 @@ module _ (s : CoreState) (a p : ℕ) (place : Place) (rests : s.job a ≡ idle) 
 
   discard_kept : (op : Op) (page : ℕ) (entry : Option Entry) (whats : List What) → IsWithinBound op a p place (place_behind place whats) s (run s (discard_entry a p page entry ∷ gives_back a entry)) → IsMoved s a p place op (record { events = discard_entry a p page entry ∷ gives_back a entry; whats = whats })
   discard_kept op page entry whats bound =
-      let turn : Taken = record { events = discard_entry a p page entry ∷ gives_back a entry; whats = whats } in
+      let turn : CoreTurn = record { events = discard_entry a p page entry ∷ gives_back a entry; whats = whats } in
       let behind : CoreState = happens s (discard_entry a p page entry) in
       keeping op turn (back_rights behind entry) (same_jobs (run s turn.events) (back_jobs behind entry) (back_prepared behind entry)) bound
 

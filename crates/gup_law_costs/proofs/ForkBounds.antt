@@ -21,7 +21,7 @@ use Rattle.gup_spec_turns.specs.Cost.{mapped_by, fork_turns, fork_left, GoesOn, 
 use Rattle.gup_spec_turns.specs.Pages.{mapped_pages, pages_from}
 use Rattle.gup_spec_turns.specs.ForkPlace.{ForkPlace, copying_place, fork_place, place_in, IsForking, StandsFork}
 use Rattle.gup_spec_turns.specs.Reached.{unbegun, from_page, at_page, wants_frame, at_word}
-use Rattle.gup_spec_turns.specs.Taken.{Taken, answers_with, free_frame}
+use Rattle.gup_spec_turns.specs.CoreTurn.{CoreTurn, answers_with, free_frame}
 use Rattle.gup_spec_turns.specs.ForkTurns.{first_behind, next_page, page_turn, next_turn, share_turn, frame_turn, copy_turn, copying_turn, fork_turn}
 use Rattle.gup_spec_turns.specs.Turn.{op_turn, turn_at, failed_turn, turn_of}
 use Rattle.gup_law_costs.proofs.Bounds.{StandsShort, IsMoved, still, TakesCost, takes_cost}
@@ -35,7 +35,7 @@ use Rattle.gup_law_turns.proofs.Turned.{idle_place, run_behind}
 -- A turn leaves the pages of all processes but its own, or the child that it brings, and those of each that grows while
 -- another actor keeps its parent's structure lock. It leaves the jobs of other actors and what these have prepared, takes
 -- of the cost, and is within its bound.
-pub record IsSpent (s : CoreState) (a p : ℕ) (place : Place) (op : Op) (turn : Taken) : Type 0 where
+pub record IsSpent (s : CoreState) (a p : ℕ) (place : Place) (op : Op) (turn : CoreTurn) : Type 0 where
   pub others : (q : ℕ) → (q == child_of p (Some op)) ≡ false → (run s turn.events).right q ≡ s.right q
   pub grown : (q parent b : ℕ) → s.birth q ≡ growing parent → s.structure parent ≡ Some b → (b == a) ≡ false → (run s turn.events).right q ≡ s.right q
   pub jobs : (b : ℕ) → (b == a) ≡ false → (run s turn.events).job b ≡ s.job b
@@ -200,7 +200,7 @@ module _ (a p c : ℕ) (done : List ℕ) where
 
 module _ (s : CoreState) (a p : ℕ) (place : Place) where
   -- an operation that isn't a fork
-  moved_spent : (op : Op) (turn : Taken) → child_of p (Some op) ≡ p → ((q parent : ℕ) → s.birth q ≡ growing parent → (run s turn.events).right q ≡ s.right q) → StandsShort s a op place → IsMoved s a p place op turn → IsSpent s a p place op turn
+  moved_spent : (op : Op) (turn : CoreTurn) → child_of p (Some op) ≡ p → ((q parent : ℕ) → s.birth q ≡ growing parent → (run s turn.events).right q ≡ s.right q) → StandsShort s a op place → IsMoved s a p place op turn → IsSpent s a p place op turn
   moved_spent op turn own grown short moved =
       let t : CoreState = run s turn.events in
       let takes = takes_cost op a p place (place_behind place turn.whats) s t short moved.jobs.idle moved.gained moved.bound in
@@ -240,7 +240,7 @@ module _ (s : CoreState) (a p : ℕ) (place : Place) where
 
   module _ (child : ℕ) where
     -- a fork goes on from one place in the middle to another, and leaves all mappings
-    fork_goes : (turn : Taken) (x y : ForkPlace) → IsMiddle x → IsMiddle y → place_in s a ≡ x → place_in (run s turn.events) a ≡ y → (run s turn.events).right ≡ s.right → ((b : ℕ) → (b == a) ≡ false → (run s turn.events).job b ≡ s.job b) → ((b : ℕ) → (b == a) ≡ false → (run s turn.events).prepared b ≡ s.prepared b) → GoesOn place (place_behind place turn.whats) → fork_turns (s.right child) y < fork_turns (s.right child) x → IsSpent s a p place (Fork child) turn
+    fork_goes : (turn : CoreTurn) (x y : ForkPlace) → IsMiddle x → IsMiddle y → place_in s a ≡ x → place_in (run s turn.events) a ≡ y → (run s turn.events).right ≡ s.right → ((b : ℕ) → (b == a) ≡ false → (run s turn.events).job b ≡ s.job b) → ((b : ℕ) → (b == a) ≡ false → (run s turn.events).prepared b ≡ s.prepared b) → GoesOn place (place_behind place turn.whats) → fork_turns (s.right child) y < fork_turns (s.right child) x → IsSpent s a p place (Fork child) turn
     fork_goes turn x y from to was is same jobs prepared goes less =
         let t : CoreState = run s turn.events in
         let before : fork_turns (s.right child) (place_in s a) ≡ fork_turns (s.right child) x = ap (fork_turns (s.right child)) was in
@@ -316,20 +316,20 @@ module _ (s : CoreState) (a p : ℕ) (place : Place) where
         -- whether it is to be copied or to be shared
         counts : (e : Entry) (copies : Bool) → pages_from (s.right child) (page + 1) < pages_from (s.right child) (first_behind done) → IsSpent s a p place (Fork child) (record { events = count_page a p child done page e copies ∷ []; whats = Silent ∷ [] })
         counts e true fewer =
-            let turn : Taken = record { events = count_page a p child done page e true ∷ []; whats = Silent ∷ [] } in
+            let turn : CoreTurn = record { events = count_page a p child done page e true ∷ []; whats = Silent ∷ [] } in
             let job : Job = forking p child done (copying page 0) in
             let few = copying_few (s.right child) page 0 (s.prepared a) in
             fork_goes turn (from_page (first_behind done)) (copying_place page 0 (s.prepared a)) tt (copying_middle page 0 (s.prepared a)) was
             (place_by (run s turn.events) a job (s.prepared a) (put_same a job s.job) refl) refl (λ b other. put_other a b job s.job other) (λ b other. refl) (refl, refl) (omega (arith, few, fewer))
         counts e false fewer =
-            let turn : Taken = record { events = count_page a p child done page e false ∷ []; whats = Silent ∷ [] } in
+            let turn : CoreTurn = record { events = count_page a p child done page e false ∷ []; whats = Silent ∷ [] } in
             let job : Job = forking p child done (counted page) in
             fork_goes turn (from_page (first_behind done)) (at_page page) tt tt was
             (place_by (run s turn.events) a job (s.prepared a) (put_same a job s.job) refl) refl (λ b other. put_other a b job s.job other) (λ b other. refl) (refl, refl) (omega (arith, fewer))
 
         go : (entry : Option Entry) → pages_from (s.right child) (page + 1) < pages_from (s.right child) (first_behind done) → IsSpent s a p place (Fork child) (page_turn s a p child done page entry)
         go None fewer =
-            let turn : Taken = page_turn s a p child done page None in
+            let turn : CoreTurn = page_turn s a p child done page None in
             let job : Job = forking p child (page ∷ done) between in
             fork_goes turn (from_page (first_behind done)) (from_page (page + 1)) tt tt was
             (place_by (run s turn.events) a job (s.prepared a) (put_same a job s.job) refl) refl (λ b other. put_other a b job s.job other) (λ b other. refl) (refl, refl) (omega (arith, fewer))
@@ -338,7 +338,7 @@ module _ (s : CoreState) (a p : ℕ) (place : Place) where
     -- the page that was counted is shared
     share_spent : (q c : ℕ) (done : List ℕ) (page : ℕ) (entry : Option Entry) → s.job a ≡ forking q c done (counted page) → IsSpent s a p place (Fork child) (share_turn a p child done page entry)
     share_spent q c done page entry is =
-        let turn : Taken = share_turn a p child done page entry in
+        let turn : CoreTurn = share_turn a p child done page entry in
         let one : Job = forking p child done (lowered page) in
         let two : Job = forking p child done (cleared page) in
         let job : Job = forking p child (page ∷ done) between in
@@ -350,7 +350,7 @@ module _ (s : CoreState) (a p : ℕ) (place : Place) where
     -- where no frame is free for its copy the fork fails
     fail_spent : (q c : ℕ) (done : List ℕ) (page word : ℕ) → IsForking s a p child q c done → IsSpent s a p place (Fork child) (frame_turn s a p child done page word None)
     fail_spent q c done page word forks =
-        let turn : Taken = frame_turn s a p child done page word None in
+        let turn : CoreTurn = frame_turn s a p child done page word None in
         let t : CoreState = run s turn.events in
         let lost = fails_so a p child done s (copying page word) (s.entry child) in
         let none : ℕ → Option Rights = λ _. None in
@@ -383,7 +383,7 @@ module _ (s : CoreState) (a p : ℕ) (place : Place) where
         takes : (free : Option ℕ) → IsSpent s a p place (Fork child) (frame_turn s a p child done page word free)
         takes None = fail_spent q c done page word forks
         takes (Some f) =
-            let turn : Taken = frame_turn s a p child done page word (Some f) in
+            let turn : CoreTurn = frame_turn s a p child done page word (Some f) in
             fork_goes turn (wants_frame page) (at_word page word f) tt tt (place_by s a (forking q c done (copying page word)) None is has)
             (place_by (run s turn.events) a (forking q c done (copying page word)) (Some f) is (put_same a (Some f) s.prepared)) refl (λ b other. refl) (λ b other. put_other a b (Some f) s.prepared other) (refl, refl) (omega arith)
     copying_spent q c done page word (Some to) is has forks = copies (nat_lt word words) refl
@@ -393,13 +393,13 @@ module _ (s : CoreState) (a p : ℕ) (place : Place) where
 
         copies : (more : Bool) → nat_lt word words ≡ more → IsSpent s a p place (Fork child) (copy_turn s a p child done page word to more)
         copies true test =
-            let turn : Taken = copy_turn s a p child done page word to true in
+            let turn : CoreTurn = copy_turn s a p child done page word to true in
             let job : Job = forking p child done (copying page (word + 1)) in
             let inside : word < words = grind (arith, nat_tests) in
             fork_goes turn (at_word page word to) (at_word page (word + 1) to) tt tt was
             (place_by (run s turn.events) a job (Some to) (put_same a job s.job) has) refl (λ b other. put_other a b job s.job other) (λ b other. refl) (refl, refl) (omega (arith, inside))
         copies false test =
-            let turn : Taken = copy_turn s a p child done page word to false in
+            let turn : CoreTurn = copy_turn s a p child done page word to false in
             let job : Job = forking p child (page ∷ done) between in
             fork_goes turn (at_word page word to) (from_page (page + 1)) tt tt was
             (place_by (run s turn.events) a job None (put_same a job s.job) (put_same a None s.prepared)) refl (λ b other. put_other a b job s.job other) (λ b other. put_other a b None s.prepared other) (refl, refl) (omega arith)

@@ -18,7 +18,7 @@ use Rattle.gup_spec_events.specs.Event.{CoreEvent, take_frame, fill, break_entry
 use Rattle.gup_spec_events.specs.Fault.{Fault, fills, fills_writable, breaks, marks, makes_writable, unshares, unshare_fault, write_fault}
 use Rattle.gup_spec_journal.specs.Place.{Place, place_behind}
 use Rattle.gup_spec_turns.specs.Cost.{IsWithinBound}
-use Rattle.gup_spec_turns.specs.Taken.{Taken, answers_with, free_frame, allows_store, entry_in}
+use Rattle.gup_spec_turns.specs.CoreTurn.{CoreTurn, answers_with, free_frame, allows_store, entry_in}
 use Rattle.gup_spec_turns.specs.PageTurns.{lowest_page}
 use Rattle.gup_spec_turns.specs.PinTurns.{raises, pin_fault, makes_if, pins_behind, ends_pin, pin_turn_by, but_last, unpinned, unpin_turn_by, give_turn_by, take_turn}
 use Rattle.gup_spec_turns.specs.DeviceTurns.{frame_at, moves_from, transfer_turn_by}
@@ -145,7 +145,7 @@ module _ (s : CoreState) (a p : ℕ) (place : Place) (rests : s.job a ≡ idle) 
 
   pinned_moved : (handle page n g : ℕ) (write last : Bool) (before : List CoreEvent) (e : Entry) → place.far < n → (place.far + 1 == n) ≡ last → LeavesPages s a (run s before) → IsMoved s a p place (Pin handle page n write) (pins_behind before a p handle g n write last e)
   pinned_moved handle page n g write last before e less test leaves =
-      let turn : Taken = pins_behind before a p handle g n write last e in
+      let turn : CoreTurn = pins_behind before a p handle g n write last e in
       let there : CoreState = run s before in
       let all : LeavesPages s a (run s turn.events) =
       subst (LeavesPages s a) (sym (run_behind s before (pin_page a p g e write false ∷ makes_if last a handle)))
@@ -178,7 +178,7 @@ module _ (s : CoreState) (a p : ℕ) (place : Place) (rests : s.job a ≡ idle) 
   unpin_moved : (handle : ℕ) (held : Bool) → is_held_by (s.handle handle) a ≡ held → HasLeft s a handle place.far → IsMoved s a p place (Unpin handle) (unpin_turn_by held a handle (s.pinned handle))
   unpin_moved handle false is left = still s a p place rests (Unpin handle) (answers_with answers.NotHeld) refl refl refl refl
   unpin_moved handle true is left =
-      let turn : Taken = unpin_turn_by true a handle (s.pinned handle) in
+      let turn : CoreTurn = unpin_turn_by true a handle (s.pinned handle) in
       keeping s a p place rests (Unpin handle) turn refl (same_jobs s a p place rests (run s turn.events) refl refl) (bound (but_last (s.pinned handle)) refl)
     where
       bound : (rest : List ℕ) → but_last (s.pinned handle) ≡ rest → IsWithinBound (Unpin handle) a p place (place_behind place (unpinned rest a handle)) s (run s (unpin_turn_by true a handle (s.pinned handle)).events)
@@ -196,10 +196,10 @@ module _ (s : CoreState) (a p : ℕ) (place : Place) (rests : s.job a ≡ idle) 
   word_moved handle true index slot n i j f true less test = still s a p place rests (Transfer handle true index slot n) (moves_from s a handle true true i j f) refl refl refl refl
   word_moved handle false index slot n i j f true less test = still s a p place rests (Transfer handle false index slot n) (moves_from s a handle false true i j f) refl refl refl refl
   word_moved handle true index slot n i j f false less test =
-      let turn : Taken = moves_from s a handle true false i j f in
+      let turn : CoreTurn = moves_from s a handle true false i j f in
       keeping s a p place rests (Transfer handle true index slot n) turn refl (same_jobs s a p place rests (run s turn.events) refl refl) (inr ((refl, refl), goes_less s a p place rests place.far n less test))
   word_moved handle false index slot n i j f false less test =
-      let turn : Taken = moves_from s a handle false false i j f in
+      let turn : CoreTurn = moves_from s a handle false false i j f in
       keeping s a p place rests (Transfer handle false index slot n) turn refl (same_jobs s a p place rests (run s turn.events) refl refl) (inr ((refl, refl), goes_less s a p place rests place.far n less test))
 
   transfer_moved : (handle : ℕ) (outward : Bool) (index slot n : ℕ) (denied : Option Answer) (last : Bool) → place.far < n → (place.far + 1 == n) ≡ last → IsMoved s a p place (Transfer handle outward index slot n) (transfer_turn_by denied s a handle outward last (index + place.far) (slot + place.far))

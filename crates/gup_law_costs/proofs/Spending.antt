@@ -21,7 +21,7 @@ use Rattle.gup_spec_turns.specs.Pages.{sum_below, mapped_pages}
 use Rattle.gup_spec_turns.specs.ForkPlace.{ForkPlace, fork_place, place_in, IsForking, StandsFork, IsNoFork}
 use Rattle.gup_spec_turns.specs.Reached.{unbegun}
 use Rattle.gup_law_turns.specs.Standing.{IsStanding, StandsHandle, given_back, back_in}
-use Rattle.gup_spec_turns.specs.Run.{RunState, run_start, run_after, op_in, waiting_in, waiting_with, taken_by, taken_in, is_ready, can_go}
+use Rattle.gup_spec_turns.specs.Run.{RunState, run_start, run_after, op_in, waiting_in, waiting_with, core_turn_by, core_turn_in, is_ready, can_go}
 use Rattle.gup_spec_turns.specs.Waits.{waits_born}
 use Rattle.gup_spec_turns.specs.Turn.{turn_at, failed_turn, op_turn}
 use Rattle.gup_law_costs.proofs.Bounds.{TakesCost}
@@ -218,12 +218,12 @@ goes_by script r a op is free =
 forked_born : (script : ScriptValue) (r : RunState) → IsStanding script r → (a : ℕ) (k : Forking) → forking_of (r.core.job a) ≡ Some k → r.core.birth k.proc ≡ born
 forked_born script r h a k is = h.sound.1.fork_parent a k (h.sound.1.forks_are a ∙ is)
 
-pub spent_turn : (script : ScriptValue) → IsScript script → (r : RunState) → IsStanding script r → (a : ℕ) (op : Op) → op_in script r a ≡ Some op → waiting_in script r a ≡ None → IsSpent r.core a (process_of script a) (r.places a) op (taken_in script r a)
+pub spent_turn : (script : ScriptValue) → IsScript script → (r : RunState) → IsStanding script r → (a : ℕ) (op : Op) → op_in script r a ≡ Some op → waiting_in script r a ≡ None → IsSpent r.core a (process_of script a) (r.places a) op (core_turn_in script r a)
 spent_turn script valid r h a op is free =
     let who : Doer = doer script a in
     let p : ℕ = process_of script a in
     let k : ℕ = (r.places a).answered in
-    let P : Option Op → Option Waiting → Type 0 = λ o w. IsSpent r.core a p (r.places a) op (taken_by r.core who (r.places a).far o w) in
+    let P : Option Op → Option Waiting → Type 0 = λ o w. IsSpent r.core a p (r.places a) op (core_turn_by r.core who (r.places a).far o w) in
     let own : IsOfProcess op → r.core.birth p ≡ birth_for r.core.birth who =
     λ of. sym (thread_birth who r.core.birth (is_of_thread script valid a k op is (process_no_device op of))) in
     let spent : P (Some op) None = turn_spent r.core who (r.places a) op (goes_by script r a op is free) own (forked_born script r h a) (h.few_pages p) (stands_at script r h a op is) in
@@ -251,11 +251,11 @@ kept_at s who far op (growing parent) none = kept_rights s who.actor who.proc wh
 kept_at s who far op born none = kept_rights s who.actor who.proc who.slots far op none
 kept_at s who far op failed none = kept_failed s who.actor who.proc op none
 
-kept_turn : (script : ScriptValue) (r : RunState) (a : ℕ) (op : Op) → op_in script r a ≡ Some op → waiting_in script r a ≡ None → (IsOfProcess op → ⊥) → (run r.core (taken_in script r a).events).right ≡ r.core.right
+kept_turn : (script : ScriptValue) (r : RunState) (a : ℕ) (op : Op) → op_in script r a ≡ Some op → waiting_in script r a ≡ None → (IsOfProcess op → ⊥) → (run r.core (core_turn_in script r a).events).right ≡ r.core.right
 kept_turn script r a op is free none =
     let who : Doer = doer script a in
     let far : ℕ = (r.places a).far in
-    let P : Option Op → Option Waiting → Type 0 = λ o w. (run r.core (taken_by r.core who far o w).events).right ≡ r.core.right in
+    let P : Option Op → Option Waiting → Type 0 = λ o w. (run r.core (core_turn_by r.core who far o w).events).right ≡ r.core.right in
     let kept : P (Some op) None = kept_at r.core who far op (birth_for r.core.birth who) none in
     subst (λ (w : Option Waiting). P (op_in script r a) w) (sym free) (subst (λ (o : Option Op). P o None) (sym is) kept)
 
@@ -269,7 +269,7 @@ pages_change n q s t (inr same) others =
 
 -- the place of the actor behind its turn
 abbrev pub next_place : ScriptValue → RunState → ℕ → Place
-next_place script r a = place_behind (r.places a) (taken_in script r a).whats
+next_place script r a = place_behind (r.places a) (core_turn_in script r a).whats
 
 -- in all
 spent_by : (script : ScriptValue) → IsScript script → (r : RunState) → IsStanding script r → (a : ℕ) (op : Op) → op_in script r a ≡ Some op → waiting_in script r a ≡ None → cost script (run_after script r a) < cost script r
@@ -277,7 +277,7 @@ unfolding cost
 spent_by script valid r h a op is free =
     let p : ℕ = process_of script a in
     let q : ℕ = child_of p (Some op) in
-    let t : CoreState = run r.core (taken_in script r a).events in
+    let t : CoreState = run r.core (core_turn_in script r a).events in
     let after : RunState = run_after script r a in
     let next : Place = next_place script r a in
     let spent = spent_turn script valid r h a op is free in
@@ -306,8 +306,8 @@ spent_turns script valid r h a goes = by_parts (op_in script r a) (waiting_in sc
 
 abbrev pub IsIdleBy : ScriptValue → RunState → ℕ → Option Op → Option Waiting → Type 0
 IsIdleBy script r a op waiting =
-    ((taken_by r.core (doer script a) (r.places a).far op waiting).events ≡ [])
-    × (place_behind (r.places a) (taken_by r.core (doer script a) (r.places a).far op waiting).whats ≡ r.places a)
+    ((core_turn_by r.core (doer script a) (r.places a).far op waiting).events ≡ [])
+    × (place_behind (r.places a) (core_turn_by r.core (doer script a) (r.places a).far op waiting).whats ≡ r.places a)
 
 pub idle_by : (script : ScriptValue) (r : RunState) (a : ℕ) (op : Option Op) (waiting : Option Waiting) → is_ready op waiting ≡ false → IsIdleBy script r a op waiting
 idle_by script r a None waiting stays = (refl, refl)

@@ -15,11 +15,11 @@ use Rattle.gup_script.specs.Valid.{IsScript}
 use Rattle.gup_spec_events.specs.State.{CoreState}
 use Rattle.gup_spec_events.specs.Event.{CoreEvent, run}
 use Rattle.gup_spec_journal.specs.Place.{Place, doer, present_op, process_of, ops_of, ops_in}
-use Rattle.gup_spec_turns.specs.Cost.{fork_turns, mapped_by, map_pages, most_turns, IsAnswered, IsWithinBound}
+use Rattle.gup_spec_turns.specs.Cost.{fork_turns, mapped_by, map_pages, most_turns_of, IsAnswered, IsWithinBound}
 use Rattle.gup_spec_turns.specs.Pages.{sum_below, mapped_pages}
 use Rattle.gup_spec_turns.specs.ForkPlace.{ForkPlace, place_in}
 use Rattle.gup_spec_turns.specs.Reached.{unbegun, from_page, at_page, wants_frame, at_word}
-use Rattle.gup_spec_turns.specs.Run.{turned, RunState, run_start, run_after, op_in, waiting_in, taken_in, is_ready}
+use Rattle.gup_spec_turns.specs.Run.{turned, RunState, run_start, run_after, op_in, waiting_in, core_turn_in, is_ready}
 use Rattle.gup_law_turns.specs.Standing.{IsStanding}
 use Rattle.gup_law_turns.proofs.ScriptLemmas.{has_ops_declared, is_of_thread, thread_birth}
 use Rattle.gup_law_costs.proofs.Bounds.{TakesCost}
@@ -143,7 +143,7 @@ few_behind script r h p = let mapped = h.few.mapped p in let most = h.few.pages 
 -- the turn of actor b, which does this operation
 module _ (law : Law) (published : Published) (script : ScriptValue) (valid : IsScript script) (r : RunState) (h : IsReached script r) (b : ℕ) (op : Op) (is : op_in script r b ≡ Some op) (free : waiting_in script r b ≡ None) (within : AreWithin script r.core r.places) where
   abbrev t : CoreState
-  t = run r.core (taken_in script r b).events
+  t = run r.core (core_turn_in script r b).events
 
   abbrev next : Place
   next = next_place script r b
@@ -154,7 +154,7 @@ module _ (law : Law) (published : Published) (script : ScriptValue) (valid : IsS
   stands : IsStanding script r
   stands = is_standing published script valid r h
 
-  spent : IsSpent r.core b (process_of script b) (r.places b) op (taken_in script r b)
+  spent : IsSpent r.core b (process_of script b) (r.places b) op (core_turn_in script r b)
   spent = spent_turn script valid r stands b op is free
 
   few : (p : ℕ) → mapped_pages (t.right p) ≤ most_pages
@@ -281,7 +281,7 @@ within_first script h a =
     }
 
 -- so an operation has fewer turns behind it than it may have
-few_turns : Published → (script : ScriptValue) → IsScript script → (r : RunState) → IsReached script r → AreWithin script r.core r.places → (a : ℕ) (op : Op) → op_in script r a ≡ Some op → (r.places a).far < most_turns script op
+few_turns : Published → (script : ScriptValue) → IsScript script → (r : RunState) → IsReached script r → AreWithin script r.core r.places → (a : ℕ) (op : Op) → op_in script r a ≡ Some op → (r.places a).far < most_turns_of script op
 few_turns published script valid r h within a op is = go op is (subst (λ (o : Option Op). FitsAt r.core (doer script a) o (r.places a)) is (h.stands.fits a))
   where
     far : ℕ
@@ -294,7 +294,7 @@ few_turns published script valid r h within a op is = go op is (subst (λ (o : O
     some_turns right (wants_frame page) = omega arith
     some_turns right (at_word page word to) = omega arith
 
-    go : (o : Op) → op_in script r a ≡ Some o → FitsOp r.core (doer script a) o (r.places a) → far < most_turns script o
+    go : (o : Op) → op_in script r a ≡ Some o → FitsOp r.core (doer script a) o (r.places a) → far < most_turns_of script o
     go (Map page n rights) is fits = let first = fits.1.0 in omega (arith, first)
     go (Unmap page n) is fits = fits.1
     go (Protect page n rights) is fits = let first = fits.1.0 in omega (arith, first)
@@ -313,7 +313,7 @@ few_turns published script valid r h within a op is = go op is (subst (λ (o : O
     go Exit is fits = let all = (within a).exits is in omega (arith, all)
 
 -- behind turns of any actors
-pub within_turned : Law → Published → (script : ScriptValue) → IsScript script → (actors : List ℕ) (r : RunState) → IsReached script r → AreWithin script r.core r.places → (a : ℕ) (op : Op) → op_in script (turned script r actors) a ≡ Some op → ((turned script r actors).places a).far < most_turns script op
+pub within_turned : Law → Published → (script : ScriptValue) → IsScript script → (actors : List ℕ) (r : RunState) → IsReached script r → AreWithin script r.core r.places → (a : ℕ) (op : Op) → op_in script (turned script r actors) a ≡ Some op → ((turned script r actors).places a).far < most_turns_of script op
 within_turned law published script valid [] r h within a op is = few_turns published script valid r h within a op is
 within_turned law published script valid (b ∷ actors) r h within a op is =
     within_turned law published script valid actors (run_after script r b) (reached_on law script valid r h b) (within_on law published script valid r h b within) a op is

@@ -6,7 +6,7 @@ ghost use Rattle.gup_script.specs.declared.op.Op.{Op};
 ghost use Rattle.gup_script.specs.Script.{ScriptValue};
 ghost use Rattle.gup_script.specs.Valid.{IsScript};
 ghost use Rattle.gup_spec_turns.specs.Run.{RunState, run_start, run_after, op_in, waiting_in, can_go};
-ghost use Rattle.gup_spec_turns.specs.Cost.{cost, operations, forks, most_turns, IsBoundedTurn};
+ghost use Rattle.gup_spec_turns.specs.Cost.{cost, operations, forks, most_turns_of, IsBoundedTurn};
 ghost use Rattle.gup_spec_turns.specs.Run.{turned};
 ghost use Rattle.gup_law_turns.specs.Standing.{IsStanding};
 
@@ -26,7 +26,7 @@ pub fn turns_are_spent()
 /// may have turns; for an exit these are 1,025 more than the pages of all the script's mappings.
 pub fn turns_are_bounded()
     ensures turn { (script : ScriptValue) (r : RunState) (a : ℕ) (op : Op) → IsScript script → IsStanding script r → op_in script r a ≡ Some op → waiting_in script r a ≡ None → IsBoundedTurn script r a op }
-    ensures within { (script : ScriptValue) (actors : List ℕ) (a : ℕ) (op : Op) → IsScript script → let r = turned script (run_start script) actors in op_in script r a ≡ Some op → (r.places a).far < most_turns script op }
+    ensures within { (script : ScriptValue) (actors : List ℕ) (a : ℕ) (op : Op) → IsScript script → let r = turned script (run_start script) actors in op_in script r a ≡ Some op → (r.places a).far < most_turns_of script op }
 {
     gup_law_events::simulates();
     gup_law_events::starts_sound();

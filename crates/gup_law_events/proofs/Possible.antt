@@ -10,7 +10,7 @@ use Rattle.gup_plain.specs.Event.{page_numbers}
 use Rattle.gup_spec_events.specs.Event.{entry_of}
 use Rattle.std.proofs.lemmas.List.Elements.{All-nil}
 use Rattle.gup_law_base.proofs.Holders.{no_element, first_element}
-use Rattle.gup_spec_events.specs.State.{start}
+use Rattle.gup_spec_events.specs.State.{core_start}
 use Rattle.gup_spec_events.specs.Invariant.{AllCan}
 use Rattle.gup_law_events.specs.Possible.{first_born, one_run}
 
@@ -44,7 +44,7 @@ entries_apart same = let e : entry_of 3 false ≡ entry_of 3 true = cc in let wr
 ◌and_then◌ can rest = (can, rest)
 
 infixr 5 ◌and_then◌
-pub they_can_happen : AllCan (start 2 8 first_born) one_run
+pub they_can_happen : AllCan (core_start 2 8 first_born) one_run
 they_can_happen =
     (refl, (refl, refl), few_pages, (λ k inside. refl), omega arith)
     and_then (tt, refl, omega arith, refl)

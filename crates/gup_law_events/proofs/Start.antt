@@ -2,7 +2,7 @@
 use Rattle.std.proofs.Common.{◌≡◌, ℕ, Bool, true, false, [], refl, arith}
 use Rattle.std.specs.Prelude.{Option, Some, None, if◌then◌else◌}
 use Rattle.gup_plain.specs.State.{born, unborn, growing}
-use Rattle.gup_spec_events.specs.State.{start}
+use Rattle.gup_spec_events.specs.State.{core_start}
 use Rattle.gup_spec_events.specs.Invariant.{Holder, entry_of_page, cleared_by, prepared_by, owed_by, got_as, page_of_pin, page_taken, grabbed_by}
 use Rattle.gup_law_base.specs.Sound.{View, held, held_by_walk, Tally, IsSound}
 use Rattle.gup_law_base.proofs.Holders.{no_element}
@@ -41,7 +41,7 @@ not_growing : (b : Bool) (p : ℕ) → (if b then born else unborn) ≡ growing 
 not_growing true p is = absurd (cc)
 not_growing false p is = absurd (cc)
 
-pub sound_start : (movable normal : ℕ) (is_born : ℕ → Bool) → IsSound (start movable normal is_born)
+pub sound_start : (movable normal : ℕ) (is_born : ℕ → Bool) → IsSound (core_start movable normal is_born)
 sound_start movable normal is_born = (
   nothing,
   record {

@@ -22,7 +22,7 @@ use Rattle.gup_spec_turns.specs.Cost.{operations}
 use Rattle.gup_spec_turns.specs.Pages.{sum_below}
 use Rattle.gup_spec_turns.specs.ForkPlace.{ForkPlace}
 use Rattle.gup_law_turns.specs.Standing.{IsStanding}
-use Rattle.gup_spec_turns.specs.Run.{RunState, AreTurns, run_start, run_after, taken_by, taken_in, op_in, waiting_in}
+use Rattle.gup_spec_turns.specs.Run.{RunState, AreTurns, run_start, run_after, core_turn_by, core_turn_in, op_in, waiting_in}
 use Rattle.gup_law_turns.proofs.Puts.{by_points, put_same, put_other, put_own}
 use Rattle.gup_law_turns.proofs.Rightness.{unrefused_short, not_both}
 use Rattle.gup_law_turns.proofs.ScriptLemmas.{has_ops_declared}
@@ -129,7 +129,7 @@ known_turns law script valid (turn ∷ turns) number r end h are =
     let next = run_after script r a in
     let later = known_turns law script valid turns (number + 1) next end (stands_on law script valid r h a) are.1 in
     let here = known_taken (taken script valid r h a).shape in
-    let both = known_notes number a ((r.places a).answered + 1) (taken_in script r a).whats (journal_of (number + 1) next.places turns) here later in
+    let both = known_notes number a ((r.places a).answered + 1) (core_turn_in script r a).whats (journal_of (number + 1) next.places turns) here later in
     subst (λ (t : Turn). AreKnown (journal_of number r.places (t ∷ turns))) (sym are.0) both
 
 -- how many operations are answered
@@ -174,22 +174,22 @@ turn_answers script places a whats there =
     omega (arith, one, here, counts)
 
 -- what a turn answers is added to what is answered
-turn_counts : (script : ScriptValue) (r : RunState) (a : ℕ) → all_answered script (run_after script r a).places ≡ all_answered script r.places + answers_in (taken_in script r a).whats
+turn_counts : (script : ScriptValue) (r : RunState) (a : ℕ) → all_answered script (run_after script r a).places ≡ all_answered script r.places + answers_in (core_turn_in script r a).whats
 turn_counts script r a = go (nat_le (length script.actors) a) refl
   where
-    idle_counts : (o : Option Op) → op_in script r a ≡ o → o ≡ None → all_answered script (run_after script r a).places ≡ all_answered script r.places + answers_in (taken_in script r a).whats
+    idle_counts : (o : Option Op) → op_in script r a ≡ o → o ≡ None → all_answered script (run_after script r a).places ≡ all_answered script r.places + answers_in (core_turn_in script r a).whats
     idle_counts o is none =
-        let idle : (taken_in script r a).whats ≡ Idle ∷ [] = ap (λ (x : Option Op). (taken_by r.core (doer script a) (r.places a).far x (waiting_in script r a)).whats) (is ∙ none) in
+        let idle : (core_turn_in script r a).whats ≡ Idle ∷ [] = ap (λ (x : Option Op). (core_turn_by r.core (doer script a) (r.places a).far x (waiting_in script r a)).whats) (is ∙ none) in
         let places : (run_after script r a).places ≡ r.places = ap (λ (ws : List What). put a (place_behind (r.places a) ws) r.places) idle ∙ put_own a r.places in
         let same = ap (all_answered script) places in
-        let nothing : answers_in (taken_in script r a).whats ≡ 0 = ap answers_in idle in
+        let nothing : answers_in (core_turn_in script r a).whats ≡ 0 = ap answers_in idle in
         omega (arith, same, nothing)
 
-    go : (c : Bool) → nat_le (length script.actors) a ≡ c → all_answered script (run_after script r a).places ≡ all_answered script r.places + answers_in (taken_in script r a).whats
+    go : (c : Bool) → nat_le (length script.actors) a ≡ c → all_answered script (run_after script r a).places ≡ all_answered script r.places + answers_in (core_turn_in script r a).whats
     go true past =
         let far = leb-true (length script.actors) a past in
         idle_counts (op_in script r a) refl (undeclared_by script r a (op_in script r a) refl (λ less. omega (arith, far, less)))
-    go false there = turn_answers script r.places a (taken_in script r a).whats (leb-false (length script.actors) a there)
+    go false there = turn_answers script r.places a (core_turn_in script r a).whats (leb-false (length script.actors) a there)
 
 pub turns_count : (script : ScriptValue) (turns : List Turn) (number : ℕ) (r end : RunState) → AreTurns script r turns end → all_answered script end.places ≡ all_answered script r.places + answered_in (journal_of number r.places turns)
 turns_count script [] number r end are =
@@ -200,7 +200,7 @@ turns_count script (turn ∷ turns) number r end are =
     let next = run_after script r a in
     let later = turns_count script turns (number + 1) next end are.1 in
     let here = turn_counts script r a in
-    let whats : turn.whats ≡ (taken_in script r a).whats = ap (λ (t : Turn). t.whats) are.0 in
+    let whats : turn.whats ≡ (core_turn_in script r a).whats = ap (λ (t : Turn). t.whats) are.0 in
     let places : places_behind r.places turn ≡ next.places = ap (λ (ws : List What). put a (place_behind (r.places a) ws) r.places) whats in
     let rest : journal_of (number + 1) (places_behind r.places turn) turns ≡ journal_of (number + 1) next.places turns = ap (λ (q : ℕ → Place). journal_of (number + 1) q turns) places in
     let both = answers_behind number a ((r.places a).answered + 1) turn.whats (journal_of (number + 1) (places_behind r.places turn) turns) in

@@ -26,8 +26,8 @@ use Rattle.gup_spec_journal.specs.Place.{Doer, doer, birth_for}
 use Rattle.gup_spec_turns.specs.Cause.{AreHeld, allowed_of, MayBeShared, NeedsOwn, NeedsWritable, NeedsForPin, NeedsFor, LacksFrame, LacksExactly}
 use Rattle.gup_spec_turns.specs.ForkPlace.{ForkPlace, copying_place, fork_place}
 use Rattle.gup_spec_turns.specs.Reached.{unbegun, from_page, at_page, wants_frame, at_word}
-use Rattle.gup_spec_turns.specs.Run.{RunState, op_in, waiting_in, waiting_with, taken_by, turn_in}
-use Rattle.gup_spec_turns.specs.Taken.{Taken, answers_with, free_frame, allows_store, silent_or_done}
+use Rattle.gup_spec_turns.specs.Run.{RunState, op_in, waiting_in, waiting_with, core_turn_by, turn_in}
+use Rattle.gup_spec_turns.specs.CoreTurn.{CoreTurn, answers_with, free_frame, allows_store, silent_or_done}
 use Rattle.gup_spec_turns.specs.ForkTurns.{first_behind, next_page, page_turn, next_turn, frame_turn, copy_turn, copying_turn, fork_turn}
 use Rattle.gup_spec_turns.specs.Waits.{waits_born}
 use Rattle.gup_spec_turns.specs.PageTurns.{loads_after, load_turn, stores_after, store_fault_by, store_turn, map_turn_by, unmap_turn_by, protect_turn_by, discard_turn_by, lowest_page, exit_turn_by}
@@ -90,20 +90,20 @@ lacking cause whats have (inr (got, wanted, (k, less, is))) = cause_at cause wha
 abbrev Finds : CoreState → (needs : Type 0) → Type 0
 Finds s needs = needs × (free_frame s ≡ None)
 
-record IsExact (s : CoreState) (needs : Type 0) (turn : Taken) : Type 0 where
+record IsExact (s : CoreState) (needs : Type 0) (turn : CoreTurn) : Type 0 where
   only : HaveCause (Finds s needs) turn.whats
   always : needs → free_frame s ≡ None → LacksFrame turn.whats
 
 -- a turn that never answers so, and needs none
 
-abbrev NeverWants : Taken → Type 0
+abbrev NeverWants : CoreTurn → Type 0
 NeverWants turn = HaveCause ⊥ turn.whats
 
 have_any : (cause : Type 0) (whats : List What) → HaveCause ⊥ whats → HaveCause cause whats
 have_any cause [] never = tt
 have_any cause (what ∷ whats) never = ((λ want. absurd (never.0 want)), have_any cause whats never.1)
 
-exact_never : (s : CoreState) (needs : Type 0) (turn : Taken) → (needs → ⊥) → NeverWants turn → IsExact s needs turn
+exact_never : (s : CoreState) (needs : Type 0) (turn : CoreTurn) → (needs → ⊥) → NeverWants turn → IsExact s needs turn
 exact_never s needs turn none never = record { only = have_any (Finds s needs) turn.whats never; always = λ need free. absurd (none need) }
 
 -- an answer that is a refusal of an operation that never wants a frame
@@ -384,7 +384,7 @@ module _ (s : CoreState) (a p : ℕ) where
       exact_never s ((g : ℕ) × (at_word page word to ≡ wants_frame g)) (copy_turn s a p c done page word to (nat_lt word words)) (unneeded (at_word page word to) (λ g is. cc is)) (copy_cause c done page word to (nat_lt word words))
 
   -- a turn of a fork that stands elsewhere
-  elsewhere : (x : ForkPlace) (turn : Taken) → ((g : ℕ) → x ≡ wants_frame g → ⊥) → NeverWants turn → IsExact s ((g : ℕ) × (x ≡ wants_frame g)) turn
+  elsewhere : (x : ForkPlace) (turn : CoreTurn) → ((g : ℕ) → x ≡ wants_frame g → ⊥) → NeverWants turn → IsExact s ((g : ℕ) × (x ≡ wants_frame g)) turn
   elsewhere x turn none never = exact_never s ((g : ℕ) × (x ≡ wants_frame g)) turn (unneeded x none) never
 
   fork_exact : (child : ℕ) (job : Job) → IsExact s ((g : ℕ) × (fork_place job (s.prepared a) ≡ wants_frame g)) (fork_turn s a p child job)
@@ -401,7 +401,7 @@ module _ (s : CoreState) (a p : ℕ) where
   fork_exact child (forking q c done failing) = elsewhere unbegun (fork_turn s a p child (forking q c done failing)) (λ g is. cc is) ((λ e. absurd e), tt)
 
   -- the turn of an operation that takes no frames
-  never : (turn : Taken) → NeverWants turn → IsExact s ⊥ turn
+  never : (turn : CoreTurn) → NeverWants turn → IsExact s ⊥ turn
   never turn wants = exact_never s ⊥ turn (λ e. e) wants
 
   op_exact : (slots far : ℕ) (op : Op) → IsExact s (NeedsFor s a p far op) (op_turn s a p slots far op)
@@ -458,15 +458,15 @@ none_held s op none f below allowed free = no_frame_free s none f below free
 abbrev NeedsAt : CoreState → Doer → (far : ℕ) → Option Op → Option Waiting → Op → Type 0
 NeedsAt s who far present waiting op = (present ≡ Some op) × (waiting ≡ None) × (birth_for s.birth who ≡ born) × NeedsFor s who.actor who.proc far op
 
-finds_only : (s : CoreState) (who : Doer) (far : ℕ) (present : Option Op) (waiting : Option Waiting) → waiting_with s who present ≡ waiting → LacksFrame (taken_by s who far present waiting).whats → (op : Op) × NeedsAt s who far present waiting op × AreHeld s (allowed_of op)
+finds_only : (s : CoreState) (who : Doer) (far : ℕ) (present : Option Op) (waiting : Option Waiting) → waiting_with s who present ≡ waiting → LacksFrame (core_turn_by s who far present waiting).whats → (op : Op) × NeedsAt s who far present waiting op × AreHeld s (allowed_of op)
 finds_only s who far None waiting is lacks = absurd (lacking ⊥ (Idle ∷ []) ((λ e. e), tt) lacks)
 finds_only s who far (Some op) (Some waiting) is lacks = absurd (lacking ⊥ (Wait waiting ∷ []) ((λ e. e), tt) lacks)
 finds_only s who far (Some op) None is lacks = go (waits_no_birth (birth_for s.birth who) who.proc (waits_born s who.actor who.proc op) is)
   where
-    refused : Taken
+    refused : CoreTurn
     refused = failed_turn who.actor who.proc op
 
-    turn : Taken
+    turn : CoreTurn
     turn = op_turn s who.actor who.proc who.slots far op
 
     go : (birth_for s.birth who ≡ born) ⊎ (birth_for s.birth who ≡ failed) → (o : Op) × NeedsAt s who far (Some op) None o × AreHeld s (allowed_of o)
@@ -477,15 +477,15 @@ finds_only s who far (Some op) None is lacks = go (waits_no_birth (birth_for s.b
     go (inr birth) =
         absurd (lacking ⊥ refused.whats (failed_cause s who.actor who.proc op) (subst (λ (b : Birth). LacksFrame (turn_at b refused turn).whats) birth lacks))
 
-finds_always : (s : CoreState) (who : Doer) (far : ℕ) (present : Option Op) (waiting : Option Waiting) (op : Op) → NeedsAt s who far present waiting op → AreHeld s (allowed_of op) → LacksFrame (taken_by s who far present waiting).whats
+finds_always : (s : CoreState) (who : Doer) (far : ℕ) (present : Option Op) (waiting : Option Waiting) (op : Op) → NeedsAt s who far present waiting op → AreHeld s (allowed_of op) → LacksFrame (core_turn_by s who far present waiting).whats
 finds_always s who far present waiting op needs held =
     let exact = op_exact s who.actor who.proc who.slots far op in
     let lacks : LacksFrame (op_turn s who.actor who.proc who.slots far op).whats = exact.always needs.3 (held_none s op held) in
-    let refused : Taken = failed_turn who.actor who.proc op in
-    let turn : Taken = op_turn s who.actor who.proc who.slots far op in
-    let born_turn : LacksFrame (taken_by s who far (Some op) None).whats = subst (λ (b : Birth). LacksFrame (turn_at b refused turn).whats) (sym needs.2) lacks in
-    let free : LacksFrame (taken_by s who far (Some op) waiting).whats = subst (λ (w : Option Waiting). LacksFrame (taken_by s who far (Some op) w).whats) (sym needs.1) born_turn in
-    subst (λ (o : Option Op). LacksFrame (taken_by s who far o waiting).whats) (sym needs.0) free
+    let refused : CoreTurn = failed_turn who.actor who.proc op in
+    let turn : CoreTurn = op_turn s who.actor who.proc who.slots far op in
+    let born_turn : LacksFrame (core_turn_by s who far (Some op) None).whats = subst (λ (b : Birth). LacksFrame (turn_at b refused turn).whats) (sym needs.2) lacks in
+    let free : LacksFrame (core_turn_by s who far (Some op) waiting).whats = subst (λ (w : Option Waiting). LacksFrame (core_turn_by s who far (Some op) w).whats) (sym needs.1) born_turn in
+    subst (λ (o : Option Op). LacksFrame (core_turn_by s who far o waiting).whats) (sym needs.0) free
 
 -- of any actor's turn, from any state
 pub lacks_exactly : (script : ScriptValue) (r : RunState) (a : ℕ) → LacksExactly script r (turn_in script r a)

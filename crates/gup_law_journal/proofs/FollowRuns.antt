@@ -13,7 +13,7 @@ use Rattle.gup_spec_journal.specs.Follows.{own_notes, notes_of_turn, AreBehind}
 use Rattle.gup_spec_journal.specs.Order.{Turn, journal_of, waiting_at, waiting_of, finished_in, handle_waits, IsOverAt}
 use Rattle.gup_spec_journal.specs.Place.{Place, Doer, doer, place_behind, process_of, ops_of}
 use Rattle.gup_spec_turns.specs.ForkPlace.{ForkPlace, place_in}
-use Rattle.gup_spec_turns.specs.Run.{RunState, AreTurns, AreBetween, run_after, op_in, taken_in, can_go}
+use Rattle.gup_spec_turns.specs.Run.{RunState, AreTurns, AreBetween, run_after, op_in, core_turn_in, can_go}
 use Rattle.gup_law_journal.proofs.Following.{LeftAt, Left, ops_split, ops_over, turn_left, other_left}
 use Rattle.gup_law_journal.proofs.Ordering.{ordered_of, is_over, finished_is}
 use Rattle.gup_law_journal.proofs.Owning.{own_append, own_behind, journal_behind}
@@ -85,10 +85,10 @@ abbrev stands_at : RunState → ℕ → ForkPlace
 stands_at r a = place_in r.core a
 
 -- what a turn of actor b does to what is left of actor a
-turn_of_any : (script : ScriptValue) (valid : IsScript script) (r : RunState) (h : Stands script r) (b t a : ℕ) (later : List NoteValue) (own : Bool) → AreBehind t later → (a == b) ≡ own → LeftOf script a (if own then place_behind (r.places b) (taken_in script r b).whats else r.places a) (stands_at (run_after script r b) a) later → LeftOf script a (r.places a) (stands_at r a) (own_notes a (notes_of_turn t b ((r.places b).answered + 1) (taken_in script r b).whats) ++ later)
+turn_of_any : (script : ScriptValue) (valid : IsScript script) (r : RunState) (h : Stands script r) (b t a : ℕ) (later : List NoteValue) (own : Bool) → AreBehind t later → (a == b) ≡ own → LeftOf script a (if own then place_behind (r.places b) (core_turn_in script r b).whats else r.places a) (stands_at (run_after script r b) a) later → LeftOf script a (r.places a) (stands_at r a) (own_notes a (notes_of_turn t b ((r.places b).answered + 1) (core_turn_in script r b).whats) ++ later)
 turn_of_any script valid r h b t a later true after e left =
     let same : a ≡ b = eqb-true a b e in
-    let whats = (taken_in script r b).whats in
+    let whats = (core_turn_in script r b).whats in
     let behind = place_behind (r.places b) whats in
     let here : LeftOf script b behind (stands_at (run_after script r b) b) later = subst (λ (k : ℕ). LeftOf script k behind (stands_at (run_after script r b) k) later) same left in
     let before = turn_left (doer script b) t (r.places b) (ops_of script b) later after (taken script valid r h b).shape refl here in
@@ -96,7 +96,7 @@ turn_of_any script valid r h b t a later true after e left =
 turn_of_any script valid r h b t a later false after e left =
     let apart : a ≡ b → ⊥ = λ same. let yes = eq-eqb a b same in cc in
     let here : LeftOf script a (r.places a) (stands_at r a) later = subst (λ (at : ForkPlace). LeftOf script a (r.places a) at later) (places_stay script valid r h b a apart) left in
-    other_left a (process_of script a) b t ((r.places b).answered + 1) (r.places a) (stands_at r a) (ops_of script a) (taken_in script r b).whats later (grind (arith, nat_tests)) here
+    other_left a (process_of script a) b t ((r.places b).answered + 1) (r.places a) (stands_at r a) (ops_of script a) (core_turn_in script r b).whats later (grind (arith, nat_tests)) here
 
 pub follows_turns : Law → (script : ScriptValue) → IsScript script → (turns : List Turn) (number : ℕ) (r end : RunState) → Stands script r → AreTurns script r turns end → AreBetween script end → (a : ℕ) → LeftOf script a (r.places a) (stands_at r a) (own_notes a (journal_of number r.places turns))
 follows_turns law script valid [] number r end h are between a = nothing_left script r (subst (AreBetween script) (sym are) between) a (op_in script r a) refl (stands_at r a)
@@ -104,7 +104,7 @@ follows_turns law script valid (turn ∷ turns) number r end h are between a =
     let b = turn.actor in
     let next = run_after script r b in
     let rest = journal_of (number + 1) next.places turns in
-    let now = notes_of_turn number b ((r.places b).answered + 1) (taken_in script r b).whats in
+    let now = notes_of_turn number b ((r.places b).answered + 1) (core_turn_in script r b).whats in
     let later = follows_turns law script valid turns (number + 1) next end (stands_on law script valid r h b) are.1 between a in
     let both = turn_of_any script valid r h b number a (own_notes a rest) (a == b) (own_behind a number rest (journal_behind number (number + 1) next.places turns (omega arith))) refl later in
     let whole : LeftOf script a (r.places a) (stands_at r a) (own_notes a (now ++ rest)) = subst (LeftOf script a (r.places a) (stands_at r a)) (sym (own_append a now rest)) both in

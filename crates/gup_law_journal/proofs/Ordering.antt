@@ -17,7 +17,7 @@ use Rattle.gup_spec_journal.specs.Order.{Turn, Ordered, Moves, IsWrittenTurn, Is
 use Rattle.gup_spec_journal.specs.Place.{Place, Doer, doer, birth_for, process_of, ops_of}
 use Rattle.gup_spec_turns.specs.ForkPlace.{ForkPlace}
 use Rattle.gup_spec_turns.specs.Waits.{waits_at, waits_born, first_waiting}
-use Rattle.gup_spec_turns.specs.Run.{RunState, Runs, next_actor, next_by, written_in, turn_in, run_after, op_in, waiting_with, waiting_in, taken_in, is_ready, can_go}
+use Rattle.gup_spec_turns.specs.Run.{RunState, Runs, next_actor, next_by, written_in, turn_in, run_after, op_in, waiting_with, waiting_in, core_turn_in, is_ready, can_go}
 use Rattle.gup_law_journal.proofs.Holding.{IsInFork, locks_of, needs_lock, waits_for_fork, fork_can_go}
 use Rattle.gup_law_turns.proofs.ScriptLemmas.{has_ops_declared}
 use Rattle.gup_law_journal.proofs.Pointer.{PointerFits, IsFirstToGo, pointed_some, none_can_go, pointer_fits}
@@ -188,7 +188,7 @@ module _ (script : ScriptValue) (valid : IsScript script) (r : RunState) (h : St
         waits_so = λ o is. subst (λ (x : Option Op). SeesWaiting (MayHold script (ordered_of r) a) (seen x) (waiting_with r.core who x)) (sym is) (sees_waiting a o is (birth_for r.core.birth who) refl);
       }
 
-  turn_written : (a : ℕ) → IsWrittenTurn (finished_in script (ordered_of r) a) (waiting_of script (ordered_of r) a) (MayHold script (ordered_of r) a) (taken_in script r a).whats
+  turn_written : (a : ℕ) → IsWrittenTurn (finished_in script (ordered_of r) a) (waiting_of script (ordered_of r) a) (MayHold script (ordered_of r) a) (core_turn_in script r a).whats
   turn_written a = written_right (taken script valid r h a).shape (sees a)
 
   pub is_passed : (a : ℕ) → can_go script r a ≡ false → IsPassed script (ordered_of r) a

@@ -2,7 +2,7 @@
 use Rattle.std.proofs.Common.{◌≡◌, ℕ, Bool, false, List, [], ◌∷◌, Option, None, refl}
 use Rattle.gup_base.specs.declared.entry.Entry.{Entry}
 use Rattle.gup_base.specs.declared.entry.Rights.{Rights}
-use Rattle.gup_spec_events.specs.State.{CoreState, ForkStep, start}
+use Rattle.gup_spec_events.specs.State.{CoreState, ForkStep, core_start}
 use Rattle.gup_spec_events.specs.Event.{CoreEvent, take_frame, fill, count_one, set_mark, upgrade, break_entry, put_entry, map_pages, lower_entry, protect_pages, drop_entry, discard_entry, load, store, raise_flag, pin_page, make_handle, unpin_page, give_handle, take_handle, move_out, move_in, begin_fork, count_page, share_entry, share_mark, share_child, copy_word, place_child, pass_page, end_fork, fail_fork, put_child, fail_unborn}
 
 -- no mirror is filled, and nothing is got
@@ -10,7 +10,7 @@ pub record IsCalm (s : CoreState) : Type 0 where
   pub unmirrored : (m : ℕ) → s.mirrored m ≡ None
   pub no_gets : (k : ℕ) → s.got k ≡ None
 
-pub starts_calm : (movable normal : ℕ) (is_born : ℕ → Bool) → IsCalm (start movable normal is_born)
+pub starts_calm : (movable normal : ℕ) (is_born : ℕ → Bool) → IsCalm (core_start movable normal is_born)
 starts_calm movable normal is_born = record { unmirrored = λ m. refl; no_gets = λ k. refl }
 
 -- What an operation is about, beside its process: pages alone, the pin that it makes, or one that it gives, takes, gives

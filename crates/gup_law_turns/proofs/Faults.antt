@@ -17,7 +17,7 @@ use Rattle.gup_spec_events.specs.Invariant.{AllCan, entry_of_page, frame_of, wei
 use Rattle.gup_law_base.specs.Sound.{IsSound, held}
 use Rattle.gup_law_events.specs.Law.{all_told}
 use Rattle.gup_spec_journal.specs.Plain.{IsAnswerOf}
-use Rattle.gup_spec_turns.specs.Taken.{free_frame, frame_in, allows_store}
+use Rattle.gup_spec_turns.specs.CoreTurn.{free_frame, frame_in, allows_store}
 use Rattle.gup_spec_turns.specs.PinTurns.{pin_fault}
 use Rattle.gup_law_turns.proofs.Calm.{IsCalm, Strand, AreTurnEvents, taking, filling, counting_one, marking_it, upgrading, breaking, putting}
 use Rattle.gup_law_turns.proofs.Puts.{put_same, put_other, put2_same}

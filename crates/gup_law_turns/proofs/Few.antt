@@ -6,7 +6,7 @@ use Rattle.gup_base.specs.declared.entry.Rights.{Rights}
 use Rattle.gup_plain.specs.Put.{put, put2, spread}
 use Rattle.gup_plain.specs.Event.{most_pages, page_numbers}
 use Rattle.gup_plain.specs.State.{Birth, unborn, growing, born, failed}
-use Rattle.gup_spec_events.specs.State.{CoreState, start, ForkStep, between, counted, lowered, cleared, copying, failing}
+use Rattle.gup_spec_events.specs.State.{CoreState, core_start, ForkStep, between, counted, lowered, cleared, copying, failing}
 use Rattle.gup_spec_events.specs.Event.{CoreEvent, Can, happens, MayFail, is_odd, map_pages, protect_pages, drop_entry, begin_fork, end_fork, fail_fork, fail_unborn, run}
 use Rattle.gup_spec_events.specs.Invariant.{AllCan}
 use Rattle.gup_law_base.specs.Sound.{IsSound, Forking, forking_of, is_failing}
@@ -217,7 +217,7 @@ few_handles n s a handle [] kinds h = h
 few_handles n s a handle (e ∷ es) kinds h = few_handles n (happens s e) a handle es kinds.1 (few_handle n s a handle e kinds.0 h)
 
 -- at the start there are none
-pub few_first : (n movable normal : ℕ) (is_born : ℕ → Bool) → IsFew n (start movable normal is_born)
+pub few_first : (n movable normal : ℕ) (is_born : ℕ → Bool) → IsFew n (core_start movable normal is_born)
 few_first n movable normal is_born =
     let none = mapped_none (λ _. None) (λ k. refl) in
     record {

@@ -13,8 +13,8 @@ use Rattle.gup_spec_events.specs.Event.{CoreEvent, run}
 use Rattle.gup_spec_journal.specs.Follows.{refuses}
 use Rattle.gup_spec_journal.specs.Place.{Place, Doer, place_behind, birth_for}
 use Rattle.gup_spec_turns.specs.ForkPlace.{ForkPlace}
-use Rattle.gup_spec_turns.specs.Run.{taken_by}
-use Rattle.gup_spec_turns.specs.Taken.{Taken}
+use Rattle.gup_spec_turns.specs.Run.{core_turn_by}
+use Rattle.gup_spec_turns.specs.CoreTurn.{CoreTurn}
 use Rattle.gup_spec_turns.specs.Turn.{turn_at, failed_turn, op_turn}
 use Rattle.gup_spec_turns.specs.PinTurns.{unpin_turn, unpin_turn_by, last_of, but_last, give_turn, give_turn_by, take_turn}
 use Rattle.gup_spec_turns.specs.DeviceTurns.{transfer_turn, transfer_turn_by, word_turn, frame_at, moves_value}
@@ -76,17 +76,17 @@ about_transfer None s a h outward last index slot =
     about_word a h outward last index slot (frame_at (s.pinned h) index) (moves_value s a outward index slot (frame_at (s.pinned h) index))
 
 -- a process that failed refuses it without an event
-about_by : (a h : ℕ) (birth : Birth) (refused turn : Taken) → refused.events ≡ [] → AreHandleEvents a h turn.events → AreHandleEvents a h (turn_at birth refused turn).events
+about_by : (a h : ℕ) (birth : Birth) (refused turn : CoreTurn) → refused.events ≡ [] → AreHandleEvents a h turn.events → AreHandleEvents a h (turn_at birth refused turn).events
 about_by a h unborn refused turn none about = about
 about_by a h (growing parent) refused turn none about = about
 about_by a h born refused turn none about = about
 about_by a h failed refused turn none about = subst (AreHandleEvents a h) (sym none) tt
 
-abbrev IsTurnGoing : CoreState → Doer → Place → Taken → List What → Type 0
+abbrev IsTurnGoing : CoreState → Doer → Place → CoreTurn → List What → Type 0
 IsTurnGoing s who place turn whats =
     IsAboutHandle who.actor turn.events ⊎ IsGoing place who.proc s (run s turn.events) whats
 
-going_by : {place : Place} {whats : List What} (s : CoreState) (who : Doer) (far : ℕ) (op : Op) → (IsOfProcess op → s.birth who.proc ≡ born) → ((k : ℕ) → IsAhead (place_behind place whats) k → place.answered < k) → IsTurnGoing s who place (taken_by s who far (Some op) None) whats
+going_by : {place : Place} {whats : List What} (s : CoreState) (who : Doer) (far : ℕ) (op : Op) → (IsOfProcess op → s.birth who.proc ≡ born) → ((k : ℕ) → IsAhead (place_behind place whats) k → place.answered < k) → IsTurnGoing s who place (core_turn_by s who far (Some op) None) whats
 going_by s who far (Map page n rights) own later = inr (record { birth = inl (own tt); later = later })
 going_by s who far (Unmap page n) own later = inr (record { birth = inl (own tt); later = later })
 going_by s who far (Protect page n rights) own later = inr (record { birth = inl (own tt); later = later })
@@ -137,19 +137,19 @@ unborn_silent a p (Transfer handle outward index slot n) refusal = refl
 unborn_silent a p (Fork child) refusal = absurd (cc refusal)
 unborn_silent a p Exit refusal = refl
 
-failed_taken : (s : CoreState) (who : Doer) (far : ℕ) (op : Op) → birth_for s.birth who ≡ failed → failed_turn who.actor who.proc op ≡ taken_by s who far (Some op) None
+failed_taken : (s : CoreState) (who : Doer) (far : ℕ) (op : Op) → birth_for s.birth who ≡ failed → failed_turn who.actor who.proc op ≡ core_turn_by s who far (Some op) None
 failed_taken s who far op birth =
     ap (λ (b : Birth). turn_at b (failed_turn who.actor who.proc op) (op_turn s who.actor who.proc who.slots far op)) (sym birth)
 
-pub still_or_going : {place : Place} {from to : ForkPlace} {whats : List What} {op : Option Op} {waiting : Option Waiting} (s : CoreState) (who : Doer) (far : ℕ) → TurnAt (plain_of s) who place op waiting from whats to → IsTurnGoing s who place (taken_by s who far op waiting) whats
+pub still_or_going : {place : Place} {from to : ForkPlace} {whats : List What} {op : Option Op} {waiting : Option Waiting} (s : CoreState) (who : Doer) (far : ℕ) → TurnAt (plain_of s) who place op waiting from whats to → IsTurnGoing s who place (core_turn_by s who far op waiting) whats
 still_or_going s who far (idles waiting at) = inl (0, tt)
 still_or_going s who far (waits op waiting at) = inl (0, tt)
 still_or_going s who far (goes op whats from to birth own turn) = going_by s who far op own (ahead_on (op_behind s (Some op) turn))
 still_or_going s who far (unborn_refused op birth first refusal) =
-    let none : (taken_by s who far (Some op) None).events ≡ [] = ap (λ (turn : Taken). turn.events) (sym (failed_taken s who far op birth)) ∙ unborn_silent who.actor who.proc op refusal in
+    let none : (core_turn_by s who far (Some op) None).events ≡ [] = ap (λ (turn : CoreTurn). turn.events) (sym (failed_taken s who far op birth)) ∙ unborn_silent who.actor who.proc op refusal in
     inl (0, subst (AreHandleEvents who.actor 0) (sym none) tt)
 still_or_going {place = place} s who far (unborn_fork child birth own first) =
-    let kept : (run s (taken_by s who far (Some (Fork child)) None).events).entry who.proc ≡ s.entry who.proc = subst (λ (turn : Taken). (run s turn.events).entry who.proc ≡ s.entry who.proc) (failed_taken s who far (Fork child) birth) refl in
+    let kept : (run s (core_turn_by s who far (Some (Fork child)) None).events).entry who.proc ≡ s.entry who.proc = subst (λ (turn : CoreTurn). (run s turn.events).entry who.proc ≡ s.entry who.proc) (failed_taken s who far (Fork child) birth) refl in
     inr (record { birth = inr (own, kept); later = λ k ahead. ahead_next place.answered k ahead })
 
 -- only an actor that waits for no birth comes into the middle of an operation

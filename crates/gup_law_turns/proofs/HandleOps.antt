@@ -12,7 +12,7 @@ use Rattle.gup_plain.specs.declared.answer.Answer.TheVariants as answers
 use Rattle.gup_plain.specs.declared.event.PlainEvent.TheVariants as events
 use Rattle.gup_plain.specs.declared.note.What.{What}
 use Rattle.gup_plain.specs.declared.note.What.TheVariants.{Event, Done}
-use Rattle.gup_script.specs.Limits.{most_slots}
+use Rattle.gup_base.specs.Counts.{most_slots}
 use Rattle.gup_script.specs.declared.op.Op.{Op}
 use Rattle.gup_script.specs.declared.op.Op.TheVariants.{Unpin, Give, Take, Transfer}
 use Rattle.gup_spec_events.specs.State.{CoreState, idle, plain_of}
@@ -24,7 +24,7 @@ use Rattle.gup_spec_journal.specs.Order.{is_given_to, taking_waits, handle_waits
 use Rattle.gup_spec_journal.specs.Place.{Place, Doer}
 use Rattle.gup_spec_journal.specs.Plain.{IsAnswerOf, Passes}
 use Rattle.gup_spec_turns.specs.Reached.{unbegun}
-use Rattle.gup_spec_turns.specs.Taken.{answers_with}
+use Rattle.gup_spec_turns.specs.CoreTurn.{answers_with}
 use Rattle.gup_spec_turns.specs.PinTurns.{last_of, but_last, unpinned, unpin_turn_by, unpin_turn, give_turn_by, give_turn, take_turn}
 use Rattle.gup_spec_turns.specs.DeviceTurns.{frame_at, moves_value, transfer_turn_by, transfer_turn}
 use Rattle.gup_law_turns.proofs.Calm.{of_handle, IsHandleEvent, unpinning, giving, taking_over, moving_out, moving_in, handling}

@@ -7,7 +7,7 @@ use Rattle.gup_plain.specs.Event.{IsHeldBy, IsGivenTo, given_to, held_by}
 use Rattle.gup_plain.specs.Put.{put}
 use Rattle.gup_plain.specs.State.{Birth, unborn, growing, born, failed, Handle, unmade, held, given, gone}
 use Rattle.gup_spec_events.specs.State.{CoreState, Taken, idle}
-use Rattle.gup_spec_events.specs.Event.{CoreEvent, Can, happens, raise_flag, pin_page, make_handle, unpin_page, give_handle, take_handle, frames_of, objects_taken, writes_taken, run}
+use Rattle.gup_spec_events.specs.Event.{CoreEvent, Can, happens, raise_flag, pin_page, make_handle, unpin_page, give_handle, take_handle, taken_frames, objects_taken, writes_taken, run}
 use Rattle.gup_spec_events.specs.Invariant.{AllCan}
 use Rattle.gup_law_base.specs.Sound.{IsSound, Forking, forking_of, birth_of_child, is_failing}
 use Rattle.gup_law_turns.proofs.Calm.{IsCalm, Strand, of_pin, of_handle, IsTurnEvent, AreTurnEvents, taking, filling, counting_one, marking_it, upgrading, breaking, putting, mapping, lowering, protecting, dropping, discarding, loading, storing, raising, pinning, making, handling, IsHandleEvent, AreHandleEvents, unpinning, giving, taking_over, moving_out, moving_in, beginning, counting, sharing_entry, sharing_mark, sharing_child, passing, ending, copying_word, placing, failing_at, putting_child, failing_unborn}
@@ -358,7 +358,7 @@ module _ (s : CoreState) (a : ℕ) (strand : Strand) where
       let new : Handle = held a (objects_taken (s.taken a)) (writes_taken (s.taken a)) in
       changed_pin a h strand s (happens s (make_handle a h)) refl
       (λ b other. put_apart a b [] s.taken other)
-      (λ k other. record { handle = put_apart h k new s.handle other; pinned = put_apart h k (frames_of (s.taken a)) s.pinned other })
+      (λ k other. record { handle = put_apart h k new s.handle other; pinned = put_apart h k (taken_frames (s.taken a)) s.pinned other })
       (inl is)
       (λ making holding taking. making is can.1)
       (λ b other holds. other (sym (subst (λ (x : Handle). IsHeldBy x b) (put_same h new s.handle) holds)))

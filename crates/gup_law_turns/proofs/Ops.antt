@@ -27,7 +27,7 @@ use Rattle.gup_spec_journal.specs.Place.{Place, Doer}
 use Rattle.gup_spec_journal.specs.Follows.{refuses}
 use Rattle.gup_spec_journal.specs.Plain.{IsAnswerOf, Passes}
 use Rattle.gup_spec_turns.specs.Reached.{unbegun}
-use Rattle.gup_spec_turns.specs.Taken.{Taken, answers_with, free_frame, allows_store, frame_in, done_if, silent_or_done}
+use Rattle.gup_spec_turns.specs.CoreTurn.{CoreTurn, answers_with, free_frame, allows_store, frame_in, done_if, silent_or_done}
 use Rattle.gup_spec_turns.specs.PageTurns.{loads, loads_after, load_turn, stores, stores_after, store_fault_by, map_turn_by, unmap_turn_by, lowers_entry, lowers, lowers_for, protect_turn_by, discard_turn_by, lowest_page, exit_turn_by}
 use Rattle.gup_spec_turns.specs.Turn.{op_turn}
 use Rattle.gup_spec_turns.specs.Waits.{waits_for_locks, locks_needed, both_if}
@@ -63,7 +63,7 @@ module _ (s : CoreState) (who : Doer) (place : Place) (h : IsOpen s who.actor wh
   IsOfPages op t = (child_of p (Some op) ≡ p) × (strand_of (Some op) ≡ of_pages) × MakesPin s t a op
 
   -- what is asked of the next turn of an operation that is answered here
-  done_turn : (op : Op) (turn : Taken) → IsDone s a p p of_pages turn → IsOfPages op (run s turn.events) → (run s turn.events).job a ≡ idle → TurnOf (plain_of s) who place op unbegun turn.whats unbegun → (Rests (run s turn.events) a → FitsNext (run s turn.events) who (Some op) place turn.whats) → IsTurned s who place op turn
+  done_turn : (op : Op) (turn : CoreTurn) → IsDone s a p p of_pages turn → IsOfPages op (run s turn.events) → (run s turn.events).job a ≡ idle → TurnOf (plain_of s) who place op unbegun turn.whats unbegun → (Rests (run s turn.events) a → FitsNext (run s turn.events) who (Some op) place turn.whats) → IsTurned s who place op turn
   done_turn op turn done alone behind shape next =
       let left = pages_leave s a p p turn.events done.kinds in
       record {
@@ -189,7 +189,7 @@ module _ (s : CoreState) (who : Doer) (place : Place) (h : IsOpen s who.actor wh
     -- protect
 
     -- a turn can be done, and the actor is in the middle of nothing behind it
-    abbrev IsDoneIdle : CoreState → Taken → Type 0
+    abbrev IsDoneIdle : CoreState → CoreTurn → Type 0
     IsDoneIdle t turn = IsDone t a p p of_pages turn × ((run t turn.events).job a ≡ idle)
 
     -- the state with these entries in place of its own
@@ -197,7 +197,7 @@ module _ (s : CoreState) (who : Doer) (place : Place) (h : IsOpen s who.actor wh
     with_entries entries = record s { entry = entries }
 
     -- a protection behind these events
-    abbrev protects : (page n : ℕ) → Rights → List CoreEvent → Taken
+    abbrev protects : (page n : ℕ) → Rights → List CoreEvent → CoreTurn
     protects page n rights before =
         record {
           events = before ++ protect_pages a p page n rights ∷ [];
@@ -303,7 +303,7 @@ module _ (s : CoreState) (who : Doer) (place : Place) (h : IsOpen s who.actor wh
     tells_alone e (Some d) false = refl
 
     -- a page that an event takes down, or whose contents it discards
-    abbrev takes : CoreEvent → PlainEvent → Option Entry → (last : Bool) → Taken
+    abbrev takes : CoreEvent → PlainEvent → Option Entry → (last : Bool) → CoreTurn
     takes first e entry last = record { events = first ∷ gives_back a entry; whats = Event e ∷ done_if last }
 
     unmap_done : (page : ℕ) (entry : Option Entry) (last : Bool) → IsSome (s.right p page) → s.entry p page ≡ entry → IsDoneIdle s (takes (drop_entry a p page entry) (events.Unmap a p page) entry last)

@@ -18,8 +18,8 @@ use Rattle.gup_spec_events.specs.Invariant.{AllCan}
 use Rattle.gup_spec_journal.specs.Place.{Place, Doer, birth_for, place_behind, present_op}
 use Rattle.gup_spec_turns.specs.ForkPlace.{ForkPlace}
 use Rattle.gup_law_turns.specs.Standing.{StandsHandle, given_back}
-use Rattle.gup_spec_turns.specs.Run.{taken_by}
-use Rattle.gup_spec_turns.specs.Taken.{Taken}
+use Rattle.gup_spec_turns.specs.Run.{core_turn_by}
+use Rattle.gup_spec_turns.specs.CoreTurn.{CoreTurn}
 use Rattle.gup_spec_turns.specs.Turn.{turn_at, failed_turn, op_turn}
 use Rattle.gup_spec_turns.specs.PinTurns.{unpin_turn, unpin_turn_by, unpinned, last_of, but_last}
 use Rattle.gup_law_turns.proofs.Calm.{of_pages, of_pin, of_handle}
@@ -152,7 +152,7 @@ module _ (script : ScriptValue) (s : CoreState) (who : Doer) (place : Place) whe
   abbrev back_behind : (h : ℕ) → List What → ℕ
   back_behind h whats = given_back (present_op script who.actor (place_behind place whats)) h (place_behind place whats).far
 
-  abbrev ChangeBy : (h : ℕ) → Option Op → Taken → Type 0
+  abbrev ChangeBy : (h : ℕ) → Option Op → CoreTurn → Type 0
   ChangeBy h op turn =
       Change who.actor (given_back op h place.far) (back_behind h turn.whats) (s.pinned h) ((run s turn.events).pinned h)
       (s.handle h) ((run s turn.events).handle h)
@@ -167,7 +167,7 @@ module _ (script : ScriptValue) (s : CoreState) (who : Doer) (place : Place) whe
       ap (λ (q : Place). given_back (present_op script who.actor q) h q.far) same ∙ first_back (present_op script who.actor (fresh_place (place.answered + 1))) h
 
   -- a pin that the operation isn't about
-  other_change : (h : ℕ) (op : Option Op) (waiting : Option Waiting) (turn : Taken) → present_op script who.actor place ≡ op → ((far : ℕ) → given_back op h far ≡ 0) → (strand_of op ≡ of_pin h → ⊥) → (strand_of op ≡ of_handle h → ⊥) → IsTaken s who place op waiting turn → ChangeBy h op turn
+  other_change : (h : ℕ) (op : Option Op) (waiting : Option Waiting) (turn : CoreTurn) → present_op script who.actor place ≡ op → ((far : ℕ) → given_back op h far ≡ 0) → (strand_of op ≡ of_pin h → ⊥) → (strand_of op ≡ of_handle h → ⊥) → IsTaken s who place op waiting turn → ChangeBy h op turn
   other_change h op waiting turn is none no_pin no_handle turns =
       let kept = (leaves_pins s who.actor who.proc (child_of who.proc op) (strand_of op) turn.events turns.done.kinds turns.done.can).others h no_pin no_handle in
       let behind = none_behind (run s turn.events) h op turn.whats is none (turn_behind (run s turn.events) turns.shape) in
@@ -175,7 +175,7 @@ module _ (script : ScriptValue) (s : CoreState) (who : Doer) (place : Place) whe
 
   -- the pin that the operation makes, gives or takes, or moves words of
 
-  pin_change : (handle page n : ℕ) (write : Bool) (turn : Taken) → birth_for s.birth who ≡ born → present_op script who.actor place ≡ Some (Pin handle page n write) → IsTaken s who place (Some (Pin handle page n write)) None turn → ChangeBy handle (Some (Pin handle page n write)) turn
+  pin_change : (handle page n : ℕ) (write : Bool) (turn : CoreTurn) → birth_for s.birth who ≡ born → present_op script who.actor place ≡ Some (Pin handle page n write) → IsTaken s who place (Some (Pin handle page n write)) None turn → ChangeBy handle (Some (Pin handle page n write)) turn
   pin_change handle page n write turn birth is turns =
       let behind = none_behind (run s turn.events) handle (Some (Pin handle page n write)) turn.whats is (λ far. refl) (turn_behind (run s turn.events) turns.shape) in
       elim (turns.pin (Pin handle page n write) refl refl birth) [
@@ -183,7 +183,7 @@ module _ (script : ScriptValue) (s : CoreState) (who : Doer) (place : Place) whe
         | inr makes ↦ is_made makes.0 makes.1 behind
       ]
 
-  give_change : (handle to : ℕ) (turn : Taken) → birth_for s.birth who ≡ born → present_op script who.actor place ≡ Some (Give handle to) → IsTaken s who place (Some (Give handle to)) None turn → ChangeBy handle (Some (Give handle to)) turn
+  give_change : (handle to : ℕ) (turn : CoreTurn) → birth_for s.birth who ≡ born → present_op script who.actor place ≡ Some (Give handle to) → IsTaken s who place (Some (Give handle to)) None turn → ChangeBy handle (Some (Give handle to)) turn
   give_change handle to turn birth is turns =
       let behind = none_behind (run s turn.events) handle (Some (Give handle to)) turn.whats is (λ far. refl) (turn_behind (run s turn.events) turns.shape) in
       let pin = turns.pin (Give handle to) refl refl birth in
@@ -192,13 +192,13 @@ module _ (script : ScriptValue) (s : CoreState) (who : Doer) (place : Place) whe
         | inr gives ↦ is_given to gives.0 gives.1 pin.0 refl
       ]
 
-  take_change : (handle : ℕ) (turn : Taken) → birth_for s.birth who ≡ born → present_op script who.actor place ≡ Some (Take handle) → IsTaken s who place (Some (Take handle)) None turn → ChangeBy handle (Some (Take handle)) turn
+  take_change : (handle : ℕ) (turn : CoreTurn) → birth_for s.birth who ≡ born → present_op script who.actor place ≡ Some (Take handle) → IsTaken s who place (Some (Take handle)) None turn → ChangeBy handle (Some (Take handle)) turn
   take_change handle turn birth is turns =
       let behind = none_behind (run s turn.events) handle (Some (Take handle)) turn.whats is (λ far. refl) (turn_behind (run s turn.events) turns.shape) in
       let pin = turns.pin (Take handle) refl refl birth in
       is_taken pin.1 pin.2 pin.0 behind
 
-  transfer_change : (handle : ℕ) (outward : Bool) (index slot n : ℕ) (turn : Taken) → birth_for s.birth who ≡ born → present_op script who.actor place ≡ Some (Transfer handle outward index slot n) → IsTaken s who place (Some (Transfer handle outward index slot n)) None turn → ChangeBy handle (Some (Transfer handle outward index slot n)) turn
+  transfer_change : (handle : ℕ) (outward : Bool) (index slot n : ℕ) (turn : CoreTurn) → birth_for s.birth who ≡ born → present_op script who.actor place ≡ Some (Transfer handle outward index slot n) → IsTaken s who place (Some (Transfer handle outward index slot n)) None turn → ChangeBy handle (Some (Transfer handle outward index slot n)) turn
   transfer_change handle outward index slot n turn birth is turns =
       let behind = none_behind (run s turn.events) handle (Some (Transfer handle outward index slot n)) turn.whats is (λ far. refl) (turn_behind (run s turn.events) turns.shape) in
       let pin = turns.pin (Transfer handle outward index slot n) refl refl birth in
@@ -220,15 +220,15 @@ module _ (script : ScriptValue) (s : CoreState) (who : Doer) (place : Place) whe
   unpin_by handle false lacks is can = is_kept refl refl (λ holds. absurd (cc))
   unpin_by handle true holds is can = unpin_left handle (last_of (s.pinned handle)) (but_last (s.pinned handle)) is can.0.0 can.0.1
 
-  unpin_change : (handle : ℕ) → birth_for s.birth who ≡ born → present_op script who.actor place ≡ Some (Unpin handle) → IsTaken s who place (Some (Unpin handle)) None (taken_by s who place.far (Some (Unpin handle)) None) → ChangeBy handle (Some (Unpin handle)) (taken_by s who place.far (Some (Unpin handle)) None)
+  unpin_change : (handle : ℕ) → birth_for s.birth who ≡ born → present_op script who.actor place ≡ Some (Unpin handle) → IsTaken s who place (Some (Unpin handle)) None (core_turn_by s who place.far (Some (Unpin handle)) None) → ChangeBy handle (Some (Unpin handle)) (core_turn_by s who place.far (Some (Unpin handle)) None)
   unpin_change handle birth is turns =
-      let same : taken_by s who place.far (Some (Unpin handle)) None ≡ unpin_turn s who.actor handle = ap (λ (b : Birth). turn_at b (failed_turn who.actor who.proc (Unpin handle)) (unpin_turn s who.actor handle)) birth in
-      let can = subst (λ (turn : Taken). AllCan s turn.events) same turns.done.can in
+      let same : core_turn_by s who place.far (Some (Unpin handle)) None ≡ unpin_turn s who.actor handle = ap (λ (b : Birth). turn_at b (failed_turn who.actor who.proc (Unpin handle)) (unpin_turn s who.actor handle)) birth in
+      let can = subst (λ (turn : CoreTurn). AllCan s turn.events) same turns.done.can in
       subst (ChangeBy handle (Some (Unpin handle))) (sym same) (unpin_by handle (is_held_by (s.handle handle) who.actor) refl is can)
 
   -- the turn of an operation that waits for nothing
-  abbrev going : Op → Taken
-  going op = taken_by s who place.far (Some op) None
+  abbrev going : Op → CoreTurn
+  going op = core_turn_by s who place.far (Some op) None
 
   abbrev IsGoing : Op → Type 0
   IsGoing op = IsTaken s who place (Some op) None (going op)
@@ -295,7 +295,7 @@ module _ (script : ScriptValue) (s : CoreState) (who : Doer) (place : Place) whe
   failed_changes : (h : ℕ) (op : Op) → birth_for s.birth who ≡ failed → place.far ≡ 0 → place_behind place (going op).whats ≡ fresh_place (place.answered + 1) → ChangeBy h (Some op) (going op)
   failed_changes h op birth first over =
       let same : going op ≡ failed_turn who.actor who.proc op = ap (λ (b : Birth). turn_at b (failed_turn who.actor who.proc op) (op_turn s who.actor who.proc who.slots place.far op)) birth in
-      let kept = subst (λ (turn : Taken). KeepsPin h s (run s turn.events)) (sym same) (failed_keeps h op) in
+      let kept = subst (λ (turn : CoreTurn). KeepsPin h s (run s turn.events)) (sym same) (failed_keeps h op) in
       let before : given_back (Some op) h place.far ≡ 0 = ap (given_back (Some op) h) first ∙ first_back (Some op) h in
       let behind : back_behind h (going op).whats ≡ 0 = ap (λ (q : Place). given_back (present_op script who.actor q) h q.far) over ∙ first_back (present_op script who.actor (fresh_place (place.answered + 1))) h in
       is_kept kept.handle kept.pinned (λ holds. behind ∙ sym before)
@@ -306,7 +306,7 @@ module _ (script : ScriptValue) (s : CoreState) (who : Doer) (place : Place) whe
   shape_changes h op same is turns (unborn_fork child birth own first) = failed_changes h op birth first.0 (ap (place_behind place) same)
 
   -- one that is idle or waits changes nothing
-  pub turn_changes : (h : ℕ) (op : Option Op) (waiting : Option Waiting) → present_op script who.actor place ≡ op → IsTaken s who place op waiting (taken_by s who place.far op waiting) → ChangeBy h op (taken_by s who place.far op waiting)
+  pub turn_changes : (h : ℕ) (op : Option Op) (waiting : Option Waiting) → present_op script who.actor place ≡ op → IsTaken s who place op waiting (core_turn_by s who place.far op waiting) → ChangeBy h op (core_turn_by s who place.far op waiting)
   turn_changes h None waiting is turns = is_kept refl refl (λ holds. ap (λ (o : Option Op). given_back o h place.far) is)
   turn_changes h (Some op) (Some waiting) is turns = is_kept refl refl (λ holds. ap (λ (o : Option Op). given_back o h place.far) is)
   turn_changes h (Some op) None is turns = shape_changes h op refl is turns turns.shape

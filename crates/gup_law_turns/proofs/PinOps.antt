@@ -15,17 +15,17 @@ use Rattle.gup_script.specs.Limits.{most_pinned}
 use Rattle.gup_script.specs.Valid.{IsOp}
 use Rattle.gup_script.specs.declared.op.Op.TheVariants.{Pin}
 use Rattle.gup_spec_events.specs.State.{CoreState, Taken, idle, plain_of}
-use Rattle.gup_spec_events.specs.Event.{CoreEvent, Can, happens, IsUntaken, AreAlike, frames_of, objects_taken, writes_taken, raise_flag, pin_page, make_handle, run}
+use Rattle.gup_spec_events.specs.Event.{CoreEvent, Can, happens, IsUntaken, AreAlike, taken_frames, objects_taken, writes_taken, raise_flag, pin_page, make_handle, run}
 use Rattle.gup_spec_events.specs.Fault.{Fault}
 use Rattle.gup_spec_events.specs.Invariant.{AllCan}
 use Rattle.gup_law_events.specs.Law.{all_told}
 use Rattle.gup_spec_journal.specs.Follows.{refuses, EndsPin}
 use Rattle.gup_spec_journal.specs.Place.{Place, Doer}
-use Rattle.gup_spec_journal.specs.Plain.{IsAnswerOf, refusal_of}
+use Rattle.gup_spec_journal.specs.Plain.{IsAnswerOf, refusal_by_cause}
 use Rattle.gup_spec_turns.specs.Reached.{unbegun}
 use Rattle.gup_spec_turns.specs.PinPlace.{HasTaken, IsTakenPage, StandsPin}
 use Rattle.gup_law_turns.specs.Standing.{StandsHandle}
-use Rattle.gup_spec_turns.specs.Taken.{entry_in}
+use Rattle.gup_spec_turns.specs.CoreTurn.{entry_in}
 use Rattle.gup_spec_turns.specs.PinTurns.{cause_of, pin_fault, pins, pins_behind, ends_pin, pin_turn_by, pin_turn}
 use Rattle.gup_spec_turns.specs.Waits.{waits_for_locks, locks_needed}
 use Rattle.gup_law_turns.proofs.Calm.{of_pages, of_pin, AreTurnEvents, raising, pinning, making}
@@ -91,7 +91,7 @@ one_more p page far write taken new h is_new =
     by_place k t (inr last) = last_page k t (last.0 ∙ h.many) last.1
 
 -- the pin that is made of pages taken has them all
-held_whole : (a : ℕ) (write : Bool) (taken : List Taken) → 0 < length taken → length taken ≤ most_pinned → (handle : Handle) (pinned : List ℕ) → handle ≡ held a (objects_taken taken) write → pinned ≡ frames_of taken → IsHeldBy handle a × StandsHandle (λ b. 0) pinned handle
+held_whole : (a : ℕ) (write : Bool) (taken : List Taken) → 0 < length taken → length taken ≤ most_pinned → (handle : Handle) (pinned : List ℕ) → handle ≡ held a (objects_taken taken) write → pinned ≡ taken_frames taken → IsHeldBy handle a × StandsHandle (λ b. 0) pinned handle
 held_whole a write taken some few handle pinned made has =
     let objects = length-map taken (λ (t : Taken). t.object) in
     let frames = length-map taken (λ (t : Taken). t.frame) in
@@ -106,7 +106,7 @@ refuses_pin handle page n write missing = refl
 refuses_pin handle page n write forbidden = refl
 refuses_pin handle page n write no_frame = refl
 
-ends_with : {answer : Answer} → RefusesPage answer → EndsPin (cause_of answer) × (refusal_of (cause_of answer) ≡ answer)
+ends_with : {answer : Answer} → RefusesPage answer → EndsPin (cause_of answer) × (refusal_by_cause (cause_of answer) ≡ answer)
 ends_with missing = (tt, refl)
 ends_with forbidden = (tt, refl)
 ends_with no_frame = (tt, refl)
@@ -226,7 +226,7 @@ module _ (s : CoreState) (who : Doer) (place : Place) (h : IsOpen s who.actor wh
           shape = shape_idle s (run s (es ++ making_it)) who place (Pin handle page n write) (Event (events.PinTry a p here write) ∷ Event (events.PinOk a handle) ∷ Done (answers.Pinned n) ∷ []) job (ap (λ (x : CoreState). x.job a) same ∙ ready.job) (pinned_all handle page n write last undenied);
           next = subst (λ (x : CoreState). Rests x a) (sym same) (ready.job, put_same a [] u.taken);
           pin = subst (λ (x : CoreState). MakesPin s x a (Pin handle page n write)) (sym same)
-              (inr (held_whole a (writes_taken (u.taken a)) (u.taken a) (omega (arith, many)) (omega (arith, many, last, few)) (made.handle handle) (made.pinned handle) (put_same handle (held a (objects_taken (u.taken a)) (writes_taken (u.taken a))) u.handle) (put_same handle (frames_of (u.taken a)) u.pinned)));
+              (inr (held_whole a (writes_taken (u.taken a)) (u.taken a) (omega (arith, many)) (omega (arith, many, last, few)) (made.handle handle) (made.pinned handle) (put_same handle (held a (objects_taken (u.taken a)) (writes_taken (u.taken a))) u.handle) (put_same handle (taken_frames (u.taken a)) u.pinned)));
         }
 
     pins_by : (last : Bool) → (place.far + 1 == n) ≡ last → pin_denial write (s.right p here) ≡ None → IsTurned s who place (Pin handle page n write) (pins_behind es a p handle here n write last entry)
@@ -336,7 +336,7 @@ module _ (s : CoreState) (who : Doer) (place : Place) (h : IsOpen s who.actor wh
         };
         shape = shape_idle s short who place (Pin handle page n write) (Event (events.PinOk a handle) ∷ Done (answers.Short (suc got) n (cause_of answer)) ∷ []) job job shape;
         next = (job, put_same a [] s.taken);
-        pin = inr (held_whole a (writes_taken (s.taken a)) (s.taken a) (omega (arith, many, later)) (omega (arith, many, within, few)) (short.handle handle) (short.pinned handle) (put_same handle (held a (objects_taken (s.taken a)) (writes_taken (s.taken a))) s.handle) (put_same handle (frames_of (s.taken a)) s.pinned));
+        pin = inr (held_whole a (writes_taken (s.taken a)) (s.taken a) (omega (arith, many, later)) (omega (arith, many, within, few)) (short.handle handle) (short.pinned handle) (put_same handle (held a (objects_taken (s.taken a)) (writes_taken (s.taken a))) s.handle) (put_same handle (taken_frames (s.taken a)) s.pinned));
       }
 
   later_by : (got : ℕ) (fault : Fault) → place.far ≡ suc got → LeadsTo s a p here write (pin_denial write (s.right p here)) fault → IsTurned s who place (Pin handle page n write) (pin_turn_by fault s a p handle here n (suc got) write)

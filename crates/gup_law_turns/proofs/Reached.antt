@@ -22,7 +22,7 @@ use Rattle.gup_spec_turns.specs.Pages.{mapped_pages}
 use Rattle.gup_spec_turns.specs.PinPlace.{HasTaken, IsNoPin}
 use Rattle.gup_spec_turns.specs.ForkPlace.{ForkPlace, StandsFork, IsNoFork}
 use Rattle.gup_law_turns.specs.Standing.{StandsHandle, back_in, IsStanding}
-use Rattle.gup_spec_turns.specs.Run.{turned, RunState, run_start, run_after, op_in, taken_in}
+use Rattle.gup_spec_turns.specs.Run.{turned, RunState, run_start, run_after, op_in, core_turn_in}
 use Rattle.gup_law_turns.proofs.ScriptLemmas.{op_is_op, has_ops_declared}
 use Rattle.gup_law_turns.proofs.Counting.{HoldsNoFrame, ArePinsFew, few_counts}
 use Rattle.gup_law_turns.proofs.Few.{few_sequence}
@@ -36,7 +36,7 @@ use Rattle.gup_law_turns.proofs.Steps.{taken}
 use Rattle.gup_law_turns.proofs.Through.{Law}
 use Rattle.gup_plain.specs.Denial.{is_held_by}
 use Rattle.gup_script.specs.Limits.{most_pinned}
-use Rattle.gup_spec_turns.specs.Taken.{Taken}
+use Rattle.gup_spec_turns.specs.CoreTurn.{CoreTurn}
 
 -- an actor has answered no more operations than it has
 abbrev pub HasAnswered : ScriptValue → ℕ → Place → Type 0
@@ -187,9 +187,9 @@ few_pins script valid r h =
       taken = λ a k t there. at a k t there (no_pin_or_pin (op_in script r a));
     }
   where
-    at : (a k : ℕ) (t : Taken) → slice_get (r.core.taken a) k ≡ Some t → IsNoPin (op_in script r a) ⊎ ((handle page n : ℕ) × (write : Bool) × (op_in script r a ≡ Some (Pin handle page n write))) → (a < 81) × (k < 16)
+    at : (a k : ℕ) (t : CoreTurn) → slice_get (r.core.taken a) k ≡ Some t → IsNoPin (op_in script r a) ⊎ ((handle page n : ℕ) × (write : Bool) × (op_in script r a ≡ Some (Pin handle page n write))) → (a < 81) × (k < 16)
     at a k t there (inl no_pin) =
-        absurd (let none : slice_get (r.core.taken a) k ≡ None = ap (λ (xs : List Taken). slice_get xs k) (untaken r.core (doer script a) (op_in script r a) (r.places a) no_pin (h.fits a)) in cc)
+        absurd (let none : slice_get (r.core.taken a) k ≡ None = ap (λ (xs : List CoreTurn). slice_get xs k) (untaken r.core (doer script a) (op_in script r a) (r.places a) no_pin (h.fits a)) in cc)
     at a k t there (inr pin) =
         let op : Op = Pin pin.0 pin.1 pin.2 pin.3 in
         let fits : FitsOp r.core (doer script a) op (r.places a) = subst (λ (o : Option Op). FitsAt r.core (doer script a) o (r.places a)) pin.4 (h.fits a) in
@@ -215,7 +215,7 @@ pin_weighed s h k f sound is =
     omega (arith, some, here, sum, tally.3)
 
 -- a pin that has taken a page has set the flag of its process
-first_taken : (xs : List Taken) → 0 < length xs → (t : Taken) × (slice_get xs 0 ≡ Some t)
+first_taken : (xs : List CoreTurn) → 0 < length xs → (t : CoreTurn) × (slice_get xs 0 ≡ Some t)
 first_taken [] some = absurd (omega (arith, some))
 first_taken (t ∷ xs) some = (t, refl)
 
@@ -278,10 +278,10 @@ answered_on script t {who = who} {place = place} (unborn_fork child birth own fi
 pub reached_on : Law → (script : ScriptValue) → IsScript script → (r : RunState) → IsReached script r → (a : ℕ) → IsReached script (run_after script r a)
 reached_on law script valid r h a =
     let turn = taken script valid r h.stands a in
-    let behind = place_behind (r.places a) (taken_in script r a).whats in
+    let behind = place_behind (r.places a) (core_turn_in script r a).whats in
     record {
       stands = stands_on law script valid r h.stands a;
-      there = there_on r.core a (process_of script a) (child_of (process_of script a) (op_in script r a)) (strand_of (op_in script r a)) (taken_in script r a).events turn.done.kinds turn.done.can h.there;
+      there = there_on r.core a (process_of script a) (child_of (process_of script a) (op_in script r a)) (strand_of (op_in script r a)) (core_turn_in script r a).events turn.done.kinds turn.done.can h.there;
       answered = at_each (HasAnswered script) a behind r.places (answered_on script r.core turn.shape refl (h.answered a)) h.answered;
     }
 

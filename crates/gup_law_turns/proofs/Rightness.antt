@@ -21,7 +21,7 @@ use Rattle.gup_spec_events.specs.State.{CoreState}
 use Rattle.gup_spec_journal.specs.Follows.{refuses, moves_word, notes_of_turn, note_of}
 use Rattle.gup_spec_journal.specs.Order.{plain_behind}
 use Rattle.gup_spec_journal.specs.Place.{Place, Doer, doer, birth_by, birth_for, place_after, place_behind, ops_of}
-use Rattle.gup_spec_journal.specs.Plain.{Judged, judged_after, ArePlain, IsRightAt, IsRightOf, IsSettled, IsAnswerAfter, IsAnswerOf, IsUndeniedAt, judged_before, Passes, IsDue, refusal_of, refusal_in, judged_far, plain_after}
+use Rattle.gup_spec_journal.specs.Plain.{Judged, judged_after, ArePlain, IsRightAt, IsRightOf, IsBornOrFailed, IsAnswerAfter, IsAnswerOf, IsUndeniedAt, judged_before, Passes, IsDue, refusal_by_cause, refusal_in, judged_far, plain_after}
 use Rattle.gup_law_turns.proofs.Puts.{put_same, put_twice, put_own}
 use Rattle.gup_spec_turns.specs.ForkPlace.{ForkPlace}
 use Rattle.gup_law_turns.proofs.Shapes.{TurnOf, refused, mapped, protected, loaded, stored, gave, took_over, took, took_last, passed, passed_last, took_lowest, took_all, pinned_page, pinned_all, pinned_short, unpinned_page, unpinned_last, moved_word, moved_last, began, passed_page, counted_page, shared_page, ended, counted_copy, took_frame, copied_word, placed_copy, failed_fork, GoesOver, unmaps, discards, TurnAt, idles, waits, goes, unborn_refused, unborn_fork, FitsAt, AtFirst}
@@ -36,8 +36,8 @@ AreRight ops who s place (what ∷ whats) =
 
 -- where whoever does it waits for no birth
 
-settled : (b : Birth) → b ≡ born → IsSettled b
-settled b e = subst IsSettled (sym e) tt
+settled : (b : Birth) → b ≡ born → IsBornOrFailed b
+settled b e = subst IsBornOrFailed (sym e) tt
 
 denial_born : (s : PlainState) (who : Doer) (far : ℕ) (op : Op) → birth_for s.birth who ≡ born → denial s who far op ≡ op_denial s who far op
 denial_born s who far op e = ap (λ (b : Birth). denial_at b (op_denial s who far op)) e
@@ -110,8 +110,8 @@ stays_unfailed births who child birth yet = go who.thread (who.proc == child) re
 abbrev pub IsFailedUnmapped : PlainState → Type 0
 IsFailedUnmapped s = (p page : ℕ) → s.birth p ≡ failed → s.right p page ≡ None
 
-settled_failed : (b : Birth) → b ≡ failed → IsSettled b
-settled_failed b e = subst IsSettled (sym e) tt
+settled_failed : (b : Birth) → b ≡ failed → IsBornOrFailed b
+settled_failed b e = subst IsBornOrFailed (sym e) tt
 
 denial_failed : (s : PlainState) (who : Doer) (far : ℕ) (op : Op) → birth_for s.birth who ≡ failed → denial s who far op ≡ Some answers.Unborn
 denial_failed s who far op e = ap (λ (b : Birth). denial_at b (op_denial s who far op)) e
@@ -281,7 +281,7 @@ module _ (ops : List Op) (s : PlainState) (who : Doer) (place : Place) (birth : 
       (first, (second, (third, tt)))
   op_right op whats (pinned_short handle page n write cause some less end right) is had can =
       let e : PlainEvent = events.PinOk who.actor handle in
-      let judged : IsAnswerOf (denial s who place.far op) (refusal_of cause) = subst (λ (d : Option Answer). IsAnswerOf d (refusal_of cause)) (sym (denial_born s who place.far op birth)) right in
+      let judged : IsAnswerOf (denial s who place.far op) (refusal_by_cause cause) = subst (λ (d : Option Answer). IsAnswerOf d (refusal_by_cause cause)) (sym (denial_born s who place.far op birth)) right in
       let stands : IsUndeniedAt place.had (denial s who place.far op) = subst (λ (b : Bool). IsUndeniedAt b (denial s who place.far op)) (sym (had some)) tt in
       then_right op e (answers.Short place.far n cause) is (can.0, inl stands, tt) birth judged tt
   op_right op whats (unpinned_page handle free more) is had can = one_right op Silent is tt

@@ -7,7 +7,7 @@ use Rattle.gup_spec_events.specs.State.{plain_of}
 use Rattle.gup_spec_journal.specs.Order.{Turn, journal_of}
 use Rattle.gup_spec_journal.specs.Place.{doer, ops_of}
 use Rattle.gup_spec_journal.specs.Plain.{Judged, ArePlain}
-use Rattle.gup_spec_turns.specs.Run.{turned, actors_of, RunState, Runs, AreTurns, turn_in, run_after, taken_in, op_in}
+use Rattle.gup_spec_turns.specs.Run.{turned, actors_of, RunState, Runs, AreTurns, turn_in, run_after, core_turn_in, op_in}
 use Rattle.gup_law_turns.proofs.Puts.{some_same}
 use Rattle.gup_law_turns.proofs.Rightness.{had_in_pin, turn_right, plain_append}
 use Rattle.gup_law_turns.proofs.Stands.{stands_on, same_plain, plain_can}
@@ -64,7 +64,7 @@ plain_turns law script valid [] number r end h are = tt
 plain_turns law script valid (turn ∷ turns) number r end h are =
     let a = turn.actor in
     let here = taken script valid r h a in
-    let whats = (taken_in script r a).whats in
+    let whats = (core_turn_in script r a).whats in
     let right = turn_right (ops_of script a) here.shape refl (had_in_pin r.core (doer script a) (op_in script r a) (r.places a) (h.fits a)) h.sound.1.failed_unmapped (plain_can law script valid r h a) in
     let next = run_after script r a in
     let later = plain_turns law script valid turns (number + 1) next end (stands_on law script valid r h a) are.1 in

@@ -1,13 +1,13 @@
 -- What is true of the operations of every script.
 use Rattle.std.proofs.Common.{◌≡◌, ℕ, ◌<◌, ◌≤◌, Bool, true, List, Option, Some, None, slice_get, length, All, refl, ap, subst, arith}
 use Rattle.std.proofs.lemmas.Option.{slice_get_within, get_or_from_slice_get}
-use Rattle.gup_script.specs.Script.{ScriptValue, Process, Actor, actor_at, process_at, ops_in, ops_of}
+use Rattle.gup_script.specs.Script.{ScriptValue, Process, Actor, actor_at, process_at, ops_in, ops_of, is_thread}
 use Rattle.gup_script.specs.Valid.{IsScript, IsOp, IsChild, AreDeclared, ForksAt, FitsKind, IsOfDevice, KindFits}
-use Rattle.gup_script.specs.Limits.{most_slots}
+use Rattle.gup_base.specs.Counts.{most_slots}
 use Rattle.gup_script.specs.declared.op.Kind.{Kind}
 use Rattle.gup_script.specs.declared.op.Kind.TheVariants.{Thread, Device, Mover}
 use Rattle.gup_plain.specs.State.{Birth}
-use Rattle.gup_spec_journal.specs.Place.{Doer, doer, is_thread, thread_in, birth_by, birth_for, slots_of_kind, slots_in, process_of, process_in, process_of_kind, ops_of, ops_in}
+use Rattle.gup_spec_journal.specs.Place.{Doer, doer, thread_in, birth_by, birth_for, slots_of_kind, slots_in, process_of, process_in, process_of_kind, ops_of, ops_in}
 use Rattle.gup_script.specs.declared.op.Op.{Op}
 use Rattle.gup_script.specs.declared.op.Op.TheVariants.{Fork}
 

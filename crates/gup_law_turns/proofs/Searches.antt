@@ -10,7 +10,7 @@ use Rattle.gup_script.specs.declared.op.Op.TheVariants.{Map, Protect}
 use Rattle.gup_spec_events.specs.State.{CoreState}
 use Rattle.gup_plain.specs.Denial.{any_below, any_unmapped, map_denial, protect_denial}
 use Rattle.gup_spec_journal.specs.Follows.{refuses}
-use Rattle.gup_spec_turns.specs.Taken.{free_frame}
+use Rattle.gup_spec_turns.specs.CoreTurn.{free_frame}
 use Rattle.gup_law_turns.proofs.Puts.{some_same}
 
 -- the lowest number that passes a test: it is in range and passes, and none before it does

@@ -20,12 +20,12 @@ use Rattle.gup_spec_events.specs.Event.{run}
 use Rattle.gup_law_events.specs.Law.{all_told}
 use Rattle.gup_spec_journal.specs.Denial.{op_denial}
 use Rattle.gup_spec_journal.specs.Place.{Place, Doer, birth_for}
-use Rattle.gup_spec_journal.specs.Plain.{IsAnswerOf, Passes, refusal_of}
+use Rattle.gup_spec_journal.specs.Plain.{IsAnswerOf, Passes, refusal_by_cause}
 use Rattle.gup_spec_journal.specs.Follows.{refuses, EndsPin, moves_word}
 use Rattle.gup_spec_turns.specs.ForkPlace.{ForkPlace, KeepsFrame, StandsFork}
 use Rattle.gup_spec_turns.specs.Reached.{unbegun, from_page, at_page, wants_frame, at_word}
 use Rattle.gup_spec_turns.specs.PinPlace.{StandsPin}
-use Rattle.gup_spec_turns.specs.Taken.{Taken}
+use Rattle.gup_spec_turns.specs.CoreTurn.{CoreTurn}
 use Rattle.gup_law_turns.proofs.Through.{events_of}
 use Rattle.gup_law_turns.proofs.Calm.{Strand, of_pages, of_pin, of_handle, AreTurnEvents}
 
@@ -117,7 +117,7 @@ pub data TurnOf (s : PlainState) (who : Doer) (place : Place) : Op → ForkPlace
   -- a pin: one page of several, the last one, or one that is refused
   pinned_page : (handle page n : ℕ) (write : Bool) → place.far + 1 < n → op_denial s who place.far (Pin handle page n write) ≡ None → TurnOf s who place (Pin handle page n write) unbegun (Event (events.PinTry who.actor who.proc (page + place.far) write) ∷ []) unbegun
   pinned_all : (handle page n : ℕ) (write : Bool) → place.far + 1 ≡ n → op_denial s who place.far (Pin handle page n write) ≡ None → TurnOf s who place (Pin handle page n write) unbegun (Event (events.PinTry who.actor who.proc (page + place.far) write) ∷ Event (events.PinOk who.actor handle) ∷ Done (answers.Pinned n) ∷ []) unbegun
-  pinned_short : (handle page n : ℕ) (write : Bool) (cause : Cause) → 0 < place.far → place.far < n → EndsPin cause → IsAnswerOf (op_denial s who place.far (Pin handle page n write)) (refusal_of cause) → TurnOf s who place (Pin handle page n write) unbegun (Event (events.PinOk who.actor handle) ∷ Done (answers.Short place.far n cause) ∷ []) unbegun
+  pinned_short : (handle page n : ℕ) (write : Bool) (cause : Cause) → 0 < place.far → place.far < n → EndsPin cause → IsAnswerOf (op_denial s who place.far (Pin handle page n write)) (refusal_by_cause cause) → TurnOf s who place (Pin handle page n write) unbegun (Event (events.PinOk who.actor handle) ∷ Done (answers.Short place.far n cause) ∷ []) unbegun
   -- an unpin: one page of several, and the last one
   unpinned_page : (handle : ℕ) → op_denial s who place.far (Unpin handle) ≡ None → place.far + 1 < length (objects_of (s.handle handle)) → TurnOf s who place (Unpin handle) unbegun (Silent ∷ []) unbegun
   unpinned_last : (handle : ℕ) → place.had ≡ false → op_denial s who place.far (Unpin handle) ≡ None → place.far + 1 ≡ length (objects_of (s.handle handle)) → TurnOf s who place (Unpin handle) unbegun (Event (events.Unpin who.actor handle) ∷ Done answers.Plain ∷ []) unbegun
@@ -187,7 +187,7 @@ strand_of op = of_pages
 
 -- A turn's core events are the actor's own, they can happen, they leave the actor at rest, and the plain events
 -- that stand at them are those of the notes.
-pub record IsDone (s : CoreState) (a p c : ℕ) (strand : Strand) (turn : Taken) : Type 0 where
+pub record IsDone (s : CoreState) (a p c : ℕ) (strand : Strand) (turn : CoreTurn) : Type 0 where
   pub kinds : AreTurnEvents a p c strand turn.events
   pub can : AllCan s turn.events
   pub rest : AtRest (run s turn.events) a

@@ -16,7 +16,7 @@ use Rattle.gup_spec_turns.specs.Pages.{sum_below, mapped_pages}
 use Rattle.gup_spec_turns.specs.ForkPlace.{place_in}
 use Rattle.gup_law_turns.specs.Standing.{StandsHandle, back_in}
 use Rattle.gup_spec_turns.specs.Run.{RunState, op_in}
-use Rattle.gup_spec_turns.specs.Taken.{Taken}
+use Rattle.gup_spec_turns.specs.CoreTurn.{CoreTurn}
 use Rattle.gup_law_turns.proofs.Calm.{IsCalm}
 use Rattle.gup_law_turns.proofs.Shapes.{FitsAt, TurnAt, AtRest, IsDone, child_of, strand_of}
 use Rattle.gup_law_turns.proofs.Turned.{FitsNext, MakesPin}
@@ -61,7 +61,7 @@ pub record Stands (script : ScriptValue) (r : RunState) : Type 0 where
   pub handles : (h : ℕ) → StandsHandle (back_in script r h) (r.core.pinned h) (r.core.handle h)
 
 -- a turn can be done, it has its shape, and the actor stands right behind it
-pub record IsTaken (s : CoreState) (who : Doer) (place : Place) (op : Option Op) (waiting : Option Waiting) (turn : Taken) : Type 0 where
+pub record IsTaken (s : CoreState) (who : Doer) (place : Place) (op : Option Op) (waiting : Option Waiting) (turn : CoreTurn) : Type 0 where
   pub done : IsDone s who.actor who.proc (child_of who.proc op) (strand_of op) turn
   pub shape : TurnAt (plain_of s) who place op waiting (place_in s who.actor) turn.whats (place_in (run s turn.events) who.actor)
   pub next : FitsNext (run s turn.events) who op place turn.whats

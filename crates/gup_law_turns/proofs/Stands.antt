@@ -14,7 +14,7 @@ use Rattle.gup_plain.specs.declared.note.What.{What}
 use Rattle.gup_script.specs.Script.{ScriptValue, Process, process_at}
 use Rattle.gup_script.specs.declared.op.Op.{Op}
 use Rattle.gup_script.specs.declared.op.Op.TheVariants.{Map, Unmap, Protect, Discard, Load, Store, Pin, Unpin, Give, Take, Transfer, Fork, Exit}
-use Rattle.gup_spec_events.specs.State.{CoreState, Job, idle, marking, moving, forking, walking, between, counted, lowered, cleared, copying, failing, plain_of, start}
+use Rattle.gup_spec_events.specs.State.{CoreState, Job, idle, marking, moving, forking, walking, between, counted, lowered, cleared, copying, failing, plain_of, core_start}
 use Rattle.gup_spec_events.specs.Event.{run}
 use Rattle.gup_law_base.specs.Sound.{IsSound}
 use Rattle.gup_spec_journal.specs.Order.{plain_behind}
@@ -22,8 +22,8 @@ use Rattle.gup_spec_journal.specs.Place.{Place, Doer, doer, place_behind, proces
 use Rattle.gup_spec_turns.specs.ForkPlace.{fork_place, place_in, IsForking, HasCounted, KeepsFrame}
 use Rattle.gup_spec_turns.specs.PinPlace.{HasTaken, StandsPin}
 use Rattle.gup_law_turns.specs.Standing.{StandsHandle, given_back, back_in}
-use Rattle.gup_spec_turns.specs.Run.{RunState, run_start, run_after, op_in, waiting_in, taken_in}
-use Rattle.gup_spec_turns.specs.Taken.{Taken}
+use Rattle.gup_spec_turns.specs.Run.{RunState, run_start, run_after, op_in, waiting_in, core_turn_in}
+use Rattle.gup_spec_turns.specs.CoreTurn.{CoreTurn}
 use Rattle.gup_law_turns.proofs.Calm.{starts_calm}
 use Rattle.gup_law_turns.proofs.Standing.{IsFew, Stands, IsAhead, IsTaken}
 use Rattle.gup_law_turns.proofs.Few.{few_kept, few_handles, few_first}
@@ -211,8 +211,8 @@ module _ (script : ScriptValue) (valid : IsScript script) (r : RunState) (h : St
   abbrev c : ℕ
   c = child_of p op
 
-  abbrev turn : Taken
-  turn = taken_in script r a
+  abbrev turn : CoreTurn
+  turn = core_turn_in script r a
 
   abbrev t : CoreState
   t = run s turn.events
@@ -598,30 +598,30 @@ places_stay script valid r h a b other =
     let turn = taken script valid r h a in
     let op : Option Op = op_in script r a in
     let p : ℕ = (doer script a).proc in
-    let left = leaves r.core a p (child_of p op) (strand_of op) (taken_in script r a).events turn.done.kinds in
+    let left = leaves r.core a p (child_of p op) (strand_of op) (core_turn_in script r a).events turn.done.kinds in
     ap (λ (j : Job). fork_place j ((run_after script r a).core.prepared b)) (left.job b (apart b a other))
     ∙ ap (fork_place (r.core.job b)) (left.prepared b (apart b a other))
 
 -- the plain state behind a turn is the one that its notes lead to
-pub same_plain : Law → (script : ScriptValue) → IsScript script → (r : RunState) → Stands script r → (a : ℕ) → plain_of (run_after script r a).core ≡ plain_behind (plain_of r.core) (taken_in script r a).whats
+pub same_plain : Law → (script : ScriptValue) → IsScript script → (r : RunState) → Stands script r → (a : ℕ) → plain_of (run_after script r a).core ≡ plain_behind (plain_of r.core) (core_turn_in script r a).whats
 same_plain law script valid r h a =
     let turn = taken script valid r h a in
-    let led = leads law r.core (taken_in script r a).events h.sound turn.done.can in
+    let led = leads law r.core (core_turn_in script r a).events h.sound turn.done.can in
     let told = subst (λ (es : List PlainEvent). plain_of (run_after script r a).core ≡ plain_through (plain_of r.core) es) turn.done.told led.same in
-    told ∙ sym (plain_behind-through (plain_of r.core) (taken_in script r a).whats)
+    told ∙ sym (plain_behind-through (plain_of r.core) (core_turn_in script r a).whats)
 
 -- each event of the turn can happen in the plain state
-pub plain_can : Law → (script : ScriptValue) → IsScript script → (r : RunState) → Stands script r → (a : ℕ) → AllCanHappen (plain_of r.core) (events_of (taken_in script r a).whats)
+pub plain_can : Law → (script : ScriptValue) → IsScript script → (r : RunState) → Stands script r → (a : ℕ) → AllCanHappen (plain_of r.core) (events_of (core_turn_in script r a).whats)
 plain_can law script valid r h a =
     let turn = taken script valid r h a in
-    let led = leads law r.core (taken_in script r a).events h.sound turn.done.can in
+    let led = leads law r.core (core_turn_in script r a).events h.sound turn.done.can in
     subst (AllCanHappen (plain_of r.core)) turn.done.told led.can
 
 -- the start
 
 -- the start of the core machine is sound
 abbrev pub Starts : Type 0
-Starts = (movable normal : ℕ) (is_born : ℕ → Bool) → IsSound (start movable normal is_born)
+Starts = (movable normal : ℕ) (is_born : ℕ → Bool) → IsSound (core_start movable normal is_born)
 
 -- a process that is born at the start is declared
 starts_declared : (script : ScriptValue) (p : ℕ) (process : Option Process) → process_at script p ≡ process → ((if is_born process then born else unborn) ≡ unborn → ⊥) → p < length script.processes

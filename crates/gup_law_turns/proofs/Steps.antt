@@ -6,8 +6,8 @@ use Rattle.gup_plain.specs.declared.event.PlainEvent.TheVariants as events
 use Rattle.gup_plain.specs.declared.note.What.TheVariants.{Event, Done}
 use Rattle.gup_plain.specs.declared.note.Waiting.{Waiting}
 use Rattle.gup_script.specs.Valid.{IsScript, IsOp, IsOfDevice, IsOfThread, FitsKind}
-use Rattle.gup_script.specs.Limits.{most_slots}
-use Rattle.gup_script.specs.Script.{ScriptValue, Actor, actor_at}
+use Rattle.gup_base.specs.Counts.{most_slots}
+use Rattle.gup_script.specs.Script.{ScriptValue, Actor, actor_at, is_thread}
 use Rattle.gup_script.specs.declared.op.Kind.{Kind}
 use Rattle.gup_script.specs.declared.op.Kind.TheVariants.{Thread, Device, Mover}
 use Rattle.gup_script.specs.declared.op.Op.{Op}
@@ -16,10 +16,10 @@ use Rattle.gup_spec_events.specs.State.{CoreState, Job, idle, marking, moving, f
 use Rattle.gup_spec_events.specs.Event.{run}
 use Rattle.gup_spec_journal.specs.Follows.{refuses}
 use Rattle.gup_spec_journal.specs.Order.{handle_waits}
-use Rattle.gup_spec_journal.specs.Place.{Place, Doer, doer, is_thread, thread_in, birth_by, birth_for}
+use Rattle.gup_spec_journal.specs.Place.{Place, Doer, doer, thread_in, birth_by, birth_for}
 use Rattle.gup_spec_turns.specs.ForkPlace.{ForkPlace, place_in}
-use Rattle.gup_spec_turns.specs.Run.{RunState, op_in, waiting_with, waiting_in, taken_by, taken_in}
-use Rattle.gup_spec_turns.specs.Taken.{Taken, answers_with}
+use Rattle.gup_spec_turns.specs.Run.{RunState, op_in, waiting_with, waiting_in, core_turn_by, core_turn_in}
+use Rattle.gup_spec_turns.specs.CoreTurn.{CoreTurn, answers_with}
 use Rattle.gup_spec_turns.specs.Waits.{waits_at, waits_born, first_waiting, waits_for_locks, no_lock}
 use Rattle.gup_spec_turns.specs.Turn.{failed_turn, turn_at, op_turn}
 use Rattle.gup_law_turns.proofs.Calm.{failing_unborn}
@@ -194,7 +194,7 @@ module _ (s : CoreState) (who : Doer) (place : Place) (quiet : IsQuiet s who.act
   born_step : birth_for s.birth who ≡ born → waits_born s who.actor who.proc op ≡ None → IsTaken s who place (Some op) None (op_turn s who.actor who.proc who.slots place.far op)
   born_step birth free =
       let own_birth : IsOfProcess op → s.birth who.proc ≡ born = λ own. sym (thread_birth who s.birth (h.thread op refl own)) ∙ birth in
-      let turn : Taken = op_turn s who.actor who.proc who.slots place.far op in
+      let turn : CoreTurn = op_turn s who.actor who.proc who.slots place.far op in
       let at : IsTurned s who place op turn = op_turned s who place quiet op (record { range = h.range op refl; birth = own_birth; slots = h.slots; fits = h.fits; free = free }) in
       record {
         done = at.done;
@@ -226,7 +226,7 @@ module _ (s : CoreState) (who : Doer) (place : Place) (quiet : IsQuiet s who.act
   step_by failed is free =
       failed_step s who place quiet is (at_first is) op (h.of_thread op refl (failed_proc who.thread (s.birth who.proc) is).0) h.fits
 
-take : (s : CoreState) (who : Doer) (place : Place) (op : Option Op) (waiting : Option Waiting) → IsQuiet s who.actor → IsKnown s who place op → waiting_with s who op ≡ waiting → IsTaken s who place op waiting (taken_by s who place.far op waiting)
+take : (s : CoreState) (who : Doer) (place : Place) (op : Option Op) (waiting : Option Waiting) → IsQuiet s who.actor → IsKnown s who place op → waiting_with s who op ≡ waiting → IsTaken s who place op waiting (core_turn_by s who place.far op waiting)
 take s who place None waiting quiet h is =
     record {
       done = record { kinds = tt; can = tt; rest = quiet.rest; told = refl };
@@ -246,7 +246,7 @@ take s who place (Some op) (Some waiting) quiet h is =
 take s who place (Some op) None quiet h is = step_by s who place quiet op h (birth_for s.birth who) refl is
 
 -- the turn of an actor
-pub taken : (script : ScriptValue) → IsScript script → (r : RunState) → Stands script r → (a : ℕ) → IsTaken r.core (doer script a) (r.places a) (op_in script r a) (waiting_in script r a) (taken_in script r a)
+pub taken : (script : ScriptValue) → IsScript script → (r : RunState) → Stands script r → (a : ℕ) → IsTaken r.core (doer script a) (r.places a) (op_in script r a) (waiting_in script r a) (core_turn_in script r a)
 taken script valid r h a =
     let k : ℕ = (r.places a).answered in
     take r.core (doer script a) (r.places a) (op_in script r a) (waiting_in script r a)

@@ -19,7 +19,7 @@ use Rattle.gup_spec_journal.specs.Place.{Place, Doer, place_after}
 use Rattle.gup_spec_turns.specs.ForkPlace.{ForkPlace, fork_place, place_in}
 use Rattle.gup_spec_turns.specs.Reached.{unbegun}
 use Rattle.gup_law_turns.specs.Standing.{StandsHandle}
-use Rattle.gup_spec_turns.specs.Taken.{Taken}
+use Rattle.gup_spec_turns.specs.CoreTurn.{CoreTurn}
 use Rattle.gup_spec_turns.specs.Waits.{held_by_other, waits_for_locks, first_waiting, both_locks, waits_at}
 use Rattle.gup_law_turns.proofs.Calm.{IsCalm, Strand, AreTurnEvents}
 use Rattle.gup_law_turns.proofs.Shapes.{FitsAt, Rests, TurnOf, AtRest, IsDone, child_of, strand_of}
@@ -69,7 +69,7 @@ MakesPin s t a (Transfer handle outward index slot n) = (t.handle ≡ s.handle) 
 MakesPin s t a op = Unit {0}
 
 -- the turn can be done, it has its shape, and the actor stands right behind it
-pub record IsTurned (s : CoreState) (who : Doer) (place : Place) (op : Op) (turn : Taken) : Type 0 where
+pub record IsTurned (s : CoreState) (who : Doer) (place : Place) (op : Op) (turn : CoreTurn) : Type 0 where
   pub done : IsDone s who.actor who.proc (child_of who.proc (Some op)) (strand_of (Some op)) turn
   pub shape : TurnOf (plain_of s) who place op (place_in s who.actor) turn.whats (place_in (run s turn.events) who.actor)
   pub next : FitsNext (run s turn.events) who (Some op) place turn.whats

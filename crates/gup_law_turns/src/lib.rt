@@ -8,7 +8,7 @@ ghost use Rattle.gup_script.specs.Valid.{IsScript};
 ghost use Rattle.gup_spec_events.specs.State.{plain_of};
 ghost use Rattle.gup_spec_events.specs.Invariant.{AllCan};
 ghost use Rattle.gup_spec_journal.specs.Order.{Turn, plain_behind};
-ghost use Rattle.gup_spec_turns.specs.Run.{RunState, Runs, AreTurns, run_start, run_after, taken_in, IsCoreRun};
+ghost use Rattle.gup_spec_turns.specs.Run.{RunState, Runs, AreTurns, run_start, run_after, core_turn_in, IsCoreRun};
 ghost use Rattle.gup_spec_turns.specs.Run.{turned, actors_of};
 ghost use Rattle.gup_law_turns.specs.Standing.{IsStanding};
 
@@ -31,10 +31,10 @@ pub fn runs_are_turns()
 pub fn turns_can_happen()
     ensures can { (script : ScriptValue) (actors : List ℕ) (a : ℕ) → IsScript script →
         let r : RunState = turned script (run_start script) actors in
-        AllCan r.core (taken_in script r a).events }
+        AllCan r.core (core_turn_in script r a).events }
     ensures same { (script : ScriptValue) (actors : List ℕ) (a : ℕ) → IsScript script →
         let r : RunState = turned script (run_start script) actors in
-        plain_of (run_after script r a).core ≡ plain_behind (plain_of r.core) (taken_in script r a).whats }
+        plain_of (run_after script r a).core ≡ plain_behind (plain_of r.core) (core_turn_in script r a).whats }
 {
     gup_law_events::simulates();
     gup_law_events::starts_sound();

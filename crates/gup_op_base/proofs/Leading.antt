@@ -6,23 +6,23 @@ use Rattle.gup_plain.specs.declared.note.What.TheVariants.{Done}
 use Rattle.gup_frames.specs.Frames.{FramesValue}
 use Rattle.gup_space.specs.Space.{SpaceValue}
 use Rattle.gup_space.specs.Shows.{Change, ShowsFrames, ShowsSpace}
-use Rattle.gup_spec_events.specs.State.{CoreState, start}
+use Rattle.gup_spec_events.specs.State.{CoreState, core_start}
 use Rattle.gup_spec_events.specs.Event.{CoreEvent, happens, run}
-use Rattle.gup_spec_turns.specs.Taken.{Taken, answers_with}
+use Rattle.gup_spec_turns.specs.CoreTurn.{CoreTurn, answers_with}
 use Rattle.gup_op_base.specs.Said.{Leads, IsTurnOf}
 
 abbrev pub ch : (F F' : FramesValue) (S S' : SpaceValue) → Change
 ch F F' S S' = record { old_frames = F; new_frames = F'; old_space = S; new_space = S' }
 
 -- the same turn in other words
-pub leads_alike : (c : Change) (p : ℕ) (s : CoreState) (turn other : Taken) (whats : List What) → other ≡ turn → Leads c p s turn whats → Leads c p s other whats
-leads_alike c p s turn other whats same h = subst (λ (t : Taken). Leads c p s t whats) (sym same) h
+pub leads_alike : (c : Change) (p : ℕ) (s : CoreState) (turn other : CoreTurn) (whats : List What) → other ≡ turn → Leads c p s turn whats → Leads c p s other whats
+leads_alike c p s turn other whats same h = subst (λ (t : CoreTurn). Leads c p s t whats) (sym same) h
 
 -- and the same notes
-pub says_alike : (c : Change) (p : ℕ) (s : CoreState) (turn : Taken) (whats other : List What) → other ≡ whats → Leads c p s turn whats → Leads c p s turn other
+pub says_alike : (c : Change) (p : ℕ) (s : CoreState) (turn : CoreTurn) (whats other : List What) → other ≡ whats → Leads c p s turn whats → Leads c p s turn other
 says_alike c p s turn whats other same h = subst (λ (ws : List What). Leads c p s turn ws) (sym same) h
 
-pub notes_alike : (c : Change) (p : ℕ) (turn : CoreState → Taken) (whats other : List What) → other ≡ whats → IsTurnOf c p turn whats → IsTurnOf c p turn other
+pub notes_alike : (c : Change) (p : ℕ) (turn : CoreState → CoreTurn) (whats other : List What) → other ≡ whats → IsTurnOf c p turn whats → IsTurnOf c p turn other
 notes_alike c p turn whats other same h s frames space = says_alike c p s (turn s) whats other same (h s frames space)
 
 -- events behind others
@@ -37,7 +37,7 @@ answers F S p s answer frames space = record { says = refl; frames = frames; spa
 -- a state of these frames, in which each process is this one
 abbrev pub state_of : FramesValue → SpaceValue → CoreState
 state_of F S =
-    record (start F.movable F.normal (λ _. true)) {
+    record (core_start F.movable F.normal (λ _. true)) {
       count = F.count;
       mark = F.mark;
       word = F.word;

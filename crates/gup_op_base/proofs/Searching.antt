@@ -6,7 +6,7 @@ use Rattle.gup_plain.specs.Denial.{any_below}
 use Rattle.gup_frames.specs.Frames.{FramesValue, free_frame}
 use Rattle.gup_space.specs.Shows.{ShowsFrames}
 use Rattle.gup_spec_events.specs.State.{CoreState}
-use Rattle.gup_spec_turns.specs.Taken.{free_frame as free_in_state}
+use Rattle.gup_spec_turns.specs.CoreTurn.{free_frame as free_in_state}
 
 pub lowest_same : (first n : ℕ) (test other : ℕ → Bool) → ((k : ℕ) → test k ≡ other k) → lowest first n test ≡ lowest first n other
 lowest_same first zero test other same = refl

@@ -9,7 +9,7 @@ use Rattle.gup_plain.specs.declared.note.What.TheVariants.{Silent, Event, Done}
 use Rattle.gup_space.specs.Shows.{Change, ShowsFrames, ShowsSpace}
 use Rattle.gup_spec_events.specs.State.{CoreState}
 use Rattle.gup_spec_events.specs.Event.{run}
-use Rattle.gup_spec_turns.specs.Taken.{Taken}
+use Rattle.gup_spec_turns.specs.CoreTurn.{CoreTurn}
 use Rattle.gup_op_base.specs.declared.said.Said.{Said}
 
 -- a turn without an event that answers nothing is silent; a pin is made at an event of its own, behind that of its page
@@ -43,12 +43,12 @@ stored_said a p page word value =
     record { event = Some (events.Store a p page word value); next = None; answer = Some answers.Plain }
 
 -- From this state the turn of process p leads to frames and a process as they are behind the change, and says this.
-pub record Leads (c : Change) (p : ℕ) (s : CoreState) (turn : Taken) (whats : List What) : Type 0 where
+pub record Leads (c : Change) (p : ℕ) (s : CoreState) (turn : CoreTurn) (whats : List What) : Type 0 where
   pub says : turn.whats ≡ whats
   pub frames : ShowsFrames c.new_frames (run s turn.events)
   pub space : ShowsSpace p c.new_space (run s turn.events)
 
 -- so it is in whatever state the frames and the process stand
-abbrev pub IsTurnOf : Change → (p : ℕ) → (CoreState → Taken) → List What → Type 0
+abbrev pub IsTurnOf : Change → (p : ℕ) → (CoreState → CoreTurn) → List What → Type 0
 IsTurnOf c p turn whats =
     (s : CoreState) → ShowsFrames c.old_frames s → ShowsSpace p c.old_space s → Leads c p s (turn s) whats

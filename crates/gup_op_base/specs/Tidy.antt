@@ -7,7 +7,7 @@ use Rattle.gup_script.specs.declared.op.Op.{Op}
 use Rattle.gup_script.specs.declared.op.Op.TheVariants.{Load, Store, Unpin, Give, Take, Transfer}
 use Rattle.gup_frames.specs.Frames.{FramesValue, IsFrame}
 use Rattle.gup_space.specs.Space.{SpaceValue}
-use Rattle.gup_spec_turns.specs.Taken.{allows_store}
+use Rattle.gup_spec_turns.specs.CoreTurn.{allows_store}
 
 -- each mapped page has the number of one
 abbrev pub AreNumbered : SpaceValue → Type 0

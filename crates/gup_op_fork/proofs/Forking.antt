@@ -20,7 +20,7 @@ use Rattle.gup_fork.proofs.ForkAfter.{counting, passing}
 use Rattle.gup_fork.proofs.ForkLemmas.{are_fork_events}
 use Rattle.gup_spec_events.specs.State.{CoreState, Job, idle, marking, moving, forking, walking, between, counted, lowered, cleared, copying, failing}
 use Rattle.gup_spec_events.specs.Event.{CoreEvent, bias, begin_fork, count_page, pass_page, end_fork, copies_page}
-use Rattle.gup_spec_turns.specs.Taken.{Taken}
+use Rattle.gup_spec_turns.specs.CoreTurn.{CoreTurn}
 use Rattle.gup_spec_turns.specs.ForkTurns.{first_behind, next_page, next_turn, page_turn, share_turn, fork_turn}
 use Rattle.gup_spec_turns.specs.ForkPlace.{ForkPlace, copying_place, fork_place, KeepsFrame, StandsFork}
 use Rattle.gup_spec_turns.specs.Reached.{unbegun, from_page, at_page, wants_frame, at_word}
@@ -37,8 +37,8 @@ pub put_here : {X : Type 0} (k : ℕ) (x : X) (f : ℕ → X) → put k x f k �
 put_here k x f = grind (arith, nat_tests)
 
 -- the same turn in other words
-pub leads_alike : (k : ForkChange) (a p c : ℕ) (s : CoreState) (turn other : Taken) (new : ForkPlace) (whats : List What) → other ≡ turn → LeadsFork k a p c s turn new whats → LeadsFork k a p c s other new whats
-leads_alike k a p c s turn other new whats same h = subst (λ (t : Taken). LeadsFork k a p c s t new whats) (sym same) h
+pub leads_alike : (k : ForkChange) (a p c : ℕ) (s : CoreState) (turn other : CoreTurn) (new : ForkPlace) (whats : List What) → other ≡ turn → LeadsFork k a p c s turn new whats → LeadsFork k a p c s other new whats
+leads_alike k a p c s turn other new whats same h = subst (λ (t : CoreTurn). LeadsFork k a p c s t new whats) (sym same) h
 
 -- a fork that copies a page stands at none of the other places
 abbrev is_copying : ForkPlace → Bool

@@ -12,7 +12,7 @@ use Rattle.gup_space.specs.Shows.{ShowsFrames, ShowsSpace}
 use Rattle.gup_fork.specs.Forks.{ForkChange}
 use Rattle.gup_spec_events.specs.State.{CoreState}
 use Rattle.gup_spec_events.specs.Event.{run}
-use Rattle.gup_spec_turns.specs.Taken.{Taken}
+use Rattle.gup_spec_turns.specs.CoreTurn.{CoreTurn}
 use Rattle.gup_spec_turns.specs.ForkTurns.{fork_turn}
 use Rattle.gup_spec_turns.specs.ForkPlace.{ForkPlace, place_in, KeepsFrame, StandsFork}
 use Rattle.gup_spec_turns.specs.Reached.{unbegun, from_page, at_page, wants_frame, at_word}
@@ -51,7 +51,7 @@ birth_behind parent (Event (events.ForkFail c) ∷ whats) = failed
 birth_behind parent whats = growing parent
 
 -- From this state the turn of a fork leads to frames, a parent and a child as they are behind the change, and says this.
-pub record LeadsFork (k : ForkChange) (a p c : ℕ) (s : CoreState) (turn : Taken) (new : ForkPlace) (whats : List What) : Type 0 where
+pub record LeadsFork (k : ForkChange) (a p c : ℕ) (s : CoreState) (turn : CoreTurn) (new : ForkPlace) (whats : List What) : Type 0 where
   pub says : turn.whats ≡ whats
   pub frames : ShowsFrames k.new_frames (run s turn.events)
   pub parent : ShowsSpace p k.new_parent (run s turn.events)

@@ -6,7 +6,7 @@ ghost use Rattle.gup_space.specs.Shows.{change_of};
 ghost use Rattle.gup_fault.specs.Refused.{answer_of as answered};
 ghost use Rattle.gup_fault.specs.Faults.{HasEntry, page_word};
 ghost use Rattle.gup_spec_turns.specs.PageTurns.{load_turn, store_turn};
-ghost use Rattle.gup_spec_turns.specs.Taken.{allows_store as is_allowed, frame_in};
+ghost use Rattle.gup_spec_turns.specs.CoreTurn.{allows_store as is_allowed, frame_in};
 ghost use Rattle.gup_op_base.specs.Tidy.{IsTidy};
 ghost use Rattle.gup_op_base.specs.Said.{whats_of, loaded_said, stored_said, IsTurnOf};
 

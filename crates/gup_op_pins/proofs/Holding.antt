@@ -17,7 +17,7 @@ use Rattle.gup_space.proofs.ShowsLemmas.{shows_frames}
 use Rattle.gup_handles.specs.Handles.{HandleValue, HandlesValue, unmade, held, given, got, gone, IsPinOf, IsGivenTo, given_to, taken_by, but_last, held_or_gone, without_last, HasLast}
 use Rattle.gup_spec_events.specs.State.{CoreState}
 use Rattle.gup_spec_events.specs.Event.{happens, unpin_page, give_handle, take_handle}
-use Rattle.gup_spec_turns.specs.Taken.{Taken}
+use Rattle.gup_spec_turns.specs.CoreTurn.{CoreTurn}
 use Rattle.gup_spec_turns.specs.PinTurns.{last_of, unpinned, unpin_turn, unpin_turn_by, give_turn, give_turn_by, take_turn}
 use Rattle.gup_op_pins.specs.Pins.{IsPin, ShowsPins, IsWeighed}
 use Rattle.gup_op_pins.specs.Held.{HandleChange, LeadsHandle, IsHandleTurn, unpin_said, done_said}
@@ -27,12 +27,12 @@ handle_change F F' H H' W W' =
     record { old_frames = F; new_frames = F'; old_pins = H; new_pins = H'; old_store = W; new_store = W' }
 
 -- the same notes in other words
-pub handle_alike : (c : HandleChange) (a : ℕ) (turn : CoreState → Taken) (whats other : List What) → other ≡ whats → IsHandleTurn c a turn whats → IsHandleTurn c a turn other
+pub handle_alike : (c : HandleChange) (a : ℕ) (turn : CoreState → CoreTurn) (whats other : List What) → other ≡ whats → IsHandleTurn c a turn whats → IsHandleTurn c a turn other
 handle_alike c a turn whats other same h = subst (λ (ws : List What). IsHandleTurn c a turn ws) (sym same) h
 
 -- the same turn in other words
-pub leads_handle_alike : (c : HandleChange) (a : ℕ) (s : CoreState) (turn other : Taken) (whats : List What) → other ≡ turn → LeadsHandle c a s turn whats → LeadsHandle c a s other whats
-leads_handle_alike c a s turn other whats same h = subst (λ (t : Taken). LeadsHandle c a s t whats) (sym same) h
+pub leads_handle_alike : (c : HandleChange) (a : ℕ) (s : CoreState) (turn other : CoreTurn) (whats : List What) → other ≡ turn → LeadsHandle c a s turn whats → LeadsHandle c a s other whats
+leads_handle_alike c a s turn other whats same h = subst (λ (t : CoreTurn). LeadsHandle c a s t whats) (sym same) h
 
 pub on_ok : {E : Type 0} {P : Type 0} (r : Result (Unit {0}) E) → is_err r ≡ false → OnOk r P → P
 on_ok (Ok ok) is h = h

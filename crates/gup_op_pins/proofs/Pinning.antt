@@ -17,11 +17,11 @@ use Rattle.gup_space.specs.Shows.{ShowsFrames, ShowsSpace}
 use Rattle.gup_space.proofs.ShowsLemmas.{shows_frames, shows_space, events_lead}
 use Rattle.gup_handles.specs.Handles.{HandlesValue, held}
 use Rattle.gup_spec_events.specs.State.{CoreState, Taken as TakenPage}
-use Rattle.gup_spec_events.specs.Event.{CoreEvent, happens, pin_page, make_handle, writes_taken, objects_taken, frames_of as frames_taken, run}
+use Rattle.gup_spec_events.specs.Event.{CoreEvent, happens, pin_page, make_handle, writes_taken, objects_taken, taken_frames as frames_taken, run}
 use Rattle.gup_spec_events.specs.Invariant.{frame_of}
 use Rattle.gup_spec_events.specs.Fault.{Fault, events_of, refusal_of}
 use Rattle.gup_fault.specs.Faults.{IsFault}
-use Rattle.gup_spec_turns.specs.Taken.{Taken, entry_in}
+use Rattle.gup_spec_turns.specs.CoreTurn.{CoreTurn, entry_in}
 use Rattle.gup_spec_turns.specs.PinTurns.{raises, makes_if, pinned_if, pins, cause_of, ends_pin, pin_turn, pin_turn_by}
 use Rattle.gup_op_pins.specs.Pins.{IsPin, ShowsPins, PinChange, LeadsPin, IsPinTurn, raised, fault_to_pin}
 use Rattle.gup_op_base.specs.Tidy.{IsTidy}
@@ -37,8 +37,8 @@ pub pin_alike : (c : PinChange) (a p handle page n : ℕ) (write : Bool) (far : 
 pin_alike c a p handle page n write far whats other same h = subst (λ (ws : List What). IsPinTurn c a p handle page n write far ws) (sym same) h
 
 -- the same turn in other words
-turn_alike : (c : PinChange) (a p : ℕ) (s : CoreState) (turn other : Taken) (whats : List What) → other ≡ turn → LeadsPin c a p s turn whats → LeadsPin c a p s other whats
-turn_alike c a p s turn other whats same h = subst (λ (t : Taken). LeadsPin c a p s t whats) (sym same) h
+turn_alike : (c : PinChange) (a p : ℕ) (s : CoreState) (turn other : CoreTurn) (whats : List What) → other ≡ turn → LeadsPin c a p s turn whats → LeadsPin c a p s other whats
+turn_alike c a p s turn other whats same h = subst (λ (t : CoreTurn). LeadsPin c a p s t whats) (sym same) h
 
 -- has-pinned set before the first page
 pub raised_tidy : (F : FramesValue) (S : SpaceValue) (far : ℕ) → IsTidy F S → IsTidy F (raised far S)

@@ -17,7 +17,7 @@ use Rattle.gup_fault.specs.Refused.{denial_of}
 use Rattle.gup_fault.specs.Faults.{HasEntry, IsMarked, IsWritable, IsFault}
 use Rattle.gup_slow.specs.Pins.{IsReady}
 use Rattle.gup_spec_turns.specs.PinTurns.{pin_fault}
-use Rattle.gup_spec_turns.specs.Taken.{free_frame as free_in_state}
+use Rattle.gup_spec_turns.specs.CoreTurn.{free_frame as free_in_state}
 use Rattle.gup_op_pins.specs.Pins.{raised, fault_to_pin, want_of}
 use Rattle.gup_op_base.specs.Tidy.{IsTidy}
 use Rattle.gup_op_base.proofs.Leading.{state_of, has_frames, has_space}

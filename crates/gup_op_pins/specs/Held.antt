@@ -12,7 +12,7 @@ use Rattle.gup_space.specs.Shows.{ShowsFrames}
 use Rattle.gup_handles.specs.Handles.{HandleValue, HandlesValue, handles_of, gone, without_last, HasLast}
 use Rattle.gup_spec_events.specs.State.{CoreState}
 use Rattle.gup_spec_events.specs.Event.{bias, run}
-use Rattle.gup_spec_turns.specs.Taken.{Taken}
+use Rattle.gup_spec_turns.specs.CoreTurn.{CoreTurn}
 use Rattle.gup_op_base.specs.declared.said.Said.{Said}
 use Rattle.gup_op_pins.specs.Pins.{ShowsPins}
 
@@ -81,14 +81,14 @@ pub record IsDone (old new : HandlesValue) (handle : ℕ) (value : HandleValue) 
 -- ---- a turn and a state
 
 -- From this state such a turn leads to all that as it is behind the change, and says this.
-pub record LeadsHandle (c : HandleChange) (a : ℕ) (s : CoreState) (turn : Taken) (whats : List What) : Type 0 where
+pub record LeadsHandle (c : HandleChange) (a : ℕ) (s : CoreState) (turn : CoreTurn) (whats : List What) : Type 0 where
   pub says : turn.whats ≡ whats
   pub frames : ShowsFrames c.new_frames (run s turn.events)
   pub pins : ShowsPins c.new_pins (run s turn.events)
   pub store : ShowsStore a c.new_store (run s turn.events)
 
 -- so it is in whatever state all that stands
-abbrev pub IsHandleTurn : HandleChange → (a : ℕ) → (CoreState → Taken) → List What → Type 0
+abbrev pub IsHandleTurn : HandleChange → (a : ℕ) → (CoreState → CoreTurn) → List What → Type 0
 IsHandleTurn c a turn whats =
     (s : CoreState) → ShowsFrames c.old_frames s → ShowsPins c.old_pins s → ShowsStore a c.old_store s
     → LeadsHandle c a s (turn s) whats

@@ -9,9 +9,9 @@ use Rattle.gup_space.specs.Space.{SpaceValue}
 use Rattle.gup_space.specs.Shows.{ShowsFrames, ShowsSpace}
 use Rattle.gup_handles.specs.Handles.{HandleValue, HandlesValue, unmade, held, given, got, gone}
 use Rattle.gup_spec_events.specs.State.{CoreState}
-use Rattle.gup_spec_events.specs.Event.{bias, frames_of as frames_taken, run}
+use Rattle.gup_spec_events.specs.Event.{bias, taken_frames as frames_taken, run}
 use Rattle.gup_spec_events.specs.Fault.{Fault, write_fault, unshare_fault}
-use Rattle.gup_spec_turns.specs.Taken.{Taken}
+use Rattle.gup_spec_turns.specs.CoreTurn.{CoreTurn}
 use Rattle.gup_spec_turns.specs.PinTurns.{pin_turn}
 use Rattle.gup_spec_turns.specs.PinPlace.{StandsPin}
 
@@ -70,7 +70,7 @@ pub record PinChange : Type 0 where
   pub new_taken : List ℕ
 
 -- From this state the turn of a pin of process p leads to all that as it is behind the change, and says this.
-pub record LeadsPin (c : PinChange) (a p : ℕ) (s : CoreState) (turn : Taken) (whats : List What) : Type 0 where
+pub record LeadsPin (c : PinChange) (a p : ℕ) (s : CoreState) (turn : CoreTurn) (whats : List What) : Type 0 where
   pub says : turn.whats ≡ whats
   pub frames : ShowsFrames c.new_frames (run s turn.events)
   pub space : ShowsSpace p c.new_space (run s turn.events)

@@ -6,6 +6,7 @@ use Rattle.gup_plain.specs.declared.event.PlainEvent.{PlainEvent}
 use Rattle.gup_plain.specs.declared.event.PlainEvent.TheVariants.{Map, Unmap, Discard, Protect, Load, Store, PinTry, PinDrop, PinOk, Unpin, Give, Take, MoveOut, MoveIn, MirrorFill, Look, ForkBegin, ForkPage, ForkWord, ForkEnd, ForkFail}
 use Rattle.gup_plain.specs.Put.{put, put2, spread}
 use Rattle.gup_plain.specs.State.{PlainState, Birth, unborn, growing, born, failed, Handle, unmade, held, given, gone, Pending, Noted, IsNamed, objects_of, named_or_zero}
+use Rattle.gup_base.specs.Counts.{most_slots}
 
 -- the most pages that a process may have mapped
 abbrev pub most_pages : ℕ
@@ -15,17 +16,14 @@ most_pages = 1024
 abbrev pub words : ℕ
 words = 512
 
-abbrev pub most_slots : ℕ
-most_slots = 4096
-
 -- how many page numbers there are
 unfoldable pub page_numbers : ℕ
 page_numbers = 2 ^ 35
 
 -- a born process has the page mapped to be written, or this is not asked
-abbrev pub AllowsPin : PlainState → (p page : ℕ) → (write : Bool) → Type 0
-AllowsPin s p page true = s.right p page ≡ Some RW
-AllowsPin s p page false = IsSome (s.right p page)
+abbrev pub MayPin : PlainState → (p page : ℕ) → (write : Bool) → Type 0
+MayPin s p page true = s.right p page ≡ Some RW
+MayPin s p page false = IsSome (s.right p page)
 
 -- the pages that a running pin has taken
 abbrev pub pending_pages : List Pending → List ℕ
@@ -102,7 +100,7 @@ CanHappen s (Protect actor p page n rights) =
 CanHappen s (Load actor p page word value) = IsNamed s p page × (value ≡ s.content (s.object p page) word)
 CanHappen s (Store actor p page word value) = (s.birth p ≡ born) × (s.right p page ≡ Some RW)
 CanHappen s (PinTry actor p page write) =
-    (s.birth p ≡ born) × AllowsPin s p page write × (Contains (pending_pages (s.pending actor)) page → ⊥)
+    (s.birth p ≡ born) × MayPin s p page write × (Contains (pending_pages (s.pending actor)) page → ⊥)
 CanHappen s (PinDrop actor page) = Contains (pending_pages (s.pending actor)) page
 CanHappen s (PinOk actor h) =
     (s.handle h ≡ unmade) × AreTaken (s.pending actor) (write_flag (s.pending actor))

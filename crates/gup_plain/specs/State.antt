@@ -52,8 +52,8 @@ pub record PlainState : Type 0 where
   pub slot : ℕ → Option Noted
 
 -- the start, at which some processes are born: without pages, pins or filled slots, and all words 0
-abbrev pub start : (ℕ → Bool) → PlainState
-start is_born =
+abbrev pub plain_start : (ℕ → Bool) → PlainState
+plain_start is_born =
     record {
       content = λ _ _. 0;
       made = 0;

@@ -4,7 +4,7 @@ use Rattle.std.proofs.Common.{◌≡◌, ℕ, ◌⊎◌, Bool, true, false, List
 use Rattle.std.specs.Bool.{Decides}
 use Rattle.std.specs.Str.{bytes_eq}
 use Rattle.std.proofs.lemmas.Slice.Eq.{bytes_eq-Decides}
-use Rattle.gup_spec_grammar.specs.Names.{Entry, find, is_unused}
+use Rattle.gup_spec_grammar.specs.Names.{NamedEntry, find, is_unused}
 use Rattle.gup_spec_grammar.specs.declared.fault.Reason.{Reason}
 use Rattle.gup_spec_grammar.specs.Fault.{Unless}
 use Rattle.gup_read.specs.Reading.{◌>>=◌, check, need}
@@ -59,7 +59,7 @@ word_differs word text differs = way (bytes_eq word text) refl where
 
 -- ---- names
 
-pub unused_Decides : (es : List Entry) (name : List ℕ) → Decides (is_unused es name) (find es name ≡ None)
+pub unused_Decides : (es : List NamedEntry) (name : List ℕ) → Decides (is_unused es name) (find es name ≡ None)
 unused_Decides es name = way (find es name) refl where
   way : (o : Option _) → find es name ≡ o → Decides (is_none o) (o ≡ None)
   way None e = (λ h. refl, λ h. refl)

@@ -7,8 +7,10 @@ use Rattle.gup_spec_grammar.specs.Spelling.{IsCount, IsName}
 use Rattle.gup_spec_grammar.specs.Names.{find, is_unused}
 use Rattle.gup_script.specs.declared.op.Kind.TheVariants.{Thread, Device, Mover}
 use Rattle.gup_spec_grammar.specs.declared.fault.Reason.TheVariants.{Number, Name, Twice, Limit}
-use Rattle.gup_spec_grammar.specs.Outline.{Outline, with_process, with_actor, with_seed, is_thread, is_device, how_many, has_mover}
-use Rattle.gup_script.specs.Limits.{most_processes, most_threads, most_devices, most_slots}
+use Rattle.gup_spec_grammar.specs.Outline.{Outline, with_process, with_actor, with_seed, is_device, how_many, has_mover}
+use Rattle.gup_script.specs.Script.{is_thread}
+use Rattle.gup_script.specs.Limits.{most_processes, most_threads, most_devices}
+use Rattle.gup_base.specs.Counts.{most_slots}
 use Rattle.gup_spec_grammar.specs.Said.{Word, a_process, a_child, a_thread, a_device, a_mover, a_seed}
 use Rattle.gup_spec_grammar.specs.Grammar.{IsUnused}
 use Rattle.gup_spec_grammar.specs.Fault.{Unless, Fails}

@@ -10,7 +10,7 @@ use Rattle.gup_spec_grammar.specs.declared.fault.Reason.TheVariants as reasons
 use Rattle.gup_spec_grammar.specs.declared.fault.ScriptFault.{ScriptFault}
 use Rattle.gup_script.specs.Script.{ScriptValue}
 use Rattle.gup_spec_grammar.specs.Outline.{Outline}
-use Rattle.gup_spec_grammar.specs.Grammar.{most_bytes, Stage, before_head, before_frames, open_at, IsRight, AreRight, Accepts}
+use Rattle.gup_spec_grammar.specs.Grammar.{most_bytes, Stage, before_head, before_frames, open_at, IsRightLine, AreRightLines, Accepts}
 use Rattle.gup_spec_grammar.specs.Fault.{Unless, LastFault, IsShort, FaultAt, HasFault}
 use Rattle.gup_read.specs.Reading.{line_in, fault_at, end_in, behind, lines_in, reading}
 use Rattle.gup_read.proofs.Spaced.{AreNamedAt, stays_named}
@@ -103,7 +103,7 @@ some_behind : (front : List (List ℕ)) (line : List ℕ) (more : List (List ℕ
 some_behind [] line more = omega arith
 some_behind (x ∷ front) line more = omega arith
 
-lines_found : (number : ℕ) (stage : Stage) (line : List ℕ) (more : List (List ℕ)) (st : Outline) → AreNamedAt stage → lines_in number stage (line ∷ more) ≡ Ok st → (front : List (List ℕ)) × ((line ∷ more) ≡ front ++ [] ∷ []) × AreRight stage front (open_at st)
+lines_found : (number : ℕ) (stage : Stage) (line : List ℕ) (more : List (List ℕ)) (st : Outline) → AreNamedAt stage → lines_in number stage (line ∷ more) ≡ Ok st → (front : List (List ℕ)) × ((line ∷ more) ≡ front ++ [] ∷ []) × AreRightLines stage front (open_at st)
 lines_found number stage line [] st named e = let h = end_found number stage line st e in ([], ap (λ l. l ∷ []) h.0, h.1)
 lines_found number stage line (next ∷ more) st named e =
     let b = behind_found number (line_in stage line) _ st e in
@@ -111,7 +111,7 @@ lines_found number stage line (next ∷ more) st named e =
     let r = lines_found (number + 1) b.0 next more st (stays_named stage b.0 line named right) b.2 in
     (line ∷ r.0, ap (λ ls. line ∷ ls) r.1, (b.0, right, r.2))
 
-lines_read : (number : ℕ) (stage : Stage) (front : List (List ℕ)) (st : Outline) → AreNamedAt stage → AreRight stage front (open_at st) → lines_in number stage (front ++ [] ∷ []) ≡ Ok st
+lines_read : (number : ℕ) (stage : Stage) (front : List (List ℕ)) (st : Outline) → AreNamedAt stage → AreRightLines stage front (open_at st) → lines_in number stage (front ++ [] ∷ []) ≡ Ok st
 lines_read number stage [] st named h = end_read number stage st h
 lines_read number stage (line ∷ front) st named h =
     let is = (judged_line stage named line).read h.0 h.1 in
@@ -123,7 +123,7 @@ abbrev FaultIn : ℕ → Stage → List (List ℕ) → ScriptFault → Type 0
 FaultIn number stage lines fault =
     (front : List (List ℕ)) × (line : List ℕ) × (more : List (List ℕ)) × (after : Stage)
     × (lines ≡ front ++ line ∷ more) × (fault.line ≡ length front + number)
-    × AreRight stage front after × FaultAt after line more fault.reason
+    × AreRightLines stage front after × FaultAt after line more fault.reason
 
 lines_fault : (number : ℕ) (stage : Stage) (line : List ℕ) (more : List (List ℕ)) (fault : ScriptFault) → AreNamedAt stage → lines_in number stage (line ∷ more) ≡ Err fault → FaultIn number stage (line ∷ more) fault
 lines_fault number stage line [] fault named e =
@@ -132,7 +132,7 @@ lines_fault number stage line [] fault named e =
     ([], line, [], stage, refl, omega arith, refl, h.0)
 lines_fault number stage line (next ∷ more) fault named e =
     let k = judged_line stage named line in
-    let rest = λ (after : Stage) (right : IsRight stage line after). lines_fault (number + 1) after next more fault (stays_named stage after line named right) in
+    let rest = λ (after : Stage) (right : IsRightLine stage line after). lines_fault (number + 1) after next more fault (stays_named stage after line named right) in
     elim (behind_fault number (line_in stage line) (λ after. lines_in (number + 1) after (next ∷ more)) fault e) [
       | inl f ↦ let n = f.1 in ([], line, next ∷ more, stage, refl, omega arith, refl, k.fault_found fault.reason f.0)
       | inr b ↦
@@ -148,7 +148,7 @@ first_fault number stage line (next ∷ more) fault named h n =
     let is = (judged_line stage named line).fault_read fault.reason h in
     ap (λ m. behind number m (λ after. lines_in (number + 1) after (next ∷ more))) is ∙ ap (λ f. Err f) (fault_is fault number fault.reason n refl)
 
-lines_fault_read : (number : ℕ) (stage : Stage) (front : List (List ℕ)) (line : List ℕ) (more : List (List ℕ)) (after : Stage) (fault : ScriptFault) → AreNamedAt stage → AreRight stage front after → FaultAt after line more fault.reason → fault.line ≡ length front + number → lines_in number stage (front ++ line ∷ more) ≡ Err fault
+lines_fault_read : (number : ℕ) (stage : Stage) (front : List (List ℕ)) (line : List ℕ) (more : List (List ℕ)) (after : Stage) (fault : ScriptFault) → AreNamedAt stage → AreRightLines stage front after → FaultAt after line more fault.reason → fault.line ≡ length front + number → lines_in number stage (front ++ line ∷ more) ≡ Err fault
 lines_fault_read number stage [] line more after fault named right h n =
     first_fault number stage line more fault named (subst (λ (s : Stage). FaultAt s line more fault.reason) right h) (omega arith)
 lines_fault_read number stage (x ∷ front) line more after fault named right h n =
@@ -159,7 +159,7 @@ lines_fault_read number stage (x ∷ front) line more after fault named right h 
 
 -- ---- texts
 
-text_found : (lines : List (List ℕ)) → 0 < length lines → (st : Outline) → lines_in 1 before_head lines ≡ Ok st → (front : List (List ℕ)) × (lines ≡ front ++ [] ∷ []) × AreRight before_head front (open_at st)
+text_found : (lines : List (List ℕ)) → 0 < length lines → (st : Outline) → lines_in 1 before_head lines ≡ Ok st → (front : List (List ℕ)) × (lines ≡ front ++ [] ∷ []) × AreRightLines before_head front (open_at st)
 text_found [] some st e = absurd (omega arith)
 text_found (line ∷ more) some st e = lines_found 1 before_head line more st tt e
 

@@ -9,7 +9,7 @@ use Rattle.gup_spec_grammar.specs.declared.fault.Reason.{Reason}
 use Rattle.gup_spec_grammar.specs.declared.fault.Reason.TheVariants as reasons
 use Rattle.gup_spec_grammar.specs.Outline.{empty_outline}
 use Rattle.gup_spec_grammar.specs.Said.{Word}
-use Rattle.gup_spec_grammar.specs.Grammar.{Stage, before_head, before_frames, open_at, IsSaid, IsPassed, IsRight}
+use Rattle.gup_spec_grammar.specs.Grammar.{Stage, before_head, before_frames, open_at, IsSaid, SaysNothing, IsRightLine}
 use Rattle.gup_spec_grammar.specs.Fault.{Unless, AreSpaced, WordsFault, LineFault}
 use Rattle.gup_read.specs.Reading.{◌>>=◌, is_head, words_in, said_in, line_in}
 use Rattle.gup_read.proofs.Verdicts.{Judges, same_good, same_bad, not_bad, checked, ended, adjusted, refused}
@@ -71,18 +71,18 @@ some_part c text = let long = length-slice_split (λ b. eqb b c) text in omega a
 
 -- ---- lines
 
-passed_decides : (line : List ℕ) → Decides (is_passed line) (IsPassed line)
+passed_decides : (line : List ℕ) → Decides (is_passed line) (SaysNothing line)
 passed_decides [] = (λ _. tt, λ _. refl)
 passed_decides (c ∷ cs) = Decides-eqb c 35
 
 abbrev pub JudgesLine : Stage → List ℕ → Result Stage Reason → Type 0
-JudgesLine stage line m = Judges Stage m (IsRight stage line) (LineFault stage line)
+JudgesLine stage line m = Judges Stage m (IsRightLine stage line) (LineFault stage line)
 
 not_printable : (stage : Stage) (line : List ℕ) → (IsPrintable line → ⊥) → JudgesLine stage line (Err reasons.Byte)
 not_printable stage line none =
     refused reasons.Byte (λ x h. none h.0) (inl (refl, none)) (λ r h. elim h [ inl f ↦ f.0 | inr g ↦ absurd (none g.0) ])
 
-passed : (stage : Stage) (line : List ℕ) → IsPrintable line → IsPassed line → JudgesLine stage line (Ok stage)
+passed : (stage : Stage) (line : List ℕ) → IsPrintable line → SaysNothing line → JudgesLine stage line (Ok stage)
 passed stage line printable is = record {
   found = λ x e. (printable, inl (is, sym (same_good stage x e)));
   read = λ x h. elim h.1 [ inl p ↦ ap (λ s. Ok s) (sym p.1) | inr s ↦ absurd (s.0 is) ];
@@ -90,7 +90,7 @@ passed stage line printable is = record {
   fault_read = λ r h. elim h [ inl f ↦ absurd (f.1 printable) | inr g ↦ absurd (g.1.0 is) ];
 }
 
-said : (stage : Stage) (line : List ℕ) → IsPrintable line → (IsPassed line → ⊥) → JudgesSaid stage (parts 32 line) → JudgesLine stage line (said_in stage (parts 32 line))
+said : (stage : Stage) (line : List ℕ) → IsPrintable line → (SaysNothing line → ⊥) → JudgesSaid stage (parts 32 line) → JudgesLine stage line (said_in stage (parts 32 line))
 said stage line printable not_passed k = record {
   found = λ x e. (printable, inr (not_passed, k.found x e));
   read = λ x h. elim h.1 [ inl p ↦ absurd (not_passed p.0) | inr s ↦ k.read x s.1 ];

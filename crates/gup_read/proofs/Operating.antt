@@ -6,8 +6,8 @@ use Rattle.std.proofs.lemmas.List.Elements.{All-push}
 use Rattle.std.proofs.lemmas.List.Sums.{sum_by-cons}
 use Rattle.gup_script.specs.declared.op.Kind.{Kind}
 use Rattle.gup_script.specs.declared.op.Op.{Op}
-use Rattle.gup_script.specs.Script.{Actor, actor_at}
-use Rattle.gup_spec_grammar.specs.Outline.{Outline, with_op, with_operation, is_thread, is_device, is_mover}
+use Rattle.gup_script.specs.Script.{Actor, actor_at, is_thread}
+use Rattle.gup_spec_grammar.specs.Outline.{Outline, with_op, with_operation, is_device, is_mover}
 use Rattle.gup_script.specs.Limits.{most_operations}
 use Rattle.gup_spec_grammar.specs.Said.{Action, pins, action_words}
 use Rattle.gup_spec_grammar.specs.Grammar.{HandleLimits, with_declared, IsOpOf, Does, first_word}

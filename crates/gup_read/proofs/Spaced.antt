@@ -6,11 +6,11 @@ use Rattle.std.proofs.lemmas.Fmt.{decimal_nonempty}
 use Rattle.gup_base.specs.declared.entry.Rights.{Rights}
 use Rattle.gup_base.specs.declared.entry.Rights.TheVariants.{R, RW}
 use Rattle.gup_spec_grammar.specs.Spelling.{parts, IsName, turn_word, address}
-use Rattle.gup_spec_grammar.specs.Names.{Entry, find, declared}
+use Rattle.gup_spec_grammar.specs.Names.{NamedEntry, find, declared}
 use Rattle.gup_spec_grammar.specs.declared.named.Named.{Named}
 use Rattle.gup_spec_grammar.specs.Outline.{Outline}
 use Rattle.gup_spec_grammar.specs.Said.{Word, Said, a_process, a_child, a_thread, a_device, a_mover, a_seed, some_turns, random_turns, said_words, Action, maps, unmaps, protects, discards, loads, stores, exits, pins, forks, unpins, takes, gives, transfers, action_words, rights_word, write_word, transfer_word}
-use Rattle.gup_spec_grammar.specs.Grammar.{TurnsAnActor, Declares, ActionNames, with_declared, Does, IsNext, IsSaid, IsRight, Stage, before_head, before_frames, open_at}
+use Rattle.gup_spec_grammar.specs.Grammar.{TurnsAnActor, Declares, ActionNames, with_declared, Does, IsNext, IsSaid, IsRightLine, Stage, before_head, before_frames, open_at}
 use Rattle.gup_spec_grammar.specs.Fault.{AreSpaced}
 use Rattle.gup_read.proofs.Verdicts.{given}
 
@@ -29,7 +29,7 @@ past : (b : Bool) (x : Named) (o : Option Named) → cond b (Some x) o ≡ None 
 past true x o e = absurd cc
 past false x o e = (refl, e)
 
-unnamed_declared : (es : List Entry) (name : List ℕ) (named : Named) → (name ≡ [] → ⊥) → find es [] ≡ None → find (declared es name named) [] ≡ None
+unnamed_declared : (es : List NamedEntry) (name : List ℕ) (named : Named) → (name ≡ [] → ⊥) → find es [] ≡ None → find (declared es name named) [] ≡ None
 unnamed_declared [] [] named some none = absurd (some refl)
 unnamed_declared [] (c ∷ cs) named some none = refl
 unnamed_declared (e ∷ es) name named some none =
@@ -63,7 +63,7 @@ stays_said before_head next words h s = subst AreNamedAt (sym s.1) tt
 stays_said before_frames next words h s = subst AreNamedAt (sym s.2) refl
 stays_said (open_at st) next words h s = subst AreNamedAt (sym s.2) (stays_next st s.0 words h s.1)
 
-pub stays_named : (stage next : Stage) (line : List ℕ) → AreNamedAt stage → IsRight stage line next → AreNamedAt next
+pub stays_named : (stage next : Stage) (line : List ℕ) → AreNamedAt stage → IsRightLine stage line next → AreNamedAt next
 stays_named stage next line h r = elim r.1 [ inl passed ↦ subst AreNamedAt (sym passed.1) h | inr said ↦ stays_said stage next (parts 32 line) h said.1 ]
 
 -- ---- words that aren't empty

@@ -5,14 +5,14 @@ use Rattle.std.specs.List.{AllByRecursion}
 use Rattle.std.proofs.lemmas.List.{length_push, length-append}
 use Rattle.std.proofs.lemmas.List.Elements.{All-nil}
 use Rattle.std.proofs.lemmas.List.Sums.{sum_by_push}
-use Rattle.gup_spec_grammar.specs.Names.{Entry, find, declared}
+use Rattle.gup_spec_grammar.specs.Names.{NamedEntry, find, declared}
 use Rattle.gup_spec_grammar.specs.declared.named.Named.{Named}
 use Rattle.gup_spec_grammar.specs.declared.named.Named.TheVariants as named
 use Rattle.gup_script.specs.declared.op.Kind.{Kind}
 use Rattle.gup_script.specs.declared.op.Kind.TheVariants.{Thread, Device, Mover}
 use Rattle.gup_script.specs.declared.op.Op.{Op}
-use Rattle.gup_script.specs.Script.{ScriptValue, Process, Actor, FrameCounts}
-use Rattle.gup_spec_grammar.specs.Outline.{Outline, empty_outline, with_process, with_actor, with_handle, with_turns, with_seed, is_thread, is_device, is_mover, how_many}
+use Rattle.gup_script.specs.Script.{ScriptValue, Process, Actor, FrameCounts, is_thread}
+use Rattle.gup_spec_grammar.specs.Outline.{Outline, empty_outline, with_process, with_actor, with_handle, with_turns, with_seed, is_device, is_mover, how_many}
 use Rattle.gup_script.specs.Limits.{most_handles, most_operations, most_turns}
 use Rattle.gup_spec_grammar.specs.Said.{Word}
 use Rattle.gup_spec_grammar.specs.Grammar.{NamesProcess, NamesActor, NamesPin, AreFrameCounts}
@@ -80,7 +80,7 @@ either true x y o p rest z e = inl e
 either false x y o p rest z e = rest e
 
 -- what is found behind one more declaration was found before, or is what it declared
-pub found_behind : (es : List Entry) (name word : List ℕ) (x y : Named) → find (declared es name x) word ≡ Some y → (find es word ≡ Some y) ⊎ (x ≡ y)
+pub found_behind : (es : List NamedEntry) (name word : List ℕ) (x y : Named) → find (declared es name x) word ≡ Some y → (find es word ≡ Some y) ⊎ (x ≡ y)
 found_behind [] name word x y e = inr (same_named (bytes_eq name word) x y e)
 found_behind (entry ∷ es) name word x y e =
     either (bytes_eq entry.name word) x y (find es word) (find (declared es name x) word) (found_behind es name word x y) entry.named e

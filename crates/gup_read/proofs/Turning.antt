@@ -13,7 +13,7 @@ use Rattle.gup_spec_grammar.specs.declared.fault.Reason.TheVariants.{Number, Nam
 use Rattle.gup_spec_grammar.specs.Outline.{Outline, with_turns, draws}
 use Rattle.gup_script.specs.Limits.{most_turns}
 use Rattle.gup_spec_grammar.specs.Said.{Word, some_turns, random_turns}
-use Rattle.gup_spec_grammar.specs.Grammar.{HasTimes, TurnsAnActor, AreTurns, NamesActor, SaidNames, SaidLimits}
+use Rattle.gup_spec_grammar.specs.Grammar.{HasTimes, TurnsAnActor, AreTurnWords, NamesActor, SaidNames, SaidLimits}
 use Rattle.gup_read_outline.specs.Named.{actor_of}
 use Rattle.gup_read.specs.Reading.{turner, are_times, are_turners, or_zero, turns_of, turns_in, random_in}
 use Rattle.gup_read.proofs.Verdicts.{checked, skipped, needed, ended, merged}
@@ -58,14 +58,14 @@ times_are word name times h = ap or_zero (turn_read word name times h).1
 turner_is : (st : Outline) (word name : Word) (times a : ℕ) → IsTurnWord word name times → NamesActor st name a → or_zero (turner st word) ≡ a
 turner_is st word name times a h named = ap or_zero (ap (λ n. actor_of (find st.names n)) (turn_read word name times h).0 ∙ (actor_finds st name).1 a named)
 
-pub are_turns : (st : Outline) (words : List Word) → AllByRecursion (TurnsAnActor st) words → AreTurns st words (turns_of st words)
+pub are_turns : (st : Outline) (words : List Word) → AllByRecursion (TurnsAnActor st) words → AreTurnWords st words (turns_of st words)
 are_turns st [] h = refl
 are_turns st (word ∷ words) h =
     let t = h.0 in
     let turns = ap₂ (λ n a. replicate n a ++ turns_of st words) (times_are word t.0 t.1 t.3) (turner_is st word t.0 t.1 t.2 t.3 t.4) in
     (t.0, t.1, t.2, turns_of st words, t.3, t.4, are_turns st words h.1, turns)
 
-pub turns_are : (st : Outline) (words : List Word) (actors : List ℕ) → AreTurns st words actors → actors ≡ turns_of st words
+pub turns_are : (st : Outline) (words : List Word) (actors : List ℕ) → AreTurnWords st words actors → actors ≡ turns_of st words
 turns_are st [] actors h = h
 turns_are st (word ∷ words) actors h =
     let rest = turns_are st words h.3 h.6 in

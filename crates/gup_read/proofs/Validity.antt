@@ -9,10 +9,10 @@ use Rattle.gup_read_words.specs.Text.{number_in}
 use Rattle.gup_script.specs.declared.op.Kind.{Kind}
 use Rattle.gup_script.specs.declared.op.Kind.TheVariants.{Thread, Device, Mover}
 use Rattle.gup_script.specs.declared.op.Op.TheVariants.{Pin, Fork}
-use Rattle.gup_script.specs.Script.{ScriptValue, Actor}
-use Rattle.gup_spec_grammar.specs.Outline.{Outline, is_thread, is_device, is_mover, draws, next_state}
+use Rattle.gup_script.specs.Script.{ScriptValue, Actor, is_thread}
+use Rattle.gup_spec_grammar.specs.Outline.{Outline, is_device, is_mover, draws, next_state}
 use Rattle.gup_spec_grammar.specs.Said.{Word, Said, a_process, a_child, a_thread, a_device, a_mover, a_seed, some_turns, random_turns}
-use Rattle.gup_spec_grammar.specs.Grammar.{AreTurns, Declares, IsNext, IsSaid, Stage, before_head, before_frames, open_at, IsRight, AreRight, Accepts}
+use Rattle.gup_spec_grammar.specs.Grammar.{AreTurnWords, Declares, IsNext, IsSaid, Stage, before_head, before_frames, open_at, IsRightLine, AreRightLines, Accepts}
 use Rattle.gup_read.specs.Reading.{reading}
 use Rattle.gup_script.specs.Valid.{IsOp, KindFits, FitsKind, AreDeclared, PinsAt, IsScript}
 use Rattle.gup_read.proofs.Declaring.{one_found}
@@ -25,7 +25,7 @@ use Rattle.gup_read.proofs.Laws.{found}
 
 -- ---- turns
 
-turns_in : (st : Outline) (words : List Word) (actors : List ℕ) → Stands st → AreTurns st words actors → AllByRecursion (λ a. a < length st.script.actors) actors
+turns_in : (st : Outline) (words : List Word) (actors : List ℕ) → Stands st → AreTurnWords st words actors → AllByRecursion (λ a. a < length st.script.actors) actors
 turns_in st [] actors h t = subst (AllByRecursion (λ a. a < length st.script.actors)) (sym t) tt
 turns_in st (word ∷ words) actors h t =
     let below = λ (a : ℕ). a < length st.script.actors in
@@ -98,10 +98,10 @@ stands_said before_head next words h s = subst StandsAt (sym s.1) tt
 stands_said before_frames next words h s = subst StandsAt (sym s.2) (stands_empty s.0 s.1.1)
 stands_said (open_at st) next words h s = subst StandsAt (sym s.2) (stands_next st s.0 words h s.1)
 
-stands_line : (stage next : Stage) (line : List ℕ) → StandsAt stage → IsRight stage line next → StandsAt next
+stands_line : (stage next : Stage) (line : List ℕ) → StandsAt stage → IsRightLine stage line next → StandsAt next
 stands_line stage next line h r = elim r.1 [ inl passed ↦ subst StandsAt (sym passed.1) h | inr said ↦ stands_said stage next (parts 32 line) h said.1 ]
 
-stands_lines : (stage next : Stage) (lines : List (List ℕ)) → StandsAt stage → AreRight stage lines next → StandsAt next
+stands_lines : (stage next : Stage) (lines : List (List ℕ)) → StandsAt stage → AreRightLines stage lines next → StandsAt next
 stands_lines stage next [] h r = subst StandsAt (sym r) h
 stands_lines stage next (line ∷ lines) h r = stands_lines r.0 next lines (stands_line stage r.0 line h r.1) r.2
 

@@ -15,11 +15,12 @@ use Rattle.gup_script.specs.declared.op.Op.TheVariants as ops
 use Rattle.gup_spec_grammar.specs.declared.fault.Reason.{Reason}
 use Rattle.gup_spec_grammar.specs.declared.fault.Reason.TheVariants as reasons
 use Rattle.gup_spec_grammar.specs.declared.fault.ScriptFault.{ScriptFault}
-use Rattle.gup_script.specs.Script.{Actor, FrameCounts, actor_at}
+use Rattle.gup_script.specs.Script.{Actor, FrameCounts, actor_at, is_thread}
 use Rattle.gup_spec_grammar.specs.Grammar.{Stage, before_head, before_frames, open_at, most_bytes}
-use Rattle.gup_spec_grammar.specs.Outline.{Outline, frame_counts, empty_outline, with_process, with_actor, with_handle, with_operation, with_turns, with_seed, is_thread, is_device, how_many, has_mover, is_child, is_forked, next_handle, is_receiver, draws}
+use Rattle.gup_spec_grammar.specs.Outline.{Outline, frame_counts, empty_outline, with_process, with_actor, with_handle, with_operation, with_turns, with_seed, is_device, how_many, has_mover, is_child, is_forked, next_handle, is_receiver, draws}
 use Rattle.gup_read_outline.specs.Named.{process_of, actor_of, pin_of, is_got_name, is_mirror_of, may_mirror}
-use Rattle.gup_script.specs.Limits.{most_processes, most_threads, most_devices, most_pinned, most_words, most_operations, most_turns, most_slots, most_frames, most_tables}
+use Rattle.gup_script.specs.Limits.{most_processes, most_threads, most_devices, most_pinned, most_words, most_operations, most_turns, most_frames, most_tables}
+use Rattle.gup_base.specs.Counts.{most_slots}
 
 -- one test after another, up to the first that fails
 infixl 10 ◌>>=◌

@@ -9,8 +9,8 @@ use Rattle.gup_script.specs.declared.script.Actor.{Actor as Fields}
 use Rattle.gup_script.specs.declared.op.Kind.{Kind}
 use Rattle.gup_script.specs.declared.op.Kind.TheVariants.{Thread, Device, Mover}
 use Rattle.gup_script.specs.declared.op.Op.{Op}
-use Rattle.gup_script.specs.Script.{Actor}
-use Rattle.gup_spec_grammar.specs.Outline.{Outline, is_thread, is_device, is_mover, how_many, with_op, with_actor, with_operation}
+use Rattle.gup_script.specs.Script.{Actor, is_thread}
+use Rattle.gup_spec_grammar.specs.Outline.{Outline, is_device, is_mover, how_many, with_op, with_actor, with_operation}
 use Rattle.gup_read_outline.specs.Room.{IsWithin, HasRoomFor}
 use Rattle.gup_script.specs.Views.{actor_value}
 

@@ -2,7 +2,8 @@
 use Rattle.std.specs.Prelude.{◌≡◌, ◌<◌, ◌≤◌, false}
 use Rattle.gup_script.specs.declared.op.Kind.{Kind}
 use Rattle.gup_script.specs.declared.op.Kind.TheVariants.{Thread, Device, Mover}
-use Rattle.gup_spec_grammar.specs.Outline.{Outline, is_thread, is_device, is_mover, how_many, has_mover}
+use Rattle.gup_spec_grammar.specs.Outline.{Outline, is_device, is_mover, how_many, has_mover}
+use Rattle.gup_script.specs.Script.{is_thread}
 
 pub record IsWithin (st : Outline) : Type 0 where
   pub threads : how_many is_thread st ≤ 64

@@ -3,7 +3,8 @@ ghost use Rattle.std.specs.Prelude.{◌≡◌, ◌↔◌, ◌<◌, ◌≤◌, �
 ghost use Rattle.std.specs.List.{list_any};
 ghost use Rattle.gup_spec_grammar.specs.Names.{find, is_unused};
 ghost use Rattle.gup_script.specs.Script.{actor_at, process_at};
-ghost use Rattle.gup_spec_grammar.specs.Outline.{frame_counts, empty_outline, with_process, with_actor, with_handle, with_operation, with_turns, with_seed, draws, is_thread, is_device, is_mover, how_many, has_mover, is_child, forks_child, is_forked, next_handle, is_receiver};
+ghost use Rattle.gup_spec_grammar.specs.Outline.{frame_counts, empty_outline, with_process, with_actor, with_handle, with_operation, with_turns, with_seed, draws, is_device, is_mover, how_many, has_mover, is_child, forks_child, is_forked, next_handle, is_receiver};
+ghost use Rattle.gup_script.specs.Script.{is_thread};
 ghost use Rattle.gup_read_outline.specs.Room.{HasRoomFor};
 ghost use Rattle.gup_read_outline.specs.Named.{process_of, actor_of, pin_of, is_got_name, is_mirror_of, may_mirror};
 

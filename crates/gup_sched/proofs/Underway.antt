@@ -8,7 +8,7 @@ use Rattle.gup_script.specs.Valid.{IsScript}
 use Rattle.gup_spec_journal.specs.Follows.{notes_of_turn}
 use Rattle.gup_spec_journal.specs.Order.{Turn, journal_of, behind, pointer_after}
 use Rattle.gup_spec_turns.specs.Cost.{cost, operations, forks}
-use Rattle.gup_spec_turns.specs.Run.{turned, RunState, run_start, run_after, turn_in, taken_in, can_go, pointed, written_in, next_by, next_actor, Runs, IsCoreRun}
+use Rattle.gup_spec_turns.specs.Run.{turned, RunState, run_start, run_after, turn_in, core_turn_in, can_go, pointed, written_in, next_by, next_actor, Runs, IsCoreRun}
 use Rattle.gup_law_turns.specs.Standing.{IsStanding}
 use Rattle.gup_core.specs.Machine.{MachineValue, Shows, TakesTurn, IsNew, counted}
 use Rattle.gup_sched.proofs.Going.{pointed_goes}
@@ -39,10 +39,10 @@ turned_on script r (b ∷ actors) a = turned_on script (run_after script r b) ac
 pub underway_turn : (script : ScriptValue) (m n : MachineValue) (notes told : List NoteValue) (r : RunState) (a : ℕ) → next_actor script r ≡ Some a → r.turns < 2 ^ 32 - 1 → n.script ≡ m.script → TakesTurn m n a r told → Underway script m notes r → Underway script n (notes ++ told) (run_after script r a)
 underway_turn script m n notes told r a next few kept taken u =
     let number : counted m.turns ≡ r.turns + 1 = let shown = u.shown.turns in grind (arith, nat_tests) in
-    let said : told ≡ notes_of_turn (r.turns + 1) a ((r.places a).answered + 1) (taken_in script r a).whats =
+    let said : told ≡ notes_of_turn (r.turns + 1) a ((r.places a).answered + 1) (core_turn_in script r a).whats =
     taken.said
-    ∙ ap (λ (k : ℕ). notes_of_turn k a ((r.places a).answered + 1) (taken_in m.script r a).whats) number
-    ∙ ap (λ (s : ScriptValue). notes_of_turn (r.turns + 1) a ((r.places a).answered + 1) (taken_in s r a).whats) u.same in
+    ∙ ap (λ (k : ℕ). notes_of_turn k a ((r.places a).answered + 1) (core_turn_in m.script r a).whats) number
+    ∙ ap (λ (s : ScriptValue). notes_of_turn (r.turns + 1) a ((r.places a).answered + 1) (core_turn_in s r a).whats) u.same in
     record {
       same = kept ∙ u.same;
       shown = subst (λ (s : ScriptValue). Shows n (run_after s r a)) u.same taken.shown;

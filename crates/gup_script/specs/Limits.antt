@@ -26,9 +26,6 @@ most_operations = 16384
 abbrev pub most_turns : ℕ
 most_turns = 1000000
 
-abbrev pub most_slots : ℕ
-most_slots = 4096
-
 abbrev pub most_frames : ℕ
 most_frames = 1024
 

@@ -1,7 +1,8 @@
 -- What a script says, as contracts see it: the value of a `Script`.
-use Rattle.std.specs.Prelude.{ℕ, Bool, List, [], Option, None, Some, slice_get}
+use Rattle.std.specs.Prelude.{ℕ, Bool, List, [], Option, None, Some, slice_get, true, false}
 use Rattle.gup_script.specs.declared.op.Op.{Op}
 use Rattle.gup_script.specs.declared.op.Kind.{Kind}
+use Rattle.gup_script.specs.declared.op.Kind.TheVariants.{Thread, Device, Mover}
 
 -- how many frames the movable and the normal zone have, and how many tables
 pub record FrameCounts : Type 0 where
@@ -49,3 +50,9 @@ ops_in (Some actor) = actor.ops
 
 abbrev pub ops_of : ScriptValue → ℕ → List Op
 ops_of s a = ops_in (actor_at s a)
+
+-- is it a thread's kind?
+abbrev pub is_thread : Kind → Bool
+is_thread (Thread p) = true
+is_thread (Device slots) = false
+is_thread Mover = false

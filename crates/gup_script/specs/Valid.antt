@@ -5,7 +5,8 @@ use Rattle.gup_script.specs.declared.op.Kind.TheVariants.{Thread, Device, Mover}
 use Rattle.gup_script.specs.declared.op.Op.{Op}
 use Rattle.gup_script.specs.declared.op.Op.TheVariants.{Map, Unmap, Protect, Discard, Load, Store, Pin, Unpin, Give, Take, Transfer, Fork}
 use Rattle.gup_script.specs.Script.{ScriptValue, Process, Actor, process_at, ops_of}
-use Rattle.gup_script.specs.Limits.{most_handles, most_operations, most_pinned, most_turns, most_slots, most_words}
+use Rattle.gup_script.specs.Limits.{most_handles, most_operations, most_pinned, most_turns, most_words}
+use Rattle.gup_base.specs.Counts.{most_slots}
 
 -- the numbers of an operation are in range
 

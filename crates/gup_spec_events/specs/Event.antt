@@ -10,7 +10,8 @@ use Rattle.gup_base.specs.declared.entry.Rights.TheVariants.{R, RW}
 use Rattle.gup_base.specs.declared.entry.Zone.TheVariants.{Movable, Normal}
 use Rattle.gup_plain.specs.declared.event.PlainEvent.{PlainEvent}
 use Rattle.gup_plain.specs.declared.event.PlainEvent.TheVariants as events
-use Rattle.gup_plain.specs.Event.{happened, most_pages, page_numbers, words, most_slots, IsHeldBy, IsGivenTo, may_write, given_to, held_by, object_at}
+use Rattle.gup_plain.specs.Event.{happened, most_pages, page_numbers, words, IsHeldBy, IsGivenTo, may_write, given_to, held_by, object_at}
+use Rattle.gup_base.specs.Counts.{most_slots}
 use Rattle.gup_plain.specs.Put.{put, put2, spread}
 use Rattle.gup_plain.specs.State.{PlainState, Noted, unborn, growing, born, failed, unmade, held, gone, named_or_zero}
 use Rattle.gup_spec_events.specs.State.{CoreState, Taken, Job, idle, marking, moving, forking, walking, Counted, unread, one, more, ForkStep, between, counted, lowered, cleared, copying, failing, WalkStep, entered, ready, read, grabbed, rechecked, differed, refused, stopped, dropping, over}
@@ -168,8 +169,8 @@ abbrev pub IsUntaken : List Taken → (page : ℕ) → Type 0
 IsUntaken taken page = All (λ (t : Taken). t.page ≡ page → ⊥) taken
 
 -- what the pages taken are to become of a handle: their frames, objects and flags
-abbrev pub frames_of : List Taken → List ℕ
-frames_of taken = map (λ t. t.frame) taken
+abbrev pub taken_frames : List Taken → List ℕ
+taken_frames taken = map (λ t. t.frame) taken
 
 abbrev pub objects_taken : List Taken → List ℕ
 objects_taken taken = map (λ t. t.object) taken
@@ -415,7 +416,7 @@ happens s (pin_page a p page e write long) =
 happens s (make_handle a h) =
     record s {
       handle = put h (held a (objects_taken (s.taken a)) (writes_taken (s.taken a))) s.handle;
-      pinned = put h (frames_of (s.taken a)) s.pinned;
+      pinned = put h (taken_frames (s.taken a)) s.pinned;
       for_long = put h (long_taken (s.taken a)) s.for_long;
       taken = put a [] s.taken;
     }

@@ -119,8 +119,8 @@ plain_of s =
     }
 
 -- the start: all frames are free and zero, and nothing is mapped
-abbrev pub start : (movable normal : ℕ) → (ℕ → Bool) → CoreState
-start movable normal is_born =
+abbrev pub core_start : (movable normal : ℕ) → (ℕ → Bool) → CoreState
+core_start movable normal is_born =
     record {
       movable = movable;
       normal = normal;

@@ -10,7 +10,7 @@ use Rattle.gup_spec_grammar.specs.declared.fault.ReadRefusal.TheVariants.{Fault,
 use Rattle.gup_script.specs.Script.{FrameCounts}
 use Rattle.gup_spec_grammar.specs.Said.{Said, said_words, declaring_words, Action, action_words, IsShaped, Word as Letters}
 use Rattle.gup_spec_grammar.specs.Outline.{Outline}
-use Rattle.gup_spec_grammar.specs.Grammar.{most_bytes, SaidNumbers, ActionNumbers, SaidNames, ActionNames, NamesActor, SaidOnce, ActionOnce, SaidLimits, ActionLimits, IsBuilt, IsOpOf, Stage, before_head, before_frames, open_at, head_words, AreFrames, IsPassed, AreRight}
+use Rattle.gup_spec_grammar.specs.Grammar.{most_bytes, SaidNumbers, ActionNumbers, SaidNames, ActionNames, NamesActor, SaidOnce, ActionOnce, SaidLimits, ActionLimits, IsBuilt, IsOpOf, Stage, before_head, before_frames, open_at, head_words, AreFrames, SaysNothing, AreRightLines}
 
 -- The reason is this one where the test fails, and else one of the tests behind it.
 abbrev pub Unless : (this : Reason) → (test : Type 0) → (reason : Reason) → (behind : Type 0) → Type 0
@@ -76,7 +76,7 @@ AreSpaced words = AllByRecursion (λ word. word ≡ [] → ⊥) words
 abbrev pub LineFault : Stage → (line : List ℕ) → Reason → Type 0
 LineFault stage line reason =
     Unless Byte (IsPrintable line) reason
-    ((IsPassed line → ⊥) × Unless Space (AreSpaced (parts 32 line)) reason (WordsFault stage (parts 32 line) reason))
+    ((SaysNothing line → ⊥) × Unless Space (AreSpaced (parts 32 line)) reason (WordsFault stage (parts 32 line) reason))
 
 -- the text ends before its `frames` line
 abbrev pub IsShort : Stage → Type 0
@@ -100,7 +100,7 @@ HasFault text fault =
     ⊎ ((length text ≤ most_bytes)
     × ((front : List (List ℕ)) × (line : List ℕ) × (behind : List (List ℕ)) × (stage : Stage)
     × (parts 10 text ≡ front ++ line ∷ behind) × (fault.line ≡ length front + 1)
-    × AreRight before_head front stage × FaultAt stage line behind fault.reason))
+    × AreRightLines before_head front stage × FaultAt stage line behind fault.reason))
 
 -- A refusal for a fault is right where the text has the fault. Want of memory says nothing of the text.
 abbrev pub IsRefusalOf : List ℕ → ReadRefusal → Type 0

@@ -9,10 +9,11 @@ use Rattle.gup_spec_grammar.specs.declared.named.Named.TheVariants as named
 use Rattle.gup_script.specs.declared.op.Kind.TheVariants.{Thread, Device, Mover}
 use Rattle.gup_script.specs.declared.op.Op.{Op}
 use Rattle.gup_script.specs.declared.op.Op.TheVariants as ops
-use Rattle.gup_script.specs.Script.{ScriptValue, FrameCounts, actor_at}
+use Rattle.gup_script.specs.Script.{ScriptValue, FrameCounts, actor_at, is_thread}
 use Rattle.gup_spec_grammar.specs.Said.{Word, Said, a_process, a_child, a_thread, a_device, a_mover, a_seed, some_turns, random_turns, said_words, Action, maps, unmaps, protects, discards, loads, stores, exits, pins, gets, puts, forks, unpins, takes, gives, transfers, transfers_parts, mirrors, looks, moves, action_words, IsShaped, op_words_of}
-use Rattle.gup_spec_grammar.specs.Outline.{Outline, empty_outline, with_process, with_actor, with_handle, with_operation, with_turns, with_seed, is_thread, is_device, how_many, has_mover, is_child, is_forked, is_receiver, draws}
-use Rattle.gup_script.specs.Limits.{most_processes, most_threads, most_devices, most_handles, most_pinned, most_words, most_operations, most_turns, most_slots, most_frames, most_tables}
+use Rattle.gup_spec_grammar.specs.Outline.{Outline, empty_outline, with_process, with_actor, with_handle, with_operation, with_turns, with_seed, is_device, how_many, has_mover, is_child, is_forked, is_receiver, draws}
+use Rattle.gup_script.specs.Limits.{most_processes, most_threads, most_devices, most_handles, most_pinned, most_words, most_operations, most_turns, most_frames, most_tables}
+use Rattle.gup_base.specs.Counts.{most_slots}
 
 -- 1. Numbers: those that a line has are spelled right and in range
 
@@ -63,11 +64,11 @@ NamesActor st word a = find st.names word ≡ Some (named.Actor a)
 abbrev pub NamesPin : Outline → Word → ℕ → Type 0
 NamesPin st word h = find st.names word ≡ Some (named.Pin h)
 
-abbrev pub IsPin : Outline → Word → Type 0
-IsPin st word = (h : ℕ) × NamesPin st word h
+abbrev pub IsPinName : Outline → Word → Type 0
+IsPinName st word = (h : ℕ) × NamesPin st word h
 
-abbrev pub IsGot : Outline → Word → Type 0
-IsGot st word = (h : ℕ) × (find st.names word ≡ Some (named.Got h))
+abbrev pub IsGotName : Outline → Word → Type 0
+IsGotName st word = (h : ℕ) × (find st.names word ≡ Some (named.Got h))
 
 -- a mirror slot of this device
 abbrev pub IsMirrorOf : Outline → ℕ → Word → Type 0
@@ -93,13 +94,13 @@ SaidNames st (random_turns start count) = IsNumber count 0 ⊎ (1 ≤ length st.
 abbrev pub ActionNames : Outline → (actor : ℕ) → Action → Type 0
 ActionNames st a (pins fast handle first count write long) = IsName handle
 ActionNames st a (gets handle page) = IsName handle
-ActionNames st a (puts handle) = IsGot st handle
+ActionNames st a (puts handle) = IsGotName st handle
 ActionNames st a (forks child) = (p : ℕ) × NamesProcess st child p × (is_child st p ≡ true)
-ActionNames st a (unpins handle) = IsPin st handle
-ActionNames st a (takes handle) = IsPin st handle
-ActionNames st a (gives handle to) = IsPin st handle × ((b : ℕ) × NamesActor st to b × (is_receiver st b ≡ true))
-ActionNames st a (transfers outward handle index slot count) = IsPin st handle
-ActionNames st a (transfers_parts outward handle slot first more) = IsPin st handle
+ActionNames st a (unpins handle) = IsPinName st handle
+ActionNames st a (takes handle) = IsPinName st handle
+ActionNames st a (gives handle to) = IsPinName st handle × ((b : ℕ) × NamesActor st to b × (is_receiver st b ≡ true))
+ActionNames st a (transfers outward handle index slot count) = IsPinName st handle
+ActionNames st a (transfers_parts outward handle slot first more) = IsPinName st handle
 -- a mirror line declares its slot, or uses one of this device
 ActionNames st a (mirrors mirror process page) =
     ((IsName mirror × IsUnused st mirror) ⊎ IsMirrorOf st a mirror) × ((p : ℕ) × NamesProcess st process p)
@@ -127,11 +128,11 @@ ActionOnce st action = Unit {0}
 -- 4. Limits: there are not too many of what the line adds
 
 -- the actors of written turns, in order
-abbrev pub AreTurns : Outline → List Word → List ℕ → Type 0
-AreTurns st [] actors = actors ≡ []
-AreTurns st (word ∷ words) actors =
+abbrev pub AreTurnWords : Outline → List Word → List ℕ → Type 0
+AreTurnWords st [] actors = actors ≡ []
+AreTurnWords st (word ∷ words) actors =
     (name : Word) × (times a : ℕ) × (rest : List ℕ)
-    × IsTurnWord word name times × NamesActor st name a × AreTurns st words rest × (actors ≡ replicate times a ++ rest)
+    × IsTurnWord word name times × NamesActor st name a × AreTurnWords st words rest × (actors ≡ replicate times a ++ rest)
 
 abbrev pub SaidLimits : Outline → Said → Type 0
 SaidLimits st (a_process name) = length st.script.processes < most_processes
@@ -139,7 +140,7 @@ SaidLimits st (a_child name) = length st.script.processes < most_processes
 SaidLimits st (a_thread name process) = how_many is_thread st < most_threads
 SaidLimits st (a_device name slots) = how_many is_device st < most_devices
 SaidLimits st (some_turns first more) =
-    (actors : List ℕ) × AreTurns st (first ∷ more) actors × (length st.script.turns + length actors ≤ most_turns)
+    (actors : List ℕ) × AreTurnWords st (first ∷ more) actors × (length st.script.turns + length actors ≤ most_turns)
 SaidLimits st (random_turns start count) = (n : ℕ) × IsNumber count n × (length st.script.turns + n ≤ most_turns)
 SaidLimits st said = Unit {0}
 
@@ -207,7 +208,7 @@ Becomes st (a_device name slots) next = (n : ℕ) × IsCount 1 most_slots slots 
 Becomes st (a_mover name) next = next ≡ with_actor name Mover st
 Becomes st (a_seed number) next = (n : ℕ) × IsNumber number n × (next ≡ with_seed n st)
 Becomes st (some_turns first more) next =
-    (actors : List ℕ) × AreTurns st (first ∷ more) actors × (next ≡ with_turns actors st)
+    (actors : List ℕ) × AreTurnWords st (first ∷ more) actors × (next ≡ with_turns actors st)
 Becomes st (random_turns start count) next =
     (x n : ℕ) × IsNumber start x × IsNumber count n × (next ≡ with_turns (draws n (length st.script.actors) x) st)
 
@@ -268,24 +269,24 @@ IsSaid before_frames words next = (counts : FrameCounts) × AreFrames words coun
 IsSaid (open_at st) words next = (outline : Outline) × IsNext st words outline × (next ≡ open_at outline)
 
 -- a line that says nothing: it is empty, or a comment
-abbrev pub IsPassed : List ℕ → Type 0
-IsPassed [] = Unit {0}
-IsPassed (c ∷ cs) = c ≡ 35
+abbrev pub SaysNothing : List ℕ → Type 0
+SaysNothing [] = Unit {0}
+SaysNothing (c ∷ cs) = c ≡ 35
 
-abbrev pub IsRight : Stage → (line : List ℕ) → Stage → Type 0
-IsRight stage line next =
+abbrev pub IsRightLine : Stage → (line : List ℕ) → Stage → Type 0
+IsRightLine stage line next =
     IsPrintable line
-    × ((IsPassed line × (next ≡ stage)) ⊎ ((IsPassed line → ⊥) × IsSaid stage (parts 32 line) next))
+    × ((SaysNothing line × (next ≡ stage)) ⊎ ((SaysNothing line → ⊥) × IsSaid stage (parts 32 line) next))
 
-abbrev pub AreRight : Stage → List (List ℕ) → Stage → Type 0
-AreRight stage [] next = next ≡ stage
-AreRight stage (line ∷ lines) next = (between : Stage) × IsRight stage line between × AreRight between lines next
+abbrev pub AreRightLines : Stage → List (List ℕ) → Stage → Type 0
+AreRightLines stage [] next = next ≡ stage
+AreRightLines stage (line ∷ lines) next = (between : Stage) × IsRightLine stage line between × AreRightLines between lines next
 
 -- the bytes are this script, and nothing else stands among them
 abbrev pub Spells : List ℕ → ScriptValue → Type 0
 Spells text script =
     (lines : List (List ℕ)) × (st : Outline)
-    × (parts 10 text ≡ lines ++ [] ∷ []) × AreRight before_head lines (open_at st) × (script ≡ st.script)
+    × (parts 10 text ≡ lines ++ [] ∷ []) × AreRightLines before_head lines (open_at st) × (script ≡ st.script)
 
 -- a script's text has at most this many bytes
 abbrev pub most_bytes : ℕ

@@ -1,7 +1,7 @@
 -- What the lines so far have made: the script up to here, its names, and what counts and comes once.
 use Rattle.std.specs.Prelude.{ℕ, ◌+◌, ◌*◌, ◌/◌, ◌%◌, ◌^◌, ◌==◌, nat_lt, Bool, true, false, not, if◌then◌else◌, List, [], ◌∷◌, ◌++◌, length, count_by, slice_get, Option, Some, None, zero, suc}
 use Rattle.std.specs.List.{list_any}
-use Rattle.gup_spec_grammar.specs.Names.{Entry, declared}
+use Rattle.gup_spec_grammar.specs.Names.{NamedEntry, declared}
 use Rattle.gup_spec_grammar.specs.declared.named.Named.TheVariants as named
 use Rattle.gup_script.specs.declared.op.Kind.{Kind}
 use Rattle.gup_script.specs.declared.op.Kind.TheVariants.{Thread, Device, Mover}
@@ -13,7 +13,7 @@ use Rattle.gup_script.specs.Limits.{most_handles}
 pub record Outline : Type 0 where
   pub script : ScriptValue
   -- all names, in the order in which they are declared
-  pub names : List Entry
+  pub names : List NamedEntry
   -- how many operations there are
   pub operations : ℕ
   -- is there a `seed` line?
@@ -75,11 +75,6 @@ abbrev pub with_seed : ℕ → Outline → Outline
 with_seed seed st = record st { script = record st.script { seed = seed }; seeded = true }
 
 -- the kinds of actors, and how many there are of one
-
-abbrev pub is_thread : Kind → Bool
-is_thread (Thread p) = true
-is_thread (Device slots) = false
-is_thread Mover = false
 
 abbrev pub is_device : Kind → Bool
 is_device (Device slots) = true

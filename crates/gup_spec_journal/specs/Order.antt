@@ -3,7 +3,7 @@
 use Rattle.std.specs.Prelude.{◌≡◌, ℕ, ◌+◌, ◌≤◌, ◌<◌, ◌⊎◌, ◌==◌, Bool, true, false, if◌then◌else◌, List, [], ◌∷◌, ◌++◌, length, Option, Some, None, slice_get, zero, suc}
 use Rattle.gup_plain.specs.Note.{NoteValue}
 use Rattle.gup_plain.specs.Put.{put}
-use Rattle.gup_plain.specs.State.{PlainState, Birth, unborn, growing, born, failed, Handle, given, start}
+use Rattle.gup_plain.specs.State.{PlainState, Birth, unborn, growing, born, failed, Handle, given, plain_start}
 use Rattle.gup_plain.specs.declared.note.What.{What}
 use Rattle.gup_plain.specs.declared.note.What.TheVariants.{Idle, Wait}
 use Rattle.gup_plain.specs.declared.note.Waiting.{Waiting}
@@ -173,7 +173,7 @@ AreInOrder script o (turn ∷ turns) =
 
 abbrev pub ordered_first : ScriptValue → Ordered
 ordered_first script =
-    record { plain = start (starts_born script); places = λ _. first_place; pointer = 0; turns = 0 }
+    record { plain = plain_start (starts_born script); places = λ _. first_place; pointer = 0; turns = 0 }
 
 abbrev pub InOrder : ScriptValue → List NoteValue → Type 0
 InOrder script notes =

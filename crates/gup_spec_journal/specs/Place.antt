@@ -7,7 +7,7 @@ use Rattle.gup_script.specs.declared.op.Kind.TheVariants.{Thread, Device, Mover}
 use Rattle.gup_script.specs.declared.op.Op.{Op}
 pub use Rattle.gup_script.specs.Script.{ops_in, ops_of}
 use Rattle.gup_script.specs.Limits.{most_processes}
-use Rattle.gup_script.specs.Script.{ScriptValue, Process, Actor, actor_at}
+use Rattle.gup_script.specs.Script.{ScriptValue, Process, Actor, actor_at, is_thread}
 use Rattle.gup_plain.specs.State.{Birth, born}
 
 -- how many operations the actor has answered, how many notes the present one has, and whether one is an event
@@ -42,12 +42,6 @@ process_in (Some actor) = process_of_kind actor.kind
 
 abbrev pub process_of : ScriptValue → ℕ → ℕ
 process_of script a = process_in (actor_at script a)
-
--- is it a thread's kind?
-abbrev pub is_thread : Kind → Bool
-is_thread (Thread p) = true
-is_thread (Device slots) = false
-is_thread Mover = false
 
 abbrev pub thread_in : Option Actor → Bool
 thread_in None = false

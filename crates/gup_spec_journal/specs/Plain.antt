@@ -3,7 +3,7 @@
 use Rattle.std.specs.Prelude.{◌≡◌, ℕ, ◌+◌, ◌<◌, ◌⊎◌, Bool, true, false, List, [], ◌∷◌, length, Option, Some, None}
 use Rattle.gup_plain.specs.Note.{NoteValue}
 use Rattle.gup_plain.specs.Put.{put}
-use Rattle.gup_plain.specs.State.{PlainState, Birth, unborn, growing, born, failed, start, objects_of}
+use Rattle.gup_plain.specs.State.{PlainState, Birth, unborn, growing, born, failed, plain_start, objects_of}
 use Rattle.gup_plain.specs.Event.{CanHappen, happened}
 use Rattle.gup_plain.specs.declared.answer.Answer.{Answer}
 use Rattle.gup_plain.specs.declared.answer.Answer.TheVariants as answers
@@ -21,11 +21,11 @@ use Rattle.gup_plain.specs.Denial.{is_denial}
 use Rattle.gup_spec_journal.specs.Denial.{denial}
 
 -- No operation ends while its process is yet to be born.
-abbrev pub IsSettled : Birth → Type 0
-IsSettled born = Unit {0}
-IsSettled failed = Unit {0}
-IsSettled unborn = ⊥
-IsSettled (growing parent) = ⊥
+abbrev pub IsBornOrFailed : Birth → Type 0
+IsBornOrFailed born = Unit {0}
+IsBornOrFailed failed = Unit {0}
+IsBornOrFailed unborn = ⊥
+IsBornOrFailed (growing parent) = ⊥
 
 -- the page that an unmapping takes down
 abbrev pub page_in : PlainEvent → ℕ
@@ -63,14 +63,14 @@ IsUndeniedAt true denied = Unit {0}
 IsUndeniedAt false denied = denied ≡ None
 
 -- the refusal by which a page ended a short pin, and of any other answer itself
-abbrev pub refusal_of : Cause → Answer
-refusal_of causes.Missing = answers.Missing
-refusal_of causes.Forbidden = answers.Forbidden
-refusal_of causes.NoFrame = answers.NoFrame
-refusal_of (causes.Unmovable count) = answers.Unmovable count
+abbrev pub refusal_by_cause : Cause → Answer
+refusal_by_cause causes.Missing = answers.Missing
+refusal_by_cause causes.Forbidden = answers.Forbidden
+refusal_by_cause causes.NoFrame = answers.NoFrame
+refusal_by_cause (causes.Unmovable count) = answers.Unmovable count
 
 abbrev pub refusal_in : Answer → Answer
-refusal_in (answers.Short got wanted cause) = refusal_of cause
+refusal_in (answers.Short got wanted cause) = refusal_by_cause cause
 refusal_in answer = answer
 
 -- how far the operation was where that was judged: a short pin at the page behind those that it got
@@ -100,7 +100,7 @@ IsRightOf s who place op Silent = Passes s who.proc op place.far
 IsRightOf s who place op (Event e) =
     CanHappen s e × MayStand place.had (denial s who place.far op) op e × IsDue s who.proc op place.far e
 IsRightOf s who place op (Done answer) =
-    IsSettled (birth_for s.birth who)
+    IsBornOrFailed (birth_for s.birth who)
     × IsAnswerAfter (judged_before op place.had answer) (denial s who (judged_far place.far answer) op) (refusal_in answer)
     × Passes s who.proc op place.far
 IsRightOf s who place op Idle = Unit {0}
@@ -143,7 +143,7 @@ ArePlain script j [] = Unit {0}
 ArePlain script j (note ∷ notes) = IsRight script j note × ArePlain script (judged_after j note) notes
 
 abbrev pub judged_first : ScriptValue → Judged
-judged_first script = record { plain = start (starts_born script); places = λ _. first_place }
+judged_first script = record { plain = plain_start (starts_born script); places = λ _. first_place }
 
 abbrev pub IsPlain : ScriptValue → List NoteValue → Type 0
 IsPlain script notes = ArePlain script (judged_first script) notes

@@ -92,15 +92,15 @@ map_pages script = sum_by (λ (a : Actor). sum_by mapped_by a.ops) script.actors
 -- How many turns an operation has at most, whoever takes turns in between: what goes over n pages or words n, a fork 515 a
 -- page and its begin and end, an exit one for each page that its process has or that other threads map meanwhile, and its
 -- answer.
-abbrev pub most_turns : ScriptValue → Op → ℕ
-most_turns script (Unmap page n) = n
-most_turns script (Discard page n) = n
-most_turns script (Pin handle page n write) = n
-most_turns script (Unpin handle) = most_pinned
-most_turns script (Transfer handle outward index slot n) = n
-most_turns script (Fork child) = 515 * most_pages + 2
-most_turns script Exit = map_pages script + most_pages + 1
-most_turns script op = 1
+abbrev pub most_turns_of : ScriptValue → Op → ℕ
+most_turns_of script (Unmap page n) = n
+most_turns_of script (Discard page n) = n
+most_turns_of script (Pin handle page n write) = n
+most_turns_of script (Unpin handle) = most_pinned
+most_turns_of script (Transfer handle outward index slot n) = n
+most_turns_of script (Fork child) = 515 * most_pages + 2
+most_turns_of script Exit = map_pages script + most_pages + 1
+most_turns_of script op = 1
 
 -- The bounds on an operation's own turns, by what one of them brings.
 

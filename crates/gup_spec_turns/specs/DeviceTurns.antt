@@ -9,7 +9,7 @@ use Rattle.gup_spec_events.specs.State.{CoreState}
 use Rattle.gup_spec_events.specs.Event.{CoreEvent, store, move_out, move_in}
 use Rattle.gup_plain.specs.Denial.{transfer_denial}
 use Rattle.gup_spec_journal.specs.Follows.{moves_word}
-use Rattle.gup_spec_turns.specs.Taken.{Taken, answers_with}
+use Rattle.gup_spec_turns.specs.CoreTurn.{CoreTurn, answers_with}
 
 -- transfer: one word a turn
 
@@ -29,24 +29,24 @@ abbrev pub moved_if : (last : Bool) → List What
 moved_if true = Done answers.Words ∷ []
 moved_if false = []
 
-abbrev pub word_turn : (a handle : ℕ) → (outward last : Bool) → (index slot f value : ℕ) → Taken
+abbrev pub word_turn : (a handle : ℕ) → (outward last : Bool) → (index slot f value : ℕ) → CoreTurn
 word_turn a handle outward last index slot f value =
     record {
       events = moves a handle outward index slot f value ∷ [];
       whats = Event (moves_word a handle outward index slot value) ∷ moved_if last;
     }
 
-abbrev pub moves_from : CoreState → (a handle : ℕ) → (outward last : Bool) → (index slot f : ℕ) → Taken
+abbrev pub moves_from : CoreState → (a handle : ℕ) → (outward last : Bool) → (index slot f : ℕ) → CoreTurn
 moves_from s a handle outward last index slot f =
     word_turn a handle outward last index slot f (moves_value s a outward index slot f)
 
-abbrev pub transfer_turn_by : Option Answer → CoreState → (a handle : ℕ) → (outward last : Bool) → (index slot : ℕ) → Taken
+abbrev pub transfer_turn_by : Option Answer → CoreState → (a handle : ℕ) → (outward last : Bool) → (index slot : ℕ) → CoreTurn
 transfer_turn_by (Some denied) s a handle outward last index slot = answers_with denied
 transfer_turn_by None s a handle outward last index slot =
     moves_from s a handle outward last index slot (frame_at (s.pinned handle) index)
 
 -- it is refused as a whole, before its first word moves; nothing that refuses it comes later
-abbrev pub transfer_turn : CoreState → (a slots handle : ℕ) → (outward : Bool) → (index slot n far : ℕ) → Taken
+abbrev pub transfer_turn : CoreState → (a slots handle : ℕ) → (outward : Bool) → (index slot n far : ℕ) → CoreTurn
 transfer_turn s a slots handle outward index slot n far =
     transfer_turn_by (transfer_denial (s.handle handle) a outward slots slot ((index, n) ∷ [])) s a handle outward
     (far + 1 == n) (index + far) (slot + far)

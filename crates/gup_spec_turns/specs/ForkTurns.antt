@@ -11,7 +11,7 @@ use Rattle.gup_plain.specs.declared.note.What.TheVariants.{Silent, Event, Done}
 use Rattle.gup_spec_events.specs.State.{CoreState, Job, idle, forking, ForkStep, between, counted, copying}
 use Rattle.gup_spec_events.specs.Event.{take_frame, begin_fork, count_page, share_entry, share_mark, share_child, copy_word, place_child, pass_page, end_fork, copies_page}
 use Rattle.gup_spec_events.specs.Failure.{fails}
-use Rattle.gup_spec_turns.specs.Taken.{Taken, free_frame, frame_in, allows_store, entry_in}
+use Rattle.gup_spec_turns.specs.CoreTurn.{CoreTurn, free_frame, frame_in, allows_store, entry_in}
 
 -- fork: its beginning, and then page by page
 
@@ -27,20 +27,20 @@ next_page right done =
 
 -- A page without an entry is passed. The count of any other is read: it is to be copied where its frame is exclusive, the
 -- process has pinned, and the frame may be pinned, and else to be shared.
-abbrev pub page_turn : CoreState → (a p c : ℕ) → List ℕ → (page : ℕ) → Option Entry → Taken
+abbrev pub page_turn : CoreState → (a p c : ℕ) → List ℕ → (page : ℕ) → Option Entry → CoreTurn
 page_turn s a p c done page None =
     record { events = pass_page a p c done page ∷ []; whats = Event (events.ForkPage p c page) ∷ [] }
 page_turn s a p c done page (Some e) =
     record { events = count_page a p c done page e (copies_page s p e.frame) ∷ []; whats = Silent ∷ [] }
 
 -- where no page is left the fork ends
-abbrev pub next_turn : CoreState → (a p c : ℕ) → List ℕ → Option ℕ → Taken
+abbrev pub next_turn : CoreState → (a p c : ℕ) → List ℕ → Option ℕ → CoreTurn
 next_turn s a p c done None =
     record { events = end_fork a p c done ∷ []; whats = Event (events.ForkEnd p c) ∷ Done answers.Plain ∷ [] }
 next_turn s a p c done (Some page) = page_turn s a p c done page (s.entry p page)
 
 -- the counted page is shared: the parent's entry becomes read-only, the mark goes, the child gets its entry
-abbrev pub share_turn : (a p c : ℕ) → List ℕ → (page : ℕ) → Option Entry → Taken
+abbrev pub share_turn : (a p c : ℕ) → List ℕ → (page : ℕ) → Option Entry → CoreTurn
 share_turn a p c done page entry =
     let f = frame_in entry in
     record {
@@ -52,7 +52,7 @@ share_turn a p c done page entry =
 
 -- The counted page is copied: first a frame is taken for it. Where none is free the fork fails, and gives back what its
 -- child has.
-abbrev pub frame_turn : CoreState → (a p c : ℕ) → List ℕ → (page word : ℕ) → (free : Option ℕ) → Taken
+abbrev pub frame_turn : CoreState → (a p c : ℕ) → List ℕ → (page word : ℕ) → (free : Option ℕ) → CoreTurn
 frame_turn s a p c done page word None =
     record {
       events = fails a p c done (copying page word) (s.entry c);
@@ -65,7 +65,7 @@ rights_in None = R
 rights_in (Some rights) = rights
 
 -- then it is copied word by word, as each word is now, and at last the copy goes into the child's entry
-abbrev pub copy_turn : CoreState → (a p c : ℕ) → List ℕ → (page word to : ℕ) → (more : Bool) → Taken
+abbrev pub copy_turn : CoreState → (a p c : ℕ) → List ℕ → (page word to : ℕ) → (more : Bool) → CoreTurn
 copy_turn s a p c done page word to true =
     record {
       events = copy_word a p c done page word to (entry_in (s.entry p page)) ∷ [];
@@ -75,18 +75,18 @@ copy_turn s a p c done page word to false =
     record { events = place_child a p c done page to (rights_in (s.right c page)) ∷ []; whats = Silent ∷ [] }
 
 -- a page of which so many words are copied, into the frame that is taken for it
-abbrev pub copying_turn : CoreState → (a p c : ℕ) → List ℕ → (page word : ℕ) → (prepared : Option ℕ) → Taken
+abbrev pub copying_turn : CoreState → (a p c : ℕ) → List ℕ → (page word : ℕ) → (prepared : Option ℕ) → CoreTurn
 copying_turn s a p c done page word None = frame_turn s a p c done page word (free_frame s)
 copying_turn s a p c done page word (Some to) = copy_turn s a p c done page word to (nat_lt word words)
 
 -- no turn ends within a share, nor within a failure
-abbrev pub fork_step_turn : CoreState → (a p c : ℕ) → List ℕ → ForkStep → Taken
+abbrev pub fork_step_turn : CoreState → (a p c : ℕ) → List ℕ → ForkStep → CoreTurn
 fork_step_turn s a p c done between = next_turn s a p c done (next_page (s.right c) done)
 fork_step_turn s a p c done (counted page) = share_turn a p c done page (s.entry p page)
 fork_step_turn s a p c done (copying page word) = copying_turn s a p c done page word (s.prepared a)
 fork_step_turn s a p c done step = record { events = []; whats = Silent ∷ [] }
 
-abbrev pub fork_turn : CoreState → (a p child : ℕ) → Job → Taken
+abbrev pub fork_turn : CoreState → (a p child : ℕ) → Job → CoreTurn
 fork_turn s a p child (forking q c done step) = fork_step_turn s a p child done step
 fork_turn s a p child idle =
     record { events = begin_fork a p child ∷ []; whats = Event (events.ForkBegin p child) ∷ [] }

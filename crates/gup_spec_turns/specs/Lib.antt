@@ -5,9 +5,9 @@ pub mod Pages
 pub mod Cost
 pub mod ForkPlace
 pub mod PinPlace
-pub mod Taken
 pub mod PageTurns
 pub mod PinTurns
 pub mod DeviceTurns
 pub mod ForkTurns
 pub mod Waits
+pub mod CoreTurn

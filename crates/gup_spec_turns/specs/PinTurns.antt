@@ -13,7 +13,7 @@ use Rattle.gup_spec_events.specs.State.{CoreState}
 use Rattle.gup_spec_events.specs.Event.{CoreEvent, raise_flag, pin_page, make_handle, unpin_page, give_handle, take_handle, run}
 use Rattle.gup_spec_events.specs.Fault.{Fault, write_fault, unshare_fault}
 use Rattle.gup_plain.specs.Denial.{is_held_by}
-use Rattle.gup_spec_turns.specs.Taken.{Taken, answers_with, free_frame, entry_in}
+use Rattle.gup_spec_turns.specs.CoreTurn.{CoreTurn, answers_with, free_frame, entry_in}
 
 -- pin: one page a turn
 
@@ -37,14 +37,14 @@ pinned_if true a handle n = Event (events.PinOk a handle) ∷ Done (answers.Pinn
 pinned_if false a handle n = []
 
 -- behind these events the page is pinned by its entry
-abbrev pub pins_behind : List CoreEvent → (a p handle page n : ℕ) → (write last : Bool) → Entry → Taken
+abbrev pub pins_behind : List CoreEvent → (a p handle page n : ℕ) → (write last : Bool) → Entry → CoreTurn
 pins_behind before a p handle page n write last e =
     record {
       events = before ++ pin_page a p page e write false ∷ makes_if last a handle;
       whats = Event (events.PinTry a p page write) ∷ pinned_if last a handle n;
     }
 
-abbrev pub pins : CoreState → List CoreEvent → (a p handle page n : ℕ) → (write last : Bool) → Taken
+abbrev pub pins : CoreState → List CoreEvent → (a p handle page n : ℕ) → (write last : Bool) → CoreTurn
 pins s before a p handle page n write last =
     pins_behind before a p handle page n write last (entry_in ((run s before).entry p page))
 
@@ -56,7 +56,7 @@ cause_of (answers.Unmovable count) = causes.Unmovable count
 cause_of answer = causes.Missing
 
 -- a page is refused: a pin that has pages has those, and one without any is refused
-abbrev pub ends_pin : (a p handle n got : ℕ) → Answer → Taken
+abbrev pub ends_pin : (a p handle n got : ℕ) → Answer → CoreTurn
 ends_pin a p handle n zero answer = record { events = raises a p 0; whats = Done answer ∷ [] }
 ends_pin a p handle n (suc got) answer =
     record {
@@ -64,12 +64,12 @@ ends_pin a p handle n (suc got) answer =
       whats = Event (events.PinOk a handle) ∷ Done (answers.Short (suc got) n (cause_of answer)) ∷ [];
     }
 
-abbrev pub pin_turn_by : Fault → CoreState → (a p handle page n far : ℕ) → (write : Bool) → Taken
+abbrev pub pin_turn_by : Fault → CoreState → (a p handle page n far : ℕ) → (write : Bool) → CoreTurn
 pin_turn_by (Err answer) s a p handle page n far write = ends_pin a p handle n far answer
 pin_turn_by (Ok before) s a p handle page n far write =
     pins s (raises a p far ++ before) a p handle page n write (far + 1 == n)
 
-abbrev pub pin_turn : CoreState → (a p handle page n far : ℕ) → (write : Bool) → Taken
+abbrev pub pin_turn : CoreState → (a p handle page n far : ℕ) → (write : Bool) → CoreTurn
 pin_turn s a p handle page n far write =
     pin_turn_by (pin_fault s a p (page + far) write) s a p handle (page + far) n far write
 
@@ -86,7 +86,7 @@ abbrev pub unpinned : (left : List ℕ) → (a handle : ℕ) → List What
 unpinned [] a handle = Event (events.Unpin a handle) ∷ Done answers.Plain ∷ []
 unpinned (f ∷ left) a handle = Silent ∷ []
 
-abbrev pub unpin_turn_by : (held : Bool) → (a handle : ℕ) → (pinned : List ℕ) → Taken
+abbrev pub unpin_turn_by : (held : Bool) → (a handle : ℕ) → (pinned : List ℕ) → CoreTurn
 unpin_turn_by false a handle pinned = answers_with answers.NotHeld
 unpin_turn_by true a handle pinned =
     record {
@@ -94,12 +94,12 @@ unpin_turn_by true a handle pinned =
       whats = unpinned (but_last pinned) a handle;
     }
 
-abbrev pub unpin_turn : CoreState → (a handle : ℕ) → Taken
+abbrev pub unpin_turn : CoreState → (a handle : ℕ) → CoreTurn
 unpin_turn s a handle = unpin_turn_by (is_held_by (s.handle handle) a) a handle (s.pinned handle)
 
 -- give and take
 
-abbrev pub give_turn_by : (held : Bool) → (a handle to : ℕ) → Taken
+abbrev pub give_turn_by : (held : Bool) → (a handle to : ℕ) → CoreTurn
 give_turn_by false a handle to = answers_with answers.NotHeld
 give_turn_by true a handle to =
     record {
@@ -107,10 +107,10 @@ give_turn_by true a handle to =
       whats = Event (events.Give a handle to) ∷ Done answers.Plain ∷ [];
     }
 
-abbrev pub give_turn : CoreState → (a handle to : ℕ) → Taken
+abbrev pub give_turn : CoreState → (a handle to : ℕ) → CoreTurn
 give_turn s a handle to = give_turn_by (is_held_by (s.handle handle) a) a handle to
 
-abbrev pub take_turn : (a handle : ℕ) → Taken
+abbrev pub take_turn : (a handle : ℕ) → CoreTurn
 take_turn a handle =
     record {
       events = take_handle a handle ∷ [];

@@ -5,11 +5,11 @@ use Rattle.gup_plain.specs.declared.note.What.TheVariants.{Idle, Wait}
 use Rattle.gup_plain.specs.declared.note.Waiting.{Waiting}
 use Rattle.gup_script.specs.declared.op.Op.{Op}
 use Rattle.gup_script.specs.Script.{ScriptValue}
-use Rattle.gup_spec_events.specs.State.{CoreState, start, Taken}
+use Rattle.gup_spec_events.specs.State.{CoreState, core_start, Taken}
 use Rattle.gup_spec_events.specs.Event.{run}
 use Rattle.gup_spec_journal.specs.Place.{Place, first_place, Doer, doer, present_op, starts_born}
 use Rattle.gup_spec_journal.specs.Order.{Turn, places_behind, journal_of, behind, pointer_after}
-use Rattle.gup_spec_turns.specs.Taken.{Taken}
+use Rattle.gup_spec_turns.specs.CoreTurn.{CoreTurn}
 use Rattle.gup_spec_turns.specs.Turn.{turn_of}
 use Rattle.gup_spec_turns.specs.Waits.{waiting_for}
 
@@ -23,7 +23,7 @@ pub record RunState : Type 0 where
 abbrev pub run_start : ScriptValue → RunState
 run_start script =
     record {
-      core = start script.frames.movable script.frames.normal (starts_born script);
+      core = core_start script.frames.movable script.frames.normal (starts_born script);
       places = λ _. first_place;
       pointer = 0;
       turns = 0;
@@ -42,17 +42,17 @@ abbrev pub waiting_in : ScriptValue → RunState → ℕ → Option Waiting
 waiting_in script r a = waiting_with r.core (doer script a) (op_in script r a)
 
 -- the turn of an actor: idle where it has finished, without an event where it waits, else that of its operation
-abbrev pub taken_by : CoreState → Doer → (far : ℕ) → Option Op → Option Waiting → Taken
-taken_by s who far None waiting = record { events = []; whats = Idle ∷ [] }
-taken_by s who far (Some op) (Some waiting) = record { events = []; whats = Wait waiting ∷ [] }
-taken_by s who far (Some op) None = turn_of s who far op
+abbrev pub core_turn_by : CoreState → Doer → (far : ℕ) → Option Op → Option Waiting → CoreTurn
+core_turn_by s who far None waiting = record { events = []; whats = Idle ∷ [] }
+core_turn_by s who far (Some op) (Some waiting) = record { events = []; whats = Wait waiting ∷ [] }
+core_turn_by s who far (Some op) None = turn_of s who far op
 
-abbrev pub taken_in : ScriptValue → RunState → ℕ → Taken
-taken_in script r a =
-    taken_by r.core (doer script a) (r.places a).far (op_in script r a) (waiting_in script r a)
+abbrev pub core_turn_in : ScriptValue → RunState → ℕ → CoreTurn
+core_turn_in script r a =
+    core_turn_by r.core (doer script a) (r.places a).far (op_in script r a) (waiting_in script r a)
 
 abbrev pub turn_in : ScriptValue → RunState → ℕ → Turn
-turn_in script r a = record { actor = a; whats = (taken_in script r a).whats }
+turn_in script r a = record { actor = a; whats = (core_turn_in script r a).whats }
 
 -- can the actor take a turn: has it an operation left, and does it not wait?
 abbrev pub is_ready : Option Op → Option Waiting → Bool
@@ -83,7 +83,7 @@ next_actor script r = next_by script r (written_in script r)
 abbrev pub run_after : ScriptValue → RunState → ℕ → RunState
 run_after script r a =
     record {
-      core = run r.core (taken_in script r a).events;
+      core = run r.core (core_turn_in script r a).events;
       places = places_behind r.places (turn_in script r a);
       pointer = pointer_after (length script.actors) r.pointer (written_in script r) a;
       turns = r.turns + 1;

@@ -9,14 +9,14 @@ use Rattle.gup_script.specs.declared.op.Op.TheVariants.{Map, Unmap, Protect, Dis
 use Rattle.gup_spec_events.specs.State.{CoreState}
 use Rattle.gup_spec_events.specs.Event.{fail_unborn}
 use Rattle.gup_spec_journal.specs.Place.{Doer, birth_for}
-use Rattle.gup_spec_turns.specs.Taken.{Taken, answers_with}
+use Rattle.gup_spec_turns.specs.CoreTurn.{CoreTurn, answers_with}
 use Rattle.gup_spec_turns.specs.PageTurns.{load_turn, store_turn, map_turn, unmap_turn, protect_turn, discard_turn, exit_turn}
 use Rattle.gup_spec_turns.specs.PinTurns.{pin_turn, unpin_turn, give_turn, take_turn}
 use Rattle.gup_spec_turns.specs.DeviceTurns.{transfer_turn}
 use Rattle.gup_spec_turns.specs.ForkTurns.{fork_turn}
 
 -- the turn of an operation of a born process, or of a device with so many slots, of which so many turns are over
-abbrev pub op_turn : CoreState → (a p slots far : ℕ) → Op → Taken
+abbrev pub op_turn : CoreState → (a p slots far : ℕ) → Op → CoreTurn
 op_turn s a p slots far (Map page n rights) = map_turn s a p page n rights
 op_turn s a p slots far (Unmap page n) = unmap_turn s a p (page + far) (far + 1 == n)
 op_turn s a p slots far (Load page word) = load_turn s a p page word (s.entry p page)
@@ -33,7 +33,7 @@ op_turn s a p slots far (Fork child) = fork_turn s a p child (s.job a)
 op_turn s a p slots far Exit = exit_turn s a p
 
 -- an operation of a failed process is refused; a fork makes its child failed too
-abbrev pub failed_turn : (a p : ℕ) → Op → Taken
+abbrev pub failed_turn : (a p : ℕ) → Op → CoreTurn
 failed_turn a p (Fork child) =
     record {
       events = fail_unborn a p child ∷ [];
@@ -41,11 +41,11 @@ failed_turn a p (Fork child) =
     }
 failed_turn a p op = answers_with answers.Unborn
 
-abbrev pub turn_at : Birth → (refused turn : Taken) → Taken
+abbrev pub turn_at : Birth → (refused turn : CoreTurn) → CoreTurn
 turn_at failed refused turn = refused
 turn_at birth refused turn = turn
 
-abbrev pub turn_of : CoreState → Doer → (far : ℕ) → Op → Taken
+abbrev pub turn_of : CoreState → Doer → (far : ℕ) → Op → CoreTurn
 turn_of s who far op =
     turn_at (birth_for s.birth who) (failed_turn who.actor who.proc op)
     (op_turn s who.actor who.proc who.slots far op)

@@ -9,7 +9,7 @@ use Rattle.gup_script.specs.declared.op.Op.TheVariants.{Load, Store, Unpin, Give
 use Rattle.gup_spec_events.specs.State.{CoreState, Job, idle, forking, between}
 use Rattle.gup_spec_journal.specs.Order.{handle_waits}
 use Rattle.gup_spec_journal.specs.Place.{Doer, birth_for}
-use Rattle.gup_spec_turns.specs.Taken.{allows_store}
+use Rattle.gup_spec_turns.specs.CoreTurn.{allows_store}
 use Rattle.gup_spec_turns.specs.ForkTurns.{next_page}
 
 -- waiting

@@ -11,7 +11,7 @@ use Rattle.gup_script.specs.Script.{ScriptValue}
 use Rattle.gup_exec_plain.specs.LastWrite.{ArePossible}
 use Rattle.gup_spec_journal.specs.Place.{Place, Doer, doer, present_op}
 use Rattle.gup_spec_journal.specs.Plain.{Judged, judged_first, judged_after, ArePlain, IsRightAt, plain_after}
-use Rattle.gup_law_owners.specs.Owners.{event_in, events_of}
+use Rattle.gup_law_owners.specs.Owners.{event_in, journal_events}
 use Rattle.gup_law_owners.proofs.plain_journals_are_possible.Goals as goal
 
 -- one note
@@ -23,11 +23,11 @@ first_possible s who place op Idle rest right possible = possible
 first_possible s who place op (Wait waiting) rest right possible = possible
 first_possible s who place op (Done answer) rest right possible = possible
 
-all_possible : (script : ScriptValue) (j : Judged) (notes : List NoteValue) → ArePlain script j notes → ArePossible j.plain (events_of notes)
+all_possible : (script : ScriptValue) (j : Judged) (notes : List NoteValue) → ArePlain script j notes → ArePossible j.plain (journal_events notes)
 all_possible script j [] plain = tt
 all_possible script j (note ∷ notes) plain =
     let place = j.places note.actor in
-    first_possible j.plain (doer script note.actor) place (present_op script note.actor place) note.what (events_of notes) plain.0
+    first_possible j.plain (doer script note.actor) place (present_op script note.actor place) note.what (journal_events notes) plain.0
     (all_possible script (judged_after j note) notes plain.1)
 
 pub returns : goal.returns

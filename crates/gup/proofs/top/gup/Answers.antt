@@ -6,7 +6,7 @@ use Rattle.gup_spec_journal.specs.Place.{starts_born}
 use Rattle.gup_spec_journal.specs.Plain.{IsPlain}
 use Rattle.gup_spec_journal.specs.Follows.{Follows}
 use Rattle.gup_spec_journal.specs.Order.{InOrder}
-use Rattle.gup_law_owners.specs.Owners.{OwnsBytes, events_of}
+use Rattle.gup_law_owners.specs.Owners.{OwnsBytes, journal_events}
 use Rattle.gup_lines.specs.Text.{outcomes_of, text_of}
 use Rattle.gup_spec_turns.specs.Cost.{operations}
 use Rattle.gup_spec_turns.specs.Run.{RunState, IsCoreRun}
@@ -50,7 +50,7 @@ returns-in-Ok-clause-owned g c has =
     let script = c.in-Ok.script in
     let report = c.run_and_write.result in
     let W : List ℕ → Type 0 = λ text. Appends (g.K.Sink.taken c.args.sink.now) (g.K.Sink.taken c.run_and_write.new.sink) text in
-    let P : ScriptValue → Type 0 = λ s. OwnsBytes (starts_born s) (events_of report.journal.notes) in
+    let P : ScriptValue → Type 0 = λ s. OwnsBytes (starts_born s) (journal_events report.journal.notes) in
     of_script (g.S.Source.remaining c.args.source.now) script P c.one_script.ensures c.in-Ok.ensures.script
     (ran script report.journal.notes report.status W (P script) c.run_and_write.ensures.finished c.run_and_write.ensures.stuck (λ stuck text run. run.owned) has)
 

@@ -2,12 +2,12 @@ use Rattle.std.proofs.Common.{◌≤◌, ◌==◌, true, refl, arith}
 use Rattle.std.proofs.lemmas.Bool.Decides.{nat_tests}
 use Rattle.gup_base.specs.declared.entry.Rights.TheVariants.{RW}
 use Rattle.gup_plain.specs.declared.event.PlainEvent.TheVariants.{Map, Load, Store, PinTry, PinOk, MoveOut, MoveIn, ForkBegin, ForkPage, ForkEnd}
-use Rattle.gup_plain.specs.State.{PlainState, start}
+use Rattle.gup_plain.specs.State.{PlainState, plain_start}
 use Rattle.gup_plain.specs.Event.{CanHappen, happened, page_numbers}
 use Rattle.gup_exec_plain.proofs.law.runs_are_possible.Goals as goal
 
 abbrev s0 : PlainState
-s0 = start (λ p. p == 0)
+s0 = plain_start (λ p. p == 0)
 
 abbrev s1 : PlainState
 s1 = happened s0 (Map 0 0 5 1 RW)

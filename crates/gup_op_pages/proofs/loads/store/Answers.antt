@@ -3,7 +3,7 @@ use Rattle.gup_frames.specs.Frames.{frames_of}
 use Rattle.gup_space.specs.Space.{space_of}
 use Rattle.gup_space.specs.Shows.{change_of}
 use Rattle.gup_fault.specs.Refused.{answer_of}
-use Rattle.gup_spec_turns.specs.Taken.{allows_store}
+use Rattle.gup_spec_turns.specs.CoreTurn.{allows_store}
 use Rattle.gup_op_base.specs.Said.{whats_of}
 use Rattle.gup_op_base.proofs.Leading.{notes_alike}
 use Rattle.gup_op_pages.proofs.Loading.{store_by_entry, store_by_fault, store_refused, write_there, writable_some}

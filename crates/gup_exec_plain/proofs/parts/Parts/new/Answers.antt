@@ -1,5 +1,5 @@
 use Rattle.std.proofs.Common.{◌≡◌, ℕ, false, List, [], Option, None, ◌∙◌, ap}
-use Rattle.gup_plain.specs.State.{PlainState, Handle, unmade, Pending, Noted, start}
+use Rattle.gup_plain.specs.State.{PlainState, Handle, unmade, Pending, Noted, plain_start}
 use Rattle.gup_exec_plain.specs.Parts.{with_spaces}
 use Rattle.gup_exec_parts.specs.Actor.{store_of}
 use Rattle.gup_exec_parts.specs.Space.{SpaceState, seen, blank}
@@ -10,7 +10,7 @@ use Rattle.gup_exec_plain.proofs.parts.Parts.new.Goals as goal
 
 abbrev assembled : (ℕ → ℕ → ℕ) → ℕ → (ℕ → Handle) → (ℕ → List Pending) → (ℕ → ℕ → ℕ) → (ℕ → Option Noted) → (ℕ → SpaceState) → PlainState
 assembled content made handle pending store slot spaces =
-    with_spaces (record (start (λ _. false)) { content = content; made = made; handle = handle; pending = pending; store = store; slot = slot }) spaces
+    with_spaces (record (plain_start (λ _. false)) { content = content; made = made; handle = handle; pending = pending; store = store; slot = slot }) spaces
 
 all-blank : (c c' : ℕ → ℕ → ℕ) (m m' : ℕ) (h h' : ℕ → Handle) (p p' : ℕ → List Pending) (s s' : ℕ → ℕ → ℕ) (l l' : ℕ → Option Noted) (f f' : ℕ → SpaceState)
     → c ≡ c' → m ≡ m' → h ≡ h' → p ≡ p' → s ≡ s' → l ≡ l' → f ≡ f' → assembled c m h p s l f ≡ assembled c' m' h' p' s' l' f'

@@ -1,5 +1,6 @@
 use Rattle.std.proofs.Common.{◌≡◌, sym, ap, ◌∙◌, rules}
-use Rattle.gup_spec_grammar.specs.Outline.{is_thread, how_many}
+use Rattle.gup_script.specs.Script.{is_thread}
+use Rattle.gup_spec_grammar.specs.Outline.{how_many}
 use Rattle.gup_read_outline.proofs.Actors.{count_fields, counted}
 use Rattle.gup_read_outline.proofs.reader.Reader.threads.Goals as goal
 

@@ -10,12 +10,12 @@ use Rattle.gup_spec_events.specs.State.{CoreState}
 use Rattle.gup_spec_events.specs.Event.{CoreEvent}
 
 -- a turn: its core events in order, and its notes
-pub record Taken : Type 0 where
+pub record CoreTurn : Type 0 where
   pub events : List CoreEvent
   pub whats : List What
 
 -- a turn that changes nothing and ends the operation
-abbrev pub answers_with : Answer → Taken
+abbrev pub answers_with : Answer → CoreTurn
 answers_with answer = record { events = []; whats = Done answer ∷ [] }
 
 -- The frame that a fault takes: the lowest free one of the movable zone, else the lowest free one of the normal
