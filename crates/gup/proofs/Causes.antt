@@ -146,7 +146,7 @@ module _ (finds : Type 0) where
   caused_at s who place (Some op) (Wait waiting) whats lacks known right = tt
   caused_at s who place (Some op) (Event event) whats lacks known right = tt
 
-  -- the notes of a turn are caused, and the rest is plain and known behind them
+  -- the notes of a turn are caused, and the rest is plain and known after them
   caused_turn : (script : ScriptValue) (j : Judged) (t a n : ℕ) (whats : List What) (rest : List NoteValue) → (LacksFrame whats → finds) → ArePlain script j (notes_of_turn t a n whats ++ rest) → AreKnown (notes_of_turn t a n whats ++ rest) → IsCausedTurn finds script j a whats × ArePlain script (judged_turn j a whats) rest × AreKnown rest
   caused_turn script j t a n [] rest lacks plain known = (tt, plain, known)
   caused_turn script j t a n (what ∷ whats) rest lacks plain known =

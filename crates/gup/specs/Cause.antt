@@ -36,7 +36,7 @@ IsCausedAt finds_none s who place (Some op) (Wait waiting) = Unit {0}
 IsCausedAt finds_none s who place (Some op) (Event event) = Unit {0}
 IsCausedAt finds_none s who place None what = Unit {0}
 
--- what notes of actor a have led to, behind what was before
+-- what notes of actor a have led to, after what was before
 abbrev pub judged_note : Judged → (a : ℕ) → What → Judged
 judged_note j a what =
     record { plain = plain_after j.plain what; places = put a (place_after (j.places a) what) j.places }

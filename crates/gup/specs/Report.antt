@@ -80,7 +80,7 @@ abbrev pub IsRefusedFor : Option (List ℕ) → ScriptFault → Type 0
 IsRefusedFor None fault = Unit {0}
 IsRefusedFor (Some bytes) fault = HasFault bytes fault
 
--- why there is no script: a read failed, and none was made behind it, the bytes are none, or memory ran out
+-- why there is no script: a read failed, and none was made after it, the bytes are none, or memory ran out
 abbrev pub IsUnreadFor : Option (List ℕ) → (faults faults_after : ℕ) → (faulted_after : Bool) → Unread → Type 0
 IsUnreadFor told faults faults_after faulted_after Failed = EndsInFault faults faults_after faulted_after
 IsUnreadFor told faults faults_after faulted_after (Fault fault) = IsRefusedFor told fault
@@ -101,7 +101,7 @@ pub record IsRunOf (script : ScriptValue) (stuck : Bool) (notes : List NoteValue
   pub lines : stuck ≡ false → length (outcomes_of notes) ≡ operations script
   pub text_is : text ≡ run_text script notes end
 
--- the script has run to this journal, and a sink has taken a front of its text, and not all of it
+-- the script has run to this journal, and a sink has taken a prefix of its text, and not all of it
 abbrev pub IsPartlyTold : ScriptValue → List NoteValue → (taken taken_after : Option (List ℕ)) → Type 0
 IsPartlyTold script notes taken taken_after =
     (stuck : Bool) × (text : List ℕ) × IsRunOf script stuck notes text × AppendsPart taken taken_after text

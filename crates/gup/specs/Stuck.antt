@@ -36,6 +36,6 @@ stuck_lines script end (suc n) = stuck_lines script end n ++ stuck_of script n (
 abbrev pub stuck_text : ScriptValue → RunState → List ℕ
 stuck_text script end = stuck_lines script end (length script.actors)
 
--- the text of a run: the answers, and behind them the actors that are stuck
+-- the text of a run: the answers, and after them the actors that are stuck
 abbrev pub run_text : ScriptValue → List NoteValue → RunState → List ℕ
 run_text script notes end = text_of script notes ++ stuck_text script end

@@ -17,7 +17,7 @@ use std::process::ExitCode;
 use std::{env, io};
 use top::{Report, gup};
 
-/// The words behind the program's name. Where one of them isn't UTF-8 they are no command, as where there are none.
+/// The words after the program's name. Where one of them isn't UTF-8 they are no command, as where there are none.
 fn words(rt: &(impl Env + AllocGlobal)) -> io::Result<Vec<String>> {
     let mut words = Vec::new(rt.alloc());
     match env::args(rt) {

@@ -69,7 +69,7 @@ const RUNS: [(&str, u8, &str); 30] = [
         0,
         "t 1 missing\nt 2 ok\nt 3 forbidden\nt 4 forbidden\nt 5 overlap\nt 6 ok 1 of 2 missing\nt 7 notheld\nt 8 ok\nt 9 notheld\n",
     ),
-    // A pin keeps its frame behind its page, and gives it back.
+    // A pin keeps its frame after its page, and gives it back.
     (
         "gup 1\nframes 1 0 64\nprocess p\nthread t p\non t map 5 2 rw\non t pin h 5 2 write\non t pin k 6 1 read\non t unpin k\non t unmap 5 2\non t map 6 1 rw\non t load 6.0\non t unpin h\non t load 6.0\non t unpin h\n",
         0,
@@ -255,7 +255,7 @@ impl Source for ByteSource {
     }
 }
 
-/// Takes one byte a write, and fails at the write that has number `fails`, from 1, and where memory is wanted.
+/// Takes one byte a write, and fails at the write that has number `fails`, from 1, and if allocation fails.
 #[derive(Drop)]
 struct ByteSink {
     bytes: Vec<u8>,

@@ -216,9 +216,9 @@ fn show_usage<K: Sink>(alloc: Global, sink: &mut K) -> Report
     Report::unrun(alloc, status, None)
 }
 
-/// What the program does. The words are those behind its name, and the one command so far is `run`: it reads a
+/// What the program does. The words are those after its name, and the one command so far is `run`: it reads a
 /// script from the source, to its end or past the length of a script, runs it, and writes a line for each answer, and
-/// behind these one for each actor that is stuck.
+/// after these one for each actor that is stuck.
 ///
 /// The statuses: 0, the script ran and the sink took its whole text; 2, the words are no command; 3, the bytes are
 /// no script; 4, the same as 0, but that actors are stuck: they wait at the end of the run; 5, a read failed; 6, a
@@ -294,7 +294,7 @@ pub fn gup<S: Source, K: Sink>(
     ensures unwritten { (result.status ≡ 5) ⊎ (result.status ≡ 7) → sink.new ≡ sink.old }
 
     // Status 6 comes exactly where a write failed, in place of 0, 2, 3 and 4. One write failed, and it was the last, and
-    // what was taken is a front of the text: the usage, that of a refusal, which is reported, or that of a run of the
+    // what was taken is a prefix of the text: the usage, that of a refusal, which is reported, or that of a run of the
     // script that was read.
     ensures write_fault { result.status ≡ 6
         → EndsInFault (K.faults sink.old) (K.faults sink.new) (K.faulted sink.new) }

@@ -1,5 +1,5 @@
 //! What every part of the model of page pinning counts and names with: bounded numbers, rights, page table
-//! entries and how they are packed, counts with pins, short lists without an allocator, and want of memory.
+//! entries and how they are packed, counts with pins, short lists without an allocator, and the error of a failed allocation.
 #![tactic(auto)]
 
 mod counts;

@@ -115,7 +115,7 @@ is_ready m a asked proc seat op stand machine rest of_asked of_a here present wa
       actor_store = omega (arith, actor, rest.parts.stores);
     }
 
--- the parts are as many behind a turn, and stores have as many slots
+-- the parts are as many after a turn, and stores have as many slots
 pub still_parts : (script : ScriptValue) (old new : Parts) → AreParts script old → length new.spaces.items ≡ length old.spaces.items → length new.births.items ≡ length old.births.items
     → length new.taken.items ≡ length old.taken.items → length new.stores.items ≡ length old.stores.items → KeepsSlots old.stores.items new.stores.items → AreParts script new
 still_parts script old new are spaces births taken stores slots =

@@ -41,7 +41,7 @@ use Rattle.gup_core.proofs.Turning.{differ, replaced}
 counted_next : (m t : ℕ) → m ≡ min t (2 ^ 32 - 1) → counted m ≡ min (t + 1) (2 ^ 32 - 1)
 counted_next m t is = grind (arith, nat_tests)
 
--- What the machine is behind a turn t of an actor shows the state behind it.
+-- What the machine is after a turn t of an actor shows the state after it.
 shows_behind : (m : MachineValue) (parts : Parts) (seats : List Seat) (turns : ℕ) (r : RunState) (a : ℕ) (t : CoreTurn)
     → core_turn_in m.script r a ≡ t → Shows m r → turns ≡ counted m.turns → ShowsParts parts (run r.core t.events)
     → ((b : ℕ) (seat : Seat) → slice_get seats b ≡ Some seat → IsSeat (present_op m.script b (places_behind r.places (record { actor = a; whats = t.whats }) b)) (places_behind r.places (record { actor = a; whats = t.whats }) b) seat)
@@ -195,7 +195,7 @@ far_next (Transfer handle outward index slot n) far at is = ap (λ k. k + 1) is
 far_next (Fork child) far at is = refl
 far_next Exit far at is = refl
 
--- behind a turn of its operation the actor's seat is at its place
+-- after a turn of its operation the actor's seat is at its place
 seat_next : (script : ScriptValue) (a : ℕ) (place : Place) (seat : Seat) (op : Op) (fork : ForkPlace) (event next : Option PlainEvent) (answer : Option Answer)
     → present_op script a place ≡ Some op → IsSeat (Some op) place seat → NoTwo (whats_by event next answer)
     → IsSeat (present_op script a (place_behind place (whats_by event next answer))) (place_behind place (whats_by event next answer)) (seat_behind seat op (is_some answer) fork)

@@ -260,7 +260,7 @@ others_behind s a p c es before behind new_parent new_child own old parent paren
     go false e false f =
         fork_leaves_others a p c q (space_of space) s es (λ is. differ q p e (sym is)) (λ is. differ q c f (sym is)) own (old q space (sym (others q (differ q p e) (differ q c f)) ∙ found))
 
--- the child's birth behind it
+-- the child's birth after it
 birth_of_event : (p : ℕ) (event : PlainEvent) (whats : List What) (b : CoreBirth) → b ≡ birth_behind p (Event event ∷ whats) → IsBirth (birth_said (Some event)) b
 birth_of_event p (events.Map actor proc page n rights) whats b is = (p, is)
 birth_of_event p (events.Unmap actor proc page) whats b is = (p, is)

@@ -10,7 +10,7 @@ abbrev pub HasFailed : List Birth → Option ℕ → Type 0
 HasFailed births None = ⊥
 HasFailed births (Some p) = slice_get births p ≡ Some Failed
 
--- what the child of a fork is behind a turn whose first event is this: it grows until the fork ends or fails
+-- what the child of a fork is after a turn whose first event is this: it grows until the fork ends or fails
 abbrev pub birth_said : Option PlainEvent → Birth
 birth_said (Some (ForkEnd parent child)) = Born
 birth_said (Some (ForkFail child)) = Failed

@@ -118,7 +118,7 @@ KeepsSlots old new =
 
 -- What a turn of an operation needs that has gone so far, and whose fork stands there: its numbers are in range, it is of
 -- process p where it is of one, each process is tidy, counts are small, nobody holds a lock that it needs, pins have
--- the weight of their pages, and behind the first page of a pin the process has pinned.
+-- the weight of their pages, and after the first page of a pin the process has pinned.
 pub record IsReady (parts : Parts) (a p : ℕ) (op : Op) (gone : ℕ) (place : ForkPlace) : Type 0 where
   pub there : HasProcess op → p < length parts.spaces.items
   pub tidy : EachSpace (IsTidy (frames_of parts.frames)) parts.spaces.items

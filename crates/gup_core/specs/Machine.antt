@@ -95,7 +95,7 @@ pub record Shows (m : MachineValue) (r : RunState) : Type 0 where
   pub turns : m.turns ≡ min r.turns (2 ^ 32 - 1)
 
 -- A turn of the machine is the actor's turn of the core run from r: the notes are its, and the machine shows the
--- state behind it.
+-- state after it.
 pub record TakesTurn (old new : MachineValue) (actor : ℕ) (r : RunState) (notes : List NoteValue) : Type 0 where
   pub said : notes ≡ notes_of_turn (counted old.turns) actor ((r.places actor).answered + 1) (core_turn_in old.script r actor).whats
   pub shown : Shows new (run_after old.script r actor)

@@ -19,7 +19,7 @@ far_behind (Pin handle page n write) far = far + 1
 far_behind (Transfer handle outward index slot n) far = far + 1
 far_behind op far = 0
 
--- behind a turn of its operation an actor stands at the next page or word, or at the next operation, and its fork there
+-- after a turn of its operation an actor stands at the next page or word, or at the next operation, and its fork there
 abbrev pub seat_behind : Seat → Op → (answered : Bool) → ForkPlace → Seat
 seat_behind seat op answered fork =
     if answered

@@ -49,7 +49,7 @@ pub fn set_seat(seats: &mut Vec<Seat>, actor: ActorNo, seat: &Seat)
     seats[actor.get() as usize] = *seat;
 }
 
-/// Behind a turn of its present operation an actor stands at the next page or word, or at the next operation, and its fork
+/// After a turn of its present operation an actor stands at the next page or word, or at the next operation, and its fork
 /// there.
 pub fn behind(seat: &Seat, op: &Op, answered: bool, fork: ForkPlace) -> Seat
     requires few { seat.now.answered + 1 < 2 ^ 32 }

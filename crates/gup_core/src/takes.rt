@@ -287,7 +287,7 @@ fn take_fork(
     (said, next)
 }
 
-// What the child of a fork is behind a turn that says this: it grows until the fork ends or fails.
+// What the child of a fork is after a turn that says this: it grows until the fork ends or fails.
 fn birth_behind(said: &Said) -> Birth
     ensures { result ≡ birth_said (option_or said.now.event said.now.next) }
 {

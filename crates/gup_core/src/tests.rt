@@ -298,7 +298,7 @@ fn forks_fail(rt: HostRuntime) -> Result<(), Fail> {
     Ok(())
 }
 
-// While the fork goes on, what needs a lock waits for it, and the child's thread for the child. A write behind it gets
+// While the fork goes on, what needs a lock waits for it, and the child's thread for the child. A write after it gets
 // a frame of its own.
 #[test]
 fn forks_share_pages(rt: HostRuntime) -> Result<(), Fail> {

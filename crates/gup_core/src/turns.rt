@@ -14,7 +14,7 @@ use gup_op_base::Said;
 use gup_plain::What;
 use gup_script::{Kind, Op, Script};
 
-/// The number of the turn behind so many. It stays at the last value of 32 bits.
+/// The number of the turn after so many. It stays at the last value of 32 bits.
 pub fn next_turn(turns: u32) -> u32
     ensures { result ≡ counted turns }
 {

@@ -92,7 +92,7 @@ impl Run {
         (self.seed >> 33) % n.max(1)
     }
 
-    // Counts what has happened, and what has not for want of memory.
+    // Counts what has happened, and what has not because allocation failed.
     fn tell(&mut self, kind: usize, tried: Result<(), Refused>) {
         match tried {
             Ok(()) => {

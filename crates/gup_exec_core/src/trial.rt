@@ -66,7 +66,7 @@ fn one_born(alloc: Global, first: ProcNo) -> Result<Procs, NoMemory>
 }
 
 impl Trial {
-    /// The start: so many frames of the movable zone and, behind them, of the normal one, all free and zero; one process
+    /// The start: so many frames of the movable zone and, after them, of the normal one, all free and zero; one process
     /// born, and nothing mapped.
     pub fn new(alloc: Global, movable: u16, normal: u16, first: ProcNo) -> Result<Trial, NoMemory>
         ensures { IfOk result (λ trial. state_of trial ≡ core_start movable normal (λ p. p == first)) }

@@ -18,7 +18,7 @@ updated f g k w h = fun_ext (λ q. let here = h q in grind (arith, nat_tests))
 spread_past : {X : Type 0} (first k : ℕ) (g f : ℕ → X) → spread first k g f (first + k) ≡ f (first + k)
 spread_past first k g f = grind (arith, nat_tests)
 
--- behind a range everything is as it was
+-- after a range everything is as it was
 pub still : {X : Type 0} (f g h : ℕ → X) (first k page : ℕ) → h ≡ spread first k g f → page ≡ first + k → h page ≡ f (first + k)
 still f g h first k page changed at = rw (at, changed) (spread_past first k g f)
 

@@ -19,7 +19,7 @@ pub struct Page {
 /// The mapped pages of a process.
 pub type Pages = BTreeMap<PageNo, Page>;
 
-/// The page that is `k` behind the first.
+/// The page that is `k` after the first.
 fn nth(first: PageNo, k: u16) -> PageNo
     requires { first + k < 2 ^ 35 }
     ensures { result ≡ first + k }

@@ -13,7 +13,7 @@ use Rattle.gup_exec_plain.specs.Parts.{with_spaces}
 use Rattle.gup_exec_parts.specs.Space.{SpaceState, blank}
 use Rattle.gup_exec_parts.proofs.TableLemmas.{put_same}
 
--- ---- a function behind a change
+-- ---- a function after a change
 
 chosen : {X Y : Type 0} (g : X → Y) (b : Bool) (x x' : X) (y y' : Y) → (b ≡ true → g x ≡ y) → (b ≡ false → g x' ≡ y') → g (if b then x else x') ≡ (if b then y else y')
 chosen g true x x' y y' whole part = whole refl

@@ -1,4 +1,4 @@
--- Where memory is wanted, the event is refused so.
+-- If allocation fails, the event is refused so.
 use Rattle.std.proofs.Common.{◌≡◌, Result, Ok, Err, sym, subst}
 use Rattle.std.specs.Result.{IsErrAnd}
 use Rattle.gup_plain.specs.State.{PlainState}

@@ -139,7 +139,7 @@ WantsMemory (events.ForkWord parent child page word) = Unit {0}
 WantsMemory (events.ForkEnd parent child) = ⊥
 WantsMemory (events.ForkFail child) = ⊥
 
--- where the event is refused as broken, it cannot happen, and where for want of memory, it wants some
+-- where the event is refused as broken, it cannot happen, and where allocation failed, it wants memory
 abbrev pub IsRight : PlainRefusal → PlainState → PlainEvent → Type 0
 IsRight Broken s e = CanHappen s e → ⊥
 IsRight NoMemory s e = WantsMemory e

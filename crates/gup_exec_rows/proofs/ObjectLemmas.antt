@@ -23,7 +23,7 @@ numbers_put m n k o h =
 pub spread_none : {X : Type 0} (first : ℕ) (g f : ℕ → X) → f ≡ spread first 0 g f
 spread_none first g f = fun_ext (λ q. grind (arith, nat_tests))
 
--- the object of the page k behind the first
+-- the object of the page k after the first
 pub object_behind : (object first k : ℕ) → object + k ≡ object + ((first + k) - first)
 object_behind object first k = omega arith
 

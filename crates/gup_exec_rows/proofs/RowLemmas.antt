@@ -1,4 +1,4 @@
--- What a function of numbers is behind a change at one place, and what a row is.
+-- What a function of numbers is after a change at one place, and what a row is.
 use Rattle.std.proofs.Common.{◌≡◌, ℕ, ◌<◌, ◌==◌, Bool, true, false, if◌then◌else◌, List, Option, Some, None, length, get_or, slice_set, refl, sym, ◌∙◌, ap, arith}
 use Rattle.std.proofs.Math.Path.{fun_ext}
 use Rattle.std.proofs.lemmas.Bool.Decides.{nat_tests}
@@ -10,7 +10,7 @@ chosen : {X Y : Type 0} (g : X → Y) (b : Bool) (x x' : X) (y y' : Y) → (b �
 chosen g true x x' y y' whole part = whole refl
 chosen g false x x' y y' whole part = part refl
 
--- a function behind a change at one place
+-- a function after a change at one place
 pub through_put : {X Y : Type 0} (g : X → Y) (p : ℕ) (x : X) (f : ℕ → X) (y : Y) → g x ≡ y → (λ q. g (put p x f q)) ≡ put p y (λ q. g (f q))
 through_put g p x f y is = fun_ext (λ q. chosen g (q == p) x (f q) y (g (f q)) (λ _. is) (λ _. refl))
 
@@ -23,7 +23,7 @@ through_put2 g p x f l w is =
     fun_ext
     (λ q. chosen g (q == p) x (f q) (put l w (g (f q))) (g (f q)) (λ here. is ∙ ap (λ n. put l w (g (f n))) (sym (same-number q p here))) (λ _. refl))
 
--- a row behind a change of one of its places
+-- a row after a change of one of its places
 pub at_put : {V : Type 0} (blank : V) (items : List (Option V)) (k : ℕ) (x : V) → k < length items → at (blank, slice_set items k (Some x)) ≡ put k x (at (blank, items))
 unfolding at
 at_put blank items k x within =

@@ -19,7 +19,7 @@ pub struct Grid<V> {
     alloc: Global,
 }
 
-/// The page that is `k` behind the first.
+/// The page that is `k` after the first.
 pub fn nth(first: PageNo, k: u16) -> PageNo
     requires { first + k < 2 ^ 35 }
     ensures { result ≡ first + k }

@@ -448,7 +448,7 @@ fn a_walk_stops_at_an_entry_that_is_not_right(rt: HostRuntime) -> Result<(), Fai
     Ok(())
 }
 
-// The page is unmapped behind the reading of its entry. Its frame is free, and isn't grabbed.
+// The page is unmapped after the reading of its entry. Its frame is free, and isn't grabbed.
 #[test]
 fn a_free_frame_is_not_grabbed(rt: HostRuntime) -> Result<(), Fail> {
     let script = "map 0, take 2, fill 0 2, \
@@ -460,7 +460,7 @@ fn a_free_frame_is_not_grabbed(rt: HostRuntime) -> Result<(), Fail> {
     Ok(())
 }
 
-// The page is unmapped behind the grab: the recheck finds no entry, and the frame is free once the grab is dropped.
+// The page is unmapped after the grab: the recheck finds no entry, and the frame is free once the grab is dropped.
 #[test]
 fn a_grab_is_dropped_where_the_entry_is_another(rt: HostRuntime) -> Result<(), Fail> {
     let script = "map 0, take 2, fill 0 2, \
@@ -529,7 +529,7 @@ fn a_walk_meets_a_moved_page(rt: HostRuntime) -> Result<(), Fail> {
     Ok(())
 }
 
-// The page is unmapped behind the reading of its entry, and another process gets its frame. The walk grabs that, finds
+// The page is unmapped after the reading of its entry, and another process gets its frame. The walk grabs that, finds
 // no entry, and leaves the frame to its new owner.
 #[test]
 fn a_frame_that_was_taken_again_is_dropped(rt: HostRuntime) -> Result<(), Fail> {
@@ -544,7 +544,7 @@ fn a_frame_that_was_taken_again_is_dropped(rt: HostRuntime) -> Result<(), Fail> 
     Ok(())
 }
 
-// The page is unmapped behind the reading of its entry, mapped again, and gets the same frame. The recheck finds the
+// The page is unmapped after the reading of its entry, mapped again, and gets the same frame. The recheck finds the
 // entry equal, and takes the object that the page names now.
 #[test]
 fn a_page_that_was_mapped_again_is_taken_anew(rt: HostRuntime) -> Result<(), Fail> {

@@ -69,7 +69,7 @@ record IsPutTo (C0 C : SpaceValue) (entry : ℕ → Option Entry) (next : ℕ) :
   gone : (g : ℕ) → g < next → C.entry g ≡ None
   left : (g : ℕ) → next ≤ g → C.entry g ≡ entry g
 
--- the child behind the reference of one entry
+-- the child after the reference of one entry
 abbrev child_with : (next : ℕ) → Option Entry → SpaceValue → SpaceValue
 child_with next None C = C
 child_with next (Some e) C = with_entry next None C

@@ -28,7 +28,7 @@ abbrev pub AreOfFork : (a p c : ℕ) → List CoreEvent → Type 0
 AreOfFork a p c [] = Unit {0}
 AreOfFork a p c (e ∷ es) = IsForkEvent a p c e × AreOfFork a p c es
 
--- the frames, the parent and the child behind such an event
+-- the frames, the parent and the child after such an event
 abbrev pub frames_behind : CoreEvent → FramesValue → FramesValue
 frames_behind (share_mark a p c done page f writable) frames = with_mark f false frames
 frames_behind (share_child a p c done page f writable) frames = with_references f 1 frames
@@ -62,7 +62,7 @@ child_behind (fail_fork a p c done step ends) parent child = without_maps child
 child_behind (put_child a p c done page e ends) parent child = with_entry page None child
 child_behind e parent child = child
 
--- and behind a list of them
+-- and after a list of them
 abbrev pub all_frames_behind : List CoreEvent → FramesValue → FramesValue
 all_frames_behind [] frames = frames
 all_frames_behind (e ∷ es) frames = all_frames_behind es (frames_behind e frames)
@@ -75,7 +75,7 @@ abbrev pub all_child_behind : List CoreEvent → (parent child : SpaceValue) →
 all_child_behind [] parent child = child
 all_child_behind (e ∷ es) parent child = all_child_behind es (parent_behind e parent) (child_behind e parent child)
 
--- The events, each of them of the fork, lead from what was before a call to what is behind it.
+-- The events, each of them of the fork, lead from what was before a call to what is after it.
 pub record IsMadeByFork (k : ForkChange) (a p c : ℕ) (es : List CoreEvent) : Type 0 where
   pub own : AreOfFork a p c es
   pub frames : k.new_frames ≡ all_frames_behind es k.old_frames

@@ -16,7 +16,7 @@ use Rattle.gup_fork.proofs.ForkAfter.{IsForkEvent, beginning, counting, lowering
 own_lock : (k : ℕ) (holder : Option ℕ) (f : ℕ → Option ℕ) → put k holder f k ≡ holder
 own_lock k holder f = grind (arith, nat_tests)
 
--- the table lock behind a failure
+-- the table lock after a failure
 own_table : (p : ℕ) (step : ForkStep) (f : ℕ → Option ℕ) → put p (elim step [ between ↦ f p | counted page ↦ None | lowered page ↦ None | cleared page ↦ None | copying page word ↦ None | failing ↦ None ]) f p ≡ table_behind step (f p)
 own_table p between f = own_lock p (f p) f
 own_table p (counted page) f = own_lock p None f

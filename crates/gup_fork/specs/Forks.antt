@@ -8,7 +8,7 @@ use Rattle.gup_space.specs.Space.{SpaceValue, SpaceParts, space_of, with_entry}
 use Rattle.gup_spec_events.specs.State.{CoreState, ForkStep, between}
 use Rattle.gup_spec_events.specs.Event.{CoreEvent, bias, entry_of, share_entry, share_mark, share_child, run}
 
--- frames, a parent and its child, before a call and behind it
+-- frames, a parent and its child, before a call and after it
 pub record ForkChange : Type 0 where
   pub old_frames : FramesValue
   pub new_frames : FramesValue
@@ -28,7 +28,7 @@ fork_change_of old_frames new_frames old_parent new_parent old_child new_child =
       new_child = space_of new_child;
     }
 
--- the same, where the parent's structure lock, or its table lock, is held so behind it
+-- the same, where the parent's structure lock, or its table lock, is held so after it
 abbrev pub with_structure : Option ℕ → ForkChange → ForkChange
 with_structure holder k = record k { new_parent = record k.new_parent { structure = holder } }
 
@@ -97,7 +97,7 @@ given_back entry frames =
       mark = λ f. frames.mark f && (frames.count f == 0 || nat_lt (entries_of entry 0 page_numbers f) (frames.count f));
     }
 
--- who holds the parent's table lock behind a failure at this step: a fork that is within a page has it, and gives it back
+-- who holds the parent's table lock after a failure at this step: a fork that is within a page has it, and gives it back
 abbrev pub table_behind : ForkStep → Option ℕ → Option ℕ
 table_behind between holder = holder
 table_behind step holder = None

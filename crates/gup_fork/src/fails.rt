@@ -1,4 +1,4 @@
-//! What a fork that fails takes back (of Linux's `dup_mmap` where it fails, and of the `exit_mmap` behind it).
+//! What a fork that fails takes back (of Linux's `dup_mmap` where it fails, and of the `exit_mmap` after it).
 ghost use Rattle.std.specs.Prelude.{◌≡◌, ℕ, ◌+◌, ◌<◌, ◌≤◌, ◌^◌, List, Some, None};
 ghost use Rattle.gup_base.specs.declared.entry.Entry.{Entry as EntryValue};
 ghost use Rattle.gup_plain.specs.Event.{page_numbers};

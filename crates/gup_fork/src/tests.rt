@@ -272,7 +272,7 @@ fn fail_here(
     fail(parent, child, frames);
 }
 
-// The fork into a new child fails behind the share of the page; how many pages and entries the child then has.
+// The fork into a new child fails after the share of the page; how many pages and entries the child then has.
 fn fail_child(
     rt: &impl Abort,
     alloc: Global,

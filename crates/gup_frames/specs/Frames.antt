@@ -6,7 +6,7 @@ use Rattle.gup_base.specs.declared.entry.Zone.{Zone}
 use Rattle.gup_base.specs.declared.entry.Zone.TheVariants.{Movable, Normal}
 use Rattle.gup_plain.specs.Put.{put, put2, lowest}
 
--- Frames below `movable` are of the movable zone, the `normal` ones behind them of the normal zone. Of each frame:
+-- Frames below `movable` are of the movable zone, the `normal` ones after them of the normal zone. Of each frame:
 -- its references, with 1,024 for each pin; its mark, which says that it is exclusive; its words.
 pub record FramesValue : Type 0 where
   pub movable : ℕ

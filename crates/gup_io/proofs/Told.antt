@@ -6,12 +6,12 @@ use Rattle.std.proofs.KnownBytes.{Appends-trans}
 use Rattle.std.specs.Io.KnownBytes.{Appends, Consumes}
 use Rattle.gup_io.specs.Transfers.{Loses}
 
--- what a buffer holds of the bytes from a place on, and then those behind it
+-- what a buffer holds of the bytes from a place on, and then those after it
 pub drop_split : (bytes : List ℕ) (at n : ℕ) (buf : List ℕ) → take n buf ≡ take n (drop at bytes) → drop at bytes ≡ take n buf ++ drop (at + n) bytes
 drop_split bytes at n buf e =
     sym (take-append-drop n (drop at bytes)) ∙ ap (λ l. l ++ drop n (drop at bytes)) (sym e) ∙ ap (λ l. take n buf ++ l) (drop-drop n at bytes)
 
--- the front of a text and a piece more
+-- a prefix of a text and a piece more
 pub Appends-more : (a b c : Option (List ℕ)) (text : List ℕ) (at n : ℕ) → Appends a b (take at text) → Appends b c (take n (drop at text)) → Appends a c (take (at + n) text)
 Appends-more a b c text at n p q = subst (Appends a c) (sym (take-add at n text)) (Appends-trans a b c _ _ p q)
 

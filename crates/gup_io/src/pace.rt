@@ -1,6 +1,6 @@
 use gup_base::ActorNo;
 
-/// A gate in front of each operation, for tests. It may wait.
+/// A gate before each operation, for tests. It may wait.
 pub trait Pace {
     /// Is called before the first step of the operation with number `op` of this actor.
     fn before(&self, actor: ActorNo, op: u32);

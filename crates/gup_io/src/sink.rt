@@ -39,7 +39,7 @@ pub fn write_all<K: Sink>(sink: &mut K, text: &[u8]) -> Result<(), Failed>
     ensures whole { OnOk result (Appends (K.taken sink.old) (K.taken sink.new) text.now) }
     ensures broken_off { OnErr result (AppendsPart (K.taken sink.old) (K.taken sink.new) text.now) }
 
-    // A failed write is the only one that failed, and none is made behind it.
+    // A failed write is the only one that failed, and none is made after it.
     ensures uncounted { OnOk result (K.faults sink.new ≡ K.faults sink.old) }
     ensures cause { OnErr result (EndsInFault (K.faults sink.old) (K.faults sink.new) (K.faulted sink.new)) }
     ensures never_falls { K.faults sink.old ≤ K.faults sink.new }

@@ -71,7 +71,7 @@ pub fn read_up_to<S: Source>(
     ensures broken_off { IfErr result
         (λ e. Loses (least_read e) most (S.remaining source.old) (S.remaining source.new)) }
 
-    // A failed read is the only one that failed, and none is made behind it.
+    // A failed read is the only one that failed, and none is made after it.
     ensures uncounted { OnOk result (S.faults source.new ≡ S.faults source.old) }
     ensures cause { IfErr result
         (λ e. IsCauseOf e (S.faults source.old) (S.faults source.new) (S.faulted source.new)) }
@@ -87,7 +87,7 @@ pub fn read_up_to<S: Source>(
     Ok(bytes)
 }
 
-// One read of at most `most` bytes, which are put behind those that are there.
+// One read of at most `most` bytes, which are put after those that are there.
 fn read_more<S: Source>(
     source: &mut S,
     bytes: &mut Vec<u8>,

@@ -1,4 +1,4 @@
--- Lists by index: an element behind the others.
+-- Lists by index: an element after the others.
 use Rattle.std.proofs.Common.{◌≡◌, ℕ, ◌<◌, ◌≤◌, ◌⊎◌, inl, inr, List, [], ◌∷◌, ◌++◌, map, length, zero, suc, refl, ap, sym, ◌∙◌, subst, arith}
 use Rattle.std.specs.Prelude.{Option, Some, None, slice_get, slice_index_or, All, Contains}
 use Rattle.std.specs.Option.{option_map}

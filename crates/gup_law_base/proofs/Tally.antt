@@ -290,7 +290,7 @@ module _ (count : ℕ → ℕ) (entry : ℕ → ℕ → Option Entry) (moves : �
 
 -- 3. What a walk's next step does to the grabs
 module _ (grabs : ℕ → ℕ) (walks : ℕ → Option Walking) where
-  -- the walk of an actor has grabbed a frame, and has grabbed another, or none, behind the change
+  -- the walk of an actor has grabbed a frame, and has grabbed another, or none, after the change
   pub tally_walk : (a : ℕ) (w : Option Walking) → Tally grabs (held_by_walk walks) → Tally (changed (walk_frame (walks a)) (walk_frame w) bias grabs) (held_by_walk (put a w walks))
   unfolding held_by_walk
   tally_walk a w tally =

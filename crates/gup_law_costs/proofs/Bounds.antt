@@ -184,7 +184,7 @@ module _ (s : CoreState) (a p : ℕ) (place : Place) (rests : s.job a ≡ idle) 
         bound = refl;
       }
 
-  -- Lowered entries leave all mappings and jobs: what is behind them happens to a state with the same ones.
+  -- Lowered entries leave all mappings and jobs: what is after them happens to a state with the same ones.
   record IsLowered (t : CoreState) (es rest : List CoreEvent) (u : CoreState) : Type 0 where
     pub leads : run t es ≡ run u rest
     pub right : u.right ≡ t.right

@@ -168,7 +168,7 @@ module _ (s : CoreState) (a p : ℕ) (place : Place) (rests : s.job a ≡ idle) 
 
   -- what is done with a pin that is made
 
-  -- what is left behind the last page of a pin, where that isn't the only one
+  -- what is left after the last page of a pin, where that isn't the only one
   more_left : (pinned left : List ℕ) (f : ℕ) → 0 < length pinned → but_last pinned ≡ f ∷ left → 1 < length pinned
   more_left pinned left f some is =
       let many = length-take-le (length pinned - 1) pinned (omega arith) in

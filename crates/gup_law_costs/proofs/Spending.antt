@@ -70,7 +70,7 @@ left_idle s a rests (op ∷ ops) zero =
     omega (arith, all, here)
 left_idle s a rests (op ∷ ops) (suc k) = left_idle s a rests ops k
 
--- that of the present operation, and of those behind it
+-- that of the present operation, and of those after it
 left_suc : (s : CoreState) (a : ℕ) (ops : List Op) (k : ℕ) (op : Op) (far : ℕ) → slice_get ops k ≡ Some op → left_cost s a ops k far ≡ op_left s a op far + cost_from ops (suc k)
 left_suc s a [] k op far is = absurd (cc is)
 left_suc s a (o ∷ ops) zero op far is =
@@ -267,7 +267,7 @@ pages_change n q s t (inr same) others =
     let one = ap (λ (f : ℕ → ℕ → Option Rights). mapped_pages (f q)) same in
     omega (arith, all, one)
 
--- the place of the actor behind its turn
+-- the place of the actor after its turn
 abbrev pub next_place : ScriptValue → RunState → ℕ → Place
 next_place script r a = place_behind (r.places a) (core_turn_in script r a).whats
 

@@ -106,7 +106,7 @@ yet_fall script places b next op is more =
     let was = maps_at (ops_of script b) (places b).answered op is in
     omega (arith, sums, here, was)
 
--- The turns that an actor's present operation has behind it, with those that it has at most still to take: a fork by where it
+-- The turns that an actor's present operation has after it, with those that it has at most still to take: a fork by where it
 -- stands, an exit by the pages of its process and those that are yet to be mapped.
 pub record IsWithin (script : ScriptValue) (s : CoreState) (yet a : ℕ) (place : Place) : Type 0 where
   pub forks : (child : ℕ) → present_op script a place ≡ Some (Fork child) → place.far + fork_turns (s.right child) (place_in s a) ≤ 515 * most_pages + 2
@@ -253,7 +253,7 @@ module _ (law : Law) (published : Published) (script : ScriptValue) (valid : IsS
       at_others (λ (a : ℕ) (place : Place). IsWithin script t yet a place) b next r.places (own_within (mapped_pages (r.core.right (child_of (process_of script b) (Some op)))) (mapped_pages (t.right (child_of (process_of script b) (Some op)))) spent.takes)
       (λ a other. other_within a (grind (arith, nat_tests)))
 
--- behind the turn of any actor
+-- after the turn of any actor
 within_on : Law → Published → (script : ScriptValue) → IsScript script → (r : RunState) → IsReached script r → (b : ℕ) → AreWithin script r.core r.places → AreWithin script (run_after script r b).core (run_after script r b).places
 within_on law published script valid r h b within = by_parts (op_in script r b) (waiting_in script r b) refl refl
   where
@@ -269,7 +269,7 @@ within_on law published script valid r h b within = by_parts (op_in script r b) 
     by_parts (Some op) (Some waiting) is free = stays (ap (λ (o : Option Op). is_ready o (waiting_in script r b)) is ∙ ap (is_ready (Some op)) free)
     by_parts (Some op) None is free = turn_within law published script valid r h b op is free within
 
--- at the start no operation has a turn behind it
+-- at the start no operation has a turn after it
 pub within_first : (script : ScriptValue) → IsReached script (run_start script) → AreWithin script (run_start script).core (run_start script).places
 within_first script h a =
     record {
@@ -280,7 +280,7 @@ within_first script h a =
           omega (arith, pages, maps);
     }
 
--- so an operation has fewer turns behind it than it may have
+-- so an operation has fewer turns after it than it may have
 few_turns : Published → (script : ScriptValue) → IsScript script → (r : RunState) → IsReached script r → AreWithin script r.core r.places → (a : ℕ) (op : Op) → op_in script r a ≡ Some op → (r.places a).far < most_turns_of script op
 few_turns published script valid r h within a op is = go op is (subst (λ (o : Option Op). FitsAt r.core (doer script a) o (r.places a)) is (h.stands.fits a))
   where
@@ -312,7 +312,7 @@ few_turns published script valid r h within a op is = go op is (subst (λ (o : O
         omega (arith, all, some)
     go Exit is fits = let all = (within a).exits is in omega (arith, all)
 
--- behind turns of any actors
+-- after turns of any actors
 pub within_turned : Law → Published → (script : ScriptValue) → IsScript script → (actors : List ℕ) (r : RunState) → IsReached script r → AreWithin script r.core r.places → (a : ℕ) (op : Op) → op_in script (turned script r actors) a ≡ Some op → ((turned script r actors).places a).far < most_turns_of script op
 within_turned law published script valid [] r h within a op is = few_turns published script valid r h within a op is
 within_turned law published script valid (b ∷ actors) r h within a op is =

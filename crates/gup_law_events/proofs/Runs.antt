@@ -11,7 +11,7 @@ use Rattle.gup_law_base.specs.Sound.{IsSound, Simulates}
 use Rattle.gup_law_events.specs.Law.{with_told, all_told}
 use Rattle.gup_exec_plain.specs.LastWrite.{ArePossible, after}
 
--- the plain events at the rest, behind that at the first
+-- the plain events at the rest, after that at the first
 possible_with : (told : Option PlainEvent) (s t : PlainState) (es : List PlainEvent) → CanTell s told → t ≡ after_told s told → ArePossible t es → ArePossible s (with_told told es)
 possible_with None s t es can same possible = subst (λ u. ArePossible u es) same possible
 possible_with (Some e) s t es can same possible = (can, subst (λ u. ArePossible u es) same possible)

@@ -23,9 +23,9 @@ use Rattle.gup_law_turns.proofs.Shapes.{TurnOf, refused, mapped, protected, load
 use Rattle.gup_law_journal.proofs.Ordering.{op_moves, refusal_moves, failure_moves}
 use Rattle.gup_law_journal.proofs.Owning.{own_other, own_same, own_idle, behind_front, behind_rest, before_append, turn_before}
 
--- What is left of an operation of which so many turns are over: of one that goes over pages, those behind; of an exit,
+-- What is left of an operation of which so many turns are over: of one that goes over pages, those after; of an exit,
 -- so many pages as are still mapped; of a fork, what is left from where it stands; of a pin and of a transfer, the pages or
--- words behind, and of an unpin, so many pages as the pin still has.
+-- words after, and of an unpin, so many pages as the pin still has.
 abbrev pub RestOver : Who → Op → (page n : ℕ) → (ℕ → PlainEvent) → (far : ℕ) → List NoteValue → Type 0
 RestOver who op page n event far notes = TakesDownAll who event (page + far) (n - far) notes ⊎ ((far ≡ 0) × IsRefused who op notes)
 
@@ -71,7 +71,7 @@ over_rest : (who : Who) {op : Op} {page n : ℕ} {event : ℕ → PlainEvent} (f
 over_rest who far at notes (unmaps page n) rest = rest
 over_rest who far at notes (discards page n) rest = rest
 
--- what is left of the operation, and then those behind it
+-- what is left of the operation, and then those after it
 abbrev pub Goes : (a p number : ℕ) → Op → List Op → (far : ℕ) → ForkPlace → List NoteValue → Type 0
 Goes a p number op ops far at notes =
     Then (RestOf (record { actor = a; proc = p; number = number }) op far at) (Shapes a p (number + 1) ops) notes
@@ -212,7 +212,7 @@ word_more word left all sum = omega arith
 none_left : (all : ℕ) → all + 0 ≡ all
 none_left all = omega arith
 
--- from behind turn t of the actor to before it: what is later is in turns behind it
+-- from after turn t of the actor to before it: what is later is in turns after it
 module _ (who : Doer) (t : ℕ) (place : Place) (ops : List Op) (later : List NoteValue) (behind : AreBehind t later) where
   abbrev present : Who
   present = record { actor = who.actor; proc = who.proc; number = place.answered + 1 }
@@ -223,11 +223,11 @@ module _ (who : Doer) (t : ℕ) (place : Place) (ops : List Op) (later : List No
   abbrev ops_behind : List Op
   ops_behind = drop (place.answered + 1) ops
 
-  -- the turn is before those behind it
+  -- the turn is before those after it
   now_before : (whats : List What) (notes : List NoteValue) → AreBehind t notes → AreBefore (now whats) notes
   now_before whats notes after = turn_before t who.actor (place.answered + 1) whats notes after
 
-  -- what is in front of what is behind it stays so with the turn in front
+  -- what is before what is after it stays so with the turn in front
   joined : (whats : List What) {notes : List NoteValue} (front rest : List NoteValue) → notes ≡ front ++ rest → now whats ++ notes ≡ (now whats ++ front) ++ rest
   joined whats front rest is = ap (λ (ns : List NoteValue). now whats ++ ns) is ∙ sym (append_assoc (now whats) front rest)
 
@@ -238,7 +238,7 @@ module _ (who : Doer) (t : ℕ) (place : Place) (ops : List Op) (later : List No
   front_before : (whats : List What) {notes : List NoteValue} (front rest : List NoteValue) → notes ≡ front ++ rest → AreBehind t notes → AreBefore (now whats) front
   front_before whats front rest is after = now_before whats front (behind_front t front rest (subst (AreBehind t) is after))
 
-  -- what is left before the turn: of this operation, and of those behind it
+  -- what is left before the turn: of this operation, and of those after it
   abbrev LeftBefore : Op → ForkPlace → List NoteValue → Type 0
   LeftBefore op at notes = Left who.actor who.proc (place.answered + 1) (op ∷ ops_behind) place.far at notes
 
@@ -312,23 +312,23 @@ module _ (who : Doer) (t : ℕ) (place : Place) (ops : List Op) (later : List No
   forks_on child at next whats on (inr (front, rest, is, before, begun, shapes)) =
       inr (now whats ++ front, rest, joined whats front rest is, joined_before whats front rest is behind before, on front (behind_front t front rest (subst (AreBehind t) is behind)) begun, shapes)
 
-  -- the silent turn that counts a page is in front of its share
+  -- the silent turn that counts a page is before its share
   counted_before : (child first page : ℕ) (whats : List What) → IsTurn present (Silent ∷ []) (now whats) → first ≤ page → (front : List NoteValue) → AreBehind t front → RestOfFork present child (at_page page) front → RestOfFork present child (from_page first) (now whats ++ front)
   counted_before child first page whats silent up front after (pages, (share, rest, is, before, shares, all)) =
       (suc pages, (page, up, (now whats ++ share, rest, joined whats share rest is, joined_before whats share rest is after before, inr (now whats, share, refl, front_before whats share rest is after, silent, inl shares), all)))
 
-  -- the silent turn that counts a page is in front of its copy, or of the failure
+  -- the silent turn that counts a page is before its copy, or of the failure
   counted_copy_before : (child first page : ℕ) (whats : List What) → IsTurn present (Silent ∷ []) (now whats) → first ≤ page → (front : List NoteValue) → AreBehind t front → RestOfFork present child (wants_frame page) front → RestOfFork present child (from_page first) (now whats ++ front)
   counted_copy_before child first page whats silent up front after (inl (pages, (copy, rest, is, before, copies, all))) =
       (suc pages, (page, up, (now whats ++ copy, rest, joined whats copy rest is, joined_before whats copy rest is after before, inr (now whats, copy, refl, front_before whats copy rest is after, silent, inr copies), all)))
   counted_copy_before child first page whats silent up front after (inr fails) = (zero, inr (now whats, front, refl, now_before whats front after, silent, fails))
 
-  -- the one that takes a frame is in front of all words
+  -- the one that takes a frame is before all words
   took_before : (child page to : ℕ) (whats : List What) → IsTurn present (Silent ∷ []) (now whats) → (front : List NoteValue) → AreBehind t front → RestOfFork present child (at_word page 0 to) front → RestOfFork present child (wants_frame page) (now whats ++ front)
   took_before child page to whats silent front after (pages, (copy, rest, is, before, copies, all)) =
       inl (pages, (now whats ++ copy, rest, joined whats copy rest is, joined_before whats copy rest is after before, (now whats, copy, refl, front_before whats copy rest is after, silent, copies), all))
 
-  -- a word is in front of those that are left
+  -- a word is before those that are left
   copied_before : (child page word to : ℕ) (whats : List What) → IsTurn present (Event (events.ForkWord who.proc child page word) ∷ []) (now whats) → (front : List NoteValue) → AreBehind t front → RestOfFork present child (at_word page (word + 1) to) front → RestOfFork present child (at_word page word to) (now whats ++ front)
   copied_before child page word to whats first front after (pages, (copy, rest, is, before, (left, sum, copies), all)) =
       let whole : word + suc left ≡ words = word_more word left words sum in

@@ -28,7 +28,7 @@ use Rattle.gup_law_turns.proofs.Standing.{Stands}
 use Rattle.gup_law_turns.proofs.Steps.{taken}
 use Rattle.gup_law_turns.proofs.Through.{Law}
 
--- an actor has finished where it has no operation behind those that it has answered
+-- an actor has finished where it has no operation after those that it has answered
 pub finished_is : (ops : List Op) (k : ℕ) → nat_le (length ops) k ≡ is_none (slice_get ops k)
 finished_is [] k = leb-zero k
 finished_is (op ∷ ops) zero = leb-suc-zero (length ops)

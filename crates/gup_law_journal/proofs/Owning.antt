@@ -54,7 +54,7 @@ turn_behind : (t k a n : ℕ) (whats : List What) → t < k → AreBehind t (not
 turn_behind t k a n [] less = tt
 turn_behind t k a n (what ∷ whats) less = (less, turn_behind t k a n whats less)
 
--- a journal is behind the turns before its first
+-- a journal is after the turns before its first
 pub journal_behind : (t number : ℕ) (places : ℕ → Place) (turns : List Turn) → t < number → AreBehind t (journal_of number places turns)
 journal_behind t number places [] less = tt
 journal_behind t number places (turn ∷ turns) less =

@@ -45,7 +45,7 @@ reaches_round n (suc steps) a b less below is = go (a + 1 == n) refl (λ inside.
         let inside : a + 1 < n = grind (arith, nat_tests) in
         ap (behind_by n steps) (behind_inside n a inside) ∙ later inside
 
--- each actor is so many steps behind each
+-- each actor is so many steps after each
 pub reaches : (n a b : ℕ) → a < n → b < n → (steps : ℕ) × (steps < n) × (behind_by n steps a ≡ b)
 reaches n a b less below = go (nat_le a b) refl
   where
@@ -60,7 +60,7 @@ reaches n a b less below = go (nat_le a b) refl
 
 -- of a run
 
--- what fails at the first and at each behind it fails at one step more
+-- what fails at the first and at each after it fails at one step more
 passed_too : (test : ℕ → Bool) (n from steps : ℕ) → test from ≡ false → ((k : ℕ) → k < steps → test (behind_by n k (behind n from)) ≡ false) → (k : ℕ) → k < suc steps → test (behind_by n k from) ≡ false
 passed_too test n from steps here later zero less = here
 passed_too test n from steps here later (suc k) less = later k (omega arith)

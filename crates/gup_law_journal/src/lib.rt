@@ -14,7 +14,7 @@ ghost use Rattle.gup_spec_turns.specs.Run.{RunState, Runs, AreTurns, AreBetween,
 ghost use Rattle.gup_spec_turns.specs.Cause.{LacksExactly, AreKnown, answered_in, HaveFinished, WaitsForBirthOrPin};
 ghost use Rattle.gup_spec_turns.specs.Cost.{operations};
 
-/// Turns in any order follow the script, where each actor stands between two operations behind them, as it does where nobody
+/// Turns in any order follow the script, where each actor stands between two operations after them, as it does where nobody
 /// can go any more; so the core run of a script follows it.
 pub fn core_run_follows()
     ensures turns { (script : ScriptValue) (turns : List Turn) (end : RunState) → IsScript script → AreTurns script (run_start script) turns end → AreBetween script end → Follows script (journal_of 1 (λ _. first_place) turns) }
@@ -51,7 +51,7 @@ pub fn core_run_is_known()
     gup_law_events::starts_sound();
 }
 
-/// Where each actor has finished behind turns in any order, and so at the end of the core run, they have one answer for each
+/// Where each actor has finished after turns in any order, and so at the end of the core run, they have one answer for each
 /// operation of the script.
 pub fn finished_runs_answer_all()
     ensures turns { (script : ScriptValue) (turns : List Turn) (end : RunState) → IsScript script → AreTurns script (run_start script) turns end → HaveFinished script end → answered_in (journal_of 1 (λ _. first_place) turns) ≡ operations script }

@@ -21,6 +21,6 @@ journal_events (note ∷ notes) = event_in note.what ++ journal_events notes
 pub record OwnsBytes (is_born : ℕ → Bool) (events : List PlainEvent) : Type 0 where
   -- what an event reads of a word of an object was last written to that word by the events before it, or is 0
   pub reads : (front : List PlainEvent) (e : PlainEvent) (later : List PlainEvent) (o w value : ℕ) → events ≡ front ++ e ∷ later → Reads (after (plain_start is_born) front) e o w value → value ≡ last_written (plain_start is_born) front o w 0
-  -- where an event writes to an object that a page of a process names then, or behind any events later, it is the page's
+  -- where an event writes to an object that a page of a process names then, or after any events later, it is the page's
   -- owner's: a store of the process to the page, a device's write through a pin of the object, or the fork of the process
   pub writes : (front : List PlainEvent) (e : PlainEvent) (middle later : List PlainEvent) (p page o w value : ℕ) → events ≡ front ++ e ∷ middle ++ later → written_by (after (plain_start is_born) front) e o w ≡ Some value → Names (after (plain_start is_born) (front ++ e ∷ middle)) p page o → IsByOwner (after (plain_start is_born) front) p page o e

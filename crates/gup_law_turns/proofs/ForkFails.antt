@@ -81,7 +81,7 @@ module _ (a p c : ℕ) (done : List ℕ) (entry : ℕ → Option Entry) where
         left = λ g least. grind (arith, nat_tests, h.left g);
       }
 
-  -- a page with an entry, and those behind it
+  -- a page with an entry, and those after it
   puts_page : (next n : ℕ) (t : CoreState) (e : Entry) → entry next ≡ Some e → ((g : ℕ) → next + 1 + n ≤ g → entry g ≡ None) → IsPutTo t next → ((u : CoreState) → IsPutTo u (next + 1) → are_gone entry (next + 1) n ≡ false → GivesUp u (puts_entries a p c done entry (next + 1) n)) → GivesUp t (put_child a p c done next e (are_gone entry (next + 1) n) ∷ puts_entries a p c done entry (next + 1) n)
   puts_page next n t e is none h later = go (are_gone entry (next + 1) n) refl
     where
@@ -125,7 +125,7 @@ module _ (a p c : ℕ) (done : List ℕ) (entry : ℕ → Option Entry) where
             given = behind.given;
           }
 
-  -- the n pages from the first on, of which one has an entry, and behind which there are none
+  -- the n pages from the first on, of which one has an entry, and after which there are none
   puts_pages : (first n : ℕ) (t : CoreState) → ((g : ℕ) → first + n ≤ g → entry g ≡ None) → IsPutTo t first → are_gone entry first n ≡ false → GivesUp t (puts_entries a p c done entry first n)
   puts_pages first zero t none h some = absurd (cc)
   puts_pages first (suc n) t none h some =

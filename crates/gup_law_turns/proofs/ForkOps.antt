@@ -32,7 +32,7 @@ use Rattle.gup_law_turns.proofs.Searches.{free_frame_free, lowest_some, lowest_n
 use Rattle.gup_law_turns.proofs.Shapes.{AtFirst, IsBegun, FitsFork, FitsOp, TurnOf, began, passed_page, counted_page, shared_page, ended, counted_copy, took_frame, copied_word, placed_copy, failed_fork, AtRest, unprepared, at_rest}
 use Rattle.gup_law_turns.proofs.Turned.{IsOpen, IsTurned, both_free, table_free}
 
--- a fork's shape, by the places where it stands before and behind the turn
+-- a fork's shape, by the places where it stands before and after the turn
 shape_from : (s t : CoreState) (who : Doer) (child : ℕ) (place : Place) (whats : List What) (from to : ForkPlace) → place_in s who.actor ≡ from → place_in t who.actor ≡ to → TurnOf (plain_of s) who place (Fork child) from whats to → TurnOf (plain_of s) who place (Fork child) (place_in s who.actor) whats (place_in t who.actor)
 shape_from s t who child place whats from to before behind shape =
     subst (λ (x : ForkPlace). TurnOf (plain_of s) who place (Fork child) x whats (place_in t who.actor)) (sym before)
@@ -130,7 +130,7 @@ module _ (s : CoreState) (who : Doer) (child : ℕ) (place : Place) (h : IsOpen 
 
   -- a fork of which these pages are done
   module _ (done : List ℕ) (at : IsForking s a p child p child done) where
-    -- behind the pages that are done, a page below this one is not mapped
+    -- after the pages that are done, a page below this one is not mapped
     abbrev IsNext : (page : ℕ) → Type 0
     IsNext page = (g : ℕ) → first_behind done ≤ g → g < page → s.right child g ≡ None
 
@@ -152,7 +152,7 @@ module _ (s : CoreState) (who : Doer) (child : ℕ) (place : Place) (h : IsOpen 
     below_on : (page : ℕ) → first_behind done ≤ page → (g : ℕ) → Contains (page ∷ done) g → g < page + 1
     below_on page least g has = elim (either_element page done g has) [ inl same ↦ omega (arith, same) | inr there ↦ let less : g < first_behind done = at.below g there in omega arith ]
 
-    -- the fork goes on behind this page, in a state that has the same of the child but for its entry
+    -- the fork goes on after this page, in a state that has the same of the child but for its entry
     goes_on : (page : ℕ) → first_behind done ≤ page → IsNext page → (t : CoreState) → t.birth child ≡ s.birth child → t.structure p ≡ s.structure p → t.right child ≡ s.right child → ((g : ℕ) → page + 1 ≤ g → t.entry child g ≡ s.entry child g) → IsForking t a p child p child (page ∷ done)
     goes_on page least next t births locks rights entries =
         record {
@@ -231,7 +231,7 @@ module _ (s : CoreState) (who : Doer) (child : ℕ) (place : Place) (h : IsOpen 
               pin = tt;
             }
 
-        -- behind the count it is the fork of before, and keeps the page
+        -- after the count it is the fork of before, and keeps the page
         module _ (e : Entry) (there : s.entry p page ≡ Some e) (copies : Bool) where
           abbrev after : CoreState
           after = happens s (count_page a p child done page e copies)
@@ -452,7 +452,7 @@ module _ (s : CoreState) (who : Doer) (child : ℕ) (place : Place) (h : IsOpen 
   fork_by (moving q page e allowed count) is fits free = absurd fits
   fork_by (walking q write long sequence step) is fits free = absurd fits
 
-  -- the child behind a turn: it has failed and has no entries, or it is none that failed
+  -- the child after a turn: it has failed and has no entries, or it is none that failed
 
   unfailed : (t : CoreState) (birth : Birth) → t.birth child ≡ birth → (birth ≡ failed → ⊥) → IsEmptied t child
   unfailed t birth is lives lost = absurd (lives (sym is ∙ lost))

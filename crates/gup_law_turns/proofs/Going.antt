@@ -1,4 +1,4 @@
--- What a turn is about: a process, or a handle, or nothing; and how far the actor is behind it.
+-- What a turn is about: a process, or a handle, or nothing; and how far the actor is after it.
 use Rattle.std.proofs.Common.{◌≡◌, ℕ, ◌+◌, ◌<◌, ◌≤◌, ◌==◌, Bool, true, false, IsTrue, List, [], ◌∷◌, Option, Some, None, ◌⊎◌, inl, inr, refl, sym, ap, ◌∙◌, subst, arith}
 use Rattle.gup_plain.specs.Denial.{is_held_by, transfer_denial}
 use Rattle.gup_plain.specs.State.{PlainState, Birth, unborn, growing, born, failed}
@@ -24,7 +24,7 @@ use Rattle.gup_law_turns.proofs.Scripts.{fresh_place}
 use Rattle.gup_law_turns.proofs.Shapes.{IsOfProcess, TurnAt, idles, waits, goes, unborn_refused, unborn_fork}
 use Rattle.gup_law_turns.proofs.Standing.{IsAhead}
 
--- what is ahead at the first turn of the next operation, or in the middle of the present one, is behind the present one
+-- what is ahead at the first turn of the next operation, or in the middle of the present one, is after the present one
 ahead_next : (n k : ℕ) → IsAhead (fresh_place (n + 1)) k → n < k
 ahead_next n k (inl more) = omega arith
 ahead_next n k (inr same) = let e = same.0 in omega (arith, e)
@@ -33,12 +33,12 @@ ahead_more : (n far k : ℕ) (had : Bool) → IsAhead (record { answered = n; fa
 ahead_more n far k had (inl less) = less
 ahead_more n far k had (inr same) = absurd (let e = same.1 in omega (arith, e))
 
--- behind a turn of its present operation an actor has begun that, and no later one
+-- after a turn of its present operation an actor has begun that, and no later one
 pub ahead_on : {t : CoreState} {who : Doer} {op : Option Op} {place : Place} {whats : List What} → IsBehind t who op place whats → (k : ℕ) → IsAhead (place_behind place whats) k → place.answered < k
 ahead_on {place = place} (goes_on had is fits) k ahead = ahead_more place.answered place.far k had (subst (λ (q : Place). IsAhead q k) is ahead)
 ahead_on {place = place} (is_over is rests) k ahead = ahead_next place.answered k (subst (λ (q : Place). IsAhead q k) is ahead)
 
--- so an operation that has not begun behind the turn had not begun before it
+-- so an operation that has not begun after the turn had not begun before it
 pub ahead_before : {t : CoreState} {who : Doer} {op : Option Op} {place : Place} {whats : List What} → IsBehindTurn t who op place whats → (k : ℕ) → IsAhead (place_behind place whats) k → IsAhead place k
 ahead_before (stays_there is fits) k ahead = subst (λ (q : Place). IsAhead q k) is ahead
 ahead_before (goes_by behind) k ahead = inl (ahead_on behind k ahead)
@@ -49,7 +49,7 @@ answered_least {place = place} (stays_there is fits) = subst (λ (q : Place). pl
 answered_least {place = place} (goes_by (goes_on had is fits)) = subst (λ (q : Place). place.answered ≤ q.answered) (sym is) (omega arith)
 answered_least {place = place} (goes_by (is_over is rests)) = subst (λ (q : Place). place.answered ≤ q.answered) (sym is) (omega arith)
 
--- The turn of an actor that goes on in a process: that is born, or it has failed, and then its entries stay; and behind the
+-- The turn of an actor that goes on in a process: that is born, or it has failed, and then its entries stay; and after the
 -- turn the present operation has begun. Any other turn is about a handle, or has no events.
 pub record IsGoing (place : Place) (p : ℕ) (s t : CoreState) (whats : List What) : Type 0 where
   pub birth : (s.birth p ≡ born) ⊎ (s.birth p ≡ failed) × (t.entry p ≡ s.entry p)

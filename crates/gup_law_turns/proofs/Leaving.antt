@@ -306,7 +306,7 @@ pub record KeepsPin (h : ℕ) (s t : CoreState) : Type 0 where
   pub pinned : t.pinned h ≡ s.pinned h
 
 -- Of pins, a turn leaves what other actors have taken, and the flags but where it makes a pin. It leaves a handle that it
--- isn't about; one that its actor neither makes, holds, nor is given; and one that another actor holds behind it.
+-- isn't about; one that its actor neither makes, holds, nor is given; and one that another actor holds after it.
 pub record LeavesPinsOf (a : ℕ) (strand : Strand) (s t : CoreState) : Type 0 where
   pub taken : (b : ℕ) → (b ≡ a → ⊥) → t.taken b ≡ s.taken b
   pub flags : ((h : ℕ) → strand ≡ of_pin h → ⊥) → t.has_pinned ≡ s.has_pinned

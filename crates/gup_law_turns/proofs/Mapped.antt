@@ -82,7 +82,7 @@ pub pages_few : (from : ℕ) (f : ℕ → Option Rights) → pages_from f from �
 pages_few from f =
     sum_le page_numbers (λ k. if nat_le from k && is_some (f k) then 1 else 0) (λ k. counted (f k)) (λ k. counted_from from f k)
 
--- and fewer from behind a mapped page on
+-- and fewer from after a mapped page on
 pub pages_behind : (from page : ℕ) (f : ℕ → Option Rights) → from ≤ page → page < page_numbers → IsSome (f page) → pages_from f (page + 1) < pages_from f from
 pages_behind from page f least below named =
     sum_less page_numbers (λ k. if nat_le (page + 1) k && is_some (f k) then 1 else 0) (λ k. if nat_le from k && is_some (f k) then 1 else 0) page below

@@ -94,7 +94,7 @@ module _ (s : CoreState) (who : Doer) (place : Place) (h : IsOpen s who.actor wh
   named_store page e is may (Some R) right = absurd (h.sound.1.entry_allowed p page e (h.sound.1.whole_entry p page e is) may right)
   named_store page e is may (Some RW) right = refl
 
-  -- load, behind the events of a fault
+  -- load, after the events of a fault
 
   load_ready : (page word : ℕ) (before : List CoreEvent) → word < words → AtFirst place → op_denial (plain_of s) who place.far (Load page word) ≡ None → IsReady s a p before → IsSome ((run s before).entry p page) → IsTurned s who place (Load page word) (loads s before a p page word)
   load_ready page word before within first undenied ready there =
@@ -127,7 +127,7 @@ module _ (s : CoreState) (who : Doer) (place : Place) (h : IsOpen s who.actor wh
   load_by page word None free within first is =
       load_fills page word (s.right p page) (free_frame s) (both_free s a p h.sound job free) within first refl refl is
 
-  -- store, behind the events of a fault
+  -- store, after the events of a fault
 
   store_ready : (page word value : ℕ) (before : List CoreEvent) → word < words → AtFirst place → op_denial (plain_of s) who place.far (Store page word value) ≡ None → IsReady s a p before → allows_store ((run s before).entry p page) ≡ true → IsTurned s who place (Store page word value) (stores s before a p page word value)
   store_ready page word value before within first undenied ready may =
@@ -188,7 +188,7 @@ module _ (s : CoreState) (who : Doer) (place : Place) (h : IsOpen s who.actor wh
 
     -- protect
 
-    -- a turn can be done, and the actor is in the middle of nothing behind it
+    -- a turn can be done, and the actor is in the middle of nothing after it
     abbrev IsDoneIdle : CoreState → CoreTurn → Type 0
     IsDoneIdle t turn = IsDone t a p p of_pages turn × ((run t turn.events).job a ≡ idle)
 
@@ -196,7 +196,7 @@ module _ (s : CoreState) (who : Doer) (place : Place) (h : IsOpen s who.actor wh
     abbrev with_entries : (ℕ → ℕ → Option Entry) → CoreState
     with_entries entries = record s { entry = entries }
 
-    -- a protection behind these events
+    -- a protection after these events
     abbrev protects : (page n : ℕ) → Rights → List CoreEvent → CoreTurn
     protects page n rights before =
         record {
@@ -228,7 +228,7 @@ module _ (s : CoreState) (who : Doer) (place : Place) (h : IsOpen s who.actor wh
     abbrev AreUnchanged : (ℕ → ℕ → Option Entry) → (g : ℕ) → Type 0
     AreUnchanged entries g = (k : ℕ) → g ≤ k → entries p k ≡ s.entry p k
 
-    -- what is done behind page g with any entries that are lowered up to there
+    -- what is done after page g with any entries that are lowered up to there
     abbrev IsDoneBehind : (page n g : ℕ) → List CoreEvent → Type 0
     IsDoneBehind page n g before =
         (entries : ℕ → ℕ → Option Entry) → AreLowered entries page (g + 1) → AreUnchanged entries (g + 1) → IsDoneIdle (with_entries entries) (protects page n R before)

@@ -30,7 +30,7 @@ use Rattle.gup_law_turns.proofs.Scripts.{fresh_place}
 use Rattle.gup_law_turns.proofs.Shapes.{TurnAt, goes, unborn_refused, unborn_fork, child_of, strand_of}
 use Rattle.gup_law_turns.proofs.Standing.{IsTaken}
 
--- What may come of a pin in a turn of an actor, which has given back so many of its pages before it, and so many behind
+-- What may come of a pin in a turn of an actor, which has given back so many of its pages before it, and so many after
 -- it.
 pub data Change (a back behind : ℕ) (pinned after : List ℕ) (handle new : Handle) : Type 0 where
   is_kept : new ≡ handle → after ≡ pinned → (is_held_by handle a ≡ true → behind ≡ back) → Change a back behind pinned after handle new
@@ -157,7 +157,7 @@ module _ (script : ScriptValue) (s : CoreState) (who : Doer) (place : Place) whe
       Change who.actor (given_back op h place.far) (back_behind h turn.whats) (s.pinned h) ((run s turn.events).pinned h)
       (s.handle h) ((run s turn.events).handle h)
 
-  -- an operation that isn't an unpin of it has nothing given back behind it, too
+  -- an operation that isn't an unpin of it has nothing given back after it, too
   none_behind : (t : CoreState) (h : ℕ) (op : Option Op) (whats : List What) → present_op script who.actor place ≡ op → ((far : ℕ) → given_back op h far ≡ 0) → IsBehindTurn t who op place whats → back_behind h whats ≡ 0
   none_behind t h op whats is none (stays_there same fits) =
       ap (λ (q : Place). given_back (present_op script who.actor q) h q.far) same ∙ ap (λ (o : Option Op). given_back o h place.far) is ∙ none place.far

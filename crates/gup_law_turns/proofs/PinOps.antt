@@ -142,7 +142,7 @@ module _ (s : CoreState) (who : Doer) (place : Place) (h : IsOpen s who.actor wh
   stands : StandsPin s a p handle page n write place.far
   stands = fits.2
 
-  -- Behind these events the page is pinned.
+  -- After these events the page is pinned.
   module _ (es : List CoreEvent) (ready : IsPinReady s a p handle here write es) where
     abbrev t : CoreState
     t = run s es

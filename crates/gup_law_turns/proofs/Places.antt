@@ -1,4 +1,4 @@
--- Where an actor stands behind its turn: at the next turn of its present operation, or at the first of the next one.
+-- Where an actor stands after its turn: at the next turn of its present operation, or at the first of the next one.
 use Rattle.std.proofs.Common.{◌≡◌, ℕ, ◌+◌, ◌<◌, ◌≤◌, Bool, true, List, Option, Some, refl, sym, subst, arith}
 use Rattle.gup_plain.specs.State.{PlainState}
 use Rattle.gup_plain.specs.declared.note.What.{What}
@@ -15,12 +15,12 @@ use Rattle.gup_law_turns.proofs.Turned.{FitsNext}
 abbrev pub next_place : Place → Bool → Place
 next_place place had = record { answered = place.answered; far = place.far + 1; had = had }
 
--- behind these notes of an operation
+-- after these notes of an operation
 pub data IsBehind (t : CoreState) (who : Doer) (op : Option Op) (place : Place) (whats : List What) : Type 0 where
   goes_on : (had : Bool) → place_behind place whats ≡ next_place place had → (FitsNext t who op place whats → FitsAt t who op (next_place place had)) → IsBehind t who op place whats
   is_over : place_behind place whats ≡ fresh_place (place.answered + 1) → (FitsNext t who op place whats → Rests t who.actor) → IsBehind t who op place whats
 
--- behind those of any turn; one that is idle or waits leaves the actor where it stands
+-- after those of any turn; one that is idle or waits leaves the actor where it stands
 pub data IsBehindTurn (t : CoreState) (who : Doer) (op : Option Op) (place : Place) (whats : List What) : Type 0 where
   stays_there : place_behind place whats ≡ place → (FitsNext t who op place whats → FitsAt t who op place) → IsBehindTurn t who op place whats
   goes_by : IsBehind t who op place whats → IsBehindTurn t who op place whats

@@ -24,7 +24,7 @@ put_twice k x y f = by_points (λ j. grind (arith, nat_tests))
 pub put_own : {X : Type 0} (k : ℕ) (f : ℕ → X) → put k (f k) f ≡ f
 put_own k f = by_points (λ j. grind (arith, nat_tests))
 
--- a number of a range is so far behind the first
+-- a number of a range is so far after the first
 pub within_offset : (first n k : ℕ) → within first n k ≡ true → (k - first < n) × (first + (k - first) ≡ k)
 within_offset first n k is = grind (arith, nat_tests)
 

@@ -324,7 +324,7 @@ turn_right ops {s = s} {who = who} {place = place} (goes op whats from to birth 
 turn_right ops {s = s} {who = who} {place = place} (unborn_refused op birth first refusal) is had unmapped can = refusal_right ops s who place birth op first unmapped is
 turn_right ops {s = s} {who = who} {place = place} (unborn_fork child birth fails first) is had unmapped can = failure_right ops s who place birth child can.0 is
 
--- what has been judged behind notes of one actor
+-- what has been judged after notes of one actor
 abbrev pub judged_behind : Judged → ℕ → List What → Judged
 judged_behind j a whats =
     record { plain = plain_behind j.plain whats; places = put a (place_behind (j.places a) whats) j.places }

@@ -48,7 +48,7 @@ turns_by script (a ∷ actors) r =
     let later = turns_by script actors (run_after script r a) in
     (turn_in script r a ∷ later.0, ap (λ (others : List ℕ). a ∷ others) later.1, (refl, later.2))
 
--- and the state behind them stands
+-- and the state after them stands
 pub stands_turns : Law → (script : ScriptValue) → IsScript script → (turns : List Turn) (r end : RunState) → Stands script r → AreTurns script r turns end → Stands script end
 stands_turns law script valid [] r end h are = subst (Stands script) are h
 stands_turns law script valid (turn ∷ turns) r end h are =

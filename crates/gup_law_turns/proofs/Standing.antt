@@ -60,11 +60,11 @@ pub record Stands (script : ScriptValue) (r : RunState) : Type 0 where
   pub made : (h : ℕ) → (r.core.handle h ≡ unmade → ⊥) → h < length script.handles
   pub handles : (h : ℕ) → StandsHandle (back_in script r h) (r.core.pinned h) (r.core.handle h)
 
--- a turn can be done, it has its shape, and the actor stands right behind it
+-- a turn can be done, it has its shape, and the actor stands right after it
 pub record IsTaken (s : CoreState) (who : Doer) (place : Place) (op : Option Op) (waiting : Option Waiting) (turn : CoreTurn) : Type 0 where
   pub done : IsDone s who.actor who.proc (child_of who.proc op) (strand_of op) turn
   pub shape : TurnAt (plain_of s) who place op waiting (place_in s who.actor) turn.whats (place_in (run s turn.events) who.actor)
   pub next : FitsNext (run s turn.events) who op place turn.whats
   pub pin : (o : Op) → op ≡ Some o → waiting ≡ None → birth_for s.birth who ≡ born → MakesPin s (run s turn.events) who.actor o
-  -- the child of a fork that fails has no entries behind it
+  -- the child of a fork that fails has no entries after it
   pub emptied : (child page : ℕ) → op ≡ Some (Fork child) → (run s turn.events).birth child ≡ failed → (run s turn.events).entry child page ≡ None

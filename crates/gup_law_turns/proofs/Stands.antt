@@ -56,7 +56,7 @@ at_others P a new places here there b = go (b == a) refl
     go true e = subst (λ (k : ℕ). P k new) (sym (eqb-true b a e)) here
     go false e = there b (λ same. grind (arith, nat_tests))
 
--- behind its turn an actor stands where its present operation can: at the next turn of the same one, or at the first of
+-- after its turn an actor stands where its present operation can: at the next turn of the same one, or at the first of
 -- the next
 turn_fits : (script : ScriptValue) (t : CoreState) (who : Doer) {op : Option Op} {place : Place} {whats : List What} → IsBehindTurn t who op place whats → FitsNext t who op place whats → present_op script who.actor place ≡ op → (place_behind place whats ≡ fresh_place (place.answered + 1) → Rests t who.actor → FitsAt t who (present_op script who.actor (fresh_place (place.answered + 1))) (fresh_place (place.answered + 1))) → FitsAt t who (present_op script who.actor (place_behind place whats)) (place_behind place whats)
 turn_fits script t who {place = place} (stays_there same fits) next is fresh =
@@ -307,7 +307,7 @@ module _ (script : ScriptValue) (valid : IsScript script) (r : RunState) (h : St
         | inr neither ↦ h.made handle (λ yet. some ((pins.others handle neither.0 neither.1).handle ∙ yet))
       ]
 
-  -- what is given back of a pin behind the turn
+  -- what is given back of a pin after the turn
 
   own_back : (handle : ℕ) → back_in script after handle a ≡ given_back (present_op script a behind) handle behind.far
   own_back handle = ap (λ (q : Place). given_back (present_op script a q) handle q.far) (put_same a behind r.places)
@@ -470,7 +470,7 @@ module _ (script : ScriptValue) (valid : IsScript script) (r : RunState) (h : St
     rests_kept : Rests s b → Rests t b
     rests_kept rests = (job_kept ∙ rests.0, taken_kept ∙ rests.1)
 
-    -- what it holds stays, before the turn and behind it
+    -- what it holds stays, before the turn and after it
 
     held_kept : (handle : ℕ) → is_held_by (s.handle handle) b ≡ true → t.handle handle ≡ s.handle handle
     held_kept handle is =
@@ -526,7 +526,7 @@ module _ (script : ScriptValue) (valid : IsScript script) (r : RunState) (h : St
       (λ handle makes. yet_kept b (r.places b).answered handle makes (omega arith) (λ own here. other own))
       (h.fits b)
 
-  -- an actor is at rest behind its own turn, and others stay so
+  -- an actor is at rest after its own turn, and others stay so
   rest_on : (b : ℕ) → AtRest t b
   rest_on b =
       elim (same_or_apart b a) [
@@ -602,7 +602,7 @@ places_stay script valid r h a b other =
     ap (λ (j : Job). fork_place j ((run_after script r a).core.prepared b)) (left.job b (apart b a other))
     ∙ ap (fork_place (r.core.job b)) (left.prepared b (apart b a other))
 
--- the plain state behind a turn is the one that its notes lead to
+-- the plain state after a turn is the one that its notes lead to
 pub same_plain : Law → (script : ScriptValue) → IsScript script → (r : RunState) → Stands script r → (a : ℕ) → plain_of (run_after script r a).core ≡ plain_behind (plain_of r.core) (core_turn_in script r a).whats
 same_plain law script valid r h a =
     let turn = taken script valid r h a in

@@ -25,7 +25,7 @@ events_of (Idle ∷ whats) = events_of whats
 events_of (Wait waiting ∷ whats) = events_of whats
 events_of (Done answer ∷ whats) = events_of whats
 
--- plain events one after another: that each can happen, and the state behind them
+-- plain events one after another: that each can happen, and the state after them
 abbrev pub AllCanHappen : PlainState → List PlainEvent → Type 0
 AllCanHappen s [] = Unit {0}
 AllCanHappen s (e ∷ es) = CanHappen s e × AllCanHappen (happened s e) es

@@ -38,7 +38,7 @@ pub record IsQuiet (s : CoreState) (a : ℕ) : Type 0 where
   pub calm : IsCalm s
   pub rest : AtRest s a
 
--- Behind notes with an answer the actor is in the middle of nothing; behind others it stands where its operation can.
+-- After notes with an answer the actor is in the middle of nothing; after others it stands where its operation can.
 abbrev pub FitsNext : CoreState → Doer → Option Op → Place → List What → Type 0
 FitsNext t who op place [] = FitsAt t who op place
 FitsNext t who op place (Done answer ∷ whats) = Rests t who.actor
@@ -68,7 +68,7 @@ MakesPin s t a (Take handle) =
 MakesPin s t a (Transfer handle outward index slot n) = (t.handle ≡ s.handle) × (t.pinned ≡ s.pinned)
 MakesPin s t a op = Unit {0}
 
--- the turn can be done, it has its shape, and the actor stands right behind it
+-- the turn can be done, it has its shape, and the actor stands right after it
 pub record IsTurned (s : CoreState) (who : Doer) (place : Place) (op : Op) (turn : CoreTurn) : Type 0 where
   pub done : IsDone s who.actor who.proc (child_of who.proc (Some op)) (strand_of (Some op)) turn
   pub shape : TurnOf (plain_of s) who place op (place_in s who.actor) turn.whats (place_in (run s turn.events) who.actor)
@@ -79,7 +79,7 @@ pub record IsTurned (s : CoreState) (who : Doer) (place : Place) (op : Op) (turn
 pub idle_place : (s : CoreState) (a : ℕ) → s.job a ≡ idle → place_in s a ≡ unbegun
 idle_place s a job = ap (λ (j : Job). fork_place j (s.prepared a)) job
 
--- where the actor is in the middle of nothing before and behind, the turn is none of a fork that has begun
+-- where the actor is in the middle of nothing before and after, the turn is none of a fork that has begun
 pub shape_idle : (s t : CoreState) (who : Doer) (place : Place) (op : Op) (whats : List What) → s.job who.actor ≡ idle → t.job who.actor ≡ idle → TurnOf (plain_of s) who place op unbegun whats unbegun → TurnOf (plain_of s) who place op (place_in s who.actor) whats (place_in t who.actor)
 shape_idle s t who place op whats before behind shape =
     subst (λ (from : ForkPlace). TurnOf (plain_of s) who place op from whats (place_in t who.actor)) (sym (idle_place s who.actor before))

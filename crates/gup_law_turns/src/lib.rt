@@ -27,7 +27,7 @@ pub fn runs_are_turns()
 {}
 
 /// Whichever actors have taken turns, and whoever is next: each core event of its turn can happen when it does, and the plain
-/// state that its notes lead to is the one that the core state behind the turn stands for.
+/// state that its notes lead to is the one that the core state after the turn stands for.
 pub fn turns_can_happen()
     ensures can { (script : ScriptValue) (actors : List ℕ) (a : ℕ) → IsScript script →
         let r : RunState = turned script (run_start script) actors in

@@ -1,4 +1,4 @@
--- A walk's step that takes or drops no page: what is right of the walk behind it.
+-- A walk's step that takes or drops no page: what is right of the walk after it.
 use Rattle.std.proofs.Common.{◌≡◌, ℕ, ◌+◌, ◌<◌, ◌≤◌, Bool, true, false, List, [], length, refl, ap, sym, ◌∙◌, subst}
 use Rattle.std.specs.Prelude.{Some, None, slice_get}
 use Rattle.gup_base.specs.declared.entry.Entry.{Entry}

@@ -124,7 +124,7 @@ module _ (v : View) (s : CoreState) (h : IsSoundBy v s) where
         (λ same. subst (λ c. IsActor v s (taken c) (put a (walking_of job) v.walks c)) (sym same) (subst (IsActor v s (taken a)) (sym (number_here a (walking_of job) v.walks)) new))
         (λ apart. subst (λ ts. IsActor v s ts (put a (walking_of job) v.walks b)) (sym (there b apart)) (subst (IsActor v s (s.taken b)) (sym (put_there a (walking_of job) v.walks b apart)) (actor_is b)))
 
-    -- The state is sound behind the change of an actor's job, and of the pages that it has taken.
+    -- The state is sound after the change of an actor's job, and of the pages that it has taken.
     pub switches : IsLight (s.job a) → IsLight job → ((b : ℕ) → (b ≡ a → ⊥) → taken b ≡ s.taken b) → References switched_view switched → Grabs switched_view switched → CountIs switched_view switched → PreparedOnce switched_view switched → MovingOnce switched_view switched → IsActor v s (taken a) (walking_of job) → IsSoundBy switched_view switched
     switches was is there references-are grabs-are count_is prepared_once moving_once new =
         let V : View = switched_view in

@@ -51,7 +51,7 @@ module _ (left : List Taken) (t : Taken) (ts : List Taken) where
       let kept : other_pages t.page us ++ other_pages t.page (pending_of t ∷ []) ≡ us ++ [] = ap (λ (xs : List Pending). other_pages t.page us ++ xs) (goes t []) ∙ ap (λ (xs : List Pending). xs ++ []) (stay t.page left apart) in
       whole ∙ (parts ∙ (kept ∙ append-nil us))
 
--- the plain state behind
+-- the plain state after
 pub told_less : (s : CoreState) (a : ℕ) (left : List Taken) (page : ℕ) → other_pages page (map pending_of (s.taken a)) ≡ map pending_of left → plain_of (record s { taken = put a left s.taken }) ≡ record (plain_of s) { pending = put a (other_pages page (map pending_of (s.taken a))) (λ b. map pending_of (s.taken b)) }
 told_less s a left page all =
     let at = λ (b : ℕ). put_mapped (map pending_of) a left s.taken b ∙ ap (λ (x : List Pending). put a x (λ c. map pending_of (s.taken c)) b) (sym all) in

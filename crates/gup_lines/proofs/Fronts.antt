@@ -6,7 +6,7 @@ use Rattle.gup_lines.specs.Text.{BeginsWith}
 pub begins-self : (xs : List ℕ) → BeginsWith xs xs
 begins-self xs = take_all (length xs) xs (omega arith)
 
--- what begins with a longer list begins with its front
+-- what begins with a longer list begins with its prefix
 pub begins-append : (new old more : List ℕ) → BeginsWith new (old ++ more) → BeginsWith new old
 begins-append new old more h =
     let le : length old ≤ length (old ++ more) = omega (arith, length-append old more) in

@@ -22,7 +22,7 @@ cause_text causes.Forbidden = codes "forbidden"
 cause_text causes.NoFrame = codes "noframe"
 cause_text (causes.Unmovable count) = codes "unmovable " ++ decimal count
 
--- a word of a transfer, behind a space
+-- a word of a transfer, after a space
 abbrev pub word_text : ℕ → List ℕ
 word_text word = codes " " ++ decimal word
 
@@ -51,7 +51,7 @@ abbrev pub name_in : Option Actor → List ℕ
 name_in None = []
 name_in (Some actor) = actor.name
 
--- the actor's name and the operation's number in it, each with a space behind it
+-- the actor's name and the operation's number in it, each with a space after it
 abbrev pub head_of : ScriptValue → (actor op : ℕ) → List ℕ
 head_of script actor op = name_in (actor_at script actor) ++ (codes " " ++ decimal op) ++ codes " "
 
@@ -90,12 +90,12 @@ word_in (events.MoveOut actor handle index slot value) = Some value
 word_in (events.MoveIn actor handle index slot value) = Some value
 word_in event = None
 
--- the words with one more behind them
+-- the words with one more after them
 abbrev pub moved_by : List ℕ → Option ℕ → List ℕ
 moved_by words None = words
 moved_by words (Some word) = words ++ word ∷ []
 
--- the words that an actor's operation has moved behind a note of it: none behind its end
+-- the words that an actor's operation has moved after a note of it: none after its end
 abbrev pub words_after : List ℕ → What → List ℕ
 words_after words (Event event) = moved_by words (word_in event)
 words_after words (Done answer) = []

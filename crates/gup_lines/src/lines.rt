@@ -43,7 +43,7 @@ fn no_words(alloc: Global) -> Result<Vec<Words>, AllocError>
 }
 
 // Puts the outcome on that a note tells, if it ends an operation: the words that its actor's operation has moved go into
-// it. Behind any other note they are those, and the word of the note.
+// it. After any other note they are those, and the word of the note.
 fn tell(note: &Note, words: &mut Words, found: &mut Vec<Outcome>) -> Result<(), NoMemory>
     ensures found { OnOk result (found.new.items
         ≡ found.old.items ++ cons_option (outcome_of note.now.actor note.now.op words.old note.now.what) []) }
@@ -130,7 +130,7 @@ fn push_cause(text: &mut Vec<u8>, cause: Cause) -> Result<(), NoMemory>
     }
 }
 
-// The words of a transfer, each behind a space.
+// The words of a transfer, each after a space.
 #[tactic(auto, using(crate::proofs::Fronts::fronts))]
 fn push_words(text: &mut Vec<u8>, words: &[u64]) -> Result<(), NoMemory>
     ensures ok { OnOk result (text.new.items ≡ text.old.items ++ flat_map word_text words.now) }
@@ -307,7 +307,7 @@ fn write_stuck(
 }
 
 /// Appends the line of an actor that is stuck: `stuck`, its name, and what it waits for, a process or a
-/// handle of the script. Where memory is wanted the text is as it was.
+/// handle of the script. If allocation fails the text is as it was.
 pub fn push_stuck(
     script: &Script,
     actor: ActorNo,

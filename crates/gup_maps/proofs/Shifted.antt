@@ -1,4 +1,4 @@
--- Rows that stand behind others which were taken out.
+-- Rows that stand after others which were taken out.
 use Rattle.std.proofs.Common.{◌≡◌, ℕ, suc, ◌+◌, ◌≤◌, List, ◌++◌, take, drop, length, refl, ◌∙◌, arith}
 use Rattle.std.specs.List.{remove}
 use Rattle.std.proofs.lemmas.List.{length-take-le, drop-append-le, drop-take, drop-drop}

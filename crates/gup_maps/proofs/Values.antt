@@ -39,7 +39,7 @@ at_row (r ∷ rows) page (suc i) row inside before is =
 
 -- ---- one row changes
 
--- a change of a table's rest, behind a row of another page
+-- a change of a table's rest, after a row of another page
 put-past : {X : Type 0} (k q page : ℕ) (x y a b : X) → (q ≡ page → ⊥) → a ≡ cond (k == page) y b → cond (k == q) x a ≡ cond (k == page) y (cond (k == q) x b)
 put-past k q page x y a b other is = grind (arith, nat_tests)
 
@@ -117,7 +117,7 @@ spread-one page x f = fun_ext (λ q. spread-one_at page q x f)
 
 -- ---- rows are put in
 
--- what stands behind a place, turned about the rows that were put on at the end
+-- what stands after a place, turned about the rows that were put on at the end
 pub turned : {X : Type 0} (rows new xs turn items : List X) (place n len : ℕ) → xs ≡ rows ++ new → length new ≡ n → place ≤ length rows → len ≡ length xs → turn ≡ drop (length (take (length xs - place) (drop place xs)) - n) (take (length xs - place) (drop place xs)) ++ take (length (take (length xs - place) (drop place xs)) - n) (take (length xs - place) (drop place xs)) → take len ((take place xs ++ (turn ++ post_of place (length xs - place) xs)) ++ drop (length (take place xs ++ (turn ++ post_of place (length xs - place) xs))) items) ≡ take place rows ++ (new ++ drop place rows)
 turned {X} rows new xs turn items place n len is count inside all turn_is =
     let len_xs : length xs ≡ length rows + n = rw is (simp length-append (omega arith)) in

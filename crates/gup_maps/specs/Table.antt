@@ -57,7 +57,7 @@ pub record IsKept {V : Type 0} (rows : List (ℕ × V)) : Type 0 where
   pub ordered : IsOrdered (pages_of rows)
   pub few : length rows ≤ 1024
 
--- the first row is among the items or behind all, and there is room for 1,024 items and no need of more
+-- the first row is among the items or after all, and there is room for 1,024 items and no need of more
 pub record HasRoom (start items capacity : ℕ) : Type 0 where
   pub within : start ≤ items
   pub few : items ≤ 1024

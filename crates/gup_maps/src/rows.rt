@@ -30,7 +30,7 @@ impl<V> Model for Rows<V> {
     ghost invariant = { λ r. HasRoom r.start (vec_len r.items) (vec_capacity r.items) };
 }
 
-// Makes room for `n` more rows behind the last, and answers where the first then stands. It moves the rows down to the
+// Makes room for `n` more rows after the last, and answers where the first then stands. It moves the rows down to the
 // front only where there is none.
 fn make_room<V: Copy>(items: &mut Vec<(PageNo, V)>, start: usize, n: u16) -> usize
     requires within { start ≤ vec_len items.old }

@@ -25,7 +25,7 @@ says_alike c p s turn whats other same h = subst (λ (ws : List What). Leads c p
 pub notes_alike : (c : Change) (p : ℕ) (turn : CoreState → CoreTurn) (whats other : List What) → other ≡ whats → IsTurnOf c p turn whats → IsTurnOf c p turn other
 notes_alike c p turn whats other same h s frames space = says_alike c p s (turn s) whats other same (h s frames space)
 
--- events behind others
+-- events after others
 pub run_behind : (s : CoreState) (es fs : List CoreEvent) → run s (es ++ fs) ≡ run (run s es) fs
 run_behind s [] fs = refl
 run_behind s (e ∷ es) fs = run_behind (happens s e) es fs

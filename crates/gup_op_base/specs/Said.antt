@@ -12,7 +12,7 @@ use Rattle.gup_spec_events.specs.Event.{run}
 use Rattle.gup_spec_turns.specs.CoreTurn.{CoreTurn}
 use Rattle.gup_op_base.specs.declared.said.Said.{Said}
 
--- a turn without an event that answers nothing is silent; a pin is made at an event of its own, behind that of its page
+-- a turn without an event that answers nothing is silent; a pin is made at an event of its own, after that of its page
 abbrev pub answer_what : Option Answer → List What
 answer_what None = []
 answer_what (Some answer) = Done answer ∷ []
@@ -42,7 +42,7 @@ abbrev pub stored_said : (a p page word value : ℕ) → Said
 stored_said a p page word value =
     record { event = Some (events.Store a p page word value); next = None; answer = Some answers.Plain }
 
--- From this state the turn of process p leads to frames and a process as they are behind the change, and says this.
+-- From this state the turn of process p leads to frames and a process as they are after the change, and says this.
 pub record Leads (c : Change) (p : ℕ) (s : CoreState) (turn : CoreTurn) (whats : List What) : Type 0 where
   pub says : turn.whats ≡ whats
   pub frames : ShowsFrames c.new_frames (run s turn.events)

@@ -3,7 +3,7 @@ ghost use Rattle.std.specs.Prelude.{◌≡◌, is_some, None, Some};
 
 use gup_plain::{Answer, PlainEvent};
 
-/// What a turn of an operation says: the event that stands at it, if one does, a second one behind that, and the answer,
+/// What a turn of an operation says: the event that stands at it, if one does, a second one after that, and the answer,
 /// if the turn ends the operation.
 #[derive(Clone, Copy)]
 pub struct Said {

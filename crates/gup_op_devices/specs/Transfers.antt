@@ -44,7 +44,7 @@ refusal_in handle a outward slots index slot n =
     transfer_denial_by (is_pin_of handle a) outward (writes_in handle)
     (fits_in (length (frames_in handle)) slots index slot n)
 
--- Frames and a store behind a word that moved, by its value: outward into the slot, or inward into the frame.
+-- Frames and a store after a word that moved, by its value: outward into the slot, or inward into the frame.
 abbrev pub HasMoved : (outward : Bool) → (old new : FramesValue) → (old_words new_words : List ℕ) → (f word slot value : ℕ) → Type 0
 HasMoved true old new old_words new_words f word slot value =
     (value ≡ old.word f word) × (new ≡ old)

@@ -235,7 +235,7 @@ puts_end a p c done entry first (suc n) s some =
     at_entry None left later = later s left
     at_entry (Some e) left later = by_last e (are_gone entry (first + 1) n) refl later
 
--- behind it the child has failed, and the actor is in the middle of nothing
+-- after it the child has failed, and the actor is in the middle of nothing
 failed_birth : (a p c : ℕ) (done : List ℕ) (step : ForkStep) (entry : ℕ → Option Entry) (s : CoreState) → (run s (fails a p c done step entry)).birth c ≡ failed
 failed_birth a p c done step entry s =
     puts_leave a p c c done entry 0 page_numbers (happens s (fail_fork a p c done step (are_gone entry 0 page_numbers)))

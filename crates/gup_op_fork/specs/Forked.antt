@@ -44,13 +44,13 @@ IsReadyAt frames a (wants_frame page) parent child = (parent.structure ≡ Some 
 IsReadyAt frames a (at_word page word to) parent child =
     (parent.structure ≡ Some a) × IsCountedIn page parent child × IsCopyOf frames page to parent × (word ≤ words)
 
--- what the child is behind a turn that says this: it grows until the fork ends or fails
+-- what the child is after a turn that says this: it grows until the fork ends or fails
 abbrev pub birth_behind : (parent : ℕ) → List What → Birth
 birth_behind parent (Event (events.ForkEnd p c) ∷ whats) = born
 birth_behind parent (Event (events.ForkFail c) ∷ whats) = failed
 birth_behind parent whats = growing parent
 
--- From this state the turn of a fork leads to frames, a parent and a child as they are behind the change, and says this.
+-- From this state the turn of a fork leads to frames, a parent and a child as they are after the change, and says this.
 pub record LeadsFork (k : ForkChange) (a p c : ℕ) (s : CoreState) (turn : CoreTurn) (new : ForkPlace) (whats : List What) : Type 0 where
   pub says : turn.whats ≡ whats
   pub frames : ShowsFrames k.new_frames (run s turn.events)

@@ -168,7 +168,7 @@ lower_one F S a p page (Some e) s found frames space = go e.writable refl
       },
     )
 
--- the pages behind the first are lowered from where that one is
+-- the pages after the first are lowered from where that one is
 lowered_rest : (page n : ℕ) (S S' : SpaceValue) → IsLowered page (suc n) S S' → IsLowered (page + 1) n (record S { entry = lowered page 1 S.entry }) S'
 lowered_rest page n S S' h =
     record {

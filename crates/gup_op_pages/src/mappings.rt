@@ -51,7 +51,7 @@ fn mapped(actor: ActorNo, proc: ProcNo, page: PageNo, n: u16, rights: Rights) ->
     done(event, Answer::Plain)
 }
 
-/// A protection of the `n` pages from `page` on, which end below 2^35: no entry of theirs is writable behind one that
+/// A protection of the `n` pages from `page` on, which end below 2^35: no entry of theirs is writable after one that
 /// takes the right to write.
 pub fn protect(
     space: &mut Space,

@@ -107,7 +107,7 @@ none_taken a h s = grind (arith, nat_tests)
 
 -- ---- a page is taken
 
--- frames, the process, pins and what was taken are as they are behind the change
+-- frames, the process, pins and what was taken are as they are after the change
 pub record IsBehind (c : PinChange) (a p : ℕ) (s : CoreState) : Type 0 where
   pub frames : ShowsFrames c.new_frames s
   pub space : ShowsSpace p c.new_space s
@@ -192,7 +192,7 @@ take_page c F1 S2 a p handle page frame write last e s is new_frames new_space m
 abbrev pub tried_whats : (last : Bool) → (a p handle page n : ℕ) → (write : Bool) → List What
 tried_whats last a p handle page n write = Event (events.PinTry a p page write) ∷ pinned_if last a handle n
 
--- the pin behind events that lead there
+-- the pin after events that lead there
 pins_lead : (c : PinChange) (es : List CoreEvent) (a p handle page n : ℕ) (write last : Bool) (s t : CoreState) → run s es ≡ t
     → IsBehind c a p (run t (pin_page a p page (entry_in (t.entry p page)) write false ∷ makes_if last a handle))
     → LeadsPin c a p s (pins s es a p handle page n write last) (tried_whats last a p handle page n write)
@@ -304,7 +304,7 @@ abbrev pub short_whats : (a handle n far : ℕ) → Answer → List What
 short_whats a handle n far answer =
     Event (events.PinOk a handle) ∷ Done (answers.Short far n (cause_of answer)) ∷ []
 
--- behind others the pin has those
+-- after others the pin has those
 pub pin_short : (c : PinChange) (F1 : FramesValue) (S2 : SpaceValue) (a p handle page n far : ℕ) (write : Bool) (answer : Answer) → (far ≡ 0 → ⊥)
     → PinFault c.old_frames F1 c.old_space S2 (page + far) far write (Some answer) → c.new_frames ≡ F1 → c.new_space ≡ S2
     → c.new_pins ≡ put handle (held a c.old_taken write) c.old_pins → c.new_taken ≡ []

@@ -1,4 +1,4 @@
--- What a pin's fault reads, what it leaves, and that the page is ready behind it.
+-- What a pin's fault reads, what it leaves, and that the page is ready after it.
 use Rattle.std.proofs.Common.{◌≡◌, ℕ, ◌<◌, ◌^◌, ◌==◌, Bool, true, false, cond, [], ◌∷◌, ◌++◌, Option, Some, None, IsSome, Result, Ok, Err, OnOk, zero, suc, refl, ap, ◌∙◌, subst, arith}
 use Rattle.std.proofs.lemmas.Bool.Decides.{nat_tests}
 use Rattle.gup_base.specs.declared.entry.Allowed.TheVariants.{Any}

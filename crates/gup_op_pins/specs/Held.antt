@@ -25,7 +25,7 @@ abbrev pub slots_in : Option (List ℕ) → ℕ
 slots_in None = 0
 slots_in (Some words) = length words
 
--- Frames, pins and the store of the actor, before a turn of an operation on a pin and behind it.
+-- Frames, pins and the store of the actor, before a turn of an operation on a pin and after it.
 pub record HandleChange : Type 0 where
   pub old_frames : FramesValue
   pub new_frames : FramesValue
@@ -80,7 +80,7 @@ pub record IsDone (old new : HandlesValue) (handle : ℕ) (value : HandleValue) 
 
 -- ---- a turn and a state
 
--- From this state such a turn leads to all that as it is behind the change, and says this.
+-- From this state such a turn leads to all that as it is after the change, and says this.
 pub record LeadsHandle (c : HandleChange) (a : ℕ) (s : CoreState) (turn : CoreTurn) (whats : List What) : Type 0 where
   pub says : turn.whats ≡ whats
   pub frames : ShowsFrames c.new_frames (run s turn.events)

@@ -58,7 +58,7 @@ fault_to_pin frames space a p page false =
 abbrev pub want_of : (write : Bool) → Want
 want_of write = record { write = write; long = false }
 
--- Frames, a process, pins and what the actor's running pin has taken, before a turn and behind it.
+-- Frames, a process, pins and what the actor's running pin has taken, before a turn and after it.
 pub record PinChange : Type 0 where
   pub old_frames : FramesValue
   pub new_frames : FramesValue
@@ -69,7 +69,7 @@ pub record PinChange : Type 0 where
   pub old_taken : List ℕ
   pub new_taken : List ℕ
 
--- From this state the turn of a pin of process p leads to all that as it is behind the change, and says this.
+-- From this state the turn of a pin of process p leads to all that as it is after the change, and says this.
 pub record LeadsPin (c : PinChange) (a p : ℕ) (s : CoreState) (turn : CoreTurn) (whats : List What) : Type 0 where
   pub says : turn.whats ≡ whats
   pub frames : ShowsFrames c.new_frames (run s turn.events)
@@ -77,7 +77,7 @@ pub record LeadsPin (c : PinChange) (a p : ℕ) (s : CoreState) (turn : CoreTurn
   pub pins : ShowsPins c.new_pins (run s turn.events)
   pub taken : frames_taken ((run s turn.events).taken a) ≡ c.new_taken
 
--- So it is in whatever state all that stands, where the pin stands at this page; behind its first page the process has
+-- So it is in whatever state all that stands, where the pin stands at this page; after its first page the process has
 -- pinned.
 abbrev pub IsPinTurn : PinChange → (a p handle page n : ℕ) → (write : Bool) → (far : ℕ) → List What → Type 0
 IsPinTurn c a p handle page n write far whats =

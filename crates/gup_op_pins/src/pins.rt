@@ -26,7 +26,7 @@ use gup_space::Space;
 
 /// One page of a pin of `n` pages from `page` on, of which `far` are taken. The page is made ready and its frame gets the
 /// weight of a pin (Linux's `__get_user_pages`, `mm/gup.c`). The last page's turn makes the handle, and so does the turn of
-/// a page that is refused behind others: the pin then has those (this project's own: Linux leaves a short count to its
+/// a page that is refused after others: the pin then has those (this project's own: Linux leaves a short count to its
 /// caller). Where the first page is refused, the pin is. Has-pinned is set before the first page is tried.
 pub fn pin(
     space: &mut Space,

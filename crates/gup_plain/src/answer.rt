@@ -7,7 +7,7 @@ pub enum Answer {
     Value(u64),
     /// All its pages are pinned, so many, from 1 to 16.
     Pinned(u8),
-    /// Of the `wanted` pages of a pin the first `got` are pinned, at least one; the page behind them was refused.
+    /// Of the `wanted` pages of a pin the first `got` are pinned, at least one; the page after them was refused.
     Short { got: u8, wanted: u8, cause: Cause },
     /// It moved words. The events of the transfer have them.
     Words,
@@ -39,7 +39,7 @@ pub enum Answer {
     Unborn,
 }
 
-/// Why the page behind a short pin was refused.
+/// Why the page after a short pin was refused.
 #[derive(Clone, Copy, Debug, PartialEq, Eq)]
 pub enum Cause {
     /// The page has no mapping.

@@ -49,7 +49,7 @@ impl Journal {
         Ok(())
     }
 
-    /// Makes room for `n` more notes, at least. The notes stay, also where memory is wanted and there is none.
+    /// Makes room for `n` more notes, at least. The notes stay, also if allocation fails and there is none.
     pub fn reserve(&mut self, n: u32) -> Result<(), NoMemory>
         ensures notes { self.new.notes ≡ self.old.notes }
         ensures ok { OnOk result (n ≤ self.new.room) }

@@ -1,4 +1,4 @@
--- An action of an actor, with all its tests: what it comes to when its operation is put behind the actor's others.
+-- An action of an actor, with all its tests: what it comes to when its operation is put after the actor's others.
 use Rattle.std.proofs.Common.{◌≡◌, ℕ, ◌<◌, false, List, [], ◌∷◌, Option, Some, unwrap_or, Result, Ok, Err, refl, sym, ap, subst, ◌∙◌, lit<}
 use Rattle.std.specs.Prelude.{nat_lt}
 use Rattle.std.proofs.lemmas.Bool.Decides.{Decides-ltb}
@@ -82,7 +82,7 @@ abbrev pub behind_first : List Word → List Word
 behind_first [] = []
 behind_first (word ∷ words) = words
 
--- the name of its handle is the first word behind the operation's own
+-- the name of its handle is the first word after the operation's own
 pub pinned_declared : (st : Outline) (action : Action) (op : Op) (word : Word) (fields : List Word) → Means st action op → word ∷ fields ≡ action_words action → with_pinned op fields st ≡ with_declared action st
 pinned_declared st (maps first count rights) op word fields m same = rw m.3 refl
 pinned_declared st (unmaps first count) op word fields m same = rw m.3 refl

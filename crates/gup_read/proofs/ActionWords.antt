@@ -9,7 +9,7 @@ use Rattle.gup_base.specs.declared.entry.Zone.TheVariants.{Movable, Normal}
 use Rattle.gup_spec_grammar.specs.Said.{Word, Action, maps, unmaps, protects, discards, loads, stores, exits, pins, gets, puts, forks, unpins, takes, gives, transfers, transfers_parts, mirrors, looks, moves, action_words}
 use Rattle.gup_read.specs.Reading.{rights_in, way_in}
 
--- ---- the words behind the operation's own, by how many there are
+-- ---- the words after the operation's own, by how many there are
 
 abbrev pub said_none : Action → List Word → Option Action
 said_none say [] = Some say

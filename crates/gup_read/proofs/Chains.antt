@@ -67,7 +67,7 @@ unused_Decides es name = way (find es name) refl where
 
 -- ---- a chain whose next test is this one
 
--- the chain stops at the test, for its reason, where the test fails, and else goes on behind it
+-- the chain stops at the test, for its reason, where the test fails, and else goes on after it
 pub data Tried {B : Type 0} (this : Reason) (test : Type 0) (behind : Result B Reason → Type 0) (result : Result B Reason) : Type 0 where
   stops : (because : result ≡ Err this) → (failed : test → ⊥) → Tried this test behind result
   goes : (passed : test) → (on : behind result) → Tried this test behind result

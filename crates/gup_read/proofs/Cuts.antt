@@ -56,7 +56,7 @@ step_on : (number : ℕ) (stage : Stage) (line : List ℕ) (lines : List (List �
 step_on number stage line [] some = absurd (some refl)
 step_on number stage line (next ∷ lines) some = refl
 
--- what is found from a line on: what is found behind it, or its fault
+-- what is found from a line on: what is found after it, or its fault
 line_step : (number : ℕ) (stage : Stage) (line rest : List ℕ) → lines_in number stage (line ∷ parts 10 rest) ≡ behind number (line_in stage line) (λ after. lines_in (number + 1) after (parts 10 rest))
 line_step number stage line rest = step_on number stage line (parts 10 rest) (some_parts rest)
 
@@ -67,7 +67,7 @@ pub line_wrong : (number : ℕ) (stage : Stage) (line rest : List ℕ) (t : Trou
 line_wrong number stage line rest (trouble.Fault reason) e = line_step number stage line rest ∙ rw e refl
 line_wrong number stage line rest trouble.NoMemory e = tt
 
--- ---- what stands behind the last line feed
+-- ---- what stands after the last line feed
 
 abbrev pub refused : ScriptFault → Result Outline ScriptFault
 refused fault = Err fault

@@ -1,4 +1,4 @@
--- The words of a line behind the `frames` line: they are judged as the grammar and its faults have it.
+-- The words of a line after the `frames` line: they are judged as the grammar and its faults have it.
 use Rattle.std.proofs.Common.{◌≡◌, Bool, true, false, List, [], ◌∷◌, refl, sym, ap, subst, ◌∙◌, inl, inr, None, Result, Err, Contains, arith}
 use Rattle.std.specs.Prelude.{codes, bytes_eq}
 use Rattle.std.specs.List.{list_any}

@@ -68,7 +68,7 @@ AreOnce Brings actors = (a b j k number : ℕ) → At Brings actors a j number �
 abbrev pub IsFresh : (Op → ℕ → Type 0) → List Actor → Op → Type 0
 IsFresh Brings actors op = (a k number : ℕ) → Brings op number → At Brings actors a k number → ⊥
 
--- an operation behind one more actor, which has none, was there before
+-- an operation after one more actor, which has none, was there before
 before_actor : (actors : List Actor) (actor : Actor) → actor.ops ≡ [] → (a k : ℕ) (op : Op) → OpAt (actors ++ actor ∷ []) a k op → OpAt actors a k op
 before_actor [] actor none zero k op e =
     let gone : slice_get [] k ≡ Some op = subst (λ (ops : List Op). slice_get ops k ≡ Some op) none e in
@@ -84,7 +84,7 @@ pub actor_once : (Brings : Op → ℕ → Type 0) (actors : List Actor) (actor :
 actor_once Brings actors actor none h a b j k number e f =
     h a b j k number (before_actor_at Brings actors actor none a j number e) (before_actor_at Brings actors actor none b k number f)
 
--- an operation behind one more of an actor was there before, or is this one, at the end of the actor's
+-- an operation after one more of an actor was there before, or is this one, at the end of the actor's
 at_end : (ops : List Op) (new : Op) (k : ℕ) (op : Op) → slice_get (ops ++ new ∷ []) k ≡ Some op → (slice_get ops k ≡ Some op) ⊎ ((k ≡ length ops) × (op ≡ new))
 at_end [] new zero op e = inr (refl, cc)
 at_end [] new (suc k) op e = absurd cc

@@ -34,7 +34,7 @@ not_faulty a b e = cc
 fault_is : (fault : ScriptFault) (number : ℕ) (reason : Reason) → fault.line ≡ number → fault.reason ≡ reason → fault_at number reason ≡ fault
 fault_is fault number reason n r = λ i. record { line = sym n i; reason = sym r i }
 
--- ---- what stands behind the last line feed
+-- ---- what stands after the last line feed
 
 end_found : (number : ℕ) (stage : Stage) (line : List ℕ) (st : Outline) → end_in number stage line ≡ Ok st → (line ≡ []) × (open_at st ≡ stage)
 unfolding end_in
@@ -94,7 +94,7 @@ behind_fault : (number : ℕ) (m : Result Stage Reason) (rest : Stage → Result
 behind_fault number (Ok after) rest fault e = inr (after, refl, e)
 behind_fault number (Err reason) rest fault e = let same = same_fault (fault_at number reason) fault e in inl (ap (λ f. Err f.reason) same, ap (λ f. f.line) (sym same))
 
--- a line with more behind it
+-- a line with more after it
 more_lines : (number : ℕ) (stage : Stage) (line : List ℕ) (rest : List (List ℕ)) → 0 < length rest → lines_in number stage (line ∷ rest) ≡ behind number (line_in stage line) (λ after. lines_in (number + 1) after rest)
 more_lines number stage line [] some = absurd (omega arith)
 more_lines number stage line (next ∷ more) some = refl

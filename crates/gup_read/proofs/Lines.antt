@@ -1,4 +1,4 @@
--- A line behind those before it: it is judged as the grammar and its faults have it.
+-- A line after those before it: it is judged as the grammar and its faults have it.
 use Rattle.std.proofs.Common.{◌≡◌, ℕ, ◌<◌, Bool, true, false, not, cond, eqb, List, [], ◌∷◌, length, refl, sym, ap, ◌∙◌, Result, Ok, Err, inl, inr, Decides, arith}
 use Rattle.std.proofs.lemmas.Bool.Decides.{Decides-and, Decides-eqb, not_from_Decides}
 use Rattle.std.proofs.lemmas.List.Splits.{length-slice_split}

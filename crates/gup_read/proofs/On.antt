@@ -19,9 +19,9 @@ use Rattle.gup_read.proofs.Judged.{Told, actor_found}
 use Rattle.gup_read.proofs.OpChoices.{op_chosen}
 use Rattle.gup_read.proofs.Acting.{Acts, placed, acts, acts_ok, acts_read, acts_err, acts_stop}
 
--- ---- the words behind `on`
+-- ---- the words after `on`
 
--- behind the actor's name: the words say an action, or none
+-- after the actor's name: the words say an action, or none
 abbrev SaysOp : Outline → (actor : ℕ) → List Word → Result Outline Reason → Type 0
 SaysOp st a words result =
     ((action : Action) × (words ≡ action_words action) × Acts st a action result)

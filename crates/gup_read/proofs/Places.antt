@@ -21,7 +21,7 @@ abbrev with_some : List Word → Option Said
 with_some [] = None
 with_some (first ∷ more) = Some (some_turns first more)
 
--- what the words say, behind this first one
+-- what the words say, after this first one
 abbrev pub said_behind : Word → List Word → Option Said
 said_behind word fields =
     cond (bytes_eq word (codes "process")) (with_one a_process fields)
@@ -53,7 +53,7 @@ same_said a b e = same_given a b (sym (said_back a) ∙ ap said_of e ∙ said_ba
 pub none_said : (words : List Word) → said_of words ≡ None → (said : Said) → words ≡ said_words said → ⊥
 none_said words none said e = let both : given said ≡ None = sym (said_back said) ∙ ap said_of (sym e) ∙ none in cc
 
--- the words behind a first one are judged rightly
+-- the words after a first one are judged rightly
 abbrev pub JudgesSaid : Outline → Word → List Word → Result Outline Reason → Type 0
 JudgesSaid st word fields m =
     Judges Outline m (λ next. (said : Said) × ((word ∷ fields) ≡ said_words said) × Declares st said next) (DeclaringFault st (word ∷ fields))

@@ -79,7 +79,7 @@ either : (b : Bool) (x y : Named) (o p : Option Named) → (p ≡ Some y → (o 
 either true x y o p rest z e = inl e
 either false x y o p rest z e = rest e
 
--- what is found behind one more declaration was found before, or is what it declared
+-- what is found after one more declaration was found before, or is what it declared
 pub found_behind : (es : List NamedEntry) (name word : List ℕ) (x y : Named) → find (declared es name x) word ≡ Some y → (find es word ≡ Some y) ⊎ (x ≡ y)
 found_behind [] name word x y e = inr (same_named (bytes_eq name word) x y e)
 found_behind (entry ∷ es) name word x y e =

@@ -54,7 +54,7 @@ way_in word =
 abbrev pub is_zone : List ℕ → Bool
 is_zone word = bytes_eq word (codes "normal") || bytes_eq word (codes "movable")
 
--- What an action's words say: an operation, or none where its kind comes later. The words stand behind the
+-- What an action's words say: an operation, or none where its kind comes later. The words stand after the
 -- operation's own.
 
 unfoldable pub map_in : List (List ℕ) → Result (Option Op) Reason
@@ -262,12 +262,12 @@ abbrev pub op_of_actor : Outline → (actor : ℕ) → Option Actor → (word : 
 op_of_actor st a None word fields = Err reasons.Word
 op_of_actor st a (Some actor) word fields = op_of_kind st a actor.kind word fields
 
--- the outline with the handle of a pin, whose name is the first word behind the operation's own
+-- the outline with the handle of a pin, whose name is the first word after the operation's own
 abbrev pub with_pinned : Op → List (List ℕ) → Outline → Outline
 with_pinned (ops.Pin handle page n write) (name ∷ fields) st = with_handle name st
 with_pinned op fields st = st
 
--- the words behind `on`
+-- the words after `on`
 unfoldable pub on_in : Outline → List (List ℕ) → Result Outline Reason
 on_in st (name ∷ word ∷ fields) = do
   a ← need reasons.Name (actor_of (find st.names name))
@@ -277,7 +277,7 @@ on_in st (name ∷ word ∷ fields) = do
   Ok (with_operation a op (with_pinned op fields st))
 on_in st _ = Err reasons.Shape
 
--- declarations: the words behind the first
+-- declarations: the words after the first
 
 unfoldable pub process_in : (born : Bool) → Outline → List (List ℕ) → Result Outline Reason
 process_in born st (name ∷ []) = do
@@ -355,7 +355,7 @@ random_in st (start ∷ count ∷ []) = do
   Ok (with_turns (draws n (length st.script.actors) x) st)
 random_in st _ = Err reasons.Shape
 
--- the words of a line behind the `frames` line
+-- the words of a line after the `frames` line
 unfoldable pub next_in : Outline → List (List ℕ) → Result Outline Reason
 next_in st [] = Err reasons.Word
 next_in st (word ∷ fields) =
@@ -413,7 +413,7 @@ line_in stage line =
 abbrev pub fault_at : ℕ → Reason → ScriptFault
 fault_at number reason = record { line = number; reason = reason }
 
--- what stands behind the last line feed
+-- what stands after the last line feed
 unfoldable pub end_in : (number : ℕ) → Stage → List ℕ → Result Outline ScriptFault
 end_in number (open_at st) [] = Ok st
 end_in number before_head [] = Err (fault_at number reasons.Short)
@@ -426,7 +426,7 @@ abbrev pub behind : (number : ℕ) → Result Stage Reason → (Stage → Result
 behind number (Err reason) rest = Err (fault_at number reason)
 behind number (Ok stage) rest = rest stage
 
--- the lines from this number on; the last is what stands behind the last line feed
+-- the lines from this number on; the last is what stands after the last line feed
 abbrev pub lines_in : (number : ℕ) → Stage → List (List ℕ) → Result Outline ScriptFault
 lines_in number stage [] = end_in number stage []
 lines_in number stage (line ∷ []) = end_in number stage line

@@ -18,7 +18,7 @@ abbrev pub LeadsTo : Result Stage Reason → Result CodeStage Trouble → Type 0
 LeadsTo found (Ok stage) = found ≡ Ok (stage_value stage)
 LeadsTo found (Err e) = IsTrouble found e
 
--- the first line of a text and what stands behind its line feed, or none where there is no line feed
+-- the first line of a text and what stands after its line feed, or none where there is no line feed
 abbrev pub IsCut : List ℕ → Option (Bor (List ℕ) × Bor (List ℕ)) → Type 0
 IsCut text None = parts 10 text ≡ text ∷ []
 IsCut text (Some cut) =

@@ -14,7 +14,7 @@ use Rattle.gup_spec_grammar.specs.declared.fault.ReadRefusal.TheVariants as refu
 use Rattle.gup_script.specs.Script.{ScriptValue}
 use Rattle.gup_spec_grammar.specs.Outline.{Outline}
 
--- the trouble is the fault that was found, or want of memory
+-- the trouble is the fault that was found, or that allocation failed
 abbrev pub IsTrouble : {A : Type 0} → Result A Reason → Trouble → Type 0
 IsTrouble found (trouble.Fault reason) = found ≡ Err reason
 IsTrouble found trouble.NoMemory = Unit {0}

@@ -1,4 +1,4 @@
-//! The lines behind the `frames` line: each adds what it declares, an operation or turns to a `Reader`, or is refused
+//! The lines after the `frames` line: each adds what it declares, an operation or turns to a `Reader`, or is refused
 //! for the first fault that it has.
 ghost use Rattle.std.specs.Prelude.{◌≡◌, map, OnOk};
 ghost use Rattle.gup_read.specs.Steps.{Makes, IsDeclarable};
@@ -22,7 +22,7 @@ const MAX_DEVICES: usize = 16;
 /// How many words the store of a device may have.
 const MAX_SLOTS: u64 = 4_096;
 
-/// Declares the handle of a pin, whose name is the first word behind the operation's own.
+/// Declares the handle of a pin, whose name is the first word after the operation's own.
 fn declare_pinned(reader: &mut Reader, op: &Op, fields: &[&str]) -> Result<(), AllocError>
     requires { IsDeclarable op.now (map (λ word. word.now) fields.now) reader.old }
     ensures { OnOk result (reader.new ≡ with_pinned op.now (map (λ word. word.now) fields.now) reader.old) }
@@ -120,7 +120,7 @@ fn seed_line(reader: &mut Reader, fields: &[&str]) -> Result<(), Trouble>
     Ok(())
 }
 
-/// A line behind the `frames` line, by its words.
+/// A line after the `frames` line, by its words.
 #[tactic(auto, unfolding(crate::specs::Reading::next_in))]
 pub fn next_line(reader: &mut Reader, words: &[&str]) -> Result<(), Trouble>
     ensures { Makes (next_in reader.old (map (λ word. word.now) words.now)) reader.new result }

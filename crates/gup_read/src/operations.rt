@@ -1,4 +1,4 @@
-//! The operation that the words behind an actor's name spell: one that is built, or none where its kind comes later.
+//! The operation that the words after an actor's name spell: one that is built, or none where its kind comes later.
 //! A fault is the first that the words have.
 ghost use Rattle.std.specs.Prelude.{◌≡◌, map, Some};
 ghost use Rattle.std.specs.List.{list_all};
@@ -22,7 +22,7 @@ const MAX_PIN: u64 = 16;
 /// How many words a transfer may have, and each of its parts.
 const MAX_TRANSFER: u64 = 64;
 
-/// How many parts a transfer may have behind its first.
+/// How many parts a transfer may have after its first.
 const MAX_MORE_PARTS: usize = 7;
 
 #[tactic(auto, unfolding(crate::specs::Reading::rights_in))]
@@ -402,7 +402,7 @@ fn mover_op(reader: &Reader, word: &str, fields: &[&str]) -> Result<Option<Op>, 
     }
 }
 
-/// The operation of this actor that has this word and these fields behind it.
+/// The operation of this actor that has this word and these fields after it.
 pub fn actor_op(
     reader: &Reader,
     actor: ActorNo,

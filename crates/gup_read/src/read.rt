@@ -18,7 +18,7 @@ use std::alloc::Global;
 /// How many bytes a script's text may have.
 const MAX_BYTES: usize = 1_048_576;
 
-/// The line that the bytes begin with, and what stands behind its line feed; `None` where there is no line feed.
+/// The line that the bytes begin with, and what stands after its line feed; `None` where there is no line feed.
 fn cut_line(text: &[u8]) -> Option<(&[u8], &[u8])>
     ensures { IsCut text.now result }
 {
@@ -26,7 +26,7 @@ fn cut_line(text: &[u8]) -> Option<(&[u8], &[u8])>
     Some((&text[..end], &text[end + 1..]))
 }
 
-/// What the lines have made, where these bytes stand behind the last line feed.
+/// What the lines have made, where these bytes stand after the last line feed.
 fn ended(number: u32, stage: Stage, rest: &[u8]) -> Result<Reader, ReadRefusal>
     ensures { IsReading (end_in number (stage_value stage) rest.now) result }
 {
@@ -75,7 +75,7 @@ fn script(alloc: Global, text: &[u8]) -> Result<Script, ReadRefusal>
 }
 
 /// The script that the bytes spell: they are one where they are at most 1,048,576 and each of their lines ends with
-/// a line feed and is right behind the lines before it. A refusal is for want of memory, or tells the first line that
+/// a line feed and is right after the lines before it. A refusal is because allocation failed, or tells the first line that
 /// isn't right and the first fault that it has, in the order of `Reason`. The text is read once, in time that is
 /// linear in its bytes and in the turns that it writes.
 pub fn read_script(alloc: Global, text: &[u8]) -> Result<Script, ReadRefusal>

@@ -1,4 +1,4 @@
-//! How far a text is read: nothing, the head, or the `frames` line and all that stands behind it.
+//! How far a text is read: nothing, the head, or the `frames` line and all that stands after it.
 ghost use Rattle.std.specs.Prelude.{◌≡◌, Ok, Err, map, MatchResult};
 ghost use Rattle.gup_spec_grammar.specs.Outline.{frame_counts};
 ghost use Rattle.gup_read.specs.Reading.{counts_in, frames_in, is_head, words_in, line_in};
@@ -68,7 +68,7 @@ fn frames(words: &[&str]) -> Result<(u32, u32, u32), Reason>
 impl Stage {
     ghost use Rattle.gup_read.specs.StageViews.{stage_value, LeadsTo};
 
-    /// The stage behind a line with these words.
+    /// The stage after a line with these words.
     #[tactic(auto, unfolding(crate::specs::Reading::words_in))]
     fn after_words(self, alloc: Global, words: &[&str]) -> Result<Stage, Trouble>
         ensures { LeadsTo (words_in (stage_value self) (map (λ word. word.now) words.now)) result }
@@ -89,7 +89,7 @@ impl Stage {
         }
     }
 
-    /// The stage behind this line, which a line feed ends.
+    /// The stage after this line, which a line feed ends.
     #[tactic(auto, unfolding(crate::specs::Reading::line_in, crate::specs::Reading::said_in))]
     pub fn after(self, alloc: Global, line: &[u8]) -> Result<Stage, Trouble>
         ensures { LeadsTo (line_in (stage_value self) line.now) result }

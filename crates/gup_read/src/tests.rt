@@ -10,7 +10,7 @@ use std::test::*;
 const DECLARED: &str =
     "gup 1\nframes 8 8 64\nprocess p\nchild c\nthread t p\ndevice d 64\nmover m\n";
 
-/// What stands behind the seven lines, and its first fault. Where a line has a second fault, the first goes before it.
+/// What stands after the seven lines, and its first fault. Where a line has a second fault, the first goes before it.
 const LINES: [(&str, u32, Reason); 143] = [
     ("process q\t\n", 8, Reason::Byte),
     ("# \u{e9}\n", 8, Reason::Byte),
@@ -266,7 +266,7 @@ fn faults_of_texts(rt: HostRuntime) -> Result<(), Fail> {
     expect_faults(&rt, rt.alloc(), "", &TEXTS)
 }
 
-/// A script that is as long as a limit allows has so many lines behind the seven, each of this prefix, a number and
+/// A script that is as long as a limit allows has so many lines after the seven, each of this prefix, a number and
 /// this suffix; with one line more it has this fault in that line.
 const LIMITS: [(u32, &str, &str, &str, Reason); 12] = [
     (14, "process q", "", "child r\n", Reason::Limit),

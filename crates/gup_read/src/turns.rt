@@ -54,7 +54,7 @@ fn add_all(reader: &mut Reader, words: &[&str]) -> Result<(), AllocError>
     Ok(())
 }
 
-/// The words behind `turns`.
+/// The words after `turns`.
 #[tactic(auto, unfolding(crate::specs::Reading::turns_in))]
 pub fn turns_line(reader: &mut Reader, words: &[&str]) -> Result<(), Trouble>
     ensures { Makes (turns_in reader.old (map (λ word. word.now) words.now)) reader.new result }
@@ -69,7 +69,7 @@ pub fn turns_line(reader: &mut Reader, words: &[&str]) -> Result<(), Trouble>
     Ok(())
 }
 
-/// The words behind `random`.
+/// The words after `random`.
 #[tactic(auto, unfolding(crate::specs::Reading::random_in))]
 pub fn random_line(reader: &mut Reader, fields: &[&str]) -> Result<(), Trouble>
     ensures { Makes (random_in reader.old (map (λ word. word.now) fields.now)) reader.new result }

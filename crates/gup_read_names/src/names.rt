@@ -41,7 +41,7 @@ impl Names {
         self.entries.get(name).copied()
     }
 
-    /// Declares a name that is unused, as `find` tells, behind the others. It is refused for want of memory alone,
+    /// Declares a name that is unused, as `find` tells, after the others. It is refused because allocation failed alone,
     /// and then nothing has changed.
     pub fn declare(&mut self, name: &str, named: Named) -> Result<(), AllocError>
         requires { is_unused self.old name.now ≡ true }

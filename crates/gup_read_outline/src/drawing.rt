@@ -19,7 +19,7 @@ pub fn push_times(turns: &mut Vec<ActorNo>, actor: ActorNo, times: u32) -> Resul
     Ok(())
 }
 
-/// The generator's state behind this one.
+/// The generator's state after this one.
 fn next_state(x: u64) -> u64
     ensures { result ≡ next_state x }
 {

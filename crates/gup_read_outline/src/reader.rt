@@ -54,7 +54,7 @@ fn forks(ops: &[Op], p: ProcNo) -> bool
 impl Reader {
     ghost use Rattle.gup_script.specs.Views.{script_value};
 
-    /// Nothing behind a `frames` line with these counts.
+    /// Nothing after a `frames` line with these counts.
     pub fn new(alloc: Global, frames: (u32, u32, u32)) -> Reader
         ensures { result ≡ empty_outline (frame_counts frames) }
     {

@@ -194,7 +194,7 @@ pub fn turn_name(word: &str) -> &str
     name
 }
 
-/// How often a written turn's word says that its actor has a turn: the number behind the first `*`, from 1 to
+/// How often a written turn's word says that its actor has a turn: the number after the first `*`, from 1 to
 /// 1,000,000, and once where there is no `*`.
 pub fn turn_times(word: &str) -> Option<u32>
     ensures { result ≡ turn_times word.now }

@@ -13,7 +13,7 @@ use Rattle.gup_law_turns.specs.Standing.{IsStanding}
 use Rattle.gup_core.specs.Machine.{MachineValue, Shows, TakesTurn, IsNew, counted}
 use Rattle.gup_sched.proofs.Going.{pointed_goes}
 
--- The machine shows a state that turns led to from the start, and whatever run goes on from there is, behind the notes
+-- The machine shows a state that turns led to from the start, and whatever run goes on from there is, after the notes
 -- so far, the script's.
 pub record Underway (script : ScriptValue) (m : MachineValue) (notes : List NoteValue) (r : RunState) : Type 0 where
   pub same : m.script ≡ script
@@ -122,7 +122,7 @@ written_turn script valid costs m n notes told taken r a is there kept takes w =
       cheap = omega (arith, less, cheap);
     }
 
--- behind them
+-- after them
 
 -- the most turns of a run
 abbrev pub most : ScriptValue → ℕ

@@ -16,7 +16,7 @@ pub(crate) fn actor_no(k: u8) -> ActorNo
     ActorNo::new(u64::from(k)).unwrap()
 }
 
-/// The actor behind this one, in a circle.
+/// The actor after this one, in a circle.
 pub(crate) fn behind(actors: u8, actor: ActorNo) -> ActorNo
     requires few { actors ≤ 81 }
     requires there { actor < actors }

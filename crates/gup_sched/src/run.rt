@@ -25,8 +25,8 @@ pub struct Run {
 }
 
 /// Runs the machine to the end of the script: first the written turns, then those that the pointer gives, the first
-/// actor at or behind it, in a circle, that has operations left and doesn't wait, until there is none. The journal is
-/// that of the script's core run, and the machine shows its end. Every run ends: behind its written turns it has at
+/// actor at or after it, in a circle, that has operations left and doesn't wait, until there is none. The journal is
+/// that of the script's core run, and the machine shows its end. Every run ends: after its written turns it has at
 /// most 1,025 turns for each operation of the script, and 527,361 more for each fork. The journal may want memory.
 pub fn run_all(alloc: Global, machine: Machine, script: &Script) -> Result<Run, NoMemory>
     requires { IsNew script.now machine }

@@ -39,7 +39,7 @@ abbrev pub AreOf : (p : ℕ) → List CoreEvent → Type 0
 AreOf p [] = Unit {0}
 AreOf p (e ∷ es) = IsOf p e × AreOf p es
 
--- the frames behind such an event
+-- the frames after such an event
 abbrev pub frames_after : CoreEvent → FramesValue → FramesValue
 frames_after (take_frame a f) frames = taken f frames
 frames_after (fill a p page f) frames = with_mark f true frames
@@ -52,7 +52,7 @@ frames_after (unpin_page a h f left) frames = without_references f bias frames
 frames_after (move_in a h index slot f value) frames = with_word f (index % words) value frames
 frames_after e frames = frames
 
--- the process behind such an event of its own
+-- the process after such an event of its own
 abbrev pub space_after : CoreEvent → SpaceValue → SpaceValue
 space_after (fill a p page f) space = with_entry page (Some (entry_of f false)) space
 space_after (count_one a p page f writable) space = record space { table = Some a }
@@ -68,7 +68,7 @@ space_after (protect_pages a p page n rights) space = with_rights page n rights 
 space_after (raise_flag a p) space = record space { has_pinned = true }
 space_after e space = space
 
--- and behind a list of them
+-- and after a list of them
 abbrev pub all_frames_after : List CoreEvent → FramesValue → FramesValue
 all_frames_after [] frames = frames
 all_frames_after (e ∷ es) frames = all_frames_after es (frames_after e frames)
@@ -87,7 +87,7 @@ pub record IsShownAs (space other : SpaceValue) : Type 0 where
   pub structure : space.structure ≡ other.structure
   pub table : space.table ≡ other.table
 
--- The events, each of them of the one process, lead from what was before a call to what is behind it, its table lock free
+-- The events, each of them of the one process, lead from what was before a call to what is after it, its table lock free
 -- for both; the call left that lock as it was.
 pub record IsMadeBy (c : Change) (p : ℕ) (es : List CoreEvent) : Type 0 where
   pub own : AreOf p es

@@ -60,7 +60,7 @@ leave_other p q space s [] other of h = h
 leave_other p q space s (e ∷ es) other of h =
     leave_other p q space (happens s e) es other of.1 (leaves_other p q space s other of.0 h)
 
--- ---- frames and a process behind events of that process
+-- ---- frames and a process after events of that process
 
 pub shows_frames : (p : ℕ) (frames : FramesValue) (s : CoreState) {e : CoreEvent} → IsOf p e → ShowsFrames frames s → ShowsFrames (frames_after e frames) (happens s e)
 shows_frames p frames s (taking a f) h =

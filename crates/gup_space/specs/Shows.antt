@@ -23,7 +23,7 @@ pub record ShowsSpace (p : ℕ) (space : SpaceValue) (s : CoreState) : Type 0 wh
   pub structure : s.structure p ≡ space.structure
   pub table : s.table p ≡ space.table
 
--- Frames and a process, before a call and behind it.
+-- Frames and a process, before a call and after it.
 pub record Change : Type 0 where
   pub old_frames : FramesValue
   pub new_frames : FramesValue

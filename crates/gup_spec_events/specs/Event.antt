@@ -226,7 +226,7 @@ abbrev pub step_read : CoreState → (write long : Bool) → (page : ℕ) → Op
 step_read s write long page None = stopped
 step_read s write long page (Some e) = if is_wrong s write long e then stopped else read page e
 
--- the steps behind which a walk reads the sequence again
+-- the steps after which a walk reads the sequence again
 abbrev pub MayRest : WalkStep → Type 0
 MayRest ready = Unit {0}
 MayRest stopped = Unit {0}
@@ -669,7 +669,7 @@ told (drop_last a p write long sequence left last) = Some (events.PinDrop a last
 told (drop_first a p write long sequence first left) = Some (events.PinDrop a first.page)
 told e = None
 
--- the plain state behind the plain event that stands at a core event, if one does
+-- the plain state after the plain event that stands at a core event, if one does
 abbrev pub after_told : PlainState → Option PlainEvent → PlainState
 after_told s None = s
 after_told s (Some e) = happened s e

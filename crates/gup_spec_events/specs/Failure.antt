@@ -11,7 +11,7 @@ abbrev pub are_gone : (ℕ → Option Entry) → (first n : ℕ) → Bool
 are_gone entry first zero = true
 are_gone entry first (suc n) = not (is_some (entry first)) && are_gone entry (first + 1) n
 
--- the reference of a page's entry is given back; `ends`: no page behind it has an entry
+-- the reference of a page's entry is given back; `ends`: no page after it has an entry
 abbrev pub puts_entry : (a p c : ℕ) → List ℕ → (page : ℕ) → Option Entry → (ends : Bool) → List CoreEvent
 puts_entry a p c done page None ends = []
 puts_entry a p c done page (Some e) ends = put_child a p c done page e ends ∷ []

@@ -54,7 +54,7 @@ pub record Taken : Type 0 where
   pub write : Bool
   pub long : Bool
 
--- Frames below `movable` are of the movable zone, the `normal` ones behind them of the normal zone. Ghosts, which
+-- Frames below `movable` are of the movable zone, the `normal` ones after them of the normal zone. Ghosts, which
 -- no step reads, say what the plain model makes of a state: the object that a frame holds exclusively, the object
 -- that each page, pin and slot names, and the contents of objects.
 pub record CoreState : Type 0 where

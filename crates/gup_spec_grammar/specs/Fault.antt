@@ -12,7 +12,7 @@ use Rattle.gup_spec_grammar.specs.Said.{Said, said_words, declaring_words, Actio
 use Rattle.gup_spec_grammar.specs.Outline.{Outline}
 use Rattle.gup_spec_grammar.specs.Grammar.{most_bytes, SaidNumbers, ActionNumbers, SaidNames, ActionNames, NamesActor, SaidOnce, ActionOnce, SaidLimits, ActionLimits, IsBuilt, IsOpOf, Stage, before_head, before_frames, open_at, head_words, AreFrames, SaysNothing, AreRightLines}
 
--- The reason is this one where the test fails, and else one of the tests behind it.
+-- The reason is this one where the test fails, and else one of the tests after it.
 abbrev pub Unless : (this : Reason) → (test : Type 0) → (reason : Reason) → (behind : Type 0) → Type 0
 Unless this test reason behind = ((reason ≡ this) × (test → ⊥)) ⊎ (test × behind)
 
@@ -48,7 +48,7 @@ OpFault st a words reason =
     ((reason ≡ Shape) × ((action : Action) → words ≡ action_words action → ⊥))
     ⊎ ((action : Action) × (words ≡ action_words action) × ActionFault st a action reason)
 
--- Of the words behind `on`: there are two at least, the first names an actor, and the second is the word of one of
+-- Of the words after `on`: there are two at least, the first names an actor, and the second is the word of one of
 -- its operations.
 abbrev pub OnFault : Outline → List Letters → Reason → Type 0
 OnFault st [] reason = reason ≡ Shape
@@ -84,7 +84,7 @@ IsShort before_head = Unit {0}
 IsShort before_frames = Unit {0}
 IsShort (open_at st) = ⊥
 
--- what stands behind the last line feed: nothing, or else a line without an end
+-- what stands after the last line feed: nothing, or else a line without an end
 abbrev pub LastFault : Stage → (line : List ℕ) → Reason → Type 0
 LastFault stage [] reason = (reason ≡ Short) × IsShort stage
 LastFault stage (c ∷ cs) reason = Unless Byte (IsPrintable (c ∷ cs)) reason (reason ≡ End)

@@ -1,6 +1,6 @@
 -- The grammar of scripts: which bytes spell which script. A text's lines are its parts before the line feeds, and a
 -- line's words are its parts between the spaces. Each line that is not passed over says something that is right
--- behind the lines before it.
+-- after the lines before it.
 use Rattle.std.specs.Prelude.{◌≡◌, ℕ, ◌+◌, ◌≤◌, ◌<◌, ◌⊎◌, true, false, List, [], ◌∷◌, ◌++◌, length, replicate, codes, decimal, Contains, Some, None}
 use Rattle.std.specs.List.{AllByRecursion}
 use Rattle.gup_spec_grammar.specs.Spelling.{IsNumber, IsCount, IsIndex, IsPage, IsWordNo, IsAddress, IsRange, IsSegment, IsTurnWord, IsName, IsPrintable, parts}
@@ -231,7 +231,7 @@ abbrev pub first_word : List Word → Word
 first_word [] = []
 first_word (word ∷ words) = word
 
--- the words are those of a line that may stand behind the lines that make st, and it leads to next
+-- the words are those of a line that may stand after the lines that make st, and it leads to next
 abbrev pub IsNext : Outline → List Word → Outline → Type 0
 IsNext st words next =
     ((said : Said) × (words ≡ said_words said) × Declares st said next)
@@ -241,7 +241,7 @@ IsNext st words next =
 
 -- 6. Texts
 
--- What the lines so far have brought: nothing, the head, or the frames and all that stands behind them.
+-- What the lines so far have brought: nothing, the head, or the frames and all that stands after them.
 pub data Stage : Type 0 where
   before_head : Stage
   before_frames : Stage

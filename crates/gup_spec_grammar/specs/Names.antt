@@ -16,6 +16,6 @@ find (e ∷ es) name = if bytes_eq e.name name then Some e.named else find es na
 abbrev pub is_unused : List NamedEntry → List ℕ → Bool
 is_unused es name = is_none (find es name)
 
--- one more name behind the others
+-- one more name after the others
 abbrev pub declared : List NamedEntry → List ℕ → Named → List NamedEntry
 declared es name named = es ++ record { name = name; named = named } ∷ []

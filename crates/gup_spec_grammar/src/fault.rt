@@ -29,7 +29,7 @@ pub enum Reason {
     Limit,
     /// The line is right, and its operation isn't built yet.
     Later,
-    /// The text ends before its `frames` line. The line is the one behind the last.
+    /// The text ends before its `frames` line. The line is the one after the last.
     Short,
 }
 

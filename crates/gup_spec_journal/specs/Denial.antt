@@ -7,7 +7,7 @@ use Rattle.gup_script.specs.declared.op.Op.{Op}
 use Rattle.gup_script.specs.declared.op.Op.TheVariants.{Map, Protect, Load, Store, Pin, Unpin, Give, Transfer}
 use Rattle.gup_spec_journal.specs.Place.{Doer, birth_for}
 
--- What denies an operation of a born process. A pin is denied page by page: at the one behind those that it has so far.
+-- What denies an operation of a born process. A pin is denied page by page: at the one after those that it has so far.
 abbrev pub op_denial : PlainState → Doer → (far : ℕ) → Op → Option Answer
 op_denial s who far (Map page n rights) = map_denial (any_mapped (s.right who.proc) page n) (s.pages who.proc) n
 op_denial s who far (Protect page n rights) = protect_denial (any_unmapped (s.right who.proc) page n)

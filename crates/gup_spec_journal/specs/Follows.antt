@@ -1,5 +1,5 @@
 -- A journal follows its script where each actor's notes are those of its operations in order, and the notes of one
--- operation have one of the shapes of its kind. Each turn of an actor is later than the one in front of it.
+-- operation have one of the shapes of its kind. Each turn of an actor is later than the one before it.
 use Rattle.std.specs.Prelude.{◌≡◌, ℕ, ◌+◌, ◌≤◌, ◌<◌, ◌==◌, ◌&&◌, ◌⊎◌, Bool, true, false, not, IsTrue, List, [], ◌∷◌, ◌++◌, map, filter, zero, suc}
 use Rattle.gup_plain.specs.Event.{words}
 use Rattle.gup_plain.specs.Note.{NoteValue}
@@ -32,7 +32,7 @@ notes_of_turn turn actor number whats = map (note_of turn actor number) whats
 abbrev pub IsTurn : Who → List What → List NoteValue → Type 0
 IsTurn who whats notes = (turn : ℕ) × (notes ≡ notes_of_turn turn who.actor who.number whats)
 
--- each note is of a turn behind this one
+-- each note is of a turn after this one
 abbrev pub AreBehind : (turn : ℕ) → List NoteValue → Type 0
 AreBehind turn [] = Unit {0}
 AreBehind turn (note ∷ notes) = (turn < note.turn) × AreBehind turn notes
@@ -42,7 +42,7 @@ abbrev pub AreBefore : (front rest : List NoteValue) → Type 0
 AreBefore [] rest = Unit {0}
 AreBefore (note ∷ front) rest = AreBehind note.turn rest × AreBefore front rest
 
--- notes of the first kind, and behind them, in later turns, notes of the second
+-- notes of the first kind, and after them, in later turns, notes of the second
 abbrev pub Then : (First Second : List NoteValue → Type 0) → List NoteValue → Type 0
 Then First Second notes =
     (front rest : List NoteValue) × (notes ≡ front ++ rest) × AreBefore front rest × First front × Second rest
@@ -118,13 +118,13 @@ SharesOrCopies who child page notes =
     IsTurn who (Event (events.ForkPage who.proc child page) ∷ []) notes ⊎ CopiesPage who child page notes
 
 -- a page of a fork: it is passed in one turn, or counted in one and shared in the next, or counted in one and copied in
--- those behind it
+-- those after it
 abbrev pub ForksPage : Who → (child page : ℕ) → List NoteValue → Type 0
 ForksPage who child page notes =
     IsTurn who (Event (events.ForkPage who.proc child page) ∷ []) notes
     ⊎ Then (IsTurn who (Silent ∷ [])) (SharesOrCopies who child page) notes
 
--- behind a page that it counted a fork finds no frame for a copy
+-- after a page that it counted a fork finds no frame for a copy
 abbrev pub FailsFork : Who → (child : ℕ) → List NoteValue → Type 0
 FailsFork who child notes =
     Then (IsTurn who (Silent ∷ [])) (IsTurn who (Event (events.ForkFail child) ∷ Done answers.NoFrame ∷ [])) notes
@@ -147,7 +147,7 @@ abbrev pub EndsPin : Cause → Type 0
 EndsPin (causes.Unmovable count) = ⊥
 EndsPin cause = Unit {0}
 
--- the page behind the first `got` of n is refused: the pin has those, where there are some
+-- the page after the first `got` of n is refused: the pin has those, where there are some
 abbrev pub EndsShort : Who → (handle n got : ℕ) → List NoteValue → Type 0
 EndsShort who handle n got notes =
     (0 < got) × (cause : Cause) × EndsPin cause
@@ -220,7 +220,7 @@ Shape who (Fork child) notes =
     Forks who child notes ⊎ IsTurn who (Event (events.ForkFail child) ∷ Done answers.Unborn ∷ []) notes
 Shape who Exit notes = ((pages : ℕ) × TakesDownWhole who pages notes) ⊎ IsRefused who Exit notes
 
--- the notes are those of some of the operations, from the first on, each in one of its shapes and behind the one before
+-- the notes are those of some of the operations, from the first on, each in one of its shapes and after the one before
 abbrev pub Shapes : (actor proc number : ℕ) → List Op → List NoteValue → Type 0
 Shapes actor proc number [] notes = notes ≡ []
 Shapes actor proc number (op ∷ ops) notes =

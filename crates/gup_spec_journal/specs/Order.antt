@@ -23,7 +23,7 @@ pub record Turn : Type 0 where
 abbrev pub places_behind : (ℕ → Place) → Turn → ℕ → Place
 places_behind places turn = put turn.actor (place_behind (places turn.actor) turn.whats) places
 
--- The notes of turns that are numbered from this number on. A note has the number of the operation behind those
+-- The notes of turns that are numbered from this number on. A note has the number of the operation after those
 -- that the actor has answered.
 abbrev pub journal_of : ℕ → (ℕ → Place) → List Turn → List NoteValue
 journal_of number places [] = []
@@ -103,7 +103,7 @@ IsWrittenTurn false (Some waiting) holder whats = whats ≡ Wait waiting ∷ []
 IsWrittenTurn false None holder whats =
     Moves whats ⊎ ((b : ℕ) × holder b × (whats ≡ Wait (waitings.Holder b) ∷ []))
 
--- the actor behind this one, in a circle
+-- the actor after this one, in a circle
 abbrev pub behind : (actors a : ℕ) → ℕ
 behind actors a = if a + 1 == actors then 0 else a + 1
 
@@ -142,7 +142,7 @@ IsNextTurn script o (Some written) turn =
     × IsWrittenTurn (finished_in script o turn.actor) (waiting_of script o turn.actor) (MayHold script o turn.actor) turn.whats
 IsNextTurn script o None turn = IsPointedTurn script o turn
 
--- a pointed turn leaves the pointer behind its actor
+-- a pointed turn leaves the pointer after its actor
 abbrev pub pointer_after : (actors pointer : ℕ) → Option ℕ → ℕ → ℕ
 pointer_after actors pointer (Some written) a = pointer
 pointer_after actors pointer None a = behind actors a
@@ -163,7 +163,7 @@ ordered_after script o turn =
       turns = o.turns + 1;
     }
 
--- The turns are the next ones, each behind those before it, up to where none is left: the written turns are over,
+-- The turns are the next ones, each after those before it, up to where none is left: the written turns are over,
 -- and each actor has finished, or waits for its process or for a pin.
 abbrev pub AreInOrder : ScriptValue → Ordered → List Turn → Type 0
 AreInOrder script o [] =

@@ -78,7 +78,7 @@ birth_by false birth = born
 abbrev pub birth_for : (ℕ → Birth) → Doer → Birth
 birth_for birth who = birth_by who.thread (birth who.proc)
 
--- the operation of an actor behind those that it has answered
+-- the operation of an actor after those that it has answered
 abbrev pub present_op : ScriptValue → ℕ → Place → Option Op
 present_op script a place = slice_get (ops_of script a) place.answered
 

@@ -73,7 +73,7 @@ abbrev pub refusal_in : Answer → Answer
 refusal_in (answers.Short got wanted cause) = refusal_by_cause cause
 refusal_in answer = answer
 
--- how far the operation was where that was judged: a short pin at the page behind those that it got
+-- how far the operation was where that was judged: a short pin at the page after those that it got
 abbrev pub judged_far : (far : ℕ) → Answer → ℕ
 judged_far far (answers.Short got wanted cause) = got
 judged_far far answer = far
@@ -106,7 +106,7 @@ IsRightOf s who place op (Done answer) =
 IsRightOf s who place op Idle = Unit {0}
 IsRightOf s who place op (Wait waiting) = Unit {0}
 
--- behind its last operation an actor has neither events nor answers
+-- after its last operation an actor has neither events nor answers
 abbrev pub IsRightBehind : What → Type 0
 IsRightBehind Idle = Unit {0}
 IsRightBehind (Wait waiting) = Unit {0}

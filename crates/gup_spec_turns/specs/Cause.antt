@@ -59,7 +59,7 @@ abbrev pub NeedsForPin : CoreState → (p page : ℕ) → (write : Bool) → Typ
 NeedsForPin s p page true = NeedsForStore s p page
 NeedsForPin s p page false = IsSome (s.right p page) × NeedsOwn s (s.entry p page)
 
--- An operation needs a frame at its next turn: a load, a store and a pin for their page, a pin's being the one behind those
+-- An operation needs a frame at its next turn: a load, a store and a pin for their page, a pin's being the one after those
 -- that it has, and a fork for the page that it copies, where it has none for it yet.
 abbrev pub NeedsFor : CoreState → (a p far : ℕ) → Op → Type 0
 NeedsFor s a p far (Load page word) = NeedsForLoad s p page

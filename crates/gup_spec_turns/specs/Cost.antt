@@ -53,7 +53,7 @@ op_left s a (Transfer handle outward index slot n) far = n - far
 op_left s a (Fork child) far = fork_left (s.right child) (place_in s a)
 op_left s a op far = 1
 
--- of the operations behind those that are answered
+-- of the operations after those that are answered
 abbrev pub left_cost : CoreState → (a : ℕ) → List Op → (answered far : ℕ) → ℕ
 left_cost s a [] answered far = 0
 left_cost s a (op ∷ ops) zero far = op_left s a op far + sum_by op_cost ops
@@ -108,7 +108,7 @@ most_turns_of script op = 1
 abbrev pub IsAnswered : (place next : Place) → Type 0
 IsAnswered place next = next ≡ record { answered = place.answered + 1; far = 0; had = false }
 
--- it has one turn more behind it
+-- it has one turn more after it
 abbrev pub GoesOn : (place next : Place) → Type 0
 GoesOn place next = (next.answered ≡ place.answered) × (next.far ≡ place.far + 1)
 

@@ -20,7 +20,7 @@ abbrev pub first_behind : List ℕ → ℕ
 first_behind [] = 0
 first_behind (page ∷ done) = page + 1
 
--- the next page: the lowest mapped one behind those that are done
+-- the next page: the lowest mapped one after those that are done
 abbrev pub next_page : (right : ℕ → Option Rights) → (done : List ℕ) → Option ℕ
 next_page right done =
     lowest (first_behind done) (page_numbers - first_behind done) (λ page. is_some (right page))

@@ -18,7 +18,7 @@ use Rattle.gup_spec_turns.specs.CoreTurn.{CoreTurn, answers_with, free_frame, fr
 
 -- load
 
--- the load of a word behind these events, through the entry that the page has then
+-- the load of a word after these events, through the entry that the page has then
 abbrev pub loads_from : List CoreEvent → (a p page word f value : ℕ) → CoreTurn
 loads_from before a p page word f value =
     record {

@@ -36,7 +36,7 @@ abbrev pub pinned_if : (last : Bool) → (a handle n : ℕ) → List What
 pinned_if true a handle n = Event (events.PinOk a handle) ∷ Done (answers.Pinned n) ∷ []
 pinned_if false a handle n = []
 
--- behind these events the page is pinned by its entry
+-- after these events the page is pinned by its entry
 abbrev pub pins_behind : List CoreEvent → (a p handle page n : ℕ) → (write last : Bool) → Entry → CoreTurn
 pins_behind before a p handle page n write last e =
     record {

@@ -112,7 +112,7 @@ abbrev pub IsCoreRun : ScriptValue → List NoteValue → RunState → Type 0
 IsCoreRun script notes end =
     (turns : List Turn) × (notes ≡ journal_of 1 (λ _. first_place) turns) × Runs script (run_start script) turns end
 
--- the state behind turns of these actors
+-- the state after turns of these actors
 abbrev pub turned : ScriptValue → RunState → List ℕ → RunState
 turned script r [] = r
 turned script r (a ∷ actors) = turned script (run_after script r a) actors

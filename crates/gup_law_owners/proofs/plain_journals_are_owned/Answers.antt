@@ -15,7 +15,7 @@ front_possible s (e ∷ es) later possible = (possible.0, front_possible (happen
 possible_up_to : (s : PlainState) (events front later : List PlainEvent) → ArePossible s events → events ≡ front ++ later → ArePossible s front
 possible_up_to s events front later possible is = front_possible s front later (subst (ArePossible s) is possible)
 
--- the same events, cut behind the one that reads
+-- the same events, cut after the one that reads
 up_to_one : (events front : List PlainEvent) (e : PlainEvent) (later : List PlainEvent) → events ≡ front ++ e ∷ later → events ≡ front ++ e ∷ [] ++ later
 up_to_one events front e later is = rw append_assoc is
 

@@ -1,4 +1,4 @@
--- What stands behind the turns before says both of the next.
+-- What stands after the turns before says both of the next.
 use Rattle.std.proofs.Common.{List, ℕ}
 use Rattle.gup_script.specs.Script.{ScriptValue}
 use Rattle.gup_script.specs.Valid.{IsScript}

@@ -16,7 +16,7 @@ loop-note-init c =
           ∙ ap (λ (moved : ℕ → List ℕ). outcomes_from moved c.args.notes.now) (ap words_of none ∙ none_moved 81);
     }
 
--- what the note tells is behind the others
+-- what the note tells is after the others
 pub loop-note-preserved : goal.loop-note-preserved
 loop-note-preserved c =
     let actor : c.get.result ≡ c.note-item.result.actor = c.get.ensures.value ∙ c.actor.ensures in

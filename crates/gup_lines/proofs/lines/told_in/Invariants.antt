@@ -3,7 +3,7 @@ use Rattle.gup_lines.specs.Text.{outcomes_from, outcomes_of}
 use Rattle.gup_lines.proofs.Moved.{words_of}
 use Rattle.gup_lines.proofs.lines.told_in.Given as goal
 
--- those found so far, and behind them what the other notes tell, are all
+-- those found so far, and after them what the other notes tell, are all
 abbrev pub invariant-loop-note : goal.invariant-loop-note
 invariant-loop-note l = record {
   actors : length l.moved.items ≡ 81;

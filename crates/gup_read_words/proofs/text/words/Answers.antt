@@ -11,7 +11,7 @@ use Rattle.gup_read_words.proofs.text.words.Goals as goal
 abbrev texts : List (Bor (List ℕ)) → List (List ℕ)
 texts words = map (λ word. word.now) words
 
--- a vector that was empty has just what was put behind it
+-- a vector that was empty has just what was put after it
 texts_behind_none : (old new cut : List (Bor (List ℕ))) (all : List (List ℕ)) → old ≡ [] → new ≡ old ++ cut → texts cut ≡ all → texts new ≡ all
 texts_behind_none old new cut all empty behind e = ap texts (behind ∙ ap (λ (l : List (Bor (List ℕ))). l ++ cut) empty) ∙ e
 

@@ -14,7 +14,7 @@ returns-then-can_go-clause-next c =
     let goes : can_go script r c.loop-step.actor ≡ true = sym (c.can_go.ensures r shown) ∙ c.if-can_go.true in
     sym (c.loop-step.invariant.1 r shown ∙ pointed_here script r left c.loop-step.actor some goes)
 
--- it goes on behind this actor
+-- it goes on after this actor
 pub loop-step-preserved : goal.loop-step-preserved
 loop-step-preserved c = (
   λ some. c.behind-actor.ensures.below,

@@ -35,7 +35,7 @@ loop-actor-preserved c =
     let after = written_turn script valid costs c.loop-actor.machine c.take_turn.new.machine c.loop-actor.journal.notes taken.0 k r a there.0 there.1 c.in_ok-take_turn.ensures.script taken.2 w in
     (run_after script r a, subst (λ (ns : List NoteValue). IsWritten script c.take_turn.new.machine ns (k + 1) (run_after script r a)) (sym taken.1) after)
 
--- behind them
+-- after them
 
 -- all of them are over
 all_over : (items turns : List ℕ) (k : ℕ) → items ≡ turns → length items ≤ k → k ≤ length items → k ≡ length turns
