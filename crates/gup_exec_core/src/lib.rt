@@ -11,6 +11,3 @@ mod trial;
 
 pub use gup_exec_jobs::refused::Refused;
 pub use trial::Trial;
-
-#[cfg(test)]
-mod tests;

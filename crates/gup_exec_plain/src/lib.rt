@@ -13,6 +13,3 @@ mod refusal;
 pub use law::{last_write, pages_are_counted, runs_are_possible};
 pub use plain::Plain;
 pub use refusal::PlainRefusal;
-
-#[cfg(test)]
-mod tests;

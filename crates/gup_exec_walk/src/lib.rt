@@ -10,6 +10,3 @@ pub use ends::{
     drop_first, drop_grab, drop_last, enter_walk, leave_walk, read_again, read_sequence,
 };
 pub use pages::{grab_frame, miss_frame, read_entry, read_mark, recheck_other, recheck_same};
-
-#[cfg(test)]
-mod tests;

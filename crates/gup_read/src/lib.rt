@@ -11,6 +11,3 @@ mod turns;
 
 pub use law::{one_fault, one_script, script_or_fault, scripts_have_no_fault};
 pub use read::read_script;
-
-#[cfg(test)]
-mod tests;

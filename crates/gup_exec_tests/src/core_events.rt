@@ -1,4 +1,4 @@
-use super::*;
+use gup_exec_core::{Refused, Trial};
 use gup_base::{
     ActorNo, Allowed, Entry, FrameNo, HandleNo, MirrorNo, NoMemory, PageNo, ProcNo, Rights, WordNo,
     Zone,

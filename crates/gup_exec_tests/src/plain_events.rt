@@ -1,6 +1,6 @@
 ghost use Rattle.std.specs.Prelude.{◌<◌, ◌≤◌};
 
-use super::*;
+use gup_exec_plain::{Plain, PlainRefusal};
 use gup_base::{ActorNo, HandleNo, MirrorNo, NoMemory, PageNo, ProcNo, Rights, WordNo};
 use gup_plain::PlainEvent;
 use std::alloc::Global;
