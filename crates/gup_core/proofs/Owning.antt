@@ -17,8 +17,7 @@ use Rattle.gup_spec_events.specs.Fault.{Fault, events_of, fills, fills_writable,
 use Rattle.gup_spec_turns.specs.Turn.{op_turn}
 use Rattle.gup_spec_turns.specs.PageTurns.{load_fault, loads_after, store_fault_by, stores_after, map_turn_by, unmap_turn_by, lowers_entry, lowers, lowers_for, protect_turn_by, discard_turn_by, exit_turn_by, lowest_page}
 use Rattle.gup_spec_turns.specs.CoreTurn.{allows_store, free_frame}
-use Rattle.gup_spec_turns.specs.ForkPlace.{fork_place, place_in}
-use Rattle.gup_spec_turns.specs.Reached.{unbegun}
+use Rattle.gup_spec_turns.specs.ForkPlace.{fork_place, place_in, unbegun}
 use Rattle.gup_op_pages.specs.Alone.{IsAlone}
 
 -- an event of a turn of actor a over process p

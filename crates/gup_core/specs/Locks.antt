@@ -6,8 +6,7 @@ use Rattle.gup_plain.specs.Put.{lowest}
 use Rattle.gup_script.specs.declared.op.Op.{Op}
 use Rattle.gup_script.specs.declared.op.Op.TheVariants.{Fork}
 use Rattle.gup_spec_turns.specs.Waits.{Locks, both_locks, no_lock}
-use Rattle.gup_spec_turns.specs.ForkPlace.{ForkPlace}
-use Rattle.gup_spec_turns.specs.Reached.{unbegun, from_page}
+use Rattle.gup_spec_turns.specs.ForkPlace.{ForkPlace, unbegun, from_page}
 use Rattle.gup_core.specs.declared.locks.Locks.{Locks as KeptLocks}
 
 abbrev pub locks_of : KeptLocks → Locks

@@ -19,8 +19,7 @@ use Rattle.gup_law_base.specs.Sound.{Forking, forking_of}
 use Rattle.gup_spec_journal.specs.Place.{Place, Doer, birth_by, birth_for, place_behind}
 use Rattle.gup_spec_turns.specs.Cost.{mapped_by, fork_turns, fork_left, GoesOn, IsWithinBound}
 use Rattle.gup_spec_turns.specs.Pages.{mapped_pages, pages_from}
-use Rattle.gup_spec_turns.specs.ForkPlace.{ForkPlace, copying_place, fork_place, place_in, IsForking, StandsFork}
-use Rattle.gup_spec_turns.specs.Reached.{unbegun, from_page, at_page, wants_frame, at_word}
+use Rattle.gup_spec_turns.specs.ForkPlace.{ForkPlace, copying_place, fork_place, place_in, IsForking, StandsFork, unbegun, from_page, at_page, wants_frame, at_word}
 use Rattle.gup_spec_turns.specs.CoreTurn.{CoreTurn, answers_with, free_frame}
 use Rattle.gup_spec_turns.specs.ForkTurns.{first_behind, next_page, page_turn, next_turn, share_turn, frame_turn, copy_turn, copying_turn, fork_turn}
 use Rattle.gup_spec_turns.specs.Turn.{op_turn, turn_at, failed_turn, turn_of}

@@ -18,8 +18,7 @@ use Rattle.gup_law_base.specs.Sound.{Forking, forking_of}
 use Rattle.gup_spec_journal.specs.Place.{Place, Doer, doer, birth_for, place_behind, process_of, ops_of, ops_in}
 use Rattle.gup_spec_turns.specs.Cost.{fork_left, op_cost, op_left, left_cost, actor_cost, cost, operations, is_fork, forks, IsBoundedTurn, IsWithinBound}
 use Rattle.gup_spec_turns.specs.Pages.{sum_below, mapped_pages}
-use Rattle.gup_spec_turns.specs.ForkPlace.{ForkPlace, fork_place, place_in, IsForking, StandsFork, IsNoFork}
-use Rattle.gup_spec_turns.specs.Reached.{unbegun}
+use Rattle.gup_spec_turns.specs.ForkPlace.{ForkPlace, fork_place, place_in, IsForking, StandsFork, IsNoFork, unbegun}
 use Rattle.gup_law_turns.specs.Standing.{IsStanding, StandsHandle, given_back, back_in}
 use Rattle.gup_spec_turns.specs.Run.{RunState, run_start, run_after, op_in, waiting_in, waiting_with, core_turn_by, core_turn_in, is_ready, can_go}
 use Rattle.gup_spec_turns.specs.Waits.{waits_born}

@@ -17,8 +17,7 @@ use Rattle.gup_spec_events.specs.Event.{CoreEvent, run}
 use Rattle.gup_spec_journal.specs.Place.{Place, doer, present_op, process_of, ops_of, ops_in}
 use Rattle.gup_spec_turns.specs.Cost.{fork_turns, mapped_by, map_pages, most_turns_of, IsAnswered, IsWithinBound}
 use Rattle.gup_spec_turns.specs.Pages.{sum_below, mapped_pages}
-use Rattle.gup_spec_turns.specs.ForkPlace.{ForkPlace, place_in}
-use Rattle.gup_spec_turns.specs.Reached.{unbegun, from_page, at_page, wants_frame, at_word}
+use Rattle.gup_spec_turns.specs.ForkPlace.{ForkPlace, place_in, unbegun, from_page, at_page, wants_frame, at_word}
 use Rattle.gup_spec_turns.specs.Run.{turned, RunState, run_start, run_after, op_in, waiting_in, core_turn_in, is_ready}
 use Rattle.gup_law_turns.specs.Standing.{IsStanding}
 use Rattle.gup_law_turns.proofs.ScriptLemmas.{has_ops_declared, is_of_thread, thread_birth}

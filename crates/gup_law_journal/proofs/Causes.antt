@@ -24,8 +24,7 @@ use Rattle.gup_spec_events.specs.Fault.{Fault, fills, unshares, unshare_fault, r
 use Rattle.gup_spec_journal.specs.Follows.{refuses}
 use Rattle.gup_spec_journal.specs.Place.{Doer, doer, birth_for}
 use Rattle.gup_spec_turns.specs.Cause.{AreHeld, allowed_of, MayBeShared, NeedsOwn, NeedsWritable, NeedsForPin, NeedsFor, LacksFrame, LacksExactly}
-use Rattle.gup_spec_turns.specs.ForkPlace.{ForkPlace, copying_place, fork_place}
-use Rattle.gup_spec_turns.specs.Reached.{unbegun, from_page, at_page, wants_frame, at_word}
+use Rattle.gup_spec_turns.specs.ForkPlace.{ForkPlace, copying_place, fork_place, unbegun, from_page, at_page, wants_frame, at_word}
 use Rattle.gup_spec_turns.specs.Run.{RunState, op_in, waiting_in, waiting_with, core_turn_by, turn_in}
 use Rattle.gup_spec_turns.specs.CoreTurn.{CoreTurn, answers_with, free_frame, allows_store, silent_or_done}
 use Rattle.gup_spec_turns.specs.ForkTurns.{first_behind, next_page, page_turn, next_turn, frame_turn, copy_turn, copying_turn, fork_turn}

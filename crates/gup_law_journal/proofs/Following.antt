@@ -16,8 +16,7 @@ use Rattle.gup_script.specs.declared.op.Op.TheVariants.{Map, Unmap, Protect, Dis
 use Rattle.gup_spec_journal.specs.Follows.{Who, IsTurn, AreBehind, AreBefore, Then, IsRefused, TakesDown, TakesDownLast, TakesDownAll, TakesDownWhole, CopiesFrom, CopiesPage, ForksPages, EndsShort, PinsPages, Unpins, moves_word, MovesWords, Shape, Shapes, refuses, own_notes, notes_of_turn, is_of_operation}
 use Rattle.gup_spec_journal.specs.Order.{Moves}
 use Rattle.gup_spec_journal.specs.Place.{Place, Doer, place_behind}
-use Rattle.gup_spec_turns.specs.ForkPlace.{ForkPlace}
-use Rattle.gup_spec_turns.specs.Reached.{unbegun, from_page, at_page, wants_frame, at_word}
+use Rattle.gup_spec_turns.specs.ForkPlace.{ForkPlace, unbegun, from_page, at_page, wants_frame, at_word}
 use Rattle.gup_law_turns.proofs.Puts.{some_same}
 use Rattle.gup_law_turns.proofs.Shapes.{TurnOf, refused, mapped, protected, loaded, stored, gave, took_over, took, took_last, passed, passed_last, took_lowest, took_all, pinned_page, pinned_all, pinned_short, unpinned_page, unpinned_last, moved_word, moved_last, began, passed_page, counted_page, shared_page, ended, counted_copy, took_frame, copied_word, placed_copy, failed_fork, GoesOver, unmaps, discards, TurnAt, idles, waits, goes, unborn_refused, unborn_fork}
 use Rattle.gup_law_journal.proofs.Ordering.{op_moves, refusal_moves, failure_moves}

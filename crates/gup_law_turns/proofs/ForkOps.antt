@@ -17,8 +17,7 @@ use Rattle.gup_spec_events.specs.Event.{CoreEvent, MayPrepare, AreUnlocked, happ
 use Rattle.gup_spec_events.specs.Failure.{fails}
 use Rattle.gup_law_base.specs.Sound.{keeps_table}
 use Rattle.gup_spec_journal.specs.Place.{Place, Doer}
-use Rattle.gup_spec_turns.specs.ForkPlace.{ForkPlace, fork_place, place_in, IsForking, HasCounted, HasCopied, StandsFork, KeepsFrame}
-use Rattle.gup_spec_turns.specs.Reached.{unbegun, from_page, at_page, wants_frame, at_word}
+use Rattle.gup_spec_turns.specs.ForkPlace.{ForkPlace, fork_place, place_in, IsForking, HasCounted, HasCopied, StandsFork, KeepsFrame, unbegun, from_page, at_page, wants_frame, at_word}
 use Rattle.gup_spec_turns.specs.CoreTurn.{frame_in, allows_store, entry_in, free_frame}
 use Rattle.gup_spec_turns.specs.ForkTurns.{first_behind, next_page, page_turn, next_turn, share_turn, frame_turn, copy_turn, copying_turn, rights_in, fork_turn}
 use Rattle.gup_spec_turns.specs.Waits.{fork_locks, held_by_other, waits_for_lock, waits_for_locks, locks_needed}

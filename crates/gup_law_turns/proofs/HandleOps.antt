@@ -23,7 +23,7 @@ use Rattle.gup_spec_journal.specs.Follows.{refuses}
 use Rattle.gup_spec_journal.specs.Order.{is_given_to, taking_waits, handle_waits}
 use Rattle.gup_spec_journal.specs.Place.{Place, Doer}
 use Rattle.gup_spec_journal.specs.Plain.{IsAnswerOf, Passes}
-use Rattle.gup_spec_turns.specs.Reached.{unbegun}
+use Rattle.gup_spec_turns.specs.ForkPlace.{unbegun}
 use Rattle.gup_spec_turns.specs.CoreTurn.{answers_with}
 use Rattle.gup_spec_turns.specs.PinTurns.{last_of, but_last, unpinned, unpin_turn_by, unpin_turn, give_turn_by, give_turn, take_turn}
 use Rattle.gup_spec_turns.specs.DeviceTurns.{frame_at, moves_value, transfer_turn_by, transfer_turn}

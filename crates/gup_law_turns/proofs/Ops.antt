@@ -26,7 +26,7 @@ use Rattle.gup_spec_journal.specs.Denial.{op_denial}
 use Rattle.gup_spec_journal.specs.Place.{Place, Doer}
 use Rattle.gup_spec_journal.specs.Follows.{refuses}
 use Rattle.gup_spec_journal.specs.Plain.{IsAnswerOf, Passes}
-use Rattle.gup_spec_turns.specs.Reached.{unbegun}
+use Rattle.gup_spec_turns.specs.ForkPlace.{unbegun}
 use Rattle.gup_spec_turns.specs.CoreTurn.{CoreTurn, answers_with, free_frame, allows_store, frame_in, done_if, silent_or_done}
 use Rattle.gup_spec_turns.specs.PageTurns.{loads, loads_after, load_turn, stores, stores_after, store_fault_by, map_turn_by, unmap_turn_by, lowers_entry, lowers, lowers_for, protect_turn_by, discard_turn_by, lowest_page, exit_turn_by}
 use Rattle.gup_spec_turns.specs.Turn.{op_turn}

@@ -22,7 +22,7 @@ use Rattle.gup_law_events.specs.Law.{all_told}
 use Rattle.gup_spec_journal.specs.Follows.{refuses, EndsPin}
 use Rattle.gup_spec_journal.specs.Place.{Place, Doer}
 use Rattle.gup_spec_journal.specs.Plain.{IsAnswerOf, refusal_by_cause}
-use Rattle.gup_spec_turns.specs.Reached.{unbegun}
+use Rattle.gup_spec_turns.specs.ForkPlace.{unbegun}
 use Rattle.gup_spec_turns.specs.PinPlace.{HasTaken, IsTakenPage, StandsPin}
 use Rattle.gup_law_turns.specs.Standing.{StandsHandle}
 use Rattle.gup_spec_turns.specs.CoreTurn.{entry_in}

@@ -22,8 +22,7 @@ use Rattle.gup_spec_journal.specs.Denial.{op_denial}
 use Rattle.gup_spec_journal.specs.Place.{Place, Doer, birth_for}
 use Rattle.gup_spec_journal.specs.Plain.{IsAnswerOf, Passes, refusal_by_cause}
 use Rattle.gup_spec_journal.specs.Follows.{refuses, EndsPin, moves_word}
-use Rattle.gup_spec_turns.specs.ForkPlace.{ForkPlace, KeepsFrame, StandsFork}
-use Rattle.gup_spec_turns.specs.Reached.{unbegun, from_page, at_page, wants_frame, at_word}
+use Rattle.gup_spec_turns.specs.ForkPlace.{ForkPlace, KeepsFrame, StandsFork, unbegun, from_page, at_page, wants_frame, at_word}
 use Rattle.gup_spec_turns.specs.PinPlace.{StandsPin}
 use Rattle.gup_spec_turns.specs.CoreTurn.{CoreTurn}
 use Rattle.gup_law_turns.proofs.Through.{events_of}

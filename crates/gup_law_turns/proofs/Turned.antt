@@ -16,8 +16,7 @@ use Rattle.gup_spec_events.specs.Invariant.{AllCan}
 use Rattle.gup_law_base.specs.Sound.{IsSound, keeps_table, keeps_structure}
 use Rattle.gup_law_events.specs.Law.{with_told, all_told}
 use Rattle.gup_spec_journal.specs.Place.{Place, Doer, place_after}
-use Rattle.gup_spec_turns.specs.ForkPlace.{ForkPlace, fork_place, place_in}
-use Rattle.gup_spec_turns.specs.Reached.{unbegun}
+use Rattle.gup_spec_turns.specs.ForkPlace.{ForkPlace, fork_place, place_in, unbegun}
 use Rattle.gup_law_turns.specs.Standing.{StandsHandle}
 use Rattle.gup_spec_turns.specs.CoreTurn.{CoreTurn}
 use Rattle.gup_spec_turns.specs.Waits.{held_by_other, waits_for_locks, first_waiting, both_locks, waits_at}

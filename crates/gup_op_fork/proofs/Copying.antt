@@ -23,8 +23,7 @@ use Rattle.gup_spec_events.specs.Failure.{are_gone, fails, puts_entry, puts_entr
 use Rattle.gup_spec_events.proofs.Gone.{no_puts}
 use Rattle.gup_spec_turns.specs.ForkTurns.{fork_turn, frame_turn, copy_turn, copying_turn, rights_in}
 use Rattle.gup_spec_turns.specs.CoreTurn.{entry_in}
-use Rattle.gup_spec_turns.specs.Reached.{unbegun, from_page, wants_frame, at_word}
-use Rattle.gup_spec_turns.specs.ForkPlace.{copying_place, fork_place, StandsFork}
+use Rattle.gup_spec_turns.specs.ForkPlace.{unbegun, from_page, wants_frame, at_word, copying_place, fork_place, StandsFork}
 use Rattle.gup_op_fork.specs.Forked.{IsForkTurn}
 use Rattle.gup_op_base.proofs.Leading.{run_behind}
 use Rattle.gup_op_base.proofs.Searching.{free_agrees}

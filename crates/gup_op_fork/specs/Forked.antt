@@ -14,8 +14,7 @@ use Rattle.gup_spec_events.specs.State.{CoreState}
 use Rattle.gup_spec_events.specs.Event.{run}
 use Rattle.gup_spec_turns.specs.CoreTurn.{CoreTurn}
 use Rattle.gup_spec_turns.specs.ForkTurns.{fork_turn}
-use Rattle.gup_spec_turns.specs.ForkPlace.{ForkPlace, place_in, KeepsFrame, StandsFork}
-use Rattle.gup_spec_turns.specs.Reached.{unbegun, from_page, at_page, wants_frame, at_word}
+use Rattle.gup_spec_turns.specs.ForkPlace.{ForkPlace, place_in, KeepsFrame, StandsFork, unbegun, from_page, at_page, wants_frame, at_word}
 use Rattle.gup_op_fork.specs.declared.forks.ForkPlace.{ForkPlace as KeptPlace}
 use Rattle.gup_op_fork.specs.declared.forks.ForkPlace.TheVariants.{Unbegun, From, At, Wanting, Copying}
 

@@ -8,7 +8,7 @@ ghost use Rattle.gup_frames.specs.Frames.{FrameLists, frames_of, free_frame};
 ghost use Rattle.gup_space.specs.Space.{SpaceParts, space_of, AreMapped};
 ghost use Rattle.gup_space.specs.Counted.{AreCounted};
 ghost use Rattle.gup_fork.specs.Forks.{fork_change_of};
-ghost use Rattle.gup_spec_turns.specs.Reached.{unbegun, from_page, at_page, wants_frame, at_word};
+ghost use Rattle.gup_spec_turns.specs.ForkPlace.{unbegun, from_page, at_page, wants_frame, at_word};
 ghost use Rattle.gup_op_base.specs.Tidy.{IsTidy};
 ghost use Rattle.gup_op_base.specs.Said.{whats_of};
 ghost use Rattle.gup_op_fork.specs.Forked.{place_of, IsCountedIn, IsCopyOf, IsReadyAt, IsForkTurn};

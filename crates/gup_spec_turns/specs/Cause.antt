@@ -22,8 +22,7 @@ use Rattle.gup_spec_events.specs.State.{CoreState}
 use Rattle.gup_spec_events.specs.Event.{IsAllowed}
 use Rattle.gup_spec_journal.specs.Order.{Turn}
 use Rattle.gup_spec_journal.specs.Place.{doer, birth_for, process_of, has_finished}
-use Rattle.gup_spec_turns.specs.Reached.{wants_frame}
-use Rattle.gup_spec_turns.specs.ForkPlace.{place_in}
+use Rattle.gup_spec_turns.specs.ForkPlace.{wants_frame, place_in}
 use Rattle.gup_spec_turns.specs.Run.{RunState, op_in, waiting_in}
 
 -- each frame of these zones has a reference

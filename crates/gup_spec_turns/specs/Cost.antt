@@ -12,8 +12,7 @@ use Rattle.gup_spec_journal.specs.Place.{Place, ops_of, process_of}
 use Rattle.gup_spec_events.specs.State.{CoreState}
 use Rattle.gup_spec_turns.specs.Pages.{sum_below, mapped_pages, pages_from}
 use Rattle.gup_spec_turns.specs.Run.{RunState, run_after}
-use Rattle.gup_spec_turns.specs.ForkPlace.{ForkPlace, place_in}
-use Rattle.gup_spec_turns.specs.Reached.{unbegun, from_page, at_page, wants_frame, at_word}
+use Rattle.gup_spec_turns.specs.ForkPlace.{ForkPlace, place_in, unbegun, from_page, at_page, wants_frame, at_word}
 
 -- the turns that a fork has at most still to take: 515 a page of the child that is copied, and its end
 abbrev pub fork_turns : (right : ℕ → Option Rights) → ForkPlace → ℕ
