@@ -15,9 +15,9 @@ pub struct Names {
 
 impl Model for Names {
     ghost use Rattle.std.specs.Prelude.{List};
-    ghost use Rattle.gup_spec_grammar.specs.Names.{Entry};
+    ghost use Rattle.gup_spec_grammar.specs.Names.{NamedEntry};
 
-    ghost Value = { List Entry };
+    ghost Value = { List NamedEntry };
 
     ghost use Rattle.gup_read_names.specs.Views.{entries_of};
 
