@@ -14,9 +14,9 @@ use Rattle.gup_script.specs.declared.op.Op.TheVariants.{Map, Unmap, Protect, Dis
 use Rattle.gup_spec_events.specs.State.{CoreState, Job, idle, marking, moving, forking, walking, ForkStep, between, counted, lowered, cleared, copying, failing}
 use Rattle.gup_spec_events.specs.Fault.{Fault}
 use Rattle.gup_spec_turns.specs.Turn.{op_turn, failed_turn, turn_at}
-use Rattle.gup_spec_turns.specs.PageTurns.{load_fault, loads_after, store_fault, stores_after, map_turn_by, unmap_turn_by, protect_turn_by, discard_turn_by, exit_turn_by, lowest_page}
-use Rattle.gup_spec_turns.specs.PinTurns.{pin_fault, pinned_if, ends_pin, pin_turn_by, but_last, unpinned, unpin_turn_by, give_turn_by}
-use Rattle.gup_spec_turns.specs.DeviceTurns.{transfer_turn_by}
+use Rattle.gup_spec_turns.specs.PageTurns.{load_fault, store_fault, exit_turn_by, lowest_page}
+use Rattle.gup_spec_turns.proofs.TurnParts.{loads_after, stores_after, map_turn_by, unmap_turn_by, protect_turn_by, discard_turn_by, unpin_turn_by, give_turn_by, transfer_turn_by}
+use Rattle.gup_spec_turns.specs.PinTurns.{pin_fault, pinned_if, ends_pin, pin_turn_by, but_last, unpinned}
 use Rattle.gup_spec_turns.specs.ForkTurns.{page_turn, next_page, next_turn, frame_turn, copy_turn, copying_turn, fork_step_turn, fork_turn}
 use Rattle.gup_spec_turns.specs.CoreTurn.{free_frame}
 

@@ -15,7 +15,8 @@ use Rattle.gup_spec_events.specs.State.{CoreState, Taken as TakenPage, Job, idle
 use Rattle.gup_spec_events.specs.Event.{CoreEvent, happens, take_frame, fill, count_one, set_mark, upgrade, break_entry, put_entry, drop_entry, discard_entry, map_pages, lower_entry, protect_pages, load, store, run}
 use Rattle.gup_spec_events.specs.Fault.{Fault, events_of, fills, fills_writable, breaks, marks, read_fault, makes_writable, write_fault, gives_back}
 use Rattle.gup_spec_turns.specs.Turn.{op_turn}
-use Rattle.gup_spec_turns.specs.PageTurns.{load_fault, loads_after, store_fault_by, stores_after, map_turn_by, unmap_turn_by, lowers_entry, lowers, lowers_for, protect_turn_by, discard_turn_by, exit_turn_by, lowest_page}
+use Rattle.gup_spec_turns.specs.PageTurns.{load_fault, lowers_entry, lowers, lowers_for, exit_turn_by, lowest_page}
+use Rattle.gup_spec_turns.proofs.TurnParts.{loads_after, store_fault_by, stores_after, map_turn_by, unmap_turn_by, protect_turn_by, discard_turn_by}
 use Rattle.gup_spec_turns.specs.CoreTurn.{allows_store, free_frame}
 use Rattle.gup_spec_turns.specs.ForkPlace.{fork_place, place_in, unbegun}
 use Rattle.gup_op_pages.specs.Alone.{IsAlone}

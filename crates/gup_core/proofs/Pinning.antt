@@ -12,8 +12,9 @@ use Rattle.gup_spec_events.specs.State.{CoreState, Taken as TakenPage, Job}
 use Rattle.gup_spec_events.specs.Event.{CoreEvent, happens, raise_flag, pin_page, make_handle, unpin_page, give_handle, take_handle, move_out, move_in, run}
 use Rattle.gup_spec_events.specs.Fault.{Fault, events_of, unshare_fault, unshares, marks, breaks}
 use Rattle.gup_spec_turns.specs.CoreTurn.{free_frame}
-use Rattle.gup_spec_turns.specs.PinTurns.{raises, pin_fault, makes_if, ends_pin, pin_turn_by, pin_turn, last_of, but_last, unpin_turn_by, unpin_turn, give_turn_by, give_turn, take_turn}
-use Rattle.gup_spec_turns.specs.DeviceTurns.{moves, moves_value, transfer_turn_by, transfer_turn, frame_at}
+use Rattle.gup_spec_turns.specs.PinTurns.{raises, pin_fault, makes_if, ends_pin, pin_turn_by, pin_turn, last_of, but_last, unpin_turn, give_turn, take_turn}
+use Rattle.gup_spec_turns.proofs.TurnParts.{unpin_turn_by, give_turn_by, transfer_turn_by}
+use Rattle.gup_spec_turns.specs.DeviceTurns.{moves, moves_value, transfer_turn, frame_at}
 use Rattle.gup_spec_turns.specs.ForkPlace.{fork_place, place_in}
 use Rattle.gup_core.proofs.Owning.{IsOwn, AreOwn, AreAll, through, two_lists, is_of, counts, marks_it, fills_own, breaks_own, write_fault_own, birth_stays, IsUnforked, job_stays, fork_stays, Pins, own_leaves_pins}
 

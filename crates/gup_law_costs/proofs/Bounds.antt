@@ -24,7 +24,8 @@ use Rattle.gup_spec_journal.specs.Place.{Place, place_behind}
 use Rattle.gup_spec_turns.specs.Cost.{mapped_by, op_left, IsAnswered, IsWithinBound}
 use Rattle.gup_spec_turns.specs.Pages.{mapped_pages}
 use Rattle.gup_spec_turns.specs.CoreTurn.{CoreTurn, answers_with, free_frame, done_if, silent_or_done}
-use Rattle.gup_spec_turns.specs.PageTurns.{loads_after, load_turn, stores_after, store_fault_by, map_turn_by, unmap_turn_by, lowers_entry, lowers, lowers_for, protect_turn_by, discard_turn_by, lowest_page, exit_turn_by}
+use Rattle.gup_spec_turns.proofs.TurnParts.{loads_after, stores_after, store_fault_by, map_turn_by, unmap_turn_by, protect_turn_by, discard_turn_by}
+use Rattle.gup_spec_turns.specs.PageTurns.{load_turn, lowers_entry, lowers, lowers_for, lowest_page, exit_turn_by}
 use Rattle.gup_law_turns.proofs.Mapped.{mapped_spread, mapped_same, mapped_put, mapped_lost}
 use Rattle.gup_law_turns.proofs.Puts.{put_same, put_other}
 use Rattle.gup_law_turns.proofs.Searches.{lowest_some, undenied_protect}

@@ -20,8 +20,9 @@ use Rattle.gup_spec_journal.specs.Place.{Place, place_behind}
 use Rattle.gup_spec_turns.specs.Cost.{IsWithinBound}
 use Rattle.gup_spec_turns.specs.CoreTurn.{CoreTurn, answers_with, free_frame, allows_store, entry_in}
 use Rattle.gup_spec_turns.specs.PageTurns.{lowest_page}
-use Rattle.gup_spec_turns.specs.PinTurns.{raises, pin_fault, makes_if, pins_behind, ends_pin, pin_turn_by, but_last, unpinned, unpin_turn_by, give_turn_by, take_turn}
-use Rattle.gup_spec_turns.specs.DeviceTurns.{frame_at, moves_from, transfer_turn_by}
+use Rattle.gup_spec_turns.specs.PinTurns.{raises, pin_fault, makes_if, pins_behind, ends_pin, pin_turn_by, but_last, unpinned, take_turn}
+use Rattle.gup_spec_turns.proofs.TurnParts.{unpin_turn_by, give_turn_by, transfer_turn_by}
+use Rattle.gup_spec_turns.specs.DeviceTurns.{frame_at, moves_from}
 use Rattle.gup_spec_turns.specs.Turn.{op_turn}
 use Rattle.gup_law_costs.proofs.Bounds.{StandsShort, KeepsJobs, IsMoved, same_prepared, used_prepared, same_jobs, keeping, still, goes_less, load_moved, store_moved, map_moved, protect_moved, unmap_moved, discard_moved, exit_moved}
 use Rattle.gup_law_turns.proofs.Puts.{put_same, put_other}

@@ -29,10 +29,10 @@ use Rattle.gup_spec_turns.specs.Run.{RunState, op_in, waiting_in, waiting_with, 
 use Rattle.gup_spec_turns.specs.CoreTurn.{CoreTurn, answers_with, free_frame, allows_store, silent_or_done}
 use Rattle.gup_spec_turns.specs.ForkTurns.{first_behind, next_page, page_turn, next_turn, frame_turn, copy_turn, copying_turn, fork_turn}
 use Rattle.gup_spec_turns.specs.Waits.{waits_born}
-use Rattle.gup_spec_turns.specs.PageTurns.{loads_after, load_turn, stores_after, store_fault_by, store_turn, map_turn_by, unmap_turn_by, protect_turn_by, discard_turn_by, lowest_page, exit_turn_by}
+use Rattle.gup_spec_turns.proofs.TurnParts.{loads_after, stores_after, store_fault_by, map_turn_by, unmap_turn_by, protect_turn_by, discard_turn_by, unpin_turn_by, give_turn_by, transfer_turn_by}
+use Rattle.gup_spec_turns.specs.PageTurns.{load_turn, store_turn, lowest_page, exit_turn_by}
 use Rattle.gup_spec_turns.specs.Turn.{op_turn, failed_turn, turn_at}
-use Rattle.gup_spec_turns.specs.PinTurns.{pin_fault, pinned_if, cause_of, ends_pin, pin_turn_by, but_last, unpinned, unpin_turn_by, give_turn_by}
-use Rattle.gup_spec_turns.specs.DeviceTurns.{transfer_turn_by}
+use Rattle.gup_spec_turns.specs.PinTurns.{pin_fault, pinned_if, cause_of, ends_pin, pin_turn_by, but_last, unpinned}
 use Rattle.gup_law_turns.proofs.Puts.{some_same}
 use Rattle.gup_law_turns.proofs.Rightness.{unrefused_short, not_both}
 use Rattle.gup_law_turns.proofs.Turned.{waits_no_birth}

@@ -16,8 +16,9 @@ use Rattle.gup_spec_turns.specs.ForkPlace.{ForkPlace}
 use Rattle.gup_spec_turns.specs.Run.{core_turn_by}
 use Rattle.gup_spec_turns.specs.CoreTurn.{CoreTurn}
 use Rattle.gup_spec_turns.specs.Turn.{turn_at, failed_turn, op_turn}
-use Rattle.gup_spec_turns.specs.PinTurns.{unpin_turn, unpin_turn_by, last_of, but_last, give_turn, give_turn_by, take_turn}
-use Rattle.gup_spec_turns.specs.DeviceTurns.{transfer_turn, transfer_turn_by, word_turn, frame_at, moves_value}
+use Rattle.gup_spec_turns.specs.PinTurns.{unpin_turn, last_of, but_last, give_turn, take_turn}
+use Rattle.gup_spec_turns.proofs.TurnParts.{unpin_turn_by, give_turn_by, transfer_turn_by}
+use Rattle.gup_spec_turns.specs.DeviceTurns.{transfer_turn, word_turn, frame_at, moves_value}
 use Rattle.gup_law_turns.proofs.Calm.{AreHandleEvents, unpinning, giving, taking_over, moving_out, moving_in}
 use Rattle.gup_law_turns.proofs.Places.{IsBehind, goes_on, is_over, IsBehindTurn, stays_there, goes_by, op_behind}
 use Rattle.gup_law_turns.proofs.Scripts.{fresh_place}

@@ -28,7 +28,8 @@ use Rattle.gup_spec_journal.specs.Follows.{refuses}
 use Rattle.gup_spec_journal.specs.Plain.{IsAnswerOf, Passes}
 use Rattle.gup_spec_turns.specs.ForkPlace.{unbegun}
 use Rattle.gup_spec_turns.specs.CoreTurn.{CoreTurn, answers_with, free_frame, allows_store, frame_in, done_if, silent_or_done}
-use Rattle.gup_spec_turns.specs.PageTurns.{loads, loads_after, load_turn, stores, stores_after, store_fault_by, map_turn_by, unmap_turn_by, lowers_entry, lowers, lowers_for, protect_turn_by, discard_turn_by, lowest_page, exit_turn_by}
+use Rattle.gup_spec_turns.specs.PageTurns.{loads, load_turn, stores, lowers_entry, lowers, lowers_for, lowest_page, exit_turn_by}
+use Rattle.gup_spec_turns.proofs.TurnParts.{loads_after, stores_after, store_fault_by, map_turn_by, unmap_turn_by, protect_turn_by, discard_turn_by}
 use Rattle.gup_spec_turns.specs.Turn.{op_turn}
 use Rattle.gup_spec_turns.specs.Waits.{waits_for_locks, locks_needed, both_if}
 use Rattle.gup_law_turns.proofs.Calm.{Strand, of_pages, AreTurnEvents, putting, mapping, lowering, protecting, dropping, discarding, loading, storing}

@@ -21,7 +21,8 @@ use Rattle.gup_law_turns.specs.Standing.{StandsHandle, given_back}
 use Rattle.gup_spec_turns.specs.Run.{core_turn_by}
 use Rattle.gup_spec_turns.specs.CoreTurn.{CoreTurn}
 use Rattle.gup_spec_turns.specs.Turn.{turn_at, failed_turn, op_turn}
-use Rattle.gup_spec_turns.specs.PinTurns.{unpin_turn, unpin_turn_by, unpinned, last_of, but_last}
+use Rattle.gup_spec_turns.specs.PinTurns.{unpin_turn, unpinned, last_of, but_last}
+use Rattle.gup_spec_turns.proofs.TurnParts.{unpin_turn_by}
 use Rattle.gup_law_turns.proofs.Calm.{of_pages, of_pin, of_handle}
 use Rattle.gup_law_turns.proofs.Leaving.{same_or_apart, KeepsPin, leaves_pins}
 use Rattle.gup_law_turns.proofs.Places.{IsBehindTurn, stays_there, goes_by, goes_on, is_over, turn_behind}

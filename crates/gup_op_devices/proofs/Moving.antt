@@ -19,7 +19,8 @@ use Rattle.gup_handles.specs.Handles.{HandleValue, HandlesValue, unmade, held, g
 use Rattle.gup_spec_events.specs.State.{CoreState}
 use Rattle.gup_spec_events.specs.Event.{happens, move_out, move_in}
 use Rattle.gup_spec_journal.specs.Follows.{moves_word}
-use Rattle.gup_spec_turns.specs.DeviceTurns.{frame_at, moves_value, moves_from, moved_if, word_turn, transfer_turn, transfer_turn_by}
+use Rattle.gup_spec_turns.specs.DeviceTurns.{frame_at, moves_value, moves_from, moved_if, word_turn, transfer_turn}
+use Rattle.gup_spec_turns.proofs.TurnParts.{transfer_turn_by}
 use Rattle.gup_op_base.specs.declared.said.Said.{Said}
 use Rattle.gup_op_base.specs.Said.{whats_of}
 use Rattle.gup_op_pins.specs.Pins.{IsPin, ShowsPins, IsWeighed, frames_in}

@@ -17,7 +17,8 @@ use Rattle.gup_spec_events.specs.State.{CoreState}
 use Rattle.gup_spec_events.specs.Event.{CoreEvent, happens, upgrade, load, store, run}
 use Rattle.gup_spec_events.specs.Fault.{Fault, events_of, refusal_of, read_fault, write_fault, makes_writable, breaks, fills, fills_writable, marks}
 use Rattle.gup_fault.specs.Faults.{HasEntry, IsWritable, page_word, IsFault}
-use Rattle.gup_spec_turns.specs.PageTurns.{load_turn, load_fault, loads_after, loads_in, store_turn, store_fault, store_fault_by, stores_after, stores_to}
+use Rattle.gup_spec_turns.specs.PageTurns.{load_turn, load_fault, loads_in, store_turn, store_fault, stores_to}
+use Rattle.gup_spec_turns.proofs.TurnParts.{loads_after, store_fault_by, stores_after}
 use Rattle.gup_spec_turns.specs.CoreTurn.{allows_store, frame_in, free_frame as free_in_state}
 use Rattle.gup_op_base.specs.Said.{Leads, IsTurnOf, whats_of, loaded_said, stored_said}
 use Rattle.gup_op_base.specs.Tidy.{IsTidy}

@@ -20,7 +20,8 @@ use Rattle.gup_space.specs.Shows.{ShowsFrames, ShowsSpace}
 use Rattle.gup_space.proofs.ShowsLemmas.{shows_frames, shows_space, shown_as}
 use Rattle.gup_spec_events.specs.State.{CoreState}
 use Rattle.gup_spec_events.specs.Event.{CoreEvent, happens, entry_of, map_pages, lower_entry, protect_pages, run}
-use Rattle.gup_spec_turns.specs.PageTurns.{map_turn, map_turn_by, lowers_entry, lowers, protect_turn, protect_turn_by}
+use Rattle.gup_spec_turns.specs.PageTurns.{map_turn, lowers_entry, lowers, protect_turn}
+use Rattle.gup_spec_turns.proofs.TurnParts.{map_turn_by, protect_turn_by}
 use Rattle.gup_op_pages.specs.Lowered.{read_only, lowered, IsLowered, IsLoweredFor}
 use Rattle.gup_op_base.specs.Said.{Leads, IsTurnOf}
 use Rattle.gup_op_base.proofs.Leading.{ch, leads_alike, run_behind}

@@ -15,7 +15,8 @@ use Rattle.gup_space.proofs.ShowsLemmas.{events_lead}
 use Rattle.gup_spec_events.specs.State.{CoreState}
 use Rattle.gup_spec_events.specs.Event.{run}
 use Rattle.gup_spec_events.specs.Fault.{takes_down, discards}
-use Rattle.gup_spec_turns.specs.PageTurns.{unmap_turn, unmap_turn_by, discard_turn, discard_turn_by, exit_turn, exit_turn_by, lowest_page}
+use Rattle.gup_spec_turns.specs.PageTurns.{unmap_turn, discard_turn, exit_turn, exit_turn_by, lowest_page}
+use Rattle.gup_spec_turns.proofs.TurnParts.{unmap_turn_by, discard_turn_by}
 use Rattle.gup_op_base.specs.Said.{Leads, IsTurnOf, whats_of, passed_said}
 use Rattle.gup_op_base.proofs.Leading.{ch, leads_alike, answers as answers_so}
 use Rattle.gup_op_base.proofs.Searching.{lowest_same}

@@ -18,7 +18,8 @@ use Rattle.gup_handles.specs.Handles.{HandleValue, HandlesValue, unmade, held, g
 use Rattle.gup_spec_events.specs.State.{CoreState}
 use Rattle.gup_spec_events.specs.Event.{happens, unpin_page, give_handle, take_handle}
 use Rattle.gup_spec_turns.specs.CoreTurn.{CoreTurn}
-use Rattle.gup_spec_turns.specs.PinTurns.{last_of, unpinned, unpin_turn, unpin_turn_by, give_turn, give_turn_by, take_turn}
+use Rattle.gup_spec_turns.specs.PinTurns.{last_of, unpinned, unpin_turn, give_turn, take_turn}
+use Rattle.gup_spec_turns.proofs.TurnParts.{unpin_turn_by, give_turn_by}
 use Rattle.gup_op_pins.specs.Pins.{IsPin, ShowsPins, IsWeighed}
 use Rattle.gup_op_pins.specs.Held.{HandleChange, LeadsHandle, IsHandleTurn, unpin_said, done_said}
 

@@ -1,13 +1,15 @@
 -- What a turn is: core events and notes, and what turns of several operations have in common.
-use Rattle.std.specs.Prelude.{ℕ, ◌+◌, ◌==◌, Bool, true, false, List, [], ◌∷◌, Option, Some, None}
+use Rattle.std.specs.Prelude.{ℕ, ◌+◌, ◌==◌, Bool, true, false, List, [], ◌∷◌, Option, Some, None, Ok, Err}
 use Rattle.gup_base.specs.declared.entry.Entry.{Entry}
 use Rattle.gup_plain.specs.Put.{lowest}
 use Rattle.gup_plain.specs.declared.answer.Answer.{Answer}
 use Rattle.gup_plain.specs.declared.answer.Answer.TheVariants as answers
 use Rattle.gup_plain.specs.declared.note.What.{What}
-use Rattle.gup_plain.specs.declared.note.What.TheVariants.{Silent, Done}
+use Rattle.gup_plain.specs.declared.note.What.TheVariants.{Silent, Done, Event}
 use Rattle.gup_spec_events.specs.State.{CoreState}
 use Rattle.gup_spec_events.specs.Event.{CoreEvent}
+use Rattle.gup_plain.specs.declared.event.PlainEvent.{PlainEvent}
+use Rattle.gup_spec_events.specs.Fault.{Fault}
 
 -- a turn: its core events in order, and its notes
 pub record CoreTurn : Type 0 where
@@ -18,12 +20,26 @@ pub record CoreTurn : Type 0 where
 abbrev pub answers_with : Answer → CoreTurn
 answers_with answer = record { events = []; whats = Done answer ∷ [] }
 
+-- these events, the last of which is this plain event, end the operation with this answer
+abbrev pub ends_with : List CoreEvent → PlainEvent → Answer → CoreTurn
+ends_with events event answer = record { events = events; whats = Event event ∷ Done answer ∷ [] }
+
+-- the turn, or what denies the operation
+abbrev pub denied_or : (denied : Option Answer) → CoreTurn → CoreTurn
+denied_or (Some denied) turn = answers_with denied
+denied_or None turn = turn
+
+-- the turn after the events of a fault, or what the fault is refused with
+abbrev pub after_fault : Fault → (List CoreEvent → CoreTurn) → CoreTurn
+after_fault (Err answer) turn = answers_with answer
+after_fault (Ok before) turn = turn before
+
 -- The frame that a fault takes: the lowest free one of the movable zone, else the lowest free one of the normal
 -- zone. The movable frames have the lower numbers.
 abbrev pub free_frame : CoreState → Option ℕ
 free_frame s = lowest 0 (s.movable + s.normal) (λ f. s.count f == 0)
 
--- the entry that the page has, seen as a frame and whether it may be written
+-- the frame of an entry
 abbrev pub frame_in : Option Entry → ℕ
 frame_in None = 0
 frame_in (Some e) = e.frame
@@ -32,8 +48,6 @@ frame_in (Some e) = e.frame
 abbrev pub allows_store : Option Entry → Bool
 allows_store None = false
 allows_store (Some e) = e.writable
-
--- unmap: one page a turn
 
 -- the last page's turn has the answer too
 abbrev pub done_if : (last : Bool) → List What

@@ -1,7 +1,6 @@
 -- The turns of a device's transfer: one word a turn.
-use Rattle.std.specs.Prelude.{ℕ, ◌+◌, ◌/◌, ◌%◌, ◌==◌, Bool, true, false, List, [], ◌∷◌, slice_index, Option, Some, None}
+use Rattle.std.specs.Prelude.{ℕ, ◌+◌, ◌/◌, ◌%◌, ◌==◌, Bool, true, false, List, [], ◌∷◌, slice_index}
 use Rattle.gup_plain.specs.Event.{words}
-use Rattle.gup_plain.specs.declared.answer.Answer.{Answer}
 use Rattle.gup_plain.specs.declared.answer.Answer.TheVariants as answers
 use Rattle.gup_plain.specs.declared.note.What.{What}
 use Rattle.gup_plain.specs.declared.note.What.TheVariants.{Event, Done}
@@ -9,9 +8,7 @@ use Rattle.gup_spec_events.specs.State.{CoreState}
 use Rattle.gup_spec_events.specs.Event.{CoreEvent, store, move_out, move_in}
 use Rattle.gup_plain.specs.Denial.{transfer_denial}
 use Rattle.gup_spec_journal.specs.Follows.{moves_word}
-use Rattle.gup_spec_turns.specs.CoreTurn.{CoreTurn, answers_with}
-
--- transfer: one word a turn
+use Rattle.gup_spec_turns.specs.CoreTurn.{CoreTurn, denied_or}
 
 -- the frame of the page that has this word of a pin
 abbrev pub frame_at : (pinned : List ℕ) → (index : ℕ) → ℕ
@@ -40,13 +37,8 @@ abbrev pub moves_from : CoreState → (a handle : ℕ) → (outward last : Bool)
 moves_from s a handle outward last index slot f =
     word_turn a handle outward last index slot f (moves_value s a outward index slot f)
 
-abbrev pub transfer_turn_by : Option Answer → CoreState → (a handle : ℕ) → (outward last : Bool) → (index slot : ℕ) → CoreTurn
-transfer_turn_by (Some denied) s a handle outward last index slot = answers_with denied
-transfer_turn_by None s a handle outward last index slot =
-    moves_from s a handle outward last index slot (frame_at (s.pinned handle) index)
-
 -- it is refused as a whole, before its first word moves; nothing that refuses it comes later
 abbrev pub transfer_turn : CoreState → (a slots handle : ℕ) → (outward : Bool) → (index slot n far : ℕ) → CoreTurn
 transfer_turn s a slots handle outward index slot n far =
-    transfer_turn_by (transfer_denial (s.handle handle) a outward slots slot ((index, n) ∷ [])) s a handle outward
-    (far + 1 == n) (index + far) (slot + far)
+    denied_or (transfer_denial (s.handle handle) a outward slots slot ((index, n) ∷ []))
+    (moves_from s a handle outward (far + 1 == n) (index + far) (slot + far) (frame_at (s.pinned handle) (index + far)))

@@ -12,8 +12,8 @@ use Rattle.gup_script.specs.declared.op.Op.TheVariants.{Unpin, Give, Take}
 use Rattle.gup_spec_events.specs.State.{CoreState}
 use Rattle.gup_spec_events.specs.Event.{CoreEvent, raise_flag, pin_page, make_handle, unpin_page, give_handle, take_handle, run}
 use Rattle.gup_spec_events.specs.Fault.{Fault, write_fault, unshare_fault}
-use Rattle.gup_plain.specs.Denial.{is_held_by}
-use Rattle.gup_spec_turns.specs.CoreTurn.{CoreTurn, answers_with, free_frame, entry_in}
+use Rattle.gup_plain.specs.Denial.{is_held_by, holder_denial}
+use Rattle.gup_spec_turns.specs.CoreTurn.{CoreTurn, free_frame, entry_in, ends_with, denied_or}
 
 -- pin: one page a turn
 
@@ -86,33 +86,20 @@ abbrev pub unpinned : (left : List ℕ) → (a handle : ℕ) → List What
 unpinned [] a handle = Event (events.Unpin a handle) ∷ Done answers.Plain ∷ []
 unpinned (f ∷ left) a handle = Silent ∷ []
 
-abbrev pub unpin_turn_by : (held : Bool) → (a handle : ℕ) → (pinned : List ℕ) → CoreTurn
-unpin_turn_by false a handle pinned = answers_with answers.NotHeld
-unpin_turn_by true a handle pinned =
-    record {
-      events = unpin_page a handle (last_of pinned) (but_last pinned) ∷ [];
-      whats = unpinned (but_last pinned) a handle;
-    }
-
 abbrev pub unpin_turn : CoreState → (a handle : ℕ) → CoreTurn
-unpin_turn s a handle = unpin_turn_by (is_held_by (s.handle handle) a) a handle (s.pinned handle)
+unpin_turn s a handle =
+    denied_or (holder_denial (is_held_by (s.handle handle) a))
+    (record {
+      events = unpin_page a handle (last_of (s.pinned handle)) (but_last (s.pinned handle)) ∷ [];
+      whats = unpinned (but_last (s.pinned handle)) a handle;
+    })
 
 -- give and take
 
-abbrev pub give_turn_by : (held : Bool) → (a handle to : ℕ) → CoreTurn
-give_turn_by false a handle to = answers_with answers.NotHeld
-give_turn_by true a handle to =
-    record {
-      events = give_handle a handle to ∷ [];
-      whats = Event (events.Give a handle to) ∷ Done answers.Plain ∷ [];
-    }
-
 abbrev pub give_turn : CoreState → (a handle to : ℕ) → CoreTurn
-give_turn s a handle to = give_turn_by (is_held_by (s.handle handle) a) a handle to
+give_turn s a handle to =
+    denied_or (holder_denial (is_held_by (s.handle handle) a))
+    (ends_with (give_handle a handle to ∷ []) (events.Give a handle to) answers.Plain)
 
 abbrev pub take_turn : (a handle : ℕ) → CoreTurn
-take_turn a handle =
-    record {
-      events = take_handle a handle ∷ [];
-      whats = Event (events.Take a handle) ∷ Done answers.Plain ∷ [];
-    }
+take_turn a handle = ends_with (take_handle a handle ∷ []) (events.Take a handle) answers.Plain
