@@ -1,12 +1,12 @@
 -- The causes of refusals.
-use Rattle.std.specs.Prelude.{◌≡◌, ℕ, ◌⊎◌, Bool, true, false, List, [], ◌∷◌, Option, Some, None}
+use Rattle.std.specs.Prelude.{◌≡◌, ℕ, ◌⊎◌, Bool, true, false, List, [], ◌∷◌, Option, Some}
 use Rattle.gup_plain.specs.Note.{NoteValue}
 use Rattle.gup_plain.specs.Put.{put}
 use Rattle.gup_plain.specs.State.{PlainState}
 use Rattle.gup_plain.specs.declared.answer.Answer.{Answer}
 use Rattle.gup_plain.specs.declared.answer.Answer.TheVariants.{Plain, Value, Pinned, Words, NoFrame}
 use Rattle.gup_plain.specs.declared.note.What.{What}
-use Rattle.gup_plain.specs.declared.note.What.TheVariants.{Silent, Idle, Wait, Event, Done}
+use Rattle.gup_plain.specs.declared.note.What.TheVariants.{Done}
 use Rattle.gup_script.specs.declared.op.Op.{Op}
 use Rattle.gup_script.specs.Script.{ScriptValue}
 use Rattle.gup_spec_journal.specs.Denial.{denial}
@@ -30,11 +30,7 @@ abbrev pub IsCausedAt : (finds_none : Type 0) → PlainState → Doer → Place 
 IsCausedAt finds_none s who place (Some op) (Done answer) =
     (is_ok answer ≡ true) ⊎ (denial s who (judged_far place.far answer) op ≡ Some (refusal_in answer))
     ⊎ ((refusal_in answer ≡ NoFrame) × finds_none)
-IsCausedAt finds_none s who place (Some op) Silent = Unit {0}
-IsCausedAt finds_none s who place (Some op) Idle = Unit {0}
-IsCausedAt finds_none s who place (Some op) (Wait waiting) = Unit {0}
-IsCausedAt finds_none s who place (Some op) (Event event) = Unit {0}
-IsCausedAt finds_none s who place None what = Unit {0}
+IsCausedAt finds_none s who place op what = Unit {0}
 
 -- what notes of actor a have led to, after what was before
 abbrev pub judged_note : Judged → (a : ℕ) → What → Judged

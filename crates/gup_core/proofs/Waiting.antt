@@ -10,7 +10,8 @@ use Rattle.gup_script.specs.declared.op.Op.TheVariants.{Map, Unmap, Protect, Dis
 use Rattle.gup_space.specs.Space.{SpaceValue}
 use Rattle.gup_space.specs.Shows.{ShowsSpace}
 use Rattle.gup_spec_events.specs.State.{CoreState, Job, idle, marking, moving, forking, walking, between, counted, lowered, cleared, copying, failing}
-use Rattle.gup_spec_turns.specs.Waits.{both_if, fork_locks, locks_needed, held_by_other, first_waiting, waits_for_locks, waits_at, waits_born, waiting_for}
+use Rattle.gup_spec_turns.specs.Waits.{both_if, fork_locks, locks_needed, held_by_other, first_waiting, waits_for_locks, waits_born, waiting_for}
+use Rattle.gup_spec_turns.proofs.TurnParts.{waits_at}
 use Rattle.gup_spec_turns.specs.ForkTurns.{first_behind}
 use Rattle.gup_spec_turns.specs.CoreTurn.{allows_store}
 use Rattle.gup_spec_turns.specs.ForkPlace.{ForkPlace, fork_place, place_in, IsNoFork, StandsFork}

@@ -17,7 +17,8 @@ use Rattle.gup_spec_turns.specs.Cause.{WaitsForBirthOrPin}
 use Rattle.gup_law_turns.specs.Standing.{IsStanding}
 use Rattle.gup_spec_turns.specs.ForkPlace.{IsNoFork, StandsFork}
 use Rattle.gup_spec_turns.specs.Run.{RunState, Runs, run_after, op_in, waiting_with, waiting_in, is_ready, can_go}
-use Rattle.gup_spec_turns.specs.Waits.{Locks, fork_locks, locks_needed, held_by_other, waits_for_lock, first_waiting, waits_for_locks, waits_at, waits_born, waiting_for}
+use Rattle.gup_spec_turns.specs.Waits.{Locks, fork_locks, locks_needed, held_by_other, waits_for_lock, first_waiting, waits_for_locks, waits_born, waiting_for}
+use Rattle.gup_spec_turns.proofs.TurnParts.{waits_at}
 use Rattle.gup_spec_turns.specs.ForkTurns.{next_page}
 use Rattle.gup_law_journal.proofs.Pointer.{PointerFits, none_can_go, pointer_fits}
 use Rattle.gup_law_turns.proofs.Puts.{some_same}

@@ -12,7 +12,8 @@ use Rattle.gup_spec_journal.specs.Order.{MayNeedLock}
 use Rattle.gup_spec_journal.specs.Place.{Place, Doer, doer, process_of}
 use Rattle.gup_spec_turns.specs.ForkPlace.{IsForking}
 use Rattle.gup_spec_turns.specs.Run.{RunState, op_in, waiting_with, waiting_in}
-use Rattle.gup_spec_turns.specs.Waits.{Locks, locks_needed, held_by_other, waits_for_lock, first_waiting, waits_for_locks, waits_at}
+use Rattle.gup_spec_turns.specs.Waits.{Locks, locks_needed, held_by_other, waits_for_lock, first_waiting, waits_for_locks}
+use Rattle.gup_spec_turns.proofs.TurnParts.{waits_at}
 use Rattle.gup_law_turns.proofs.Puts.{some_same}
 use Rattle.gup_law_turns.proofs.Shapes.{FitsFork, FitsAt, IsBegun}
 use Rattle.gup_law_turns.proofs.Standing.{Stands}

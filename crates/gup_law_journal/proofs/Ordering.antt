@@ -16,7 +16,8 @@ use Rattle.gup_spec_events.specs.State.{plain_of}
 use Rattle.gup_spec_journal.specs.Order.{Turn, Ordered, Moves, IsWrittenTurn, IsOverAt, IsOver, IsPassed, MayHold, KeepsLock, MayNeedLock, IsPointedTurn, IsNextTurn, AreInOrder, behind_by, written_turn, waiting_at, waiting_of, finished_in, handle_waits}
 use Rattle.gup_spec_journal.specs.Place.{Place, Doer, doer, birth_for, process_of, ops_of}
 use Rattle.gup_spec_turns.specs.ForkPlace.{ForkPlace}
-use Rattle.gup_spec_turns.specs.Waits.{waits_at, waits_born, first_waiting}
+use Rattle.gup_spec_turns.proofs.TurnParts.{waits_at}
+use Rattle.gup_spec_turns.specs.Waits.{waits_born, first_waiting}
 use Rattle.gup_spec_turns.specs.Run.{RunState, Runs, next_actor, next_by, written_in, turn_in, run_after, op_in, waiting_with, waiting_in, core_turn_in, is_ready, can_go}
 use Rattle.gup_law_journal.proofs.Holding.{IsInFork, locks_of, needs_lock, waits_for_fork, fork_can_go}
 use Rattle.gup_law_turns.proofs.ScriptLemmas.{has_ops_declared}

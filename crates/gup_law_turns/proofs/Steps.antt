@@ -20,7 +20,8 @@ use Rattle.gup_spec_journal.specs.Place.{Place, Doer, doer, thread_in, birth_by,
 use Rattle.gup_spec_turns.specs.ForkPlace.{ForkPlace, place_in}
 use Rattle.gup_spec_turns.specs.Run.{RunState, op_in, waiting_with, waiting_in, core_turn_by, core_turn_in}
 use Rattle.gup_spec_turns.specs.CoreTurn.{CoreTurn, answers_with}
-use Rattle.gup_spec_turns.specs.Waits.{waits_at, waits_born, first_waiting, waits_for_locks, no_lock}
+use Rattle.gup_spec_turns.proofs.TurnParts.{waits_at}
+use Rattle.gup_spec_turns.specs.Waits.{waits_born, first_waiting, waits_for_locks, no_lock}
 use Rattle.gup_spec_turns.specs.Turn.{failed_turn, turn_at, op_turn}
 use Rattle.gup_law_turns.proofs.Calm.{failing_unborn}
 use Rattle.gup_law_turns.proofs.ForkFails.{unborn_empty}

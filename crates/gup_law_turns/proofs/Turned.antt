@@ -19,7 +19,8 @@ use Rattle.gup_spec_journal.specs.Place.{Place, Doer, place_after}
 use Rattle.gup_spec_turns.specs.ForkPlace.{ForkPlace, fork_place, place_in, unbegun}
 use Rattle.gup_law_turns.specs.Standing.{StandsHandle}
 use Rattle.gup_spec_turns.specs.CoreTurn.{CoreTurn}
-use Rattle.gup_spec_turns.specs.Waits.{held_by_other, waits_for_locks, first_waiting, both_locks, waits_at}
+use Rattle.gup_spec_turns.specs.Waits.{held_by_other, waits_for_locks, first_waiting, both_locks}
+use Rattle.gup_spec_turns.proofs.TurnParts.{waits_at}
 use Rattle.gup_law_turns.proofs.Calm.{IsCalm, Strand, AreTurnEvents}
 use Rattle.gup_law_turns.proofs.Shapes.{FitsAt, Rests, TurnOf, AtRest, IsDone, child_of, strand_of}
 use Rattle.std.specs.Prelude.{◌⊎◌}

@@ -178,22 +178,18 @@ Means st (transfers outward handle index slot count) op =
     × (op ≡ ops.Transfer h outward i s n)
 Means st action op = ⊥
 
--- is the action an operation that is built?
+-- The action is an operation that is built: all are but lockless and long-term pins, references, moves, mirrors, and
+-- transfers of several parts.
 abbrev pub IsBuilt : Action → Type 0
-IsBuilt (maps first count rights) = Unit {0}
-IsBuilt (unmaps first count) = Unit {0}
-IsBuilt (protects first count rights) = Unit {0}
-IsBuilt (discards first count) = Unit {0}
-IsBuilt (loads address) = Unit {0}
-IsBuilt (stores address value) = Unit {0}
-IsBuilt exits = Unit {0}
-IsBuilt (pins false handle first count write false) = Unit {0}
-IsBuilt (forks child) = Unit {0}
-IsBuilt (unpins handle) = Unit {0}
-IsBuilt (takes handle) = Unit {0}
-IsBuilt (gives handle to) = Unit {0}
-IsBuilt (transfers outward handle index slot count) = Unit {0}
-IsBuilt action = ⊥
+IsBuilt (pins true handle first count write long) = ⊥
+IsBuilt (pins false handle first count write true) = ⊥
+IsBuilt (gets handle page) = ⊥
+IsBuilt (puts handle) = ⊥
+IsBuilt (moves process page zone) = ⊥
+IsBuilt (mirrors mirror process page) = ⊥
+IsBuilt (looks mirror word) = ⊥
+IsBuilt (transfers_parts outward handle slot first more) = ⊥
+IsBuilt action = Unit {0}
 
 -- the outline with what the action declares: the handle of a pin
 abbrev pub with_declared : Action → Outline → Outline

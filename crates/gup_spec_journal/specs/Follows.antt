@@ -187,40 +187,31 @@ MovesWords who handle outward index slot (suc (suc n)) notes =
     × Then (IsTurn who (Event (moves_word who.actor handle outward index slot value) ∷ []))
     (MovesWords who handle outward (index + 1) (slot + 1) (suc n)) notes
 
+-- the notes of an operation that is done; a fork of a failed process makes its child failed
+abbrev pub Completes : Who → Op → List NoteValue → Type 0
+Completes who (Load page word) notes =
+    (value : ℕ) × IsTurn who (Event (events.Load who.actor who.proc page word value) ∷ Done (answers.Value value) ∷ []) notes
+Completes who (Store page word value) notes =
+    IsTurn who (Event (events.Store who.actor who.proc page word value) ∷ Done answers.Plain ∷ []) notes
+Completes who (Map page n rights) notes =
+    IsTurn who (Event (events.Map who.actor who.proc page n rights) ∷ Done answers.Plain ∷ []) notes
+Completes who (Protect page n rights) notes =
+    IsTurn who (Event (events.Protect who.actor who.proc page n rights) ∷ Done answers.Plain ∷ []) notes
+Completes who (Unmap page n) notes = TakesDownAll who (events.Unmap who.actor who.proc) page n notes
+Completes who (Discard page n) notes = TakesDownAll who (events.Discard who.actor who.proc) page n notes
+Completes who (Pin handle page n write) notes = PinsPages who handle page n write 0 n notes
+Completes who (Unpin handle) notes = (more : ℕ) × Unpins who handle more notes
+Completes who (Give handle to) notes = IsTurn who (Event (events.Give who.actor handle to) ∷ Done answers.Plain ∷ []) notes
+Completes who (Take handle) notes = IsTurn who (Event (events.Take who.actor handle) ∷ Done answers.Plain ∷ []) notes
+Completes who (Transfer handle outward index slot n) notes = MovesWords who handle outward index slot n notes
+Completes who (Fork child) notes =
+    Forks who child notes ⊎ IsTurn who (Event (events.ForkFail child) ∷ Done answers.Unborn ∷ []) notes
+Completes who Exit notes = (pages : ℕ) × TakesDownWhole who pages notes
+
 -- the shapes of an operation's notes
 abbrev pub Shape : Who → Op → List NoteValue → Type 0
-Shape who (Load page word) notes =
-    ((value : ℕ) × IsTurn who (Event (events.Load who.actor who.proc page word value) ∷ Done (answers.Value value) ∷ []) notes)
-    ⊎ IsRefused who (Load page word) notes
-Shape who (Store page word value) notes =
-    IsTurn who (Event (events.Store who.actor who.proc page word value) ∷ Done answers.Plain ∷ []) notes
-    ⊎ IsRefused who (Store page word value) notes
-Shape who (Map page n rights) notes =
-    IsTurn who (Event (events.Map who.actor who.proc page n rights) ∷ Done answers.Plain ∷ []) notes
-    ⊎ IsRefused who (Map page n rights) notes
-Shape who (Protect page n rights) notes =
-    IsTurn who (Event (events.Protect who.actor who.proc page n rights) ∷ Done answers.Plain ∷ []) notes
-    ⊎ IsRefused who (Protect page n rights) notes
-Shape who (Unmap page n) notes =
-    TakesDownAll who (events.Unmap who.actor who.proc) page n notes ⊎ IsRefused who (Unmap page n) notes
-Shape who (Discard page n) notes =
-    TakesDownAll who (events.Discard who.actor who.proc) page n notes ⊎ IsRefused who (Discard page n) notes
-Shape who (Pin handle page n write) notes =
-    PinsPages who handle page n write 0 n notes ⊎ IsRefused who (Pin handle page n write) notes
-Shape who (Unpin handle) notes = ((more : ℕ) × Unpins who handle more notes) ⊎ IsRefused who (Unpin handle) notes
-Shape who (Give handle to) notes =
-    IsTurn who (Event (events.Give who.actor handle to) ∷ Done answers.Plain ∷ []) notes
-    ⊎ IsRefused who (Give handle to) notes
-Shape who (Take handle) notes =
-    IsTurn who (Event (events.Take who.actor handle) ∷ Done answers.Plain ∷ []) notes
-    ⊎ IsRefused who (Take handle) notes
-Shape who (Transfer handle outward index slot n) notes =
-    MovesWords who handle outward index slot n notes ⊎ IsRefused who (Transfer handle outward index slot n) notes
-Shape who (Fork child) notes =
-    Forks who child notes ⊎ IsTurn who (Event (events.ForkFail child) ∷ Done answers.Unborn ∷ []) notes
-Shape who Exit notes = ((pages : ℕ) × TakesDownWhole who pages notes) ⊎ IsRefused who Exit notes
+Shape who op notes = Completes who op notes ⊎ IsRefused who op notes
 
--- the notes are those of some of the operations, from the first on, each in one of its shapes and after the one before
 abbrev pub Shapes : (actor proc number : ℕ) → List Op → List NoteValue → Type 0
 Shapes actor proc number [] notes = notes ≡ []
 Shapes actor proc number (op ∷ ops) notes =

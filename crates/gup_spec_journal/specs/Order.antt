@@ -3,7 +3,7 @@
 use Rattle.std.specs.Prelude.{◌≡◌, ℕ, ◌+◌, ◌≤◌, ◌<◌, ◌⊎◌, ◌==◌, Bool, true, false, if◌then◌else◌, List, [], ◌∷◌, ◌++◌, length, Option, Some, None, slice_get, zero, suc}
 use Rattle.gup_plain.specs.Note.{NoteValue}
 use Rattle.gup_plain.specs.Put.{put}
-use Rattle.gup_plain.specs.State.{PlainState, Birth, unborn, growing, born, failed, Handle, given, plain_start}
+use Rattle.gup_plain.specs.State.{PlainState, Birth, born, failed, Handle, given, plain_start}
 use Rattle.gup_plain.specs.declared.note.What.{What}
 use Rattle.gup_plain.specs.declared.note.What.TheVariants.{Idle, Wait}
 use Rattle.gup_plain.specs.declared.note.Waiting.{Waiting}
@@ -46,10 +46,9 @@ handle_waits handle a op = None
 
 -- before that, a thread whose process is yet to be born waits for it; where its process failed it waits for nothing
 abbrev pub waiting_at : ℕ → Birth → Option Waiting → Option Waiting
-waiting_at p unborn waits = Some (waitings.Process p)
-waiting_at p (growing parent) waits = Some (waitings.Process p)
 waiting_at p born waits = waits
 waiting_at p failed waits = None
+waiting_at p birth waits = Some (waitings.Process p)
 
 -- what the turns so far have led to
 pub record Ordered : Type 0 where
@@ -113,9 +112,8 @@ behind_by actors (suc steps) a = behind_by actors steps (behind actors a)
 
 -- the actor has finished, or waits for its process or for a pin
 abbrev pub IsOverAt : (finished : Bool) → Option Waiting → Type 0
-IsOverAt true waiting = Unit {0}
-IsOverAt false (Some waiting) = Unit {0}
 IsOverAt false None = ⊥
+IsOverAt finished waiting = Unit {0}
 
 abbrev pub IsOver : ScriptValue → Ordered → ℕ → Type 0
 IsOver script o a = IsOverAt (finished_in script o a) (waiting_of script o a)

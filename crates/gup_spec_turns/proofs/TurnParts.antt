@@ -7,7 +7,10 @@ use Rattle.gup_plain.specs.Denial.{holder_denial}
 use Rattle.gup_plain.specs.declared.answer.Answer.{Answer}
 use Rattle.gup_plain.specs.declared.answer.Answer.TheVariants as answers
 use Rattle.gup_plain.specs.declared.event.PlainEvent.TheVariants as events
+use Rattle.gup_plain.specs.State.{Birth}
+use Rattle.gup_plain.specs.declared.note.Waiting.{Waiting}
 use Rattle.gup_spec_events.specs.State.{CoreState}
+use Rattle.gup_spec_journal.specs.Order.{waiting_at}
 use Rattle.gup_spec_events.specs.Event.{CoreEvent, map_pages, protect_pages, drop_entry, discard_entry, unpin_page, give_handle}
 use Rattle.gup_spec_events.specs.Fault.{Fault, write_fault, gives_back}
 use Rattle.gup_spec_turns.specs.CoreTurn.{CoreTurn, ends_with, denied_or, after_fault, free_frame}
@@ -55,3 +58,6 @@ give_turn_by held a handle to =
 abbrev pub transfer_turn_by : Option Answer → CoreState → (a handle : ℕ) → (outward last : Bool) → (index slot : ℕ) → CoreTurn
 transfer_turn_by denied s a handle outward last index slot =
     denied_or denied (moves_from s a handle outward last index slot (frame_at (s.pinned handle) index))
+
+abbrev pub waits_at : Birth → (p : ℕ) → Option Waiting → Option Waiting
+waits_at birth p others = waiting_at p birth others

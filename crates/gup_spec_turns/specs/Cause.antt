@@ -12,7 +12,7 @@ use Rattle.gup_plain.specs.declared.answer.Answer.TheVariants as answers
 use Rattle.gup_plain.specs.declared.answer.Cause.{Cause}
 use Rattle.gup_plain.specs.declared.answer.Cause.TheVariants as causes
 use Rattle.gup_plain.specs.declared.note.What.{What}
-use Rattle.gup_plain.specs.declared.note.What.TheVariants.{Silent, Idle, Wait, Event, Done}
+use Rattle.gup_plain.specs.declared.note.What.TheVariants.{Done}
 use Rattle.gup_plain.specs.declared.note.Waiting.{Waiting}
 use Rattle.gup_plain.specs.declared.note.Waiting.TheVariants as waitings
 use Rattle.gup_script.specs.declared.op.Op.{Op}
@@ -96,20 +96,12 @@ IsKnownCause (causes.Unmovable count) = ⊥
 IsKnownCause cause = Unit {0}
 
 abbrev pub IsKnownAnswer : Answer → Type 0
-IsKnownAnswer answers.Plain = Unit {0}
-IsKnownAnswer (answers.Value value) = Unit {0}
-IsKnownAnswer answers.Missing = Unit {0}
-IsKnownAnswer answers.Forbidden = Unit {0}
-IsKnownAnswer answers.NoFrame = Unit {0}
-IsKnownAnswer answers.Overlap = Unit {0}
-IsKnownAnswer (answers.Pinned pages) = Unit {0}
 IsKnownAnswer (answers.Short got wanted cause) = IsKnownCause cause
-IsKnownAnswer answers.Words = Unit {0}
-IsKnownAnswer answers.NotHeld = Unit {0}
-IsKnownAnswer answers.Range = Unit {0}
-IsKnownAnswer answers.Full = Unit {0}
-IsKnownAnswer answers.Unborn = Unit {0}
-IsKnownAnswer _ = ⊥
+IsKnownAnswer (answers.Unmovable count) = ⊥
+IsKnownAnswer (answers.Busy count) = ⊥
+IsKnownAnswer answers.Untouched = ⊥
+IsKnownAnswer answers.Stale = ⊥
+IsKnownAnswer answer = Unit {0}
 
 abbrev pub IsKnown : What → Type 0
 IsKnown (Done answer) = IsKnownAnswer answer
@@ -122,10 +114,7 @@ AreKnown notes = AllByRecursion (λ (note : NoteValue). IsKnown note.what) notes
 abbrev pub answers_in : List What → ℕ
 answers_in [] = 0
 answers_in (Done answer ∷ whats) = answers_in whats + 1
-answers_in (Silent ∷ whats) = answers_in whats
-answers_in (Idle ∷ whats) = answers_in whats
-answers_in (Wait waiting ∷ whats) = answers_in whats
-answers_in (Event event ∷ whats) = answers_in whats
+answers_in (what ∷ whats) = answers_in whats
 
 abbrev pub answered_in : List NoteValue → ℕ
 answered_in notes = answers_in (map (λ (note : NoteValue). note.what) notes)

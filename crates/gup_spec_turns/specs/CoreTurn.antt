@@ -1,5 +1,5 @@
 -- What a turn is: core events and notes, and what turns of several operations have in common.
-use Rattle.std.specs.Prelude.{ℕ, ◌+◌, ◌==◌, Bool, true, false, List, [], ◌∷◌, Option, Some, None, Ok, Err}
+use Rattle.std.specs.Prelude.{if◌then◌else◌, ℕ, ◌+◌, ◌==◌, Bool, false, List, [], ◌∷◌, Option, Some, None, Ok, Err}
 use Rattle.gup_base.specs.declared.entry.Entry.{Entry}
 use Rattle.gup_plain.specs.Put.{lowest}
 use Rattle.gup_plain.specs.declared.answer.Answer.{Answer}
@@ -51,12 +51,10 @@ allows_store (Some e) = e.writable
 
 -- the last page's turn has the answer too
 abbrev pub done_if : (last : Bool) → List What
-done_if true = Done answers.Plain ∷ []
-done_if false = []
+done_if last = if last then Done answers.Plain ∷ [] else []
 
 abbrev pub silent_or_done : (last : Bool) → List What
-silent_or_done true = Done answers.Plain ∷ []
-silent_or_done false = Silent ∷ []
+silent_or_done last = if last then Done answers.Plain ∷ [] else Silent ∷ []
 
 abbrev pub entry_in : Option Entry → Entry
 entry_in None = record { frame = 0; writable = false }

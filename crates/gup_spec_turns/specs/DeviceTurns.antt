@@ -1,5 +1,5 @@
 -- The turns of a device's transfer: one word a turn.
-use Rattle.std.specs.Prelude.{ℕ, ◌+◌, ◌/◌, ◌%◌, ◌==◌, Bool, true, false, List, [], ◌∷◌, slice_index}
+use Rattle.std.specs.Prelude.{if◌then◌else◌, ℕ, ◌+◌, ◌/◌, ◌%◌, ◌==◌, Bool, true, false, List, [], ◌∷◌, slice_index}
 use Rattle.gup_plain.specs.Event.{words}
 use Rattle.gup_plain.specs.declared.answer.Answer.TheVariants as answers
 use Rattle.gup_plain.specs.declared.note.What.{What}
@@ -23,8 +23,7 @@ moves a handle true index slot f value = move_out a handle index slot f value
 moves a handle false index slot f value = move_in a handle index slot f value
 
 abbrev pub moved_if : (last : Bool) → List What
-moved_if true = Done answers.Words ∷ []
-moved_if false = []
+moved_if last = if last then Done answers.Words ∷ [] else []
 
 abbrev pub word_turn : (a handle : ℕ) → (outward last : Bool) → (index slot f value : ℕ) → CoreTurn
 word_turn a handle outward last index slot f value =

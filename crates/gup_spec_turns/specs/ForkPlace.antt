@@ -5,7 +5,7 @@ use Rattle.gup_plain.specs.Event.{words}
 use Rattle.gup_plain.specs.State.{unborn, growing}
 use Rattle.gup_script.specs.declared.op.Op.{Op}
 use Rattle.gup_script.specs.declared.op.Op.TheVariants.{Fork}
-use Rattle.gup_spec_events.specs.State.{CoreState, Job, idle, marking, moving, forking, walking, between, counted, lowered, cleared, copying, failing}
+use Rattle.gup_spec_events.specs.State.{CoreState, Job, idle, forking, between, counted, copying}
 use Rattle.gup_spec_turns.specs.ForkTurns.{first_behind}
 
 -- Where a fork stands between two turns: it has not begun; it looks for its next page from this one on; it has counted this
@@ -25,14 +25,8 @@ copying_place page word (Some to) = at_word page word to
 abbrev pub fork_place : Job → (prepared : Option ℕ) → ForkPlace
 fork_place (forking p c done between) prepared = from_page (first_behind done)
 fork_place (forking p c done (counted page)) prepared = at_page page
-fork_place (forking p c done (lowered page)) prepared = unbegun
-fork_place (forking p c done (cleared page)) prepared = unbegun
 fork_place (forking p c done (copying page word)) prepared = copying_place page word prepared
-fork_place (forking p c done failing) prepared = unbegun
-fork_place idle prepared = unbegun
-fork_place (marking p page f) prepared = unbegun
-fork_place (moving p page e allowed count) prepared = unbegun
-fork_place (walking p write long sequence step) prepared = unbegun
+fork_place job prepared = unbegun
 
 -- where the fork of this actor stands, if it does one
 abbrev pub place_in : CoreState → ℕ → ForkPlace
@@ -70,25 +64,12 @@ StandsFork s a p child (forking q c done (counted page)) prepared =
     IsForking s a p child q c done × HasCounted s a p child done page
 StandsFork s a p child (forking q c done (copying page word)) prepared =
     IsForking s a p child q c done × HasCounted s a p child done page × HasCopied word prepared
-StandsFork s a p child (forking q c done (lowered page)) prepared = ⊥
-StandsFork s a p child (forking q c done (cleared page)) prepared = ⊥
-StandsFork s a p child (forking q c done failing) prepared = ⊥
-StandsFork s a p child (marking q page f) prepared = ⊥
-StandsFork s a p child (moving q page e allowed count) prepared = ⊥
-StandsFork s a p child (walking q write long sequence step) prepared = ⊥
+StandsFork s a p child job prepared = ⊥
 
 -- an actor keeps a frame only where its fork copies a page
 abbrev pub KeepsFrame : Job → (prepared : Option ℕ) → Type 0
-KeepsFrame idle prepared = prepared ≡ None
-KeepsFrame (marking q page f) prepared = prepared ≡ None
-KeepsFrame (moving q page e allowed count) prepared = prepared ≡ None
-KeepsFrame (walking q write long sequence step) prepared = prepared ≡ None
-KeepsFrame (forking q c done between) prepared = prepared ≡ None
-KeepsFrame (forking q c done (counted page)) prepared = prepared ≡ None
-KeepsFrame (forking q c done (lowered page)) prepared = prepared ≡ None
-KeepsFrame (forking q c done (cleared page)) prepared = prepared ≡ None
 KeepsFrame (forking q c done (copying page word)) prepared = Unit {0}
-KeepsFrame (forking q c done failing) prepared = prepared ≡ None
+KeepsFrame job prepared = prepared ≡ None
 
 -- a frame that an actor has prepared is one of the machine, is not free, and stands in no entry
 pub record IsPrepared (s : CoreState) (f : ℕ) : Type 0 where

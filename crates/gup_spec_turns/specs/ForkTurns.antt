@@ -7,11 +7,11 @@ use Rattle.gup_plain.specs.Event.{page_numbers, words}
 use Rattle.gup_plain.specs.Put.{lowest}
 use Rattle.gup_plain.specs.declared.answer.Answer.TheVariants as answers
 use Rattle.gup_plain.specs.declared.event.PlainEvent.TheVariants as events
-use Rattle.gup_plain.specs.declared.note.What.TheVariants.{Silent, Event, Done}
+use Rattle.gup_plain.specs.declared.note.What.TheVariants.{Silent, Event}
 use Rattle.gup_spec_events.specs.State.{CoreState, Job, idle, forking, ForkStep, between, counted, copying}
 use Rattle.gup_spec_events.specs.Event.{take_frame, begin_fork, count_page, share_entry, share_mark, share_child, copy_word, place_child, pass_page, end_fork, copies_page}
 use Rattle.gup_spec_events.specs.Failure.{fails}
-use Rattle.gup_spec_turns.specs.CoreTurn.{CoreTurn, free_frame, frame_in, allows_store, entry_in}
+use Rattle.gup_spec_turns.specs.CoreTurn.{CoreTurn, free_frame, frame_in, allows_store, entry_in, ends_with}
 
 -- fork: its beginning, and then page by page
 
@@ -35,8 +35,7 @@ page_turn s a p c done page (Some e) =
 
 -- where no page is left the fork ends
 abbrev pub next_turn : CoreState → (a p c : ℕ) → List ℕ → Option ℕ → CoreTurn
-next_turn s a p c done None =
-    record { events = end_fork a p c done ∷ []; whats = Event (events.ForkEnd p c) ∷ Done answers.Plain ∷ [] }
+next_turn s a p c done None = ends_with (end_fork a p c done ∷ []) (events.ForkEnd p c) answers.Plain
 next_turn s a p c done (Some page) = page_turn s a p c done page (s.entry p page)
 
 -- the counted page is shared: the parent's entry becomes read-only, the mark goes, the child gets its entry
@@ -54,10 +53,7 @@ share_turn a p c done page entry =
 -- child has.
 abbrev pub frame_turn : CoreState → (a p c : ℕ) → List ℕ → (page word : ℕ) → (free : Option ℕ) → CoreTurn
 frame_turn s a p c done page word None =
-    record {
-      events = fails a p c done (copying page word) (s.entry c);
-      whats = Event (events.ForkFail c) ∷ Done answers.NoFrame ∷ [];
-    }
+    ends_with (fails a p c done (copying page word) (s.entry c)) (events.ForkFail c) answers.NoFrame
 frame_turn s a p c done page word (Some f) = record { events = take_frame a f ∷ []; whats = Silent ∷ [] }
 
 abbrev pub rights_in : Option Rights → Rights

@@ -1,5 +1,5 @@
 -- The turns of operations on pins: pin, unpin, give, take.
-use Rattle.std.specs.Prelude.{ℕ, ◌+◌, ◌-◌, ◌==◌, Bool, true, false, List, [], ◌∷◌, ◌++◌, length, take, slice_index, Ok, Err, zero, suc}
+use Rattle.std.specs.Prelude.{if◌then◌else◌, ℕ, ◌+◌, ◌-◌, ◌==◌, Bool, true, false, List, [], ◌∷◌, ◌++◌, length, take, slice_index, Ok, Err, zero, suc}
 use Rattle.gup_base.specs.declared.entry.Entry.{Entry}
 use Rattle.gup_plain.specs.declared.answer.Answer.{Answer}
 use Rattle.gup_plain.specs.declared.answer.Answer.TheVariants as answers
@@ -29,12 +29,10 @@ pin_fault s a p page false = unshare_fault a p page (s.right p page) (s.entry p 
 
 -- the last page's turn makes the handle, and has the answer
 abbrev pub makes_if : (last : Bool) → (a handle : ℕ) → List CoreEvent
-makes_if true a handle = make_handle a handle ∷ []
-makes_if false a handle = []
+makes_if last a handle = if last then make_handle a handle ∷ [] else []
 
 abbrev pub pinned_if : (last : Bool) → (a handle n : ℕ) → List What
-pinned_if true a handle n = Event (events.PinOk a handle) ∷ Done (answers.Pinned n) ∷ []
-pinned_if false a handle n = []
+pinned_if last a handle n = if last then Event (events.PinOk a handle) ∷ Done (answers.Pinned n) ∷ [] else []
 
 -- after these events the page is pinned by its entry
 abbrev pub pins_behind : List CoreEvent → (a p handle page n : ℕ) → (write last : Bool) → Entry → CoreTurn
@@ -59,10 +57,7 @@ cause_of answer = causes.Missing
 abbrev pub ends_pin : (a p handle n got : ℕ) → Answer → CoreTurn
 ends_pin a p handle n zero answer = record { events = raises a p 0; whats = Done answer ∷ [] }
 ends_pin a p handle n (suc got) answer =
-    record {
-      events = make_handle a handle ∷ [];
-      whats = Event (events.PinOk a handle) ∷ Done (answers.Short (suc got) n (cause_of answer)) ∷ [];
-    }
+    ends_with (make_handle a handle ∷ []) (events.PinOk a handle) (answers.Short (suc got) n (cause_of answer))
 
 abbrev pub pin_turn_by : Fault → CoreState → (a p handle page n far : ℕ) → (write : Bool) → CoreTurn
 pin_turn_by (Err answer) s a p handle page n far write = ends_pin a p handle n far answer

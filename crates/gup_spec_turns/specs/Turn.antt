@@ -3,13 +3,12 @@ use Rattle.std.specs.Prelude.{ℕ, ◌+◌, ◌==◌, [], ◌∷◌}
 use Rattle.gup_plain.specs.State.{Birth, failed}
 use Rattle.gup_plain.specs.declared.answer.Answer.TheVariants as answers
 use Rattle.gup_plain.specs.declared.event.PlainEvent.TheVariants as events
-use Rattle.gup_plain.specs.declared.note.What.TheVariants.{Event, Done}
 use Rattle.gup_script.specs.declared.op.Op.{Op}
 use Rattle.gup_script.specs.declared.op.Op.TheVariants.{Map, Unmap, Protect, Discard, Load, Store, Pin, Unpin, Give, Take, Transfer, Fork, Exit}
 use Rattle.gup_spec_events.specs.State.{CoreState}
 use Rattle.gup_spec_events.specs.Event.{fail_unborn}
 use Rattle.gup_spec_journal.specs.Place.{Doer, birth_for}
-use Rattle.gup_spec_turns.specs.CoreTurn.{CoreTurn, answers_with}
+use Rattle.gup_spec_turns.specs.CoreTurn.{CoreTurn, answers_with, ends_with}
 use Rattle.gup_spec_turns.specs.PageTurns.{load_turn, store_turn, map_turn, unmap_turn, protect_turn, discard_turn, exit_turn}
 use Rattle.gup_spec_turns.specs.PinTurns.{pin_turn, unpin_turn, give_turn, take_turn}
 use Rattle.gup_spec_turns.specs.DeviceTurns.{transfer_turn}
@@ -34,11 +33,7 @@ op_turn s a p slots far Exit = exit_turn s a p
 
 -- an operation of a failed process is refused; a fork makes its child failed too
 abbrev pub failed_turn : (a p : ℕ) → Op → CoreTurn
-failed_turn a p (Fork child) =
-    record {
-      events = fail_unborn a p child ∷ [];
-      whats = Event (events.ForkFail child) ∷ Done answers.Unborn ∷ [];
-    }
+failed_turn a p (Fork child) = ends_with (fail_unborn a p child ∷ []) (events.ForkFail child) answers.Unborn
 failed_turn a p op = answers_with answers.Unborn
 
 abbrev pub turn_at : Birth → (refused turn : CoreTurn) → CoreTurn

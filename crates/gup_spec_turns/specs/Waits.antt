@@ -1,13 +1,12 @@
 -- What an actor waits for before its next turn.
 use Rattle.std.specs.Prelude.{ℕ, ◌==◌, Bool, true, false, not, if◌then◌else◌, Option, Some, None, is_some, is_none}
 use Rattle.gup_base.specs.declared.entry.Rights.{Rights}
-use Rattle.gup_plain.specs.State.{Birth, unborn, growing, born, failed}
 use Rattle.gup_plain.specs.declared.note.Waiting.{Waiting}
 use Rattle.gup_plain.specs.declared.note.Waiting.TheVariants as waitings
 use Rattle.gup_script.specs.declared.op.Op.{Op}
 use Rattle.gup_script.specs.declared.op.Op.TheVariants.{Load, Store, Unpin, Give, Take, Transfer, Fork}
 use Rattle.gup_spec_events.specs.State.{CoreState, Job, idle, forking, between}
-use Rattle.gup_spec_journal.specs.Order.{handle_waits}
+use Rattle.gup_spec_journal.specs.Order.{handle_waits, waiting_at}
 use Rattle.gup_spec_journal.specs.Place.{Doer, birth_for}
 use Rattle.gup_spec_turns.specs.CoreTurn.{allows_store}
 use Rattle.gup_spec_turns.specs.ForkTurns.{next_page}
@@ -33,7 +32,6 @@ both_if needed = record { structure = needed; table = needed }
 abbrev pub fork_locks : (right : ℕ → Option Rights) → Job → Locks
 fork_locks right idle = both_locks
 fork_locks right (forking p c done between) = record { structure = false; table = is_some (next_page right done) }
-fork_locks right (forking p c done step) = no_lock
 fork_locks right job = no_lock
 
 -- A load or a store needs both where its entry doesn't allow it.
@@ -64,18 +62,12 @@ abbrev pub waits_for_locks : Locks → (a : ℕ) → (structure table : Option �
 waits_for_locks locks a structure table =
     first_waiting (waits_for_lock locks.structure a structure) (waits_for_lock locks.table a table)
 
--- What an actor waits for before its next turn, if it waits: first a thread that its process is born, then that a pin
--- is given to it, then for the structure lock, then for the table lock.
-abbrev pub waits_at : Birth → (p : ℕ) → Option Waiting → Option Waiting
-waits_at unborn p others = Some (waitings.Process p)
-waits_at (growing parent) p others = Some (waitings.Process p)
-waits_at failed p others = None
-waits_at born p others = others
-
 abbrev pub waits_born : CoreState → (a p : ℕ) → Op → Option Waiting
 waits_born s a p op =
     first_waiting (handle_waits s.handle a (Some op))
     (waits_for_locks (locks_needed s a p op) a (s.structure p) (s.table p))
 
+-- What an actor waits for before its next turn, if it waits: first a thread that its process is born, then that a pin
+-- is given to it, then for the structure lock, then for the table lock.
 abbrev pub waiting_for : CoreState → Doer → Op → Option Waiting
-waiting_for s who op = waits_at (birth_for s.birth who) who.proc (waits_born s who.actor who.proc op)
+waiting_for s who op = waiting_at who.proc (birth_for s.birth who) (waits_born s who.actor who.proc op)
