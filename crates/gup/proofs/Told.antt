@@ -1,5 +1,5 @@
 -- What was read of a source, and the script that its told bytes are.
-use Rattle.std.proofs.Common.{◌≡◌, ℕ, ◌<◌, List, [], length, take, drop, Option, Some, None, refl, sym, subst, ◌∙◌, ap, arith, leb, inl, inr}
+use Rattle.std.proofs.Common.{◌≡◌, ℕ, ◌<◌, List, length, take, drop, Option, Some, None, refl, sym, subst, ◌∙◌, ap, arith, leb, inl, inr}
 use Rattle.std.specs.Prelude.{IfSome, Bool, true, false}
 use Rattle.std.proofs.lemmas.Bool.{leb-true, leb-false}
 use Rattle.std.proofs.lemmas.Bool.Decides.{nat_tests}
@@ -68,16 +68,6 @@ loses_first most (Some bytes) new rest = by_test (leb most (length bytes)) refl
     by_test false few =
         let less = leb-false _ _ few in
         (length bytes, omega arith, omega arith, omega arith, rest ∙ ap (λ (xs : List ℕ). Some xs) (drop_all most bytes (omega arith) ∙ sym (drop_all (length bytes) bytes (omega arith))))
-
--- the bytes of a script are read to their end
-pub read_all : (told new : Option (List ℕ)) (s : ScriptValue) → IsScriptOf told s → IfSome told (λ bytes. new ≡ Some (drop 1048577 bytes)) → IfSome told (λ bytes. new ≡ Some [])
-read_all None new s is rest = tt
-read_all (Some bytes) new s is rest = rest ∙ ap (λ (xs : List ℕ). Some xs) (drop_all 1048577 bytes (omega (arith, is.1)))
-
--- what holds at all holds of the script
-pub of_any : (told : Option (List ℕ)) (P : Type 0) → P → OfScript told (λ script. P)
-of_any None P p = tt
-of_any (Some bytes) P p = λ script is. p
 
 -- where no script can be run, anything holds of the script
 pub of_none : (told : Option (List ℕ)) (P : ScriptValue → Type 0) → OfScript told (λ script. ⊥) → OfScript told P

@@ -55,12 +55,6 @@ leaves_others a p c q space s parent child (putting done page e true) h =
 leaves_others a p c q space s parent child (putting done page e false) h =
     record { right = h.right; pages = h.pages; entry = λ g. grind (arith, nat_tests, h.entry g); sequence = h.sequence; has_pinned = h.has_pinned; structure = h.structure; table = h.table }
 
--- and so do lists of them
-pub leave_others : (a p c q : ℕ) (space : SpaceValue) (s : CoreState) (es : List CoreEvent) → (p ≡ q → ⊥) → (c ≡ q → ⊥) → AreOfFork a p c es → ShowsSpace q space s → ShowsSpace q space (run s es)
-leave_others a p c q space s [] parent child of h = h
-leave_others a p c q space s (e ∷ es) parent child of h =
-    leave_others a p c q space (happens s e) es parent child of.1 (leaves_others a p c q space s parent child of.0 h)
-
 pub job_stays : (a p c b : ℕ) (s : CoreState) {e : CoreEvent} → (a ≡ b → ⊥) → IsForkEvent a p c e → (happens s e).job b ≡ s.job b
 job_stays a p c b s other beginning = grind (arith, nat_tests)
 job_stays a p c b s other (counting done page entry copies) = grind (arith, nat_tests)
@@ -74,10 +68,6 @@ job_stays a p c b s other (placing done page to rights) = grind (arith, nat_test
 job_stays a p c b s other (failing_at done step ends) = grind (arith, nat_tests)
 job_stays a p c b s other (putting done page e true) = grind (arith, nat_tests)
 job_stays a p c b s other (putting done page e false) = refl
-
-pub jobs_stay : (a p c b : ℕ) (s : CoreState) (es : List CoreEvent) → (a ≡ b → ⊥) → AreOfFork a p c es → (run s es).job b ≡ s.job b
-jobs_stay a p c b s [] other of = refl
-jobs_stay a p c b s (e ∷ es) other of = jobs_stay a p c b (happens s e) es other of.1 ∙ job_stays a p c b s other of.0
 
 pub birth_stays : (a p c q : ℕ) (s : CoreState) {e : CoreEvent} → (c ≡ q → ⊥) → IsForkEvent a p c e → (happens s e).birth q ≡ s.birth q
 birth_stays a p c q s other beginning = grind (arith, nat_tests)

@@ -10,12 +10,6 @@ use Rattle.gup_frames.specs.Frames.{word_in}
 abbrev pub front_zero : (frame n : ℕ) → (ℕ → ℕ → ℕ) → ℕ → ℕ → ℕ
 front_zero frame n word f w = cond (eqb f frame && ltb w n) 0 (word f w)
 
-pub front_none : (frame : ℕ) (word : ℕ → ℕ → ℕ) → word ≡ front_zero frame 0 word
-front_none frame word = fun_ext (λ f. fun_ext (λ w. at f w))
-  where
-    at : (f w : ℕ) → word f w ≡ front_zero frame 0 word f w
-    at f w = grind (arith, nat_tests)
-
 -- one word more is written
 pub front_more : (words old : List ℕ) (frame n : ℕ) → n < 512 → 512 * frame + n < length words → word_in words ≡ front_zero frame n (word_in old) → word_in (set words (512 * frame + n) 0) ≡ front_zero frame (n + 1) (word_in old)
 front_more words old frame n within inside done = fun_ext (λ f. fun_ext (λ w. at f w (ap (λ h. h f w) done)))

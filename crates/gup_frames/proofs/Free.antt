@@ -44,13 +44,6 @@ found_count s allowed (Some f) is = (found_free s allowed f (sym is)).1
 
 -- ---- how many are free
 
--- frames with the same free ones
-pub free_in-same : (s t : FramesValue) (first n : ℕ) → ((j : ℕ) → eqb (t.count j) 0 ≡ eqb (s.count j) 0) → free_in t first n ≡ free_in s first n
-free_in-same s t first zero same = refl
-free_in-same s t first (suc n) same =
-    ap (λ b. cond b 1 0 + free_in t (first + 1) n) (same first)
-    ∙ ap (λ m. cond (eqb (s.count first) 0) 1 0 + m) (free_in-same s t (first + 1) n same)
-
 -- all are free
 pub free_in-all : (s : FramesValue) (first n : ℕ) → ((j : ℕ) → s.count j ≡ 0) → free_in s first n ≡ n
 free_in-all s first zero all = refl

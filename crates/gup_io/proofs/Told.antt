@@ -15,14 +15,6 @@ drop_split bytes at n buf e =
 pub Appends-more : (a b c : Option (List ℕ)) (text : List ℕ) (at n : ℕ) → Appends a b (take at text) → Appends b c (take n (drop at text)) → Appends a c (take (at + n) text)
 Appends-more a b c text at n p q = subst (Appends a c) (sym (take-add at n text)) (Appends-trans a b c _ _ p q)
 
--- what was given is lost
-pub Loses-given : (a b : Option (List ℕ)) (given : List ℕ) (least most : ℕ) → Consumes a b given → least ≤ length given → length given ≤ most → Loses least most a b
-Loses-given None b given least most p l m = tt
-Loses-given (Some x) None given least most p l m = absurd p
-Loses-given (Some x) (Some y) given least most p l m =
-    let fits : length given ≤ length x = omega (arith, ap length p, length-append given y) in
-    (length given, l, m, fits, ap Some (sym (drop_at given y (length given) refl) ∙ ap (drop (length given)) (sym p)))
-
 -- what was given is lost, and some more
 pub Loses-more : (a b c : Option (List ℕ)) (given : List ℕ) (least left most : ℕ) → Consumes a b given → Loses least left b c → length given + left ≤ most → Loses least most a c
 Loses-more None b c given least left most p q h = tt

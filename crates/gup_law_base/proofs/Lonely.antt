@@ -205,9 +205,6 @@ module _ (v : View) (s : CoreState) (h : IsSoundBy v s) where
 
   -- of a holder that isn't an entry: whoever prepares its frame, or has cleared and counted it once, is no other
 
-  kinds_apart : (x y : Holder) → (kind x ≡ kind y → ⊥) → x ≡ y → ⊥
-  kinds_apart x y apart same = apart (ap kind same)
-
   no_prepared : (x : Holder) (f b : ℕ) → holding x ≡ Some f → (kind x ≡ 2 → ⊥) → (weight x ≡ 0 → ⊥) → s.prepared b ≡ Some f → ⊥
   unfolding held
   no_prepared x f b is other positive that =

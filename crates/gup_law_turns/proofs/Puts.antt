@@ -1,5 +1,5 @@
 -- What `put` gives, as equations of functions.
-use Rattle.std.proofs.Common.{◌≡◌, ℕ, ◌+◌, ◌-◌, ◌<◌, ◌==◌, true, false, refl, ap, sym, ◌∙◌, arith, Option, Some, None, is_some}
+use Rattle.std.proofs.Common.{◌≡◌, ℕ, ◌+◌, ◌-◌, ◌<◌, ◌==◌, true, false, refl, arith, Option, Some, None, is_some}
 use Rattle.std.proofs.lemmas.Bool.Decides.{nat_tests}
 use Rattle.gup_plain.specs.Put.{put, put2, within}
 
@@ -27,12 +27,6 @@ put_own k f = by_points (λ j. grind (arith, nat_tests))
 -- a number of a range is so far after the first
 pub within_offset : (first n k : ℕ) → within first n k ≡ true → (k - first < n) × (first + (k - first) ≡ k)
 within_offset first n k is = grind (arith, nat_tests)
-
--- what holds of a function at each step from the first number on, holds of it within the range
-pub within_each : {X : Type 0} (f : ℕ → X) (x : X) (first n : ℕ) → ((k : ℕ) → k < n → f (first + k) ≡ x) → (k : ℕ) → within first n k ≡ true → f k ≡ x
-within_each f x first n each k is =
-    let at = within_offset first n k is in
-    ap f (sym at.1) ∙ each (k - first) at.0
 
 pub some_same : {X : Type 0} {x y : X} → Some x ≡ Some y → x ≡ y
 some_same e = cc

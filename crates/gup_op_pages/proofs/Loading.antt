@@ -81,18 +81,6 @@ load_behind F F' S S' a p page word before s some frames space =
       space = subst (λ (t : CoreState). ShowsSpace p S' t) (sym after) space;
     }
 
--- through the entry that the page has
-pub load_by_entry : (F : FramesValue) (S : SpaceValue) (a p page word : ℕ) → IsSome (S.entry page)
-    → IsTurnOf (ch F F S S) p (λ s. load_turn s a p page word (s.entry p page)) (whats_of (loaded_said a p page word (page_word F (S.entry page) word)))
-load_by_entry F S a p page word some s frames space = go (S.entry page) refl some
-  where
-    go : (entry : Option Entry) → S.entry page ≡ entry → IsSome entry
-        → Leads (ch F F S S) p s (load_turn s a p page word (s.entry p page)) (whats_of (loaded_said a p page word (page_word F (S.entry page) word)))
-    go None is there = absurd (cc)
-    go (Some e) is there =
-        leads_alike (ch F F S S) p s _ _ _ (ap (λ o. load_turn s a p page word o) (space.entry page ∙ is))
-        (load_behind F F S S a p page word [] s some frames space)
-
 -- what a fault to load comes to
 load_after : (F F' : FramesValue) (S S' : SpaceValue) (a p page word : ℕ) (fault : Fault) (s : CoreState) → refusal_of fault ≡ None → IsSome (S'.entry page)
     → ShowsFrames F' (run s (events_of fault)) → ShowsSpace p S' (run s (events_of fault))
@@ -297,10 +285,6 @@ some_there F S page tidy some = go (S.entry page) refl some
     go : (entry : Option Entry) → S.entry page ≡ entry → IsSome entry → HasEntry entry (λ e. IsFrame F e.frame)
     go None is none = absurd (cc)
     go (Some e) is found = tidy.there page e is
-
-pub allowed_some : (entry : Option Entry) → allows_store entry ≡ true → IsSome entry
-allowed_some None allowed = absurd (cc)
-allowed_some (Some e) allowed = refl
 
 pub writable_some : (entry : Option Entry) → IsWritable entry → IsSome entry
 writable_some None none = absurd none

@@ -18,12 +18,6 @@ module _ {X : Type 0} (P : X → Type 0) where
   each_like Q [] more h = tt
   each_like Q (x ∷ xs) more h = (more x h.0, each_like Q xs more h.1)
 
-  -- one element is another
-  pub each_at : (xs : List X) (k : ℕ) (x : X) → slice_get xs k ≡ Some x → AllByRecursion P xs → P x
-  each_at [] k x e h = absurd cc
-  each_at (y ∷ xs) zero x e h = let same : y ≡ x = cc in subst P same h.0
-  each_at (y ∷ xs) (suc k) x e h = each_at xs k x e h.1
-
 -- what is true of each element is true of one at its place
 pub all_at : {X : Type 0} (P : X → Type 0) (xs : List X) (k : ℕ) (x : X) → slice_get xs k ≡ Some x → All P xs → P x
 all_at P xs k x e h = subst P (get_or_from_slice_get xs k x x e) (All-get_or P xs k x (slice_get_within xs k x e) h)

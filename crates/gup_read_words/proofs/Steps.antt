@@ -1,5 +1,5 @@
 -- What is known of the steps of a chain that gave something.
-use Rattle.std.proofs.Common.{◌≡◌, ◌⊎◌, Bool, true, false, cond, inl, inr, Option, Some, None, refl}
+use Rattle.std.proofs.Common.{◌≡◌, Bool, true, false, cond, Option, Some, None, refl}
 use Rattle.gup_read_words.specs.Text.{◌>>=◌}
 
 abbrev given : {A : Type 0} → A → Option A
@@ -22,8 +22,3 @@ way_taken false o y e = absurd cc
 
 pub same_given : {A : Type 0} (x y : A) → given x ≡ given y → x ≡ y
 same_given x y e = cc
-
--- which way a test went
-pub way_chosen : {A : Type 0} (b : Bool) (o p : Option A) (y : A) → cond b o p ≡ Some y → ((b ≡ true) × (o ≡ Some y)) ⊎ ((b ≡ false) × (p ≡ Some y))
-way_chosen true o p y e = inl (refl, e)
-way_chosen false o p y e = inr (refl, e)

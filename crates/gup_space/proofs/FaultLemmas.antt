@@ -4,9 +4,9 @@ use Rattle.std.specs.Prelude.{ℕ, ◌==◌, Bool, true, false, if◌then◌else
 use Rattle.gup_base.specs.declared.entry.Entry.{Entry}
 use Rattle.gup_base.specs.declared.entry.Rights.{Rights}
 use Rattle.gup_base.specs.declared.entry.Rights.TheVariants.{R, RW}
-use Rattle.gup_space.proofs.After.{AreOf, taking, filling, counting, marking_it, upgrading, breaking, putting, dropping, discarding}
+use Rattle.gup_space.proofs.After.{AreOf, taking, filling, counting, marking_it, upgrading, breaking, putting}
 use Rattle.gup_spec_events.specs.Event.{upgrade}
-use Rattle.gup_spec_events.specs.Fault.{events_of, fills, breaks, marks, read_fault, unshares, unshare_fault, makes_writable, fills_writable, write_fault, takes_down, discards}
+use Rattle.gup_spec_events.specs.Fault.{events_of, fills, breaks, marks, read_fault, unshares, makes_writable, fills_writable, write_fault}
 
 fills_own : (a p page : ℕ) (free : Option ℕ) → AreOf p (events_of (fills a p page free))
 fills_own a p page None = tt
@@ -42,12 +42,6 @@ read_fault_own a p page None entry free = tt
 read_fault_own a p page (Some rights) None free = fills_own a p page free
 read_fault_own a p page (Some rights) (Some e) free = tt
 
-pub unshare_fault_own : (a p page : ℕ) (right : Option Rights) (entry : Option Entry) (mark : ℕ → Bool) (count : ℕ → ℕ) (free : Option ℕ) → AreOf p (events_of (unshare_fault a p page right entry mark count free))
-unshare_fault_own a p page None entry mark count free = tt
-unshare_fault_own a p page (Some rights) None mark count free = fills_own a p page free
-unshare_fault_own a p page (Some rights) (Some e) mark count free =
-    unshares_own a p page e (mark e.frame) (count e.frame) free
-
 pub write_fault_own : (a p page : ℕ) (right : Option Rights) (entry : Option Entry) (mark : ℕ → Bool) (count : ℕ → ℕ) (free : Option ℕ) → AreOf p (events_of (write_fault a p page right entry mark count free))
 write_fault_own a p page None entry mark count free = tt
 write_fault_own a p page (Some R) entry mark count free = tt
@@ -57,13 +51,3 @@ write_fault_own a p page (Some RW) (Some e) mark count free = by_entry e.writabl
     by_entry : (writable : Bool) → AreOf p (events_of (if writable then Ok [] else makes_writable a p page e (mark e.frame) (count e.frame) free))
     by_entry true = tt
     by_entry false = makes_writable_own a p page e (mark e.frame) (count e.frame) free
-
-pub takes_down_own : (a p page : ℕ) (right : Option Rights) (entry : Option Entry) → AreOf p (takes_down a p page right entry)
-takes_down_own a p page None entry = tt
-takes_down_own a p page (Some rights) None = (dropping a page None, tt)
-takes_down_own a p page (Some rights) (Some e) = (dropping a page (Some e), (putting a e.frame, tt))
-
-pub discards_own : (a p page : ℕ) (right : Option Rights) (entry : Option Entry) → AreOf p (discards a p page right entry)
-discards_own a p page None entry = tt
-discards_own a p page (Some rights) None = (discarding a page None, tt)
-discards_own a p page (Some rights) (Some e) = (discarding a page (Some e), (putting a e.frame, tt))

@@ -9,8 +9,8 @@ use Rattle.gup_base.specs.declared.entry.Rights.TheVariants.{RW}
 use Rattle.gup_plain.specs.Event.{CanHappen, words}
 use Rattle.gup_plain.specs.State.{PlainState, Noted, failed, born, objects_of}
 use Rattle.gup_plain.specs.declared.event.PlainEvent.{PlainEvent}
-use Rattle.gup_spec_events.specs.State.{CoreState, Taken, Job, moving, forking, walking, Counted, one, ForkStep, counted, lowered, cleared, copying, failing, WalkStep, entered, grabbed, rechecked, differed, refused, dropping, over, plain_of}
-use Rattle.gup_spec_events.specs.Event.{CoreEvent, Can, happens, told, after_told, bias, IsNormal}
+use Rattle.gup_spec_events.specs.State.{CoreState, Taken, Job, moving, forking, walking, Counted, one, ForkStep, counted, lowered, cleared, copying, failing, WalkStep, entered, grabbed, rechecked, differed, refused, dropping, over}
+use Rattle.gup_spec_events.specs.Event.{CoreEvent, Can, happens, bias, IsNormal}
 
 -- 1. References: whatever may hold a frame
 
@@ -253,11 +253,6 @@ pub record Holds (s : CoreState) : Type 0 where
 abbrev pub CanTell : PlainState → Option PlainEvent → Type 0
 CanTell s None = Unit {0}
 CanTell s (Some e) = CanHappen s e
-
--- What a core event does to the plain state is its plain event, which can happen.
-pub record Tells (s : CoreState) (e : CoreEvent) : Type 0 where
-  pub can : CanTell (plain_of s) (told e)
-  pub same : plain_of (happens s e) ≡ after_told (plain_of s) (told e)
 
 -- each event can happen in the state that those before it lead to
 abbrev pub AllCan : CoreState → List CoreEvent → Type 0

@@ -14,7 +14,7 @@ use Rattle.gup_spec_journal.specs.Order.{waiting_at}
 use Rattle.gup_spec_events.specs.Event.{CoreEvent, map_pages, protect_pages, drop_entry, discard_entry, unpin_page, give_handle}
 use Rattle.gup_spec_events.specs.Fault.{Fault, write_fault, gives_back}
 use Rattle.gup_spec_turns.specs.CoreTurn.{CoreTurn, ends_with, denied_or, after_fault, free_frame}
-use Rattle.gup_spec_turns.specs.PageTurns.{loads, stores, takes_down, lowers_for}
+use Rattle.gup_spec_turns.specs.PageTurns.{loads, stores, mapped_turn, lowers_for}
 use Rattle.gup_spec_turns.specs.PinTurns.{last_of, but_last, unpinned}
 use Rattle.gup_spec_turns.specs.DeviceTurns.{moves_from, frame_at}
 
@@ -34,7 +34,7 @@ map_turn_by denied a p page n rights =
 
 abbrev pub unmap_turn_by : Option Rights → (a p page : ℕ) → Option Entry → (last : Bool) → CoreTurn
 unmap_turn_by right a p page entry last =
-    takes_down right last (drop_entry a p page entry ∷ gives_back a entry) (events.Unmap a p page)
+    mapped_turn right last (drop_entry a p page entry ∷ gives_back a entry) (events.Unmap a p page)
 
 abbrev pub protect_turn_by : (denied : Option Answer) → CoreState → (a p page n : ℕ) → Rights → CoreTurn
 protect_turn_by denied s a p page n rights =
@@ -44,7 +44,7 @@ protect_turn_by denied s a p page n rights =
 
 abbrev pub discard_turn_by : Option Rights → (a p page : ℕ) → Option Entry → (last : Bool) → CoreTurn
 discard_turn_by right a p page entry last =
-    takes_down right last (discard_entry a p page entry ∷ gives_back a entry) (events.Discard a p page)
+    mapped_turn right last (discard_entry a p page entry ∷ gives_back a entry) (events.Discard a p page)
 
 abbrev pub unpin_turn_by : (held : Bool) → (a handle : ℕ) → (pinned : List ℕ) → CoreTurn
 unpin_turn_by held a handle pinned =

@@ -65,18 +65,18 @@ map_turn s a p page n rights =
 -- unmap and discard: one page a turn
 
 -- a page that is not mapped is passed in silence
-abbrev pub takes_down : Option Rights → (last : Bool) → List CoreEvent → PlainEvent → CoreTurn
-takes_down None last events event = record { events = []; whats = silent_or_done last }
-takes_down (Some rights) last events event = record { events = events; whats = Event event ∷ done_if last }
+abbrev pub mapped_turn : Option Rights → (last : Bool) → List CoreEvent → PlainEvent → CoreTurn
+mapped_turn None last events event = record { events = []; whats = silent_or_done last }
+mapped_turn (Some rights) last events event = record { events = events; whats = Event event ∷ done_if last }
 
 abbrev pub unmap_turn : CoreState → (a p page : ℕ) → (last : Bool) → CoreTurn
 unmap_turn s a p page last =
-    takes_down (s.right p page) last (drop_entry a p page (s.entry p page) ∷ gives_back a (s.entry p page))
+    mapped_turn (s.right p page) last (drop_entry a p page (s.entry p page) ∷ gives_back a (s.entry p page))
     (events.Unmap a p page)
 
 abbrev pub discard_turn : CoreState → (a p page : ℕ) → (last : Bool) → CoreTurn
 discard_turn s a p page last =
-    takes_down (s.right p page) last (discard_entry a p page (s.entry p page) ∷ gives_back a (s.entry p page))
+    mapped_turn (s.right p page) last (discard_entry a p page (s.entry p page) ∷ gives_back a (s.entry p page))
     (events.Discard a p page)
 
 -- protect

@@ -89,31 +89,6 @@ unmapped_entry F F' S S1 S' page (Some rights) (Some d) e had some found first s
 
 -- ---- discard
 
-pub undiscarded : (F : FramesValue) (S : SpaceValue) (page : ℕ) (right : Option Rights) (entry : Option Entry) → is_some right ≡ false → AreEvents (ch F F S S) (λ a p. discards a p page right entry)
-undiscarded F S page (Some rights) entry none = absurd (cc)
-undiscarded F S page None entry none =
-    are_events (ch F F S S) (λ a p. []) (λ a p. record { own = tt; frames = refl; space = same_shown (unlocked S) (unlocked S) refl; table = refl })
-
-pub discarded_empty : (F : FramesValue) (S : SpaceValue) (page : ℕ) (right : Option Rights) (entry : Option Entry) → is_some right ≡ true → S.entry page ≡ entry → entry ≡ None → AreEvents (ch F F S S) (λ a p. discards a p page right entry)
-discarded_empty F S page None entry some found none = absurd (cc)
-discarded_empty F S page (Some rights) (Some e) some found none = absurd (cc)
-discarded_empty F S page (Some rights) None some found none =
-    are_events (ch F F S S) (λ a p. discard_entry a p page None ∷ [])
-    (λ a p. record {
-      own = (discarding a page None, tt);
-      frames = refl;
-      space = record {
-        right = λ g. refl;
-        pages = refl;
-        entry = λ g. lose_nothing page S.entry g found;
-        sequence = refl;
-        has_pinned = refl;
-        structure = refl;
-        table = refl;
-      };
-      table = refl;
-    })
-
 pub discarded_entry : (F F' : FramesValue) (S S' : SpaceValue) (page : ℕ) (right : Option Rights) (entry : Option Entry) (e : Entry) → is_some right ≡ true → entry ≡ Some e → S' ≡ with_entry page None S → F' ≡ without_references e.frame 1 F → AreEvents (ch F F' S S') (λ a p. discards a p page right entry)
 discarded_entry F F' S S' page None entry e some found space frames = absurd (cc)
 discarded_entry F F' S S' page (Some rights) None e some found space frames = absurd (cc)
