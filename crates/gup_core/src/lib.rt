@@ -13,6 +13,3 @@ mod turns;
 
 pub use machine::Machine;
 pub use turn::Turn;
-
-#[cfg(test)]
-mod tests;

@@ -9,6 +9,3 @@ mod steps;
 pub use denied::{Denied, NoFrame, answer_of};
 pub use ready::{ready_read, ready_write, unshare};
 pub use steps::{break_copy, fill, mark, upgrade};
-
-#[cfg(test)]
-mod tests;

@@ -104,6 +104,3 @@ pub fn end(parent: &mut Space)
 {
     parent.raise();
 }
-
-#[cfg(test)]
-mod tests;

@@ -6,6 +6,3 @@ mod frames;
 mod words;
 
 pub use frames::Frames;
-
-#[cfg(test)]
-mod tests;

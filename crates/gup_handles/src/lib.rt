@@ -5,6 +5,3 @@ mod handle;
 mod handles;
 
 pub use handles::{Handles, NotHeld};
-
-#[cfg(test)]
-mod tests;

@@ -6,6 +6,3 @@ mod outcome;
 
 pub use lines::{outcomes, push_line, push_stuck};
 pub use outcome::{Outcome, Outcomes};
-
-#[cfg(test)]
-mod tests;

@@ -11,6 +11,3 @@ pub use answer::{Answer, Cause};
 pub use event::PlainEvent;
 pub use journal::Journal;
 pub use note::{Note, Waiting, What};
-
-#[cfg(test)]
-mod tests;

@@ -4,6 +4,3 @@
 mod names;
 
 pub use names::Names;
-
-#[cfg(test)]
-mod tests;

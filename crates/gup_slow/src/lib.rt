@@ -35,6 +35,3 @@ pub fn pin_page(space: &mut Space, frames: &mut Frames, page: PageNo, want: Want
     frames.grab(frame, PIN_BIAS);
     frame
 }
-
-#[cfg(test)]
-mod tests;

@@ -61,6 +61,3 @@ fn clear(space: &mut Space, frames: &mut Frames, page: PageNo, entry: Entry)
     space.set_entry(page, None);
     frames.put(entry.frame, 1);
 }
-
-#[cfg(test)]
-mod tests;

@@ -1,0 +1,13 @@
+//! Tests of what a machine keeps its state in: mappings, frames, handles, processes and stores.
+#![tactic(auto)]
+
+#[cfg(test)]
+mod frames;
+#[cfg(test)]
+mod handles;
+#[cfg(test)]
+mod maps;
+#[cfg(test)]
+mod spaces;
+#[cfg(test)]
+mod stores;
