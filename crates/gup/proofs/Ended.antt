@@ -1,10 +1,9 @@
 -- The end of a run: who waits, and the lines of those.
-use Rattle.std.proofs.Common.{◌≡◌, ℕ, ◌+◌, ◌<◌, ◌≤◌, Bool, true, false, List, [], ◌∷◌, ◌++◌, Option, Some, None, slice_get, length, nat_le, inl, inr, refl, sym, ap, subst, ◌∙◌, zero, suc, arith, append-nil}
+use Rattle.std.proofs.Common.{◌≡◌, ℕ, ◌+◌, ◌<◌, ◌≤◌, Bool, true, false, List, [], ◌∷◌, ◌++◌, Option, Some, None, slice_get, length, inl, inr, refl, sym, ap, subst, ◌∙◌, zero, suc, arith, append-nil}
 use Rattle.std.proofs.lemmas.Bool.{leb-true, leb-false}
-use Rattle.std.proofs.lemmas.Option.{slice_get_past, slice_get_within}
+use Rattle.std.proofs.lemmas.Option.{slice_get_past}
 use Rattle.gup_plain.specs.Note.{NoteValue}
 use Rattle.gup_plain.specs.declared.note.Waiting.{Waiting}
-use Rattle.gup_plain.specs.declared.note.Waiting.TheVariants as waitings
 use Rattle.gup_script.specs.declared.op.Op.{Op}
 use Rattle.gup_script.specs.Script.{ScriptValue}
 use Rattle.gup_spec_journal.specs.Place.{has_finished, ops_of, doer}
@@ -12,7 +11,7 @@ use Rattle.gup_spec_turns.specs.Cause.{HaveFinished, WaitsForBirthOrPin}
 use Rattle.gup_spec_turns.specs.Run.{RunState, op_in, waiting_with, waiting_in, is_ready, can_go, IsCoreRun}
 use Rattle.gup_lines.specs.Text.{NamesWaiting, text_of}
 use Rattle.gup.specs.Report.{HasRun, IsRunOf, IsEnd}
-use Rattle.gup.specs.Stuck.{IsFinishedRun, IsStuckRun, AreWaiting, stuck_of, stuck_lines, stuck_text, run_text}
+use Rattle.gup.specs.Stuck.{IsFinishedRun, IsStuckRun, AreWaiting, stuck_of, stuck_lines, run_text}
 
 -- an actor that has finished has no operation left, and one that hasn't has one
 

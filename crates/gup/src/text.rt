@@ -13,8 +13,8 @@ use gup_base::{ActorNo, NoMemory};
 use gup_core::Machine;
 use gup_lines::{Outcome, outcomes, push_line, push_stuck};
 use gup_plain::{Journal, Waiting};
-use gup_spec_grammar::{Reason, ScriptFault};
 use gup_script::Script;
+use gup_spec_grammar::{Reason, ScriptFault};
 use itoa::Buffer;
 use std::alloc::Global;
 

@@ -20,13 +20,16 @@ use crate::text::{journal_text, push_stuck_lines, refusal_line};
 use gup_base::NoMemory;
 use gup_core::Machine;
 use gup_io::{ReadToEnd, Sink, Source, read_up_to, write_all};
+use gup_law_journal::{
+    core_run_follows, core_run_is_in_order, core_run_is_known, core_run_is_plain,
+    finished_runs_answer_all, no_frame_has_its_cause, runs_end_at_waits,
+};
 use gup_law_owners::plain_journals_are_owned;
 use gup_plain::Journal;
 use gup_read::{one_script, read_script, scripts_have_no_fault};
-use gup_spec_grammar::{ReadRefusal, ScriptFault};
 use gup_sched::run_all;
 use gup_script::Script;
-use gup_law_journal::{core_run_follows, core_run_is_in_order, core_run_is_known, core_run_is_plain, finished_runs_answer_all, no_frame_has_its_cause, runs_end_at_waits};
+use gup_spec_grammar::{ReadRefusal, ScriptFault};
 use std::alloc::Global;
 
 /// The most bytes of a script, and one more: a longer text is refused without reading on.

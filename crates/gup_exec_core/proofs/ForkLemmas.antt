@@ -1,5 +1,5 @@
 -- What a fork copies, where the objects are known by their pages.
-use Rattle.std.proofs.Common.{◌≡◌, ℕ, ◌+◌, Bool, true, ◌∙◌, ap}
+use Rattle.std.proofs.Common.{◌≡◌, ℕ, Bool, true, ◌∙◌, ap}
 use Rattle.gup_plain.specs.Put.{put, put2, spread}
 
 -- the contents of a page that is copied as a whole

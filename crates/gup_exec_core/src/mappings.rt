@@ -8,7 +8,9 @@ ghost use Rattle.gup_exec_core.specs.Protected.{MayProtect, CanProtect};
 
 use crate::trial::Trial;
 use gup_base::{ActorNo, Entry, FrameNo, PageNo, ProcNo, Rights};
-use gup_exec_jobs::needs::{clear_one, entry_to, frame_of, is_entry, is_same, keeps_right, need, sum};
+use gup_exec_jobs::needs::{
+    clear_one, entry_to, frame_of, is_entry, is_same, keeps_right, need, sum,
+};
 use gup_exec_jobs::refused::Refused;
 use gup_exec_parts::space::PAGE_NUMBERS;
 use gup_exec_rows::clearing::clear;

@@ -2,8 +2,8 @@
 use Rattle.std.proofs.Common.{◌≡◌, ℕ, ◌<◌, ◌==◌, Bool, true, false, if◌then◌else◌, List, Option, Some, None, length, get_or, slice_set, refl, sym, ◌∙◌, ap, arith}
 use Rattle.std.proofs.Math.Path.{fun_ext}
 use Rattle.std.proofs.lemmas.Bool.Decides.{nat_tests}
-use Rattle.gup_plain.specs.Put.{put, put2, within, spread}
-use Rattle.gup_exec_parts.proofs.TableLemmas.{place_put, place_is, put_same}
+use Rattle.gup_plain.specs.Put.{put, put2, within}
+use Rattle.gup_exec_parts.proofs.TableLemmas.{place_put, place_is}
 use Rattle.gup_exec_rows.specs.Row.{or_blank, standing, at}
 
 chosen : {X Y : Type 0} (g : X → Y) (b : Bool) (x x' : X) (y y' : Y) → (b ≡ true → g x ≡ y) → (b ≡ false → g x' ≡ y') → g (if b then x else x') ≡ (if b then y else y')

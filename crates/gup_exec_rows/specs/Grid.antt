@@ -1,8 +1,7 @@
 -- What processes have at their pages.
 use Rattle.std.specs.Prelude.{ℕ, Option}
-use Rattle.std.specs.BTreeMap.{BTreeMap, get}
+use Rattle.std.specs.BTreeMap.{get}
 use Rattle.std.specs.Ordering.{nat_cmp}
-use Rattle.std.specs.Option.{option_map_or}
 use Rattle.gup_exec_rows.specs.declared.grid.Grid.{Grid}
 use Rattle.gup_exec_rows.specs.Row.{at}
 

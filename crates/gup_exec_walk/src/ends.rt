@@ -6,12 +6,12 @@ ghost use Rattle.gup_exec_core.specs.Tried.{Tried};
 
 use crate::parts::is_walking;
 use gup_base::{ActorNo, FrameNo, ProcNo};
+use gup_exec_core::Trial;
 use gup_exec_jobs::job::Job;
 use gup_exec_jobs::needs::{give_back, need, sum};
 use gup_exec_jobs::refused::Refused;
 use gup_exec_jobs::taken::{Taken, TakenList, begins_with, ends_with, has_none, same};
 use gup_exec_jobs::walk::{WalkStep, after_drop, after_end, after_sequence, may_rest};
-use gup_exec_core::Trial;
 
 /// The actor begins a walk over pages of `p`, to be written or not, and kept for long or not.
 pub fn enter_walk(

@@ -5,12 +5,12 @@ ghost use Rattle.gup_exec_core.specs.Tried.{Tried};
 
 use crate::parts::{after_entry, is_walking};
 use gup_base::{ActorNo, Entry, PageNo, ProcNo};
+use gup_exec_core::Trial;
 use gup_exec_jobs::job::Job;
 use gup_exec_jobs::needs::{is_entry, is_same, need, sum};
 use gup_exec_jobs::refused::Refused;
 use gup_exec_jobs::taken::{Taken, TakenList, is_untaken, with_one_more};
 use gup_exec_jobs::walk::{WalkStep, after_grab, after_mark, after_reading, after_recheck};
-use gup_exec_core::Trial;
 
 /// The page's entry is read, and no lock is taken. Where it isn't right for the pin, the walk stops.
 pub fn read_entry(

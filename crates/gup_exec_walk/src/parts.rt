@@ -7,8 +7,8 @@ ghost use Rattle.gup_exec_rows.specs.Row.{at};
 ghost use Rattle.gup_exec_core.specs.State.{state_of};
 
 use gup_base::{ActorNo, Entry, PageNo, ProcNo};
-use gup_exec_jobs::walk::{WalkStep, after_reading};
 use gup_exec_core::Trial;
+use gup_exec_jobs::walk::{WalkStep, after_reading};
 
 /// Whether the actor walks over pages of `p`, for pins of this kind, has read this sequence, and is there.
 pub fn is_walking(

@@ -12,7 +12,7 @@ use Rattle.gup_script.specs.declared.op.Op.{Op}
 use Rattle.gup_script.specs.declared.op.Op.TheVariants.{Map, Unmap, Protect, Discard, Load, Store, Pin, Unpin, Give, Take, Transfer, Fork, Exit}
 use Rattle.gup_script.specs.Script.{ScriptValue}
 use Rattle.gup_script.specs.Valid.{IsScript, IsOp}
-use Rattle.gup_spec_events.specs.State.{CoreState, Taken, Job, idle, marking, moving, forking, walking, between, counted, lowered, cleared, copying, failing}
+use Rattle.gup_spec_events.specs.State.{CoreState, Job, idle, marking, moving, forking, walking, between, counted, lowered, cleared, copying, failing}
 use Rattle.gup_spec_events.specs.Event.{bias}
 use Rattle.gup_spec_events.specs.Invariant.{Holds, entry_of_page, page_of_pin, weight, frame_of}
 use Rattle.gup_law_base.specs.Sound.{IsSound}

@@ -13,10 +13,10 @@ ghost use Rattle.gup_op_base.specs.Tidy.{IsTidy};
 ghost use Rattle.gup_op_base.specs.Said.{whats_of};
 ghost use Rattle.gup_op_fork.specs.Forked.{place_of, IsCountedIn, IsCopyOf, IsReadyAt, IsForkTurn};
 
-use gup_op_base::{Said, done, happened, silent};
 use gup_base::{ActorNo, Allowed, FrameNo, PageNo, ProcNo, WordNo};
 use gup_fork::{begin, copies, copy_word, end, fail, place_child, share};
 use gup_frames::Frames;
+use gup_op_base::{Said, done, happened, silent};
 use gup_plain::{Answer, PlainEvent};
 use gup_space::Space;
 

@@ -10,10 +10,10 @@ ghost use Rattle.gup_spec_turns.specs.CoreTurn.{allows_store as is_allowed, fram
 ghost use Rattle.gup_op_base.specs.Tidy.{IsTidy};
 ghost use Rattle.gup_op_base.specs.Said.{whats_of, loaded_said, stored_said, IsTurnOf};
 
-use gup_op_base::{Said, done, refused};
 use gup_base::{ActorNo, Allowed, Entry, PageNo, ProcNo, WordNo};
 use gup_fault::{answer_of, ready_read, ready_write};
 use gup_frames::Frames;
+use gup_op_base::{Said, done, refused};
 use gup_plain::{Answer, PlainEvent};
 use gup_space::Space;
 

@@ -8,10 +8,10 @@ ghost use Rattle.gup_op_base.specs.Tidy.{IsTidy};
 ghost use Rattle.gup_op_base.specs.Said.{whats_of, IsTurnOf};
 ghost use Rattle.gup_op_pages.specs.Lowered.{IsLowered, IsLoweredFor};
 
-use gup_op_base::{Said, done, page_behind, refused};
 use gup_base::{ActorNo, Entry, PageNo, ProcNo, Rights};
 use gup_frames::Frames;
 use gup_maps::MapRefusal;
+use gup_op_base::{Said, done, page_behind, refused};
 use gup_plain::{Answer, PlainEvent};
 use gup_space::Space;
 

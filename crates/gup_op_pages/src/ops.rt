@@ -12,10 +12,10 @@ ghost use Rattle.gup_op_base.specs.Far.{HasFar, far_in};
 
 use crate::loads::{allows_store, load, store};
 use crate::mappings::{map, protect};
-use gup_op_base::{Said, page_behind, refused};
 use crate::unmaps::{discard, exit, unmap};
 use gup_base::{ActorNo, ProcNo};
 use gup_frames::Frames;
+use gup_op_base::{Said, page_behind, refused};
 use gup_plain::Answer;
 use gup_script::Op;
 use gup_space::Space;

@@ -7,9 +7,9 @@ ghost use Rattle.gup_spec_turns.specs.PageTurns.{unmap_turn, discard_turn, exit_
 ghost use Rattle.gup_op_base.specs.Tidy.{IsTidy};
 ghost use Rattle.gup_op_base.specs.Said.{whats_of, passed_said, IsTurnOf};
 
-use gup_op_base::{Said, refused};
 use gup_base::{ActorNo, PageNo, ProcNo};
 use gup_frames::Frames;
+use gup_op_base::{Said, refused};
 use gup_plain::{Answer, PlainEvent};
 use gup_space::Space;
 use gup_unmap::take_down;

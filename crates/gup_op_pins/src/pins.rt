@@ -14,12 +14,12 @@ ghost use Rattle.gup_op_base.specs.Tidy.{IsTidy};
 ghost use Rattle.gup_op_base.specs.Said.{whats_of};
 ghost use Rattle.gup_op_pins.specs.Pins.{IsPinTurn, raised, fault_to_pin, want_of};
 
-use gup_op_base::{Said, done, happened, page_behind, refused};
 use arrayvec::ArrayVec;
 use gup_base::{ActorNo, Allowed, FrameNo, HandleNo, PageNo, ProcNo, Want};
 use gup_fault::{Denied, answer_of, ready_write, unshare};
 use gup_frames::Frames;
 use gup_handles::Handles;
+use gup_op_base::{Said, done, happened, page_behind, refused};
 use gup_plain::{Answer, Cause, PlainEvent};
 use gup_slow::pin_page;
 use gup_space::Space;

@@ -6,11 +6,11 @@ ghost use Rattle.gup_read.specs.Reading.{with_pinned, on_in, process_in, thread_
 
 use crate::operations::actor_op;
 use crate::refusal::{Trouble, check};
-use gup_spec_grammar::Reason;
 use crate::turns::{random_line, turns_line};
 use gup_read_outline::Reader;
-use gup_script::{Kind, Op};
 use gup_read_words::{count, is_name, number};
+use gup_script::{Kind, Op};
+use gup_spec_grammar::Reason;
 use std::alloc::AllocError;
 
 const MAX_PROCESSES: usize = 16;

@@ -8,11 +8,11 @@ ghost use Rattle.gup_read.specs.StageViews.{stage_value, IsCut};
 ghost use Rattle.gup_read.specs.Reading.{end_in, lines_in, reading};
 
 use crate::refusal::Trouble;
-use gup_spec_grammar::{ReadRefusal, Reason};
 use crate::stage::Stage;
 use gup_read_outline::Reader;
-use gup_script::Script;
 use gup_read_words::is_printable;
+use gup_script::Script;
+use gup_spec_grammar::{ReadRefusal, Reason};
 use std::alloc::Global;
 
 /// How many bytes a script's text may have.

@@ -5,9 +5,9 @@ ghost use Rattle.gup_read.specs.Reading.{counts_in, frames_in, is_head, words_in
 
 use crate::declarations::next_line;
 use crate::refusal::{Trouble, check};
-use gup_spec_grammar::Reason;
 use gup_read_outline::Reader;
 use gup_read_words::{are_spaced, is_passed, line_text, number, words};
+use gup_spec_grammar::Reason;
 use std::alloc::Global;
 
 /// How many frames there may be in both zones.

@@ -5,9 +5,9 @@ ghost use Rattle.gup_read.specs.Steps.{Makes};
 ghost use Rattle.gup_read.specs.Reading.{are_times, are_turners, turns_of, turns_in, random_in};
 
 use crate::refusal::{Trouble, check};
-use gup_spec_grammar::Reason;
 use gup_read_outline::Reader;
 use gup_read_words::{number, turn_name, turn_times};
+use gup_spec_grammar::Reason;
 use std::alloc::AllocError;
 
 /// How many written turns a script may have.

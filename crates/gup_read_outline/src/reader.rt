@@ -11,9 +11,9 @@ ghost use Rattle.gup_read_outline.specs.Named.{process_of, actor_of, pin_of, is_
 use crate::drawing::{push_drawn, push_times};
 use gup_base::{ActorNo, HandleNo, ProcNo};
 use gup_read_names::Names;
-use gup_spec_grammar::Named;
-use gup_script::{Actor, Contents, Kind, Op, Process};
 use gup_read_words::is_name;
+use gup_script::{Actor, Contents, Kind, Op, Process};
+use gup_spec_grammar::Named;
 use std::alloc::{AllocError, Global};
 use std::marker::Model;
 

@@ -9,10 +9,10 @@ ghost use Rattle.gup_sched.specs.Ran.{SaysStuck};
 use crate::order::{actor_no, behind, is_stuck, next_to_go};
 use gup_base::{ActorNo, NoMemory};
 use gup_core::{Machine, Turn};
-use gup_plain::Journal;
-use gup_script::Script;
 use gup_law_costs::turns_are_spent;
 use gup_law_turns::reached_states_stand;
+use gup_plain::Journal;
+use gup_script::Script;
 use std::alloc::Global;
 
 /// What a run leaves: its journal, whether it is stuck, which it is where an actor has operations left, and the

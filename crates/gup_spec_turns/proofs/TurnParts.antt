@@ -1,6 +1,6 @@
 -- Turns by what they find: what a fault comes to, what denies, whether the page is mapped. Each is the turn table's own turn, once
 -- that is put in.
-use Rattle.std.specs.Prelude.{ℕ, ◌+◌, Bool, true, false, if◌then◌else◌, List, [], ◌∷◌, ◌++◌, Option, Some, None, Ok, Err}
+use Rattle.std.specs.Prelude.{ℕ, ◌+◌, Bool, if◌then◌else◌, List, [], ◌∷◌, ◌++◌, Option, Ok}
 use Rattle.gup_base.specs.declared.entry.Entry.{Entry}
 use Rattle.gup_base.specs.declared.entry.Rights.{Rights}
 use Rattle.gup_plain.specs.Denial.{holder_denial}
@@ -11,7 +11,7 @@ use Rattle.gup_plain.specs.State.{Birth}
 use Rattle.gup_plain.specs.declared.note.Waiting.{Waiting}
 use Rattle.gup_spec_events.specs.State.{CoreState}
 use Rattle.gup_spec_journal.specs.Order.{waiting_at}
-use Rattle.gup_spec_events.specs.Event.{CoreEvent, map_pages, protect_pages, drop_entry, discard_entry, unpin_page, give_handle}
+use Rattle.gup_spec_events.specs.Event.{map_pages, protect_pages, drop_entry, discard_entry, unpin_page, give_handle}
 use Rattle.gup_spec_events.specs.Fault.{Fault, write_fault, gives_back}
 use Rattle.gup_spec_turns.specs.CoreTurn.{CoreTurn, ends_with, denied_or, after_fault, free_frame}
 use Rattle.gup_spec_turns.specs.PageTurns.{loads, stores, mapped_turn, lowers_for}

@@ -5,7 +5,7 @@ use Rattle.gup_plain.specs.declared.note.What.TheVariants.{Idle, Wait}
 use Rattle.gup_plain.specs.declared.note.Waiting.{Waiting}
 use Rattle.gup_script.specs.declared.op.Op.{Op}
 use Rattle.gup_script.specs.Script.{ScriptValue}
-use Rattle.gup_spec_events.specs.State.{CoreState, core_start, Taken}
+use Rattle.gup_spec_events.specs.State.{CoreState, core_start}
 use Rattle.gup_spec_events.specs.Event.{run}
 use Rattle.gup_spec_journal.specs.Place.{Place, first_place, Doer, doer, present_op, starts_born}
 use Rattle.gup_spec_journal.specs.Order.{Turn, places_behind, journal_of, behind, pointer_after}

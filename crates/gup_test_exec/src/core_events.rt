@@ -1,8 +1,8 @@
-use gup_exec_core::{Refused, Trial};
 use gup_base::{
     ActorNo, Allowed, Entry, FrameNo, HandleNo, MirrorNo, NoMemory, PageNo, ProcNo, Rights, WordNo,
     Zone,
 };
+use gup_exec_core::{Refused, Trial};
 use gup_exec_jobs::job::{Counted, ForkStep, Stage};
 use gup_exec_jobs::lists::{same_frames, same_pages};
 use gup_exec_rows::grid::has_page;

@@ -1,11 +1,14 @@
-use gup_exec_walk::{drop_first, drop_grab, drop_last, enter_walk, grab_frame, leave_walk, miss_frame, read_again, read_entry, read_mark, read_sequence, recheck_other, recheck_same};
 use gup_base::{ActorNo, Allowed, FrameNo, HandleNo, PageNo, ProcNo, Rights};
+use gup_exec_core::Trial;
 use gup_exec_jobs::job::Counted;
 use gup_exec_jobs::needs::entry_to;
 use gup_exec_jobs::refused::Refused;
 use gup_exec_jobs::taken::{Taken, same};
 use gup_exec_jobs::walk::WalkStep;
-use gup_exec_core::Trial;
+use gup_exec_walk::{
+    drop_first, drop_grab, drop_last, enter_walk, grab_frame, leave_walk, miss_frame, read_again,
+    read_entry, read_mark, read_sequence, recheck_other, recheck_same,
+};
 use std::alloc::Global;
 use std::str::SplitWhitespace;
 use std::test::Fail;

@@ -3,8 +3,10 @@ ghost use Rattle.gup_frames.specs.Frames.{frames_of, IsFrame};
 ghost use Rattle.gup_space.specs.Space.{space_of, HasRoom};
 ghost use Rattle.gup_space.specs.Counted.{IsCounted};
 
-use gup_fault::{Denied, NoFrame, break_copy, fill, mark, ready_read, ready_write, unshare, upgrade};
 use gup_base::{Allowed, Entry, FrameNo, PageNo, Rights, WordNo, Zone};
+use gup_fault::{
+    Denied, NoFrame, break_copy, fill, mark, ready_read, ready_write, unshare, upgrade,
+};
 use gup_frames::Frames;
 use gup_space::Space;
 use std::alloc::Global;

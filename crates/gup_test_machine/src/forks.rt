@@ -5,11 +5,10 @@ ghost use Rattle.gup_space.specs.Space.{space_of, HasRoom};
 ghost use Rattle.gup_space.specs.Counted.{IsCounted};
 ghost use Rattle.gup_fork.specs.Forks.{with_maps_of};
 
+use gup_base::{Allowed, Entry, FrameNo, PageNo, Rights, WordNo, Zone};
 use gup_fork::{begin, copies, copy_word, end, fail, place_child, share};
-use gup_base::{Entry, PageNo};
 use gup_frames::Frames;
 use gup_space::Space;
-use gup_base::{Allowed, FrameNo, Rights, WordNo, Zone};
 use std::alloc::Global;
 use std::process::Abort;
 use std::test::Fail;

@@ -2,8 +2,8 @@ ghost use Rattle.std.specs.Prelude.{◌≡◌, ◌<◌, ◌≤◌, ◌^◌, true
 ghost use Rattle.gup_script.specs.Valid.{IsOp, IsPages};
 ghost use Rattle.gup_op_pages.specs.Alone.{IsAlone};
 
-use gup_core::Machine;
 use gup_base::{ActorNo, HandleNo, NoMemory, PageNo, ProcNo, Rights, WordNo, Zone};
+use gup_core::Machine;
 use gup_plain::{Answer, PlainEvent, Waiting, What};
 use gup_script::{Actor, Contents, Kind, Op, Process, Script};
 use std::alloc::Global;

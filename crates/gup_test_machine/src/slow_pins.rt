@@ -2,11 +2,10 @@ ghost use Rattle.gup_frames.specs.Frames.{frames_of, IsFrame};
 ghost use Rattle.gup_space.specs.Space.{space_of};
 ghost use Rattle.gup_slow.specs.Pins.{IsReady};
 
-use gup_slow::pin_page;
-use gup_base::{FrameNo, PageNo, Want, Zone};
+use gup_base::{Allowed, Entry, FrameNo, PageNo, Rights, Want, Zone};
 use gup_frames::Frames;
+use gup_slow::pin_page;
 use gup_space::Space;
-use gup_base::{Allowed, Entry, Rights};
 use std::alloc::Global;
 use std::process::Abort;
 use std::test::Fail;

@@ -2,11 +2,10 @@ ghost use Rattle.gup_frames.specs.Frames.{frames_of, IsFrame};
 ghost use Rattle.gup_space.specs.Space.{space_of};
 ghost use Rattle.gup_space.specs.Counted.{IsCounted};
 
-use gup_unmap::{discard, take_down};
-use gup_base::{Entry, PageNo};
+use gup_base::{Allowed, Entry, FrameNo, PageNo, Rights};
 use gup_frames::Frames;
 use gup_space::Space;
-use gup_base::{Allowed, FrameNo, Rights};
+use gup_unmap::{discard, take_down};
 use std::alloc::Global;
 use std::process::Abort;
 use std::test::Fail;

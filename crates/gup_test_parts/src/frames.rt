@@ -1,8 +1,8 @@
 ghost use Rattle.std.specs.Prelude.{◌↔◌, IsTrue};
 ghost use Rattle.gup_frames.specs.Frames.{frames_of, IsFrame};
 
-use gup_frames::Frames;
 use gup_base::{Allowed, FrameNo, WordNo, Zone};
+use gup_frames::Frames;
 use std::alloc::Global;
 use std::process::Abort;
 use std::test::Fail;

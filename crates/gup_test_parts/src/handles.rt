@@ -1,9 +1,9 @@
 ghost use Rattle.std.specs.Prelude.{◌<◌, ◌≢◌};
 ghost use Rattle.arrayvec.specs.ArrayVec.{array_vec_len};
 
-use gup_handles::{Handles, NotHeld};
 use arrayvec::ArrayVec;
 use gup_base::{ActorNo, FrameNo, HandleNo, NoMemory};
+use gup_handles::{Handles, NotHeld};
 use std::alloc::Global;
 use std::process::Abort;
 use std::test::Fail;

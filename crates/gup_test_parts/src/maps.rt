@@ -1,5 +1,5 @@
-use gup_maps::{Hole, MapRefusal, Maps, Table};
 use gup_base::{PageNo, Rights};
+use gup_maps::{Hole, MapRefusal, Maps, Table};
 use std::test::Fail;
 
 #[test]

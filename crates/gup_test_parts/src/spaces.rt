@@ -1,6 +1,6 @@
-use gup_space::Space;
 use gup_base::{ActorNo, Entry, FrameNo, PageNo, Rights};
 use gup_maps::{Hole, MapRefusal};
+use gup_space::Space;
 use std::process::Abort;
 use std::test::Fail;
 

@@ -2,8 +2,8 @@ ghost use Rattle.std.specs.Prelude.{◌↔◌, IsTrue};
 ghost use Rattle.gup_frames.specs.Frames.{frames_of, IsFrame};
 ghost use Rattle.gup_device.specs.Store.{store_of, IsSlot};
 
-use gup_device::Store;
 use gup_base::{Allowed, FrameNo, NoMemory, WordNo};
+use gup_device::Store;
 use gup_frames::Frames;
 use std::process::Abort;
 use std::test::Fail;

@@ -1,7 +1,7 @@
 ghost use Rattle.std.specs.Prelude.{◌≡◌, length, IfOk};
 
-use gup_lines::{Outcome, outcomes, push_line, push_stuck};
 use gup_base::{ActorNo, HandleNo, NoMemory, ProcNo, Words};
+use gup_lines::{Outcome, outcomes, push_line, push_stuck};
 use gup_plain::{Answer, Cause, Journal, Note, PlainEvent, Waiting, What};
 use gup_script::{Actor, Contents, Kind, Process, Script};
 use std::alloc::{AllocError, Global};

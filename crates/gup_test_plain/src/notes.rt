@@ -1,5 +1,5 @@
-use gup_plain::{Answer, Cause, Journal, Note, PlainEvent, Waiting, What};
 use gup_base::{ActorNo, HandleNo, PageNo, ProcNo, Rights, WordNo};
+use gup_plain::{Answer, Cause, Journal, Note, PlainEvent, Waiting, What};
 use std::test::Fail;
 
 #[test]

@@ -1,7 +1,7 @@
 ghost use Rattle.std.specs.Prelude.{◌<◌, ◌≤◌};
 
-use gup_exec_plain::{Plain, PlainRefusal};
 use gup_base::{ActorNo, HandleNo, MirrorNo, NoMemory, PageNo, ProcNo, Rights, WordNo};
+use gup_exec_plain::{Plain, PlainRefusal};
 use gup_plain::PlainEvent;
 use std::alloc::Global;
 use std::test::Fail;

@@ -1,5 +1,5 @@
-use gup_read_names::Names;
 use gup_base::{ActorNo, HandleNo, MirrorNo, ProcNo};
+use gup_read_names::Names;
 use gup_spec_grammar::Named;
 use std::alloc::AllocError;
 use std::test::*;

@@ -1,5 +1,5 @@
-use gup_read::read_script;
 use gup_base::{ActorNo, HandleNo, PageNo, ProcNo, Rights, WordNo};
+use gup_read::read_script;
 use gup_script::{Kind, Op, Script};
 use gup_spec_grammar::{ReadRefusal, Reason, ScriptFault};
 use std::alloc::Global;

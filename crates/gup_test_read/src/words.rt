@@ -1,5 +1,8 @@
-use gup_read_words::{address, are_spaced, count, index, is_name, is_passed, is_printable, line_text, number, page, range, segment, turn_name, turn_times, word_no, words};
 use gup_base::{PageNo, WordNo};
+use gup_read_words::{
+    address, are_spaced, count, index, is_name, is_passed, is_printable, line_text, number, page,
+    range, segment, turn_name, turn_times, word_no, words,
+};
 use std::process::Abort;
 use std::test::*;
 

@@ -1,4 +1,3 @@
-use Rattle.std.proofs.Common.{rules}
 use Rattle.std.proofs.lemmas.Slice.Eq.{slice_eq-Decides}
 use Rattle.std.specs.Cmp.{unsigned_Decides}
 use Rattle.gup_exec_jobs.proofs.lists.are_same_pages.Goals as goal

@@ -1,4 +1,4 @@
-use Rattle.std.proofs.Common.{ℕ, ◌∙◌}
+use Rattle.std.proofs.Common.{◌∙◌}
 use Rattle.gup_exec_parts.specs.Contents.{content_of}
 use Rattle.gup_exec_jobs.proofs.RangeLemmas.{spread_one}
 use Rattle.gup_exec_jobs.proofs.needs.clear_one.Goals as goal

@@ -1,4 +1,4 @@
-use Rattle.std.proofs.Common.{◌≡◌, ℕ, ◌↔◌, Option, IsTrue, subst}
+use Rattle.std.proofs.Common.{ℕ, ◌↔◌, Option, IsTrue, subst}
 use Rattle.gup_base.specs.declared.entry.Entry.{Entry}
 use Rattle.gup_spec_events.specs.Event.{AreGone}
 use Rattle.gup_exec_rows.proofs.grid.are_gone.Goals as goal

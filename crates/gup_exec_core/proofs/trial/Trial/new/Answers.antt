@@ -1,4 +1,4 @@
-use Rattle.std.proofs.Common.{◌≡◌, ℕ, ◌==◌, if◌then◌else◌, Bool, false, List, [], Option, None, ◌∙◌, ap}
+use Rattle.std.proofs.Common.{ℕ, ◌==◌, if◌then◌else◌, Bool, false, List, [], Option, None, ◌∙◌, ap}
 use Rattle.gup_base.specs.declared.entry.Entry.{Entry}
 use Rattle.gup_base.specs.declared.entry.Rights.{Rights}
 use Rattle.gup_spec_events.specs.State.{CoreState, Job, idle, Taken}

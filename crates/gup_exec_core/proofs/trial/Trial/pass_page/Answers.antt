@@ -1,20 +1,13 @@
-use Rattle.std.proofs.Common.{◌≡◌, ℕ, ◌+◌, Bool, true, false, List, ◌∷◌, Option, Some, None, rules, sym, ◌∙◌, ap}
-use Rattle.gup_base.specs.declared.entry.Entry.{Entry}
-use Rattle.gup_base.specs.declared.entry.Rights.{Rights}
-use Rattle.gup_spec_events.specs.Event.{entry_of}
-use Rattle.gup_spec_events.specs.State.{CoreState, Job, forking, between, copying}
+use Rattle.std.proofs.Common.{ℕ, Bool, true, List, rules, ◌∙◌, ap}
+use Rattle.gup_spec_events.specs.State.{CoreState, Job, forking, between}
 use Rattle.gup_exec_parts.specs.Contents.{content_of}
-use Rattle.gup_exec_parts.proofs.SpaceLemmas.{page_numbers-is}
-use Rattle.gup_plain.specs.Event.{page_numbers}
 use Rattle.gup_plain.specs.Put.{put, put2, spread}
-use Rattle.gup_plain.specs.State.{Birth, named_or_zero}
-use Rattle.gup_exec_rows.specs.Grid.{found}
+use Rattle.gup_plain.specs.State.{Birth}
 use Rattle.gup_exec_rows.specs.Lists.{IsOneOf}
 use Rattle.gup_exec_rows.specs.Objects.{objects_in}
 use Rattle.gup_exec_rows.specs.Procs.{births, copies}
 use Rattle.gup_exec_rows.specs.Row.{at}
-use Rattle.gup_exec_rows.specs.Sheets.{words_in}
-use Rattle.gup_exec_core.proofs.ForkLemmas.{content_copied, page_copied, word_content, word_copied}
+use Rattle.gup_exec_core.proofs.ForkLemmas.{content_copied, page_copied}
 use Rattle.gup_exec_core.specs.State.{state_of}
 use Rattle.gup_exec_core.proofs.trial.Trial.pass_page.Goals as goal
 

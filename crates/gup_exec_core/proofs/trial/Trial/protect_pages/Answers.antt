@@ -1,4 +1,4 @@
-use Rattle.std.proofs.Common.{◌≡◌, ℕ, Option, ◌∙◌, ap}
+use Rattle.std.proofs.Common.{ℕ, Option, ◌∙◌, ap}
 use Rattle.gup_base.specs.declared.entry.Rights.{Rights}
 use Rattle.gup_spec_events.specs.State.{CoreState}
 use Rattle.gup_plain.specs.Put.{put}

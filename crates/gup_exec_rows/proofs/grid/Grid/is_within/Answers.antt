@@ -1,5 +1,4 @@
-use Rattle.std.proofs.Common.{◌≡◌, ℕ, ◌↔◌, Option, IsSome, Contains, IsTrue, subst}
-use Rattle.std.specs.BTreeMap.{get}
+use Rattle.std.proofs.Common.{ℕ, ◌↔◌, Option, IsSome, Contains, IsTrue, subst}
 use Rattle.gup_exec_parts.proofs.SpaceLemmas.{all_keys}
 use Rattle.gup_exec_rows.specs.Lists.{IsOneOf}
 use Rattle.gup_exec_rows.proofs.grid.Grid.is_within.Goals as goal

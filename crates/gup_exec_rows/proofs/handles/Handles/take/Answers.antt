@@ -1,8 +1,8 @@
-use Rattle.std.proofs.Common.{◌≡◌, ℕ, ◌<◌, Bool, true, false, List, length, sym, subst, ap, ◌∙◌, arith}
+use Rattle.std.proofs.Common.{◌≡◌, ◌<◌, Bool, true, false, List, length, sym, subst, ap, ◌∙◌, arith}
 use Rattle.std.specs.Bool.{MatchBool}
 use Rattle.gup_plain.specs.Put.{put}
-use Rattle.gup_plain.specs.State.{Handle, unmade, gone, held}
-use Rattle.gup_plain.specs.Event.{IsHeldBy, IsGivenTo, given_to, held_by}
+use Rattle.gup_plain.specs.State.{Handle, unmade}
+use Rattle.gup_plain.specs.Event.{IsGivenTo, held_by}
 use Rattle.gup_exec_parts.proofs.TableLemmas.{place_put, place_is}
 use Rattle.gup_exec_rows.specs.Handles.{handles_in}
 use Rattle.gup_exec_rows.proofs.handles.Handles.take.Goals as goal

@@ -1,4 +1,4 @@
-use Rattle.std.proofs.Common.{◌≡◌, ℕ, ◌+◌, List, Option, map, rules, ap, ◌∙◌}
+use Rattle.std.proofs.Common.{ℕ, ◌+◌, List, Option, map, rules, ap, ◌∙◌}
 use Rattle.std.proofs.Math.Path.{fun_ext}
 use Rattle.std.proofs.lemmas.Iterator.{YieldsList-from_map}
 use Rattle.std.proofs.lemmas.Iterator.Adapters.{fact_from_collect}

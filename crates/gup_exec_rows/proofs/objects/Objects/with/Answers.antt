@@ -1,4 +1,4 @@
-use Rattle.std.proofs.Common.{◌≡◌, ℕ, Option, Some, refl, ap, ◌∙◌}
+use Rattle.std.proofs.Common.{ℕ, Option, Some, refl, ap, ◌∙◌}
 use Rattle.gup_exec_rows.specs.Grid.{found}
 use Rattle.gup_exec_rows.specs.Objects.{objects_in, numbers, object_of}
 use Rattle.gup_exec_rows.proofs.RowLemmas.{through_put}

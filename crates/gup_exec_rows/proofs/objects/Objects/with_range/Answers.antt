@@ -1,7 +1,6 @@
 use Rattle.std.proofs.Common.{◌≡◌, ℕ, ◌+◌, ◌-◌, Option, subst, ap, ◌∙◌, arith}
 use Rattle.gup_plain.specs.Put.{spread}
 use Rattle.gup_exec_parts.proofs.TableLemmas.{grown}
-use Rattle.gup_exec_rows.specs.Grid.{found}
 use Rattle.gup_exec_rows.specs.Objects.{objects_in, numbers, object_of}
 use Rattle.gup_exec_rows.proofs.ObjectLemmas.{numbers_put, spread_none, object_behind}
 use Rattle.gup_exec_rows.proofs.objects.Objects.with_range.Goals as goal

@@ -1,10 +1,8 @@
-use Rattle.std.proofs.Common.{◌≡◌, ℕ, Bool, true, false, List, refl, ap, arith, Result, Ok, Err, OnOk}
-use Rattle.gup_plain.specs.Put.{put, spread}
-use Rattle.gup_plain.specs.State.{Birth, growing, born, failed}
-use Rattle.gup_exec_parts.specs.Space.{SpaceState, birth_of}
+use Rattle.std.proofs.Common.{List, ap, arith, Result, Ok, Err, OnOk}
+use Rattle.gup_exec_parts.specs.Space.{birth_of}
 use Rattle.gup_exec_parts.specs.declared.space.Birth.{Birth as Stage}
 use Rattle.gup_exec_parts.specs.declared.space.Space.{Space}
-use Rattle.gup_exec_rows.proofs.ProcLemmas.{AtProc, births_put, births_kept, copies_put, copies_kept, copies_put2, has_room, gets_room}
+use Rattle.gup_exec_rows.proofs.ProcLemmas.{AtProc, births_kept, copies_kept, gets_room}
 use Rattle.gup_exec_rows.specs.Procs.{births, copies, space_at, HasRoom}
 use Rattle.gup_exec_rows.proofs.procs.Procs.touch.Goals as goal
 

@@ -1,4 +1,4 @@
-use Rattle.std.proofs.Common.{sym, ◌∙◌, arith}
+use Rattle.std.proofs.Common.{arith}
 use Rattle.gup_exec_rows.proofs.RowLemmas.{at_put}
 use Rattle.gup_exec_rows.proofs.row.Row.set.Goals as goal
 

@@ -1,4 +1,4 @@
-use Rattle.std.proofs.Common.{◌≡◌, Some, None, sym, ◌∙◌, arith}
+use Rattle.std.proofs.Common.{sym, arith}
 use Rattle.gup_exec_rows.proofs.RowLemmas.{at_is}
 use Rattle.gup_exec_rows.proofs.row.Row.value.Goals as goal
 

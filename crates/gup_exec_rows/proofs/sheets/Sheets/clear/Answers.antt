@@ -1,4 +1,4 @@
-use Rattle.std.proofs.Common.{◌≡◌, ℕ, List, Option, None, refl, ap, ◌∙◌}
+use Rattle.std.proofs.Common.{ℕ, List, Option, None, refl, ap, ◌∙◌}
 use Rattle.gup_exec_rows.specs.Row.{at}
 use Rattle.gup_exec_rows.proofs.RowLemmas.{through_put}
 use Rattle.gup_exec_rows.specs.Sheets.{words_in, sheet_words}

@@ -1,4 +1,4 @@
-use Rattle.std.proofs.Common.{◌≡◌, ℕ, List, Option, Some, refl, ap, ◌∙◌}
+use Rattle.std.proofs.Common.{ℕ, List, Option, Some, refl, ap, ◌∙◌}
 use Rattle.gup_exec_parts.specs.Words.{word_of}
 use Rattle.gup_exec_rows.specs.Row.{at}
 use Rattle.gup_exec_rows.proofs.RowLemmas.{through_put}

@@ -1,4 +1,4 @@
-use Rattle.std.proofs.Common.{◌≡◌, ℕ, List, Option, Some, refl, ap, ◌∙◌}
+use Rattle.std.proofs.Common.{ℕ, List, Option, Some, ap, ◌∙◌}
 use Rattle.gup_exec_rows.specs.Row.{at}
 use Rattle.gup_exec_rows.proofs.RowLemmas.{through_put2}
 use Rattle.gup_exec_rows.specs.Sheets.{words_in, sheet_words}

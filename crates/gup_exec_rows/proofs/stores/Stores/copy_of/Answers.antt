@@ -1,14 +1,12 @@
-use Rattle.std.proofs.Common.{◌≡◌, ℕ, List, Option, map, rules, ap, ◌∙◌}
+use Rattle.std.proofs.Common.{ℕ, List, Option, map, rules, ap, ◌∙◌}
 use Rattle.std.proofs.lemmas.Iterator.{YieldsList-from_map}
 use Rattle.std.proofs.lemmas.Iterator.Adapters.{fact_from_collect}
 use Rattle.std.proofs.lemmas.Iterator.Consumers.{YieldsList-at, YieldsList-from_rest}
 use Rattle.std.proofs.lemmas.Result.{IfOk-at_ok}
-use Rattle.std.specs.BTreeMap.{IsFromIterResult, BTreeMap, get}
+use Rattle.std.specs.BTreeMap.{IsFromIterResult, BTreeMap}
 use Rattle.std.specs.Option.{option_map_or}
 use Rattle.std.specs.Ordering.{nat_cmp}
-use Rattle.gup_plain.specs.Put.{put}
 use Rattle.gup_exec_parts.specs.Actor.{slots_in}
-use Rattle.gup_exec_parts.proofs.TableLemmas.{key_updated}
 use Rattle.gup_exec_rows.specs.Stores.{slots_of}
 use Rattle.gup_exec_rows.proofs.GridLemmas.{changed, get-copied}
 use Rattle.gup_exec_rows.proofs.stores.Stores.copy_of.Goals as goal

@@ -1,4 +1,4 @@
-use Rattle.std.proofs.Common.{◌≡◌, ℕ, ap, ◌∙◌}
+use Rattle.std.proofs.Common.{ℕ, ap, ◌∙◌}
 use Rattle.gup_plain.specs.Put.{put}
 use Rattle.gup_exec_parts.proofs.TableLemmas.{key_updated}
 use Rattle.gup_exec_rows.proofs.stores.Stores.with.Goals as goal

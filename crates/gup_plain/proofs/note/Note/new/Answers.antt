@@ -1,7 +1,7 @@
-use Rattle.std.proofs.Common.{rules, ◌≡◌, ℕ, ap}
+use Rattle.std.proofs.Common.{ℕ, ap}
 use Rattle.gup_plain.specs.declared.note.What.{What}
 use Rattle.gup_plain.specs.Note.{NoteValue}
-use Rattle.gup_plain.specs.Kinds.{kind_of, what_of, what_of-kind_of}
+use Rattle.gup_plain.specs.Kinds.{what_of-kind_of}
 use Rattle.gup_plain.proofs.note.Note.new.Goals as goal
 
 abbrev with_what : (turn actor op : ℕ) → What → NoteValue
