@@ -1,3 +1,3 @@
-pub mod Told
 pub mod Causes
-pub mod Ended
+pub mod RunEnd
+pub mod ReadBytes

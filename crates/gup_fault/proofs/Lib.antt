@@ -1,4 +1,4 @@
 pub mod Puts
 pub mod Bytes
-pub mod Made
-pub mod Readied
+pub mod FaultSteps
+pub mod ReadyPages

@@ -1,12 +1,12 @@
 pub mod Children
 pub mod Clauses
-pub mod Done
 pub mod Holders
-pub mod Left
 pub mod Lonely
-pub mod Named
 pub mod PinLists
-pub mod Renamed
 pub mod Rows
 pub mod Steps
 pub mod Tally
+pub mod DonePages
+pub mod FailedChildren
+pub mod NamedObjects
+pub mod HolderRenames

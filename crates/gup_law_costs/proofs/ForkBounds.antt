@@ -23,13 +23,13 @@ use Rattle.gup_spec_turns.specs.ForkPlace.{ForkPlace, copying_place, fork_place,
 use Rattle.gup_spec_turns.specs.CoreTurn.{CoreTurn, answers_with, free_frame}
 use Rattle.gup_spec_turns.specs.ForkTurns.{first_behind, next_page, page_turn, next_turn, share_turn, frame_turn, copy_turn, copying_turn, fork_turn}
 use Rattle.gup_spec_turns.specs.Turn.{op_turn, turn_at, failed_turn, turn_of}
-use Rattle.gup_law_costs.proofs.Bounds.{StandsShort, IsMoved, still, TakesCost, takes_cost}
+use Rattle.gup_law_costs.proofs.PageBounds.{StandsShort, IsMoved, still, TakesCost, takes_cost}
 use Rattle.gup_law_costs.proofs.PinBounds.{op_moved, kept_rights}
-use Rattle.gup_law_turns.proofs.Mapped.{mapped_none, pages_few, pages_behind}
+use Rattle.gup_law_turns.proofs.MappedCounts.{mapped_none, pages_few, pages_behind}
 use Rattle.gup_law_turns.proofs.Puts.{put_same, put_other, some_same}
-use Rattle.gup_law_turns.proofs.Searches.{IsLowest, lowest_some}
-use Rattle.gup_law_turns.proofs.Shapes.{IsOfProcess, child_of}
-use Rattle.gup_law_turns.proofs.Turned.{idle_place, run_behind}
+use Rattle.gup_law_turns.proofs.PageSearches.{IsLowest, lowest_some}
+use Rattle.gup_law_turns.proofs.TurnShapes.{IsOfProcess, child_of}
+use Rattle.gup_law_turns.proofs.ShownTurns.{idle_place, run_behind}
 
 -- A turn leaves the pages of all processes but its own, or the child that it brings, and those of each that grows while
 -- another actor keeps its parent's structure lock. It leaves the jobs of other actors and what these have prepared, takes

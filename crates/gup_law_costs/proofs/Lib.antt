@@ -1,6 +1,6 @@
-pub mod Bounds
 pub mod PinBounds
 pub mod ForkBounds
-pub mod Spending
 pub mod FewForks
-pub mod Within
+pub mod TurnCosts
+pub mod TurnBounds
+pub mod PageBounds

@@ -24,10 +24,10 @@ use Rattle.gup_spec_turns.specs.PinTurns.{raises, pin_fault, makes_if, pins_behi
 use Rattle.gup_spec_turns.proofs.TurnParts.{unpin_turn_by, give_turn_by, transfer_turn_by}
 use Rattle.gup_spec_turns.specs.DeviceTurns.{frame_at, moves_from}
 use Rattle.gup_spec_turns.specs.Turn.{op_turn}
-use Rattle.gup_law_costs.proofs.Bounds.{StandsShort, KeepsJobs, IsMoved, same_prepared, used_prepared, same_jobs, keeping, still, goes_less, load_moved, store_moved, map_moved, protect_moved, unmap_moved, discard_moved, exit_moved}
+use Rattle.gup_law_costs.proofs.PageBounds.{StandsShort, KeepsJobs, IsMoved, same_prepared, used_prepared, same_jobs, keeping, still, goes_less, load_moved, store_moved, map_moved, protect_moved, unmap_moved, discard_moved, exit_moved}
 use Rattle.gup_law_turns.proofs.Puts.{put_same, put_other}
-use Rattle.gup_law_turns.proofs.Shapes.{HasLeft, IsOfProcess}
-use Rattle.gup_law_turns.proofs.Turned.{run_behind}
+use Rattle.gup_law_turns.proofs.TurnShapes.{HasLeft, IsOfProcess}
+use Rattle.gup_law_turns.proofs.ShownTurns.{run_behind}
 
 -- Events leave all mappings, the jobs of other actors, and what these have prepared; their own is in the middle of nothing.
 record LeavesPages (s : CoreState) (a : ℕ) (t : CoreState) : Type 0 where

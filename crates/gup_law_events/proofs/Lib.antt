@@ -1,5 +1,5 @@
 pub mod Start
-pub mod Counted
-pub mod Runs
-pub mod Published
 pub mod Possible
+pub mod CountIdentity
+pub mod PublishedRules
+pub mod EventRuns

@@ -11,12 +11,12 @@ use Rattle.gup_spec_events.specs.State.{CoreState, between, copying, plain_of, c
 use Rattle.gup_spec_events.specs.Event.{Can, happens, entry_of, is_writable, is_odd, copy_word, place_child}
 use Rattle.gup_law_base.specs.Sound.{View, Forking, IsUncopiedBy, is_failing, copied_words, IsSoundBy, IsSound, Simulates, step_page, shared_page, lowered_page, is_open, birth_of_child}
 use Rattle.gup_law_base.proofs.Clauses.{References, MarksAre, MovesAre, ForksAre, WholeEntry, WholeMoved, WholeFree, WholeKept, WholeOther, MovedGone, WholeNames, MarksTable, MovesTable, ForksTable, ForksStructure, TableHeld, StructureHeld, TableBorn, ForkParent, ForkBirth, GrowingForked, OwnAlone, OwnMade, OwnNames, OwnEntry, OwnWords, OwnMarked, OwnMarking, MarkedOwn, EntryMapped, EntryMarked, EntryAllowed, EntryWords, Untouched, HandleMarked, HandleOwn, HandleFlag, TakenMarked, TakenOwn, PreparedOnce, PreparedUnmarked, PreparedUnowned, PreparedZero, MarkingEntry, MarkingOwn, ForkFresh, ForkCopied, ForkUncopied, ForkUndone, ForkMapped, CopyWords, CopyThere, ShareHandle, ShareTaken, ShareLowered, ShareUnowned, MirrorEntry, WalksAre, ForkOdd, WalkOwn, WalkUnowned, WalkKept, WalkWritable, ForkAlone, ForkLeft}
-use Rattle.gup_law_base.proofs.Left.{alone_next, left_growing, left_next}
-use Rattle.gup_law_base.proofs.Named.{named_here}
+use Rattle.gup_law_base.proofs.FailedChildren.{alone_next, left_growing, left_next}
+use Rattle.gup_law_base.proofs.NamedObjects.{named_here}
 use Rattle.gup_law_base.proofs.Tally.{tally_is, tally_entry, tally_prepared, number_here}
 use Rattle.gup_law_base.proofs.Lonely.{handle_counts, taken_counts, prepared_whole, prepared_alone, born_mapped, mapped_names}
 use Rattle.gup_law_base.proofs.Children.{fork_here, only_fork, uncopied_before}
-use Rattle.gup_law_base.proofs.Done.{fork_after, changed_fork, done_either, undone_either, some_there}
+use Rattle.gup_law_base.proofs.DonePages.{fork_after, changed_fork, done_either, undone_either, some_there}
 
 -- the word of a page's entry is that of its object
 entry_word : (v : View) (s : CoreState) → IsSoundBy v s → (p g w : ℕ) (e : Entry) → v.whole p g ≡ Some e → IsSome (s.right p g) → w < words → s.word e.frame w ≡ s.content (s.object p g) w

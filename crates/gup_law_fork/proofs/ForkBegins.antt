@@ -11,12 +11,12 @@ use Rattle.gup_spec_events.specs.State.{CoreState, Taken, idle, forking, ForkSte
 use Rattle.gup_spec_events.specs.Event.{Can, happens, bias, copies_page, is_done, is_odd, begin_fork, count_page}
 use Rattle.gup_law_base.specs.Sound.{View, Forking, moving_of, forking_of, step_page, shared_page, lowered_page, is_failing, copied_words, step_words, keeps_table, birth_of_child, is_open, IsSoundBy, IsSound, Simulates, IsUncopiedBy}
 use Rattle.gup_law_base.proofs.Clauses.{MarksAre, MovesAre, ForksAre, WholeFree, WholeKept, WholeOther, RightNames, WholeNames, NamesObject, MarksTable, MovesTable, ForksTable, ForksStructure, TableHeld, StructureHeld, TableBorn, ForkParent, ForkBirth, GrowingLocked, GrowingForked, GrowingRights, UnbornUnmapped, FailedUnmapped, FlagBorn, OwnMade, OwnNames, OwnEntry, OwnWords, OwnMarked, OwnMarking, MarkedOwn, EntryMapped, EntryAllowed, EntryWords, Untouched, NamesAlone, NamesMade, RightNumbered, HandleFlag, TakenNames, PreparedZero, MarkingOwn, ForkFresh, ForkCopied, ForkUncopied, ForkUndone, ForkMapped, CopyWords, CopyThere, ShareHandle, ShareTaken, ShareLowered, ShareUnowned, MirrorBorn, MirrorNames, WalksAre, ForkOdd, QuietEven, TakenMade, WalkBelow, WalkOwn, WalkUnowned, WalkKept, WalkWritable, ForkAlone, ForkLeft}
-use Rattle.gup_law_base.proofs.Left.{alone_with, alone_next, left_next}
+use Rattle.gup_law_base.proofs.FailedChildren.{alone_with, alone_next, left_next}
 use Rattle.gup_law_base.proofs.Steps.{odd_next}
-use Rattle.gup_law_fork.proofs.Disturbed.{raised_below, raised_own, raised_unowned, raised_kept, raised_writable}
+use Rattle.gup_law_fork.proofs.DisturbedWalks.{raised_below, raised_own, raised_unowned, raised_kept, raised_writable}
 use Rattle.gup_law_base.proofs.Lonely.{handle_counts, taken_counts}
-use Rattle.gup_law_base.proofs.Named.{by_pages, named_twice}
-use Rattle.gup_law_base.proofs.Done.{fork_after}
+use Rattle.gup_law_base.proofs.NamedObjects.{by_pages, named_twice}
+use Rattle.gup_law_base.proofs.DonePages.{fork_after}
 use Rattle.gup_law_base.proofs.Tally.{number_here}
 use Rattle.gup_law_base.proofs.Children.{birth_goes, growing_parent, uncopied_before, fork_here, copied_made}
 use Rattle.gup_law_base.proofs.Holders.{no_element}

@@ -9,10 +9,10 @@ use Rattle.gup_spec_events.specs.State.{CoreState, between, plain_of}
 use Rattle.gup_spec_events.specs.Event.{Can, happens, is_odd, end_fork, fail_unborn}
 use Rattle.gup_law_base.specs.Sound.{View, Forking, IsSoundBy, IsSound, Simulates}
 use Rattle.gup_law_base.proofs.Clauses.{MarksAre, MovesAre, ForksAre, RightNames, ForksTable, ForksStructure, TableHeld, StructureHeld, TableBorn, ForkParent, ForkBirth, GrowingLocked, GrowingForked, GrowingRights, UnbornUnmapped, FailedUnmapped, FlagBorn, EntryMapped, EntryAllowed, EntryWords, Untouched, RightNumbered, PreparedZero, ForkFresh, ForkCopied, ForkUncopied, ForkUndone, ForkMapped, CopyWords, CopyThere, ShareHandle, ShareTaken, ShareLowered, ShareUnowned, MirrorBorn, WalksAre, ForkOdd, QuietEven, WalkBelow, WalkOwn, WalkUnowned, WalkKept, WalkWritable, ForkAlone, ForkLeft}
-use Rattle.gup_law_base.proofs.Left.{alone_without, left_without}
+use Rattle.gup_law_base.proofs.FailedChildren.{alone_without, left_without}
 use Rattle.gup_law_base.proofs.Steps.{odd_next}
-use Rattle.gup_law_fork.proofs.Disturbed.{raised_below, raised_own, raised_unowned, raised_kept, raised_writable}
-use Rattle.gup_law_base.proofs.Named.{by_pages}
+use Rattle.gup_law_fork.proofs.DisturbedWalks.{raised_below, raised_own, raised_unowned, raised_kept, raised_writable}
+use Rattle.gup_law_base.proofs.NamedObjects.{by_pages}
 use Rattle.gup_law_base.proofs.Children.{fork_here, growing_parent, only_fork, uncopied_before}
 
 -- every page of the child is done

@@ -11,14 +11,14 @@ use Rattle.gup_spec_events.specs.State.{CoreState, forking, ForkStep, between, c
 use Rattle.gup_spec_events.specs.Event.{Can, happens, MayFail, is_odd, fail_fork, put_child}
 use Rattle.gup_law_base.specs.Sound.{View, Forking, keeps_table, step_page, is_failing, IsSoundBy, IsSound, Simulates, IsUncopiedBy, shared_page, lowered_page, is_open}
 use Rattle.gup_law_base.proofs.Clauses.{References, MarksAre, MovesAre, ForksAre, WholeEntry, WholeMoved, WholeFree, WholeKept, WholeOther, MovedGone, RightNames, WholeNames, NamesObject, MarksTable, MovesTable, ForksTable, ForksStructure, TableHeld, StructureHeld, TableBorn, ForkParent, ForkBirth, GrowingLocked, GrowingForked, GrowingRights, UnbornUnmapped, FailedUnmapped, FlagBorn, OwnAlone, OwnMade, OwnNames, OwnEntry, OwnWords, OwnMarked, OwnMarking, MarkedOwn, EntryMapped, EntryMarked, EntryAllowed, EntryWords, Untouched, NamesAlone, NamesMade, RightNumbered, HandleMarked, HandleOwn, HandleFlag, TakenMarked, TakenOwn, TakenNames, PreparedOnce, PreparedUnmarked, PreparedUnowned, PreparedZero, MarkingEntry, MarkingOwn, MovingOnce, ForkFresh, ForkCopied, ForkUncopied, ForkUndone, ForkMapped, CopyWords, CopyThere, ShareHandle, ShareTaken, ShareLowered, ShareUnowned, MirrorBorn, MirrorEntry, MirrorNames, WalksAre, CountIs, ForkOdd, QuietEven, WalkBelow, WalkOwn, WalkUnowned, WalkKept, WalkWritable, ForkAlone, ForkLeft}
-use Rattle.gup_law_base.proofs.Left.{alone_next, alone_without, left_with, left_without, left_more, left_none}
+use Rattle.gup_law_base.proofs.FailedChildren.{alone_next, alone_without, left_with, left_without, left_more, left_none}
 use Rattle.gup_law_base.proofs.Steps.{odd_next}
-use Rattle.gup_law_fork.proofs.Disturbed.{raised_below, raised_own, raised_unowned, raised_kept, raised_writable}
-use Rattle.gup_law_base.proofs.Named.{by_pages}
+use Rattle.gup_law_fork.proofs.DisturbedWalks.{raised_below, raised_own, raised_unowned, raised_kept, raised_writable}
+use Rattle.gup_law_base.proofs.NamedObjects.{by_pages}
 use Rattle.gup_law_base.proofs.Tally.{tally_is, tally_entry}
 use Rattle.gup_law_base.proofs.Lonely.{whole_alone, whole_counts, once_wholes, handle_counts, taken_counts, prepared_whole}
 use Rattle.gup_law_base.proofs.Children.{birth_goes, fork_here, growing_parent, only_fork, uncopied_before}
-use Rattle.gup_law_base.proofs.Done.{fork_after}
+use Rattle.gup_law_base.proofs.DonePages.{fork_after}
 
 -- what becomes of the parent's table lock where a fork fails
 abbrev failed_table : ForkStep → Option ℕ → Option ℕ

@@ -11,12 +11,12 @@ use Rattle.gup_spec_events.specs.State.{CoreState, between, cleared, plain_of}
 use Rattle.gup_spec_events.specs.Event.{Can, happens, entry_of, is_done, is_odd, share_child, pass_page}
 use Rattle.gup_law_base.specs.Sound.{View, Forking, marking_of, moving_of, IsSoundBy, IsSound, Simulates, IsUncopiedBy, is_failing, copied_words, birth_of_child, step_page, shared_page, lowered_page, is_open}
 use Rattle.gup_law_base.proofs.Clauses.{References, MarksAre, MovesAre, ForksAre, WholeEntry, WholeMoved, WholeFree, WholeKept, WholeOther, MovedGone, WholeNames, MarksTable, MovesTable, ForksTable, ForksStructure, TableHeld, StructureHeld, TableBorn, ForkParent, ForkBirth, GrowingForked, OwnNames, OwnEntry, OwnWords, OwnMarked, OwnMarking, MarkedOwn, EntryMapped, EntryMarked, EntryAllowed, EntryWords, Untouched, PreparedOnce, PreparedZero, MarkingEntry, MovingOnce, ForkFresh, ForkCopied, ForkUncopied, ForkUndone, ForkMapped, CopyWords, CopyThere, ShareHandle, ShareTaken, ShareLowered, ShareUnowned, MirrorEntry, WalksAre, CountIs, ForkOdd, ForkAlone, ForkLeft}
-use Rattle.gup_law_base.proofs.Left.{alone_next, left_growing, left_next}
+use Rattle.gup_law_base.proofs.FailedChildren.{alone_next, left_growing, left_next}
 use Rattle.gup_law_base.proofs.Tally.{tally_is, tally_entry}
 use Rattle.gup_law_base.proofs.Lonely.{once_wholes, prepared_whole, whole_none}
 use Rattle.gup_law_base.proofs.Children.{only_fork, born_uncopied, uncopied_before, fork_here}
-use Rattle.gup_law_base.proofs.Done.{fork_after, changed_fork, done_either, undone_either}
-use Rattle.gup_law_fork.proofs.Shared.{child_names, shown_same, page_forks, none_before}
+use Rattle.gup_law_base.proofs.DonePages.{fork_after, changed_fork, done_either, undone_either}
+use Rattle.gup_law_fork.proofs.SharedPages.{child_names, shown_same, page_forks, none_before}
 
 -- parent and child have the page's frame, and their objects have its words
 pub simulates-share_child : (s : CoreState) (a p c : ℕ) (done : List ℕ) (page f : ℕ) (writable : Bool) → IsSound s → Can s (share_child a p c done page f writable) → Simulates s (share_child a p c done page f writable)

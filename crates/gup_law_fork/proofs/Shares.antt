@@ -10,9 +10,9 @@ use Rattle.gup_spec_events.specs.Event.{Can, happens, entry_of, is_odd, share_en
 use Rattle.gup_spec_events.specs.Invariant.{is_inside}
 use Rattle.gup_law_base.specs.Sound.{View, Forking, Walking, is_failing, marking_of, moving_of, IsSoundBy, IsSound, Simulates, IsUncopiedBy, step_page, shared_page, lowered_page, is_open, birth_of_child, copied_words}
 use Rattle.gup_law_base.proofs.Clauses.{References, MarksAre, MovesAre, ForksAre, WholeEntry, WholeMoved, WholeFree, WholeKept, WholeOther, MovedGone, WholeNames, ForksTable, ForksStructure, TableHeld, StructureHeld, ForkParent, ForkBirth, GrowingForked, OwnAlone, OwnMade, OwnNames, OwnEntry, OwnWords, OwnMarked, OwnMarking, MarkedOwn, EntryMapped, EntryMarked, EntryAllowed, EntryWords, Untouched, HandleMarked, HandleOwn, HandleFlag, TakenMarked, TakenOwn, PreparedUnmarked, PreparedUnowned, PreparedZero, MarkingEntry, MarkingOwn, ForkFresh, ForkCopied, ForkUncopied, ForkUndone, ForkMapped, CopyWords, CopyThere, ShareHandle, ShareTaken, ShareLowered, ShareUnowned, MirrorEntry, WalksAre, ForkOdd, WalkOwn, WalkUnowned, WalkKept, WalkWritable, ForkAlone, ForkLeft}
-use Rattle.gup_law_base.proofs.Left.{alone_next, left_born, left_next}
-use Rattle.gup_law_base.proofs.Done.{fork_after}
-use Rattle.gup_law_fork.proofs.Disturbed.{rechecked_inside}
+use Rattle.gup_law_base.proofs.FailedChildren.{alone_next, left_born, left_next}
+use Rattle.gup_law_base.proofs.DonePages.{fork_after}
+use Rattle.gup_law_fork.proofs.DisturbedWalks.{rechecked_inside}
 use Rattle.gup_law_base.proofs.Tally.{tally_is, tally_entry}
 use Rattle.gup_law_base.proofs.Steps.{shared_is_step, lowered_is_shared, even_apart}
 use Rattle.gup_law_base.proofs.Children.{uncopied_before, fork_here, no_child}

@@ -1,9 +1,9 @@
 pub mod Pointer
-pub mod Holding
-pub mod Ordering
-pub mod Owning
-pub mod Following
-pub mod FollowRuns
-pub mod Ends
-pub mod Answered
-pub mod Causes
+pub mod TurnAnswers
+pub mod OperationNotes
+pub mod LockHolders
+pub mod TurnOrder
+pub mod ActorNotes
+pub mod RunNotes
+pub mod RunEnds
+pub mod FrameCauses

@@ -9,7 +9,7 @@ use Rattle.gup_spec_events.specs.State.{CoreState}
 use Rattle.gup_spec_events.specs.Event.{Can, happens, entry_of, break_entry, put_entry}
 use Rattle.gup_law_base.specs.Sound.{View, IsSoundBy, IsSound, Simulates}
 use Rattle.gup_law_base.proofs.Clauses.{References, CountIs, WholeEntry, WholeMoved, WholeFree, WholeKept, WholeOther, MovedGone, WholeNames, OwnAlone, OwnMade, OwnNames, OwnEntry, OwnWords, OwnMarked, OwnMarking, MarkedOwn, EntryMapped, EntryMarked, EntryAllowed, EntryWords, Untouched, HandleMarked, HandleOwn, HandleFlag, TakenMarked, TakenOwn, WalkOwn, WalkUnowned, WalkKept, WalkWritable, PreparedOnce, PreparedUnmarked, PreparedUnowned, PreparedZero, MarkingEntry, MarkingOwn, MovingOnce, ForkFresh, CopyWords, CopyThere, ShareHandle, ShareTaken, ShareLowered, ShareUnowned, MirrorEntry, ForkLeft}
-use Rattle.gup_law_base.proofs.Left.{left_born}
+use Rattle.gup_law_base.proofs.FailedChildren.{left_born}
 use Rattle.gup_law_base.proofs.Tally.{tally_is, tally_entry, tally_prepared, tally_owed}
 use Rattle.gup_law_base.proofs.Steps.{shared_is_step, lowered_is_shared}
 use Rattle.gup_law_base.proofs.Lonely.{handle_counts, taken_counts, prepared_whole, prepared_alone, born_mapped, unmarked_unowned, owed_counts, owed_alone, owed_whole, owed_prepared, owed_moving}

@@ -13,7 +13,7 @@ use Rattle.gup_spec_events.specs.Event.{Can, happens, entry_of, load, store, mov
 use Rattle.gup_law_base.specs.Sound.{View, Forking, IsSoundBy, IsSound, Simulates, step_page, is_failing}
 use Rattle.gup_law_base.proofs.Clauses.{OwnWords, EntryWords, Untouched, PreparedZero, CopyWords}
 use Rattle.gup_law_base.proofs.Lonely.{born_mapped}
-use Rattle.gup_law_base.proofs.Named.{named_here, is_to_write}
+use Rattle.gup_law_base.proofs.NamedObjects.{named_here, is_to_write}
 
 -- the page that a fork is copying names no exclusive object yet
 copied_unowned : (v : View) (s : CoreState) (f o b i n : ℕ) (k : Forking) → IsSoundBy v s → s.own f ≡ Some o → v.forks b ≡ Some k → k.step ≡ copying i n → s.object k.child i ≡ o → ⊥

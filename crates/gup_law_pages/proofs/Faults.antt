@@ -10,7 +10,7 @@ use Rattle.gup_spec_events.specs.Event.{Can, happens, MayPrepare, entry_of, take
 use Rattle.gup_spec_events.specs.Invariant.{frame_of}
 use Rattle.gup_law_base.specs.Sound.{View, Marking, IsSoundBy, IsSound, Simulates}
 use Rattle.gup_law_base.proofs.Clauses.{References, CountIs, MarksAre, MovesAre, ForksAre, WalksAre, WholeEntry, WholeMoved, WholeFree, WholeKept, WholeOther, MovedGone, WholeNames, MarksTable, MovesTable, ForksTable, TableHeld, StructureHeld, TableBorn, OwnAlone, OwnMade, OwnNames, OwnEntry, OwnWords, OwnMarked, OwnMarking, MarkedOwn, EntryMapped, EntryMarked, EntryAllowed, EntryWords, Untouched, HandleMarked, HandleOwn, HandleFlag, TakenMarked, TakenOwn, WalkOwn, WalkUnowned, WalkKept, WalkWritable, PreparedOnce, PreparedUnmarked, PreparedUnowned, PreparedZero, MarkingEntry, MarkingOwn, MovingOnce, ForkFresh, CopyWords, CopyThere, ShareHandle, ShareTaken, ShareLowered, ShareUnowned, MirrorEntry, ForkLeft}
-use Rattle.gup_law_base.proofs.Left.{left_born}
+use Rattle.gup_law_base.proofs.FailedChildren.{left_born}
 use Rattle.gup_law_base.proofs.Tally.{tally_is, tally_entry, tally_prepared}
 use Rattle.gup_law_base.proofs.Steps.{shared_is_step, lowered_is_shared, prepares_before}
 use Rattle.gup_law_base.proofs.Lonely.{uncounted, whole_alone, once_wholes, whole_counts, handle_counts, taken_counts, prepared_whole, prepared_alone, prepared_counts, whole_none, mapped_names, born_mapped}

@@ -13,9 +13,9 @@ use Rattle.gup_spec_events.specs.Event.{Can, happens, entry_of, map_pages, lower
 use Rattle.gup_spec_events.specs.Invariant.{frame_of}
 use Rattle.gup_law_base.specs.Sound.{View, IsSoundBy, IsSound, Simulates}
 use Rattle.gup_law_base.proofs.Clauses.{References, WholeEntry, WholeMoved, WholeFree, WholeKept, WholeOther, MovedGone, RightNames, WholeNames, NamesObject, GrowingRights, UnbornUnmapped, FailedUnmapped, OwnMade, OwnNames, OwnEntry, OwnWords, OwnMarked, OwnMarking, MarkedOwn, EntryMapped, EntryMarked, EntryAllowed, EntryWords, Untouched, NamesAlone, NamesMade, RightNumbered, HandleFlag, TakenMade, TakenNames, MarkingEntry, MarkingOwn, ForkFresh, ForkMapped, CopyWords, ShareHandle, ShareTaken, ShareLowered, ShareUnowned, MirrorEntry, MirrorNames, ForkLeft}
-use Rattle.gup_law_base.proofs.Left.{left_born}
+use Rattle.gup_law_base.proofs.FailedChildren.{left_born}
 use Rattle.gup_law_base.proofs.Tally.{tally_is, tally_entry, tally_owed}
-use Rattle.gup_law_base.proofs.Named.{by_pages}
+use Rattle.gup_law_base.proofs.NamedObjects.{by_pages}
 use Rattle.gup_law_base.proofs.Children.{no_child, copied_made}
 
 -- pages without rights, of a born process, have no entries

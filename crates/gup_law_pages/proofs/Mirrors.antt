@@ -12,7 +12,7 @@ use Rattle.gup_spec_events.specs.Invariant.{frame_of}
 use Rattle.gup_law_base.specs.Sound.{IsSoundBy, IsSound, Simulates}
 use Rattle.gup_law_base.proofs.Clauses.{MirrorNoted, MirrorBorn, MirrorEntry, MirrorNames}
 use Rattle.gup_law_base.proofs.Lonely.{born_mapped}
-use Rattle.gup_law_base.proofs.Named.{named_here}
+use Rattle.gup_law_base.proofs.NamedObjects.{named_here}
 use Rattle.gup_law_pages.proofs.Data.{reads}
 use Rattle.gup_plain.specs.declared.event.PlainEvent.TheVariants.{Look}
 

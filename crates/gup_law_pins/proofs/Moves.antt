@@ -9,7 +9,7 @@ use Rattle.gup_spec_events.specs.State.{CoreState, idle, Counted, unread, one}
 use Rattle.gup_spec_events.specs.Event.{Can, happens, entry_of, counted_as, clear_entry, count_moved, place_frame, restore_entry}
 use Rattle.gup_law_base.specs.Sound.{View, Moving, IsSoundBy, IsSound, Simulates}
 use Rattle.gup_law_base.proofs.Clauses.{References, MarksAre, MovesAre, ForksAre, WalksAre, WholeEntry, WholeMoved, WholeFree, WholeKept, WholeOther, MovedGone, WholeNames, MarksTable, MovesTable, ForksTable, TableHeld, StructureHeld, TableBorn, OwnAlone, OwnMade, OwnNames, OwnEntry, OwnWords, OwnMarked, OwnMarking, MarkedOwn, EntryMapped, EntryMarked, EntryAllowed, EntryWords, Untouched, HandleMarked, HandleOwn, HandleFlag, TakenMarked, TakenOwn, WalkOwn, WalkUnowned, WalkKept, WalkWritable, PreparedOnce, PreparedUnmarked, PreparedUnowned, PreparedZero, MarkingEntry, MarkingOwn, MovingOnce, ForkFresh, CopyWords, CopyThere, ShareHandle, ShareTaken, ShareLowered, ShareUnowned, MirrorEntry, ForkLeft}
-use Rattle.gup_law_base.proofs.Left.{left_born}
+use Rattle.gup_law_base.proofs.FailedChildren.{left_born}
 use Rattle.gup_law_base.proofs.Tally.{tally_is, tally_entry, tally_moves, tally_prepared, tally_owed}
 use Rattle.gup_law_base.proofs.Steps.{shared_is_step}
 use Rattle.gup_law_base.proofs.Lonely.{whole_alone, once_wholes, handle_counts, taken_counts, prepared_whole, prepared_alone}

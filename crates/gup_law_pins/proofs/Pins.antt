@@ -12,7 +12,7 @@ use Rattle.gup_law_base.specs.Sound.{View, is_open, IsSoundBy, IsSound, Simulate
 use Rattle.gup_law_base.proofs.Clauses.{References, CountIs, FlagBorn, OwnAlone, OwnMade, OwnNames, OwnEntry, OwnWords, OwnMarked, OwnMarking, MarkedOwn, EntryMarked, HandlePages, HandleMarked, HandleOwn, HandleFlag, HandleNormal, TakenMarked, TakenOwn, TakenMade, TakenFlag, TakenNames, TakenNormal, TakenWrite, TakenLong, TakenApart, WalkFlag, WalkEmpty, WalkProc, WalkWrite, WalkLong, WalkUntaken, WalkOwn, WalkUnowned, WalkKept, WalkLast, WalkWritable, PreparedOnce, PreparedUnmarked, PreparedUnowned, MarkingOwn, MovingOnce, ShareHandle, ShareTaken, ShareUnowned}
 use Rattle.gup_law_base.proofs.Rows.{at_either, at_end, at_longer, at_within, no_rows}
 use Rattle.gup_law_base.proofs.Tally.{tally_is, tally_taken, tally_pinned, tally_got}
-use Rattle.gup_law_base.proofs.Renamed.{tally_handle}
+use Rattle.gup_law_base.proofs.HolderRenames.{tally_handle}
 use Rattle.gup_law_base.proofs.Steps.{shared_is_step}
 use Rattle.gup_law_base.proofs.Lonely.{once_wholes, handle_counts, taken_counts, prepared_whole, born_mapped, got_counts, got_alone, got_whole, got_prepared, got_moving, pin_alone, pin_whole, pin_handle, pin_taken}
 use Rattle.gup_law_base.proofs.PinLists.{all_alike, all_untaken, write_more, long_more, untold, told_more, allows, no_pages, as_many, frame_at, are_taken, told_handle, left_pages, left_objects, unpin_can, unpin_same}

@@ -15,7 +15,7 @@ use Rattle.gup_spec_events.proofs.Gone.{no_puts, are_said}
 use Rattle.gup_spec_events.specs.Invariant.{AllCan}
 use Rattle.gup_law_base.specs.Sound.{IsSound}
 use Rattle.gup_law_events.specs.Law.{all_told}
-use Rattle.gup_law_turns.proofs.Calm.{of_pages, AreTurnEvents, failing_at, putting_child}
+use Rattle.gup_law_turns.proofs.CalmStates.{of_pages, AreTurnEvents, failing_at, putting_child}
 use Rattle.gup_law_turns.proofs.Puts.{put_same}
 
 -- what these events lead to: the actor is in the middle of nothing, and the child has no entry

@@ -22,14 +22,14 @@ use Rattle.gup_spec_turns.specs.CoreTurn.{frame_in, allows_store, entry_in, free
 use Rattle.gup_spec_turns.specs.ForkTurns.{first_behind, next_page, page_turn, next_turn, share_turn, frame_turn, copy_turn, copying_turn, rights_in, fork_turn}
 use Rattle.gup_spec_turns.specs.Waits.{fork_locks, held_by_other, waits_for_lock, waits_for_locks, locks_needed}
 use Rattle.gup_spec_turns.specs.Turn.{op_turn}
-use Rattle.gup_law_turns.proofs.Calm.{beginning, counting, sharing_entry, sharing_mark, sharing_child, passing, ending, taking, copying_word, placing}
-use Rattle.gup_law_turns.proofs.Faults.{entry_there, no_mirror_at}
+use Rattle.gup_law_turns.proofs.CalmStates.{beginning, counting, sharing_entry, sharing_mark, sharing_child, passing, ending, taking, copying_word, placing}
+use Rattle.gup_law_turns.proofs.FaultTurns.{entry_there, no_mirror_at}
 use Rattle.gup_law_turns.proofs.ForkFails.{below_or_from, unborn_empty, fork_fails}
-use Rattle.gup_law_turns.proofs.PagesLeave.{pages_leave}
+use Rattle.gup_law_turns.proofs.KeptPages.{pages_leave}
 use Rattle.gup_law_turns.proofs.Puts.{put_same, put2_same, none_of}
-use Rattle.gup_law_turns.proofs.Searches.{free_frame_free, lowest_some, lowest_none, IsLowest}
-use Rattle.gup_law_turns.proofs.Shapes.{AtFirst, IsBegun, FitsFork, FitsOp, TurnOf, began, passed_page, counted_page, shared_page, ended, counted_copy, took_frame, copied_word, placed_copy, failed_fork, AtRest, unprepared, at_rest}
-use Rattle.gup_law_turns.proofs.Turned.{IsOpen, IsTurned, both_free, table_free}
+use Rattle.gup_law_turns.proofs.PageSearches.{free_frame_free, lowest_some, lowest_none, IsLowest}
+use Rattle.gup_law_turns.proofs.TurnShapes.{AtFirst, IsBegun, FitsFork, FitsOp, TurnOf, began, passed_page, counted_page, shared_page, ended, counted_copy, took_frame, copied_word, placed_copy, failed_fork, AtRest, unprepared, at_rest}
+use Rattle.gup_law_turns.proofs.ShownTurns.{IsOpen, IsTurned, both_free, table_free}
 
 -- a fork's shape, by the places where it stands before and after the turn
 shape_from : (s t : CoreState) (who : Doer) (child : ℕ) (place : Place) (whats : List What) (from to : ForkPlace) → place_in s who.actor ≡ from → place_in t who.actor ≡ to → TurnOf (plain_of s) who place (Fork child) from whats to → TurnOf (plain_of s) who place (Fork child) (place_in s who.actor) whats (place_in t who.actor)

@@ -28,11 +28,11 @@ use Rattle.gup_spec_turns.specs.CoreTurn.{answers_with}
 use Rattle.gup_spec_turns.specs.PinTurns.{last_of, but_last, unpinned, unpin_turn, give_turn, take_turn}
 use Rattle.gup_spec_turns.proofs.TurnParts.{unpin_turn_by, give_turn_by, transfer_turn_by}
 use Rattle.gup_spec_turns.specs.DeviceTurns.{frame_at, moves_value, transfer_turn}
-use Rattle.gup_law_turns.proofs.Calm.{of_handle, IsHandleEvent, unpinning, giving, taking_over, moving_out, moving_in, handling}
+use Rattle.gup_law_turns.proofs.CalmStates.{of_handle, IsHandleEvent, unpinning, giving, taking_over, moving_out, moving_in, handling}
 use Rattle.gup_law_turns.proofs.Puts.{put_same, some_same}
-use Rattle.gup_law_turns.proofs.Shapes.{AtFirst, HasLeft, FitsOp, TurnOf, refused, gave, took_over, unpinned_page, unpinned_last, moved_word, moved_last, AtRest, Rests, strand_of}
-use Rattle.gup_law_turns.proofs.Through.{events_of}
-use Rattle.gup_law_turns.proofs.Turned.{IsQuiet, FitsNext, MakesPin, IsTurned, shape_idle}
+use Rattle.gup_law_turns.proofs.TurnShapes.{AtFirst, HasLeft, FitsOp, TurnOf, refused, gave, took_over, unpinned_page, unpinned_last, moved_word, moved_last, AtRest, Rests, strand_of}
+use Rattle.gup_law_turns.proofs.EventLists.{events_of}
+use Rattle.gup_law_turns.proofs.ShownTurns.{IsQuiet, FitsNext, MakesPin, IsTurned, shape_idle}
 
 -- who holds a pin, and to whom one is given
 

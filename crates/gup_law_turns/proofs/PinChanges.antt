@@ -23,13 +23,13 @@ use Rattle.gup_spec_turns.specs.CoreTurn.{CoreTurn}
 use Rattle.gup_spec_turns.specs.Turn.{turn_at, failed_turn, op_turn}
 use Rattle.gup_spec_turns.specs.PinTurns.{unpin_turn, unpinned, last_of, but_last}
 use Rattle.gup_spec_turns.proofs.TurnParts.{unpin_turn_by}
-use Rattle.gup_law_turns.proofs.Calm.{of_pages, of_pin, of_handle}
-use Rattle.gup_law_turns.proofs.Leaving.{same_or_apart, KeepsPin, leaves_pins}
-use Rattle.gup_law_turns.proofs.Places.{IsBehindTurn, stays_there, goes_by, goes_on, is_over, turn_behind}
+use Rattle.gup_law_turns.proofs.CalmStates.{of_pages, of_pin, of_handle}
+use Rattle.gup_law_turns.proofs.KeptParts.{same_or_apart, KeepsPin, leaves_pins}
+use Rattle.gup_law_turns.proofs.ActorPlaces.{IsBehindTurn, stays_there, goes_by, goes_on, is_over, turn_behind}
 use Rattle.gup_law_turns.proofs.Puts.{put_same}
-use Rattle.gup_law_turns.proofs.Scripts.{fresh_place}
-use Rattle.gup_law_turns.proofs.Shapes.{TurnAt, goes, unborn_refused, unborn_fork, child_of, strand_of}
-use Rattle.gup_law_turns.proofs.Standing.{IsTaken}
+use Rattle.gup_law_turns.proofs.ScriptPlaces.{fresh_place}
+use Rattle.gup_law_turns.proofs.TurnShapes.{TurnAt, goes, unborn_refused, unborn_fork, child_of, strand_of}
+use Rattle.gup_law_turns.proofs.StandingStates.{IsTaken}
 
 -- What may come of a pin in a turn of an actor, which has given back so many of its pages before it, and so many after
 -- it.

@@ -28,12 +28,12 @@ use Rattle.gup_law_turns.specs.Standing.{StandsHandle}
 use Rattle.gup_spec_turns.specs.CoreTurn.{entry_in}
 use Rattle.gup_spec_turns.specs.PinTurns.{cause_of, pin_fault, pins, pins_behind, ends_pin, pin_turn_by, pin_turn}
 use Rattle.gup_spec_turns.specs.Waits.{waits_for_locks, locks_needed}
-use Rattle.gup_law_turns.proofs.Calm.{of_pages, of_pin, AreTurnEvents, raising, pinning, making}
-use Rattle.gup_law_turns.proofs.Faults.{IsReady, Allows, MayFault, may_fault, RefusesPage, missing, forbidden, no_frame, LeadsTo, pin_leads}
-use Rattle.gup_law_turns.proofs.PagesLeave.{pages_leave}
+use Rattle.gup_law_turns.proofs.CalmStates.{of_pages, of_pin, AreTurnEvents, raising, pinning, making}
+use Rattle.gup_law_turns.proofs.FaultTurns.{IsReady, Allows, MayFault, may_fault, RefusesPage, missing, forbidden, no_frame, LeadsTo, pin_leads}
+use Rattle.gup_law_turns.proofs.KeptPages.{pages_leave}
 use Rattle.gup_law_turns.proofs.Puts.{put_same}
-use Rattle.gup_law_turns.proofs.Shapes.{FitsOp, TurnOf, refused, pinned_page, pinned_all, pinned_short, AtRest, unprepared, Rests}
-use Rattle.gup_law_turns.proofs.Turned.{IsOpen, MakesPin, IsTurned, shape_idle, both_free, kinds_behind, run_behind, can_behind, told_behind}
+use Rattle.gup_law_turns.proofs.TurnShapes.{FitsOp, TurnOf, refused, pinned_page, pinned_all, pinned_short, AtRest, unprepared, Rests}
+use Rattle.gup_law_turns.proofs.ShownTurns.{IsOpen, MakesPin, IsTurned, shape_idle, both_free, kinds_behind, run_behind, can_behind, told_behind}
 
 -- lists by index
 

@@ -1,11 +1,11 @@
 pub mod Switches
 pub mod Steps
 pub mod TallyTaken
-pub mod Freed
-pub mod Told
 pub mod WalkBegins
 pub mod WalkReads
 pub mod WalkRechecks
 pub mod WalkTakes
 pub mod WalkEnds
 pub mod WalkDrops
+pub mod FreedFrames
+pub mod PlainPending

@@ -14,8 +14,8 @@ use Rattle.gup_law_base.proofs.Lonely.{taken_counts, taken_alone, grab_counts, g
 use Rattle.gup_law_walk.proofs.Switches.{ArePages, AreSettled, IsWalk, IsActor, actor_is, switched, switched_view, switches, put_there}
 use Rattle.gup_law_walk.proofs.Steps.{walking_light, walk_of, in_walk, rests, walk_seen, walk_known, walk_light}
 use Rattle.gup_law_walk.proofs.TallyTaken.{tally_last, tally_first}
-use Rattle.gup_law_walk.proofs.Freed.{freed}
-use Rattle.gup_law_walk.proofs.Told.{told_contains, told_last, told_first, told_less}
+use Rattle.gup_law_walk.proofs.FreedFrames.{freed}
+use Rattle.gup_law_walk.proofs.PlainPending.{told_contains, told_last, told_first, told_less}
 
 -- where the grab was the last reference, nobody else holds the frame
 pub simulates-drop_grab : (s : CoreState) (a p : ℕ) (write long : Bool) (sequence f : ℕ) → IsSound s → Can s (drop_grab a p write long sequence f) → Simulates s (drop_grab a p write long sequence f)

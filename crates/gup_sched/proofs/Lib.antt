@@ -1,2 +1,2 @@
 pub mod Underway
-pub mod Going
+pub mod NextActors

@@ -11,7 +11,7 @@ use Rattle.gup_spec_turns.specs.Cost.{cost, operations, forks}
 use Rattle.gup_spec_turns.specs.Run.{turned, RunState, run_start, run_after, turn_in, core_turn_in, can_go, pointed, written_in, next_by, next_actor, Runs, IsCoreRun}
 use Rattle.gup_law_turns.specs.Standing.{IsStanding}
 use Rattle.gup_core.specs.Machine.{MachineValue, Shows, TakesTurn, IsNew, counted}
-use Rattle.gup_sched.proofs.Going.{pointed_goes}
+use Rattle.gup_sched.proofs.NextActors.{pointed_goes}
 
 -- The machine shows a state that turns led to from the start, and whatever run goes on from there is, after the notes
 -- so far, the script's.

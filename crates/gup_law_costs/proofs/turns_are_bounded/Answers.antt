@@ -1,8 +1,8 @@
 -- A turn by the operation that the actor stands at, and its turns by induction over all of them.
 use Rattle.gup_spec_turns.specs.Run.{run_start}
-use Rattle.gup_law_turns.proofs.Reached.{starts_reached}
-use Rattle.gup_law_costs.proofs.Spending.{bounded_turn}
-use Rattle.gup_law_costs.proofs.Within.{within_first, within_turned}
+use Rattle.gup_law_turns.proofs.ReachedStates.{starts_reached}
+use Rattle.gup_law_costs.proofs.TurnCosts.{bounded_turn}
+use Rattle.gup_law_costs.proofs.TurnBounds.{within_first, within_turned}
 use Rattle.gup_law_costs.proofs.turns_are_bounded.Goals as goal
 
 pub returns-clause-turn : goal.returns-clause-turn

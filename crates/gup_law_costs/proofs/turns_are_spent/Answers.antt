@@ -1,5 +1,5 @@
 -- By the operation that the actor stands at.
-use Rattle.gup_law_costs.proofs.Spending.{spent_turns, kept_cost, first_cost}
+use Rattle.gup_law_costs.proofs.TurnCosts.{spent_turns, kept_cost, first_cost}
 use Rattle.gup_law_costs.proofs.FewForks.{few_forks}
 use Rattle.gup_law_costs.proofs.turns_are_spent.Goals as goal
 

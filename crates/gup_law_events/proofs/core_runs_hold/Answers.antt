@@ -3,8 +3,8 @@ use Rattle.gup_spec_events.specs.State.{core_start}
 use Rattle.gup_spec_events.specs.Event.{run}
 use Rattle.gup_law_base.specs.Sound.{IsSound}
 use Rattle.gup_law_events.proofs.Start.{sound_start}
-use Rattle.gup_law_events.proofs.Published.{published}
-use Rattle.gup_law_events.proofs.Runs.{sound_run, possible_run, stands_run}
+use Rattle.gup_law_events.proofs.PublishedRules.{published}
+use Rattle.gup_law_events.proofs.EventRuns.{sound_run, possible_run, stands_run}
 use Rattle.gup_law_events.proofs.core_runs_hold.Goals as goal
 
 pub returns-clause-holds : goal.returns-clause-holds

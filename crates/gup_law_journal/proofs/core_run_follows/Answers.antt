@@ -6,12 +6,12 @@ use Rattle.gup_spec_journal.specs.Follows.{Follows, own_notes}
 use Rattle.gup_spec_journal.specs.Order.{Turn, journal_of}
 use Rattle.gup_spec_journal.specs.Place.{first_place, process_of, ops_of}
 use Rattle.gup_spec_turns.specs.Run.{RunState, run_start, AreTurns, AreBetween, can_go}
-use Rattle.gup_law_journal.proofs.Ends.{end_turns}
-use Rattle.gup_law_journal.proofs.FollowRuns.{follows_turns, are_between}
-use Rattle.gup_law_journal.proofs.Following.{left_shapes}
-use Rattle.gup_law_turns.proofs.Runs.{run_turns, stands_turns}
-use Rattle.gup_law_turns.proofs.Stands.{Starts, stands_first}
-use Rattle.gup_law_turns.proofs.Through.{Law}
+use Rattle.gup_law_journal.proofs.RunEnds.{end_turns}
+use Rattle.gup_law_journal.proofs.RunNotes.{follows_turns, are_between}
+use Rattle.gup_law_journal.proofs.OperationNotes.{left_shapes}
+use Rattle.gup_law_turns.proofs.TurnRuns.{run_turns, stands_turns}
+use Rattle.gup_law_turns.proofs.StandingTurns.{Starts, stands_first}
+use Rattle.gup_law_turns.proofs.EventLists.{Law}
 use Rattle.gup_law_journal.proofs.core_run_follows.Goals as goal
 
 follow : Law → Starts → (script : ScriptValue) (turns : List Turn) (end : RunState) → IsScript script → AreTurns script (run_start script) turns end → AreBetween script end → Follows script (journal_of 1 (λ _. first_place) turns)

@@ -1,7 +1,7 @@
 -- By induction over the turns of the run.
 use Rattle.gup_spec_turns.specs.Run.{run_start}
-use Rattle.gup_law_journal.proofs.Ordering.{order_run}
-use Rattle.gup_law_turns.proofs.Stands.{stands_first}
+use Rattle.gup_law_journal.proofs.TurnOrder.{order_run}
+use Rattle.gup_law_turns.proofs.StandingTurns.{stands_first}
 use Rattle.gup_law_journal.proofs.core_run_is_in_order.Goals as goal
 
 pub returns : goal.returns

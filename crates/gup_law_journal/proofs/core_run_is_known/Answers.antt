@@ -6,10 +6,10 @@ use Rattle.gup_spec_journal.specs.Order.{Turn, journal_of}
 use Rattle.gup_spec_journal.specs.Place.{first_place}
 use Rattle.gup_spec_turns.specs.Cause.{AreKnown}
 use Rattle.gup_spec_turns.specs.Run.{RunState, run_start, AreTurns}
-use Rattle.gup_law_journal.proofs.Answered.{known_turns}
-use Rattle.gup_law_turns.proofs.Runs.{run_turns}
-use Rattle.gup_law_turns.proofs.Stands.{Starts, stands_first}
-use Rattle.gup_law_turns.proofs.Through.{Law}
+use Rattle.gup_law_journal.proofs.TurnAnswers.{known_turns}
+use Rattle.gup_law_turns.proofs.TurnRuns.{run_turns}
+use Rattle.gup_law_turns.proofs.StandingTurns.{Starts, stands_first}
+use Rattle.gup_law_turns.proofs.EventLists.{Law}
 use Rattle.gup_law_journal.proofs.core_run_is_known.Goals as goal
 
 known : Law → Starts → (script : ScriptValue) (turns : List Turn) (end : RunState) → IsScript script → AreTurns script (run_start script) turns end → AreKnown (journal_of 1 (λ _. first_place) turns)

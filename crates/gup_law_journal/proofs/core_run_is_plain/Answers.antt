@@ -6,9 +6,9 @@ use Rattle.gup_spec_journal.specs.Order.{Turn, journal_of}
 use Rattle.gup_spec_journal.specs.Place.{first_place}
 use Rattle.gup_spec_journal.specs.Plain.{IsPlain}
 use Rattle.gup_spec_turns.specs.Run.{RunState, run_start, AreTurns}
-use Rattle.gup_law_turns.proofs.Runs.{plain_turns, run_turns}
-use Rattle.gup_law_turns.proofs.Stands.{Starts, stands_first}
-use Rattle.gup_law_turns.proofs.Through.{Law}
+use Rattle.gup_law_turns.proofs.TurnRuns.{plain_turns, run_turns}
+use Rattle.gup_law_turns.proofs.StandingTurns.{Starts, stands_first}
+use Rattle.gup_law_turns.proofs.EventLists.{Law}
 use Rattle.gup_law_journal.proofs.core_run_is_plain.Goals as goal
 
 plain : Law → Starts → (script : ScriptValue) (turns : List Turn) (end : RunState) → IsScript script → AreTurns script (run_start script) turns end → IsPlain script (journal_of 1 (λ _. first_place) turns)

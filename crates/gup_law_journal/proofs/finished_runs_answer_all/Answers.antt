@@ -7,8 +7,8 @@ use Rattle.gup_spec_turns.specs.Cause.{answered_in, HaveFinished}
 use Rattle.gup_spec_turns.specs.Cost.{operations}
 use Rattle.gup_law_turns.specs.Standing.{IsStanding}
 use Rattle.gup_spec_turns.specs.Run.{actors_of, turned, RunState, run_start, AreTurns}
-use Rattle.gup_law_journal.proofs.Answered.{turns_count, all_operations, nothing_answered}
-use Rattle.gup_law_turns.proofs.Runs.{run_turns, turned_by}
+use Rattle.gup_law_journal.proofs.TurnAnswers.{turns_count, all_operations, nothing_answered}
+use Rattle.gup_law_turns.proofs.TurnRuns.{run_turns, turned_by}
 use Rattle.gup_law_journal.proofs.finished_runs_answer_all.Goals as goal
 
 answer_all : (script : ScriptValue) (turns : List Turn) (end : RunState) → ((actors : List ℕ) → IsStanding script (turned script (run_start script) actors)) → AreTurns script (run_start script) turns end → HaveFinished script end → answered_in (journal_of 1 (λ _. first_place) turns) ≡ operations script

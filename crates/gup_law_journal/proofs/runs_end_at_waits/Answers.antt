@@ -2,8 +2,8 @@
 use Rattle.std.proofs.Common.{subst}
 use Rattle.gup_law_turns.specs.Standing.{IsStanding}
 use Rattle.gup_spec_turns.specs.Run.{actors_of, RunState, run_start}
-use Rattle.gup_law_journal.proofs.Ends.{end_turns, waits_for_birth_or_pin}
-use Rattle.gup_law_turns.proofs.Runs.{run_turns, turned_by}
+use Rattle.gup_law_journal.proofs.RunEnds.{end_turns, waits_for_birth_or_pin}
+use Rattle.gup_law_turns.proofs.TurnRuns.{run_turns, turned_by}
 use Rattle.gup_law_journal.proofs.runs_end_at_waits.Goals as goal
 
 pub returns-clause-ends : goal.returns-clause-ends

@@ -3,7 +3,7 @@ use Rattle.std.proofs.Common.{List, ap, sym, subst, ◌∙◌}
 use Rattle.gup_spec_journal.specs.Order.{Turn, journal_of}
 use Rattle.gup_spec_journal.specs.Place.{first_place}
 use Rattle.gup_spec_turns.specs.Run.{Runs, run_start}
-use Rattle.gup_law_turns.proofs.Runs.{one_run, one_end}
+use Rattle.gup_law_turns.proofs.TurnRuns.{one_run, one_end}
 use Rattle.gup_law_turns.proofs.one_core_run.Goals as goal
 
 pub returns-clause-notes : goal.returns-clause-notes

@@ -1,6 +1,6 @@
 -- By induction over the turns.
 use Rattle.gup_spec_turns.specs.Run.{run_start}
-use Rattle.gup_law_turns.proofs.Reached.{reaches, starts_reached}
+use Rattle.gup_law_turns.proofs.ReachedStates.{reaches, starts_reached}
 use Rattle.gup_law_turns.proofs.reached_states_stand.Goals as goal
 
 pub returns : goal.returns

@@ -1,5 +1,5 @@
 -- By induction over the turns.
-use Rattle.gup_law_turns.proofs.Runs.{run_turns, turned_by, turns_by}
+use Rattle.gup_law_turns.proofs.TurnRuns.{run_turns, turned_by, turns_by}
 use Rattle.gup_law_turns.proofs.runs_are_turns.Goals as goal
 
 pub returns-clause-run : goal.returns-clause-run

@@ -3,11 +3,11 @@ use Rattle.std.proofs.Common.{List, ℕ}
 use Rattle.gup_script.specs.Script.{ScriptValue}
 use Rattle.gup_script.specs.Valid.{IsScript}
 use Rattle.gup_spec_turns.specs.Run.{turned, run_start}
-use Rattle.gup_law_turns.proofs.Runs.{turns_by, stands_turns}
-use Rattle.gup_law_turns.proofs.Standing.{Stands}
-use Rattle.gup_law_turns.proofs.Stands.{Starts, stands_first, same_plain}
-use Rattle.gup_law_turns.proofs.Steps.{taken}
-use Rattle.gup_law_turns.proofs.Through.{Law}
+use Rattle.gup_law_turns.proofs.TurnRuns.{turns_by, stands_turns}
+use Rattle.gup_law_turns.proofs.StandingStates.{Stands}
+use Rattle.gup_law_turns.proofs.StandingTurns.{Starts, stands_first, same_plain}
+use Rattle.gup_law_turns.proofs.TurnSteps.{taken}
+use Rattle.gup_law_turns.proofs.EventLists.{Law}
 use Rattle.gup_law_turns.proofs.turns_can_happen.Goals as goal
 
 stands : Law → Starts → (script : ScriptValue) → IsScript script → (actors : List ℕ) → Stands script (turned script (run_start script) actors)

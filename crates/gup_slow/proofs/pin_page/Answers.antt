@@ -1,7 +1,7 @@
 use Rattle.std.proofs.Common.{◌≡◌, Some}
 use Rattle.gup_frames.specs.Frames.{frames_of}
 use Rattle.gup_space.specs.Space.{space_of}
-use Rattle.gup_slow.proofs.Made.{pinned}
+use Rattle.gup_slow.proofs.PinSteps.{pinned}
 use Rattle.gup_slow.proofs.pin_page.Goals as goal
 
 pub mark-requires : goal.mark-requires

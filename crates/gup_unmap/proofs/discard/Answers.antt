@@ -1,7 +1,7 @@
 use Rattle.std.proofs.Common.{◌≡◌, Some, sym}
 use Rattle.gup_frames.specs.Frames.{frames_of}
 use Rattle.gup_space.specs.Space.{space_of}
-use Rattle.gup_unmap.proofs.Down.{discarded_entry, words_stay}
+use Rattle.gup_unmap.proofs.DownSteps.{discarded_entry, words_stay}
 use Rattle.gup_unmap.proofs.discard.Goals as goal
 
 pub returns-clause-events : goal.returns-clause-events

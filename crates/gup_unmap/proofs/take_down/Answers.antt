@@ -1,7 +1,7 @@
 use Rattle.std.proofs.Common.{◌≡◌, Some, None, refl, sym, ap, ◌∙◌}
 use Rattle.gup_frames.specs.Frames.{frames_of}
 use Rattle.gup_space.specs.Space.{SpaceValue, space_of}
-use Rattle.gup_unmap.proofs.Down.{unmapped, unmapped_empty, unmapped_entry, words_stay, some_held}
+use Rattle.gup_unmap.proofs.DownSteps.{unmapped, unmapped_empty, unmapped_entry, words_stay, some_held}
 use Rattle.gup_unmap.proofs.take_down.Goals as goal
 
 pub returns-then-not-unmap_page-clause-events : goal.returns-then-not-unmap_page-clause-events

@@ -7,7 +7,7 @@ use Rattle.gup_spec_turns.specs.Cause.{WaitsForBirthOrPin}
 use Rattle.gup_spec_turns.specs.Run.{RunState, waiting_in}
 use Rattle.gup_lines.specs.Text.{NamesWaiting}
 use Rattle.gup.specs.Stuck.{stuck_of, stuck_lines}
-use Rattle.gup.proofs.Ended.{names_process}
+use Rattle.gup.proofs.RunEnd.{names_process}
 use Rattle.gup.proofs.text.push_stuck_lines.Goals as goal
 
 names_it : (script seen : ScriptValue) → seen ≡ script → (r : RunState)

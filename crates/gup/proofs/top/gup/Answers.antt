@@ -13,8 +13,8 @@ use Rattle.gup.specs.Cause.{HasCauses}
 use Rattle.gup.specs.Report.{IsPartlyTold, IsEnd, IsUnreadFor}
 use Rattle.gup.specs.Stuck.{IsFinishedRun, IsStuckRun, run_text}
 use Rattle.gup.specs.declared.top.Unread.{Unread}
-use Rattle.gup.proofs.Ended.{ran, finished_written, stuck_written, finished_run, stuck_run, ended}
-use Rattle.gup.proofs.Told.{has_cause, of_script, of_none, refused_none}
+use Rattle.gup.proofs.RunEnd.{ran, finished_written, stuck_written, finished_run, stuck_run, ended}
+use Rattle.gup.proofs.ReadBytes.{has_cause, of_script, of_none, refused_none}
 use Rattle.gup.proofs.top.gup.Goals as goal
 
 pub returns-in-Ok-clause-follows : goal.returns-in-Ok-clause-follows

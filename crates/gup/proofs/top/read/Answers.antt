@@ -2,7 +2,7 @@ use Rattle.std.proofs.Common.{List, ℕ, subst}
 use Rattle.gup_spec_grammar.specs.declared.fault.ReadRefusal.{ReadRefusal}
 use Rattle.gup_spec_grammar.specs.Fault.{HasFault, IsRefusalOf}
 use Rattle.gup_spec_grammar.specs.Grammar.{Accepts}
-use Rattle.gup.proofs.Told.{told_script, told_refused, loses_first}
+use Rattle.gup.proofs.ReadBytes.{told_script, told_refused, loses_first}
 use Rattle.gup.proofs.top.read.Goals as goal
 
 pub returns-in-Ok-read_script-clause-script : goal.returns-in-Ok-read_script-clause-script

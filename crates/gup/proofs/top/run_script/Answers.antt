@@ -7,7 +7,7 @@ use Rattle.gup_spec_turns.specs.Run.{RunState, run_start}
 use Rattle.gup_sched.specs.Ran.{SaysStuck}
 use Rattle.gup.specs.Stuck.{stuck_text}
 use Rattle.gup.proofs.Causes.{caused, outcomes_answered}
-use Rattle.gup.proofs.Ended.{all_wait}
+use Rattle.gup.proofs.RunEnd.{all_wait}
 use Rattle.gup.proofs.top.run_script.Goals as goal
 
 pub push_stuck_lines-requires-clause-same : goal.push_stuck_lines-requires-clause-same

@@ -1,7 +1,7 @@
 use Rattle.std.proofs.Common.{sym, ◌∙◌}
 use Rattle.gup_frames.specs.Frames.{frames_of, free_frame}
 use Rattle.gup_space.specs.Space.{space_of}
-use Rattle.gup_fault.proofs.Readied.{writes_marked, writes_alone, got_writable, got_marked, mark_put, alone_upgraded}
+use Rattle.gup_fault.proofs.ReadyPages.{writes_marked, writes_alone, got_writable, got_marked, mark_put, alone_upgraded}
 use Rattle.gup_fault.proofs.ready.make_writable.Goals as goal
 
 pub returns-then-mark-clause-fault : goal.returns-then-mark-clause-fault

@@ -1,7 +1,7 @@
 use Rattle.std.proofs.Common.{refl}
 use Rattle.gup_plain.specs.declared.answer.Answer.TheVariants as answers
 use Rattle.gup_space.specs.Shows.{change_of}
-use Rattle.gup_fault.proofs.Readied.{read_only_still}
+use Rattle.gup_fault.proofs.ReadyPages.{read_only_still}
 use Rattle.gup_fault.proofs.ready.unshare.Goals as goal
 
 pub returns-in_err-fill-clause-read_only : goal.returns-in_err-fill-clause-read_only

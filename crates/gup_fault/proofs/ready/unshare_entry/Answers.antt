@@ -2,7 +2,7 @@ use Rattle.std.proofs.Common.{sym, ◌∙◌}
 use Rattle.gup_frames.specs.Frames.{frames_of, free_frame}
 use Rattle.gup_space.specs.Space.{space_of}
 use Rattle.gup_space.specs.Shows.{change_of}
-use Rattle.gup_fault.proofs.Readied.{unshares_alone, got_mark, alone_marked, read_only_after}
+use Rattle.gup_fault.proofs.ReadyPages.{unshares_alone, got_mark, alone_marked, read_only_after}
 use Rattle.gup_fault.proofs.ready.unshare_entry.Goals as goal
 
 pub returns-then-count-eq1-clause-fault : goal.returns-then-count-eq1-clause-fault

@@ -4,7 +4,7 @@ use Rattle.gup_frames.specs.Frames.{FramesValue, frames_of, free_frame, with_mar
 use Rattle.gup_space.specs.Space.{space_of}
 use Rattle.gup_spec_events.specs.Fault.{breaks}
 use Rattle.gup_fault.proofs.Puts.{free_is_free, free_is_other}
-use Rattle.gup_fault.proofs.Made.{changes_alike, refused, broken, broken_frames, broken_mark, exclusive, still_held}
+use Rattle.gup_fault.proofs.FaultSteps.{changes_alike, refused, broken, broken_frames, broken_mark, exclusive, still_held}
 use Rattle.gup_fault.proofs.steps.break_entry.Goals as goal
 
 pub returns-in_default-clause-fault : goal.returns-in_default-clause-fault

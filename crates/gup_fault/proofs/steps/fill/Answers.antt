@@ -4,7 +4,7 @@ use Rattle.gup_frames.specs.Frames.{FramesValue, frames_of, free_frame, with_mar
 use Rattle.gup_space.specs.Space.{space_of}
 use Rattle.gup_spec_events.specs.Fault.{fills}
 use Rattle.gup_fault.proofs.Puts.{free_is_free}
-use Rattle.gup_fault.proofs.Made.{changes_alike, refused, filled, filled_frames, filled_mark, exclusive}
+use Rattle.gup_fault.proofs.FaultSteps.{changes_alike, refused, filled, filled_frames, filled_mark, exclusive}
 use Rattle.gup_fault.proofs.steps.fill.Goals as goal
 
 pub returns-in_default-clause-fault : goal.returns-in_default-clause-fault

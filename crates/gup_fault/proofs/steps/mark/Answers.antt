@@ -1,6 +1,6 @@
 use Rattle.gup_frames.specs.Frames.{frames_of}
 use Rattle.gup_space.specs.Space.{space_of}
-use Rattle.gup_fault.proofs.Made.{marked_at, keeps_marked_at}
+use Rattle.gup_fault.proofs.FaultSteps.{marked_at, keeps_marked_at}
 use Rattle.gup_fault.proofs.steps.mark.Goals as goal
 
 pub returns-in-Some-clause-events : goal.returns-in-Some-clause-events

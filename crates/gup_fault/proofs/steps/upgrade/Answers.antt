@@ -1,6 +1,6 @@
 use Rattle.gup_frames.specs.Frames.{frames_of}
 use Rattle.gup_space.specs.Space.{space_of}
-use Rattle.gup_fault.proofs.Made.{upgraded_at, keeps_upgraded_at}
+use Rattle.gup_fault.proofs.FaultSteps.{upgraded_at, keeps_upgraded_at}
 use Rattle.gup_fault.proofs.steps.upgrade.Goals as goal
 
 pub returns-in-Some-clause-events : goal.returns-in-Some-clause-events

@@ -1,7 +1,7 @@
 use Rattle.std.proofs.Common.{sym}
 use Rattle.gup_frames.specs.Frames.{frames_of}
 use Rattle.gup_space.specs.Space.{space_of}
-use Rattle.gup_fork.proofs.Copied.{of_its_frame, word_copied}
+use Rattle.gup_fork.proofs.CopySteps.{of_its_frame, word_copied}
 use Rattle.gup_fork.proofs.copying.copy_word.Goals as goal
 
 pub returns-clause-events : goal.returns-clause-events

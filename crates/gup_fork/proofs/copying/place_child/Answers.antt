@@ -2,7 +2,7 @@ use Rattle.std.proofs.Common.{Some, ap, ◌∙◌}
 use Rattle.gup_frames.specs.Frames.{frames_of}
 use Rattle.gup_space.specs.Space.{space_of, with_entry}
 use Rattle.gup_spec_events.specs.Event.{entry_of}
-use Rattle.gup_fork.proofs.Copied.{copy_placed}
+use Rattle.gup_fork.proofs.CopySteps.{copy_placed}
 use Rattle.gup_fork.proofs.copying.place_child.Goals as goal
 
 pub returns-clause-events : goal.returns-clause-events

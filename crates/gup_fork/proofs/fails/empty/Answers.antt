@@ -1,7 +1,7 @@
 use Rattle.std.proofs.Common.{rules}
 use Rattle.gup_frames.specs.Frames.{frames_of}
 use Rattle.gup_space.specs.Space.{space_of}
-use Rattle.gup_fork.proofs.Emptied.{is_page, next_from, last_from, begins, goes_on, fewer, ends_child, ends_frames, ends_below}
+use Rattle.gup_fork.proofs.EmptyChild.{is_page, next_from, last_from, begins, goes_on, fewer, ends_child, ends_frames, ends_below}
 use Rattle.gup_fork.proofs.fails.empty.Goals as goal
 
 pub loop-page-init : goal.loop-page-init

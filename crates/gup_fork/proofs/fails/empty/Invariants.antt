@@ -1,6 +1,6 @@
 use Rattle.gup_frames.specs.Frames.{frames_of}
 use Rattle.gup_space.specs.Space.{space_of}
-use Rattle.gup_fork.proofs.Emptied.{IsEmptying}
+use Rattle.gup_fork.proofs.EmptyChild.{IsEmptying}
 use Rattle.gup_fork.proofs.fails.empty.Given as goal
 
 abbrev pub invariant-loop-page : goal.invariant-loop-page

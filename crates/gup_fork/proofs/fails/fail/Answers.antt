@@ -1,7 +1,7 @@
 use Rattle.std.proofs.Common.{◌∙◌}
 use Rattle.gup_frames.specs.Frames.{frames_of}
 use Rattle.gup_space.specs.Space.{space_of}
-use Rattle.gup_fork.proofs.Failed.{failed}
+use Rattle.gup_fork.proofs.FailSteps.{failed}
 use Rattle.gup_fork.proofs.GivenBack.{are_given_back}
 use Rattle.gup_fork.proofs.fails.fail.Goals as goal
 

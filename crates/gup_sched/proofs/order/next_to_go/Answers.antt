@@ -1,7 +1,7 @@
 use Rattle.std.proofs.Common.{◌≡◌, ℕ, ◌+◌, ◌-◌, ◌<◌, true, false, sym, ap, ◌∙◌, length, arith}
 use Rattle.gup_spec_journal.specs.Order.{behind}
 use Rattle.gup_spec_turns.specs.Run.{can_go, pointed}
-use Rattle.gup_sched.proofs.Going.{pointed_here, pointed_later}
+use Rattle.gup_sched.proofs.NextActors.{pointed_here, pointed_later}
 use Rattle.gup_sched.proofs.order.next_to_go.Goals as goal
 
 -- the search stops here

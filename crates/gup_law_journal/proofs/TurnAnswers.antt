@@ -1,0 +1,230 @@
+-- Which answers turns have, and how many.
+use Rattle.std.proofs.Common.{◌≡◌, ℕ, ◌+◌, ◌<◌, Bool, true, false, IsTrue, List, [], ◌∷◌, ◌++◌, length, Option, Some, None, refl, sym, ap, subst, ◌∙◌, arith, leb-true, leb-false, nat_le}
+use Rattle.std.proofs.lemmas.Option.{slice_get_past}
+use Rattle.gup_plain.specs.Put.{put}
+use Rattle.gup_plain.specs.Note.{NoteValue}
+use Rattle.gup_plain.specs.State.{PlainState}
+use Rattle.gup_plain.specs.declared.answer.Answer.{Answer}
+use Rattle.gup_plain.specs.declared.answer.Answer.TheVariants as answers
+use Rattle.gup_plain.specs.declared.answer.Cause.{Cause}
+use Rattle.gup_plain.specs.declared.answer.Cause.TheVariants as causes
+use Rattle.gup_plain.specs.declared.note.What.{What}
+use Rattle.gup_plain.specs.declared.note.What.TheVariants.{Silent, Idle, Wait, Event, Done}
+use Rattle.gup_plain.specs.declared.note.Waiting.{Waiting}
+use Rattle.gup_script.specs.declared.op.Op.{Op}
+use Rattle.gup_script.specs.Script.{ScriptValue, Actor}
+use Rattle.gup_script.specs.Valid.{IsScript}
+use Rattle.gup_spec_journal.specs.Follows.{refuses, EndsPin, notes_of_turn}
+use Rattle.gup_spec_journal.specs.Order.{Turn, journal_of, places_behind}
+use Rattle.gup_spec_journal.specs.Place.{Place, place_after, place_behind, ops_of, ops_in, Doer, doer}
+use Rattle.gup_spec_turns.specs.Cause.{IsKnownCause, IsKnownAnswer, IsKnown, AreKnown, answers_in, answered_in, HaveFinished}
+use Rattle.gup_spec_turns.specs.Cost.{operations}
+use Rattle.gup_spec_turns.specs.Pages.{sum_below}
+use Rattle.gup_spec_turns.specs.ForkPlace.{ForkPlace}
+use Rattle.gup_law_turns.specs.Standing.{IsStanding}
+use Rattle.gup_spec_turns.specs.Run.{RunState, AreTurns, run_start, run_after, core_turn_by, core_turn_in, op_in, waiting_in}
+use Rattle.gup_law_turns.proofs.Puts.{by_points, put_same, put_other, put_own}
+use Rattle.gup_law_turns.proofs.NoteRightness.{unrefused_short, not_both}
+use Rattle.gup_law_turns.proofs.ScriptLemmas.{has_ops_declared}
+use Rattle.gup_law_turns.proofs.TurnShapes.{TurnOf, refused, mapped, protected, loaded, stored, gave, took_over, took, took_last, passed, passed_last, took_lowest, took_all, pinned_page, pinned_all, pinned_short, unpinned_page, unpinned_last, moved_word, moved_last, began, passed_page, counted_page, shared_page, ended, counted_copy, took_frame, copied_word, placed_copy, failed_fork, TurnAt, idles, waits, goes, unborn_refused, unborn_fork}
+use Rattle.gup_law_turns.proofs.StandingTurns.{stands_on}
+use Rattle.gup_law_turns.proofs.StandingStates.{Stands}
+use Rattle.gup_law_turns.proofs.TurnSteps.{taken}
+use Rattle.gup_law_turns.proofs.Sums.{sum_at, sum_zero, sum_of_list}
+use Rattle.gup_law_turns.proofs.EventLists.{Law}
+
+-- no operation is refused by an answer that comes of what none has as yet
+
+unmovable_never : (op : Op) (count : ℕ) → refuses op (answers.Unmovable count) ≡ false
+unmovable_never op count = grind arith
+
+busy_never : (op : Op) (count : ℕ) → refuses op (answers.Busy count) ≡ false
+busy_never op count = grind arith
+
+untouched_never : (op : Op) → refuses op answers.Untouched ≡ false
+untouched_never op = grind arith
+
+stale_never : (op : Op) → refuses op answers.Stale ≡ false
+stale_never op = grind arith
+
+known_refusal : (op : Op) (answer : Answer) → IsTrue (refuses op answer) → IsKnownAnswer answer
+known_refusal op answers.Plain is = tt
+known_refusal op (answers.Value value) is = tt
+known_refusal op answers.Missing is = tt
+known_refusal op answers.Forbidden is = tt
+known_refusal op answers.NoFrame is = tt
+known_refusal op answers.Overlap is = tt
+known_refusal op answers.Full is = tt
+known_refusal op answers.Unborn is = tt
+known_refusal op (answers.Unmovable count) is = not_both (refuses op (answers.Unmovable count)) (unmovable_never op count) is
+known_refusal op (answers.Busy count) is = not_both (refuses op (answers.Busy count)) (busy_never op count) is
+known_refusal op answers.Untouched is = not_both (refuses op answers.Untouched) (untouched_never op) is
+known_refusal op answers.Stale is = not_both (refuses op answers.Stale) (stale_never op) is
+known_refusal op answers.NotHeld is = tt
+known_refusal op answers.Range is = tt
+known_refusal op (answers.Pinned pages) is = tt
+known_refusal op (answers.Short got wanted cause) is =
+    absurd (not_both (refuses op (answers.Short got wanted cause)) (unrefused_short op got wanted cause) is)
+known_refusal op answers.Words is = tt
+
+-- what ends a pin is a cause that there is
+known_cause : (cause : Cause) → EndsPin cause → IsKnownCause cause
+known_cause causes.Missing end = tt
+known_cause causes.Forbidden end = tt
+known_cause causes.NoFrame end = tt
+known_cause (causes.Unmovable count) end = end
+
+-- the notes of a turn
+abbrev pub AreKnownWhats : List What → Type 0
+AreKnownWhats [] = Unit {0}
+AreKnownWhats (what ∷ whats) = IsKnown what × AreKnownWhats whats
+
+known_turn : {s : PlainState} {who : Doer} {place : Place} {op : Op} {from to : ForkPlace} {whats : List What} → TurnOf s who place op from whats to → AreKnownWhats whats
+known_turn (refused op answer first refusal right passes) = (known_refusal op answer refusal, tt)
+known_turn (mapped page n rights first undenied) = (tt, (tt, tt))
+known_turn (protected page n rights first undenied) = (tt, (tt, tt))
+known_turn (loaded page word value first undenied) = (tt, (tt, tt))
+known_turn (stored page word value first undenied) = (tt, (tt, tt))
+known_turn (gave handle to first undenied) = (tt, (tt, tt))
+known_turn (took_over handle first) = (tt, (tt, tt))
+known_turn (took op page n event over more) = (tt, tt)
+known_turn (took_last op page n event over last) = (tt, (tt, tt))
+known_turn (passed op page n event over more none) = (tt, tt)
+known_turn (passed_last op page n event over last none) = (tt, tt)
+known_turn (took_lowest page none) = (tt, tt)
+known_turn (took_all none) = (tt, tt)
+known_turn (pinned_page handle page n write more undenied) = (tt, tt)
+known_turn (pinned_all handle page n write last undenied) = (tt, (tt, (tt, tt)))
+known_turn (pinned_short handle page n write cause some less end right) = (tt, (known_cause cause end, tt))
+known_turn (unpinned_page handle undenied more) = (tt, tt)
+known_turn (unpinned_last handle none undenied last) = (tt, (tt, tt))
+known_turn (moved_word handle outward index slot n value more undenied) = (tt, tt)
+known_turn (moved_last handle outward index slot n value last undenied) = (tt, (tt, tt))
+known_turn (began child first) = (tt, tt)
+known_turn (passed_page child first page begun up) = (tt, tt)
+known_turn (counted_page child first page begun up) = (tt, tt)
+known_turn (shared_page child page begun) = (tt, tt)
+known_turn (ended child first begun) = (tt, (tt, tt))
+known_turn (counted_copy child first page begun up) = (tt, tt)
+known_turn (took_frame child page to begun) = (tt, tt)
+known_turn (copied_word child page word to begun less) = (tt, tt)
+known_turn (placed_copy child page to begun) = (tt, tt)
+known_turn (failed_fork child page begun) = (tt, (tt, tt))
+
+known_taken : {s : PlainState} {who : Doer} {place : Place} {op : Option Op} {waiting : Option Waiting} {from to : ForkPlace} {whats : List What} → TurnAt s who place op waiting from whats to → AreKnownWhats whats
+known_taken (idles waiting at) = (tt, tt)
+known_taken (waits op waiting at) = (tt, tt)
+known_taken (goes op whats from to birth own turn) = known_turn turn
+known_taken (unborn_refused op birth first refusal) = (tt, tt)
+known_taken (unborn_fork child birth fails first) = (tt, (tt, tt))
+
+known_notes : (number actor op : ℕ) (whats : List What) (rest : List NoteValue) → AreKnownWhats whats → AreKnown rest → AreKnown (notes_of_turn number actor op whats ++ rest)
+known_notes number actor op [] rest known later = later
+known_notes number actor op (what ∷ whats) rest known later = (known.0, known_notes number actor op whats rest known.1 later)
+
+pub known_turns : Law → (script : ScriptValue) → IsScript script → (turns : List Turn) (number : ℕ) (r end : RunState) → Stands script r → AreTurns script r turns end → AreKnown (journal_of number r.places turns)
+known_turns law script valid [] number r end h are = tt
+known_turns law script valid (turn ∷ turns) number r end h are =
+    let a = turn.actor in
+    let next = run_after script r a in
+    let later = known_turns law script valid turns (number + 1) next end (stands_on law script valid r h a) are.1 in
+    let here = known_taken (taken script valid r h a).shape in
+    let both = known_notes number a ((r.places a).answered + 1) (core_turn_in script r a).whats (journal_of (number + 1) next.places turns) here later in
+    subst (λ (t : Turn). AreKnown (journal_of number r.places (t ∷ turns))) (sym are.0) both
+
+-- how many operations are answered
+
+-- an actor's place counts its answers
+counts_answers : (place : Place) (whats : List What) → (place_behind place whats).answered ≡ place.answered + answers_in whats
+counts_answers place [] = omega arith
+counts_answers place (Silent ∷ whats) = counts_answers (place_after place Silent) whats
+counts_answers place (Idle ∷ whats) = counts_answers place whats
+counts_answers place (Wait waiting ∷ whats) = counts_answers place whats
+counts_answers place (Event event ∷ whats) = counts_answers (place_after place (Event event)) whats
+counts_answers place (Done answer ∷ whats) =
+    let rest = counts_answers (place_after place (Done answer)) whats in
+    omega (arith, rest)
+
+answers_behind : (number actor op : ℕ) (whats : List What) (rest : List NoteValue) → answered_in (notes_of_turn number actor op whats ++ rest) ≡ answers_in whats + answered_in rest
+answers_behind number actor op [] rest = omega arith
+answers_behind number actor op (Silent ∷ whats) rest = answers_behind number actor op whats rest
+answers_behind number actor op (Idle ∷ whats) rest = answers_behind number actor op whats rest
+answers_behind number actor op (Wait waiting ∷ whats) rest = answers_behind number actor op whats rest
+answers_behind number actor op (Event event ∷ whats) rest = answers_behind number actor op whats rest
+answers_behind number actor op (Done answer ∷ whats) rest =
+    let later = answers_behind number actor op whats rest in
+    omega (arith, later)
+
+-- what all actors have answered
+abbrev pub all_answered : ScriptValue → (ℕ → Place) → ℕ
+all_answered script places = sum_below (length script.actors) (λ a. (places a).answered)
+
+-- the turn of an actor that is none of the script's is idle, so it answers nothing
+undeclared_by : (script : ScriptValue) (r : RunState) (a : ℕ) (o : Option Op) → op_in script r a ≡ o → (a < length script.actors → ⊥) → op_in script r a ≡ None
+undeclared_by script r a None is none = is
+undeclared_by script r a (Some op) is none = absurd (none (has_ops_declared script a (r.places a).answered op is))
+
+turn_answers : (script : ScriptValue) (places : ℕ → Place) (a : ℕ) (whats : List What) → a < length script.actors → all_answered script (places_behind places (record { actor = a; whats = whats })) ≡ all_answered script places + answers_in whats
+turn_answers script places a whats there =
+    let next : Place = place_behind (places a) whats in
+    let behind = places_behind places (record { actor = a; whats = whats }) in
+    let one = sum_at (length script.actors) (λ b. (behind b).answered) (λ b. (places b).answered) a there (λ b apart. ap (λ (q : Place). q.answered) (put_other a b next places apart)) in
+    let here : (behind a).answered ≡ next.answered = ap (λ (q : Place). q.answered) (put_same a next places) in
+    let counts = counts_answers (places a) whats in
+    omega (arith, one, here, counts)
+
+-- what a turn answers is added to what is answered
+turn_counts : (script : ScriptValue) (r : RunState) (a : ℕ) → all_answered script (run_after script r a).places ≡ all_answered script r.places + answers_in (core_turn_in script r a).whats
+turn_counts script r a = go (nat_le (length script.actors) a) refl
+  where
+    idle_counts : (o : Option Op) → op_in script r a ≡ o → o ≡ None → all_answered script (run_after script r a).places ≡ all_answered script r.places + answers_in (core_turn_in script r a).whats
+    idle_counts o is none =
+        let idle : (core_turn_in script r a).whats ≡ Idle ∷ [] = ap (λ (x : Option Op). (core_turn_by r.core (doer script a) (r.places a).far x (waiting_in script r a)).whats) (is ∙ none) in
+        let places : (run_after script r a).places ≡ r.places = ap (λ (ws : List What). put a (place_behind (r.places a) ws) r.places) idle ∙ put_own a r.places in
+        let same = ap (all_answered script) places in
+        let nothing : answers_in (core_turn_in script r a).whats ≡ 0 = ap answers_in idle in
+        omega (arith, same, nothing)
+
+    go : (c : Bool) → nat_le (length script.actors) a ≡ c → all_answered script (run_after script r a).places ≡ all_answered script r.places + answers_in (core_turn_in script r a).whats
+    go true past =
+        let far = leb-true (length script.actors) a past in
+        idle_counts (op_in script r a) refl (undeclared_by script r a (op_in script r a) refl (λ less. omega (arith, far, less)))
+    go false there = turn_answers script r.places a (core_turn_in script r a).whats (leb-false (length script.actors) a there)
+
+pub turns_count : (script : ScriptValue) (turns : List Turn) (number : ℕ) (r end : RunState) → AreTurns script r turns end → all_answered script end.places ≡ all_answered script r.places + answered_in (journal_of number r.places turns)
+turns_count script [] number r end are =
+    let same : all_answered script r.places ≡ all_answered script end.places = ap (λ (s : RunState). all_answered script s.places) are in
+    omega (arith, same)
+turns_count script (turn ∷ turns) number r end are =
+    let a = turn.actor in
+    let next = run_after script r a in
+    let later = turns_count script turns (number + 1) next end are.1 in
+    let here = turn_counts script r a in
+    let whats : turn.whats ≡ (core_turn_in script r a).whats = ap (λ (t : Turn). t.whats) are.0 in
+    let places : places_behind r.places turn ≡ next.places = ap (λ (ws : List What). put a (place_behind (r.places a) ws) r.places) whats in
+    let rest : journal_of (number + 1) (places_behind r.places turn) turns ≡ journal_of (number + 1) next.places turns = ap (λ (q : ℕ → Place). journal_of (number + 1) q turns) places in
+    let both = answers_behind number a ((r.places a).answered + 1) turn.whats (journal_of (number + 1) (places_behind r.places turn) turns) in
+    let answers = ap answers_in whats in
+    let others = ap answered_in rest in
+    omega (arith, later, here, both, answers, others)
+
+-- an actor that has finished has answered just what it has
+each_answered : (script : ScriptValue) (end : RunState) → IsStanding script end → HaveFinished script end → (a : ℕ) → (end.places a).answered ≡ length (ops_of script a)
+each_answered script end h finished a = go (nat_le (length script.actors) a) refl
+  where
+    go : (c : Bool) → nat_le (length script.actors) a ≡ c → (end.places a).answered ≡ length (ops_of script a)
+    go true past =
+        let far = leb-true (length script.actors) a past in
+        let none : length (ops_of script a) ≡ 0 = ap (λ (o : Option Actor). length (ops_in o)) (slice_get_past script.actors a far) in
+        omega (arith, none, h.answered a)
+    go false there =
+        let least = leb-true (length (ops_of script a)) (end.places a).answered (finished a (leb-false (length script.actors) a there)) in
+        omega (arith, least, h.answered a)
+
+pub all_operations : (script : ScriptValue) (end : RunState) → IsStanding script end → HaveFinished script end → all_answered script end.places ≡ operations script
+all_operations script end h finished =
+    let same : all_answered script end.places ≡ sum_below (length script.actors) (λ a. length (ops_of script a)) = ap (sum_below (length script.actors)) (by_points (each_answered script end h finished)) in
+    same ∙ sum_of_list script.actors (λ (o : Option Actor). length (ops_in o))
+
+pub nothing_answered : (script : ScriptValue) → all_answered script (run_start script).places ≡ 0
+nothing_answered script = sum_zero (length script.actors) (λ a. 0) (λ a. refl)

@@ -1,0 +1,310 @@
+-- What is known of each state that turns lead to.
+use Rattle.std.proofs.Common.{◌≡◌, ℕ, ◌≤◌, ◌<◌, ◌⊎◌, inl, inr, Bool, List, [], ◌∷◌, length, slice_get, Contains, Option, Some, None, IsSome, true, refl, ap, sym, ◌∙◌, subst, arith, ◌+◌, ◌-◌, zero, suc}
+use Rattle.std.proofs.lemmas.List.Sums.{get_or-le-sum_by}
+use Rattle.std.proofs.lemmas.Option.{slice_get_within}
+use Rattle.gup_base.specs.declared.entry.Entry.{Entry}
+use Rattle.gup_base.specs.declared.entry.Rights.{Rights}
+use Rattle.gup_plain.specs.State.{PlainState, unborn, failed, Handle, unmade, held, given, gone, objects_of}
+use Rattle.gup_plain.specs.Event.{most_pages}
+use Rattle.gup_plain.specs.declared.note.What.{What}
+use Rattle.gup_plain.specs.declared.note.Waiting.{Waiting}
+use Rattle.gup_script.specs.declared.op.Op.{Op}
+use Rattle.gup_script.specs.declared.op.Op.TheVariants.{Map, Unmap, Protect, Discard, Load, Store, Pin, Unpin, Give, Take, Transfer, Fork, Exit}
+use Rattle.gup_script.specs.Script.{ScriptValue}
+use Rattle.gup_script.specs.Valid.{IsScript, IsOp}
+use Rattle.gup_spec_events.specs.State.{CoreState, Job, idle, marking, moving, forking, walking, between, counted, lowered, cleared, copying, failing}
+use Rattle.gup_spec_events.specs.Event.{bias}
+use Rattle.gup_spec_events.specs.Invariant.{Holds, entry_of_page, page_of_pin, weight, frame_of}
+use Rattle.gup_law_base.specs.Sound.{IsSound}
+use Rattle.gup_law_base.specs.Sound as sounds
+use Rattle.gup_spec_journal.specs.Place.{Place, Doer, doer, place_behind, ops_of, present_op, process_of}
+use Rattle.gup_spec_turns.specs.Pages.{mapped_pages}
+use Rattle.gup_spec_turns.specs.PinPlace.{HasTaken, IsNoPin}
+use Rattle.gup_spec_turns.specs.ForkPlace.{ForkPlace, StandsFork, IsNoFork}
+use Rattle.gup_law_turns.specs.Standing.{StandsHandle, back_in, IsStanding}
+use Rattle.gup_spec_turns.specs.Run.{turned, RunState, run_start, run_after, op_in, core_turn_in}
+use Rattle.gup_law_turns.proofs.ScriptLemmas.{op_is_op, has_ops_declared}
+use Rattle.gup_law_turns.proofs.SmallCounts.{HoldsNoFrame, ArePinsFew, few_counts}
+use Rattle.gup_law_turns.proofs.FewPages.{few_sequence}
+use Rattle.gup_law_turns.proofs.ReachedStates.{unpin_short}
+use Rattle.gup_law_turns.proofs.ActorPlaces.{op_behind, answered_more}
+use Rattle.gup_law_turns.proofs.PreparedFrames.{ArePreparedThere, there_on, is_prepared}
+use Rattle.gup_law_turns.proofs.TurnShapes.{FitsFork, FitsOp, FitsAt, TurnAt, idles, waits, goes, unborn_refused, unborn_fork, child_of, strand_of}
+use Rattle.gup_law_turns.proofs.StandingTurns.{Starts, at_each, stands_on, stands_first}
+use Rattle.gup_law_turns.proofs.StandingStates.{Stands}
+use Rattle.gup_law_turns.proofs.TurnSteps.{taken}
+use Rattle.gup_law_turns.proofs.EventLists.{Law}
+use Rattle.gup_plain.specs.Denial.{is_held_by}
+use Rattle.gup_script.specs.Limits.{most_pinned}
+use Rattle.gup_spec_turns.specs.CoreTurn.{CoreTurn}
+
+-- an actor has answered no more operations than it has
+abbrev pub HasAnswered : ScriptValue → ℕ → Place → Type 0
+HasAnswered script a place = place.answered ≤ length (ops_of script a)
+
+-- what stands between two turns, which frames are prepared, and how much is answered
+pub record IsReached (script : ScriptValue) (r : RunState) : Type 0 where
+  pub stands : Stands script r
+  pub there : ArePreparedThere r.core
+  pub answered : (a : ℕ) → HasAnswered script a (r.places a)
+
+-- entries
+
+-- the frame of an entry has a reference
+entry_counted : (s : CoreState) (p page : ℕ) (e : Entry) → IsSound s → s.entry p page ≡ Some e → s.count e.frame ≡ 0 → ⊥
+unfolding sounds.held
+entry_counted s p page e sound is none =
+    let tally = sound.1.references e.frame in
+    let at : Contains tally.0 (entry_of_page p page) = (tally.2 (entry_of_page p page)).0 (ap frame_of is) in
+    let some = get_or-le-sum_by weight tally.0 at.0 (entry_of_page p page) at.1 in
+    let here = ap weight at.2 in
+    let sum = sound.1.count_is e.frame in
+    omega (arith, some, here, sum, none, tally.3)
+
+-- an entry is of a mapped page, since a process that has failed has none
+entry_mapped : (s : CoreState) (p page : ℕ) (e : Entry) → IsSound s → (s.birth p ≡ failed → s.entry p page ≡ None) → s.entry p page ≡ Some e → (rights : Option Rights) → s.right p page ≡ rights → IsSome rights
+entry_mapped s p page e sound emptied is None right =
+    absurd (let gone : s.entry p page ≡ None = emptied (sound.1.entry_mapped p page e (sound.1.whole_entry p page e is) right) in cc)
+entry_mapped s p page e sound emptied is (Some r) right = refl
+
+-- and of a process that is not unborn
+entry_brought : (s : CoreState) (p page : ℕ) (e : Entry) → IsSound s → (s.birth p ≡ failed → s.entry p page ≡ None) → s.entry p page ≡ Some e → s.birth p ≡ unborn → ⊥
+entry_brought s p page e sound emptied is yet =
+    let gone : s.entry p page ≡ None = emptied (sound.1.entry_mapped p page e (sound.1.whole_entry p page e is) (sound.1.unborn_unmapped p page yet)) in cc
+
+-- a process has at most 1,024 mapped pages
+few_mapped : (s : CoreState) (p : ℕ) → mapped_pages (s.right p) ≤ s.pages p → s.pages p ≤ most_pages → mapped_pages (s.right p) ≤ 1024
+few_mapped s p within most = omega (arith, within, most)
+
+-- jobs
+
+fork_stands : (s : CoreState) (a p child : ℕ) (place : Place) (job : Job) (prepared : Option ℕ) → FitsFork s a p child place job prepared → StandsFork s a p child job prepared × HoldsNoFrame job
+fork_stands s a p child place idle prepared fits = (fits.1, (refl, refl))
+fork_stands s a p child place (forking q c done between) prepared fits = (fits.1, (refl, refl))
+fork_stands s a p child place (forking q c done (counted page)) prepared fits = (fits.1, (refl, refl))
+fork_stands s a p child place (forking q c done (lowered page)) prepared fits = absurd fits.1
+fork_stands s a p child place (forking q c done (cleared page)) prepared fits = absurd fits.1
+fork_stands s a p child place (forking q c done (copying page n)) prepared fits = (fits.1, (refl, refl))
+fork_stands s a p child place (forking q c done failing) prepared fits = absurd fits.1
+fork_stands s a p child place (marking q page f) prepared fits = absurd fits
+fork_stands s a p child place (moving q page e allowed count) prepared fits = absurd fits
+fork_stands s a p child place (walking q write long sequence step) prepared fits = absurd fits
+
+idle_stands : (job : Job) → job ≡ idle → HoldsNoFrame job
+idle_stands job is = rw is (refl, refl)
+
+no_frame : (s : CoreState) (who : Doer) (op : Option Op) (place : Place) → FitsAt s who op place → HoldsNoFrame (s.job who.actor)
+no_frame s who None place fits = idle_stands (s.job who.actor) fits.0.0
+no_frame s who (Some (Map page n rights)) place fits = idle_stands (s.job who.actor) fits.0.0
+no_frame s who (Some (Unmap page n)) place fits = idle_stands (s.job who.actor) fits.0.0
+no_frame s who (Some (Protect page n rights)) place fits = idle_stands (s.job who.actor) fits.0.0
+no_frame s who (Some (Discard page n)) place fits = idle_stands (s.job who.actor) fits.0.0
+no_frame s who (Some (Load page word)) place fits = idle_stands (s.job who.actor) fits.0.0
+no_frame s who (Some (Store page word value)) place fits = idle_stands (s.job who.actor) fits.0.0
+no_frame s who (Some (Pin handle page n write)) place fits = idle_stands (s.job who.actor) fits.0
+no_frame s who (Some (Unpin handle)) place fits = idle_stands (s.job who.actor) fits.0.0
+no_frame s who (Some (Give handle to)) place fits = idle_stands (s.job who.actor) fits.0.0
+no_frame s who (Some (Take handle)) place fits = idle_stands (s.job who.actor) fits.0.0
+no_frame s who (Some (Transfer handle outward index slot n)) place fits = idle_stands (s.job who.actor) fits.0.0
+no_frame s who (Some (Fork child)) place fits = (fork_stands s who.actor who.proc child place (s.job who.actor) (s.prepared who.actor) fits.1).1
+no_frame s who (Some Exit) place fits = idle_stands (s.job who.actor) fits.0
+
+idle_job : (s : CoreState) (who : Doer) (op : Option Op) (place : Place) → IsNoFork op → FitsAt s who op place → s.job who.actor ≡ idle
+idle_job s who None place no_fork fits = fits.0.0
+idle_job s who (Some (Map page n rights)) place no_fork fits = fits.0.0
+idle_job s who (Some (Unmap page n)) place no_fork fits = fits.0.0
+idle_job s who (Some (Protect page n rights)) place no_fork fits = fits.0.0
+idle_job s who (Some (Discard page n)) place no_fork fits = fits.0.0
+idle_job s who (Some (Load page word)) place no_fork fits = fits.0.0
+idle_job s who (Some (Store page word value)) place no_fork fits = fits.0.0
+idle_job s who (Some (Pin handle page n write)) place no_fork fits = fits.0
+idle_job s who (Some (Unpin handle)) place no_fork fits = fits.0.0
+idle_job s who (Some (Give handle to)) place no_fork fits = fits.0.0
+idle_job s who (Some (Take handle)) place no_fork fits = fits.0.0
+idle_job s who (Some (Transfer handle outward index slot n)) place no_fork fits = fits.0.0
+idle_job s who (Some (Fork child)) place no_fork fits = absurd no_fork
+idle_job s who (Some Exit) place no_fork fits = fits.0
+
+-- pins
+
+untaken : (s : CoreState) (who : Doer) (op : Option Op) (place : Place) → IsNoPin op → FitsAt s who op place → s.taken who.actor ≡ []
+untaken s who None place no_pin fits = fits.0.1
+untaken s who (Some (Map page n rights)) place no_pin fits = fits.0.1
+untaken s who (Some (Unmap page n)) place no_pin fits = fits.0.1
+untaken s who (Some (Protect page n rights)) place no_pin fits = fits.0.1
+untaken s who (Some (Discard page n)) place no_pin fits = fits.0.1
+untaken s who (Some (Load page word)) place no_pin fits = fits.0.1
+untaken s who (Some (Store page word value)) place no_pin fits = fits.0.1
+untaken s who (Some (Pin handle page n write)) place no_pin fits = absurd no_pin
+untaken s who (Some (Unpin handle)) place no_pin fits = fits.0.1
+untaken s who (Some (Give handle to)) place no_pin fits = fits.0.1
+untaken s who (Some (Take handle)) place no_pin fits = fits.0.1
+untaken s who (Some (Transfer handle outward index slot n)) place no_pin fits = fits.0.1
+untaken s who (Some (Fork child)) place no_pin fits = fits.0
+untaken s who (Some Exit) place no_pin fits = fits.1
+
+-- an operation whose actor may have taken pages is a pin
+no_pin_or_pin : (op : Option Op) → IsNoPin op ⊎ ((handle page n : ℕ) × (write : Bool) × (op ≡ Some (Pin handle page n write)))
+no_pin_or_pin None = inl tt
+no_pin_or_pin (Some (Map page n rights)) = inl tt
+no_pin_or_pin (Some (Unmap page n)) = inl tt
+no_pin_or_pin (Some (Protect page n rights)) = inl tt
+no_pin_or_pin (Some (Discard page n)) = inl tt
+no_pin_or_pin (Some (Load page word)) = inl tt
+no_pin_or_pin (Some (Store page word value)) = inl tt
+no_pin_or_pin (Some (Pin handle page n write)) = inr (handle, page, n, write, refl)
+no_pin_or_pin (Some (Unpin handle)) = inl tt
+no_pin_or_pin (Some (Give handle to)) = inl tt
+no_pin_or_pin (Some (Take handle)) = inl tt
+no_pin_or_pin (Some (Transfer handle outward index slot n)) = inl tt
+no_pin_or_pin (Some (Fork child)) = inl tt
+no_pin_or_pin (Some Exit) = inl tt
+
+-- the page of a pin that is made is one of 16
+few_made : (backs : ℕ → ℕ) (pinned : List ℕ) (h : Handle) (k f : ℕ) → StandsHandle backs pinned h → slice_get pinned k ≡ Some f → (h ≡ unmade → ⊥) × (k < 16)
+few_made backs pinned unmade k f stands there = absurd (let none : slice_get pinned k ≡ None = ap (λ (xs : List ℕ). slice_get xs k) stands in cc)
+few_made backs pinned gone k f stands there = absurd (let none : slice_get pinned k ≡ None = ap (λ (xs : List ℕ). slice_get xs k) stands in cc)
+few_made backs pinned (held by objects write) k f stands there =
+    let within = slice_get_within pinned k f there in
+    let most = stands.1 in
+    let all = stands.2 in
+    ((λ e. cc e), omega (arith, within, most, all))
+few_made backs pinned (given to objects write) k f stands there =
+    let within = slice_get_within pinned k f there in
+    let most = stands.1 in
+    let all = stands.2 in
+    ((λ e. cc e), omega (arith, within, most, all))
+
+few_pins : (script : ScriptValue) → IsScript script → (r : RunState) → Stands script r → ArePinsFew r.core
+few_pins script valid r h =
+    let s : CoreState = r.core in
+    record {
+      made = λ k j f there.
+          let few = few_made (back_in script r k) (s.pinned k) (s.handle k) j f (h.handles k) there in
+          let below = h.made k few.0 in
+          let most = valid.few_handles in
+          (omega (arith, below, most), few.1);
+      taken = λ a k t there. at a k t there (no_pin_or_pin (op_in script r a));
+    }
+  where
+    at : (a k : ℕ) (t : CoreTurn) → slice_get (r.core.taken a) k ≡ Some t → IsNoPin (op_in script r a) ⊎ ((handle page n : ℕ) × (write : Bool) × (op_in script r a ≡ Some (Pin handle page n write))) → (a < 81) × (k < 16)
+    at a k t there (inl no_pin) =
+        absurd (let none : slice_get (r.core.taken a) k ≡ None = ap (λ (xs : List CoreTurn). slice_get xs k) (untaken r.core (doer script a) (op_in script r a) (r.places a) no_pin (h.fits a)) in cc)
+    at a k t there (inr pin) =
+        let op : Op = Pin pin.0 pin.1 pin.2 pin.3 in
+        let fits : FitsOp r.core (doer script a) op (r.places a) = subst (λ (o : Option Op). FitsAt r.core (doer script a) o (r.places a)) pin.4 (h.fits a) in
+        let range : IsOp op = op_is_op script valid a (r.places a).answered op pin.4 in
+        let within = slice_get_within (r.core.taken a) k t there in
+        let stands = fits.2 in
+        let many = stands.taken.many in
+        let one = stands.within in
+        let most = range.1 in
+        let declared = has_ops_declared script a (r.places a).answered op pin.4 in
+        let actors = valid.few_actors in
+        (omega (arith, declared, actors), omega (arith, within, many, one, most))
+
+-- the page of a handle has its weight in its frame's count
+pin_weighed : (s : CoreState) (h k f : ℕ) → IsSound s → slice_get (s.pinned h) k ≡ Some f → bias ≤ s.count f
+unfolding sounds.held
+pin_weighed s h k f sound is =
+    let tally = sound.1.references f in
+    let at : Contains tally.0 (page_of_pin h k) = (tally.2 (page_of_pin h k)).0 is in
+    let some = get_or-le-sum_by weight tally.0 at.0 (page_of_pin h k) at.1 in
+    let here = ap weight at.2 in
+    let sum = sound.1.count_is f in
+    omega (arith, some, here, sum, tally.3)
+
+-- a pin that has taken a page has set the flag of its process
+first_taken : (xs : List CoreTurn) → 0 < length xs → (t : CoreTurn) × (slice_get xs 0 ≡ Some t)
+first_taken [] some = absurd (omega (arith, some))
+first_taken (t ∷ xs) some = (t, refl)
+
+pin_flagged : (s : CoreState) (a p page far : ℕ) (write : Bool) → IsSound s → HasTaken p page write far (s.taken a) → 0 < far → s.has_pinned p ≡ true
+pin_flagged s a p page far write sound taken some =
+    let many = taken.many in
+    let first = first_taken (s.taken a) (omega (arith, many, some)) in
+    let proc = (taken.each 0 first.0 first.1).0 in
+    ap s.has_pinned (sym proc) ∙ sound.1.taken_flag a 0 first.0 first.1
+
+-- what is published of core states
+abbrev pub Published : Type 0
+Published = (s : CoreState) → IsSound s → Holds s
+
+pub is_standing : Published → (script : ScriptValue) → IsScript script → (r : RunState) → IsReached script r → IsStanding script r
+is_standing published script valid r h =
+    let s : CoreState = r.core in
+    let k : Stands script r = h.stands in
+    let at : (a : ℕ) (op : Op) → present_op script a (r.places a) ≡ Some op → FitsOp s (doer script a) op (r.places a) =
+    λ a op is. subst (λ (o : Option Op). FitsAt s (doer script a) o (r.places a)) is (k.fits a) in
+    let few : (p page : ℕ) (e : Entry) → s.entry p page ≡ Some e → p < 16 =
+    λ p page e is. let below : p < length script.processes = k.declared p (entry_brought s p page e k.sound (k.emptied p page) is) in let most = valid.few_processes in omega (arith, below, most) in
+    record {
+      sound = k.sound;
+      holds = published s k.sound;
+      declared = k.declared;
+      mapped = λ p page e is. entry_mapped s p page e k.sound (k.emptied p page) is (s.right p page) refl;
+      counted = λ p page e is none. entry_counted s p page e k.sound is none;
+      few_pages = λ p. few_mapped s p (k.few.mapped p) (k.few.pages p);
+      few_counts = few_counts s k.sound k.calm k.rest (λ a. no_frame s (doer script a) (present_op script a (r.places a)) (r.places a) (k.fits a)) k.emptied few (few_pins script valid r k);
+      few_forks = few_sequence (length script.processes) valid.few_processes s k.few;
+      idle_jobs = λ a no_fork. idle_job s (doer script a) (present_op script a (r.places a)) (r.places a) no_fork (k.fits a);
+      forks = λ a child is. (fork_stands s a (process_of script a) child (r.places a) (s.job a) (s.prepared a) (at a (Fork child) is).1).0;
+      prepared = λ a f is. is_prepared s k.sound h.there a f is;
+      keeps = λ a. (k.rest a).prepared;
+      untaken = λ a no_pin. untaken s (doer script a) (present_op script a (r.places a)) (r.places a) no_pin (k.fits a);
+      pins = λ a handle page n write is. (at a (Pin handle page n write) is).2;
+      flagged = λ a handle page n write is. pin_flagged s a (process_of script a) page (r.places a).far write k.sound (at a (Pin handle page n write) is).2.taken;
+      unpins = λ a handle is. unpin_short (back_in script r handle) (s.pinned handle) (s.handle handle) a (r.places a).far (k.handles handle) (at a (Unpin handle) is).2 (at a (Unpin handle) is).3;
+      handles = k.handles;
+      made = k.made;
+      weighed = λ handle j f there. pin_weighed s handle j f k.sound there;
+      ungot = k.calm.no_gets;
+      unmaps = λ a page n is. (at a (Unmap page n) is).1;
+      discards = λ a page n is. (at a (Discard page n) is).1;
+      transfers = λ a handle outward index slot n is. (at a (Transfer handle outward index slot n) is).2;
+      answered = h.answered;
+    }
+
+answered_on : (script : ScriptValue) (t : CoreState) {s : PlainState} {who : Doer} {place : Place} {op : Option Op} {waiting : Option Waiting} {whats : List What} {from to : ForkPlace} → TurnAt s who place op waiting from whats to → present_op script who.actor place ≡ op → HasAnswered script who.actor place → HasAnswered script who.actor (place_behind place whats)
+answered_on script t (idles waiting at) is within = within
+answered_on script t (waits op waiting at) is within = within
+answered_on script t {who = who} {place = place} (goes op whats from to birth own turn) is within =
+    answered_more (op_behind t (Some op) turn) (length (ops_of script who.actor)) (slice_get_within (ops_of script who.actor) place.answered op is)
+answered_on script t {who = who} {place = place} (unborn_refused op birth first refusal) is within =
+    (let one = slice_get_within (ops_of script who.actor) place.answered op is in omega (arith, one))
+answered_on script t {who = who} {place = place} (unborn_fork child birth own first) is within =
+    (let one = slice_get_within (ops_of script who.actor) place.answered (Fork child) is in omega (arith, one))
+
+pub reached_on : Law → (script : ScriptValue) → IsScript script → (r : RunState) → IsReached script r → (a : ℕ) → IsReached script (run_after script r a)
+reached_on law script valid r h a =
+    let turn = taken script valid r h.stands a in
+    let behind = place_behind (r.places a) (core_turn_in script r a).whats in
+    record {
+      stands = stands_on law script valid r h.stands a;
+      there = there_on r.core a (process_of script a) (child_of (process_of script a) (op_in script r a)) (strand_of (op_in script r a)) (core_turn_in script r a).events turn.done.kinds turn.done.can h.there;
+      answered = at_each (HasAnswered script) a behind r.places (answered_on script r.core turn.shape refl (h.answered a)) h.answered;
+    }
+
+pub reaches : Law → Published → (script : ScriptValue) → IsScript script → (actors : List ℕ) → (r : RunState) → IsReached script r → IsStanding script (turned script r actors)
+reaches law published script valid [] r h = is_standing published script valid r h
+reaches law published script valid (a ∷ actors) r h = reaches law published script valid actors (run_after script r a) (reached_on law script valid r h a)
+
+pub starts_reached : Starts → (script : ScriptValue) → IsScript script → IsReached script (run_start script)
+starts_reached starts script valid =
+    record {
+      stands = stands_first starts script valid;
+      there = λ a f is. absurd (cc is);
+      answered = λ a. omega arith;
+    }
+
+-- An unpin is short of the most pages that a pin may have: once it has begun its actor holds the pin, of which at least
+-- one page is left.
+pub unpin_short : (back : ℕ → ℕ) (pinned : List ℕ) (x : Handle) (a far : ℕ) → StandsHandle back pinned x → (0 < far → is_held_by x a ≡ true) → (is_held_by x a ≡ true → (0 < length pinned) × (length pinned + far ≡ length (objects_of x))) → far < most_pinned
+unpin_short back pinned x a zero stands holds left = omega arith
+unpin_short back pinned (held by objects write) a (suc far) stands holds left =
+    let has = left (holds (omega arith)) in
+    let few = stands.1 in
+    omega (arith, has.0, has.1, few)
+unpin_short back pinned (given to objects write) a (suc far) stands holds left = absurd (let is = holds (omega arith) in cc is)
+unpin_short back pinned unmade a (suc far) stands holds left = absurd (let is = holds (omega arith) in cc is)
+unpin_short back pinned gone a (suc far) stands holds left = absurd (let is = holds (omega arith) in cc is)

@@ -1,0 +1,265 @@
+-- A run's turns: each can be done and has one of the shapes.
+use Rattle.std.proofs.Common.{◌≡◌, ℕ, ◌≤◌, ◌<◌, Bool, true, false, IsTrue, [], ◌∷◌, Option, Some, None, refl, ap, sym, subst, ◌∙◌, zero, suc, arith}
+use Rattle.gup_plain.specs.State.{Birth, unborn, growing, born, failed}
+use Rattle.gup_plain.specs.declared.answer.Answer.TheVariants as answers
+use Rattle.gup_plain.specs.declared.event.PlainEvent.TheVariants as events
+use Rattle.gup_plain.specs.declared.note.What.TheVariants.{Event, Done}
+use Rattle.gup_plain.specs.declared.note.Waiting.{Waiting}
+use Rattle.gup_script.specs.Valid.{IsScript, IsOp, IsOfDevice, IsOfThread, FitsKind}
+use Rattle.gup_base.specs.Counts.{most_slots}
+use Rattle.gup_script.specs.Script.{ScriptValue, Actor, actor_at, is_thread}
+use Rattle.gup_script.specs.declared.op.Kind.{Kind}
+use Rattle.gup_script.specs.declared.op.Kind.TheVariants.{Thread, Device, Mover}
+use Rattle.gup_script.specs.declared.op.Op.{Op}
+use Rattle.gup_script.specs.declared.op.Op.TheVariants.{Map, Unmap, Protect, Discard, Load, Store, Pin, Unpin, Give, Take, Transfer, Fork, Exit}
+use Rattle.gup_spec_events.specs.State.{CoreState, Job, idle, marking, moving, forking, walking, plain_of}
+use Rattle.gup_spec_events.specs.Event.{run}
+use Rattle.gup_spec_journal.specs.Follows.{refuses}
+use Rattle.gup_spec_journal.specs.Order.{handle_waits}
+use Rattle.gup_spec_journal.specs.Place.{Place, Doer, doer, thread_in, birth_by, birth_for}
+use Rattle.gup_spec_turns.specs.ForkPlace.{ForkPlace, place_in}
+use Rattle.gup_spec_turns.specs.Run.{RunState, op_in, waiting_with, waiting_in, core_turn_by, core_turn_in}
+use Rattle.gup_spec_turns.specs.CoreTurn.{CoreTurn, answers_with}
+use Rattle.gup_spec_turns.proofs.TurnParts.{waits_at}
+use Rattle.gup_spec_turns.specs.Waits.{waits_born, first_waiting, waits_for_locks, no_lock}
+use Rattle.gup_spec_turns.specs.Turn.{failed_turn, turn_at, op_turn}
+use Rattle.gup_law_turns.proofs.CalmStates.{failing_unborn}
+use Rattle.gup_law_turns.proofs.ForkFails.{unborn_empty}
+use Rattle.gup_law_turns.proofs.ForkOps.{IsEmptied, fork_turned, fork_emptied}
+use Rattle.gup_law_turns.proofs.HandleOps.{unpin_turned, give_turned, take_turned, transfer_turned}
+use Rattle.gup_law_turns.proofs.PageOps.{map_turned, unmap_turned, load_turned, store_turned, protect_turned, discard_turned, exit_turned}
+use Rattle.gup_law_turns.proofs.PinOps.{none_taken, pin_turned}
+use Rattle.gup_law_turns.proofs.Puts.{some_same}
+use Rattle.gup_law_turns.proofs.ScriptLemmas.{FitsIn, op_is_op, op_fits_kind, is_of_thread, thread_birth, few_slots}
+use Rattle.gup_law_turns.proofs.TurnShapes.{AtFirst, FitsFork, FitsOp, FitsAt, Rests, IsOfProcess, TurnAt, idles, waits, goes, unborn_refused, unborn_fork}
+use Rattle.gup_law_turns.proofs.StandingStates.{Stands, IsTaken}
+use Rattle.gup_law_turns.proofs.ShownTurns.{IsOpen, IsQuiet, MakesPin, IsTurned, idle_place}
+
+-- whoever waits for neither of two doesn't wait for the first
+first_of_both : (first second : Option Waiting) → first_waiting first second ≡ None → first ≡ None
+first_of_both None second free = refl
+first_of_both (Some waiting) second free = absurd (cc free)
+
+-- an operation of a process is none of a device
+of_no_device : (op : Op) → IsOfProcess op → IsOfDevice op → ⊥
+of_no_device (Map page n rights) own device = device
+of_no_device (Unmap page n) own device = device
+of_no_device (Protect page n rights) own device = device
+of_no_device (Discard page n) own device = device
+of_no_device (Load page word) own device = device
+of_no_device (Store page word value) own device = device
+of_no_device (Pin handle page n write) own device = device
+of_no_device (Unpin handle) own device = own
+of_no_device (Give handle to) own device = own
+of_no_device (Take handle) own device = own
+of_no_device (Transfer handle outward index slot n) own device = own
+of_no_device (Fork child) own device = device
+of_no_device Exit own device = device
+
+-- an operation of a thread is one of threads
+of_kind : (kind : Kind) (op : Op) → FitsKind kind op → is_thread kind ≡ true → IsOfThread op
+of_kind (Thread p) op fits is = fits
+of_kind (Device slots) op fits is = absurd (cc is)
+of_kind Mover op fits is = absurd fits
+
+of_actor : (actor : Option Actor) (op : Op) → FitsIn actor op → thread_in actor ≡ true → IsOfThread op
+of_actor None op fits is = absurd fits
+of_actor (Some actor) op fits is = of_kind actor.kind op fits is
+
+-- whoever is no thread waits for no birth, so a process that failed is a thread's
+failed_proc : (thread : Bool) (birth : Birth) → birth_by thread birth ≡ failed → (thread ≡ true) × (birth ≡ failed)
+failed_proc true birth is = (refl, is)
+failed_proc false birth is = absurd (cc is)
+
+not_failed : {b : Birth} → b ≡ born → b ≡ failed → ⊥
+not_failed is lost = cc (sym is ∙ lost)
+
+same_child : {c d : ℕ} → Some (Fork c) ≡ Some (Fork d) → d ≡ c
+same_child is = cc
+
+-- What the turn of an operation needs: its numbers are in range, its process is born if it is of one, and whoever does it
+-- waits for nothing.
+record CanTake (s : CoreState) (who : Doer) (place : Place) (op : Op) : Type 0 where
+  range : IsOp op
+  birth : IsOfProcess op → s.birth who.proc ≡ born
+  slots : who.slots ≤ most_slots
+  fits : FitsOp s who op place
+  free : waits_born s who.actor who.proc op ≡ None
+
+module _ (s : CoreState) (who : Doer) (place : Place) (quiet : IsQuiet s who.actor) where
+  opened : s.birth who.proc ≡ born → IsOpen s who.actor who.proc
+  opened birth = record { sound = quiet.sound; calm = quiet.calm; rest = quiet.rest; birth = birth }
+
+  -- the turn of any operation
+  op_turned : (op : Op) → CanTake s who place op → IsTurned s who place op (op_turn s who.actor who.proc who.slots place.far op)
+  op_turned (Map page n rights) h = map_turned s who place (opened (h.birth tt)) page n rights h.range h.fits h.free
+  op_turned (Unmap page n) h = unmap_turned s who place (opened (h.birth tt)) page n h.fits h.free
+  op_turned (Load page word) h = load_turned s who place (opened (h.birth tt)) page word h.range h.fits h.free
+  op_turned (Store page word value) h = store_turned s who place (opened (h.birth tt)) page word value h.range h.fits h.free
+  op_turned (Protect page n rights) h = protect_turned s who place (opened (h.birth tt)) page n rights h.fits h.free
+  op_turned (Discard page n) h = discard_turned s who place (opened (h.birth tt)) page n h.fits h.free
+  op_turned (Pin handle page n write) h = pin_turned s who place (opened (h.birth tt)) handle page n write h.range h.fits h.free
+  op_turned (Unpin handle) h = unpin_turned s who place quiet handle h.fits
+  op_turned (Give handle to) h = give_turned s who place quiet handle to h.fits
+  op_turned (Take handle) h =
+      take_turned s who place quiet handle h.fits
+      (first_of_both (handle_waits s.handle who.actor (Some (Take handle))) (waits_for_locks no_lock who.actor (s.structure who.proc) (s.table who.proc)) h.free)
+  op_turned (Transfer handle outward index slot n) h = transfer_turned s who place quiet handle outward index slot n h.slots h.fits
+  op_turned (Fork child) h = fork_turned s who child place (opened (h.birth tt)) h.fits h.free
+  op_turned Exit h = exit_turned s who place (opened (h.birth tt)) h.fits h.free
+
+-- an operation at its first turn is in the middle of nothing, and has taken no page
+module _ (s : CoreState) (who : Doer) (place : Place) (first : place.far ≡ 0) where
+  idle_fork : (child : ℕ) (job : Job) → s.job who.actor ≡ job → FitsFork s who.actor who.proc child place job (s.prepared who.actor) → (s.job who.actor ≡ idle) × (s.birth child ≡ unborn)
+  idle_fork child idle is fits = (is, fits.1)
+  idle_fork child (forking q c done step) is fits = absurd (let more = fits.0.0 in omega (arith, more, first))
+  idle_fork child (marking q page f) is fits = absurd fits
+  idle_fork child (moving q page e allowed count) is fits = absurd fits
+  idle_fork child (walking q write long sequence step) is fits = absurd fits
+
+  rests_first : (op : Op) → FitsOp s who op place → Rests s who.actor
+  rests_first (Map page n rights) fits = fits.0
+  rests_first (Unmap page n) fits = fits.0
+  rests_first (Load page word) fits = fits.0
+  rests_first (Store page word value) fits = fits.0
+  rests_first (Protect page n rights) fits = fits.0
+  rests_first (Discard page n) fits = fits.0
+  rests_first (Pin handle page n write) fits = (fits.0, none_taken (s.taken who.actor) (fits.2.taken.many ∙ first))
+  rests_first (Unpin handle) fits = fits.0
+  rests_first (Give handle to) fits = fits.0
+  rests_first (Take handle) fits = fits.0
+  rests_first (Transfer handle outward index slot n) fits = fits.0
+  rests_first (Fork child) fits = ((idle_fork child (s.job who.actor) refl fits.1).0, fits.0)
+  rests_first Exit fits = fits
+
+-- a thread of a failed process, at the first turn of an operation
+module _ (s : CoreState) (who : Doer) (place : Place) (quiet : IsQuiet s who.actor) (lost : birth_for s.birth who ≡ failed) (first : AtFirst place) where
+  -- its operation is refused
+  refuses_op : (op : Op) → IsTrue (refuses op answers.Unborn) → ((child : ℕ) → Some op ≡ Some (Fork child) → ⊥) → FitsOp s who op place → IsTaken s who place (Some op) None (answers_with answers.Unborn)
+  refuses_op op refusal no_fork fits =
+      let still = rests_first s who place first.0 op fits in
+      record {
+        done = record { kinds = tt; can = tt; rest = quiet.rest; told = refl };
+        shape = subst (λ (at : ForkPlace). TurnAt (plain_of s) who place (Some op) None at (Done answers.Unborn ∷ []) at) (sym (idle_place s who.actor still.0)) (unborn_refused op lost first refusal);
+        next = still;
+        pin = λ o same free birth. absurd (not_failed birth lost);
+        emptied = λ child page same gone. absurd (no_fork child same);
+      }
+
+  -- its fork makes the child failed, too, which has no entries
+  fails_child : (child : ℕ) → FitsOp s who (Fork child) place → IsTaken s who place (Some (Fork child)) None (failed_turn who.actor who.proc (Fork child))
+  fails_child child fits =
+      let proc : s.birth who.proc ≡ failed = (failed_proc who.thread (s.birth who.proc) lost).1 in
+      let still = idle_fork s who place first.0 child (s.job who.actor) refl fits.1 in
+      record {
+        done = record {
+          kinds = (failing_unborn, tt);
+          can = ((proc, still.1), tt);
+          rest = record { prepared = quiet.rest.prepared; owed = quiet.rest.owed };
+          told = refl;
+        };
+        shape = subst (λ (at : ForkPlace). TurnAt (plain_of s) who place (Some (Fork child)) None at (Event (events.ForkFail child) ∷ Done answers.Unborn ∷ []) at) (sym (idle_place s who.actor still.0)) (unborn_fork child lost proc first);
+        next = (still.0, fits.0);
+        pin = λ o same free birth. absurd (not_failed birth lost);
+        emptied = λ c page same gone. ap (λ (k : ℕ). s.entry k page) (same_child same) ∙ unborn_empty s child page quiet.sound still.1;
+      }
+
+  failed_step : (op : Op) → IsOfThread op → FitsOp s who op place → IsTaken s who place (Some op) None (failed_turn who.actor who.proc op)
+  failed_step (Map page n rights) own fits = refuses_op (Map page n rights) refl (λ child same. cc same) fits
+  failed_step (Unmap page n) own fits = refuses_op (Unmap page n) refl (λ child same. cc same) fits
+  failed_step (Load page word) own fits = refuses_op (Load page word) refl (λ child same. cc same) fits
+  failed_step (Store page word value) own fits = refuses_op (Store page word value) refl (λ child same. cc same) fits
+  failed_step (Protect page n rights) own fits = refuses_op (Protect page n rights) refl (λ child same. cc same) fits
+  failed_step (Discard page n) own fits = refuses_op (Discard page n) refl (λ child same. cc same) fits
+  failed_step (Pin handle page n write) own fits = refuses_op (Pin handle page n write) refl (λ child same. cc same) fits
+  failed_step (Unpin handle) own fits = refuses_op (Unpin handle) refl (λ child same. cc same) fits
+  failed_step (Give handle to) own fits = refuses_op (Give handle to) refl (λ child same. cc same) fits
+  failed_step (Take handle) own fits = refuses_op (Take handle) refl (λ child same. cc same) fits
+  failed_step (Transfer handle outward index slot n) own fits = absurd own
+  failed_step (Fork child) own fits = fails_child child fits
+  failed_step Exit own fits = refuses_op Exit refl (λ child same. cc same) fits
+
+-- What is known of whoever has this operation, or none.
+record IsKnown (s : CoreState) (who : Doer) (place : Place) (op : Option Op) : Type 0 where
+  range : (o : Op) → op ≡ Some o → IsOp o
+  thread : (o : Op) → op ≡ Some o → IsOfProcess o → who.thread ≡ true
+  of_thread : (o : Op) → op ≡ Some o → who.thread ≡ true → IsOfThread o
+  slots : who.slots ≤ most_slots
+  fits : FitsAt s who op place
+  begun : 0 < place.far → birth_for s.birth who ≡ born
+  fresh : place.far ≡ 0 → place.had ≡ false
+  emptied : (p page : ℕ) → s.birth p ≡ failed → s.entry p page ≡ None
+
+module _ (s : CoreState) (who : Doer) (place : Place) (quiet : IsQuiet s who.actor) (op : Op) (h : IsKnown s who place (Some op)) where
+  -- of a born process, or of a device
+  born_step : birth_for s.birth who ≡ born → waits_born s who.actor who.proc op ≡ None → IsTaken s who place (Some op) None (op_turn s who.actor who.proc who.slots place.far op)
+  born_step birth free =
+      let own_birth : IsOfProcess op → s.birth who.proc ≡ born = λ own. sym (thread_birth who s.birth (h.thread op refl own)) ∙ birth in
+      let turn : CoreTurn = op_turn s who.actor who.proc who.slots place.far op in
+      let at : IsTurned s who place op turn = op_turned s who place quiet op (record { range = h.range op refl; birth = own_birth; slots = h.slots; fits = h.fits; free = free }) in
+      record {
+        done = at.done;
+        shape = goes op turn.whats (place_in s who.actor) (place_in (run s turn.events) who.actor) birth own_birth at.shape;
+        next = at.next;
+        pin = λ o same none lives. subst (MakesPin s (run s turn.events) who.actor) (some_same same) at.pin;
+        emptied = λ child page same. by_fork child (some_same same) page own_birth;
+      }
+    where
+      by_fork : (child : ℕ) → op ≡ Fork child → (page : ℕ) → (IsOfProcess op → s.birth who.proc ≡ born) → (run s (op_turn s who.actor who.proc who.slots place.far op).events).birth child ≡ failed → (run s (op_turn s who.actor who.proc who.slots place.far op).events).entry child page ≡ None
+      by_fork child is page own_birth lost =
+          let fork_birth : s.birth who.proc ≡ born = own_birth (subst IsOfProcess (sym is) tt) in
+          let all = subst (λ (o : Op). IsEmptied (run s (op_turn s who.actor who.proc who.slots place.far o).events) child) (sym is) (fork_emptied s who child place (opened s who place quiet fork_birth) (subst (λ (o : Op). FitsOp s who o place) is h.fits)) in
+          all lost page
+
+  -- an operation in the middle is of a born process
+  at_first : birth_for s.birth who ≡ failed → AtFirst place
+  at_first lost = by_far place.far refl
+    where
+      by_far : (far : ℕ) → place.far ≡ far → AtFirst place
+      by_far zero is = (is, h.fresh is)
+      by_far (suc far) is = absurd (not_failed (h.begun (omega (arith, is))) lost)
+
+  -- by the birth that it waits for
+  step_by : (birth : Birth) → birth_for s.birth who ≡ birth → waits_at birth who.proc (waits_born s who.actor who.proc op) ≡ None → IsTaken s who place (Some op) None (turn_at birth (failed_turn who.actor who.proc op) (op_turn s who.actor who.proc who.slots place.far op))
+  step_by unborn is free = absurd (cc free)
+  step_by (growing parent) is free = absurd (cc free)
+  step_by born is free = born_step is free
+  step_by failed is free =
+      failed_step s who place quiet is (at_first is) op (h.of_thread op refl (failed_proc who.thread (s.birth who.proc) is).0) h.fits
+
+take : (s : CoreState) (who : Doer) (place : Place) (op : Option Op) (waiting : Option Waiting) → IsQuiet s who.actor → IsKnown s who place op → waiting_with s who op ≡ waiting → IsTaken s who place op waiting (core_turn_by s who place.far op waiting)
+take s who place None waiting quiet h is =
+    record {
+      done = record { kinds = tt; can = tt; rest = quiet.rest; told = refl };
+      shape = idles waiting (place_in s who.actor);
+      next = h.fits;
+      pin = λ o none free birth. absurd (cc none);
+      emptied = λ child page none. absurd (cc none);
+    }
+take s who place (Some op) (Some waiting) quiet h is =
+    record {
+      done = record { kinds = tt; can = tt; rest = quiet.rest; told = refl };
+      shape = waits op waiting (place_in s who.actor);
+      next = h.fits;
+      pin = λ o same free birth. absurd (cc free);
+      emptied = λ child page same lost. h.emptied child page lost;
+    }
+take s who place (Some op) None quiet h is = step_by s who place quiet op h (birth_for s.birth who) refl is
+
+-- the turn of an actor
+pub taken : (script : ScriptValue) → IsScript script → (r : RunState) → Stands script r → (a : ℕ) → IsTaken r.core (doer script a) (r.places a) (op_in script r a) (waiting_in script r a) (core_turn_in script r a)
+taken script valid r h a =
+    let k : ℕ = (r.places a).answered in
+    take r.core (doer script a) (r.places a) (op_in script r a) (waiting_in script r a)
+    (record { sound = h.sound; calm = h.calm; rest = h.rest a })
+    (record {
+      range = op_is_op script valid a k;
+      thread = λ o is own. is_of_thread script valid a k o is (of_no_device o own);
+      of_thread = λ o is own. of_actor (actor_at script a) o (op_fits_kind script valid a k o is) own;
+      slots = few_slots script valid a;
+      fits = h.fits a;
+      begun = h.begun a;
+      fresh = h.fresh a;
+      emptied = h.emptied;
+    })
+    refl
