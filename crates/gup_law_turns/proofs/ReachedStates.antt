@@ -12,7 +12,7 @@ use Rattle.gup_script.specs.declared.op.Op.{Op}
 use Rattle.gup_script.specs.declared.op.Op.TheVariants.{Map, Unmap, Protect, Discard, Load, Store, Pin, Unpin, Give, Take, Transfer, Fork, Exit}
 use Rattle.gup_script.specs.Script.{ScriptValue}
 use Rattle.gup_script.specs.Valid.{IsScript, IsOp}
-use Rattle.gup_spec_events.specs.State.{CoreState, Job, idle, marking, moving, forking, walking, between, counted, lowered, cleared, copying, failing}
+use Rattle.gup_spec_events.specs.State.{CoreState, Taken, Job, idle, marking, moving, forking, walking, between, counted, lowered, cleared, copying, failing}
 use Rattle.gup_spec_events.specs.Event.{bias}
 use Rattle.gup_spec_events.specs.Invariant.{Holds, entry_of_page, page_of_pin, weight, frame_of}
 use Rattle.gup_law_base.specs.Sound.{IsSound}
@@ -26,7 +26,6 @@ use Rattle.gup_spec_turns.specs.Run.{turned, RunState, run_start, run_after, op_
 use Rattle.gup_law_turns.proofs.ScriptLemmas.{op_is_op, has_ops_declared}
 use Rattle.gup_law_turns.proofs.SmallCounts.{HoldsNoFrame, ArePinsFew, few_counts}
 use Rattle.gup_law_turns.proofs.FewPages.{few_sequence}
-use Rattle.gup_law_turns.proofs.ReachedStates.{unpin_short}
 use Rattle.gup_law_turns.proofs.ActorPlaces.{op_behind, answered_more}
 use Rattle.gup_law_turns.proofs.PreparedFrames.{ArePreparedThere, there_on, is_prepared}
 use Rattle.gup_law_turns.proofs.TurnShapes.{FitsFork, FitsOp, FitsAt, TurnAt, idles, waits, goes, unborn_refused, unborn_fork, child_of, strand_of}
@@ -36,7 +35,6 @@ use Rattle.gup_law_turns.proofs.TurnSteps.{taken}
 use Rattle.gup_law_turns.proofs.EventLists.{Law}
 use Rattle.gup_plain.specs.Denial.{is_held_by}
 use Rattle.gup_script.specs.Limits.{most_pinned}
-use Rattle.gup_spec_turns.specs.CoreTurn.{CoreTurn}
 
 -- an actor has answered no more operations than it has
 abbrev pub HasAnswered : ScriptValue → ℕ → Place → Type 0
@@ -187,9 +185,9 @@ few_pins script valid r h =
       taken = λ a k t there. at a k t there (no_pin_or_pin (op_in script r a));
     }
   where
-    at : (a k : ℕ) (t : CoreTurn) → slice_get (r.core.taken a) k ≡ Some t → IsNoPin (op_in script r a) ⊎ ((handle page n : ℕ) × (write : Bool) × (op_in script r a ≡ Some (Pin handle page n write))) → (a < 81) × (k < 16)
+    at : (a k : ℕ) (t : Taken) → slice_get (r.core.taken a) k ≡ Some t → IsNoPin (op_in script r a) ⊎ ((handle page n : ℕ) × (write : Bool) × (op_in script r a ≡ Some (Pin handle page n write))) → (a < 81) × (k < 16)
     at a k t there (inl no_pin) =
-        absurd (let none : slice_get (r.core.taken a) k ≡ None = ap (λ (xs : List CoreTurn). slice_get xs k) (untaken r.core (doer script a) (op_in script r a) (r.places a) no_pin (h.fits a)) in cc)
+        absurd (let none : slice_get (r.core.taken a) k ≡ None = ap (λ (xs : List Taken). slice_get xs k) (untaken r.core (doer script a) (op_in script r a) (r.places a) no_pin (h.fits a)) in cc)
     at a k t there (inr pin) =
         let op : Op = Pin pin.0 pin.1 pin.2 pin.3 in
         let fits : FitsOp r.core (doer script a) op (r.places a) = subst (λ (o : Option Op). FitsAt r.core (doer script a) o (r.places a)) pin.4 (h.fits a) in
@@ -215,7 +213,7 @@ pin_weighed s h k f sound is =
     omega (arith, some, here, sum, tally.3)
 
 -- a pin that has taken a page has set the flag of its process
-first_taken : (xs : List CoreTurn) → 0 < length xs → (t : CoreTurn) × (slice_get xs 0 ≡ Some t)
+first_taken : (xs : List Taken) → 0 < length xs → (t : Taken) × (slice_get xs 0 ≡ Some t)
 first_taken [] some = absurd (omega (arith, some))
 first_taken (t ∷ xs) some = (t, refl)
 
@@ -229,6 +227,18 @@ pin_flagged s a p page far write sound taken some =
 -- what is published of core states
 abbrev pub Published : Type 0
 Published = (s : CoreState) → IsSound s → Holds s
+
+-- An unpin is short of the most pages that a pin may have: once it has begun its actor holds the pin, of which at least
+-- one page is left.
+pub unpin_short : (back : ℕ → ℕ) (pinned : List ℕ) (x : Handle) (a far : ℕ) → StandsHandle back pinned x → (0 < far → is_held_by x a ≡ true) → (is_held_by x a ≡ true → (0 < length pinned) × (length pinned + far ≡ length (objects_of x))) → far < most_pinned
+unpin_short back pinned x a zero stands holds left = omega arith
+unpin_short back pinned (held by objects write) a (suc far) stands holds left =
+    let has = left (holds (omega arith)) in
+    let few = stands.1 in
+    omega (arith, has.0, has.1, few)
+unpin_short back pinned (given to objects write) a (suc far) stands holds left = absurd (let is = holds (omega arith) in cc is)
+unpin_short back pinned unmade a (suc far) stands holds left = absurd (let is = holds (omega arith) in cc is)
+unpin_short back pinned gone a (suc far) stands holds left = absurd (let is = holds (omega arith) in cc is)
 
 pub is_standing : Published → (script : ScriptValue) → IsScript script → (r : RunState) → IsReached script r → IsStanding script r
 is_standing published script valid r h =
@@ -296,15 +306,3 @@ starts_reached starts script valid =
       there = λ a f is. absurd (cc is);
       answered = λ a. omega arith;
     }
-
--- An unpin is short of the most pages that a pin may have: once it has begun its actor holds the pin, of which at least
--- one page is left.
-pub unpin_short : (back : ℕ → ℕ) (pinned : List ℕ) (x : Handle) (a far : ℕ) → StandsHandle back pinned x → (0 < far → is_held_by x a ≡ true) → (is_held_by x a ≡ true → (0 < length pinned) × (length pinned + far ≡ length (objects_of x))) → far < most_pinned
-unpin_short back pinned x a zero stands holds left = omega arith
-unpin_short back pinned (held by objects write) a (suc far) stands holds left =
-    let has = left (holds (omega arith)) in
-    let few = stands.1 in
-    omega (arith, has.0, has.1, few)
-unpin_short back pinned (given to objects write) a (suc far) stands holds left = absurd (let is = holds (omega arith) in cc is)
-unpin_short back pinned unmade a (suc far) stands holds left = absurd (let is = holds (omega arith) in cc is)
-unpin_short back pinned gone a (suc far) stands holds left = absurd (let is = holds (omega arith) in cc is)
