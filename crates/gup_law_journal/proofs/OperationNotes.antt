@@ -13,7 +13,7 @@ use Rattle.gup_plain.specs.declared.note.What.TheVariants.{Silent, Idle, Wait, E
 use Rattle.gup_plain.specs.declared.note.Waiting.{Waiting}
 use Rattle.gup_script.specs.declared.op.Op.{Op}
 use Rattle.gup_script.specs.declared.op.Op.TheVariants.{Map, Unmap, Protect, Discard, Load, Store, Pin, Unpin, Give, Take, Transfer, Fork, Exit}
-use Rattle.gup_spec_journal.specs.Follows.{Who, IsTurn, AreBehind, AreBefore, Then, IsRefused, TakesDown, TakesDownLast, TakesDownAll, TakesDownWhole, CopiesFrom, CopiesPage, ForksPages, EndsShort, PinsPages, Unpins, moves_word, MovesWords, Shape, Shapes, refuses, own_notes, notes_of_turn, is_of_operation}
+use Rattle.gup_spec_journal.specs.Follows.{Who, Completes, IsTurn, AreBehind, AreBefore, Then, IsRefused, TakesDown, TakesDownLast, TakesDownAll, TakesDownWhole, CopiesFrom, CopiesPage, ForksPages, EndsShort, PinsPages, Unpins, moves_word, MovesWords, Shape, Shapes, refuses, own_notes, notes_of_turn, is_of_operation}
 use Rattle.gup_spec_journal.specs.Order.{Moves}
 use Rattle.gup_spec_journal.specs.Place.{Place, Doer, place_behind}
 use Rattle.gup_spec_turns.specs.ForkPlace.{ForkPlace, unbegun, from_page, at_page, wants_frame, at_word}
@@ -32,7 +32,7 @@ RestOver who op page n event far notes = TakesDownAll who event (page + far) (n 
 -- of one that wants a frame, also that one's copy, or its failure; and of one that has copied some words, also those that
 -- are left.
 abbrev pub RestOfFork : Who → (child : ℕ) → ForkPlace → List NoteValue → Type 0
-RestOfFork who child unbegun notes = Shape who (Fork child) notes
+RestOfFork who child unbegun notes = Completes who (Fork child) notes
 RestOfFork who child (from_page page) notes = (pages : ℕ) × ForksPages who child page pages notes
 RestOfFork who child (at_page page) notes =
     (pages : ℕ)
@@ -117,7 +117,7 @@ shape_of who (Discard page n) notes (inl all) = inl (all_of who (events.Discard 
 shape_of who (Discard page n) notes (inr refusal) = inr refusal.1
 shape_of who Exit notes (inl whole) = inl whole
 shape_of who Exit notes (inr refusal) = inr refusal.1
-shape_of who (Fork child) notes rest = rest
+shape_of who (Fork child) notes rest = inl rest
 shape_of who (Map page n rights) notes rest = rest
 shape_of who (Protect page n rights) notes rest = rest
 shape_of who (Load page word) notes rest = rest
