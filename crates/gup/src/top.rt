@@ -234,7 +234,8 @@ pub fn gup<S: Source, K: Sink>(
 ) -> Report
     // The headline: where the source tells its bytes, they are a script, the journal follows it in its order and is
     // plain, what the sink took is the journal's text and nothing else, and the journal is the core run, in which
-    // every actor has finished, or, at status 4, at whose end actors have operations left and wait for a process.
+    // every actor has finished, or, at status 4, at whose end actors have operations left, and each waits for a process
+    // or for a pin.
     ensures script { HasRun result.status → AreScript (S.remaining source.old) }
     ensures follows { HasRun result.status
         → OfScript (S.remaining source.old) (λ script. Follows script result.journal.notes) }

@@ -1,4 +1,4 @@
-//! The reader of a script's text, the grammar, and what the grammar promises.
+//! The reader of a script's text, and what the grammar promises of any text.
 #![tactic(auto)]
 
 mod declarations;
