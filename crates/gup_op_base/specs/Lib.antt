@@ -1,3 +1,4 @@
 pub mod Said
+pub mod Turns
 pub mod Tidy
 pub mod Far

@@ -1,15 +1,11 @@
 -- What a turn says: its notes by an event, if one stands at it, and by an answer, if the turn ends the operation.
-use Rattle.std.specs.Prelude.{◌≡◌, ℕ, Bool, if◌then◌else◌, List, [], ◌∷◌, Option, Some, None}
+use Rattle.std.specs.Prelude.{ℕ, Bool, if◌then◌else◌, List, [], ◌∷◌, Option, Some, None}
 use Rattle.gup_plain.specs.declared.answer.Answer.{Answer}
 use Rattle.gup_plain.specs.declared.answer.Answer.TheVariants as answers
 use Rattle.gup_plain.specs.declared.event.PlainEvent.{PlainEvent}
 use Rattle.gup_plain.specs.declared.event.PlainEvent.TheVariants as events
 use Rattle.gup_plain.specs.declared.note.What.{What}
 use Rattle.gup_plain.specs.declared.note.What.TheVariants.{Silent, Event, Done}
-use Rattle.gup_space.specs.Shows.{Change, ShowsFrames, ShowsSpace}
-use Rattle.gup_spec_events.specs.State.{CoreState}
-use Rattle.gup_spec_events.specs.Event.{run}
-use Rattle.gup_spec_turns.specs.CoreTurn.{CoreTurn}
 use Rattle.gup_op_base.specs.declared.said.Said.{Said}
 
 -- a turn without an event that answers nothing is silent; a pin is made at an event of its own, after that of its page
@@ -41,14 +37,3 @@ loaded_said a p page word value =
 abbrev pub stored_said : (a p page word value : ℕ) → Said
 stored_said a p page word value =
     record { event = Some (events.Store a p page word value); next = None; answer = Some answers.Plain }
-
--- From this state the turn of process p leads to frames and a process as they are after the change, and says this.
-pub record Leads (c : Change) (p : ℕ) (s : CoreState) (turn : CoreTurn) (whats : List What) : Type 0 where
-  pub says : turn.whats ≡ whats
-  pub frames : ShowsFrames c.new_frames (run s turn.events)
-  pub space : ShowsSpace p c.new_space (run s turn.events)
-
--- so it is in whatever state the frames and the process stand
-abbrev pub IsTurnOf : Change → (p : ℕ) → (CoreState → CoreTurn) → List What → Type 0
-IsTurnOf c p turn whats =
-    (s : CoreState) → ShowsFrames c.old_frames s → ShowsSpace p c.old_space s → Leads c p s (turn s) whats
