@@ -1,3 +1,4 @@
+pub mod Viewing
 pub mod Loading
 pub mod Mapping
 pub mod Unmapping

@@ -20,10 +20,13 @@ use Rattle.gup_fault.specs.Faults.{HasEntry, IsWritable, page_word, IsFault}
 use Rattle.gup_spec_turns.specs.PageTurns.{load_turn, load_fault, loads_in, store_turn, store_fault, stores_to}
 use Rattle.gup_spec_turns.proofs.TurnParts.{loads_after, store_fault_by, stores_after}
 use Rattle.gup_spec_turns.specs.CoreTurn.{allows_store, frame_in, free_frame as free_in_state}
-use Rattle.gup_op_base.specs.Said.{Leads, IsTurnOf, whats_of, loaded_said, stored_said}
+use Rattle.gup_op_base.specs.Said.{whats_of, loaded_said, stored_said}
+use Rattle.gup_op_base.specs.Turns.{Leads, IsTurnOf, Anywhere}
 use Rattle.gup_op_base.specs.Tidy.{IsTidy}
 use Rattle.gup_op_base.proofs.Leading.{ch, leads_alike, run_behind, state_of, has_frames, has_space}
 use Rattle.gup_op_base.proofs.Searching.{free_agrees, lowest_passes}
+use Rattle.gup_op_pages.specs.Alone.{AloneView, ShowsAlone}
+use Rattle.gup_op_pages.proofs.Viewing.{view, before, behind, events_show}
 
 -- ---- which fault it is
 
@@ -65,36 +68,32 @@ word_in_frame : (F : FramesValue) (entry : Option Entry) (word : ℕ) → IsSome
 word_in_frame F None word some = absurd (cc)
 word_in_frame F (Some e) word some = refl
 
-load_behind : (F F' : FramesValue) (S S' : SpaceValue) (a p page word : ℕ) (before : List CoreEvent) (s : CoreState) → IsSome (S'.entry page)
-    → ShowsFrames F' (run s before) → ShowsSpace p S' (run s before)
-    → Leads (ch F F' S S') p s (loads_in (run s before) before a p page word (frame_in ((run s before).entry p page)))
-    (whats_of (loaded_said a p page word (page_word F' (S'.entry page) word)))
-load_behind F F' S S' a p page word before s some frames space =
-    let f : ℕ = frame_in ((run s before).entry p page) in
-    let value : ℕ = (run s before).word f word in
-    let value_is : page_word F' (S'.entry page) word ≡ value =
-    sym (frames.word f word ∙ ap (λ g. F'.word g word) (frame_shown S' p page (run s before) space) ∙ word_in_frame F' (S'.entry page) word some) in
-    let after : run s (before ++ load a p page word f value ∷ []) ≡ run s before = run_behind s before (load a p page word f value ∷ []) in
+load_behind : (new : AloneView) (a p page word : ℕ) (es : List CoreEvent) (s : CoreState) → IsSome (new.space.entry page) → ShowsAlone p new (run s es)
+    → Leads (ShowsAlone p) new s (loads_in (run s es) es a p page word (frame_in ((run s es).entry p page)))
+    (whats_of (loaded_said a p page word (page_word new.frames (new.space.entry page) word)))
+load_behind new a p page word es s some shown =
+    let f : ℕ = frame_in ((run s es).entry p page) in
+    let value : ℕ = (run s es).word f word in
+    let value_is : page_word new.frames (new.space.entry page) word ≡ value =
+    sym (shown.frames.word f word ∙ ap (λ g. new.frames.word g word) (frame_shown new.space p page (run s es) shown.space) ∙ word_in_frame new.frames (new.space.entry page) word some) in
+    let after : run s (es ++ load a p page word f value ∷ []) ≡ run s es = run_behind s es (load a p page word f value ∷ []) in
     record {
       says = ap (λ v. whats_of (loaded_said a p page word v)) (sym value_is);
-      frames = subst (λ (t : CoreState). ShowsFrames F' t) (sym after) frames;
-      space = subst (λ (t : CoreState). ShowsSpace p S' t) (sym after) space;
+      shown = subst (λ (t : CoreState). ShowsAlone p new t) (sym after) shown;
     }
 
 -- what a fault to load comes to
-load_after : (F F' : FramesValue) (S S' : SpaceValue) (a p page word : ℕ) (fault : Fault) (s : CoreState) → refusal_of fault ≡ None → IsSome (S'.entry page)
-    → ShowsFrames F' (run s (events_of fault)) → ShowsSpace p S' (run s (events_of fault))
-    → Leads (ch F F' S S') p s (loads_after s fault a p page word) (whats_of (loaded_said a p page word (page_word F' (S'.entry page) word)))
-load_after F F' S S' a p page word (Ok before) s unrefused some frames space = load_behind F F' S S' a p page word before s some frames space
-load_after F F' S S' a p page word (Err answer) s refused some frames space = absurd (cc)
+load_after : (new : AloneView) (a p page word : ℕ) (fault : Fault) (s : CoreState) → refusal_of fault ≡ None → IsSome (new.space.entry page) → ShowsAlone p new (run s (events_of fault))
+    → Leads (ShowsAlone p) new s (loads_after s fault a p page word) (whats_of (loaded_said a p page word (page_word new.frames (new.space.entry page) word)))
+load_after new a p page word (Ok es) s unrefused some shown = load_behind new a p page word es s some shown
+load_after new a p page word (Err answer) s refused some shown = absurd (cc)
 
-load_denied : (c : Change) (a p page word : ℕ) (fault : Fault) (answer : Answer) (s : CoreState) → refusal_of fault ≡ Some answer
-    → ShowsFrames c.new_frames (run s (events_of fault)) → ShowsSpace p c.new_space (run s (events_of fault))
-    → Leads c p s (loads_after s fault a p page word) (Done answer ∷ [])
-load_denied c a p page word (Ok before) answer s unrefused frames space = absurd (cc)
-load_denied c a p page word (Err denied) answer s refused frames space =
+load_denied : (new : AloneView) (a p page word : ℕ) (fault : Fault) (answer : Answer) (s : CoreState) → refusal_of fault ≡ Some answer → ShowsAlone p new (run s (events_of fault))
+    → Leads (ShowsAlone p) new s (loads_after s fault a p page word) (Done answer ∷ [])
+load_denied new a p page word (Ok es) answer s unrefused shown = absurd (cc)
+load_denied new a p page word (Err denied) answer s refused shown =
     let same : denied ≡ answer = cc in
-    record { says = ap (λ (x : Answer). Done x ∷ []) same; frames = frames; space = space }
+    record { says = ap (λ (x : Answer). Done x ∷ []) same; shown = shown }
 
 -- by the fault of a page without an entry
 abbrev pub LoadFault : Change → (page : ℕ) → Option Answer → Type 0
@@ -102,64 +101,60 @@ LoadFault c page denied =
     IsFault c denied (λ a p. read_fault a p page (c.old_space.right page) (c.old_space.entry page) (free_frame c.old_frames Any))
 
 pub load_by_fault : (c : Change) (a p page word : ℕ) → c.old_space.entry page ≡ None → c.old_space.table ≡ None → LoadFault c page None → IsSome (c.new_space.entry page)
-    → IsTurnOf c p (λ s. load_turn s a p page word (s.entry p page)) (whats_of (loaded_said a p page word (page_word c.new_frames (c.new_space.entry page) word)))
-load_by_fault c a p page word none unlocked fault some s frames space =
-    let behind = events_lead fault.events s a p frames space (space.table ∙ unlocked) in
-    leads_alike c p s _ _ _
-    (ap (λ (x : Fault). loads_after s x a p page word) (read_fault_same c.old_frames c.old_space a p page s none frames space))
-    (load_after c.old_frames c.new_frames c.old_space c.new_space a p page word
-    (read_fault a p page (c.old_space.right page) (c.old_space.entry page) (free_frame c.old_frames Any)) s (fault.refused a p) some behind.0 behind.1)
+    → IsTurnOf (ShowsAlone p) Anywhere (before c) (behind c) (λ s. load_turn s a p page word (s.entry p page)) (whats_of (loaded_said a p page word (page_word c.new_frames (c.new_space.entry page) word)))
+load_by_fault c a p page word none unlocked fault some s shown stands =
+    leads_alike
+    (ap (λ (x : Fault). loads_after s x a p page word) (read_fault_same c.old_frames c.old_space a p page s none shown.frames shown.space))
+    (load_after (behind c) a p page word
+    (read_fault a p page (c.old_space.right page) (c.old_space.entry page) (free_frame c.old_frames Any)) s (fault.refused a p) some (events_show fault.events s a p unlocked shown))
 
 pub load_refused : (c : Change) (a p page word : ℕ) (answer : Answer) → c.old_space.entry page ≡ None → c.old_space.table ≡ None → LoadFault c page (Some answer)
-    → IsTurnOf c p (λ s. load_turn s a p page word (s.entry p page)) (Done answer ∷ [])
-load_refused c a p page word answer none unlocked fault s frames space =
-    let behind = events_lead fault.events s a p frames space (space.table ∙ unlocked) in
-    leads_alike c p s _ _ _
-    (ap (λ (x : Fault). loads_after s x a p page word) (read_fault_same c.old_frames c.old_space a p page s none frames space))
-    (load_denied c a p page word
-    (read_fault a p page (c.old_space.right page) (c.old_space.entry page) (free_frame c.old_frames Any)) answer s (fault.refused a p) behind.0 behind.1)
+    → IsTurnOf (ShowsAlone p) Anywhere (before c) (behind c) (λ s. load_turn s a p page word (s.entry p page)) (Done answer ∷ [])
+load_refused c a p page word answer none unlocked fault s shown stands =
+    leads_alike
+    (ap (λ (x : Fault). loads_after s x a p page word) (read_fault_same c.old_frames c.old_space a p page s none shown.frames shown.space))
+    (load_denied (behind c) a p page word
+    (read_fault a p page (c.old_space.right page) (c.old_space.entry page) (free_frame c.old_frames Any)) answer s (fault.refused a p) (events_show fault.events s a p unlocked shown))
 
 -- ---- stores
 
-store_behind : (F F1 F' : FramesValue) (S S' : SpaceValue) (a p page word value : ℕ) (before : List CoreEvent) (s : CoreState) → F' ≡ with_word (frame_in (S'.entry page)) word value F1
-    → ShowsFrames F1 (run s before) → ShowsSpace p S' (run s before)
-    → Leads (ch F F' S S') p s (stores_to before a p page word value (frame_in ((run s before).entry p page))) (whats_of (stored_said a p page word value))
-store_behind F F1 F' S S' a p page word value before s written frames space =
-    let f : ℕ = frame_in ((run s before).entry p page) in
+store_behind : (F F' : FramesValue) (S : SpaceValue) (a p page word value : ℕ) (es : List CoreEvent) (s : CoreState) → F' ≡ with_word (frame_in (S.entry page)) word value F → ShowsAlone p (view F S) (run s es)
+    → Leads (ShowsAlone p) (view F' S) s (stores_to es a p page word value (frame_in ((run s es).entry p page))) (whats_of (stored_said a p page word value))
+store_behind F F' S a p page word value es s written shown =
+    let f : ℕ = frame_in ((run s es).entry p page) in
     let e : CoreEvent = store a p page word f value in
-    let written_so : with_word f word value F1 ≡ F' = ap (λ g. with_word g word value F1) (frame_shown S' p page (run s before) space) ∙ sym written in
-    let after : run s (before ++ e ∷ []) ≡ happens (run s before) e = run_behind s before (e ∷ []) in
+    let written_so : with_word f word value F ≡ F' = ap (λ g. with_word g word value F) (frame_shown S p page (run s es) shown.space) ∙ sym written in
+    let after : run s (es ++ e ∷ []) ≡ happens (run s es) e = run_behind s es (e ∷ []) in
     record {
       says = refl;
-      frames =
-          subst (λ (t : CoreState). ShowsFrames F' t) (sym after)
-          (subst (λ (x : FramesValue). ShowsFrames x (happens (run s before) e)) written_so (shows_frames p F1 (run s before) (storing a page word f value) frames));
-      space =
-          subst (λ (t : CoreState). ShowsSpace p S' t) (sym after) (shows_space p S' (run s before) (storing a page word f value) space);
+      shown =
+          subst (λ (t : CoreState). ShowsAlone p (view F' S) t) (sym after)
+          (record {
+            frames = subst (λ (x : FramesValue). ShowsFrames x (happens (run s es) e)) written_so (shows_frames p F (run s es) (storing a page word f value) shown.frames);
+            space = shows_space p S (run s es) (storing a page word f value) shown.space;
+          });
     }
 
 -- through an entry that allows it
 pub store_by_entry : (F F' : FramesValue) (S : SpaceValue) (a p page word value : ℕ) → allows_store (S.entry page) ≡ true → F' ≡ with_word (frame_in (S.entry page)) word value F
-    → IsTurnOf (ch F F' S S) p (λ s. store_turn s a p page word value (s.entry p page)) (whats_of (stored_said a p page word value))
-store_by_entry F F' S a p page word value allowed written s frames space =
-    leads_alike (ch F F' S S) p s _ _ _
-    (ap (λ b. stores_after s (store_fault_by b s a p page (s.entry p page)) a p page word value) (ap allows_store (space.entry page) ∙ allowed))
-    (store_behind F F F' S S a p page word value [] s written frames space)
+    → IsTurnOf (ShowsAlone p) Anywhere (view F S) (view F' S) (λ s. store_turn s a p page word value (s.entry p page)) (whats_of (stored_said a p page word value))
+store_by_entry F F' S a p page word value allowed written s shown stands =
+    leads_alike
+    (ap (λ b. stores_after s (store_fault_by b s a p page (s.entry p page)) a p page word value) (ap allows_store (shown.space.entry page) ∙ allowed))
+    (store_behind F F' S a p page word value [] s written shown)
 
 -- what a fault to store comes to
-store_after : (F F1 F' : FramesValue) (S S' : SpaceValue) (a p page word value : ℕ) (fault : Fault) (s : CoreState) → refusal_of fault ≡ None → F' ≡ with_word (frame_in (S'.entry page)) word value F1
-    → ShowsFrames F1 (run s (events_of fault)) → ShowsSpace p S' (run s (events_of fault))
-    → Leads (ch F F' S S') p s (stores_after s fault a p page word value) (whats_of (stored_said a p page word value))
-store_after F F1 F' S S' a p page word value (Ok before) s unrefused written frames space = store_behind F F1 F' S S' a p page word value before s written frames space
-store_after F F1 F' S S' a p page word value (Err answer) s refused written frames space = absurd (cc)
+store_after : (F F' : FramesValue) (S : SpaceValue) (a p page word value : ℕ) (fault : Fault) (s : CoreState) → refusal_of fault ≡ None → F' ≡ with_word (frame_in (S.entry page)) word value F → ShowsAlone p (view F S) (run s (events_of fault))
+    → Leads (ShowsAlone p) (view F' S) s (stores_after s fault a p page word value) (whats_of (stored_said a p page word value))
+store_after F F' S a p page word value (Ok es) s unrefused written shown = store_behind F F' S a p page word value es s written shown
+store_after F F' S a p page word value (Err answer) s refused written shown = absurd (cc)
 
-store_denied : (c : Change) (a p page word value : ℕ) (fault : Fault) (answer : Answer) (s : CoreState) → refusal_of fault ≡ Some answer
-    → ShowsFrames c.new_frames (run s (events_of fault)) → ShowsSpace p c.new_space (run s (events_of fault))
-    → Leads c p s (stores_after s fault a p page word value) (Done answer ∷ [])
-store_denied c a p page word value (Ok before) answer s unrefused frames space = absurd (cc)
-store_denied c a p page word value (Err denied) answer s refused frames space =
+store_denied : (new : AloneView) (a p page word value : ℕ) (fault : Fault) (answer : Answer) (s : CoreState) → refusal_of fault ≡ Some answer → ShowsAlone p new (run s (events_of fault))
+    → Leads (ShowsAlone p) new s (stores_after s fault a p page word value) (Done answer ∷ [])
+store_denied new a p page word value (Ok es) answer s unrefused shown = absurd (cc)
+store_denied new a p page word value (Err denied) answer s refused shown =
     let same : denied ≡ answer = cc in
-    record { says = ap (λ (x : Answer). Done x ∷ []) same; frames = frames; space = space }
+    record { says = ap (λ (x : Answer). Done x ∷ []) same; shown = shown }
 
 -- by the fault of a page whose entry doesn't
 abbrev pub StoreFault : Change → (page : ℕ) → Option Answer → Type 0
@@ -169,22 +164,20 @@ StoreFault c page denied =
 
 pub store_by_fault : (F F1 F' : FramesValue) (S S' : SpaceValue) (a p page word value : ℕ) → allows_store (S.entry page) ≡ false → S.table ≡ None → StoreFault (ch F F1 S S') page None
     → F' ≡ with_word (frame_in (S'.entry page)) word value F1
-    → IsTurnOf (ch F F' S S') p (λ s. store_turn s a p page word value (s.entry p page)) (whats_of (stored_said a p page word value))
-store_by_fault F F1 F' S S' a p page word value unallowed unlocked fault written s frames space =
-    let behind = events_lead fault.events s a p frames space (space.table ∙ unlocked) in
-    leads_alike (ch F F' S S') p s _ _ _
-    (ap (λ (x : Fault). stores_after s x a p page word value) (write_fault_same F S a p page s unallowed frames space))
-    (store_after F F1 F' S S' a p page word value
-    (write_fault a p page (S.right page) (S.entry page) F.mark F.count (free_frame F Any)) s (fault.refused a p) written behind.0 behind.1)
+    → IsTurnOf (ShowsAlone p) Anywhere (view F S) (view F' S') (λ s. store_turn s a p page word value (s.entry p page)) (whats_of (stored_said a p page word value))
+store_by_fault F F1 F' S S' a p page word value unallowed unlocked fault written s shown stands =
+    leads_alike
+    (ap (λ (x : Fault). stores_after s x a p page word value) (write_fault_same F S a p page s unallowed shown.frames shown.space))
+    (store_after F1 F' S' a p page word value
+    (write_fault a p page (S.right page) (S.entry page) F.mark F.count (free_frame F Any)) s (fault.refused a p) written (events_show fault.events s a p unlocked shown))
 
 pub store_refused : (c : Change) (a p page word value : ℕ) (answer : Answer) → allows_store (c.old_space.entry page) ≡ false → c.old_space.table ≡ None → StoreFault c page (Some answer)
-    → IsTurnOf c p (λ s. store_turn s a p page word value (s.entry p page)) (Done answer ∷ [])
-store_refused c a p page word value answer unallowed unlocked fault s frames space =
-    let behind = events_lead fault.events s a p frames space (space.table ∙ unlocked) in
-    leads_alike c p s _ _ _
-    (ap (λ (x : Fault). stores_after s x a p page word value) (write_fault_same c.old_frames c.old_space a p page s unallowed frames space))
-    (store_denied c a p page word value
-    (write_fault a p page (c.old_space.right page) (c.old_space.entry page) c.old_frames.mark c.old_frames.count (free_frame c.old_frames Any)) answer s (fault.refused a p) behind.0 behind.1)
+    → IsTurnOf (ShowsAlone p) Anywhere (before c) (behind c) (λ s. store_turn s a p page word value (s.entry p page)) (Done answer ∷ [])
+store_refused c a p page word value answer unallowed unlocked fault s shown stands =
+    leads_alike
+    (ap (λ (x : Fault). stores_after s x a p page word value) (write_fault_same c.old_frames c.old_space a p page s unallowed shown.frames shown.space))
+    (store_denied (behind c) a p page word value
+    (write_fault a p page (c.old_space.right page) (c.old_space.entry page) c.old_frames.mark c.old_frames.count (free_frame c.old_frames Any)) answer s (fault.refused a p) (events_show fault.events s a p unlocked shown))
 
 -- ---- the frame that a fault leaves
 

@@ -23,9 +23,16 @@ use Rattle.gup_spec_events.specs.Event.{CoreEvent, happens, entry_of, map_pages,
 use Rattle.gup_spec_turns.specs.PageTurns.{map_turn, lowers_entry, lowers, protect_turn}
 use Rattle.gup_spec_turns.proofs.TurnParts.{map_turn_by, protect_turn_by}
 use Rattle.gup_op_pages.specs.Lowered.{read_only, lowered, IsLowered, IsLoweredFor}
-use Rattle.gup_op_base.specs.Said.{Leads, IsTurnOf}
-use Rattle.gup_op_base.proofs.Leading.{ch, leads_alike, run_behind}
+use Rattle.gup_op_base.specs.Turns.{Leads, IsTurnOf, Anywhere}
+use Rattle.gup_op_base.proofs.Leading.{leads_alike, run_behind}
 use Rattle.gup_op_base.proofs.Searching.{any_same}
+use Rattle.gup_op_pages.specs.Alone.{ShowsAlone}
+use Rattle.gup_op_pages.proofs.Viewing.{view}
+
+-- a process that is as it was
+as_it_is : (F : FramesValue) (S S' : SpaceValue) (p : ℕ) (s : CoreState) → S' ≡ S → ShowsAlone p (view F S) s → ShowsAlone p (view F S') s
+as_it_is F S S' p s same shown =
+    record { frames = shown.frames; space = subst (λ (x : SpaceValue). ShowsSpace p x s) (sym same) shown.space }
 
 -- ---- map
 
@@ -67,21 +74,22 @@ map_taken S a p page n rights s denied is space =
     ∙ ap (λ o. map_turn_by o a p page n rights) is
 
 pub map_refused : (F : FramesValue) (S S' : SpaceValue) (a p page n : ℕ) (rights : Rights) (answer : Answer) → map_denial (any_mapped S.right page n) S.pages n ≡ Some answer → S' ≡ S
-    → IsTurnOf (ch F F S S') p (λ s. map_turn s a p page n rights) (Done answer ∷ [])
-map_refused F S S' a p page n rights answer denied same s frames space =
-    leads_alike (ch F F S S') p s _ _ (Done answer ∷ []) (map_taken S a p page n rights s (Some answer) denied space)
-    (record { says = refl; frames = frames; space = subst (λ (x : SpaceValue). ShowsSpace p x s) (sym same) space })
+    → IsTurnOf (ShowsAlone p) Anywhere (view F S) (view F S') (λ s. map_turn s a p page n rights) (Done answer ∷ [])
+map_refused F S S' a p page n rights answer denied same s shown stands =
+    leads_alike (map_taken S a p page n rights s (Some answer) denied shown.space) (record { says = refl; shown = as_it_is F S S' p s same shown })
 
 pub map_done : (F : FramesValue) (S S' : SpaceValue) (a p page n : ℕ) (rights : Rights) → map_denial (any_mapped S.right page n) S.pages n ≡ None → S' ≡ with_pages page n rights S
-    → IsTurnOf (ch F F S S') p (λ s. map_turn s a p page n rights) (mapped_whats a p page n rights None)
-map_done F S S' a p page n rights undenied same s frames space =
-    leads_alike (ch F F S S') p s _ _ (mapped_whats a p page n rights None) (map_taken S a p page n rights s None undenied space)
+    → IsTurnOf (ShowsAlone p) Anywhere (view F S) (view F S') (λ s. map_turn s a p page n rights) (mapped_whats a p page n rights None)
+map_done F S S' a p page n rights undenied same s shown stands =
+    leads_alike (map_taken S a p page n rights s None undenied shown.space)
     (record {
       says = refl;
-      frames = shows_frames p F s (mapping a page n rights) frames;
-      space =
-          subst (λ (x : SpaceValue). ShowsSpace p x (happens s (map_pages a p page n rights))) (sym same)
-          (shows_space p S s (mapping a page n rights) space);
+      shown = record {
+        frames = shows_frames p F s (mapping a page n rights) shown.frames;
+        space =
+            subst (λ (x : SpaceValue). ShowsSpace p x (happens s (map_pages a p page n rights))) (sym same)
+            (shows_space p S s (mapping a page n rights) shown.space);
+      };
     })
 
 -- ---- lowering
@@ -226,10 +234,9 @@ protect_taken S a p page n rights s lacks is space =
     ap (λ b. protect_turn_by (protect_denial b) s a p page n rights) (unmapped_same S p page n s space ∙ is)
 
 pub protect_refused : (F : FramesValue) (S S' : SpaceValue) (a p page n : ℕ) (rights : Rights) → any_unmapped S.right page n ≡ true → S' ≡ S
-    → IsTurnOf (ch F F S S') p (λ s. protect_turn s a p page n rights) (Done answers.Missing ∷ [])
-protect_refused F S S' a p page n rights lacks same s frames space =
-    leads_alike (ch F F S S') p s _ _ (Done answers.Missing ∷ []) (protect_taken S a p page n rights s true lacks space)
-    (record { says = refl; frames = frames; space = subst (λ (x : SpaceValue). ShowsSpace p x s) (sym same) space })
+    → IsTurnOf (ShowsAlone p) Anywhere (view F S) (view F S') (λ s. protect_turn s a p page n rights) (Done answers.Missing ∷ [])
+protect_refused F S S' a p page n rights lacks same s shown stands =
+    leads_alike (protect_taken S a p page n rights s true lacks shown.space) (record { says = refl; shown = as_it_is F S S' p s same shown })
 
 abbrev pub protected_whats : (a p page n : ℕ) → Rights → List What
 protected_whats a p page n rights = Event (events.Protect a p page n rights) ∷ Done answers.Plain ∷ []
@@ -248,36 +255,41 @@ rights_behind page n rights S S1 S' low h =
     }
 
 protect_by : (rights : Rights) (F : FramesValue) (S S' : SpaceValue) (a p page n : ℕ) (s : CoreState) → IsLoweredFor rights page n (with_rights page n rights S) S'
-    → ShowsFrames F s → ShowsSpace p S s
-    → Leads (ch F F S S') p s (protect_turn_by None s a p page n rights) (protected_whats a p page n rights)
-protect_by R F S S' a p page n s h frames space =
+    → ShowsAlone p (view F S) s
+    → Leads (ShowsAlone p) (view F S') s (protect_turn_by None s a p page n rights) (protected_whats a p page n rights)
+protect_by R F S S' a p page n s h shown =
     let S1 : SpaceValue = record S { entry = lowered page n S.entry } in
     let low : IsLowered page n S S1 = record { right = refl; pages = refl; entry = λ g. refl; sequence = refl; has_pinned = refl; structure = refl; table = refl } in
     let es : List CoreEvent = lowers (s.entry p) a p page n in
-    let all = lower_all F S S1 a p page n (s.entry p) s (λ g above. space.entry g) low frames space in
+    let all = lower_all F S S1 a p page n (s.entry p) s (λ g above. shown.space.entry g) low shown.frames shown.space in
     let same : run s (es ++ protect_pages a p page n R ∷ []) ≡ happens (run s es) (protect_pages a p page n R) = run_behind s es (protect_pages a p page n R ∷ []) in
     record {
       says = refl;
-      frames = subst (λ (t : CoreState). ShowsFrames F t) (sym same) (shows_frames p F (run s es) (protecting a page n R) all.0);
-      space =
-          subst (λ (t : CoreState). ShowsSpace p S' t) (sym same)
-          (shown_as p (with_rights page n R S1) S' (happens (run s es) (protect_pages a p page n R)) (rights_behind page n R S S1 S' low h)
-          (shows_space p S1 (run s es) (protecting a page n R) all.1));
+      shown =
+          subst (λ (t : CoreState). ShowsAlone p (view F S') t) (sym same)
+          (record {
+            frames = shows_frames p F (run s es) (protecting a page n R) all.0;
+            space =
+                shown_as p (with_rights page n R S1) S' (happens (run s es) (protect_pages a p page n R)) (rights_behind page n R S S1 S' low h)
+                (shows_space p S1 (run s es) (protecting a page n R) all.1);
+          });
     }
-protect_by RW F S S' a p page n s same frames space =
+protect_by RW F S S' a p page n s same shown =
     record {
       says = refl;
-      frames = shows_frames p F s (protecting a page n RW) frames;
-      space =
-          subst (λ (x : SpaceValue). ShowsSpace p x (happens s (protect_pages a p page n RW))) (sym same)
-          (shows_space p S s (protecting a page n RW) space);
+      shown = record {
+        frames = shows_frames p F s (protecting a page n RW) shown.frames;
+        space =
+            subst (λ (x : SpaceValue). ShowsSpace p x (happens s (protect_pages a p page n RW))) (sym same)
+            (shows_space p S s (protecting a page n RW) shown.space);
+      };
     }
 
 pub protect_done : (F : FramesValue) (S S1 S' : SpaceValue) (a p page n : ℕ) (rights : Rights) → any_unmapped S.right page n ≡ false → S1 ≡ with_rights page n rights S → IsLoweredFor rights page n S1 S'
-    → IsTurnOf (ch F F S S') p (λ s. protect_turn s a p page n rights) (protected_whats a p page n rights)
-protect_done F S S1 S' a p page n rights all same low s frames space =
-    leads_alike (ch F F S S') p s _ _ (protected_whats a p page n rights) (protect_taken S a p page n rights s false all space)
-    (protect_by rights F S S' a p page n s (subst (λ (x : SpaceValue). IsLoweredFor rights page n x S') same low) frames space)
+    → IsTurnOf (ShowsAlone p) Anywhere (view F S) (view F S') (λ s. protect_turn s a p page n rights) (protected_whats a p page n rights)
+protect_done F S S1 S' a p page n rights all same low s shown stands =
+    leads_alike (protect_taken S a p page n rights s false all shown.space)
+    (protect_by rights F S S' a p page n s (subst (λ (x : SpaceValue). IsLoweredFor rights page n x S') same low) shown)
 
 -- each page with an entry is still mapped
 pub still_mapped : (page n : ℕ) (old new : SpaceValue) → IsLowered page n old new → ((g : ℕ) (e : Entry) → old.entry g ≡ Some e → IsSome (old.right g)) → (g : ℕ) (e : Entry) → new.entry g ≡ Some e → IsSome (new.right g)

@@ -7,62 +7,61 @@ use Rattle.gup_plain.specs.Put.{lowest}
 use Rattle.gup_plain.specs.declared.answer.Answer.TheVariants as answers
 use Rattle.gup_plain.specs.declared.event.PlainEvent.TheVariants as events
 use Rattle.gup_plain.specs.declared.note.What.TheVariants.{Done}
-use Rattle.gup_frames.specs.Frames.{FramesValue}
 use Rattle.gup_maps.specs.Maps.{IsNextPage, IsLastPage}
 use Rattle.gup_space.specs.Space.{SpaceValue}
-use Rattle.gup_space.specs.Shows.{Change, ShowsFrames, ShowsSpace, AreEvents}
-use Rattle.gup_space.proofs.ShowsLemmas.{events_lead}
+use Rattle.gup_space.specs.Shows.{Change, ShowsSpace, AreEvents}
 use Rattle.gup_spec_events.specs.State.{CoreState}
 use Rattle.gup_spec_events.specs.Event.{run}
 use Rattle.gup_spec_events.specs.Fault.{takes_down, discards}
 use Rattle.gup_spec_turns.specs.PageTurns.{unmap_turn, discard_turn, exit_turn, exit_turn_by, lowest_page}
 use Rattle.gup_spec_turns.proofs.TurnParts.{unmap_turn_by, discard_turn_by}
-use Rattle.gup_op_base.specs.Said.{Leads, IsTurnOf, whats_of, passed_said}
-use Rattle.gup_op_base.proofs.Leading.{ch, leads_alike, answers as answers_so}
+use Rattle.gup_op_base.specs.Said.{whats_of, passed_said}
+use Rattle.gup_op_base.specs.Turns.{Leads, IsTurnOf, Anywhere}
+use Rattle.gup_op_base.proofs.Leading.{leads_alike}
 use Rattle.gup_op_base.proofs.Searching.{lowest_same}
+use Rattle.gup_op_pages.specs.Alone.{AloneView, ShowsAlone}
+use Rattle.gup_op_pages.proofs.Viewing.{before, behind, events_show}
 
 -- ---- unmap
 
 -- Two turns have the same events, and the one leads.
-down_by : (c : Change) (a p page : ℕ) (rights : Option Rights) (entry : Option Entry) (last : Bool) (s : CoreState)
-    → ShowsFrames c.new_frames (run s (takes_down a p page rights entry)) → ShowsSpace p c.new_space (run s (takes_down a p page rights entry))
-    → Leads c p s (unmap_turn_by rights a p page entry last) (whats_of (passed_said (is_some rights) (events.Unmap a p page) last))
-down_by c a p page None entry true s frames space = record { says = refl; frames = frames; space = space }
-down_by c a p page None entry false s frames space = record { says = refl; frames = frames; space = space }
-down_by c a p page (Some rights) None true s frames space = record { says = refl; frames = frames; space = space }
-down_by c a p page (Some rights) None false s frames space = record { says = refl; frames = frames; space = space }
-down_by c a p page (Some rights) (Some e) true s frames space = record { says = refl; frames = frames; space = space }
-down_by c a p page (Some rights) (Some e) false s frames space = record { says = refl; frames = frames; space = space }
+down_by : (new : AloneView) (a p page : ℕ) (rights : Option Rights) (entry : Option Entry) (last : Bool) (s : CoreState)
+    → ShowsAlone p new (run s (takes_down a p page rights entry))
+    → Leads (ShowsAlone p) new s (unmap_turn_by rights a p page entry last) (whats_of (passed_said (is_some rights) (events.Unmap a p page) last))
+down_by new a p page None entry true s shown = record { says = refl; shown = shown }
+down_by new a p page None entry false s shown = record { says = refl; shown = shown }
+down_by new a p page (Some rights) None true s shown = record { says = refl; shown = shown }
+down_by new a p page (Some rights) None false s shown = record { says = refl; shown = shown }
+down_by new a p page (Some rights) (Some e) true s shown = record { says = refl; shown = shown }
+down_by new a p page (Some rights) (Some e) false s shown = record { says = refl; shown = shown }
 
 pub unmapped : (c : Change) (a p page : ℕ) (last : Bool) → c.old_space.table ≡ None
     → AreEvents c (λ b q. takes_down b q page (c.old_space.right page) (c.old_space.entry page))
-    → IsTurnOf c p (λ s. unmap_turn s a p page last) (whats_of (passed_said (is_some (c.old_space.right page)) (events.Unmap a p page) last))
-unmapped c a p page last unlocked made s frames space =
-    let behind = events_lead made s a p frames space (space.table ∙ unlocked) in
-    leads_alike c p s _ _ _
-    (ap (λ r. unmap_turn_by r a p page (s.entry p page) last) (space.right page) ∙ ap (λ e. unmap_turn_by (c.old_space.right page) a p page e last) (space.entry page))
-    (down_by c a p page (c.old_space.right page) (c.old_space.entry page) last s behind.0 behind.1)
+    → IsTurnOf (ShowsAlone p) Anywhere (before c) (behind c) (λ s. unmap_turn s a p page last) (whats_of (passed_said (is_some (c.old_space.right page)) (events.Unmap a p page) last))
+unmapped c a p page last unlocked made s shown stands =
+    leads_alike
+    (ap (λ r. unmap_turn_by r a p page (s.entry p page) last) (shown.space.right page) ∙ ap (λ e. unmap_turn_by (c.old_space.right page) a p page e last) (shown.space.entry page))
+    (down_by (behind c) a p page (c.old_space.right page) (c.old_space.entry page) last s (events_show made s a p unlocked shown))
 
 -- ---- discard
 
-discarded_by : (c : Change) (a p page : ℕ) (rights : Option Rights) (entry : Option Entry) (last : Bool) (s : CoreState)
-    → ShowsFrames c.new_frames (run s (discards a p page rights entry)) → ShowsSpace p c.new_space (run s (discards a p page rights entry))
-    → Leads c p s (discard_turn_by rights a p page entry last) (whats_of (passed_said (is_some rights) (events.Discard a p page) last))
-discarded_by c a p page None entry true s frames space = record { says = refl; frames = frames; space = space }
-discarded_by c a p page None entry false s frames space = record { says = refl; frames = frames; space = space }
-discarded_by c a p page (Some rights) None true s frames space = record { says = refl; frames = frames; space = space }
-discarded_by c a p page (Some rights) None false s frames space = record { says = refl; frames = frames; space = space }
-discarded_by c a p page (Some rights) (Some e) true s frames space = record { says = refl; frames = frames; space = space }
-discarded_by c a p page (Some rights) (Some e) false s frames space = record { says = refl; frames = frames; space = space }
+discarded_by : (new : AloneView) (a p page : ℕ) (rights : Option Rights) (entry : Option Entry) (last : Bool) (s : CoreState)
+    → ShowsAlone p new (run s (discards a p page rights entry))
+    → Leads (ShowsAlone p) new s (discard_turn_by rights a p page entry last) (whats_of (passed_said (is_some rights) (events.Discard a p page) last))
+discarded_by new a p page None entry true s shown = record { says = refl; shown = shown }
+discarded_by new a p page None entry false s shown = record { says = refl; shown = shown }
+discarded_by new a p page (Some rights) None true s shown = record { says = refl; shown = shown }
+discarded_by new a p page (Some rights) None false s shown = record { says = refl; shown = shown }
+discarded_by new a p page (Some rights) (Some e) true s shown = record { says = refl; shown = shown }
+discarded_by new a p page (Some rights) (Some e) false s shown = record { says = refl; shown = shown }
 
 pub discarded : (c : Change) (a p page : ℕ) (last : Bool) → c.old_space.table ≡ None
     → AreEvents c (λ b q. discards b q page (c.old_space.right page) (c.old_space.entry page))
-    → IsTurnOf c p (λ s. discard_turn s a p page last) (whats_of (passed_said (is_some (c.old_space.right page)) (events.Discard a p page) last))
-discarded c a p page last unlocked made s frames space =
-    let behind = events_lead made s a p frames space (space.table ∙ unlocked) in
-    leads_alike c p s _ _ _
-    (ap (λ r. discard_turn_by r a p page (s.entry p page) last) (space.right page) ∙ ap (λ e. discard_turn_by (c.old_space.right page) a p page e last) (space.entry page))
-    (discarded_by c a p page (c.old_space.right page) (c.old_space.entry page) last s behind.0 behind.1)
+    → IsTurnOf (ShowsAlone p) Anywhere (before c) (behind c) (λ s. discard_turn s a p page last) (whats_of (passed_said (is_some (c.old_space.right page)) (events.Discard a p page) last))
+discarded c a p page last unlocked made s shown stands =
+    leads_alike
+    (ap (λ r. discard_turn_by r a p page (s.entry p page) last) (shown.space.right page) ∙ ap (λ e. discard_turn_by (c.old_space.right page) a p page e last) (shown.space.entry page))
+    (discarded_by (behind c) a p page (c.old_space.right page) (c.old_space.entry page) last s (events_show made s a p unlocked shown))
 
 -- ---- exit
 
@@ -98,29 +97,28 @@ lowest_is right page below h = found_at 0 page_numbers page (λ g. is_some (righ
 state_lowest : (S : SpaceValue) (p : ℕ) (s : CoreState) → ShowsSpace p S s → lowest_page (s.right p) ≡ lowest_page S.right
 state_lowest S p s space = lowest_same 0 page_numbers (λ g. is_some (s.right p g)) (λ g. is_some (S.right g)) (λ g. ap is_some (space.right g))
 
-pub exited_none : (F : FramesValue) (S : SpaceValue) (a p : ℕ) → IsLastPage S.right 0 → IsTurnOf (ch F F S S) p (λ s. exit_turn s a p) (Done answers.Plain ∷ [])
-exited_none F S a p last s frames space =
-    leads_alike (ch F F S S) p s _ _ (Done answers.Plain ∷ [])
-    (ap (λ o. exit_turn_by s a p o) (state_lowest S p s space ∙ none_found 0 page_numbers (λ g. is_some (S.right g)) (λ k least. unmapped_is (S.right k) (last k least))))
-    (answers_so F S p s answers.Plain frames space)
+pub exited_none : (old : AloneView) (a p : ℕ) → IsLastPage old.space.right 0 → IsTurnOf (ShowsAlone p) Anywhere old old (λ s. exit_turn s a p) (Done answers.Plain ∷ [])
+exited_none old a p last s shown stands =
+    leads_alike
+    (ap (λ o. exit_turn_by s a p o) (state_lowest old.space p s shown.space ∙ none_found 0 page_numbers (λ g. is_some (old.space.right g)) (λ k least. unmapped_is (old.space.right k) (last k least))))
+    (record { says = refl; shown = shown })
 
-exit_by : (c : Change) (a p page : ℕ) (rights : Option Rights) (entry : Option Entry) (s : CoreState) → IsSome rights → s.entry p page ≡ entry
-    → ShowsFrames c.new_frames (run s (takes_down a p page rights entry)) → ShowsSpace p c.new_space (run s (takes_down a p page rights entry))
-    → Leads c p s (exit_turn_by s a p (Some page)) (whats_of (record { event = Some (events.Unmap a p page); next = None; answer = None }))
-exit_by c a p page None entry s some found frames space = absurd (cc)
-exit_by c a p page (Some rights) None s some found frames space =
-    rw found (record { says = refl; frames = frames; space = space })
-exit_by c a p page (Some rights) (Some e) s some found frames space =
-    rw found (record { says = refl; frames = frames; space = space })
+exit_by : (new : AloneView) (a p page : ℕ) (rights : Option Rights) (entry : Option Entry) (s : CoreState) → IsSome rights → s.entry p page ≡ entry
+    → ShowsAlone p new (run s (takes_down a p page rights entry))
+    → Leads (ShowsAlone p) new s (exit_turn_by s a p (Some page)) (whats_of (record { event = Some (events.Unmap a p page); next = None; answer = None }))
+exit_by new a p page None entry s some found shown = absurd (cc)
+exit_by new a p page (Some rights) None s some found shown =
+    rw found (record { says = refl; shown = shown })
+exit_by new a p page (Some rights) (Some e) s some found shown =
+    rw found (record { says = refl; shown = shown })
 
 pub exited : (c : Change) (a p page : ℕ) → c.old_space.table ≡ None → page < page_numbers → IsNextPage c.old_space.right 0 page
     → AreEvents c (λ b q. takes_down b q page (c.old_space.right page) (c.old_space.entry page))
-    → IsTurnOf c p (λ s. exit_turn s a p) (whats_of (record { event = Some (events.Unmap a p page); next = None; answer = None }))
-exited c a p page unlocked below next made s frames space =
-    let behind = events_lead made s a p frames space (space.table ∙ unlocked) in
-    leads_alike c p s _ _ _
-    (ap (λ o. exit_turn_by s a p o) (state_lowest c.old_space p s space ∙ lowest_is c.old_space.right page below next))
-    (exit_by c a p page (c.old_space.right page) (c.old_space.entry page) s next.mapped (space.entry page) behind.0 behind.1)
+    → IsTurnOf (ShowsAlone p) Anywhere (before c) (behind c) (λ s. exit_turn s a p) (whats_of (record { event = Some (events.Unmap a p page); next = None; answer = None }))
+exited c a p page unlocked below next made s shown stands =
+    leads_alike
+    (ap (λ o. exit_turn_by s a p o) (state_lowest c.old_space p s shown.space ∙ lowest_is c.old_space.right page below next))
+    (exit_by (behind c) a p page (c.old_space.right page) (c.old_space.entry page) s next.mapped (shown.space.entry page) (events_show made s a p unlocked shown))
 
 pub below_numbers : (S : SpaceValue) (page : ℕ) → ((g : ℕ) (rights : Rights) → S.right g ≡ Some rights → g < page_numbers) → IsSome (S.right page) → page < page_numbers
 below_numbers S page numbered mapped = go (S.right page) refl mapped

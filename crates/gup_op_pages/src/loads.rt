@@ -2,13 +2,14 @@
 ghost use Rattle.std.specs.Prelude.{◌≡◌, true, not, is_none, Some, None};
 ghost use Rattle.gup_frames.specs.Frames.{frames_of, IsFrame, with_word};
 ghost use Rattle.gup_space.specs.Space.{space_of};
-ghost use Rattle.gup_space.specs.Shows.{change_of};
 ghost use Rattle.gup_fault.specs.Refused.{answer_of as answered};
 ghost use Rattle.gup_fault.specs.Faults.{HasEntry, page_word};
 ghost use Rattle.gup_spec_turns.specs.PageTurns.{load_turn, store_turn};
 ghost use Rattle.gup_spec_turns.specs.CoreTurn.{allows_store as is_allowed, frame_in};
 ghost use Rattle.gup_op_base.specs.Tidy.{IsTidy};
-ghost use Rattle.gup_op_base.specs.Said.{whats_of, loaded_said, stored_said, IsTurnOf};
+ghost use Rattle.gup_op_base.specs.Said.{whats_of, loaded_said, stored_said};
+ghost use Rattle.gup_op_base.specs.Turns.{IsTurnOf, Anywhere};
+ghost use Rattle.gup_op_pages.specs.Alone.{ShowsAlone, alone_view};
 
 use gup_base::{ActorNo, Allowed, Entry, PageNo, ProcNo, WordNo};
 use gup_fault::{answer_of, ready_read, ready_write};
@@ -28,7 +29,7 @@ pub fn load(
 ) -> Said
     requires tidy { IsTidy (frames_of frames.old) (space_of space.old) }
     requires table { is_none ((space_of space.old).entry page) ≡ true → (space_of space.old).table ≡ None }
-    ensures { IsTurnOf (change_of frames.old frames.new space.old space.new) proc
+    ensures { IsTurnOf (ShowsAlone proc) Anywhere (alone_view frames.old space.old) (alone_view frames.new space.new)
         (λ s. load_turn s actor proc page word (s.entry proc page)) (whats_of result) }
 {
     if space.entry(page).is_some() {
@@ -83,7 +84,7 @@ pub fn store(
 ) -> Said
     requires tidy { IsTidy (frames_of frames.old) (space_of space.old) }
     requires table { not (is_allowed ((space_of space.old).entry page)) ≡ true → (space_of space.old).table ≡ None }
-    ensures { IsTurnOf (change_of frames.old frames.new space.old space.new) proc
+    ensures { IsTurnOf (ShowsAlone proc) Anywhere (alone_view frames.old space.old) (alone_view frames.new space.new)
         (λ s. store_turn s actor proc page word value (s.entry proc page)) (whats_of result) }
 {
     if allows_store(space.entry(page)) {

@@ -2,10 +2,11 @@
 ghost use Rattle.std.specs.Prelude.{◌≡◌, ◌+◌, ◌≤◌, ◌<◌, ◌^◌};
 ghost use Rattle.gup_frames.specs.Frames.{frames_of};
 ghost use Rattle.gup_space.specs.Space.{space_of, AreMapped};
-ghost use Rattle.gup_space.specs.Shows.{change_of};
 ghost use Rattle.gup_spec_turns.specs.PageTurns.{map_turn, protect_turn};
 ghost use Rattle.gup_op_base.specs.Tidy.{IsTidy};
-ghost use Rattle.gup_op_base.specs.Said.{whats_of, IsTurnOf};
+ghost use Rattle.gup_op_base.specs.Said.{whats_of};
+ghost use Rattle.gup_op_base.specs.Turns.{IsTurnOf, Anywhere};
+ghost use Rattle.gup_op_pages.specs.Alone.{ShowsAlone, alone_view};
 ghost use Rattle.gup_op_pages.specs.Lowered.{IsLowered, IsLoweredFor};
 
 use gup_base::{ActorNo, Entry, PageNo, ProcNo, Rights};
@@ -26,7 +27,7 @@ pub fn map(
     rights: Rights,
 ) -> Said
     requires { page + n ≤ 2 ^ 35 }
-    ensures { IsTurnOf (change_of frames.now frames.now space.old space.new) proc
+    ensures { IsTurnOf (ShowsAlone proc) Anywhere (alone_view frames.now space.old) (alone_view frames.now space.new)
         (λ s. map_turn s actor proc page n rights) (whats_of result) }
 {
     let _frames = frames;
@@ -64,7 +65,7 @@ pub fn protect(
 ) -> Said
     requires tidy { IsTidy (frames_of frames.now) (space_of space.old) }
     requires range { page + n ≤ 2 ^ 35 }
-    ensures { IsTurnOf (change_of frames.now frames.now space.old space.new) proc
+    ensures { IsTurnOf (ShowsAlone proc) Anywhere (alone_view frames.now space.old) (alone_view frames.now space.new)
         (λ s. protect_turn s actor proc page n rights) (whats_of result) }
 {
     let _frames = frames;

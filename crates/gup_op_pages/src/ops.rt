@@ -3,11 +3,11 @@ ghost use Rattle.std.specs.Prelude.{◌≡◌, ℕ, true, Some, None};
 ghost use Rattle.gup_script.specs.Valid.{IsOp};
 ghost use Rattle.gup_frames.specs.Frames.{frames_of};
 ghost use Rattle.gup_space.specs.Space.{space_of};
-ghost use Rattle.gup_space.specs.Shows.{change_of};
 ghost use Rattle.gup_spec_turns.specs.Turn.{op_turn};
 ghost use Rattle.gup_op_base.specs.Tidy.{IsTidy, needs_table as table_needed};
-ghost use Rattle.gup_op_base.specs.Said.{whats_of, IsTurnOf};
-ghost use Rattle.gup_op_pages.specs.Alone.{IsAlone};
+ghost use Rattle.gup_op_base.specs.Said.{whats_of};
+ghost use Rattle.gup_op_base.specs.Turns.{IsTurnOf, Anywhere};
+ghost use Rattle.gup_op_pages.specs.Alone.{IsAlone, ShowsAlone, alone_view};
 ghost use Rattle.gup_op_base.specs.Far.{HasFar, far_in};
 
 use crate::loads::{allows_store, load, store};
@@ -36,7 +36,7 @@ pub fn take(
     requires far { HasFar op.now far }
     requires alone { IsAlone op.now }
     ensures { (slots k : ℕ) → far ≡ far_in (Some op.now) k
-        → IsTurnOf (change_of frames.old frames.new space.old space.new) proc
+        → IsTurnOf (ShowsAlone proc) Anywhere (alone_view frames.old space.old) (alone_view frames.new space.new)
         (λ s. op_turn s actor proc slots k op.now) (whats_of result) }
 {
     match *op {

@@ -2,10 +2,11 @@
 ghost use Rattle.std.specs.Prelude.{◌≡◌, Some, None};
 ghost use Rattle.gup_frames.specs.Frames.{frames_of};
 ghost use Rattle.gup_space.specs.Space.{space_of};
-ghost use Rattle.gup_space.specs.Shows.{change_of};
 ghost use Rattle.gup_spec_turns.specs.PageTurns.{unmap_turn, discard_turn, exit_turn};
 ghost use Rattle.gup_op_base.specs.Tidy.{IsTidy};
-ghost use Rattle.gup_op_base.specs.Said.{whats_of, passed_said, IsTurnOf};
+ghost use Rattle.gup_op_base.specs.Said.{whats_of, passed_said};
+ghost use Rattle.gup_op_base.specs.Turns.{IsTurnOf, Anywhere};
+ghost use Rattle.gup_op_pages.specs.Alone.{ShowsAlone, alone_view};
 
 use gup_base::{ActorNo, PageNo, ProcNo};
 use gup_frames::Frames;
@@ -25,7 +26,7 @@ pub fn unmap(
 ) -> Said
     requires tidy { IsTidy (frames_of frames.old) (space_of space.old) }
     requires table { (space_of space.old).table ≡ None }
-    ensures { IsTurnOf (change_of frames.old frames.new space.old space.new) proc
+    ensures { IsTurnOf (ShowsAlone proc) Anywhere (alone_view frames.old space.old) (alone_view frames.new space.new)
         (λ s. unmap_turn s actor proc page last) (whats_of result) }
 {
     let mapped = take_down(space, frames, page);
@@ -44,7 +45,7 @@ pub fn discard(
 ) -> Said
     requires tidy { IsTidy (frames_of frames.old) (space_of space.old) }
     requires table { (space_of space.old).table ≡ None }
-    ensures { IsTurnOf (change_of frames.old frames.new space.old space.new) proc
+    ensures { IsTurnOf (ShowsAlone proc) Anywhere (alone_view frames.old space.old) (alone_view frames.new space.new)
         (λ s. discard_turn s actor proc page last) (whats_of result) }
 {
     let mapped = gup_unmap::discard(space, frames, page);
@@ -75,7 +76,7 @@ fn first_page() -> PageNo
 pub fn exit(space: &mut Space, frames: &mut Frames, actor: ActorNo, proc: ProcNo) -> Said
     requires tidy { IsTidy (frames_of frames.old) (space_of space.old) }
     requires table { (space_of space.old).table ≡ None }
-    ensures { IsTurnOf (change_of frames.old frames.new space.old space.new) proc
+    ensures { IsTurnOf (ShowsAlone proc) Anywhere (alone_view frames.old space.old) (alone_view frames.new space.new)
         (λ s. exit_turn s actor proc) (whats_of result) }
 {
     let Some(page) = space.next_page(first_page()) else {

@@ -19,7 +19,7 @@ returns-in-Ok c =
     let a = c.args in
     let change = change_of a.frames.now c.ready_read.new.frames a.space.now c.ready_read.new.space in
     let none = absent ((space_of a.space.now).entry a.page) (ap is_some (sym c.entry.ensures) ∙ sym c.is_some.ensures ∙ c.if-is_some.false) in
-    notes_alike change a.proc _ _ _ (ap whats_of c.load_through-in-Ok.ensures)
+    notes_alike (ap whats_of c.load_through-in-Ok.ensures)
     (load_by_fault change a.actor a.proc a.page a.word none (c.requires.table (ap is_none none)) c.in-Ok.ensures.fault c.in-Ok.ensures.entry)
 
 pub returns-in-Err : goal.returns-in-Err
@@ -27,5 +27,5 @@ returns-in-Err c =
     let a = c.args in
     let change = change_of a.frames.now c.ready_read.new.frames a.space.now c.ready_read.new.space in
     let none = absent ((space_of a.space.now).entry a.page) (ap is_some (sym c.entry.ensures) ∙ sym c.is_some.ensures ∙ c.if-is_some.false) in
-    notes_alike change a.proc _ _ _ (ap whats_of c.refused.ensures ∙ ap (λ x. whats_of (record { event = None; next = None; answer = Some x })) c.answer_of.ensures)
+    notes_alike (ap whats_of c.refused.ensures ∙ ap (λ x. whats_of (record { event = None; next = None; answer = Some x })) c.answer_of.ensures)
     (load_refused change a.actor a.proc a.page a.word (answer_of c.in-Err.denied) none (c.requires.table (ap is_none none)) c.in-Err.ensures.fault)

@@ -13,7 +13,7 @@ pub returns-then-allows_store : goal.returns-then-allows_store
 returns-then-allows_store c =
     let a = c.args in
     let allowed = ap allows_store (sym c.entry.ensures) ∙ sym c.allows_store.ensures ∙ c.if-allows_store.true in
-    notes_alike (change_of a.frames.now c.store_through.new.frames a.space.now a.space.now) a.proc _ _ _ (ap whats_of c.store_through.ensures.said)
+    notes_alike (ap whats_of c.store_through.ensures.said)
     (store_by_entry (frames_of a.frames.now) (frames_of c.store_through.new.frames) (space_of a.space.now) a.actor a.proc a.page a.word a.value allowed c.store_through.ensures.frames)
 
 pub store_through-requires-in-Ok : goal.store_through-requires-in-Ok
@@ -28,7 +28,7 @@ pub returns-in-Ok : goal.returns-in-Ok
 returns-in-Ok c =
     let a = c.args in
     let unallowed = ap allows_store (sym c.entry.ensures) ∙ sym c.allows_store.ensures ∙ c.if-allows_store.false in
-    notes_alike (change_of a.frames.now c.store_through-in-Ok.new.frames a.space.now c.ready_write.new.space) a.proc _ _ _ (ap whats_of c.store_through-in-Ok.ensures.said)
+    notes_alike (ap whats_of c.store_through-in-Ok.ensures.said)
     (store_by_fault (frames_of a.frames.now) (frames_of c.ready_write.new.frames) (frames_of c.store_through-in-Ok.new.frames) (space_of a.space.now) (space_of c.ready_write.new.space)
     a.actor a.proc a.page a.word a.value unallowed (c.requires.table (ap not unallowed)) c.in-Ok.ensures.fault c.store_through-in-Ok.ensures.frames)
 
@@ -37,5 +37,5 @@ returns-in-Err c =
     let a = c.args in
     let change = change_of a.frames.now c.ready_write.new.frames a.space.now c.ready_write.new.space in
     let unallowed = ap allows_store (sym c.entry.ensures) ∙ sym c.allows_store.ensures ∙ c.if-allows_store.false in
-    notes_alike change a.proc _ _ _ (ap whats_of c.refused.ensures ∙ ap (λ x. whats_of (record { event = None; next = None; answer = Some x })) c.answer_of.ensures)
+    notes_alike (ap whats_of c.refused.ensures ∙ ap (λ x. whats_of (record { event = None; next = None; answer = Some x })) c.answer_of.ensures)
     (store_refused change a.actor a.proc a.page a.word a.value (answer_of c.in-Err.denied) unallowed (c.requires.table (ap not unallowed)) c.in-Err.ensures.fault)

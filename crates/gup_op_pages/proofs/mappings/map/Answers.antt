@@ -4,7 +4,6 @@ use Rattle.gup_plain.specs.declared.answer.Answer.TheVariants as answers
 use Rattle.gup_plain.specs.Denial.{any_mapped}
 use Rattle.gup_frames.specs.Frames.{frames_of}
 use Rattle.gup_space.specs.Space.{space_of}
-use Rattle.gup_space.specs.Shows.{change_of}
 use Rattle.gup_op_base.specs.Said.{whats_of}
 use Rattle.gup_op_base.proofs.Leading.{notes_alike}
 use Rattle.gup_op_pages.proofs.Mapping.{map_denied, map_refused, map_done, refused_with}
@@ -14,7 +13,7 @@ pub returns-in-Ok : goal.returns-in-Ok
 returns-in-Ok c =
     let a = c.args in
     let S = space_of a.space.now in
-    notes_alike (change_of a.frames.now a.frames.now a.space.now c.map.new.self) a.proc _ _ _ (ap whats_of c.mapped.ensures)
+    notes_alike (ap whats_of c.mapped.ensures)
     (map_done (frames_of a.frames.now) S (space_of c.map.new.self) a.actor a.proc a.page a.n a.rights
     (map_denied c.map.result (any_mapped S.right a.page a.n) S.pages a.n c.map.ensures.overlap c.map.ensures.full ∙ ap refused_with c.in-Ok.is) c.in-Ok.ensures.mapped)
 
@@ -22,7 +21,7 @@ pub returns-in-Err-Overlap : goal.returns-in-Err-Overlap
 returns-in-Err-Overlap c =
     let a = c.args in
     let S = space_of a.space.now in
-    notes_alike (change_of a.frames.now a.frames.now a.space.now c.map.new.self) a.proc _ _ _ (ap whats_of c.refused.ensures)
+    notes_alike (ap whats_of c.refused.ensures)
     (map_refused (frames_of a.frames.now) S (space_of c.map.new.self) a.actor a.proc a.page a.n a.rights answers.Overlap
     (map_denied c.map.result (any_mapped S.right a.page a.n) S.pages a.n c.map.ensures.overlap c.map.ensures.full ∙ ap refused_with (c.in-Err-Overlap.is ∙ ap (λ (e : MapRefusal). Err e) c.in-Err-Overlap.field-0-is)) c.in-Err-Overlap.ensures.err)
 
@@ -30,6 +29,6 @@ pub returns-in-Err-Full : goal.returns-in-Err-Full
 returns-in-Err-Full c =
     let a = c.args in
     let S = space_of a.space.now in
-    notes_alike (change_of a.frames.now a.frames.now a.space.now c.map.new.self) a.proc _ _ _ (ap whats_of c.refused-in-Err-Full.ensures)
+    notes_alike (ap whats_of c.refused-in-Err-Full.ensures)
     (map_refused (frames_of a.frames.now) S (space_of c.map.new.self) a.actor a.proc a.page a.n a.rights answers.Full
     (map_denied c.map.result (any_mapped S.right a.page a.n) S.pages a.n c.map.ensures.overlap c.map.ensures.full ∙ ap refused_with (c.in-Err-Full.is ∙ ap (λ (e : MapRefusal). Err e) c.in-Err-Full.field-0-is)) c.in-Err-Full.ensures.err)

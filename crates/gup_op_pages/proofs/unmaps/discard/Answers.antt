@@ -10,6 +10,6 @@ pub returns : goal.returns
 returns c =
     let a = c.args in
     let change = change_of a.frames.now c.discard-mapped.new.frames a.space.now c.discard-mapped.new.space in
-    notes_alike change a.proc _ _ _
+    notes_alike
     (ap whats_of (c.passed.ensures ∙ ap (λ b. passed_said b (events.Discard a.actor a.proc a.page) a.last) c.discard-mapped.ensures.mapped))
     (discarded change a.actor a.proc a.page a.last c.requires.table c.discard-mapped.ensures.events)

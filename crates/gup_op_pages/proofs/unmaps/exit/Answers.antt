@@ -1,6 +1,6 @@
 use Rattle.std.proofs.Common.{ℕ, ap, subst}
 use Rattle.gup_maps.specs.Maps.{IsNextPage, IsLastPage}
-use Rattle.gup_frames.specs.Frames.{frames_of}
+use Rattle.gup_op_pages.specs.Alone.{alone_view}
 use Rattle.gup_space.specs.Space.{space_of}
 use Rattle.gup_space.specs.Shows.{change_of}
 use Rattle.gup_op_base.specs.Said.{whats_of}
@@ -11,8 +11,8 @@ use Rattle.gup_op_pages.proofs.unmaps.exit.Goals as goal
 pub returns-in_default : goal.returns-in_default
 returns-in_default c =
     let a = c.args in
-    notes_alike (change_of a.frames.now a.frames.now a.space.now a.space.now) a.proc _ _ _ (ap whats_of c.refused.ensures)
-    (exited_none (frames_of a.frames.now) (space_of a.space.now) a.actor a.proc (subst (IsLastPage (space_of a.space.now).right) c.first_page.ensures c.in_default.ensures))
+    notes_alike (ap whats_of c.refused.ensures)
+    (exited_none (alone_view a.frames.now a.space.now) a.actor a.proc (subst (IsLastPage (space_of a.space.now).right) c.first_page.ensures c.in_default.ensures))
 
 pub returns : goal.returns
 returns c =

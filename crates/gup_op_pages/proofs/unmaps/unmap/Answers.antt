@@ -10,6 +10,6 @@ pub returns : goal.returns
 returns c =
     let a = c.args in
     let change = change_of a.frames.now c.take_down-mapped.new.frames a.space.now c.take_down-mapped.new.space in
-    notes_alike change a.proc _ _ _
+    notes_alike
     (ap whats_of (c.passed.ensures ∙ ap (λ b. passed_said b (events.Unmap a.actor a.proc a.page) a.last) c.take_down-mapped.ensures.mapped))
     (unmapped change a.actor a.proc a.page a.last c.requires.table c.take_down-mapped.ensures.events)
