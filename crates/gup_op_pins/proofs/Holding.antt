@@ -1,5 +1,5 @@
 -- What an unpin, a give or a take makes of frames and pins is the turn's.
-use Rattle.std.proofs.Common.{◌≡◌, ℕ, ◌-◌, ◌≤◌, ◌==◌, Bool, true, false, cond, List, [], ◌∷◌, ◌++◌, length, slice_get, slice_index, Option, Some, None, Result, Ok, Err, IsOk, OnOk, is_err, is_ok, refl, sym, ap, ◌∙◌, subst, eqb-true, length-append, arith}
+use Rattle.std.proofs.Common.{◌≡◌, ℕ, ◌-◌, ◌≤◌, ◌==◌, Bool, true, false, cond, List, [], ◌∷◌, ◌++◌, length, slice_get, slice_index, Some, None, Result, Ok, Err, IsOk, OnOk, is_err, is_ok, refl, sym, ap, ◌∙◌, subst, eqb-true, length-append, arith}
 use Rattle.std.proofs.Math.Seq.{get_or-append_seam}
 use Rattle.std.proofs.lemmas.Bool.Decides.{nat_tests}
 use Rattle.gup_plain.specs.Denial.{is_held_by}
@@ -17,23 +17,15 @@ use Rattle.gup_space.proofs.ShowsLemmas.{shows_frames}
 use Rattle.gup_handles.specs.Handles.{HandleValue, HandlesValue, unmade, held, given, got, gone, IsPinOf, IsGivenTo, given_to, taken_by, but_last, held_or_gone, without_last, HasLast}
 use Rattle.gup_spec_events.specs.State.{CoreState}
 use Rattle.gup_spec_events.specs.Event.{happens, unpin_page, give_handle, take_handle}
-use Rattle.gup_spec_turns.specs.CoreTurn.{CoreTurn}
 use Rattle.gup_spec_turns.specs.PinTurns.{last_of, unpinned, unpin_turn, give_turn, take_turn}
 use Rattle.gup_spec_turns.proofs.TurnParts.{unpin_turn_by, give_turn_by}
+use Rattle.gup_op_base.specs.Turns.{IsTurnOf, Anywhere}
+use Rattle.gup_op_base.proofs.Leading.{leads_alike}
 use Rattle.gup_op_pins.specs.Pins.{IsPin, ShowsPins, IsWeighed}
-use Rattle.gup_op_pins.specs.Held.{HandleChange, LeadsHandle, IsHandleTurn, unpin_said, done_said}
+use Rattle.gup_op_pins.specs.Held.{HeldView, ShowsHeld, unpin_said, done_said}
 
-abbrev pub handle_change : (F F' : FramesValue) (H H' : HandlesValue) (W W' : Option (List ℕ)) → HandleChange
-handle_change F F' H H' W W' =
-    record { old_frames = F; new_frames = F'; old_pins = H; new_pins = H'; old_store = W; new_store = W' }
-
--- the same notes in other words
-pub handle_alike : (c : HandleChange) (a : ℕ) (turn : CoreState → CoreTurn) (whats other : List What) → other ≡ whats → IsHandleTurn c a turn whats → IsHandleTurn c a turn other
-handle_alike c a turn whats other same h = subst (λ (ws : List What). IsHandleTurn c a turn ws) (sym same) h
-
--- the same turn in other words
-pub leads_handle_alike : (c : HandleChange) (a : ℕ) (s : CoreState) (turn other : CoreTurn) (whats : List What) → other ≡ turn → LeadsHandle c a s turn whats → LeadsHandle c a s other whats
-leads_handle_alike c a s turn other whats same h = subst (λ (t : CoreTurn). LeadsHandle c a s t whats) (sym same) h
+abbrev pub view : FramesValue → HandlesValue → HeldView
+view F H = record { frames = F; pins = H; store = None }
 
 pub on_ok : {E : Type 0} {P : Type 0} (r : Result (Unit {0}) E) → is_err r ≡ false → OnOk r P → P
 on_ok (Ok ok) is h = h
@@ -80,18 +72,19 @@ abbrev pub given_whats : (a handle to : ℕ) → List What
 given_whats a handle to = Event (events.Give a handle to) ∷ Done answers.Plain ∷ []
 
 pub pin_given : (F : FramesValue) (H H' : HandlesValue) (a h to : ℕ) → IsPinOf (H h) a → H' ≡ put h (given_to to (H h)) H
-    → IsHandleTurn (handle_change F F H H' None None) a (λ s. give_turn s a h to) (given_whats a h to)
-pin_given F H H' a h to is new_pins s frames shown store =
-    let c : HandleChange = handle_change F F H H' None None in
+    → IsTurnOf (ShowsHeld a) Anywhere (view F H) (view F H') (λ s. give_turn s a h to) (given_whats a h to)
+pin_given F H H' a h to is new_pins s shown stands =
     let t : CoreState = happens s (give_handle a h to) in
-    leads_handle_alike c a s _ _ _ (ap (λ b. give_turn_by b a h to) (held_there (H h) (s.handle h) (s.pinned h) a is (shown h)))
+    leads_alike (ap (λ b. give_turn_by b a h to) (held_there (H h) (s.handle h) (s.pinned h) a is (shown.pins h)))
     (record {
       says = refl;
-      frames = shows_frames 0 F s (giving a h to) frames;
-      pins =
-          subst (λ (x : HandlesValue). ShowsPins x t) (sym new_pins)
-          (pins_changed H h (given_to to (H h)) (given_in_state (s.handle h) to) s.pinned s (given_shown (H h) (s.handle h) (s.pinned h) a to is (shown h)) (λ k apart. refl) shown);
-      store = tt;
+      shown = record {
+        frames = shows_frames 0 F s (giving a h to) shown.frames;
+        pins =
+            subst (λ (x : HandlesValue). ShowsPins x t) (sym new_pins)
+            (pins_changed H h (given_to to (H h)) (given_in_state (s.handle h) to) s.pinned s (given_shown (H h) (s.handle h) (s.pinned h) a to is (shown.pins h)) (λ k apart. refl) shown.pins);
+        store = tt;
+      };
     })
 
 -- ---- take
@@ -107,18 +100,20 @@ abbrev pub taken_whats : (a handle : ℕ) → List What
 taken_whats a handle = Event (events.Take a handle) ∷ Done answers.Plain ∷ []
 
 pub pin_taken : (F : FramesValue) (H H' : HandlesValue) (a h : ℕ) (took : Bool) → IsGivenTo (H h) a → took ≡ true → H' ≡ cond took (put h (taken_by a (H h)) H) H
-    → IsHandleTurn (handle_change F F H H' None None) a (λ s. take_turn a h) (taken_whats a h)
-pin_taken F H H' a h true is took new_pins s frames shown store =
+    → IsTurnOf (ShowsHeld a) Anywhere (view F H) (view F H') (λ s. take_turn a h) (taken_whats a h)
+pin_taken F H H' a h true is took new_pins s shown stands =
     let t : CoreState = happens s (take_handle a h) in
     record {
       says = refl;
-      frames = shows_frames 0 F s (taking_over a h) frames;
-      pins =
-          subst (λ (x : HandlesValue). ShowsPins x t) (sym new_pins)
-          (pins_changed H h (taken_by a (H h)) (held_in_state (s.handle h) a) s.pinned s (taken_shown (H h) (s.handle h) (s.pinned h) a is (shown h)) (λ k apart. refl) shown);
-      store = tt;
+      shown = record {
+        frames = shows_frames 0 F s (taking_over a h) shown.frames;
+        pins =
+            subst (λ (x : HandlesValue). ShowsPins x t) (sym new_pins)
+            (pins_changed H h (taken_by a (H h)) (held_in_state (s.handle h) a) s.pinned s (taken_shown (H h) (s.handle h) (s.pinned h) a is (shown.pins h)) (λ k apart. refl) shown.pins);
+        store = tt;
+      };
     }
-pin_taken F H H' a h false is took new_pins s frames shown store = absurd (cc)
+pin_taken F H H' a h false is took new_pins s shown stands = absurd (cc)
 
 -- ---- unpin
 
@@ -160,27 +155,28 @@ unpinned_shown by frames (f ∷ left) write handle pinned pin = (pin.0, refl)
 unpin_by : (F F' : FramesValue) (H H' : HandlesValue) (by a h frame : ℕ) (frames : List ℕ) (write still : Bool) → H h ≡ held by frames write → by ≡ a → frames ≡ but_last frames ++ frame ∷ []
     → F' ≡ without_references frame 1024 F → H' ≡ put h (held_or_gone by (but_last frames) write) H
     → (still ≡ true → IsPinOf (held_or_gone by (but_last frames) write) a) → (still ≡ false → IsPinOf (held_or_gone by (but_last frames) write) a → ⊥)
-    → IsHandleTurn (handle_change F F' H H' None None) a (λ s. unpin_turn s a h) (unpinned_whats still a h)
-unpin_by F F' H H' by a h frame frames write still is mine last new_frames new_pins some none s shown_frames shown store =
-    let c : HandleChange = handle_change F F' H H' None None in
+    → IsTurnOf (ShowsHeld a) Anywhere (view F H) (view F' H') (λ s. unpin_turn s a h) (unpinned_whats still a h)
+unpin_by F F' H H' by a h frame frames write still is mine last new_frames new_pins some none s shown stands =
     let left : List ℕ = but_last frames in
-    let pin : IsPin (held by frames write) (s.handle h) (s.pinned h) = subst (λ (v : HandleValue). IsPin v (s.handle h) (s.pinned h)) is (shown h) in
+    let pin : IsPin (held by frames write) (s.handle h) (s.pinned h) = subst (λ (v : HandleValue). IsPin v (s.handle h) (s.pinned h)) is (shown.pins h) in
     let held_so : is_held_by (s.handle h) a ≡ true = held_there (held by frames write) (s.handle h) (s.pinned h) a mine pin in
     let f_is : last_of frames ≡ frame = ap last_of last ∙ last_is left frame in
     let t : CoreState = happens s (unpin_page a h (last_of frames) left) in
-    leads_handle_alike c a s _ _ _ (ap (λ b. unpin_turn_by b a h (s.pinned h)) held_so ∙ ap (λ (ps : List ℕ). unpin_turn_by true a h ps) pin.1)
+    leads_alike (ap (λ b. unpin_turn_by b a h (s.pinned h)) held_so ∙ ap (λ (ps : List ℕ). unpin_turn_by true a h ps) pin.1)
     (record {
       says = unpin_says by a h left write still mine some none;
-      frames =
-          subst (λ (x : FramesValue). ShowsFrames x t) (ap (λ f. without_references f 1024 F) f_is ∙ sym new_frames)
-          (shows_frames 0 F s (unpinning a h (last_of frames) left) shown_frames);
-      pins =
-          subst (λ (x : HandlesValue). ShowsPins x t) (sym new_pins)
-          (pins_changed H h (held_or_gone by left write) (elim left [ [] ↦ plain.gone | g ∷ gs ↦ s.handle h ]) (put h left s.pinned) s
-          (subst (λ (ps : List ℕ). IsPin (held_or_gone by left write) (elim left [ [] ↦ plain.gone | g ∷ gs ↦ s.handle h ]) ps) (sym (here s))
-          (unpinned_shown by frames left write (s.handle h) (s.pinned h) pin))
-          (λ k apart. others s k apart) shown);
-      store = tt;
+      shown = record {
+        frames =
+            subst (λ (x : FramesValue). ShowsFrames x t) (ap (λ f. without_references f 1024 F) f_is ∙ sym new_frames)
+            (shows_frames 0 F s (unpinning a h (last_of frames) left) shown.frames);
+        pins =
+            subst (λ (x : HandlesValue). ShowsPins x t) (sym new_pins)
+            (pins_changed H h (held_or_gone by left write) (elim left [ [] ↦ plain.gone | g ∷ gs ↦ s.handle h ]) (put h left s.pinned) s
+            (subst (λ (ps : List ℕ). IsPin (held_or_gone by left write) (elim left [ [] ↦ plain.gone | g ∷ gs ↦ s.handle h ]) ps) (sym (here s))
+            (unpinned_shown by frames left write (s.handle h) (s.pinned h) pin))
+            (λ k apart. others s k apart) shown.pins);
+        store = tt;
+      };
     })
   where
     here : (s : CoreState) → put h (but_last frames) s.pinned h ≡ but_last frames
@@ -194,14 +190,14 @@ put_at h v H = grind (arith, nat_tests)
 
 pub page_unpinned : (F F' : FramesValue) (H H' : HandlesValue) (a h frame : ℕ) (still : Bool) → IsPinOf (H h) a → HasLast (H h) frame
     → F' ≡ without_references frame 1024 F → H' ≡ put h (without_last (H h)) H → (still ≡ true → IsPinOf (H' h) a) → (still ≡ false → IsPinOf (H' h) a → ⊥)
-    → IsHandleTurn (handle_change F F' H H' None None) a (λ s. unpin_turn s a h) (unpinned_whats still a h)
+    → IsTurnOf (ShowsHeld a) Anywhere (view F H) (view F' H') (λ s. unpin_turn s a h) (unpinned_whats still a h)
 page_unpinned F F' H H' a h frame still mine last new_frames new_pins some none = go (H h) refl mine last new_pins
   where
     now : (v : HandleValue) → H' ≡ put h v H → H' h ≡ v
     now v new = ap (λ (f : HandlesValue). f h) new ∙ put_at h v H
 
     go : (v : HandleValue) → H h ≡ v → IsPinOf v a → HasLast v frame → H' ≡ put h (without_last v) H
-        → IsHandleTurn (handle_change F F' H H' None None) a (λ s. unpin_turn s a h) (unpinned_whats still a h)
+        → IsTurnOf (ShowsHeld a) Anywhere (view F H) (view F' H') (λ s. unpin_turn s a h) (unpinned_whats still a h)
     go (held by frames write) is mine_so last_so new =
         let v : HandleValue = held_or_gone by (but_last frames) write in
         unpin_by F F' H H' by a h frame frames write still is mine_so last_so new_frames new

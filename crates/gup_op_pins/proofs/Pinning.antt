@@ -21,24 +21,13 @@ use Rattle.gup_spec_events.specs.Event.{CoreEvent, happens, pin_page, make_handl
 use Rattle.gup_spec_events.specs.Invariant.{frame_of}
 use Rattle.gup_spec_events.specs.Fault.{Fault, events_of, refusal_of}
 use Rattle.gup_fault.specs.Faults.{IsFault}
-use Rattle.gup_spec_turns.specs.CoreTurn.{CoreTurn, entry_in}
+use Rattle.gup_spec_turns.specs.CoreTurn.{entry_in}
 use Rattle.gup_spec_turns.specs.PinTurns.{raises, makes_if, pinned_if, pins, cause_of, ends_pin, pin_turn, pin_turn_by}
-use Rattle.gup_op_pins.specs.Pins.{IsPin, ShowsPins, PinChange, LeadsPin, IsPinTurn, raised, fault_to_pin}
+use Rattle.gup_op_pins.specs.Pins.{IsPin, ShowsPins, PinningView, ShowsPinning, StandsAtPage, raised, fault_to_pin}
 use Rattle.gup_op_base.specs.Tidy.{IsTidy}
-use Rattle.gup_op_base.proofs.Leading.{ch, run_behind}
+use Rattle.gup_op_base.specs.Turns.{Leads, IsTurnOf}
+use Rattle.gup_op_base.proofs.Leading.{ch, leads_alike, run_behind}
 use Rattle.gup_op_pins.proofs.Readying.{IsLeft, pin_fault_same, fault_raised, pin_fault_leaves}
-
-abbrev pub pin_change : (F F' : FramesValue) (S S' : SpaceValue) (H H' : HandlesValue) (T T' : List ℕ) → PinChange
-pin_change F F' S S' H H' T T' =
-    record { old_frames = F; new_frames = F'; old_space = S; new_space = S'; old_pins = H; new_pins = H'; old_taken = T; new_taken = T' }
-
--- the same notes in other words
-pub pin_alike : (c : PinChange) (a p handle page n : ℕ) (write : Bool) (far : ℕ) (whats other : List What) → other ≡ whats → IsPinTurn c a p handle page n write far whats → IsPinTurn c a p handle page n write far other
-pin_alike c a p handle page n write far whats other same h = subst (λ (ws : List What). IsPinTurn c a p handle page n write far ws) (sym same) h
-
--- the same turn in other words
-turn_alike : (c : PinChange) (a p : ℕ) (s : CoreState) (turn other : CoreTurn) (whats : List What) → other ≡ turn → LeadsPin c a p s turn whats → LeadsPin c a p s other whats
-turn_alike c a p s turn other whats same h = subst (λ (t : CoreTurn). LeadsPin c a p s t whats) (sym same) h
 
 -- has-pinned set before the first page
 pub raised_tidy : (F : FramesValue) (S : SpaceValue) (far : ℕ) → IsTidy F S → IsTidy F (raised far S)
@@ -107,18 +96,11 @@ none_taken a h s = grind (arith, nat_tests)
 
 -- ---- a page is taken
 
--- frames, the process, pins and what was taken are as they are after the change
-pub record IsBehind (c : PinChange) (a p : ℕ) (s : CoreState) : Type 0 where
-  pub frames : ShowsFrames c.new_frames s
-  pub space : ShowsSpace p c.new_space s
-  pub pins : ShowsPins c.new_pins s
-  pub taken : frames_taken (s.taken a) ≡ c.new_taken
-
 -- what a turn makes of pins and what was taken: the last page's is the handle's
-abbrev pub IsMade : (last : Bool) → PinChange → (a handle frame : ℕ) → (write : Bool) → Type 0
-IsMade true c a handle frame write =
-    (c.new_pins ≡ put handle (held a (c.old_taken ++ frame ∷ []) write) c.old_pins) × (c.new_taken ≡ [])
-IsMade false c a handle frame write = (c.new_pins ≡ c.old_pins) × (c.new_taken ≡ c.old_taken ++ frame ∷ [])
+abbrev pub IsMade : (last : Bool) → (old new : PinningView) → (a handle frame : ℕ) → (write : Bool) → Type 0
+IsMade true old new a handle frame write =
+    (new.pins ≡ put handle (held a (old.taken ++ frame ∷ []) write) old.pins) × (new.taken ≡ [])
+IsMade false old new a handle frame write = (new.pins ≡ old.pins) × (new.taken ≡ old.taken ++ frame ∷ [])
 
 abbrev taken_page : CoreState → (p page : ℕ) → Entry → Bool → TakenPage
 taken_page s p page e write =
@@ -139,22 +121,22 @@ flag_again : (p : ℕ) (S : SpaceValue) (s : CoreState) → s.has_pinned p ≡ t
 flag_again p S s flag h =
     record { right = h.right; pages = h.pages; entry = h.entry; sequence = h.sequence; has_pinned = flag; structure = h.structure; table = h.table }
 
-take_page : (c : PinChange) (F1 : FramesValue) (S2 : SpaceValue) (a p handle page frame : ℕ) (write last : Bool) (e : Entry) (s : CoreState)
-    → e.frame ≡ frame → c.new_frames ≡ with_references frame 1024 F1 → c.new_space ≡ record S2 { has_pinned = true } → IsMade last c a handle frame write
-    → ShowsFrames F1 s → ShowsSpace p S2 s → ShowsPins c.old_pins s → frames_taken (s.taken a) ≡ c.old_taken → s.has_pinned p ≡ true
+take_page : (old new : PinningView) (F1 : FramesValue) (S2 : SpaceValue) (a p handle page frame : ℕ) (write last : Bool) (e : Entry) (s : CoreState)
+    → e.frame ≡ frame → new.frames ≡ with_references frame 1024 F1 → new.space ≡ record S2 { has_pinned = true } → IsMade last old new a handle frame write
+    → ShowsFrames F1 s → ShowsSpace p S2 s → ShowsPins old.pins s → frames_taken (s.taken a) ≡ old.taken → s.has_pinned p ≡ true
     → ((k : ℕ) (t : TakenPage) → slice_get (s.taken a) k ≡ Some t → t.write ≡ write)
-    → IsBehind c a p (run s (pin_page a p page e write false ∷ makes_if last a handle))
-take_page c F1 S2 a p handle page frame write last e s is new_frames new_space made frames space shown taken flag writes = go last made
+    → ShowsPinning a p new (run s (pin_page a p page e write false ∷ makes_if last a handle))
+take_page old new F1 S2 a p handle page frame write last e s is new_frames new_space made frames space shown taken flag writes = go last made
   where
     t : CoreState
     t = happens s (pin_page a p page e write false)
 
-    frames_now : ShowsFrames c.new_frames t
+    frames_now : ShowsFrames new.frames t
     frames_now =
         subst (λ (x : FramesValue). ShowsFrames x t) (ap (λ f. with_references f 1024 F1) is ∙ sym new_frames)
         (shows_frames p F1 s (pinning a page e write false) frames)
 
-    space_now : ShowsSpace p c.new_space t
+    space_now : ShowsSpace p new.space t
     space_now =
         subst (λ (x : SpaceValue). ShowsSpace p x t) (sym new_space)
         (flag_again p S2 t flag (shows_space p S2 s (pinning a page e write false) space))
@@ -162,22 +144,22 @@ take_page c F1 S2 a p handle page frame write last e s is new_frames new_space m
     pages : t.taken a ≡ s.taken a ++ taken_page s p page e write ∷ []
     pages = page_taken a p page e write s
 
-    taken_now : frames_taken (t.taken a) ≡ c.old_taken ++ frame ∷ []
+    taken_now : frames_taken (t.taken a) ≡ old.taken ++ frame ∷ []
     taken_now =
-        ap frames_taken pages ∙ frames_behind (s.taken a) (taken_page s p page e write) c.old_taken taken
-        ∙ ap (λ f. c.old_taken ++ f ∷ []) is
+        ap frames_taken pages ∙ frames_behind (s.taken a) (taken_page s p page e write) old.taken taken
+        ∙ ap (λ f. old.taken ++ f ∷ []) is
 
     writes_now : writes_taken (t.taken a) ≡ write
     writes_now = ap writes_taken pages ∙ writes_behind (s.taken a) (taken_page s p page e write) write writes refl
 
-    go : (more : Bool) → IsMade more c a handle frame write → IsBehind c a p (run t (makes_if more a handle))
+    go : (more : Bool) → IsMade more old new a handle frame write → ShowsPinning a p new (run t (makes_if more a handle))
     go true by =
         record {
-          frames = shows_frames p c.new_frames t (making a handle) frames_now;
-          space = shows_space p c.new_space t (making a handle) space_now;
+          frames = shows_frames p new.frames t (making a handle) frames_now;
+          space = shows_space p new.space t (making a handle) space_now;
           pins =
               subst (λ (x : HandlesValue). ShowsPins x (happens t (make_handle a handle))) (sym by.0)
-              (pins_made c.old_pins a handle (c.old_taken ++ frame ∷ []) write t taken_now writes_now shown);
+              (pins_made old.pins a handle (old.taken ++ frame ∷ []) write t taken_now writes_now shown);
           taken = none_taken a handle t ∙ sym by.1;
         }
     go false by =
@@ -193,24 +175,24 @@ abbrev pub tried_whats : (last : Bool) → (a p handle page n : ℕ) → (write 
 tried_whats last a p handle page n write = Event (events.PinTry a p page write) ∷ pinned_if last a handle n
 
 -- the pin after events that lead there
-pins_lead : (c : PinChange) (es : List CoreEvent) (a p handle page n : ℕ) (write last : Bool) (s t : CoreState) → run s es ≡ t
-    → IsBehind c a p (run t (pin_page a p page (entry_in (t.entry p page)) write false ∷ makes_if last a handle))
-    → LeadsPin c a p s (pins s es a p handle page n write last) (tried_whats last a p handle page n write)
-pins_lead c es a p handle page n write last s t same behind =
+pins_lead : (new : PinningView) (es : List CoreEvent) (a p handle page n : ℕ) (write last : Bool) (s t : CoreState) → run s es ≡ t
+    → ShowsPinning a p new (run t (pin_page a p page (entry_in (t.entry p page)) write false ∷ makes_if last a handle))
+    → Leads (ShowsPinning a p) new s (pins s es a p handle page n write last) (tried_whats last a p handle page n write)
+pins_lead new es a p handle page n write last s t same behind =
     let rest : CoreState → List CoreEvent = λ u. pin_page a p page (entry_in (u.entry p page)) write false ∷ makes_if last a handle in
-    let here : IsBehind c a p (run (run s es) (rest (run s es))) = subst (λ (u : CoreState). IsBehind c a p (run u (rest u))) (sym same) behind in
-    let all : IsBehind c a p (run s (es ++ rest (run s es))) = subst (IsBehind c a p) (sym (run_behind s es (rest (run s es)))) here in
-    record { says = refl; frames = all.frames; space = all.space; pins = all.pins; taken = all.taken }
+    let here : ShowsPinning a p new (run (run s es) (rest (run s es))) = subst (λ (u : CoreState). ShowsPinning a p new (run u (rest u))) (sym same) behind in
+    let all : ShowsPinning a p new (run s (es ++ rest (run s es))) = subst (ShowsPinning a p new) (sym (run_behind s es (rest (run s es)))) here in
+    record { says = refl; shown = all }
 
 -- what a fault of a pin comes to
-pin_after : (c : PinChange) (fault : Fault) (a p handle page n far : ℕ) (write last : Bool) (s : CoreState) → (far + 1 == n) ≡ last → refusal_of fault ≡ None
+pin_after : (new : PinningView) (fault : Fault) (a p handle page n far : ℕ) (write last : Bool) (s : CoreState) → (far + 1 == n) ≡ last → refusal_of fault ≡ None
     → ((t : CoreState) → t ≡ run (run s (raises a p far)) (events_of fault)
-    → IsBehind c a p (run t (pin_page a p page (entry_in (t.entry p page)) write false ∷ makes_if last a handle)))
-    → LeadsPin c a p s (pin_turn_by fault s a p handle page n far write) (tried_whats last a p handle page n write)
-pin_after c (Err answer) a p handle page n far write last s is refused behind = absurd (cc)
-pin_after c (Ok before) a p handle page n far write last s is unrefused behind =
-    turn_alike c a p s _ _ _ (ap (λ b. pins s (raises a p far ++ before) a p handle page n write b) is)
-    (pins_lead c (raises a p far ++ before) a p handle page n write last s (run (run s (raises a p far)) before) (run_behind s (raises a p far) before)
+    → ShowsPinning a p new (run t (pin_page a p page (entry_in (t.entry p page)) write false ∷ makes_if last a handle)))
+    → Leads (ShowsPinning a p) new s (pin_turn_by fault s a p handle page n far write) (tried_whats last a p handle page n write)
+pin_after new (Err answer) a p handle page n far write last s is refused behind = absurd (cc)
+pin_after new (Ok before) a p handle page n far write last s is unrefused behind =
+    leads_alike (ap (λ b. pins s (raises a p far ++ before) a p handle page n write b) is)
+    (pins_lead new (raises a p far ++ before) a p handle page n write last s (run (run s (raises a p far)) before) (run_behind s (raises a p far) before)
     (behind (run (run s (raises a p far)) before) refl))
 
 -- a fault of a page of a pin that stands at this one
@@ -232,19 +214,19 @@ turn_is F S a p handle page n far write s frames space =
     (pin_fault_same F S a p (page + far) write s frames space ∙ sym (fault_raised F S a p (page + far) far write))
 
 -- the page is pinned
-pub pinned_page : (c : PinChange) (F1 : FramesValue) (S2 : SpaceValue) (a p handle page n far frame : ℕ) (write last : Bool) → (far + 1 == n) ≡ last → c.old_space.table ≡ None
-    → PinFault c.old_frames F1 c.old_space S2 (page + far) far write None → frame_of (S2.entry (page + far)) ≡ Some frame
-    → c.new_frames ≡ with_references frame 1024 F1 → c.new_space ≡ record S2 { has_pinned = true } → IsMade last c a handle frame write
-    → IsPinTurn c a p handle page n write far (tried_whats last a p handle (page + far) n write)
-pinned_page c F1 S2 a p handle page n far frame write last is unlocked fault at new_frames new_space made s frames space shown taken stands flag =
-    turn_alike c a p s _ _ _ (turn_is c.old_frames c.old_space a p handle page n far write s frames space)
-    (pin_after c (fault_to_pin F (raised far S) a p (page + far) write) a p handle (page + far) n far write last s is (fault.refused a p) (λ t here. behind t here))
+pub pinned_page : (old new : PinningView) (F1 : FramesValue) (S2 : SpaceValue) (a p handle page n far frame : ℕ) (write last : Bool) → (far + 1 == n) ≡ last → old.space.table ≡ None
+    → PinFault old.frames F1 old.space S2 (page + far) far write None → frame_of (S2.entry (page + far)) ≡ Some frame
+    → new.frames ≡ with_references frame 1024 F1 → new.space ≡ record S2 { has_pinned = true } → IsMade last old new a handle frame write
+    → IsTurnOf (ShowsPinning a p) (StandsAtPage a p handle page n write far) old new (λ s. pin_turn s a p handle page n far write) (tried_whats last a p handle (page + far) n write)
+pinned_page old new F1 S2 a p handle page n far frame write last is unlocked fault at new_frames new_space made s shown stands =
+    leads_alike (turn_is old.frames old.space a p handle page n far write s shown.frames shown.space)
+    (pin_after new (fault_to_pin F (raised far S) a p (page + far) write) a p handle (page + far) n far write last s is (fault.refused a p) (λ t here. behind t here))
   where
     F : FramesValue
-    F = c.old_frames
+    F = old.frames
 
     S : SpaceValue
-    S = c.old_space
+    S = old.space
 
     t0 : CoreState
     t0 = run s (raises a p far)
@@ -254,8 +236,8 @@ pinned_page c F1 S2 a p handle page n far frame write last is unlocked fault at 
 
     shows : ShowsFrames F1 t1 × ShowsSpace p S2 t1
     shows =
-        events_lead fault.events t0 a p (raise_frames F a p far s frames) (raise_space S a p far s space)
-        ((raise_space S a p far s space).table ∙ raised_unlocked S far unlocked)
+        events_lead fault.events t0 a p (raise_frames F a p far s shown.frames) (raise_space S a p far s shown.space)
+        ((raise_space S a p far s shown.space).table ∙ raised_unlocked S far unlocked)
 
     same : IsLeft t0 t1
     same = pin_fault_leaves F (raised far S) a p (page + far) write t0
@@ -263,41 +245,43 @@ pinned_page c F1 S2 a p handle page n far frame write last is unlocked fault at 
     taken_same : t1.taken a ≡ s.taken a
     taken_same = ap (λ (f : ℕ → List TakenPage). f a) (same.taken ∙ raise_taken a p far s)
 
-    behind : (t : CoreState) → t ≡ t1 → IsBehind c a p (run t (pin_page a p (page + far) (entry_in (t.entry p (page + far))) write false ∷ makes_if last a handle))
+    behind : (t : CoreState) → t ≡ t1 → ShowsPinning a p new (run t (pin_page a p (page + far) (entry_in (t.entry p (page + far))) write false ∷ makes_if last a handle))
     behind t here =
-        subst (λ (u : CoreState). IsBehind c a p (run u (pin_page a p (page + far) (entry_in (u.entry p (page + far))) write false ∷ makes_if last a handle))) (sym here)
-        (take_page c F1 S2 a p handle (page + far) frame write last (entry_in (t1.entry p (page + far))) t1
+        subst (λ (u : CoreState). ShowsPinning a p new (run u (pin_page a p (page + far) (entry_in (u.entry p (page + far))) write false ∷ makes_if last a handle))) (sym here)
+        (take_page old new F1 S2 a p handle (page + far) frame write last (entry_in (t1.entry p (page + far))) t1
         (ap (λ o. (entry_in o).frame) (shows.1.entry (page + far)) ∙ frame_is (S2.entry (page + far)) frame at) new_frames new_space made
         shows.0 shows.1
-        (shows_same c.old_pins s t1 (same.handle ∙ raise_handle a p far s) (same.pinned ∙ raise_pinned a p far s) shown)
-        (ap frames_taken taken_same ∙ taken)
-        (ap (λ (f : ℕ → Bool). f p) same.has_pinned ∙ raise_flags a p far s flag)
-        (λ k x found. (stands.taken.each k x (ap (λ (l : List TakenPage). slice_get l k) (sym taken_same) ∙ found)).2))
+        (shows_same old.pins s t1 (same.handle ∙ raise_handle a p far s) (same.pinned ∙ raise_pinned a p far s) shown.pins)
+        (ap frames_taken taken_same ∙ shown.taken)
+        (ap (λ (f : ℕ → Bool). f p) same.has_pinned ∙ raise_flags a p far s stands.flagged)
+        (λ k x found. (stands.at.taken.each k x (ap (λ (l : List TakenPage). slice_get l k) (sym taken_same) ∙ found)).2))
 
 -- ---- a page is refused
 
-refused_after : (c : PinChange) (fault : Fault) (a p handle page n far : ℕ) (write : Bool) (answer : Answer) (s : CoreState) (whats : List What) → refusal_of fault ≡ Some answer
-    → LeadsPin c a p s (ends_pin a p handle n far answer) whats → LeadsPin c a p s (pin_turn_by fault s a p handle page n far write) whats
-refused_after c (Ok before) a p handle page n far write answer s whats refused h = absurd (cc)
-refused_after c (Err denied) a p handle page n far write answer s whats refused h =
+refused_after : (new : PinningView) (fault : Fault) (a p handle page n far : ℕ) (write : Bool) (answer : Answer) (s : CoreState) (whats : List What) → refusal_of fault ≡ Some answer
+    → Leads (ShowsPinning a p) new s (ends_pin a p handle n far answer) whats → Leads (ShowsPinning a p) new s (pin_turn_by fault s a p handle page n far write) whats
+refused_after new (Ok before) a p handle page n far write answer s whats refused h = absurd (cc)
+refused_after new (Err denied) a p handle page n far write answer s whats refused h =
     let same : denied ≡ answer = cc in
-    turn_alike c a p s _ _ _ (ap (λ (x : Answer). ends_pin a p handle n far x) same) h
+    leads_alike (ap (λ (x : Answer). ends_pin a p handle n far x) same) h
 
 -- without a page the pin is refused
-pub pin_refused : (c : PinChange) (F1 : FramesValue) (S2 : SpaceValue) (a p handle page n far : ℕ) (write : Bool) (answer : Answer) → far ≡ 0
-    → PinFault c.old_frames F1 c.old_space S2 (page + far) far write (Some answer) → c.new_frames ≡ F1 → c.new_space ≡ S2 → c.new_pins ≡ c.old_pins → c.new_taken ≡ c.old_taken
-    → IsPinTurn c a p handle page n write far (Done answer ∷ [])
-pin_refused c F1 S2 a p handle page n zero write answer first fault new_frames new_space new_pins new_taken s frames space shown taken stands flag =
-    turn_alike c a p s _ _ _ (turn_is c.old_frames c.old_space a p handle page n 0 write s frames space)
-    (refused_after c (fault_to_pin c.old_frames (raised 0 c.old_space) a p (page + 0) write) a p handle (page + 0) n 0 write answer s (Done answer ∷ []) (fault.refused a p)
+pub pin_refused : (old new : PinningView) (F1 : FramesValue) (S2 : SpaceValue) (a p handle page n far : ℕ) (write : Bool) (answer : Answer) → far ≡ 0
+    → PinFault old.frames F1 old.space S2 (page + far) far write (Some answer) → new.frames ≡ F1 → new.space ≡ S2 → new.pins ≡ old.pins → new.taken ≡ old.taken
+    → IsTurnOf (ShowsPinning a p) (StandsAtPage a p handle page n write far) old new (λ s. pin_turn s a p handle page n far write) (Done answer ∷ [])
+pin_refused old new F1 S2 a p handle page n zero write answer first fault new_frames new_space new_pins new_taken s shown stands =
+    leads_alike (turn_is old.frames old.space a p handle page n 0 write s shown.frames shown.space)
+    (refused_after new (fault_to_pin old.frames (raised 0 old.space) a p (page + 0) write) a p handle (page + 0) n 0 write answer s (Done answer ∷ []) (fault.refused a p)
     (record {
       says = refl;
-      frames = subst (λ (x : FramesValue). ShowsFrames x (run s (raises a p 0))) (sym (new_frames ∙ (fault.unchanged answer refl).0)) (raise_frames c.old_frames a p 0 s frames);
-      space = subst (λ (x : SpaceValue). ShowsSpace p x (run s (raises a p 0))) (sym (new_space ∙ (fault.unchanged answer refl).1)) (raise_space c.old_space a p 0 s space);
-      pins = subst (λ (x : HandlesValue). ShowsPins x (run s (raises a p 0))) (sym new_pins) shown;
-      taken = taken ∙ sym new_taken;
+      shown = record {
+        frames = subst (λ (x : FramesValue). ShowsFrames x (run s (raises a p 0))) (sym (new_frames ∙ (fault.unchanged answer refl).0)) (raise_frames old.frames a p 0 s shown.frames);
+        space = subst (λ (x : SpaceValue). ShowsSpace p x (run s (raises a p 0))) (sym (new_space ∙ (fault.unchanged answer refl).1)) (raise_space old.space a p 0 s shown.space);
+        pins = subst (λ (x : HandlesValue). ShowsPins x (run s (raises a p 0))) (sym new_pins) shown.pins;
+        taken = shown.taken ∙ sym new_taken;
+      };
     }))
-pin_refused c F1 S2 a p handle page n (suc far) write answer first fault new_frames new_space new_pins new_taken s frames space shown taken stands flag = absurd (omega arith)
+pin_refused old new F1 S2 a p handle page n (suc far) write answer first fault new_frames new_space new_pins new_taken s shown stands = absurd (omega arith)
 
 -- what the turn of a short pin says
 abbrev pub short_whats : (a handle n far : ℕ) → Answer → List What
@@ -305,20 +289,22 @@ short_whats a handle n far answer =
     Event (events.PinOk a handle) ∷ Done (answers.Short far n (cause_of answer)) ∷ []
 
 -- after others the pin has those
-pub pin_short : (c : PinChange) (F1 : FramesValue) (S2 : SpaceValue) (a p handle page n far : ℕ) (write : Bool) (answer : Answer) → (far ≡ 0 → ⊥)
-    → PinFault c.old_frames F1 c.old_space S2 (page + far) far write (Some answer) → c.new_frames ≡ F1 → c.new_space ≡ S2
-    → c.new_pins ≡ put handle (held a c.old_taken write) c.old_pins → c.new_taken ≡ []
-    → IsPinTurn c a p handle page n write far (short_whats a handle n far answer)
-pin_short c F1 S2 a p handle page n zero write answer some fault new_frames new_space new_pins new_taken s frames space shown taken stands flag = absurd (some refl)
-pin_short c F1 S2 a p handle page n (suc far) write answer some fault new_frames new_space new_pins new_taken s frames space shown taken stands flag =
+pub pin_short : (old new : PinningView) (F1 : FramesValue) (S2 : SpaceValue) (a p handle page n far : ℕ) (write : Bool) (answer : Answer) → (far ≡ 0 → ⊥)
+    → PinFault old.frames F1 old.space S2 (page + far) far write (Some answer) → new.frames ≡ F1 → new.space ≡ S2
+    → new.pins ≡ put handle (held a old.taken write) old.pins → new.taken ≡ []
+    → IsTurnOf (ShowsPinning a p) (StandsAtPage a p handle page n write far) old new (λ s. pin_turn s a p handle page n far write) (short_whats a handle n far answer)
+pin_short old new F1 S2 a p handle page n zero write answer some fault new_frames new_space new_pins new_taken s shown stands = absurd (some refl)
+pin_short old new F1 S2 a p handle page n (suc far) write answer some fault new_frames new_space new_pins new_taken s shown stands =
     let t : CoreState = happens s (make_handle a handle) in
-    let writes : writes_taken (s.taken a) ≡ write = writes_some (s.taken a) write (omega (arith, stands.taken.many)) (λ k x found. (stands.taken.each k x found).2) in
-    turn_alike c a p s _ _ _ (turn_is c.old_frames c.old_space a p handle page n (suc far) write s frames space)
-    (refused_after c (fault_to_pin c.old_frames c.old_space a p (page + suc far) write) a p handle (page + suc far) n (suc far) write answer s (short_whats a handle n (suc far) answer) (fault.refused a p)
+    let writes : writes_taken (s.taken a) ≡ write = writes_some (s.taken a) write (omega (arith, stands.at.taken.many)) (λ k x found. (stands.at.taken.each k x found).2) in
+    leads_alike (turn_is old.frames old.space a p handle page n (suc far) write s shown.frames shown.space)
+    (refused_after new (fault_to_pin old.frames old.space a p (page + suc far) write) a p handle (page + suc far) n (suc far) write answer s (short_whats a handle n (suc far) answer) (fault.refused a p)
     (record {
       says = refl;
-      frames = subst (λ (x : FramesValue). ShowsFrames x t) (sym (new_frames ∙ (fault.unchanged answer refl).0)) (shows_frames p c.old_frames s (making a handle) frames);
-      space = subst (λ (x : SpaceValue). ShowsSpace p x t) (sym (new_space ∙ (fault.unchanged answer refl).1)) (shows_space p c.old_space s (making a handle) space);
-      pins = subst (λ (x : HandlesValue). ShowsPins x t) (sym new_pins) (pins_made c.old_pins a handle c.old_taken write s taken writes shown);
-      taken = none_taken a handle s ∙ sym new_taken;
+      shown = record {
+        frames = subst (λ (x : FramesValue). ShowsFrames x t) (sym (new_frames ∙ (fault.unchanged answer refl).0)) (shows_frames p old.frames s (making a handle) shown.frames);
+        space = subst (λ (x : SpaceValue). ShowsSpace p x t) (sym (new_space ∙ (fault.unchanged answer refl).1)) (shows_space p old.space s (making a handle) shown.space);
+        pins = subst (λ (x : HandlesValue). ShowsPins x t) (sym new_pins) (pins_made old.pins a handle old.taken write s shown.taken writes shown.pins);
+        taken = none_taken a handle s ∙ sym new_taken;
+      };
     }))

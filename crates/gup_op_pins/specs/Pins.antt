@@ -1,18 +1,15 @@
--- What pins are to a state of the core machine, and what a turn of a pin is.
+-- What pins are to a state of the core machine, and what a turn of a pin is over.
 use Rattle.std.specs.Prelude.{◌≡◌, ℕ, ◌<◌, ◌≤◌, Bool, true, false, List, [], slice_get, Some, zero, suc}
 use Rattle.gup_base.specs.declared.entry.Allowed.TheVariants.{Any}
 use Rattle.gup_base.specs.declared.entry.Want.{Want}
 use Rattle.gup_plain.specs.State as plain
-use Rattle.gup_plain.specs.declared.note.What.{What}
-use Rattle.gup_frames.specs.Frames.{FramesValue, IsFrame, free_frame}
-use Rattle.gup_space.specs.Space.{SpaceValue}
+use Rattle.gup_frames.specs.Frames.{FramesValue, FrameLists, frames_of, IsFrame, free_frame}
+use Rattle.gup_space.specs.Space.{SpaceValue, SpaceParts, space_of}
 use Rattle.gup_space.specs.Shows.{ShowsFrames, ShowsSpace}
-use Rattle.gup_handles.specs.Handles.{HandleValue, HandlesValue, unmade, held, given, got, gone}
+use Rattle.gup_handles.specs.Handles.{HandleValue, HandlesValue, handles_of, unmade, held, given, got, gone}
 use Rattle.gup_spec_events.specs.State.{CoreState}
-use Rattle.gup_spec_events.specs.Event.{bias, taken_frames as frames_taken, run}
+use Rattle.gup_spec_events.specs.Event.{bias, taken_frames as frames_taken}
 use Rattle.gup_spec_events.specs.Fault.{Fault, write_fault, unshare_fault}
-use Rattle.gup_spec_turns.specs.CoreTurn.{CoreTurn}
-use Rattle.gup_spec_turns.specs.PinTurns.{pin_turn}
 use Rattle.gup_spec_turns.specs.PinPlace.{StandsPin}
 
 -- what a state has of a handle: the plain pin, of some objects, and the frames of the pages that it still has
@@ -58,31 +55,25 @@ fault_to_pin frames space a p page false =
 abbrev pub want_of : (write : Bool) → Want
 want_of write = record { write = write; long = false }
 
--- Frames, a process, pins and what the actor's running pin has taken, before a turn and after it.
-pub record PinChange : Type 0 where
-  pub old_frames : FramesValue
-  pub new_frames : FramesValue
-  pub old_space : SpaceValue
-  pub new_space : SpaceValue
-  pub old_pins : HandlesValue
-  pub new_pins : HandlesValue
-  pub old_taken : List ℕ
-  pub new_taken : List ℕ
+-- frames, a process, pins, and what an actor's running pin has taken
+pub record PinningView : Type 0 where
+  pub frames : FramesValue
+  pub space : SpaceValue
+  pub pins : HandlesValue
+  pub taken : List ℕ
 
--- From this state the turn of a pin of process p leads to all that as it is after the change, and says this.
-pub record LeadsPin (c : PinChange) (a p : ℕ) (s : CoreState) (turn : CoreTurn) (whats : List What) : Type 0 where
-  pub says : turn.whats ≡ whats
-  pub frames : ShowsFrames c.new_frames (run s turn.events)
-  pub space : ShowsSpace p c.new_space (run s turn.events)
-  pub pins : ShowsPins c.new_pins (run s turn.events)
-  pub taken : frames_taken ((run s turn.events).taken a) ≡ c.new_taken
+abbrev pub pinning_view : FrameLists → SpaceParts → List HandleValue → (taken : List ℕ) → PinningView
+pinning_view frames space pins taken =
+    record { frames = frames_of frames; space = space_of space; pins = handles_of pins; taken = taken }
 
--- So it is in whatever state all that stands, where the pin stands at this page; after its first page the process has
--- pinned.
-abbrev pub IsPinTurn : PinChange → (a p handle page n : ℕ) → (write : Bool) → (far : ℕ) → List What → Type 0
-IsPinTurn c a p handle page n write far whats =
-    (s : CoreState)
-    → ShowsFrames c.old_frames s → ShowsSpace p c.old_space s → ShowsPins c.old_pins s
-    → frames_taken (s.taken a) ≡ c.old_taken → StandsPin s a p handle page n write far
-    → (0 < far → s.has_pinned p ≡ true)
-    → LeadsPin c a p s (pin_turn s a p handle page n far write) whats
+-- the state has all that, of actor a and process p
+pub record ShowsPinning (a p : ℕ) (view : PinningView) (s : CoreState) : Type 0 where
+  pub frames : ShowsFrames view.frames s
+  pub space : ShowsSpace p view.space s
+  pub pins : ShowsPins view.pins s
+  pub taken : frames_taken (s.taken a) ≡ view.taken
+
+-- the pin stands at this page; after its first page the process has pinned
+pub record StandsAtPage (a p handle page n : ℕ) (write : Bool) (far : ℕ) (s : CoreState) : Type 0 where
+  pub at : StandsPin s a p handle page n write far
+  pub flagged : 0 < far → s.has_pinned p ≡ true

@@ -6,8 +6,9 @@ ghost use Rattle.gup_frames.specs.Frames.{FrameLists, frames_of};
 ghost use Rattle.gup_handles.specs.Handles.{handles_of, IsPinOf, IsGivenTo, given_to, taken_by};
 ghost use Rattle.gup_spec_turns.specs.PinTurns.{unpin_turn, give_turn, take_turn};
 ghost use Rattle.gup_op_base.specs.Said.{whats_of};
+ghost use Rattle.gup_op_base.specs.Turns.{IsTurnOf, Anywhere};
 ghost use Rattle.gup_op_pins.specs.Pins.{IsWeighed};
-ghost use Rattle.gup_op_pins.specs.Held.{IsHandleTurn, IsUnpin, IsDone, IsRefused, handle_change_of, refused_said};
+ghost use Rattle.gup_op_pins.specs.Held.{ShowsHeld, IsUnpin, IsDone, IsRefused, held_view, refused_said};
 
 use gup_base::{ActorNo, HandleNo, PIN_BIAS};
 use gup_frames::Frames;
@@ -20,12 +21,12 @@ use gup_plain::{Answer, PlainEvent};
 /// the pin.
 pub fn unpin(frames: &mut Frames, handles: &mut Handles, actor: ActorNo, handle: HandleNo) -> Said
     requires { IsWeighed (frames_of frames.old) (handles_of handles.old handle) }
-    ensures turn { IsHandleTurn (handle_change_of frames.old frames.new handles.old handles.new None None) actor
+    ensures turn { IsTurnOf (ShowsHeld actor) Anywhere (held_view frames.old handles.old None) (held_view frames.new handles.new None)
         (λ s. unpin_turn s actor handle) (whats_of result) }
     ensures held { IsPinOf (handles_of handles.old handle) actor
-        → IsUnpin (handle_change_of frames.old frames.new handles.old handles.new None None) actor handle result }
+        → IsUnpin (held_view frames.old handles.old None) (held_view frames.new handles.new None) actor handle result }
     ensures not_held { (IsPinOf (handles_of handles.old handle) actor → ⊥)
-        → IsRefused (handle_change_of frames.old frames.new handles.old handles.new None None) answers.NotHeld result }
+        → IsRefused (held_view frames.old handles.old None) (held_view frames.new handles.new None) answers.NotHeld result }
 {
     // A got reference is held by a handle too, and is no pin.
     if handles.pages(handle, actor).is_err() {
@@ -44,7 +45,7 @@ pub fn unpin(frames: &mut Frames, handles: &mut Handles, actor: ActorNo, handle:
 /// Gives the actor's pin to another, or to itself: `NotHeld` where the actor doesn't hold it.
 pub fn give(handles: &mut Handles, actor: ActorNo, handle: HandleNo, to: ActorNo) -> Said
     ensures turn { (frames : FrameLists)
-        → IsHandleTurn (handle_change_of frames frames handles.old handles.new None None) actor
+        → IsTurnOf (ShowsHeld actor) Anywhere (held_view frames handles.old None) (held_view frames handles.new None)
         (λ s. give_turn s actor handle to) (whats_of result) }
     ensures held { IsPinOf (handles_of handles.old handle) actor
         → IsDone (handles_of handles.old) (handles_of handles.new) handle (given_to to (handles_of handles.old handle))
@@ -62,7 +63,7 @@ pub fn give(handles: &mut Handles, actor: ActorNo, handle: HandleNo, to: ActorNo
 pub fn take_over(handles: &mut Handles, actor: ActorNo, handle: HandleNo) -> Said
     requires { IsGivenTo (handles_of handles.old handle) actor }
     ensures turn { (frames : FrameLists)
-        → IsHandleTurn (handle_change_of frames frames handles.old handles.new None None) actor
+        → IsTurnOf (ShowsHeld actor) Anywhere (held_view frames handles.old None) (held_view frames handles.new None)
         (λ s. take_turn actor handle) (whats_of result) }
     ensures taken { IsDone (handles_of handles.old) (handles_of handles.new) handle (taken_by actor (handles_of handles.old handle))
         (events.Take actor handle) result }

@@ -9,10 +9,11 @@ ghost use Rattle.gup_fault.specs.Refused.{answer_of as answered, denial_of};
 ghost use Rattle.gup_fault.specs.Faults.{IsFault};
 ghost use Rattle.gup_slow.specs.Pins.{IsReady};
 ghost use Rattle.gup_handles.specs.Handles.{handles_of, unmade, held};
-ghost use Rattle.gup_spec_turns.specs.PinTurns.{cause_of as cause};
+ghost use Rattle.gup_spec_turns.specs.PinTurns.{cause_of as cause, pin_turn};
 ghost use Rattle.gup_op_base.specs.Tidy.{IsTidy};
 ghost use Rattle.gup_op_base.specs.Said.{whats_of};
-ghost use Rattle.gup_op_pins.specs.Pins.{IsPinTurn, raised, fault_to_pin, want_of};
+ghost use Rattle.gup_op_base.specs.Turns.{IsTurnOf};
+ghost use Rattle.gup_op_pins.specs.Pins.{ShowsPinning, StandsAtPage, pinning_view, raised, fault_to_pin, want_of};
 
 use arrayvec::ArrayVec;
 use gup_base::{ActorNo, Allowed, FrameNo, HandleNo, PageNo, ProcNo, Want};
@@ -50,16 +51,10 @@ pub fn pin(
     requires within { far < n }
     requires most { n ≤ 16 }
     requires range { page + n ≤ 2 ^ 35 }
-    ensures { IsPinTurn (record {
-      old_frames = frames_of frames.old;
-      new_frames = frames_of frames.new;
-      old_space = space_of space.old;
-      new_space = space_of space.new;
-      old_pins = handles_of handles.old;
-      new_pins = handles_of handles.new;
-      old_taken = taken.old.items;
-      new_taken = taken.new.items;
-    }) actor proc handle page n write far (whats_of result) }
+    ensures { IsTurnOf (ShowsPinning actor proc) (StandsAtPage actor proc handle page n write far)
+        (pinning_view frames.old space.old handles.old taken.old.items)
+        (pinning_view frames.new space.new handles.new taken.new.items)
+        (λ s. pin_turn s actor proc handle page n far write) (whats_of result) }
 {
     raise_flag(space, far);
     let page = page_behind(page, far);

@@ -1,9 +1,9 @@
-use Rattle.std.proofs.Common.{true, false, None, sym, ap, ◌∙◌}
+use Rattle.std.proofs.Common.{true, false, sym, ap, ◌∙◌}
 use Rattle.gup_frames.specs.Frames.{frames_of}
 use Rattle.gup_handles.specs.Handles.{handles_of}
-use Rattle.gup_spec_turns.specs.PinTurns.{unpin_turn}
 use Rattle.gup_op_base.specs.Said.{whats_of}
-use Rattle.gup_op_pins.proofs.Holding.{handle_change, handle_alike, passed, failed, last_weighed, page_unpinned, unpinned_whats, still_says, gone_says}
+use Rattle.gup_op_base.proofs.Leading.{notes_alike}
+use Rattle.gup_op_pins.proofs.Holding.{passed, failed, last_weighed, page_unpinned, still_says, gone_says}
 use Rattle.gup_op_pins.proofs.holds.unpin.Goals as goal
 
 pub put-requires-clause-there : goal.put-requires-clause-there
@@ -26,7 +26,7 @@ returns-then-is_ok-clause-turn c =
     let H = handles_of a.handles.now in
     let H1 = handles_of c.drop_last.new.self in
     let mine = c.pages.ensures.held.0 (passed c.pages.result (sym c.is_err.ensures.value ∙ c.if-is_err.false)) in
-    handle_alike (handle_change F F1 H H1 None None) a.actor (λ s. unpin_turn s a.actor a.handle) (unpinned_whats true a.actor a.handle) _ (ap whats_of c.silent.ensures)
+    notes_alike (ap whats_of c.silent.ensures)
     (page_unpinned F F1 H H1 a.actor a.handle c.in-Ok.frame true mine c.in-Ok.ensures.last c.put.ensures c.in-Ok.ensures.dropped
     (λ so. c.pages-2.ensures.held.0 (sym c.is_ok.ensures.value ∙ c.if-is_ok.true)) (λ so. absurd (cc)))
 
@@ -38,7 +38,7 @@ returns-clause-turn c =
     let H = handles_of a.handles.now in
     let H1 = handles_of c.drop_last.new.self in
     let mine = c.pages.ensures.held.0 (passed c.pages.result (sym c.is_err.ensures.value ∙ c.if-is_err.false)) in
-    handle_alike (handle_change F F1 H H1 None None) a.actor (λ s. unpin_turn s a.actor a.handle) (unpinned_whats false a.actor a.handle) _ (ap whats_of c.done.ensures)
+    notes_alike (ap whats_of c.done.ensures)
     (page_unpinned F F1 H H1 a.actor a.handle c.in-Ok.frame false mine c.in-Ok.ensures.last c.put.ensures c.in-Ok.ensures.dropped
     (λ so. absurd (cc)) (λ so holds. failed c.pages-2.result (sym c.is_ok.ensures.value ∙ c.if-is_ok.false) (c.pages-2.ensures.held.1 holds)))
 

@@ -7,11 +7,12 @@ use Rattle.gup_plain.specs.declared.event.PlainEvent.TheVariants as events
 use Rattle.gup_plain.specs.declared.note.What.TheVariants.{Event, Done}
 use Rattle.gup_frames.specs.Frames.{frames_of}
 use Rattle.gup_space.specs.Space.{space_of}
-use Rattle.gup_handles.specs.Handles.{handles_of}
 use Rattle.gup_spec_events.specs.Invariant.{frame_of}
 use Rattle.gup_fault.specs.Refused.{answer_of}
 use Rattle.gup_op_base.specs.Said.{whats_of}
-use Rattle.gup_op_pins.proofs.Pinning.{pin_change, pin_alike, raised_tidy, fault_at, pinned_page, pin_refused, pin_short, tried_whats, short_whats}
+use Rattle.gup_op_base.proofs.Leading.{notes_alike}
+use Rattle.gup_op_pins.specs.Pins.{pinning_view}
+use Rattle.gup_op_pins.proofs.Pinning.{raised_tidy, fault_at, pinned_page, pin_refused, pin_short, tried_whats}
 use Rattle.gup_op_pins.proofs.pins.pin.Goals as goal
 
 pub ready-requires-clause-tidy : goal.ready-requires-clause-tidy
@@ -32,12 +33,12 @@ returns-then-far-from c =
     let S = space_of a.space.now in
     let S1 = space_of c.raise_flag.new.space in
     let S2 = space_of c.ready.new.space in
-    let H = handles_of a.handles.now in
     let at : c.page_behind-page.result ≡ a.page + a.far = c.page_behind-page.ensures in
-    let change = pin_change F (frames_of c.pin_page.new.frames) S (space_of c.pin_page.new.space) H H a.taken.now.items c.push.new.self.items in
-    pin_alike change a.actor a.proc a.handle a.page a.n a.write a.far (tried_whats false a.actor a.proc a.handle (a.page + a.far) a.n a.write) _
+    let old = pinning_view a.frames.now a.space.now a.handles.now a.taken.now.items in
+    let new = pinning_view c.pin_page.new.frames c.pin_page.new.space a.handles.now c.push.new.self.items in
+    notes_alike
     (ap whats_of c.happened.ensures ∙ ap (λ g. Event (events.PinTry a.actor a.proc g a.write) ∷ []) at)
-    (pinned_page change F1 S2 a.actor a.proc a.handle a.page a.n a.far c.pin_page.result a.write false
+    (pinned_page old new F1 S2 a.actor a.proc a.handle a.page a.n a.far c.pin_page.result a.write false
     (not_last a.far a.n (omega (arith, c.if-far-from.true, c.from.ensures))) c.requires.table
     (fault_at F F1 S S1 S2 a.page a.far c.page_behind-page.result a.write None c.raise_flag.ensures at c.in-Ok.ensures.fault)
     (ap (λ g. frame_of (S2.entry g)) (sym at) ∙ c.pin_page.ensures.frame) c.pin_page.ensures.frames c.pin_page.ensures.space
@@ -51,12 +52,12 @@ returns-else-far-from c =
     let S = space_of a.space.now in
     let S1 = space_of c.raise_flag.new.space in
     let S2 = space_of c.ready.new.space in
-    let H = handles_of a.handles.now in
     let at : c.page_behind-page.result ≡ a.page + a.far = c.page_behind-page.ensures in
-    let change = pin_change F (frames_of c.pin_page.new.frames) S (space_of c.pin_page.new.space) H (handles_of c.hold.new.handles) a.taken.now.items c.hold.new.taken.items in
-    pin_alike change a.actor a.proc a.handle a.page a.n a.write a.far (tried_whats true a.actor a.proc a.handle (a.page + a.far) a.n a.write) _
+    let old = pinning_view a.frames.now a.space.now a.handles.now a.taken.now.items in
+    let new = pinning_view c.pin_page.new.frames c.pin_page.new.space c.hold.new.handles c.hold.new.taken.items in
+    notes_alike
     (ap (λ g. tried_whats true a.actor a.proc a.handle g a.n a.write) at)
-    (pinned_page change F1 S2 a.actor a.proc a.handle a.page a.n a.far c.pin_page.result a.write true
+    (pinned_page old new F1 S2 a.actor a.proc a.handle a.page a.n a.far c.pin_page.result a.write true
     (last a.far a.n c.requires.within (omega (arith, c.if-far-from.false, c.from.ensures))) c.requires.table
     (fault_at F F1 S S1 S2 a.page a.far c.page_behind-page.result a.write None c.raise_flag.ensures at c.in-Ok.ensures.fault)
     (ap (λ g. frame_of (S2.entry g)) (sym at) ∙ c.pin_page.ensures.frame) c.pin_page.ensures.frames c.pin_page.ensures.space
@@ -70,13 +71,13 @@ returns-in-Err c =
     let S = space_of a.space.now in
     let S1 = space_of c.raise_flag.new.space in
     let S2 = space_of c.ready.new.space in
-    let H = handles_of a.handles.now in
     let at : c.page_behind-page.result ≡ a.page + a.far = c.page_behind-page.ensures in
-    let change = pin_change F F1 S S2 H H a.taken.now.items a.taken.now.items in
+    let old = pinning_view a.frames.now a.space.now a.handles.now a.taken.now.items in
+    let new = pinning_view c.ready.new.frames c.ready.new.space a.handles.now a.taken.now.items in
     let answer = answer_of c.in-Err.denied in
-    pin_alike change a.actor a.proc a.handle a.page a.n a.write a.far (Done answer ∷ []) _
+    notes_alike
     (ap whats_of c.refused.ensures ∙ ap (λ (x : Answer). Done x ∷ []) c.answer_of.ensures)
-    (pin_refused change F1 S2 a.actor a.proc a.handle a.page a.n a.far a.write answer c.if-far-eq0.true
+    (pin_refused old new F1 S2 a.actor a.proc a.handle a.page a.n a.far a.write answer c.if-far-eq0.true
     (fault_at F F1 S S1 S2 a.page a.far c.page_behind-page.result a.write (Some answer) c.raise_flag.ensures at c.in-Err.ensures.fault) refl refl refl refl)
 
 pub returns-in-Err-2 : goal.returns-in-Err-2
@@ -87,12 +88,12 @@ returns-in-Err-2 c =
     let S = space_of a.space.now in
     let S1 = space_of c.raise_flag.new.space in
     let S2 = space_of c.ready.new.space in
-    let H = handles_of a.handles.now in
     let at : c.page_behind-page.result ≡ a.page + a.far = c.page_behind-page.ensures in
-    let change = pin_change F F1 S S2 H (handles_of c.hold-in-Err-2.new.handles) a.taken.now.items c.hold-in-Err-2.new.taken.items in
+    let old = pinning_view a.frames.now a.space.now a.handles.now a.taken.now.items in
+    let new = pinning_view c.ready.new.frames c.ready.new.space c.hold-in-Err-2.new.handles c.hold-in-Err-2.new.taken.items in
     let answer = answer_of c.in-Err.denied in
-    pin_alike change a.actor a.proc a.handle a.page a.n a.write a.far (short_whats a.actor a.handle a.n a.far answer) _
+    notes_alike
     (ap whats_of c.done.ensures ∙ ap (λ (x : Cause). Event (events.PinOk a.actor a.handle) ∷ Done (answers.Short a.far a.n x) ∷ []) c.cause_of.ensures)
-    (pin_short change F1 S2 a.actor a.proc a.handle a.page a.n a.far a.write answer c.if-far-eq0.false
+    (pin_short old new F1 S2 a.actor a.proc a.handle a.page a.n a.far a.write answer c.if-far-eq0.false
     (fault_at F F1 S S1 S2 a.page a.far c.page_behind-page.result a.write (Some answer) c.raise_flag.ensures at c.in-Err.ensures.fault) refl refl
     c.hold-in-Err-2.ensures.held c.hold-in-Err-2.ensures.empty)
