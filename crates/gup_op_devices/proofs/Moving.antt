@@ -23,14 +23,14 @@ use Rattle.gup_spec_turns.specs.DeviceTurns.{frame_at, moves_value, moves_from, 
 use Rattle.gup_spec_turns.proofs.TurnParts.{transfer_turn_by}
 use Rattle.gup_op_base.specs.declared.said.Said.{Said}
 use Rattle.gup_op_base.specs.Said.{whats_of}
+use Rattle.gup_op_base.specs.Turns.{Leads, IsTurnOf}
+use Rattle.gup_op_base.proofs.Leading.{leads_alike}
 use Rattle.gup_op_pins.specs.Pins.{IsPin, ShowsPins, IsWeighed, frames_in}
-use Rattle.gup_op_pins.specs.Held.{ShowsStore, HandleChange, LeadsHandle, slots_in}
-use Rattle.gup_op_devices.specs.Transfers.{IsWhole, IsTransferTurn, HasMoved, IsMoved, words_in, is_pin_of, writes_in, fits_in, refusal_in}
-use Rattle.gup_op_pins.proofs.Holding.{handle_change, leads_handle_alike}
+use Rattle.gup_op_pins.specs.Held.{ShowsStore, HeldView, ShowsHeld, slots_in}
+use Rattle.gup_op_devices.specs.Transfers.{IsWhole, HasMoved, IsMoved, words_in, is_pin_of, writes_in, fits_in, refusal_in}
 
--- the same notes in other words
-pub transfer_alike : (c : HandleChange) (a handle : ℕ) (outward : Bool) (index slot n far : ℕ) (whats other : List What) → other ≡ whats → IsTransferTurn c a handle outward index slot n far whats → IsTransferTurn c a handle outward index slot n far other
-transfer_alike c a handle outward index slot n far whats other same h = subst (λ (ws : List What). IsTransferTurn c a handle outward index slot n far ws) (sym same) h
+abbrev pub view : FramesValue → HandlesValue → Option (List ℕ) → HeldView
+view F H W = record { frames = F; pins = H; store = W }
 
 -- ---- what refuses it
 
@@ -64,10 +64,9 @@ turn_by W H a h outward index slot n far denied s is shown whole =
     (denial_same (H h) (s.handle h) (s.pinned h) a outward (slots_in W) index slot n (shown h) whole ∙ is)
 
 pub transfer_refused : (F : FramesValue) (H : HandlesValue) (W : Option (List ℕ)) (a h : ℕ) (outward : Bool) (index slot n far : ℕ) (denied : Answer) → refusal_in (H h) a outward (slots_in W) index slot n ≡ Some denied
-    → IsTransferTurn (handle_change F F H H W W) a h outward index slot n far (Done denied ∷ [])
-transfer_refused F H W a h outward index slot n far denied is s frames shown store whole =
-    leads_handle_alike (handle_change F F H H W W) a s _ _ _ (turn_by W H a h outward index slot n far (Some denied) s is shown whole)
-    (record { says = refl; frames = frames; pins = shown; store = store })
+    → IsTurnOf (ShowsHeld a) (λ s. IsWhole s a h) (view F H W) (view F H W) (λ s. transfer_turn s a (slots_in W) h outward index slot n far) (Done denied ∷ [])
+transfer_refused F H W a h outward index slot n far denied is s shown whole =
+    leads_alike (turn_by W H a h outward index slot n far (Some denied) s is shown.pins whole) (record { says = refl; shown = shown })
 
 -- ---- a word moves
 
@@ -93,29 +92,33 @@ stored : (a slot value : ℕ) (W : List ℕ) (store : ℕ → ℕ → ℕ) → (
 stored a slot value W store shown k within = grind (arith, nat_tests, shown k within)
 
 leads_word : (F F' : FramesValue) (H : HandlesValue) (W W' : List ℕ) (a h f index slot value : ℕ) (outward last : Bool) (s : CoreState) → HasMoved outward F F' W W' f (index % 512) slot value
-    → ShowsFrames F s → ShowsPins H s → ShowsStore a (Some W) s
-    → LeadsHandle (handle_change F F' H H (Some W) (Some W')) a s (word_turn a h outward last index slot f value) (moved_whats a h outward last index slot value)
-leads_word F F' H W W' a h f index slot value true last s moved frames shown store =
+    → ShowsHeld a (view F H (Some W)) s
+    → Leads (ShowsHeld a) (view F' H (Some W')) s (word_turn a h outward last index slot f value) (moved_whats a h outward last index slot value)
+leads_word F F' H W W' a h f index slot value true last s moved shown =
     let t : CoreState = happens s (move_out a h index slot f value) in
     let many : length W' ≡ length W = ap (λ (x : StoreValue). x.words) moved.2 in
     record {
       says = refl;
-      frames =
-          subst (λ (x : FramesValue). ShowsFrames x t) (sym moved.1) (shows_frames 0 F s (moving_out a h index slot f value) frames);
-      pins = shown;
-      store = λ k within.
-          stored a slot value W s.store store k (subst (λ n. k < n) many within)
-          ∙ sym (ap (λ (x : StoreValue). x.word k) moved.2);
+      shown = record {
+        frames =
+            subst (λ (x : FramesValue). ShowsFrames x t) (sym moved.1) (shows_frames 0 F s (moving_out a h index slot f value) shown.frames);
+        pins = shown.pins;
+        store = λ k within.
+            stored a slot value W s.store shown.store k (subst (λ n. k < n) many within)
+            ∙ sym (ap (λ (x : StoreValue). x.word k) moved.2);
+      };
     }
-leads_word F F' H W W' a h f index slot value false last s moved frames shown store =
+leads_word F F' H W W' a h f index slot value false last s moved shown =
     let t : CoreState = happens s (move_in a h index slot f value) in
     let many : length W' ≡ length W = ap (λ (x : StoreValue). x.words) moved.2 in
     record {
       says = refl;
-      frames =
-          subst (λ (x : FramesValue). ShowsFrames x t) (sym moved.1) (shows_frames 0 F s (moving_in a h index slot f value) frames);
-      pins = shown;
-      store = λ k within. store k (subst (λ n. k < n) many within) ∙ sym (ap (λ (x : StoreValue). x.word k) moved.2);
+      shown = record {
+        frames =
+            subst (λ (x : FramesValue). ShowsFrames x t) (sym moved.1) (shows_frames 0 F s (moving_in a h index slot f value) shown.frames);
+        pins = shown.pins;
+        store = λ k within. shown.store k (subst (λ n. k < n) many within) ∙ sym (ap (λ (x : StoreValue). x.word k) moved.2);
+      };
     }
 
 -- what is kept of the pin that the state has
@@ -125,18 +128,18 @@ pages_same v handle pinned pages by write is pin = (subst (λ (x : HandleValue).
 pub word_moved : (F F' : FramesValue) (H : HandlesValue) (W W' pages : List ℕ) (a h f index slot n far value : ℕ) (outward write last : Bool) → (far + 1 == n) ≡ last
     → refusal_in (H h) a outward (length W) index slot n ≡ None → H h ≡ held a pages write → slice_get pages ((index + far) / 512) ≡ Some f → slot + far < length W
     → HasMoved outward F F' W W' f ((index + far) % 512) (slot + far) value
-    → IsTransferTurn (handle_change F F' H H (Some W) (Some W')) a h outward index slot n far (moved_whats a h outward last (index + far) (slot + far) value)
-word_moved F F' H W W' pages a h f index slot n far value outward write last is unrefused pin at within moved s frames shown store whole =
+    → IsTurnOf (ShowsHeld a) (λ s. IsWhole s a h) (view F H (Some W)) (view F' H (Some W')) (λ s. transfer_turn s a (length W) h outward index slot n far) (moved_whats a h outward last (index + far) (slot + far) value)
+word_moved F F' H W W' pages a h f index slot n far value outward write last is unrefused pin at within moved s shown whole =
     let i : ℕ = index + far in
     let j : ℕ = slot + far in
-    let pages_is : s.pinned h ≡ pages = pages_same (H h) (s.handle h) (s.pinned h) pages a write pin (shown h) in
+    let pages_is : s.pinned h ≡ pages = pages_same (H h) (s.handle h) (s.pinned h) pages a write pin (shown.pins h) in
     let f_is : frame_at (s.pinned h) i ≡ f = ap (λ ps. frame_at ps i) pages_is ∙ get_or_from_slice_get pages (i / 512) f 0 at in
-    leads_handle_alike (handle_change F F' H H (Some W) (Some W')) a s _ _ _
-    (turn_by (Some W) H a h outward index slot n far None s unrefused shown whole
+    leads_alike
+    (turn_by (Some W) H a h outward index slot n far None s unrefused shown.pins whole
     ∙ ap (λ b. transfer_turn_by None s a h outward b i j) is
     ∙ ap (λ g. moves_from s a h outward last i j g) f_is
-    ∙ ap (λ v. word_turn a h outward last i j f v) (value_same F F' W W' a f i j value outward s within frames store moved))
-    (leads_word F F' H W W' a h f i j value outward last s moved frames shown store)
+    ∙ ap (λ v. word_turn a h outward last i j f v) (value_same F F' W W' a f i j value outward s within shown.frames shown.store moved))
+    (leads_word F F' H W W' a h f i j value outward last s moved shown)
 
 -- ---- what isn't refused
 
@@ -178,7 +181,7 @@ refused_so refusal denied is none = absurd (cc)
 -- a word that moved, by the pages of the pin
 pub moved_so : (F F' : FramesValue) (H : HandlesValue) (store : Option (List ℕ)) (W W' pages : List ℕ) (a h f index slot value : ℕ) (outward write last : Bool) (said : Said) → H h ≡ held a pages write → slice_get pages (index / 512) ≡ Some f
     → store ≡ Some W → HasMoved outward F F' W W' f (index % 512) slot value → said ≡ said_of (moves_word a h outward index slot value) last
-    → IsMoved (handle_change F F' H H store (Some W')) a h outward index slot last said
+    → IsMoved (view F H store) (view F' H (Some W')) a h outward index slot last said
 moved_so F F' H store W W' pages a h f index slot value outward write last said pin page there moved says = (
   f,
   value,

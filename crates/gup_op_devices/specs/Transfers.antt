@@ -1,4 +1,4 @@
--- What a turn of a transfer does to a pin's frames and to the store of its device, and what refuses it.
+-- What a word of a transfer does to a pin's frames and to the store of its device, and what refuses it.
 use Rattle.std.specs.Prelude.{◌≡◌, ℕ, ◌/◌, ◌%◌, ◌==◌, ◌&&◌, Bool, true, false, if◌then◌else◌, List, [], ◌∷◌, length, slice_get, slice_index, Option, Some, None}
 use Rattle.gup_plain.specs.Denial.{is_held_by, has_words, has_slots, transfer_denial_by}
 use Rattle.gup_plain.specs.Event.{words}
@@ -6,17 +6,14 @@ use Rattle.gup_plain.specs.Put.{put}
 use Rattle.gup_plain.specs.State as plain
 use Rattle.gup_plain.specs.declared.answer.Answer.{Answer}
 use Rattle.gup_plain.specs.declared.answer.Answer.TheVariants as answers
-use Rattle.gup_plain.specs.declared.note.What.{What}
 use Rattle.gup_frames.specs.Frames.{FramesValue, with_word}
 use Rattle.gup_device.specs.Store.{store_of}
-use Rattle.gup_space.specs.Shows.{ShowsFrames}
 use Rattle.gup_handles.specs.Handles.{HandleValue, unmade, held, given, got, gone}
 use Rattle.gup_spec_events.specs.State.{CoreState}
 use Rattle.gup_spec_journal.specs.Follows.{moves_word}
-use Rattle.gup_spec_turns.specs.DeviceTurns.{transfer_turn}
 use Rattle.gup_op_base.specs.declared.said.Said.{Said}
-use Rattle.gup_op_pins.specs.Pins.{ShowsPins, frames_in}
-use Rattle.gup_op_pins.specs.Held.{ShowsStore, slots_in, HandleChange, LeadsHandle}
+use Rattle.gup_op_pins.specs.Pins.{frames_in}
+use Rattle.gup_op_pins.specs.Held.{HeldView}
 
 -- does the actor hold the pin, and may the pin write?
 abbrev pub is_pin_of : HandleValue → (a : ℕ) → Bool
@@ -58,20 +55,14 @@ abbrev pub IsWhole : CoreState → (a handle : ℕ) → Type 0
 IsWhole s a handle =
     is_held_by (s.handle handle) a ≡ true → length (s.pinned handle) ≡ length (plain.objects_of (s.handle handle))
 
--- a transfer is of a pin that has all its pages
-abbrev pub IsTransferTurn : HandleChange → (a handle : ℕ) → (outward : Bool) → (index slot n far : ℕ) → List What → Type 0
-IsTransferTurn c a handle outward index slot n far whats =
-    (s : CoreState) → ShowsFrames c.old_frames s → ShowsPins c.old_pins s → ShowsStore a c.old_store s → IsWhole s a handle
-    → LeadsHandle c a s (transfer_turn s a (slots_in c.old_store) handle outward index slot n far) whats
-
 -- the words of a store, if there is one
 abbrev pub words_in : Option (List ℕ) → List ℕ
 words_in None = []
 words_in (Some words) = words
 
 -- The word of the pin with this index moved, out into this slot or in from it, and is said, with the answer at the last.
-abbrev pub IsMoved : HandleChange → (a handle : ℕ) → (outward : Bool) → (index slot : ℕ) → (last : Bool) → Said → Type 0
-IsMoved c a handle outward index slot last said =
-    (frame : ℕ) × (value : ℕ) × (slice_get (frames_in (c.old_pins handle)) (index / words) ≡ Some frame)
-    × HasMoved outward c.old_frames c.new_frames (words_in c.old_store) (words_in c.new_store) frame (index % words) slot value
+abbrev pub IsMoved : (old new : HeldView) → (a handle : ℕ) → (outward : Bool) → (index slot : ℕ) → (last : Bool) → Said → Type 0
+IsMoved old new a handle outward index slot last said =
+    (frame : ℕ) × (value : ℕ) × (slice_get (frames_in (old.pins handle)) (index / words) ≡ Some frame)
+    × HasMoved outward old.frames new.frames (words_in old.store) (words_in new.store) frame (index % words) slot value
     × (said ≡ record { event = Some (moves_word a handle outward index slot value); next = None; answer = if last then Some answers.Words else None })

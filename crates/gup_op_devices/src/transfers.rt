@@ -6,10 +6,12 @@ ghost use Rattle.gup_frames.specs.Frames.{frames_of, IsFrame};
 ghost use Rattle.gup_device.specs.Store.{store_of, IsSlot};
 ghost use Rattle.gup_handles.specs.Handles.{handles_of};
 ghost use Rattle.gup_spec_journal.specs.Follows.{moves_word};
+ghost use Rattle.gup_spec_turns.specs.DeviceTurns.{transfer_turn};
 ghost use Rattle.gup_op_base.specs.Said.{whats_of};
+ghost use Rattle.gup_op_base.specs.Turns.{IsTurnOf};
 ghost use Rattle.gup_op_pins.specs.Pins.{IsWeighed};
-ghost use Rattle.gup_op_devices.specs.Transfers.{IsTransferTurn, HasMoved, IsMoved, fits_in, refusal_in};
-ghost use Rattle.gup_op_pins.specs.Held.{IsRefused, handle_change_of, slots_in};
+ghost use Rattle.gup_op_devices.specs.Transfers.{IsWhole, HasMoved, IsMoved, fits_in, refusal_in};
+ghost use Rattle.gup_op_pins.specs.Held.{ShowsHeld, IsRefused, held_view, slots_in};
 
 use gup_base::{ActorNo, FrameNo, HandleNo, WordNo};
 use gup_device::Store;
@@ -44,14 +46,15 @@ pub fn transfer(
     requires within { far < n }
     requires most { n ≤ 64 }
     ensures slots { slots_in store.new ≡ slots_in store.old }
-    ensures turn { IsTransferTurn (handle_change_of frames.old frames.new handles.now handles.now store.old store.new)
-        actor handle outward index slot n far (whats_of result) }
+    ensures turn { IsTurnOf (ShowsHeld actor) (λ s. IsWhole s actor handle)
+        (held_view frames.old handles.now store.old) (held_view frames.new handles.now store.new)
+        (λ s. transfer_turn s actor (slots_in store.old) handle outward index slot n far) (whats_of result) }
     ensures moved { refusal_in (handles_of handles.now handle) actor outward (slots_in store.old) index slot n ≡ None
-        → IsMoved (handle_change_of frames.old frames.new handles.now handles.now store.old store.new)
+        → IsMoved (held_view frames.old handles.now store.old) (held_view frames.new handles.now store.new)
         actor handle outward (index + far) (slot + far) (far + 1 == n) result }
     ensures refused { (denied : AnswerValue)
         → refusal_in (handles_of handles.now handle) actor outward (slots_in store.old) index slot n ≡ Some denied
-        → IsRefused (handle_change_of frames.old frames.new handles.now handles.now store.old store.new) denied result }
+        → IsRefused (held_view frames.old handles.now store.old) (held_view frames.new handles.now store.new) denied result }
 {
     let slots = slots_of(store);
     if let Some(denied) = refusal(handles, actor, handle, outward, slots, index, slot, n) {

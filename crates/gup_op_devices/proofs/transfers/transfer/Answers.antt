@@ -1,15 +1,16 @@
-use Rattle.std.proofs.Common.{◌≡◌, ℕ, ◌+◌, ◌/◌, ◌%◌, ◌==◌, Bool, length, slice_get, Some, None, List, [], ◌∷◌, Option, refl, sym, ap, ◌∙◌, subst}
+use Rattle.std.proofs.Common.{◌≡◌, ℕ, ◌+◌, ◌/◌, ◌%◌, ◌==◌, Bool, length, slice_get, Some, None, List, Option, refl, sym, ap, ◌∙◌, subst}
 use Rattle.gup_plain.specs.declared.answer.Answer.{Answer}
 use Rattle.gup_plain.specs.declared.event.PlainEvent.{PlainEvent}
-use Rattle.gup_plain.specs.declared.note.What.TheVariants.{Done}
 use Rattle.gup_frames.specs.Frames.{frames_of}
 use Rattle.gup_handles.specs.Handles.{handles_of}
+use Rattle.gup_spec_turns.specs.DeviceTurns.{transfer_turn}
 use Rattle.gup_op_base.specs.Said.{whats_of}
+use Rattle.gup_op_base.specs.Turns.{IsTurnOf}
+use Rattle.gup_op_base.proofs.Leading.{notes_alike}
 use Rattle.gup_spec_journal.specs.Follows.{moves_word}
-use Rattle.gup_op_devices.specs.Transfers.{IsTransferTurn, HasMoved, refusal_in}
-use Rattle.gup_op_pins.specs.Held.{slots_in, refused_said}
-use Rattle.gup_op_pins.proofs.Holding.{handle_change}
-use Rattle.gup_op_devices.proofs.Moving.{transfer_alike, transfer_refused, page_there, moved_whats, said_of, word_says, word_moved, moved_slots, slot_within, same_denial, refused_so, moved_so}
+use Rattle.gup_op_devices.specs.Transfers.{IsWhole, HasMoved, refusal_in}
+use Rattle.gup_op_pins.specs.Held.{ShowsHeld, slots_in, refused_said}
+use Rattle.gup_op_devices.proofs.Moving.{view, transfer_refused, page_there, moved_whats, said_of, word_says, word_moved, moved_slots, slot_within, same_denial, refused_so, moved_so}
 use Rattle.gup_op_devices.proofs.transfers.transfer.Goals as goal
 
 pub returns-in-Some-clause-turn : goal.returns-in-Some-clause-turn
@@ -17,7 +18,7 @@ returns-in-Some-clause-turn c =
     let a = c.args in
     let F = frames_of a.frames.now in
     let H = handles_of a.handles.now in
-    transfer_alike (handle_change F F H H a.store.now a.store.now) a.actor a.handle a.outward a.index a.slot a.n a.far (Done c.in-Some.denied ∷ []) _ (ap whats_of c.refused.ensures)
+    notes_alike (ap whats_of c.refused.ensures)
     (transfer_refused F H a.store.now a.actor a.handle a.outward a.index a.slot a.n a.far c.in-Some.denied
     (ap (λ k. refusal_in (H a.handle) a.actor a.outward k a.index a.slot a.n) (sym c.slots_of-slots.ensures.slots) ∙ sym c.refusal.ensures ∙ c.in-Some.is))
 
@@ -78,8 +79,8 @@ returns-clause-turn c =
     ∙ ap (λ (e : PlainEvent). whats_of (said_of e (a.far + 1 == c.from-3.result))) event
     ∙ ap (λ k. whats_of (said_of (moves_word a.actor a.handle a.outward at place value) (a.far + 1 == k))) c.from-3.ensures
     ∙ word_says (moves_word a.actor a.handle a.outward at place value) last in
-    let P : Option (List ℕ) → Type 0 = λ w. IsTransferTurn (handle_change F F1 H H w (Some W1)) a.actor a.handle a.outward a.index a.slot a.n a.far (moved_whats a.actor a.handle a.outward last at place value) in
-    transfer_alike (handle_change F F1 H H a.store.now (Some W1)) a.actor a.handle a.outward a.index a.slot a.n a.far (moved_whats a.actor a.handle a.outward last at place value) _ says
+    let P : Option (List ℕ) → Type 0 = λ w. IsTurnOf (ShowsHeld a.actor) (λ s. IsWhole s a.actor a.handle) (view F H w) (view F1 H (Some W1)) (λ s. transfer_turn s a.actor (slots_in w) a.handle a.outward a.index a.slot a.n a.far) (moved_whats a.actor a.handle a.outward last at place value) in
+    notes_alike says
     (subst P (sym c.in-Some-store.is)
     (word_moved F F1 H W W1 pages a.actor a.handle f a.index a.slot a.n a.far value a.outward c.in-Ok.field-0-1 last refl unrefused c.in-Ok.ensures.pages page
     (slot_within v a.actor a.outward (length W) a.index a.slot a.n a.far unrefused c.requires.within) moved))
