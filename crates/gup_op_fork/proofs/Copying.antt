@@ -24,10 +24,9 @@ use Rattle.gup_spec_events.proofs.Gone.{no_puts}
 use Rattle.gup_spec_turns.specs.ForkTurns.{fork_turn, frame_turn, copy_turn, copying_turn, rights_in}
 use Rattle.gup_spec_turns.specs.CoreTurn.{entry_in}
 use Rattle.gup_spec_turns.specs.ForkPlace.{unbegun, from_page, wants_frame, at_word, copying_place, fork_place, StandsFork}
-use Rattle.gup_op_fork.specs.Forked.{IsForkTurn}
-use Rattle.gup_op_base.proofs.Leading.{run_behind}
+use Rattle.gup_op_base.proofs.Leading.{leads_alike, run_behind}
 use Rattle.gup_op_base.proofs.Searching.{free_agrees}
-use Rattle.gup_op_fork.proofs.Forking.{change, put_here, leads_alike, notes_alike}
+use Rattle.gup_op_fork.proofs.Forking.{IsForking, change, leads_there, put_here, notes_alike}
 
 -- ---- a fork that copies a page
 
@@ -96,53 +95,48 @@ copies_on s a p c page word job prepared is here =
 
 -- ---- its frame
 
-pub frame_taken : (F F' : FramesValue) (P C : SpaceValue) (a p c page to : ℕ) → free_frame F Any ≡ Some to → F' ≡ taken to F → IsForkTurn (change F F' P P C C) a p c (wants_frame page) (at_word page 0 to) (Silent ∷ [])
-frame_taken F F' P C a p c page to free is s apart frames parent child keeps stands place =
-    let both = wants_one s a p c page (s.job a) (s.prepared a) stands place in
+pub frame_taken : (F F' : FramesValue) (P C : SpaceValue) (a p c page to : ℕ) → free_frame F Any ≡ Some to → F' ≡ taken to F → IsForking (change F F' P P C C) a p c (wants_frame page) (at_word page 0 to) (Silent ∷ [])
+frame_taken F F' P C a p c page to free is birth s shown fork =
+    let both = wants_one s a p c page (s.job a) (s.prepared a) fork.at shown.place in
     let here = both.1 in
     let behind : CoreState = happens s (take_frame a to) in
-    leads_alike (change F F' P P C C) a p c s (record { events = take_frame a to ∷ []; whats = Silent ∷ [] }) _ _ _
+    leads_alike {turn = record { events = take_frame a to ∷ []; whats = Silent ∷ [] }}
     (copies_on s a p c page 0 (s.job a) None both.0 here
-    ∙ ap (λ o. frame_turn s a p c here.done page 0 o) (free_agrees F s frames ∙ free))
+    ∙ ap (λ o. frame_turn s a p c here.done page 0 o) (free_agrees F s shown.frames ∙ free))
     (record {
       says = refl;
-      frames = subst (λ (f : FramesValue). ShowsFrames f behind) (sym is) (shows_frames p F s (taking a to) frames);
-      parent = shows_space p P s (taking a to) parent;
-      child = shows_space c C s (taking a to) child;
-      place =
-          ap (λ j. fork_place j (put a (Some to) s.prepared a)) here.is
-          ∙ ap (copying_place page 0) (put_here a (Some to) s.prepared);
-      birth = here.birth;
+      shown = record {
+        frames = subst (λ (f : FramesValue). ShowsFrames f behind) (sym is) (shows_frames p F s (taking a to) shown.frames);
+        parent = shows_space p P s (taking a to) shown.parent;
+        child = shows_space c C s (taking a to) shown.child;
+        place =
+            ap (λ j. fork_place j (put a (Some to) s.prepared a)) here.is
+            ∙ ap (copying_place page 0) (put_here a (Some to) s.prepared);
+        birth = here.birth;
+      };
     })
 
 -- ---- its words
 
-pub word_copied : (k : ForkChange) (a p c page word to : ℕ) (e : Entry) → nat_lt word words ≡ true → k.old_parent.entry page ≡ Some e → ((done : List ℕ) → AreForkEvents k (λ q d. copy_word a q d done page word to e ∷ [])) → IsForkTurn k a p c (at_word page word to) (at_word page (word + 1) to) (Event (events.ForkWord p c page word) ∷ [])
-word_copied k a p c page word to e more entry made s apart frames parent child keeps stands place =
-    let both = copies_one s a p c page word to (s.job a) (s.prepared a) stands place in
+pub word_copied : (k : ForkChange) (a p c page word to : ℕ) (e : Entry) → nat_lt word words ≡ true → k.old_parent.entry page ≡ Some e → ((done : List ℕ) → AreForkEvents k (λ q d. copy_word a q d done page word to e ∷ [])) → IsForking k a p c (at_word page word to) (at_word page (word + 1) to) (Event (events.ForkWord p c page word) ∷ [])
+word_copied k a p c page word to e more entry made birth s shown fork =
+    let both = copies_one s a p c page word to (s.job a) (s.prepared a) fork.at shown.place in
     let here = both.1 in
-    let behind = made here.done s p c apart frames parent child in
-    leads_alike k a p c s
-    (record { events = copy_word a p c here.done page word to e ∷ []; whats = Event (events.ForkWord p c page word) ∷ [] }) _ _ _
+    let behind = made here.done s p c fork.apart shown.frames shown.parent shown.child in
+    leads_alike {turn = record { events = copy_word a p c here.done page word to e ∷ []; whats = Event (events.ForkWord p c page word) ∷ [] }}
     (copies_on s a p c page word (s.job a) (Some to) both.0 here
     ∙ ap (λ b. copy_turn s a p c here.done page word to b) more
-    ∙ ap (λ o. record { events = copy_word a p c here.done page word to (entry_in o) ∷ []; whats = Event (events.ForkWord p c page word) ∷ [] }) (parent.entry page ∙ entry))
-    (record {
-      says = refl;
-      frames = behind.0;
-      parent = behind.1;
-      child = behind.2;
-      place =
-          ap (λ j. fork_place j (s.prepared a)) (put_here a (forking p c here.done (copying page (word + 1))) s.job)
-          ∙ ap (copying_place page (word + 1)) both.0;
-      birth = here.birth;
-    })
+    ∙ ap (λ o. record { events = copy_word a p c here.done page word to (entry_in o) ∷ []; whats = Event (events.ForkWord p c page word) ∷ [] }) (shown.parent.entry page ∙ entry))
+    (leads_there k refl behind
+    (ap (λ j. fork_place j (s.prepared a)) (put_here a (forking p c here.done (copying page (word + 1))) s.job)
+    ∙ ap (copying_place page (word + 1)) both.0)
+    here.birth)
 
 -- what the code has at hand
-pub word_turned : (k : ForkChange) (a p c page word to next : ℕ) → next ≡ word → word < words → IsSome (k.old_parent.entry page) → ((done : List ℕ) (e : Entry) → k.old_parent.entry page ≡ Some e → AreForkEvents k (λ q d. copy_word a q d done page next to e ∷ [])) → IsForkTurn k a p c (at_word page word to) (at_word page (word + 1) to) (Event (events.ForkWord p c page next) ∷ [])
+pub word_turned : (k : ForkChange) (a p c page word to next : ℕ) → next ≡ word → word < words → IsSome (k.old_parent.entry page) → ((done : List ℕ) (e : Entry) → k.old_parent.entry page ≡ Some e → AreForkEvents k (λ q d. copy_word a q d done page next to e ∷ [])) → IsForking k a p c (at_word page word to) (at_word page (word + 1) to) (Event (events.ForkWord p c page next) ∷ [])
 word_turned k a p c page word to next same less some made = go (k.old_parent.entry page) refl some
   where
-    go : (entry : Option Entry) → k.old_parent.entry page ≡ entry → IsSome entry → IsForkTurn k a p c (at_word page word to) (at_word page (word + 1) to) (Event (events.ForkWord p c page next) ∷ [])
+    go : (entry : Option Entry) → k.old_parent.entry page ≡ entry → IsSome entry → IsForking k a p c (at_word page word to) (at_word page (word + 1) to) (Event (events.ForkWord p c page next) ∷ [])
     go None entry some = absurd (cc)
     go (Some e) entry some =
         notes_alike k a p c (at_word page word to) (at_word page (word + 1) to) _ _ (ap (λ w. Event (events.ForkWord p c page w) ∷ []) same)
@@ -151,28 +145,23 @@ word_turned k a p c page word to next same less some made = go (k.old_parent.ent
 
 -- ---- its end
 
-pub copy_placed : (k : ForkChange) (a p c page word to : ℕ) (rights : Rights) → nat_lt word words ≡ false → k.old_child.right page ≡ Some rights → ((done : List ℕ) → AreForkEvents k (λ q d. place_child a q d done page to rights ∷ [])) → IsForkTurn k a p c (at_word page word to) (from_page (page + 1)) (Silent ∷ [])
-copy_placed k a p c page word to rights all mapped made s apart frames parent child keeps stands place =
-    let both = copies_one s a p c page word to (s.job a) (s.prepared a) stands place in
+pub copy_placed : (k : ForkChange) (a p c page word to : ℕ) (rights : Rights) → nat_lt word words ≡ false → k.old_child.right page ≡ Some rights → ((done : List ℕ) → AreForkEvents k (λ q d. place_child a q d done page to rights ∷ [])) → IsForking k a p c (at_word page word to) (from_page (page + 1)) (Silent ∷ [])
+copy_placed k a p c page word to rights all mapped made birth s shown fork =
+    let both = copies_one s a p c page word to (s.job a) (s.prepared a) fork.at shown.place in
     let here = both.1 in
-    let behind = made here.done s p c apart frames parent child in
-    leads_alike k a p c s (record { events = place_child a p c here.done page to rights ∷ []; whats = Silent ∷ [] }) _ _ _
+    let behind = made here.done s p c fork.apart shown.frames shown.parent shown.child in
+    leads_alike {turn = record { events = place_child a p c here.done page to rights ∷ []; whats = Silent ∷ [] }}
     (copies_on s a p c page word (s.job a) (Some to) both.0 here
     ∙ ap (λ b. copy_turn s a p c here.done page word to b) all
-    ∙ ap (λ o. record { events = place_child a p c here.done page to (rights_in o) ∷ []; whats = Silent ∷ [] }) (child.right page ∙ mapped))
-    (record {
-      says = refl;
-      frames = behind.0;
-      parent = behind.1;
-      child = behind.2;
-      place = ap (λ j. fork_place j (put a None s.prepared a)) (put_here a (forking p c (page ∷ here.done) between) s.job);
-      birth = here.birth;
-    })
+    ∙ ap (λ o. record { events = place_child a p c here.done page to (rights_in o) ∷ []; whats = Silent ∷ [] }) (shown.child.right page ∙ mapped))
+    (leads_there k refl behind
+    (ap (λ j. fork_place j (put a None s.prepared a)) (put_here a (forking p c (page ∷ here.done) between) s.job))
+    here.birth)
 
-pub copy_turned : (k : ForkChange) (a p c page word to : ℕ) → words ≤ word → IsSome (k.old_child.right page) → ((done : List ℕ) (rights : Rights) → k.old_child.right page ≡ Some rights → AreForkEvents k (λ q d. place_child a q d done page to rights ∷ [])) → IsForkTurn k a p c (at_word page word to) (from_page (page + 1)) (Silent ∷ [])
+pub copy_turned : (k : ForkChange) (a p c page word to : ℕ) → words ≤ word → IsSome (k.old_child.right page) → ((done : List ℕ) (rights : Rights) → k.old_child.right page ≡ Some rights → AreForkEvents k (λ q d. place_child a q d done page to rights ∷ [])) → IsForking k a p c (at_word page word to) (from_page (page + 1)) (Silent ∷ [])
 copy_turned k a p c page word to all mapped made = go (k.old_child.right page) refl mapped
   where
-    go : (right : Option Rights) → k.old_child.right page ≡ right → IsSome right → IsForkTurn k a p c (at_word page word to) (from_page (page + 1)) (Silent ∷ [])
+    go : (right : Option Rights) → k.old_child.right page ≡ right → IsSome right → IsForking k a p c (at_word page word to) (from_page (page + 1)) (Silent ∷ [])
     go None right some = absurd (cc)
     go (Some rights) right some =
         copy_placed k a p c page word to rights (grind (arith, nat_tests, all)) right (λ done. made done rights right)
@@ -252,22 +241,16 @@ failed_place a p c done step entry s =
     ap (λ j. fork_place j ((run s (fails a p c done step entry)).prepared a))
     (failed_job a p c done step entry page_numbers s (are_gone entry 0 page_numbers) refl)
 
-pub fork_failed : (k : ForkChange) (a p c page : ℕ) → free_frame k.old_frames Any ≡ None → ((done : List ℕ) → AreForkEvents k (λ q d. fails a q d done (copying page 0) k.old_child.entry)) → IsForkTurn k a p c (wants_frame page) unbegun (Event (events.ForkFail c) ∷ Done answers.NoFrame ∷ [])
-fork_failed k a p c page none made s apart frames parent child keeps stands place =
-    let both = wants_one s a p c page (s.job a) (s.prepared a) stands place in
+pub fork_failed : (k : ForkChange) (a p c page : ℕ) → free_frame k.old_frames Any ≡ None → ((done : List ℕ) → AreForkEvents k (λ q d. fails a q d done (copying page 0) k.old_child.entry)) → IsForking k a p c (wants_frame page) unbegun (Event (events.ForkFail c) ∷ Done answers.NoFrame ∷ [])
+fork_failed k a p c page none made birth s shown fork =
+    let both = wants_one s a p c page (s.job a) (s.prepared a) fork.at shown.place in
     let here = both.1 in
     let entry : ℕ → Option Entry = k.old_child.entry in
-    let behind = made here.done s p c apart frames parent child in
-    leads_alike k a p c s
-    (record { events = fails a p c here.done (copying page 0) entry; whats = Event (events.ForkFail c) ∷ Done answers.NoFrame ∷ [] }) _ _ _
+    let behind = made here.done s p c fork.apart shown.frames shown.parent shown.child in
+    leads_alike {turn = record { events = fails a p c here.done (copying page 0) entry; whats = Event (events.ForkFail c) ∷ Done answers.NoFrame ∷ [] }}
     (copies_on s a p c page 0 (s.job a) None both.0 here
-    ∙ ap (λ o. frame_turn s a p c here.done page 0 o) (free_agrees k.old_frames s frames ∙ none)
-    ∙ ap (λ es. record { events = es; whats = Event (events.ForkFail c) ∷ Done answers.NoFrame ∷ [] }) (fails_alike a p c here.done (copying page 0) (s.entry c) entry child.entry))
-    (record {
-      says = refl;
-      frames = behind.0;
-      parent = behind.1;
-      child = behind.2;
-      place = failed_place a p c here.done (copying page 0) entry s;
-      birth = failed_birth a p c here.done (copying page 0) entry s;
-    })
+    ∙ ap (λ o. frame_turn s a p c here.done page 0 o) (free_agrees k.old_frames s shown.frames ∙ none)
+    ∙ ap (λ es. record { events = es; whats = Event (events.ForkFail c) ∷ Done answers.NoFrame ∷ [] }) (fails_alike a p c here.done (copying page 0) (s.entry c) entry shown.child.entry))
+    (leads_there k refl behind
+    (failed_place a p c here.done (copying page 0) entry s)
+    (failed_birth a p c here.done (copying page 0) entry s))

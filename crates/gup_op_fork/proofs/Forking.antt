@@ -7,7 +7,7 @@ use Rattle.gup_base.specs.declared.entry.Entry.{Entry}
 use Rattle.gup_base.specs.declared.entry.Rights.{Rights}
 use Rattle.gup_plain.specs.Event.{page_numbers}
 use Rattle.gup_plain.specs.Put.{put, lowest}
-use Rattle.gup_plain.specs.State.{born, growing}
+use Rattle.gup_plain.specs.State.{Birth, born, growing}
 use Rattle.gup_plain.specs.declared.answer.Answer.TheVariants as answers
 use Rattle.gup_plain.specs.declared.event.PlainEvent.TheVariants as events
 use Rattle.gup_plain.specs.declared.note.What.{What}
@@ -19,11 +19,13 @@ use Rattle.gup_fork.specs.Forks.{ForkChange, AreForkEvents, copies_frame, shares
 use Rattle.gup_fork.proofs.ForkAfter.{counting, passing}
 use Rattle.gup_fork.proofs.ForkLemmas.{are_fork_events}
 use Rattle.gup_spec_events.specs.State.{CoreState, Job, idle, marking, moving, forking, walking, between, counted, lowered, cleared, copying, failing}
-use Rattle.gup_spec_events.specs.Event.{CoreEvent, bias, begin_fork, count_page, pass_page, end_fork, copies_page}
+use Rattle.gup_spec_events.specs.Event.{CoreEvent, bias, begin_fork, count_page, pass_page, end_fork, copies_page, run}
 use Rattle.gup_spec_turns.specs.CoreTurn.{CoreTurn}
 use Rattle.gup_spec_turns.specs.ForkTurns.{first_behind, next_page, next_turn, page_turn, share_turn, fork_turn}
-use Rattle.gup_spec_turns.specs.ForkPlace.{ForkPlace, copying_place, fork_place, KeepsFrame, StandsFork, unbegun, from_page, at_page, wants_frame, at_word}
-use Rattle.gup_op_fork.specs.Forked.{LeadsFork, IsForkTurn}
+use Rattle.gup_spec_turns.specs.ForkPlace.{ForkPlace, copying_place, fork_place, place_in, KeepsFrame, StandsFork, unbegun, from_page, at_page, wants_frame, at_word}
+use Rattle.gup_op_fork.specs.Forked.{birth_behind, ForkingView, ShowsForking, StandsAsFork}
+use Rattle.gup_op_base.specs.Turns.{Leads, IsTurnOf}
+use Rattle.gup_op_base.proofs.Leading.{leads_alike}
 use Rattle.gup_maps.specs.Maps.{IsNextPage, IsLastPage}
 use Rattle.gup_op_base.proofs.Searching.{lowest_same}
 use Rattle.gup_op_pages.proofs.Unmapping.{found_at, none_found, unmapped_is, below_numbers}
@@ -35,9 +37,27 @@ change F F' P P' C C' =
 pub put_here : {X : Type 0} (k : ℕ) (x : X) (f : ℕ → X) → put k x f k ≡ x
 put_here k x f = grind (arith, nat_tests)
 
--- the same turn in other words
-pub leads_alike : (k : ForkChange) (a p c : ℕ) (s : CoreState) (turn other : CoreTurn) (new : ForkPlace) (whats : List What) → other ≡ turn → LeadsFork k a p c s turn new whats → LeadsFork k a p c s other new whats
-leads_alike k a p c s turn other new whats same h = subst (λ (t : CoreTurn). LeadsFork k a p c s t new whats) (sym same) h
+-- what there is before such a change and after it
+abbrev pub before : ForkChange → ForkPlace → Birth → ForkingView
+before k place birth = record { frames = k.old_frames; parent = k.old_parent; child = k.old_child; place = place; birth = birth }
+
+abbrev pub behind : ForkChange → ForkPlace → Birth → ForkingView
+behind k place birth = record { frames = k.new_frames; parent = k.new_parent; child = k.new_child; place = place; birth = birth }
+
+-- a turn of a fork that makes it, from one place to the next, whatever the child was
+abbrev pub IsForking : ForkChange → (a p c : ℕ) → (old new : ForkPlace) → List What → Type 0
+IsForking k a p c old new whats =
+    (birth : Birth) → IsTurnOf (ShowsForking a p c) (StandsAsFork a p c) (before k old birth) (behind k new (birth_behind p whats)) (λ s. fork_turn s a p c (s.job a)) whats
+
+-- and its end from one state
+abbrev pub LeadsOn : ForkChange → (a p c : ℕ) → CoreState → CoreTurn → (new : ForkPlace) → List What → Type 0
+LeadsOn k a p c s turn new whats = Leads (ShowsForking a p c) (behind k new (birth_behind p whats)) s turn whats
+
+pub leads_there : (k : ForkChange) {a p c : ℕ} {s : CoreState} {turn : CoreTurn} {new : ForkPlace} {whats : List What} → turn.whats ≡ whats
+    → ShowsFrames k.new_frames (run s turn.events) × ShowsSpace p k.new_parent (run s turn.events) × ShowsSpace c k.new_child (run s turn.events)
+    → place_in (run s turn.events) a ≡ new → (run s turn.events).birth c ≡ birth_behind p whats → LeadsOn k a p c s turn new whats
+leads_there k says led place birth =
+    record { says = says; shown = record { frames = led.0; parent = led.1; child = led.2; place = place; birth = birth } }
 
 -- a fork that copies a page stands at none of the other places
 abbrev is_copying : ForkPlace → Bool
@@ -53,20 +73,15 @@ not_copying page word (Some to) place other is = false≢true (sym other ∙ ap 
 
 -- ---- the beginning
 
-pub begun : (k : ForkChange) (a p c : ℕ) → AreForkEvents k (λ q d. begin_fork a q d ∷ []) → IsForkTurn k a p c unbegun (from_page 0) (Event (events.ForkBegin p c) ∷ [])
-begun k a p c made s apart frames parent child keeps = go (s.job a)
+pub begun : (k : ForkChange) (a p c : ℕ) → AreForkEvents k (λ q d. begin_fork a q d ∷ []) → IsForking k a p c unbegun (from_page 0) (Event (events.ForkBegin p c) ∷ [])
+begun k a p c made birth s shown fork = go (s.job a) fork.at shown.place
   where
-    go : (job : Job) → StandsFork s a p c job (s.prepared a) → fork_place job (s.prepared a) ≡ unbegun → LeadsFork k a p c s (fork_turn s a p c job) (from_page 0) (Event (events.ForkBegin p c) ∷ [])
+    go : (job : Job) → StandsFork s a p c job (s.prepared a) → fork_place job (s.prepared a) ≡ unbegun → LeadsOn k a p c s (fork_turn s a p c job) (from_page 0) (Event (events.ForkBegin p c) ∷ [])
     go idle stands place =
-        let behind = made s p c apart frames parent child in
-        record {
-          says = refl;
-          frames = behind.0;
-          parent = behind.1;
-          child = behind.2;
-          place = ap (λ j. fork_place j (s.prepared a)) (put_here a (forking p c [] between) s.job);
-          birth = put_here c (growing p) s.birth;
-        }
+        let behind = made s p c fork.apart shown.frames shown.parent shown.child in
+        leads_there k refl behind
+        (ap (λ j. fork_place j (s.prepared a)) (put_here a (forking p c [] between) s.job))
+        (put_here c (growing p) s.birth)
     go (forking q d done between) stands place = absurd (cc)
     go (forking q d done (counted page)) stands place = absurd (cc)
     go (forking q d done (lowered page)) stands place = absurd stands
@@ -90,22 +105,17 @@ looks_on C c s done from found child place is =
     same_page : (m n : ℕ) → from_page m ≡ from_page n → m ≡ n
     same_page m n same = cc
 
-pub ended : (k : ForkChange) (a p c from : ℕ) → ((done : List ℕ) → AreForkEvents k (λ q d. end_fork a q d done ∷ [])) → lowest from (page_numbers - from) (λ page. is_some (k.old_child.right page)) ≡ None → IsForkTurn k a p c (from_page from) unbegun (Event (events.ForkEnd p c) ∷ Done answers.Plain ∷ [])
-ended k a p c from made none s apart frames parent child keeps = go (s.job a)
+pub ended : (k : ForkChange) (a p c from : ℕ) → ((done : List ℕ) → AreForkEvents k (λ q d. end_fork a q d done ∷ [])) → lowest from (page_numbers - from) (λ page. is_some (k.old_child.right page)) ≡ None → IsForking k a p c (from_page from) unbegun (Event (events.ForkEnd p c) ∷ Done answers.Plain ∷ [])
+ended k a p c from made none birth s shown fork = go (s.job a) fork.at shown.place
   where
-    go : (job : Job) → StandsFork s a p c job (s.prepared a) → fork_place job (s.prepared a) ≡ from_page from → LeadsFork k a p c s (fork_turn s a p c job) unbegun (Event (events.ForkEnd p c) ∷ Done answers.Plain ∷ [])
+    go : (job : Job) → StandsFork s a p c job (s.prepared a) → fork_place job (s.prepared a) ≡ from_page from → LeadsOn k a p c s (fork_turn s a p c job) unbegun (Event (events.ForkEnd p c) ∷ Done answers.Plain ∷ [])
     go (forking q d done between) stands place =
-        let behind = made done s p c apart frames parent child in
-        leads_alike k a p c s _ _ _ _
-        (ap (λ o. next_turn s a p c done o) (looks_on k.old_child c s done from None child place none))
-        (record {
-          says = refl;
-          frames = behind.0;
-          parent = behind.1;
-          child = behind.2;
-          place = ap (λ j. fork_place j (s.prepared a)) (put_here a idle s.job);
-          birth = put_here c born s.birth;
-        })
+        let behind = made done s p c fork.apart shown.frames shown.parent shown.child in
+        leads_alike
+        (ap (λ o. next_turn s a p c done o) (looks_on k.old_child c s done from None shown.child place none))
+        (leads_there k refl behind
+        (ap (λ j. fork_place j (s.prepared a)) (put_here a idle s.job))
+        (put_here c born s.birth))
     go idle stands place = absurd (cc)
     go (forking q d done (counted page)) stands place = absurd (cc)
     go (forking q d done (lowered page)) stands place = absurd stands
@@ -122,23 +132,18 @@ pass_events F P C a page done =
     are_fork_events (change F F P P C C) a (λ q d. pass_page a q d done page ∷ [])
     (λ q d. record { own = (passing done page, tt); frames = refl; parent = refl; child = refl })
 
-pub passed : (F : FramesValue) (P C : SpaceValue) (a p c from page : ℕ) → lowest from (page_numbers - from) (λ g. is_some (C.right g)) ≡ Some page → P.entry page ≡ None → IsForkTurn (change F F P P C C) a p c (from_page from) (from_page (page + 1)) (Event (events.ForkPage p c page) ∷ [])
-passed F P C a p c from page found empty s apart frames parent child keeps = go (s.job a)
+pub passed : (F : FramesValue) (P C : SpaceValue) (a p c from page : ℕ) → lowest from (page_numbers - from) (λ g. is_some (C.right g)) ≡ Some page → P.entry page ≡ None → IsForking (change F F P P C C) a p c (from_page from) (from_page (page + 1)) (Event (events.ForkPage p c page) ∷ [])
+passed F P C a p c from page found empty birth s shown fork = go (s.job a) fork.at shown.place
   where
-    go : (job : Job) → StandsFork s a p c job (s.prepared a) → fork_place job (s.prepared a) ≡ from_page from → LeadsFork (change F F P P C C) a p c s (fork_turn s a p c job) (from_page (page + 1)) (Event (events.ForkPage p c page) ∷ [])
+    go : (job : Job) → StandsFork s a p c job (s.prepared a) → fork_place job (s.prepared a) ≡ from_page from → LeadsOn (change F F P P C C) a p c s (fork_turn s a p c job) (from_page (page + 1)) (Event (events.ForkPage p c page) ∷ [])
     go (forking q d done between) stands place =
-        let behind = pass_events F P C a page done s p c apart frames parent child in
-        leads_alike (change F F P P C C) a p c s _ _ _ _
-        (ap (λ o. next_turn s a p c done o) (looks_on C c s done from (Some page) child place found)
-        ∙ ap (λ e. page_turn s a p c done page e) (parent.entry page ∙ empty))
-        (record {
-          says = refl;
-          frames = behind.0;
-          parent = behind.1;
-          child = behind.2;
-          place = ap (λ j. fork_place j (s.prepared a)) (put_here a (forking p c (page ∷ done) between) s.job);
-          birth = stands.birth;
-        })
+        let behind = pass_events F P C a page done s p c fork.apart shown.frames shown.parent shown.child in
+        leads_alike
+        (ap (λ o. next_turn s a p c done o) (looks_on C c s done from (Some page) shown.child place found)
+        ∙ ap (λ e. page_turn s a p c done page e) (shown.parent.entry page ∙ empty))
+        (leads_there (change F F P P C C) refl behind
+        (ap (λ j. fork_place j (s.prepared a)) (put_here a (forking p c (page ∷ done) between) s.job))
+        stands.birth)
     go idle stands place = absurd (cc)
     go (forking q d done (counted g)) stands place = absurd (cc)
     go (forking q d done (lowered g)) stands place = absurd stands
@@ -171,27 +176,20 @@ counted_at : (p c page : ℕ) (done : List ℕ) (copied : Bool) (prepared : Opti
 counted_at p c page done true prepared none = ap (copying_place page 0) none
 counted_at p c page done false prepared none = refl
 
-page_counted : (F : FramesValue) (P P' C : SpaceValue) (a p c from page : ℕ) (e : Entry) (copied : Bool) → lowest from (page_numbers - from) (λ g. is_some (C.right g)) ≡ Some page → P.entry page ≡ Some e → copied ≡ copies_frame F P e.frame → P' ≡ record P { table = Some a } → IsForkTurn (change F F P P' C C) a p c (from_page from) (counted_place copied page) (Silent ∷ [])
-page_counted F P P' C a p c from page e copied found entry is locked s apart frames parent child keeps = go (s.job a) keeps
+page_counted : (F : FramesValue) (P P' C : SpaceValue) (a p c from page : ℕ) (e : Entry) (copied : Bool) → lowest from (page_numbers - from) (λ g. is_some (C.right g)) ≡ Some page → P.entry page ≡ Some e → copied ≡ copies_frame F P e.frame → P' ≡ record P { table = Some a } → IsForking (change F F P P' C C) a p c (from_page from) (counted_place copied page) (Silent ∷ [])
+page_counted F P P' C a p c from page e copied found entry is locked birth s shown fork = go (s.job a) fork.keeps fork.at shown.place
   where
-    go : (job : Job) → KeepsFrame job (s.prepared a) → StandsFork s a p c job (s.prepared a) → fork_place job (s.prepared a) ≡ from_page from → LeadsFork (change F F P P' C C) a p c s (fork_turn s a p c job) (counted_place copied page) (Silent ∷ [])
+    go : (job : Job) → KeepsFrame job (s.prepared a) → StandsFork s a p c job (s.prepared a) → fork_place job (s.prepared a) ≡ from_page from → LeadsOn (change F F P P' C C) a p c s (fork_turn s a p c job) (counted_place copied page) (Silent ∷ [])
     go (forking q d done between) none stands place =
-        let behind = count_events F P P' C a page e copied done locked s p c apart frames parent child in
-        leads_alike (change F F P P' C C) a p c s
-        (record { events = count_page a p c done page e copied ∷ []; whats = Silent ∷ [] }) _ _ _
-        (ap (λ o. next_turn s a p c done o) (looks_on C c s done from (Some page) child place found)
-        ∙ ap (λ o. page_turn s a p c done page o) (parent.entry page ∙ entry)
-        ∙ ap (λ (b : Bool). record { events = count_page a p c done page e b ∷ []; whats = Silent ∷ [] }) (copies_alike F P p e.frame s frames parent ∙ sym is))
-        (record {
-          says = refl;
-          frames = behind.0;
-          parent = behind.1;
-          child = behind.2;
-          place =
-              ap (λ j. fork_place j (s.prepared a)) (put_here a (forking p c done (if copied then copying page 0 else counted page)) s.job)
-              ∙ counted_at p c page done copied (s.prepared a) none;
-          birth = stands.birth;
-        })
+        let behind = count_events F P P' C a page e copied done locked s p c fork.apart shown.frames shown.parent shown.child in
+        leads_alike {turn = record { events = count_page a p c done page e copied ∷ []; whats = Silent ∷ [] }}
+        (ap (λ o. next_turn s a p c done o) (looks_on C c s done from (Some page) shown.child place found)
+        ∙ ap (λ o. page_turn s a p c done page o) (shown.parent.entry page ∙ entry)
+        ∙ ap (λ (b : Bool). record { events = count_page a p c done page e b ∷ []; whats = Silent ∷ [] }) (copies_alike F P p e.frame s shown.frames shown.parent ∙ sym is))
+        (leads_there (change F F P P' C C) refl behind
+        (ap (λ j. fork_place j (s.prepared a)) (put_here a (forking p c done (if copied then copying page 0 else counted page)) s.job)
+        ∙ counted_at p c page done copied (s.prepared a) none)
+        stands.birth)
     go idle keeps stands place = absurd (cc)
     go (forking q d done (counted g)) keeps stands place = absurd (cc)
     go (forking q d done (lowered g)) keeps stands place = absurd stands
@@ -204,26 +202,21 @@ page_counted F P P' C a p c from page e copied found entry is locked s apart fra
 
 -- ---- the share of a page
 
-page_shared : (k : ForkChange) (a p c page : ℕ) (e : Entry) → k.old_parent.entry page ≡ Some e → ((done : List ℕ) → AreForkEvents k (λ q d. shares a q d done page e)) → IsForkTurn k a p c (at_page page) (from_page (page + 1)) (Event (events.ForkPage p c page) ∷ [])
-page_shared k a p c page e entry made s apart frames parent child keeps = go (s.job a)
+page_shared : (k : ForkChange) (a p c page : ℕ) (e : Entry) → k.old_parent.entry page ≡ Some e → ((done : List ℕ) → AreForkEvents k (λ q d. shares a q d done page e)) → IsForking k a p c (at_page page) (from_page (page + 1)) (Event (events.ForkPage p c page) ∷ [])
+page_shared k a p c page e entry made birth s shown fork = go (s.job a) fork.at shown.place
   where
     same_page : (m n : ℕ) → at_page m ≡ at_page n → m ≡ n
     same_page m n same = cc
 
-    go : (job : Job) → StandsFork s a p c job (s.prepared a) → fork_place job (s.prepared a) ≡ at_page page → LeadsFork k a p c s (fork_turn s a p c job) (from_page (page + 1)) (Event (events.ForkPage p c page) ∷ [])
+    go : (job : Job) → StandsFork s a p c job (s.prepared a) → fork_place job (s.prepared a) ≡ at_page page → LeadsOn k a p c s (fork_turn s a p c job) (from_page (page + 1)) (Event (events.ForkPage p c page) ∷ [])
     go (forking q d done (counted g)) stands place =
-        let behind = made done s p c apart frames parent child in
-        leads_alike k a p c s _ _ _ _
+        let behind = made done s p c fork.apart shown.frames shown.parent shown.child in
+        leads_alike
         (ap (λ h. share_turn a p c done h (s.entry p h)) (same_page g page place)
-        ∙ ap (λ o. share_turn a p c done page o) (parent.entry page ∙ entry))
-        (record {
-          says = refl;
-          frames = behind.0;
-          parent = behind.1;
-          child = behind.2;
-          place = ap (λ j. fork_place j (s.prepared a)) (put_here a (forking p c (page ∷ done) between) (put a (forking p c done (cleared page)) (put a (forking p c done (lowered page)) s.job)));
-          birth = stands.0.birth;
-        })
+        ∙ ap (λ o. share_turn a p c done page o) (shown.parent.entry page ∙ entry))
+        (leads_there k refl behind
+        (ap (λ j. fork_place j (s.prepared a)) (put_here a (forking p c (page ∷ done) between) (put a (forking p c done (cleared page)) (put a (forking p c done (lowered page)) s.job))))
+        stands.0.birth)
     go idle stands place = absurd (cc)
     go (forking q d done between) stands place = absurd (cc)
     go (forking q d done (lowered g)) stands place = absurd stands
@@ -252,26 +245,25 @@ none_past from test past = let none : 2 ^ 35 - from ≡ 0 = omega arith in rw no
 -- ---- what the code has at hand
 
 -- the same turn with other notes
-pub notes_alike : (k : ForkChange) (a p c : ℕ) (old new : ForkPlace) (whats other : List What) → other ≡ whats → IsForkTurn k a p c old new whats → IsForkTurn k a p c old new other
-notes_alike k a p c old new whats other same h s apart frames parent child keeps stands place =
-    subst (λ (ws : List What). LeadsFork k a p c s (fork_turn s a p c (s.job a)) new ws) (sym same) (h s apart frames parent child keeps stands place)
+pub notes_alike : (k : ForkChange) (a p c : ℕ) (old new : ForkPlace) (whats other : List What) → other ≡ whats → IsForking k a p c old new whats → IsForking k a p c old new other
+notes_alike k a p c old new whats other same h = subst (λ (ws : List What). IsForking k a p c old new ws) (sym same) h
 
 -- the same events, with the parent in other words
 pub other_parent : (F F' : FramesValue) (P P' P'' C C' : SpaceValue) (events : (p c : ℕ) → List CoreEvent) → P'' ≡ P' → AreForkEvents (change F F' P P' C C') events → AreForkEvents (change F F' P P'' C C') events
 other_parent F F' P P' P'' C C' events same h =
     subst (λ (x : SpaceValue). AreForkEvents (change F F' P x C C') events) (sym same) h
 
-pub count_turned : (F : FramesValue) (P P' C : SpaceValue) (a p c from page : ℕ) (copied : Bool) → lowest from (page_numbers - from) (λ g. is_some (C.right g)) ≡ Some page → IsSome (P.entry page) → ((e : Entry) → P.entry page ≡ Some e → copied ≡ copies_frame F P e.frame) → P' ≡ record P { table = Some a } → IsForkTurn (change F F P P' C C) a p c (from_page from) (counted_place copied page) (Silent ∷ [])
+pub count_turned : (F : FramesValue) (P P' C : SpaceValue) (a p c from page : ℕ) (copied : Bool) → lowest from (page_numbers - from) (λ g. is_some (C.right g)) ≡ Some page → IsSome (P.entry page) → ((e : Entry) → P.entry page ≡ Some e → copied ≡ copies_frame F P e.frame) → P' ≡ record P { table = Some a } → IsForking (change F F P P' C C) a p c (from_page from) (counted_place copied page) (Silent ∷ [])
 count_turned F P P' C a p c from page copied found some is locked = go (P.entry page) refl some
   where
-    go : (entry : Option Entry) → P.entry page ≡ entry → IsSome entry → IsForkTurn (change F F P P' C C) a p c (from_page from) (counted_place copied page) (Silent ∷ [])
+    go : (entry : Option Entry) → P.entry page ≡ entry → IsSome entry → IsForking (change F F P P' C C) a p c (from_page from) (counted_place copied page) (Silent ∷ [])
     go None entry some = absurd (cc)
     go (Some e) entry some = page_counted F P P' C a p c from page e copied found entry (is e entry) locked
 
-pub share_turned : (k : ForkChange) (a p c page : ℕ) → IsSome (k.old_parent.entry page) → ((done : List ℕ) (e : Entry) → k.old_parent.entry page ≡ Some e → AreForkEvents k (λ q d. shares a q d done page e)) → IsForkTurn k a p c (at_page page) (from_page (page + 1)) (Event (events.ForkPage p c page) ∷ [])
+pub share_turned : (k : ForkChange) (a p c page : ℕ) → IsSome (k.old_parent.entry page) → ((done : List ℕ) (e : Entry) → k.old_parent.entry page ≡ Some e → AreForkEvents k (λ q d. shares a q d done page e)) → IsForking k a p c (at_page page) (from_page (page + 1)) (Event (events.ForkPage p c page) ∷ [])
 share_turned k a p c page some made = go (k.old_parent.entry page) refl some
   where
-    go : (entry : Option Entry) → k.old_parent.entry page ≡ entry → IsSome entry → IsForkTurn k a p c (at_page page) (from_page (page + 1)) (Event (events.ForkPage p c page) ∷ [])
+    go : (entry : Option Entry) → k.old_parent.entry page ≡ entry → IsSome entry → IsForking k a p c (at_page page) (from_page (page + 1)) (Event (events.ForkPage p c page) ∷ [])
     go None entry some = absurd (cc)
     go (Some e) entry some = page_shared k a p c page e entry (λ done. made done e entry)
 

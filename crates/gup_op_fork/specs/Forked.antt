@@ -1,4 +1,4 @@
--- Where a fork stands between two turns, as the machine keeps it, and what a turn of one is.
+-- Where a fork stands between two turns, as the machine keeps it, and what a turn of one is over.
 use Rattle.std.specs.Prelude.{◌≡◌, ℕ, ◌≤◌, List, ◌∷◌, Some, None, IsSome}
 use Rattle.gup_plain.specs.Event.{words}
 use Rattle.gup_plain.specs.State.{Birth, growing, born, failed}
@@ -6,14 +6,10 @@ use Rattle.gup_plain.specs.declared.event.PlainEvent.TheVariants as events
 use Rattle.gup_plain.specs.declared.note.What.{What}
 use Rattle.gup_plain.specs.declared.note.What.TheVariants.{Event}
 use Rattle.gup_base.specs.declared.entry.Entry.{Entry}
-use Rattle.gup_frames.specs.Frames.{FramesValue, IsFrame}
-use Rattle.gup_space.specs.Space.{SpaceValue}
+use Rattle.gup_frames.specs.Frames.{FramesValue, FrameLists, frames_of, IsFrame}
+use Rattle.gup_space.specs.Space.{SpaceValue, SpaceParts, space_of}
 use Rattle.gup_space.specs.Shows.{ShowsFrames, ShowsSpace}
-use Rattle.gup_fork.specs.Forks.{ForkChange}
 use Rattle.gup_spec_events.specs.State.{CoreState}
-use Rattle.gup_spec_events.specs.Event.{run}
-use Rattle.gup_spec_turns.specs.CoreTurn.{CoreTurn}
-use Rattle.gup_spec_turns.specs.ForkTurns.{fork_turn}
 use Rattle.gup_spec_turns.specs.ForkPlace.{ForkPlace, place_in, KeepsFrame, StandsFork, unbegun, from_page, at_page, wants_frame, at_word}
 use Rattle.gup_op_fork.specs.declared.forks.ForkPlace.{ForkPlace as KeptPlace}
 use Rattle.gup_op_fork.specs.declared.forks.ForkPlace.TheVariants.{Unbegun, From, At, Wanting, Copying}
@@ -49,19 +45,28 @@ birth_behind parent (Event (events.ForkEnd p c) ∷ whats) = born
 birth_behind parent (Event (events.ForkFail c) ∷ whats) = failed
 birth_behind parent whats = growing parent
 
--- From this state the turn of a fork leads to frames, a parent and a child as they are after the change, and says this.
-pub record LeadsFork (k : ForkChange) (a p c : ℕ) (s : CoreState) (turn : CoreTurn) (new : ForkPlace) (whats : List What) : Type 0 where
-  pub says : turn.whats ≡ whats
-  pub frames : ShowsFrames k.new_frames (run s turn.events)
-  pub parent : ShowsSpace p k.new_parent (run s turn.events)
-  pub child : ShowsSpace c k.new_child (run s turn.events)
-  pub place : place_in (run s turn.events) a ≡ new
-  pub birth : (run s turn.events).birth c ≡ birth_behind p whats
+-- frames, a parent and its child, where the fork stands, and what the child is
+pub record ForkingView : Type 0 where
+  pub frames : FramesValue
+  pub parent : SpaceValue
+  pub child : SpaceValue
+  pub place : ForkPlace
+  pub birth : Birth
 
--- So it is in whatever state they stand as two processes, where the fork stands at this place.
-abbrev pub IsForkTurn : ForkChange → (a p child : ℕ) → (old new : ForkPlace) → List What → Type 0
-IsForkTurn k a p child old new whats =
-    (s : CoreState)
-    → (p ≡ child → ⊥) → ShowsFrames k.old_frames s → ShowsSpace p k.old_parent s → ShowsSpace child k.old_child s
-    → KeepsFrame (s.job a) (s.prepared a) → StandsFork s a p child (s.job a) (s.prepared a) → place_in s a ≡ old
-    → LeadsFork k a p child s (fork_turn s a p child (s.job a)) new whats
+abbrev pub forking_view : FrameLists → (parent child : SpaceParts) → ForkPlace → Birth → ForkingView
+forking_view frames parent child place birth =
+    record { frames = frames_of frames; parent = space_of parent; child = space_of child; place = place; birth = birth }
+
+-- the state has all that, of actor a's fork of process p into process c
+pub record ShowsForking (a p c : ℕ) (view : ForkingView) (s : CoreState) : Type 0 where
+  pub frames : ShowsFrames view.frames s
+  pub parent : ShowsSpace p view.parent s
+  pub child : ShowsSpace c view.child s
+  pub place : place_in s a ≡ view.place
+  pub birth : s.birth c ≡ view.birth
+
+-- parent and child are two processes; the actor is in the middle of their fork, or it has not begun
+pub record StandsAsFork (a p c : ℕ) (s : CoreState) : Type 0 where
+  pub apart : p ≡ c → ⊥
+  pub keeps : KeepsFrame (s.job a) (s.prepared a)
+  pub at : StandsFork s a p c (s.job a) (s.prepared a)

@@ -4,14 +4,16 @@ ghost use Rattle.gup_base.specs.declared.entry.Allowed.TheVariants.{Any};
 ghost use Rattle.gup_base.specs.declared.entry.Rights.{Rights as RightsValue};
 ghost use Rattle.gup_plain.specs.Event.{page_numbers, words};
 ghost use Rattle.gup_plain.specs.Put.{lowest};
+ghost use Rattle.gup_plain.specs.State.{Birth};
 ghost use Rattle.gup_frames.specs.Frames.{FrameLists, frames_of, free_frame};
 ghost use Rattle.gup_space.specs.Space.{SpaceParts, space_of, AreMapped};
 ghost use Rattle.gup_space.specs.Counted.{AreCounted};
-ghost use Rattle.gup_fork.specs.Forks.{fork_change_of};
+ghost use Rattle.gup_spec_turns.specs.ForkTurns.{fork_turn};
 ghost use Rattle.gup_spec_turns.specs.ForkPlace.{unbegun, from_page, at_page, wants_frame, at_word};
 ghost use Rattle.gup_op_base.specs.Tidy.{IsTidy};
 ghost use Rattle.gup_op_base.specs.Said.{whats_of};
-ghost use Rattle.gup_op_fork.specs.Forked.{place_of, IsCountedIn, IsCopyOf, IsReadyAt, IsForkTurn};
+ghost use Rattle.gup_op_base.specs.Turns.{IsTurnOf};
+ghost use Rattle.gup_op_fork.specs.Forked.{place_of, IsCountedIn, IsCopyOf, IsReadyAt, birth_behind, ShowsForking, StandsAsFork, forking_view};
 
 use gup_base::{ActorNo, Allowed, FrameNo, PageNo, ProcNo, WordNo};
 use gup_fork::{begin, copies, copy_word, end, fail, place_child, share};
@@ -66,8 +68,11 @@ pub fn fork(
     requires sequence { (space_of parent.old).sequence < 2 ^ 40 }
     requires few { (f : ℕ) → (frames_of frames.old).count f < 2 ^ 40 }
     requires place { IsReadyAt (frames_of frames.old) actor (place_of place) (space_of parent.old) (space_of child.old) }
-    ensures { IsForkTurn (fork_change_of frames.old frames.new parent.old parent.new child.old child.new)
-        actor proc child_no (place_of place) (place_of result.1) (whats_of result.0) }
+    ensures { (birth : Birth)
+        → IsTurnOf (ShowsForking actor proc child_no) (StandsAsFork actor proc child_no)
+        (forking_view frames.old parent.old child.old (place_of place) birth)
+        (forking_view frames.new parent.new child.new (place_of result.1) (birth_behind proc (whats_of result.0)))
+        (λ s. fork_turn s actor proc child_no (s.job actor)) (whats_of result.0) }
 {
     match place {
         ForkPlace::Unbegun => first_turn(parent, child, actor, proc, child_no),
@@ -89,9 +94,11 @@ fn first_turn(
     child_no: ProcNo,
 ) -> (Said, ForkPlace)
     requires { (space_of parent.old).sequence < 2 ^ 40 }
-    ensures { (frames : FrameLists)
-        → IsForkTurn (fork_change_of frames frames parent.old parent.new child.old child.new)
-        actor proc child_no unbegun (place_of result.1) (whats_of result.0) }
+    ensures { (frames : FrameLists) (birth : Birth)
+        → IsTurnOf (ShowsForking actor proc child_no) (StandsAsFork actor proc child_no)
+        (forking_view frames parent.old child.old unbegun birth)
+        (forking_view frames parent.new child.new (place_of result.1) (birth_behind proc (whats_of result.0)))
+        (λ s. fork_turn s actor proc child_no (s.job actor)) (whats_of result.0) }
 {
     begin(parent, child);
     parent.set_structure(Some(actor));
@@ -115,8 +122,11 @@ fn next_turn(
     requires parent { IsTidy (frames_of frames.now) (space_of parent.old) }
     requires child { IsTidy (frames_of frames.now) (space_of child.now) }
     requires sequence { (space_of parent.old).sequence < 2 ^ 40 }
-    ensures { IsForkTurn (fork_change_of frames.now frames.now parent.old parent.new child.now child.now)
-        actor proc child_no (from_page from) (place_of result.1) (whats_of result.0) }
+    ensures { (birth : Birth)
+        → IsTurnOf (ShowsForking actor proc child_no) (StandsAsFork actor proc child_no)
+        (forking_view frames.now parent.old child.now (from_page from) birth)
+        (forking_view frames.now parent.new child.now (place_of result.1) (birth_behind proc (whats_of result.0)))
+        (λ s. fork_turn s actor proc child_no (s.job actor)) (whats_of result.0) }
 {
     let Some(page) = next_page(child, from) else {
         return last_turn(parent, proc, child_no);
@@ -141,8 +151,10 @@ fn count_turn(
     requires entry { IsSome ((space_of parent.old).entry page) }
     ensures { (p c from : ℕ) (child : SpaceParts)
         → lowest from (page_numbers - from) (λ g. is_some ((space_of child).right g)) ≡ Some page
-        → IsForkTurn (fork_change_of frames.now frames.now parent.old parent.new child child) actor p c
-        (from_page from) (place_of result.1) (whats_of result.0) }
+        → (birth : Birth) → IsTurnOf (ShowsForking actor p c) (StandsAsFork actor p c)
+        (forking_view frames.now parent.old child (from_page from) birth)
+        (forking_view frames.now parent.new child (place_of result.1) (birth_behind p (whats_of result.0)))
+        (λ s. fork_turn s actor p c (s.job actor)) (whats_of result.0) }
 {
     let copied = copies(parent, frames, page);
     parent.set_table(Some(actor));
@@ -169,8 +181,10 @@ fn last_turn(parent: &mut Space, proc: ProcNo, child_no: ProcNo) -> (Said, ForkP
     requires { (space_of parent.old).sequence < 2 ^ 40 }
     ensures { (a from : ℕ) (frames : FrameLists) (child : SpaceParts)
         → lowest from (page_numbers - from) (λ page. is_some ((space_of child).right page)) ≡ None
-        → IsForkTurn (fork_change_of frames frames parent.old parent.new child child) a proc child_no
-        (from_page from) (place_of result.1) (whats_of result.0) }
+        → (birth : Birth) → IsTurnOf (ShowsForking a proc child_no) (StandsAsFork a proc child_no)
+        (forking_view frames parent.old child (from_page from) birth)
+        (forking_view frames parent.new child (place_of result.1) (birth_behind proc (whats_of result.0)))
+        (λ s. fork_turn s a proc child_no (s.job a)) (whats_of result.0) }
 {
     end(parent);
     parent.set_structure(None);
@@ -194,8 +208,11 @@ fn share_turn(
     requires child { IsTidy (frames_of frames.old) (space_of child.old) }
     requires few { (f : ℕ) → (frames_of frames.old).count f < 2 ^ 40 }
     requires ready { IsCountedIn page (space_of parent.old) (space_of child.old) }
-    ensures { (a : ℕ) → IsForkTurn (fork_change_of frames.old frames.new parent.old parent.new child.old child.new)
-        a proc child_no (at_page page) (place_of result.1) (whats_of result.0) }
+    ensures { (a : ℕ) (birth : Birth)
+        → IsTurnOf (ShowsForking a proc child_no) (StandsAsFork a proc child_no)
+        (forking_view frames.old parent.old child.old (at_page page) birth)
+        (forking_view frames.new parent.new child.new (place_of result.1) (birth_behind proc (whats_of result.0)))
+        (λ s. fork_turn s a proc child_no (s.job a)) (whats_of result.0) }
 {
     child.has_room(page);
     share(parent, child, frames, page);
@@ -217,8 +234,11 @@ fn frame_turn(
 ) -> (Said, ForkPlace)
     requires child { IsTidy (frames_of frames.old) (space_of child.old) }
     requires sequence { (space_of parent.old).sequence < 2 ^ 40 }
-    ensures { (a : ℕ) → IsForkTurn (fork_change_of frames.old frames.new parent.old parent.new child.old child.new)
-        a proc child_no (wants_frame page) (place_of result.1) (whats_of result.0) }
+    ensures { (a : ℕ) (birth : Birth)
+        → IsTurnOf (ShowsForking a proc child_no) (StandsAsFork a proc child_no)
+        (forking_view frames.old parent.old child.old (wants_frame page) birth)
+        (forking_view frames.new parent.new child.new (place_of result.1) (birth_behind proc (whats_of result.0)))
+        (λ s. fork_turn s a proc child_no (s.job a)) (whats_of result.0) }
 {
     let Some(to) = frames.take(Allowed::Any) else {
         return fail_turn(parent, child, frames, proc, child_no);
@@ -238,8 +258,10 @@ fn fail_turn(
     requires mapped { AreMapped (space_of child.old) }
     requires sequence { (space_of parent.old).sequence < 2 ^ 40 }
     ensures { (a page : ℕ) → free_frame (frames_of frames.old) Any ≡ None
-        → IsForkTurn (fork_change_of frames.old frames.new parent.old parent.new child.old child.new)
-        a proc child_no (wants_frame page) (place_of result.1) (whats_of result.0) }
+        → (birth : Birth) → IsTurnOf (ShowsForking a proc child_no) (StandsAsFork a proc child_no)
+        (forking_view frames.old parent.old child.old (wants_frame page) birth)
+        (forking_view frames.new parent.new child.new (place_of result.1) (birth_behind proc (whats_of result.0)))
+        (λ s. fork_turn s a proc child_no (s.job a)) (whats_of result.0) }
 {
     fail(parent, child, frames);
     parent.set_table(None);
@@ -264,8 +286,11 @@ fn copy_turn(
     requires ready { IsCountedIn page (space_of parent.old) (space_of child.old) }
     requires copy { IsCopyOf (frames_of frames.old) page to (space_of parent.old) }
     requires word { word ≤ words }
-    ensures { (a : ℕ) → IsForkTurn (fork_change_of frames.old frames.new parent.old parent.new child.old child.new)
-        a proc child_no (at_word page word to) (place_of result.1) (whats_of result.0) }
+    ensures { (a : ℕ) (birth : Birth)
+        → IsTurnOf (ShowsForking a proc child_no) (StandsAsFork a proc child_no)
+        (forking_view frames.old parent.old child.old (at_word page word to) birth)
+        (forking_view frames.new parent.new child.new (place_of result.1) (birth_behind proc (whats_of result.0)))
+        (λ s. fork_turn s a proc child_no (s.job a)) (whats_of result.0) }
 {
     let Some(next) = WordNo::new(u64::from(word)) else {
         return place_turn(parent, child, frames, page, to);
@@ -293,8 +318,10 @@ fn place_turn(
     requires ready { IsCountedIn page (space_of parent.old) (space_of child.old) }
     requires copy { IsCopyOf (frames_of frames.old) page to (space_of parent.old) }
     ensures { (a p c word : ℕ) → words ≤ word
-        → IsForkTurn (fork_change_of frames.old frames.new parent.old parent.new child.old child.new)
-        a p c (at_word page word to) (place_of result.1) (whats_of result.0) }
+        → (birth : Birth) → IsTurnOf (ShowsForking a p c) (StandsAsFork a p c)
+        (forking_view frames.old parent.old child.old (at_word page word to) birth)
+        (forking_view frames.new parent.new child.new (place_of result.1) (birth_behind p (whats_of result.0)))
+        (λ s. fork_turn s a p c (s.job a)) (whats_of result.0) }
 {
     child.has_room(page);
     place_child(parent, child, frames, page, to);

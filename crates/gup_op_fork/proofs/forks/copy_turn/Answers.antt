@@ -1,4 +1,4 @@
-use Rattle.std.proofs.Common.{◌≡◌, ◌+◌, ◌<◌, ap, ◌∙◌, arith}
+use Rattle.std.proofs.Common.{◌≡◌, ◌+◌, ◌<◌, ◌≤◌, ap, ◌∙◌, arith}
 use Rattle.gup_fork.specs.Forks.{fork_change_of}
 use Rattle.gup_spec_turns.specs.ForkPlace.{at_word}
 use Rattle.gup_op_base.specs.Said.{whats_of}
@@ -15,3 +15,9 @@ returns c a =
     notes_alike k a x.proc x.child_no (at_word x.page x.word x.to) (at_word x.page (x.word + 1) x.to) _ _ (ap whats_of c.happened.ensures)
     (word_turned k a x.proc x.child_no x.page x.word x.to c.in-Some.next same less c.requires.ready.0
     (λ done e entry. c.copy_word.ensures.events a done (x.child.now) e entry))
+
+pub returns-in_default : goal.returns-in_default
+returns-in_default c a =
+    let x = c.args in
+    let all : 512 ≤ x.word = grind (arith, c.in_default.ensures.some, c.from.ensures) in
+    c.place_turn.ensures a x.proc x.child_no x.word all

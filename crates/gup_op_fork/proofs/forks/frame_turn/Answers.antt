@@ -5,8 +5,8 @@ use Rattle.gup_space.specs.Space.{space_of}
 use Rattle.gup_fork.specs.Forks.{fork_change_of}
 use Rattle.gup_spec_turns.specs.ForkPlace.{wants_frame, at_word}
 use Rattle.gup_op_base.specs.Said.{whats_of}
-use Rattle.gup_op_fork.specs.Forked.{place_of, IsForkTurn}
-use Rattle.gup_op_fork.proofs.Forking.{change, notes_alike}
+use Rattle.gup_op_fork.specs.Forked.{place_of}
+use Rattle.gup_op_fork.proofs.Forking.{IsForking, change, notes_alike}
 use Rattle.gup_op_fork.proofs.Copying.{frame_taken}
 use Rattle.gup_op_fork.proofs.forks.frame_turn.Goals as goal
 
@@ -19,7 +19,7 @@ returns-in_default c a =
     let x = c.args in
     let same = c.in_default.ensures.taken in
     subst
-    (λ (frames : FramesValue). IsForkTurn
+    (λ (frames : FramesValue). IsForking
     (change frames (frames_of c.fail_turn.new.frames) (space_of x.parent.now) (space_of c.fail_turn.new.parent) (space_of x.child.now) (space_of c.fail_turn.new.child))
     a x.proc x.child_no (wants_frame x.page) (place_of c.fail_turn.result.1) (whats_of c.fail_turn.result.0))
     same
