@@ -20,16 +20,18 @@ use Rattle.gup_spec_turns.specs.Turn.{op_turn, failed_turn, turn_at, turn_of}
 use Rattle.gup_spec_turns.specs.Waits.{waits_born}
 use Rattle.gup_spec_turns.specs.ForkPlace.{StandsFork, place_in}
 use Rattle.gup_op_fork.specs.declared.forks.ForkPlace.{ForkPlace}
+use Rattle.gup_op_base.specs.Turns.{Leads, IsTurnOf, Anywhere}
+use Rattle.gup_op_base.proofs.Leading.{leads_alike}
 use Rattle.gup_core.specs.declared.births.Birth.{Birth}
 use Rattle.gup_core.specs.declared.births.Birth.TheVariants.{Unborn, Growing, Born, Failed}
 use Rattle.gup_core.specs.declared.parts.Parts.{Parts}
 use Rattle.gup_core.specs.Births.{HasFailed}
 use Rattle.gup_core.specs.Doers.{IsProcessOf}
-use Rattle.gup_core.specs.Goes.{LeadsAll, LeadsBirths, IsTurnOfAll, IsTurnBy, HasSlots}
+use Rattle.gup_core.specs.Goes.{HasSlots}
 use Rattle.gup_core.specs.Machine.{IsBirth, ShowsSpaces, ShowsBirths, ShowsParts}
 use Rattle.gup_core.proofs.Owning.{Pins, pins_of}
 use Rattle.gup_core.proofs.Scripts.{process_of_doer}
-use Rattle.gup_core.proofs.Turning.{there, pins_shown, taken_shown, stores_shown}
+use Rattle.gup_core.proofs.Turning.{IsTurnAmong, IsTurnBy, there, pins_shown, taken_shown, stores_shown}
 use Rattle.gup_core.proofs.Waiting.{born_and_free}
 
 -- ---- which processes have failed
@@ -60,15 +62,15 @@ birth_unfailed births (Some p) who s unfailed within of_who shown is =
 
 pub of_born : (old new : Parts) (a : ℕ) (proc : Option ℕ) (far : ℕ) (op : Op) (place next : ForkPlace) (whats : List What)
     → (HasFailed old.births.items proc → ⊥) → IfSome proc (λ p. p < length old.births.items)
-    → ((p slots : ℕ) → IfSome proc (λ q. q ≡ p) → HasSlots old a slots → IsTurnOfAll old new a p slots far op place whats next)
+    → ((p slots : ℕ) → IfSome proc (λ q. q ≡ p) → HasSlots old a slots → IsTurnAmong old new a p slots far op place whats next)
     → IsTurnBy old new a proc far op place whats next
-of_born old new a proc far op place next whats unfailed within turn s who k own of_who slots sound shown place_is stands far_is free =
+of_born old new a proc far op place next whats unfailed within turn who k rest own of_who slots far_is s shown stands =
     let refused_so : CoreTurn = failed_turn who.actor who.proc op in
-    let other = birth_unfailed old.births.items proc who s unfailed within of_who shown.births in
-    let is_born : birth_for s.birth who ≡ born = (born_and_free (birth_for s.birth who) who.proc (waits_born s who.actor who.proc op) other free).0 in
+    let other = birth_unfailed old.births.items proc who s unfailed within of_who shown.parts.births in
+    let is_born : birth_for s.birth who ≡ born = (born_and_free (birth_for s.birth who) who.proc (waits_born s who.actor who.proc op) other stands.free).0 in
     let is : turn_of s who k op ≡ op_turn s a who.proc who.slots k op =
     ap (λ (b : CoreBirth). turn_at b refused_so (op_turn s who.actor who.proc who.slots k op)) is_born ∙ ap (λ (b : ℕ). op_turn s b who.proc who.slots k op) own in
-    subst (λ (t : CoreTurn). LeadsAll new a s t whats next) (sym is) (turn who.proc who.slots (process_of_doer who proc of_who) slots s k shown place_is stands far_is)
+    leads_alike is (turn who.proc who.slots (process_of_doer who proc of_who) slots k rest far_is s shown stands.at)
 
 -- ---- a refusal
 
@@ -168,31 +170,33 @@ failed_process births (Some p) who s has of_who shown = ap (λ (q : ℕ). s.birt
 
 pub refused : (old new : Parts) (a : ℕ) (proc : Option ℕ) (far : ℕ) (op : Op) (place : ForkPlace) (whats : List What)
     → HasFailed old.births.items proc → new.frames ≡ old.frames → new.spaces ≡ old.spaces → new.handles ≡ old.handles → new.taken ≡ old.taken → new.stores ≡ old.stores
-    → ((s : CoreState) (b p : ℕ) → ShowsBirths old.births.items s → LeadsBirths new.births.items s (failed_turn b p op) whats)
+    → ((b p : ℕ) → IsTurnOf ShowsBirths Anywhere old.births.items new.births.items (λ s. failed_turn b p op) whats)
     → IsTurnBy old new a proc far op place whats place
-refused old new a proc far op place whats has frames spaces handles taken stores turn s who k own of_who slots sound shown place_is stands far_is free =
+refused old new a proc far op place whats has frames spaces handles taken stores turn who k rest own of_who slots far_is s shown stands =
     let p : ℕ = who.proc in
     let t : CoreTurn = failed_turn who.actor p op in
     let made : IsRefusal who.actor p op t.events = refusal who.actor p op in
-    let has_so : birth_for s.birth who ≡ failed = birth_failed old.births.items proc who s has of_who shown.births in
+    let has_so : birth_for s.birth who ≡ failed = birth_failed old.births.items proc who s has of_who shown.parts.births in
     let is : turn_of s who k op ≡ t = ap (λ (b : CoreBirth). turn_at b t (op_turn s who.actor p who.slots k op)) has_so in
     let unmapped : (child : ℕ) → op ≡ Fork child → (g : ℕ) → s.right child g ≡ None =
-    λ child same. no_maps s a p child (s.job a) (s.prepared a) sound (stands.fork child same) refl (failed_process old.births.items proc who s has of_who shown.births) in
-    let led : LeadsBirths new.births.items s t whats = turn s who.actor p shown.births in
+    λ child same. no_maps s a p child (s.job a) (s.prepared a) stands.sound (stands.at.fork child same) refl (failed_process old.births.items proc who s has of_who shown.parts.births) in
+    let led : Leads ShowsBirths new.births.items s t whats = turn who.actor p s shown.parts.births tt in
     let stay : pins_of (run s t.events) ≡ pins_of s = pins_left who.actor p op s made in
     let parts : ShowsParts new (run s t.events) =
     record {
-      frames = subst (λ fs. ShowsFrames (frames_of fs) (run s t.events)) (sym frames) (frames_left who.actor p op (frames_of old.frames) s made shown.frames);
-      spaces = subst (λ xs. ShowsSpaces xs.items (run s t.events)) (sym spaces) (λ q space found. space_left who.actor p op q space s made unmapped (shown.spaces q space found));
-      births = led.births;
-      pins = pins_shown old new s (run s t.events) handles stay shown.pins;
-      taken = taken_shown old new s (run s t.events) taken (ap (λ (k : Pins). k.2) stay) shown.taken;
-      stores = stores_shown old new s (run s t.events) stores (ap (λ (k : Pins). k.3) stay) shown.stores;
+      frames = subst (λ fs. ShowsFrames (frames_of fs) (run s t.events)) (sym frames) (frames_left who.actor p op (frames_of old.frames) s made shown.parts.frames);
+      spaces = subst (λ xs. ShowsSpaces xs.items (run s t.events)) (sym spaces) (λ q space found. space_left who.actor p op q space s made unmapped (shown.parts.spaces q space found));
+      births = led.shown;
+      pins = pins_shown old new s (run s t.events) handles stay shown.parts.pins;
+      taken = taken_shown old new s (run s t.events) taken (ap (λ (k : Pins). k.2) stay) shown.parts.taken;
+      stores = stores_shown old new s (run s t.events) stores (ap (λ (k : Pins). k.3) stay) shown.parts.stores;
     } in
-    subst (λ (u : CoreTurn). LeadsAll new a s u whats place) (sym is)
+    leads_alike is
     (record {
       says = led.says;
-      parts = parts;
-      fork = place_is ∙ sym (places_left who.actor p op s made a);
-      others = λ b apart. places_left who.actor p op s made b;
+      shown = record {
+        parts = parts;
+        fork = shown.fork ∙ sym (places_left who.actor p op s made a);
+        others = λ b apart. places_left who.actor p op s made b ∙ shown.others b apart;
+      };
     })

@@ -26,16 +26,17 @@ use Rattle.gup_op_base.specs.declared.said.Said.{Said}
 use Rattle.gup_op_base.specs.Far.{far_in}
 use Rattle.gup_op_fork.specs.Forked.{place_of}
 use Rattle.gup_op_base.specs.Said.{whats_by, whats_of}
+use Rattle.gup_op_base.specs.Turns.{Leads}
 use Rattle.gup_core.specs.declared.parts.Parts.{Parts}
 use Rattle.gup_core.specs.declared.seats.Seat.{Seat}
 use Rattle.gup_core.specs.Doers.{IsProcessOf}
-use Rattle.gup_core.specs.Goes.{StandsAt, LeadsAll, IsTurnBy}
+use Rattle.gup_core.specs.Goes.{StandsAt, ShowsAll, all_view}
 use Rattle.gup_core.specs.Machine.{MachineValue, machine_of, counted, ShowsParts, Shows, TakesTurns, AreParts, IsMachine}
 use Rattle.gup_core.specs.Rest.{IsAtRest, op_of_seat}
 use Rattle.gup_core.specs.Seats.{IsSeat, far_behind, seat_behind}
 use Rattle.gup_core.proofs.Notes.{NoTwo, turn_two}
 use Rattle.gup_core.proofs.Resting.{Stand, standing, reached_behind, op_there, stands_at}
-use Rattle.gup_core.proofs.Turning.{differ, replaced}
+use Rattle.gup_core.proofs.Turning.{IsTurnBy, differ, replaced}
 
 -- the number of the next turn
 counted_next : (m t : ℕ) → m ≡ min t (2 ^ 32 - 1) → counted m ≡ min (t + 1) (2 ^ 32 - 1)
@@ -239,17 +240,19 @@ goes m a proc seat next op parts seats turns said fork stand rest of_a here pres
     let free : waiting_for r.core who op ≡ None = ap (λ o. waiting_with r.core who o) (sym op_is) ∙ sym (ready r h) in
     let t : CoreTurn = turn_of r.core who far op in
     let is : core_turn_in m.script r a ≡ t = taken_is m r a op op_is (sym (ready r h)) in
-    let led : LeadsAll parts a r.core t (whats_of said) fork =
-    turn r.core who far refl of_a (rest.parts.slots a) stands.sound h.parts (h.forks a seat here) (stands_at m.script r a op stands op_is) at.1 free in
+    let forks = place_in r.core in
+    let led : Leads (ShowsAll a) (all_view parts fork forks) r.core t (whats_of said) =
+    turn who far forks refl of_a (rest.parts.slots a) at.1 r.core (record { parts = h.parts; fork = h.forks a seat here; others = λ b apart. refl })
+    (record { sound = stands.sound; at = stands_at m.script r a op stands op_is; free = free }) in
     let seated_so : slice_get seats a ≡ Some (seat_behind seat op (is_some said.answer) fork) = seated ∙ ap (λ (s : Seat). Some s) next_is in
     let two : NoTwo (whats_of said) = subst (λ (ws : List What). NoTwo ws) led.says (turn_two (birth_for r.core.birth who) r.core a who.proc who.slots far op) in
     record {
       said = says_so m r a seat turns t (whats_of said) h here count is led.says;
       shown =
-          shows_behind m parts seats turns r a t is h count led.parts
+          shows_behind m parts seats turns r a t is h count led.shown.parts
           (seats_behind m.script r.places m.seats seats a (record { actor = a; whats = t.whats }) (seat_behind seat op (is_some said.answer) fork) refl h.seats unseated seated_so
           (subst (λ (ws : List What). IsSeat (present_op m.script a (place_behind (r.places a) ws)) (place_behind (r.places a) ws) (seat_behind seat op (is_some said.answer) fork)) (sym led.says)
           (seat_next m.script a (r.places a) seat op fork said.event said.next said.answer op_is at two)))
           (forks_behind r.core (run r.core t.events) m.seats seats a (seat_behind seat op (is_some said.answer) fork) h.forks unseated seated_so
-          (ap place_of (fork_of_seat seat op (is_some said.answer) fork) ∙ led.fork) led.others);
+          (ap place_of (fork_of_seat seat op (is_some said.answer) fork) ∙ led.shown.fork) led.shown.others);
     }

@@ -15,33 +15,55 @@ use Rattle.gup_script.specs.declared.op.Op.TheVariants.{Pin, Fork}
 use Rattle.gup_frames.specs.Frames.{FrameLists, frames_of}
 use Rattle.gup_space.specs.Space.{SpaceParts, space_of}
 use Rattle.gup_space.proofs.After.{AreOf}
-use Rattle.gup_space.specs.Shows.{ShowsFrames, ShowsSpace, change_of}
+use Rattle.gup_space.specs.Shows.{ShowsFrames, ShowsSpace}
 use Rattle.gup_space.proofs.ShowsLemmas.{leave_other}
-use Rattle.gup_fork.specs.Forks.{fork_change_of}
 use Rattle.gup_handles.specs.Handles.{handles_of}
 use Rattle.gup_spec_events.specs.State.{CoreState, Taken as TakenPage}
 use Rattle.gup_spec_events.specs.Event.{CoreEvent, taken_frames as frames_taken, run}
 use Rattle.gup_spec_turns.specs.CoreTurn.{CoreTurn}
-use Rattle.gup_spec_turns.specs.Turn.{op_turn}
+use Rattle.gup_spec_turns.specs.Turn.{op_turn, turn_of}
 use Rattle.gup_spec_turns.specs.ForkTurns.{fork_turn}
 use Rattle.gup_spec_turns.specs.PinTurns.{pin_turn}
-use Rattle.gup_spec_turns.specs.ForkPlace.{IsNoFork, fork_place}
+use Rattle.gup_spec_turns.specs.ForkPlace.{ForkPlace as Place, IsNoFork, fork_place}
 use Rattle.gup_op_fork.specs.declared.forks.ForkPlace.{ForkPlace}
 use Rattle.gup_op_base.specs.declared.said.Said.{Said}
-use Rattle.gup_op_pages.specs.Alone.{IsAlone}
+use Rattle.gup_op_pages.specs.Alone.{IsAlone, ShowsAlone, alone_view}
 use Rattle.gup_op_base.specs.Far.{far_in}
-use Rattle.gup_op_fork.specs.Forked.{place_of, birth_behind, LeadsFork, IsForkTurn}
-use Rattle.gup_op_pins.specs.Pins.{IsPin, ShowsPins, LeadsPin, IsPinTurn}
-use Rattle.gup_op_pins.specs.Held.{ShowsStore, LeadsHandle}
-use Rattle.gup_op_base.specs.Said.{answer_what, event_what, whats_by, whats_of, Leads, IsTurnOf}
+use Rattle.gup_op_fork.specs.Forked.{place_of, birth_behind, ShowsForking, StandsAsFork, forking_view}
+use Rattle.gup_op_pins.specs.Pins.{IsPin, ShowsPins, ShowsPinning, StandsAtPage, pinning_view}
+use Rattle.gup_op_pins.specs.Held.{ShowsStore, ShowsHeld, held_view}
+use Rattle.gup_op_base.specs.Said.{answer_what, event_what, whats_by, whats_of}
+use Rattle.gup_op_base.specs.Turns.{Leads, IsTurnOf, Anywhere}
+use Rattle.gup_spec_journal.specs.Place.{Doer}
 use Rattle.gup_core.specs.declared.births.Birth.{Birth}
 use Rattle.gup_core.specs.Births.{birth_said}
 use Rattle.gup_core.specs.declared.parts.Parts.{Parts}
-use Rattle.gup_core.specs.Goes.{StandsAt, IsTurnOfAll, pin_change, handle_change}
+use Rattle.gup_core.specs.Goes.{StandsAt, ShowsAll, StandsFree, all_view, HasSlots}
+use Rattle.gup_core.specs.Doers.{IsProcessOf}
 use Rattle.gup_core.specs.Machine.{ShowsSpaces, IsBirth, ShowsBirths, ShowsTaken, ShowsStores, ShowsParts}
 use Rattle.gup_core.proofs.Owning.{AreOwn, are_of, turn_is_own, births_stay, IsUnforked, forks_stay, Pins, pins_of, own_leave_pins}
 use Rattle.gup_core.proofs.Forking.{AreForking, fork_is_own, fork_leave_pins, fork_leaves_others, fork_births_stay, fork_places_stay}
 use Rattle.gup_core.proofs.Pinning.{ArePinning, pin_is_pinning, pinnings_of, pinnings_births, pinnings_stores, pinnings_taken, pinnings_forks, AreHandling, Rest, rest_of, handling_leave, handlings_of, handlings_stores}
+
+-- ---- turns that are stated more than once
+
+-- the operation's turn, from these parts and this place of its fork to those, wherever the forks of others stand
+abbrev pub IsTurnAmong : (old new : Parts) → (a p slots far : ℕ) → Op → (fork : ForkPlace) → List What → (next : ForkPlace) → Type 0
+IsTurnAmong old new a p slots far op fork whats next =
+    (k : ℕ) (others : ℕ → Place) → far ≡ far_in (Some op) k
+    → IsTurnOf (ShowsAll a) (λ s. StandsAt s a p k op) (all_view old fork others) (all_view new next others) (λ s. op_turn s a p slots k op) whats
+
+-- the actor's turn: the operation's own, or, where its process has failed, its refusal
+abbrev pub IsTurnBy : (old new : Parts) → (a : ℕ) → (proc : Option ℕ) → (far : ℕ) → Op → (fork : ForkPlace) → List What → (next : ForkPlace) → Type 0
+IsTurnBy old new a proc far op fork whats next =
+    (who : Doer) (k : ℕ) (others : ℕ → Place) → who.actor ≡ a → IsProcessOf who proc → HasSlots old a who.slots → far ≡ far_in (Some op) k
+    → IsTurnOf (ShowsAll a) (StandsFree a who k op) (all_view old fork others) (all_view new next others) (λ s. turn_of s who k op) whats
+
+-- a turn of a pin, by what is kept of its process and of what it has taken
+abbrev pub IsPinTurn : (old new : Parts) → (x y : SpaceParts) → (was now : ArrayVec ℕ) → (a p handle page n : ℕ) → (write : Bool) → (far : ℕ) → List What → Type 0
+IsPinTurn old new x y was now a p handle page n write far whats =
+    IsTurnOf (ShowsPinning a p) (StandsAtPage a p handle page n write far) (pinning_view old.frames x old.handles was.items) (pinning_view new.frames y new.handles now.items)
+    (λ s. pin_turn s a p handle page n far write) whats
 
 -- ---- one element of a list
 
@@ -109,30 +131,33 @@ pub alone : (old new : Parts) (a p slots far : ℕ) (op : Op) (fork : ForkPlace)
     → IsAlone op → IsNoFork (Some op) → p < length old.spaces.items → length new.spaces.items ≡ length old.spaces.items
     → new.births ≡ old.births → new.handles ≡ old.handles → new.taken ≡ old.taken → new.stores ≡ old.stores
     → ((q : ℕ) → (q ≡ p → ⊥) → slice_get new.spaces.items q ≡ slice_get old.spaces.items q)
-    → ((was now : SpaceParts) (k : ℕ) → slice_get old.spaces.items p ≡ Some was → slice_get new.spaces.items p ≡ Some now → far ≡ far_in (Some op) k → IsTurnOf (change_of old.frames new.frames was now) p (λ s. op_turn s a p slots k op) whats)
-    → IsTurnOfAll old new a p slots far op fork whats fork
-alone old new a p slots far op fork whats by_itself single within many births handles taken stores others turn s k shown place stands far_is =
+    → ((was now : SpaceParts) (k : ℕ) → slice_get old.spaces.items p ≡ Some was → slice_get new.spaces.items p ≡ Some now → far ≡ far_in (Some op) k → IsTurnOf (ShowsAlone p) Anywhere (alone_view old.frames was) (alone_view new.frames now) (λ s. op_turn s a p slots k op) whats)
+    → IsTurnAmong old new a p slots far op fork whats fork
+alone old new a p slots far op fork whats by_itself single within many births handles taken stores others turn k rest far_is s shown stands =
     let was = there old.spaces.items p within in
     let now = there new.spaces.items p (omega (arith, within, many)) in
     let es : List CoreEvent = (op_turn s a p slots k op).events in
     let own : AreOwn a p es = turn_is_own s a p slots k op by_itself in
     let none : IsUnforked (s.job a) = λ f. ap (λ job. fork_place job f) (stands.idle_job single) in
     let stay : pins_of (run s es) ≡ pins_of s = own_leave_pins a p s es own in
-    let led : Leads (change_of old.frames new.frames was.0 now.0) p s (op_turn s a p slots k op) whats = turn was.0 now.0 k was.1 now.1 far_is s shown.frames (shown.spaces p was.0 was.1) in
+    let led : Leads (ShowsAlone p) (alone_view new.frames now.0) s (op_turn s a p slots k op) whats =
+    turn was.0 now.0 k was.1 now.1 far_is s (record { frames = shown.parts.frames; space = shown.parts.spaces p was.0 was.1 }) tt in
     let parts : ShowsParts new (run s es) =
     record {
-      frames = led.frames;
-      spaces = spaces_behind s p es old.spaces.items new.spaces.items now.0 (are_of a p es own) shown.spaces led.space now.1 others;
-      births = births_shown old new s (run s es) births (births_stay a p s es own) shown.births;
-      pins = pins_shown old new s (run s es) handles stay shown.pins;
-      taken = taken_shown old new s (run s es) taken (ap (λ (k : Pins). k.2) stay) shown.taken;
-      stores = stores_shown old new s (run s es) stores (ap (λ (k : Pins). k.3) stay) shown.stores;
+      frames = led.shown.frames;
+      spaces = spaces_behind s p es old.spaces.items new.spaces.items now.0 (are_of a p es own) shown.parts.spaces led.shown.space now.1 others;
+      births = births_shown old new s (run s es) births (births_stay a p s es own) shown.parts.births;
+      pins = pins_shown old new s (run s es) handles stay shown.parts.pins;
+      taken = taken_shown old new s (run s es) taken (ap (λ (k : Pins). k.2) stay) shown.parts.taken;
+      stores = stores_shown old new s (run s es) stores (ap (λ (k : Pins). k.3) stay) shown.parts.stores;
     } in
     record {
       says = led.says;
-      parts = parts;
-      fork = place ∙ sym (forks_stay a p a s es own none);
-      others = λ b apart. forks_stay a p b s es own none;
+      shown = record {
+        parts = parts;
+        fork = shown.fork ∙ sym (forks_stay a p a s es own none);
+        others = λ b apart. forks_stay a p b s es own none ∙ shown.others b apart;
+      };
     }
 
 -- ---- a turn of a pin
@@ -144,9 +169,9 @@ pub pinned : (old new : Parts) (a p slots far handle page n : ℕ) (write : Bool
     → ((q : ℕ) → (q ≡ p → ⊥) → slice_get new.spaces.items q ≡ slice_get old.spaces.items q)
     → ((b : ℕ) → (b ≡ a → ⊥) → slice_get new.taken.items b ≡ slice_get old.taken.items b)
     → ((x y : SpaceParts) (was now : ArrayVec ℕ) → slice_get old.spaces.items p ≡ Some x → slice_get new.spaces.items p ≡ Some y → slice_get old.taken.items a ≡ Some was → slice_get new.taken.items a ≡ Some now
-    → IsPinTurn (pin_change old new x y was now) a p handle page n write far whats)
-    → IsTurnOfAll old new a p slots far (Pin handle page n write) fork whats fork
-pinned old new a p slots far handle page n write fork whats within many taker takers births stores others untaken turn s k shown place stands far_is =
+    → IsPinTurn old new x y was now a p handle page n write far whats)
+    → IsTurnAmong old new a p slots far (Pin handle page n write) fork whats fork
+pinned old new a p slots far handle page n write fork whats within many taker takers births stores others untaken turn k rest far_is s shown stands =
     let x = there old.spaces.items p within in
     let y = there new.spaces.items p (omega (arith, within, many)) in
     let was = there old.taken.items a taker in
@@ -154,88 +179,96 @@ pinned old new a p slots far handle page n write fork whats within many taker ta
     let es : List CoreEvent = (pin_turn s a p handle page n k write).events in
     let own : ArePinning a p es = pin_is_pinning s a p handle page n k write in
     let none : IsUnforked (s.job a) = λ f. ap (λ job. fork_place job f) (stands.idle_job tt) in
-    let turn_at : IsPinTurn (pin_change old new x.0 y.0 was.0 now.0) a p handle page n write k whats =
-    subst (λ (q : ℕ). IsPinTurn (pin_change old new x.0 y.0 was.0 now.0) a p handle page n write q whats) far_is (turn x.0 y.0 was.0 now.0 x.1 y.1 was.1 now.1) in
-    let led : LeadsPin (pin_change old new x.0 y.0 was.0 now.0) a p s (pin_turn s a p handle page n k write) whats =
-    turn_at s shown.frames (shown.spaces p x.0 x.1) shown.pins (shown.taken a was.0 was.1) (stands.pin handle page n write refl) (stands.pinned handle page n write refl) in
+    let turn_at : IsPinTurn old new x.0 y.0 was.0 now.0 a p handle page n write k whats =
+    subst (λ (q : ℕ). IsPinTurn old new x.0 y.0 was.0 now.0 a p handle page n write q whats) far_is (turn x.0 y.0 was.0 now.0 x.1 y.1 was.1 now.1) in
+    let led : Leads (ShowsPinning a p) (pinning_view new.frames y.0 new.handles now.0.items) s (pin_turn s a p handle page n k write) whats =
+    turn_at s (record { frames = shown.parts.frames; space = shown.parts.spaces p x.0 x.1; pins = shown.parts.pins; taken = shown.parts.taken a was.0 was.1 })
+    (record { at = stands.pin handle page n write refl; flagged = stands.pinned handle page n write refl }) in
     let parts : ShowsParts new (run s es) =
     record {
-      frames = led.frames;
-      spaces = spaces_behind s p es old.spaces.items new.spaces.items y.0 (pinnings_of a p es own) shown.spaces led.space y.1 others;
-      births = births_shown old new s (run s es) births (pinnings_births a p s es own) shown.births;
-      pins = led.pins;
+      frames = led.shown.frames;
+      spaces = spaces_behind s p es old.spaces.items new.spaces.items y.0 (pinnings_of a p es own) shown.parts.spaces led.shown.space y.1 others;
+      births = births_shown old new s (run s es) births (pinnings_births a p s es own) shown.parts.births;
+      pins = led.shown.pins;
       taken =
-          replaced (λ b (pages : ArrayVec ℕ). frames_taken ((run s es).taken b) ≡ pages.items) old.taken.items new.taken.items a now.0 now.1 untaken led.taken
-          (λ b pages apart found. ap frames_taken (pinnings_taken a p b s es apart own) ∙ shown.taken b pages found);
-      stores = stores_shown old new s (run s es) stores (pinnings_stores a p s es own) shown.stores;
+          replaced (λ b (pages : ArrayVec ℕ). frames_taken ((run s es).taken b) ≡ pages.items) old.taken.items new.taken.items a now.0 now.1 untaken led.shown.taken
+          (λ b pages apart found. ap frames_taken (pinnings_taken a p b s es apart own) ∙ shown.parts.taken b pages found);
+      stores = stores_shown old new s (run s es) stores (pinnings_stores a p s es own) shown.parts.stores;
     } in
     record {
       says = led.says;
-      parts = parts;
-      fork = place ∙ sym (pinnings_forks a p a s es own none);
-      others = λ b apart. pinnings_forks a p b s es own none;
+      shown = record {
+        parts = parts;
+        fork = shown.fork ∙ sym (pinnings_forks a p a s es own none);
+        others = λ b apart. pinnings_forks a p b s es own none ∙ shown.others b apart;
+      };
     }
 
 -- ---- a turn of an operation on a pin
 
--- what such a turn leads to
-pub record LeadsPart (new : Parts) (s : CoreState) (turn : CoreTurn) (whats : List What) : Type 0 where
-  pub says : turn.whats ≡ whats
-  pub frames : ShowsFrames (frames_of new.frames) (run s turn.events)
-  pub pins : ShowsPins (handles_of new.handles) (run s turn.events)
-  pub stores : ShowsStores new.stores.items (run s turn.events)
+-- what such a turn is over
+pub record ShowsPart (parts : Parts) (s : CoreState) : Type 0 where
+  pub frames : ShowsFrames (frames_of parts.frames) s
+  pub pins : ShowsPins (handles_of parts.handles) s
+  pub stores : ShowsStores parts.stores.items s
 
 pub handled : (old new : Parts) (a p slots far : ℕ) (op : Op) (fork : ForkPlace) (whats : List What)
     → IsNoFork (Some op) → new.spaces ≡ old.spaces → new.births ≡ old.births → new.taken ≡ old.taken
     → ((s : CoreState) (k : ℕ) → AreHandling a (op_turn s a p slots k op).events)
-    → ((s : CoreState) (k : ℕ) → ShowsParts old s → StandsAt s a p k op → far ≡ far_in (Some op) k → LeadsPart new s (op_turn s a p slots k op) whats)
-    → IsTurnOfAll old new a p slots far op fork whats fork
-handled old new a p slots far op fork whats single spaces births taken handling turn s k shown place stands far_is =
+    → ((s : CoreState) (k : ℕ) → ShowsParts old s → StandsAt s a p k op → far ≡ far_in (Some op) k → Leads ShowsPart new s (op_turn s a p slots k op) whats)
+    → IsTurnAmong old new a p slots far op fork whats fork
+handled old new a p slots far op fork whats single spaces births taken handling turn k rest far_is s shown stands =
     let es : List CoreEvent = (op_turn s a p slots k op).events in
     let own : AreHandling a es = handling s k in
     let stay : rest_of (run s es) ≡ rest_of s = handling_leave a s es own in
-    let led : LeadsPart new s (op_turn s a p slots k op) whats = turn s k shown stands far_is in
+    let led : Leads ShowsPart new s (op_turn s a p slots k op) whats = turn s k shown.parts stands far_is in
     let parts : ShowsParts new (run s es) =
     record {
-      frames = led.frames;
+      frames = led.shown.frames;
       spaces = λ q space found.
           leave_other (q + 1) q (space_of space) s es (λ is. absurd (omega (arith, is))) (handlings_of a (q + 1) es own)
-          (shown.spaces q space (ap (λ xs. slice_get xs.items q) (sym spaces) ∙ found));
-      births = births_shown old new s (run s es) births (ap (λ (k : Rest). k.0) stay) shown.births;
-      pins = led.pins;
-      taken = taken_shown old new s (run s es) taken (ap (λ (k : Rest). k.1) stay) shown.taken;
-      stores = led.stores;
+          (shown.parts.spaces q space (ap (λ xs. slice_get xs.items q) (sym spaces) ∙ found));
+      births = births_shown old new s (run s es) births (ap (λ (k : Rest). k.0) stay) shown.parts.births;
+      pins = led.shown.pins;
+      taken = taken_shown old new s (run s es) taken (ap (λ (k : Rest). k.1) stay) shown.parts.taken;
+      stores = led.shown.stores;
     } in
     record {
       says = led.says;
-      parts = parts;
-      fork = place ∙ ap (λ (k : Rest). fork_place (k.2 a) (k.3 a)) (sym stay);
-      others = λ b apart. ap (λ (k : Rest). fork_place (k.2 b) (k.3 b)) stay;
+      shown = record {
+        parts = parts;
+        fork = shown.fork ∙ ap (λ (k : Rest). fork_place (k.2 a) (k.3 a)) (sym stay);
+        others = λ b apart. ap (λ (k : Rest). fork_place (k.2 b) (k.3 b)) stay ∙ shown.others b apart;
+      };
     }
 
 -- an operation that leaves stores alone
 pub leads_part : (old new : Parts) (a : ℕ) (s : CoreState) (turn : CoreTurn) (whats : List What)
-    → new.stores ≡ old.stores → (run s turn.events).store ≡ s.store → ShowsParts old s → LeadsHandle (handle_change old new None None) a s turn whats → LeadsPart new s turn whats
+    → new.stores ≡ old.stores → (run s turn.events).store ≡ s.store → ShowsParts old s → Leads (ShowsHeld a) (held_view new.frames new.handles None) s turn whats → Leads ShowsPart new s turn whats
 leads_part old new a s turn whats same stay shown led =
     record {
       says = led.says;
-      frames = led.frames;
-      pins = led.pins;
-      stores = stores_shown old new s (run s turn.events) same stay shown.stores;
+      shown = record {
+        frames = led.shown.frames;
+        pins = led.shown.pins;
+        stores = stores_shown old new s (run s turn.events) same stay shown.stores;
+      };
     }
 
 -- one that changes the actor's own
-pub leads_store : (old new : Parts) (a : ℕ) (s : CoreState) (turn : CoreTurn) (whats : List What) (was now : Option (List ℕ)) → slice_get new.stores.items a ≡ Some now
+pub leads_store : (old new : Parts) (a : ℕ) (s : CoreState) (turn : CoreTurn) (whats : List What) (now : Option (List ℕ)) → slice_get new.stores.items a ≡ Some now
     → ((b : ℕ) → (b ≡ a → ⊥) → slice_get new.stores.items b ≡ slice_get old.stores.items b)
-    → AreHandling a turn.events → ShowsParts old s → LeadsHandle (handle_change old new was now) a s turn whats → LeadsPart new s turn whats
-leads_store old new a s turn whats was now here others own shown led =
+    → AreHandling a turn.events → ShowsParts old s → Leads (ShowsHeld a) (held_view new.frames new.handles now) s turn whats → Leads ShowsPart new s turn whats
+leads_store old new a s turn whats now here others own shown led =
     record {
       says = led.says;
-      frames = led.frames;
-      pins = led.pins;
-      stores =
-          replaced (λ b store. ShowsStore b store (run s turn.events)) old.stores.items new.stores.items a now here others led.store
-          (λ b store apart found. store_shown b store s (run s turn.events) (λ slot. handlings_stores a b slot s turn.events apart own) (shown.stores b store found));
+      shown = record {
+        frames = led.shown.frames;
+        pins = led.shown.pins;
+        stores =
+            replaced (λ b store. ShowsStore b store (run s turn.events)) old.stores.items new.stores.items a now here others led.shown.store
+            (λ b store apart found. store_shown b store s (run s turn.events) (λ slot. handlings_stores a b slot s turn.events apart own) (shown.stores b store found));
+      };
     }
 
 -- ---- a turn of a fork
@@ -301,7 +334,9 @@ abbrev pub IsForkTurns : (old_frames new_frames : FrameLists) → (before behind
 IsForkTurns old_frames new_frames before behind a p c place next whats =
     (old_parent new_parent old_child new_child : SpaceParts)
     → slice_get before p ≡ Some old_parent → slice_get behind p ≡ Some new_parent → slice_get before c ≡ Some old_child → slice_get behind c ≡ Some new_child
-    → IsForkTurn (fork_change_of old_frames new_frames old_parent new_parent old_child new_child) a p c (place_of place) (place_of next) whats
+    → (birth : CoreBirth) → IsTurnOf (ShowsForking a p c) (StandsAsFork a p c)
+    (forking_view old_frames old_parent old_child (place_of place) birth) (forking_view new_frames new_parent new_child (place_of next) (birth_behind p whats))
+    (λ s. fork_turn s a p c (s.job a)) whats
 
 pub forked : (old new : Parts) (a p c slots far : ℕ) (place next : ForkPlace) (said : Said)
     → (p ≡ c → ⊥) → p < length old.spaces.items → c < length old.spaces.items → length new.spaces.items ≡ length old.spaces.items
@@ -309,8 +344,8 @@ pub forked : (old new : Parts) (a p c slots far : ℕ) (place next : ForkPlace) 
     → ((q : ℕ) → (q ≡ p → ⊥) → (q ≡ c → ⊥) → slice_get new.spaces.items q ≡ slice_get old.spaces.items q)
     → IsForkTurns old.frames new.frames old.spaces.items new.spaces.items a p c place next (whats_of said)
     → slice_get new.births.items c ≡ Some (birth_said (option_or said.event said.next)) → ((q : ℕ) → (q ≡ c → ⊥) → slice_get new.births.items q ≡ slice_get old.births.items q)
-    → IsTurnOfAll old new a p slots far (Fork c) place (whats_of said) next
-forked old new a p c slots far place next said apart p_in c_in many handles taken stores others turn born_now unborn_others s k shown at stands far_is =
+    → IsTurnAmong old new a p slots far (Fork c) place (whats_of said) next
+forked old new a p c slots far place next said apart p_in c_in many handles taken stores others turn born_now unborn_others k rest far_is s shown stands =
     let old_parent = there old.spaces.items p p_in in
     let old_child = there old.spaces.items c c_in in
     let new_parent = there new.spaces.items p (omega (arith, p_in, many)) in
@@ -318,21 +353,25 @@ forked old new a p c slots far place next said apart p_in c_in many handles take
     let t : CoreTurn = fork_turn s a p c (s.job a) in
     let own : AreForking a p c t.events = fork_is_own s a p c (s.job a) in
     let stay : pins_of (run s t.events) ≡ pins_of s = fork_leave_pins a p c s t.events own in
-    let led : LeadsFork (fork_change_of old.frames new.frames old_parent.0 new_parent.0 old_child.0 new_child.0) a p c s t (place_of next) (whats_of said) =
-    turn old_parent.0 new_parent.0 old_child.0 new_child.0 old_parent.1 new_parent.1 old_child.1 new_child.1 s apart shown.frames (shown.spaces p old_parent.0 old_parent.1) (shown.spaces c old_child.0 old_child.1) stands.keeps (stands.fork c refl) (sym at) in
+    let led : Leads (ShowsForking a p c) (forking_view new.frames new_parent.0 new_child.0 (place_of next) (birth_behind p (whats_of said))) s t (whats_of said) =
+    turn old_parent.0 new_parent.0 old_child.0 new_child.0 old_parent.1 new_parent.1 old_child.1 new_child.1 (s.birth c) s
+    (record { frames = shown.parts.frames; parent = shown.parts.spaces p old_parent.0 old_parent.1; child = shown.parts.spaces c old_child.0 old_child.1; place = sym shown.fork; birth = refl })
+    (record { apart = apart; keeps = stands.keeps; at = stands.fork c refl }) in
     let parts : ShowsParts new (run s t.events) =
     record {
-      frames = led.frames;
-      spaces = others_behind s a p c t.events old.spaces.items new.spaces.items new_parent.0 new_child.0 own shown.spaces led.parent new_parent.1 led.child new_child.1 others;
+      frames = led.shown.frames;
+      spaces = others_behind s a p c t.events old.spaces.items new.spaces.items new_parent.0 new_child.0 own shown.parts.spaces led.shown.parent new_parent.1 led.shown.child new_child.1 others;
       births =
-          births_behind s a p c t.events old.births.items new.births.items (birth_said (option_or said.event said.next)) own shown.births born_now unborn_others (birth_now p said.event said.next said.answer ((run s t.events).birth c) led.birth);
-      pins = pins_shown old new s (run s t.events) handles stay shown.pins;
-      taken = taken_shown old new s (run s t.events) taken (ap (λ (k : Pins). k.2) stay) shown.taken;
-      stores = stores_shown old new s (run s t.events) stores (ap (λ (k : Pins). k.3) stay) shown.stores;
+          births_behind s a p c t.events old.births.items new.births.items (birth_said (option_or said.event said.next)) own shown.parts.births born_now unborn_others (birth_now p said.event said.next said.answer ((run s t.events).birth c) led.shown.birth);
+      pins = pins_shown old new s (run s t.events) handles stay shown.parts.pins;
+      taken = taken_shown old new s (run s t.events) taken (ap (λ (k : Pins). k.2) stay) shown.parts.taken;
+      stores = stores_shown old new s (run s t.events) stores (ap (λ (k : Pins). k.3) stay) shown.parts.stores;
     } in
     record {
       says = led.says;
-      parts = parts;
-      fork = sym led.place;
-      others = λ b other. fork_places_stay a p c b s t.events (λ is. other (sym is)) own;
+      shown = record {
+        parts = parts;
+        fork = sym led.shown.place;
+        others = λ b other. fork_places_stay a p c b s t.events (λ is. other (sym is)) own ∙ shown.others b other;
+      };
     }

@@ -1,7 +1,6 @@
--- What a turn of an operation leaves of all that the machine has.
+-- What a turn of an operation is over among all that the machine has, and what it needs of that.
 use Rattle.std.specs.Prelude.{◌≡◌, ℕ, ◌<◌, ◌^◌, Bool, true, length, slice_get, List, Option, Some, None}
 use Rattle.arrayvec.specs.ArrayVec.{ArrayVec}
-use Rattle.gup_plain.specs.declared.note.What.{What}
 use Rattle.gup_script.specs.Valid.{IsOp}
 use Rattle.gup_script.specs.declared.op.Op.{Op}
 use Rattle.gup_script.specs.declared.op.Op.TheVariants.{Pin, Take, Transfer, Fork}
@@ -9,25 +8,22 @@ use Rattle.gup_frames.specs.Frames.{FramesValue, frames_of}
 use Rattle.gup_space.specs.Space.{SpaceParts, space_of}
 use Rattle.gup_handles.specs.Handles.{handles_of, unmade, IsGivenTo as IsKeptFor}
 use Rattle.gup_spec_events.specs.State.{CoreState, idle}
-use Rattle.gup_spec_events.specs.Event.{run}
 use Rattle.gup_law_base.specs.Sound.{IsSound}
 use Rattle.gup_spec_journal.specs.Place.{Doer}
-use Rattle.gup_spec_turns.specs.CoreTurn.{CoreTurn}
-use Rattle.gup_spec_turns.specs.Turn.{op_turn, turn_of}
 use Rattle.gup_spec_turns.specs.Waits.{waiting_for}
-use Rattle.gup_spec_turns.specs.ForkPlace.{place_in, IsNoFork, KeepsFrame, StandsFork}
+use Rattle.gup_spec_turns.specs.ForkPlace.{ForkPlace as Place, place_in, IsNoFork, KeepsFrame, StandsFork}
 use Rattle.gup_spec_turns.specs.PinPlace.{StandsPin}
 use Rattle.gup_op_fork.specs.declared.forks.ForkPlace.{ForkPlace}
-use Rattle.gup_op_base.specs.Far.{HasFar, far_in}
+use Rattle.gup_op_base.specs.Far.{HasFar}
 use Rattle.gup_op_fork.specs.Forked.{place_of, IsReadyAt}
-use Rattle.gup_op_pins.specs.Pins.{IsWeighed, PinChange}
+use Rattle.gup_op_pins.specs.Pins.{IsWeighed}
 use Rattle.gup_op_devices.specs.Transfers.{IsWhole}
-use Rattle.gup_op_pins.specs.Held.{slots_in, HandleChange}
+use Rattle.gup_op_pins.specs.Held.{slots_in}
 use Rattle.gup_op_base.specs.Tidy.{IsTidy, needs_table}
 use Rattle.gup_core.specs.declared.births.Birth.{Birth}
 use Rattle.gup_core.specs.declared.parts.Parts.{Parts}
-use Rattle.gup_core.specs.Doers.{HasProcess, IsProcessOf}
-use Rattle.gup_core.specs.Machine.{EachSpace, ShowsBirths, ShowsParts}
+use Rattle.gup_core.specs.Doers.{HasProcess}
+use Rattle.gup_core.specs.Machine.{EachSpace, ShowsParts}
 
 -- The actor of process p stands before a turn of this operation, of which so many turns are over: it is in the middle of
 -- nothing but, where the operation is one, a fork; a pin has taken its first pages, a pin that is taken is given to it, and
@@ -40,67 +36,30 @@ pub record StandsAt (s : CoreState) (a p far : ℕ) (op : Op) : Type 0 where
   pub pinned : (handle page n : ℕ) (write : Bool) → op ≡ Pin handle page n write → 0 < far → s.has_pinned p ≡ true
   pub whole : (handle index slot n : ℕ) (outward : Bool) → op ≡ Transfer handle outward index slot n → IsWhole s a handle
 
--- From this state the actor's turn says this, and leads to these parts. Its fork stands there then, and those of others
--- stand where they did.
-pub record LeadsAll (new : Parts) (a : ℕ) (s : CoreState) (turn : CoreTurn) (whats : List What) (place : ForkPlace) : Type 0 where
-  pub says : turn.whats ≡ whats
-  pub parts : ShowsParts new (run s turn.events)
-  pub fork : place_of place ≡ place_in (run s turn.events) a
-  pub others : (b : ℕ) → (b ≡ a → ⊥) → place_in (run s turn.events) b ≡ place_in s b
+-- The parts of a machine, where the fork of an actor stands, and where those of others do.
+pub record AllView : Type 0 where
+  pub parts : Parts
+  pub fork : ForkPlace
+  pub others : ℕ → Place
 
--- so it is from each state that shows what was, where an operation has gone over so many pages or words and its fork stood
--- there
-abbrev pub IsTurnOfAll : (old new : Parts) → (a p slots far : ℕ) → Op → (old_fork : ForkPlace) → List What → (new_fork : ForkPlace) → Type 0
-IsTurnOfAll old new a p slots far op old_fork whats new_fork =
-    (s : CoreState) (k : ℕ)
-    → ShowsParts old s → place_of old_fork ≡ place_in s a → StandsAt s a p k op → far ≡ far_in (Some op) k
-    → LeadsAll new a s (op_turn s a p slots k op) whats new_fork
+abbrev pub all_view : Parts → ForkPlace → (others : ℕ → Place) → AllView
+all_view parts fork others = record { parts = parts; fork = fork; others = others }
 
--- from this state a turn says this, and leads to these births
-pub record LeadsBirths (new : List Birth) (s : CoreState) (turn : CoreTurn) (whats : List What) : Type 0 where
-  pub says : turn.whats ≡ whats
-  pub births : ShowsBirths new (run s turn.events)
+-- the state has all that, of actor a
+pub record ShowsAll (a : ℕ) (view : AllView) (s : CoreState) : Type 0 where
+  pub parts : ShowsParts view.parts s
+  pub fork : place_of view.fork ≡ place_in s a
+  pub others : (b : ℕ) → (b ≡ a → ⊥) → place_in s b ≡ view.others b
+
+-- the state is sound, and actor a, which waits for nothing, stands there before a turn of the operation
+pub record StandsFree (a : ℕ) (who : Doer) (far : ℕ) (op : Op) (s : CoreState) : Type 0 where
+  pub sound : IsSound s
+  pub at : StandsAt s a who.proc far op
+  pub free : waiting_for s who op ≡ None
 
 -- the store of the actor has so many slots
 abbrev pub HasSlots : Parts → (a slots : ℕ) → Type 0
 HasSlots parts a slots = (store : Option (List ℕ)) → slice_get parts.stores.items a ≡ Some store → slots_in store ≡ slots
-
--- The actor's turn of the operation, which is of this process where it is of one: from each sound state that shows what was,
--- where the actor waits for nothing, it says this and leads to these parts, be it the operation's own or, where the process
--- has failed, its refusal.
-abbrev pub IsTurnBy : (old new : Parts) → (a : ℕ) → (proc : Option ℕ) → (far : ℕ) → Op → (old_fork : ForkPlace) → List What → (new_fork : ForkPlace) → Type 0
-IsTurnBy old new a proc far op old_fork whats new_fork =
-    (s : CoreState) (who : Doer) (k : ℕ)
-    → who.actor ≡ a → IsProcessOf who proc → HasSlots old a who.slots → IsSound s
-    → ShowsParts old s → place_of old_fork ≡ place_in s a → StandsAt s a who.proc k op → far ≡ far_in (Some op) k
-    → waiting_for s who op ≡ None
-    → LeadsAll new a s (turn_of s who k op) whats new_fork
-
--- what a turn of a pin changes: frames, this process, pins, and what the actor's running pin has taken
-abbrev pub pin_change : (old new : Parts) → (old_space new_space : SpaceParts) → (was now : ArrayVec ℕ) → PinChange
-pin_change old new old_space new_space was now =
-    record {
-      old_frames = frames_of old.frames;
-      new_frames = frames_of new.frames;
-      old_space = space_of old_space;
-      new_space = space_of new_space;
-      old_pins = handles_of old.handles;
-      new_pins = handles_of new.handles;
-      old_taken = was.items;
-      new_taken = now.items;
-    }
-
--- what a turn of an operation on a pin changes: frames, pins, and this store
-abbrev pub handle_change : (old new : Parts) → (old_store new_store : Option (List ℕ)) → HandleChange
-handle_change old new old_store new_store =
-    record {
-      old_frames = frames_of old.frames;
-      new_frames = frames_of new.frames;
-      old_pins = handles_of old.handles;
-      new_pins = handles_of new.handles;
-      old_store = old_store;
-      new_store = new_store;
-    }
 
 -- What a turn of actor a's fork of process p into this child needs: they are two processes, and what is true between two
 -- turns.

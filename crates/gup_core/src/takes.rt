@@ -2,26 +2,31 @@
 ghost use Rattle.std.specs.Prelude.{◌≡◌, ℕ, ◌+◌, ◌<◌, ◌≤◌, ◌^◌, true, length, slice_get, List, Option, Some, None, IsSome, IfSome};
 ghost use Rattle.std.specs.Option.{option_or};
 ghost use Rattle.arrayvec.specs.ArrayVec.{ArrayVec as ArrayVecValue};
+ghost use Rattle.gup_plain.specs.State.{Birth as CoreBirth};
 ghost use Rattle.gup_script.specs.declared.op.Op.TheVariants.{Fork};
 ghost use Rattle.gup_script.specs.Valid.{IsOp};
 ghost use Rattle.gup_frames.specs.Frames.{frames_of};
 ghost use Rattle.gup_space.specs.Space.{SpaceParts, space_of};
-ghost use Rattle.gup_space.specs.Shows.{change_of};
-ghost use Rattle.gup_fork.specs.Forks.{fork_change_of};
 ghost use Rattle.gup_handles.specs.Handles.{handles_of, unmade};
-ghost use Rattle.gup_spec_events.specs.State.{CoreState};
-ghost use Rattle.gup_spec_turns.specs.Turn.{op_turn, failed_turn};
-ghost use Rattle.gup_op_pages.specs.Alone.{IsAlone};
+ghost use Rattle.gup_spec_journal.specs.Place.{Doer};
+ghost use Rattle.gup_spec_turns.specs.Turn.{op_turn, failed_turn, turn_of};
+ghost use Rattle.gup_spec_turns.specs.PinTurns.{pin_turn};
+ghost use Rattle.gup_spec_turns.specs.DeviceTurns.{transfer_turn};
+ghost use Rattle.gup_spec_turns.specs.ForkTurns.{fork_turn};
+ghost use Rattle.gup_spec_turns.specs.ForkPlace.{ForkPlace as Place};
+ghost use Rattle.gup_op_pages.specs.Alone.{IsAlone, ShowsAlone, alone_view};
 ghost use Rattle.gup_op_base.specs.Far.{HasFar, far_in};
-ghost use Rattle.gup_op_fork.specs.Forked.{place_of, IsReadyAt, IsForkTurn};
-ghost use Rattle.gup_op_pins.specs.Pins.{IsWeighed, IsPinTurn};
-ghost use Rattle.gup_op_devices.specs.Transfers.{IsTransferTurn};
-ghost use Rattle.gup_op_base.specs.Said.{whats_of, IsTurnOf};
+ghost use Rattle.gup_op_fork.specs.Forked.{place_of, birth_behind as birth_after, IsReadyAt, ShowsForking, StandsAsFork, forking_view};
+ghost use Rattle.gup_op_pins.specs.Pins.{IsWeighed, ShowsPinning, StandsAtPage, pinning_view};
+ghost use Rattle.gup_op_pins.specs.Held.{ShowsHeld, held_view, slots_in};
+ghost use Rattle.gup_op_devices.specs.Transfers.{IsWhole};
+ghost use Rattle.gup_op_base.specs.Said.{whats_of};
+ghost use Rattle.gup_op_base.specs.Turns.{IsTurnOf, Anywhere};
 ghost use Rattle.gup_op_base.specs.Tidy.{IsTidy, needs_table};
 ghost use Rattle.gup_core.specs.Births.{HasFailed, birth_said};
-ghost use Rattle.gup_core.specs.Doers.{HasProcess};
+ghost use Rattle.gup_core.specs.Doers.{HasProcess, IsProcessOf};
 ghost use Rattle.gup_core.specs.Machine.{EachSpace, ShowsBirths};
-ghost use Rattle.gup_core.specs.Goes.{IsTurnOfAll, IsTurnBy, LeadsBirths, IsReady, IsForkReady, HasSlots, KeepsSlots, pin_change, handle_change};
+ghost use Rattle.gup_core.specs.Goes.{StandsAt, ShowsAll, StandsFree, all_view, IsReady, IsForkReady, HasSlots, KeepsSlots};
 ghost use Rattle.gup_core.specs.Locks.{child_in};
 
 use crate::births::{Birth, has_failed, set_birth};
@@ -58,7 +63,11 @@ pub fn take_op(
     ensures taken { length parts.new.taken.items ≡ length parts.old.taken.items }
     ensures stores { length parts.new.stores.items ≡ length parts.old.stores.items }
     ensures slots { KeepsSlots parts.old.stores.items parts.new.stores.items }
-    ensures turn { IsTurnBy parts.old parts.new actor proc far op.now place (whats_of result.0) result.1 }
+    ensures turn { (who : Doer) (k : ℕ) (others : ℕ → Place) → who.actor ≡ actor → IsProcessOf who proc
+        → HasSlots parts.old actor who.slots → far ≡ far_in (Some op.now) k
+        → IsTurnOf (ShowsAll actor) (StandsFree actor who k op.now)
+        (all_view parts.old place others) (all_view parts.new result.1 others)
+        (λ s. turn_of s who k op.now) (whats_of result.0) }
 {
     if has_failed(&parts.births, &proc) {
         return (refuse(&mut parts.births, op), place);
@@ -73,8 +82,8 @@ pub fn take_op(
 fn refuse(births: &mut Vec<Birth>, op: &Op) -> Said
     requires { (child : ℕ) → op.now ≡ Fork child → child < length births.old.items }
     ensures births { length births.new.items ≡ length births.old.items }
-    ensures turn { (s : CoreState) (a p : ℕ) → ShowsBirths births.old.items s
-        → LeadsBirths births.new.items s (failed_turn a p op.now) (whats_of result) }
+    ensures turn { (a p : ℕ) → IsTurnOf ShowsBirths Anywhere births.old.items births.new.items
+        (λ s. failed_turn a p op.now) (whats_of result) }
 {
     let Some(child) = child_of(op) else {
         return refused(Answer::Unborn);
@@ -94,7 +103,10 @@ fn take_single(parts: &mut Parts, actor: ActorNo, proc: Option<ProcNo>, far: u16
     ensures stores { length parts.new.stores.items ≡ length parts.old.stores.items }
     ensures slots { KeepsSlots parts.old.stores.items parts.new.stores.items }
     ensures turn { (p slots : ℕ) (place : ForkPlace) → IfSome proc (λ q. q ≡ p) → HasSlots parts.old actor slots
-        → IsTurnOfAll parts.old parts.new actor p slots far op.now place (whats_of result) place }
+        → (k : ℕ) (others : ℕ → Place) → far ≡ far_in (Some op.now) k
+        → IsTurnOf (ShowsAll actor) (λ s. StandsAt s actor p k op.now)
+        (all_view parts.old place others) (all_view parts.new place others)
+        (λ s. op_turn s actor p slots k op.now) (whats_of result) }
 {
     match *op {
         Op::Pin {
@@ -160,8 +172,10 @@ fn take_pin(
     ensures turn { (old new : SpaceParts) (was now : ArrayVecValue ℕ)
         → slice_get parts.old.spaces.items proc ≡ Some old → slice_get parts.new.spaces.items proc ≡ Some new
         → slice_get parts.old.taken.items actor ≡ Some was → slice_get parts.new.taken.items actor ≡ Some now
-        → IsPinTurn (pin_change parts.old parts.new old new was now)
-        actor proc handle page n write far (whats_of result) }
+        → IsTurnOf (ShowsPinning actor proc) (StandsAtPage actor proc handle page n write far)
+        (pinning_view parts.old.frames old parts.old.handles was.items)
+        (pinning_view parts.new.frames new parts.new.handles now.items)
+        (λ s. pin_turn s actor proc handle page n far write) (whats_of result) }
 {
     pin(
         &mut parts.spaces[proc.get() as usize],
@@ -202,8 +216,9 @@ fn take_transfer(
         → slice_get parts.new.stores.items b ≡ slice_get parts.old.stores.items b }
     ensures turn { (old new : Option (List ℕ))
         → slice_get parts.old.stores.items actor ≡ Some old → slice_get parts.new.stores.items actor ≡ Some new
-        → IsTransferTurn (handle_change parts.old parts.new old new)
-        actor handle outward index slot n far (whats_of result) }
+        → IsTurnOf (ShowsHeld actor) (λ s. IsWhole s actor handle)
+        (held_view parts.old.frames parts.old.handles old) (held_view parts.new.frames parts.new.handles new)
+        (λ s. transfer_turn s actor (slots_in old) handle outward index slot n far) (whats_of result) }
 {
     transfer(
         &mut parts.frames,
@@ -240,7 +255,7 @@ fn take_alone(
     ensures turn { (old new : SpaceParts) (slots k : ℕ)
         → slice_get spaces.old.items proc ≡ Some old → slice_get spaces.new.items proc ≡ Some new
         → far ≡ far_in (Some op.now) k
-        → IsTurnOf (change_of frames.old frames.new old new) proc
+        → IsTurnOf (ShowsAlone proc) Anywhere (alone_view frames.old old) (alone_view frames.new new)
         (λ s. op_turn s actor proc slots k op.now) (whats_of result) }
 {
     take(
@@ -271,8 +286,10 @@ fn take_fork(
     ensures births { length parts.new.births.items ≡ length parts.old.births.items }
     ensures taken { parts.new.taken ≡ parts.old.taken }
     ensures stores { parts.new.stores ≡ parts.old.stores }
-    ensures turn { (slots far : ℕ) → IsTurnOfAll parts.old parts.new actor proc slots far
-        (Fork child) place (whats_of result.0) result.1 }
+    ensures turn { (slots k : ℕ) (others : ℕ → Place)
+        → IsTurnOf (ShowsAll actor) (λ s. StandsAt s actor proc k (Fork child))
+        (all_view parts.old place others) (all_view parts.new result.1 others)
+        (λ s. op_turn s actor proc slots k (Fork child)) (whats_of result.0) }
 {
     let (said, next) = fork_two(
         &mut parts.frames,
@@ -320,8 +337,10 @@ fn fork_two(
     ensures turn { (old_parent new_parent old_child new_child : SpaceParts)
         → slice_get spaces.old proc ≡ Some old_parent → slice_get spaces.new proc ≡ Some new_parent
         → slice_get spaces.old child ≡ Some old_child → slice_get spaces.new child ≡ Some new_child
-        → IsForkTurn (fork_change_of frames.old frames.new old_parent new_parent old_child new_child)
-        actor proc child (place_of place) (place_of result.1) (whats_of result.0) }
+        → (birth : CoreBirth) → IsTurnOf (ShowsForking actor proc child) (StandsAsFork actor proc child)
+        (forking_view frames.old old_parent old_child (place_of place) birth)
+        (forking_view frames.new new_parent new_child (place_of result.1) (birth_after proc (whats_of result.0)))
+        (λ s. fork_turn s actor proc child (s.job actor)) (whats_of result.0) }
 {
     let parent_at = proc.get() as usize;
     let child_at = child.get() as usize;

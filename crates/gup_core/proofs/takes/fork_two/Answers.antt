@@ -1,8 +1,10 @@
 use Rattle.std.proofs.Common.{◌<◌, length, slice_get, slice_set, ◌++◌, sym, ap, ◌∙◌, arith}
 use Rattle.gup_space.specs.Space.{SpaceParts}
-use Rattle.gup_fork.specs.Forks.{fork_change_of}
-use Rattle.gup_op_fork.specs.Forked.{place_of, IsForkTurn}
+use Rattle.gup_plain.specs.State.{Birth}
+use Rattle.gup_spec_turns.specs.ForkTurns.{fork_turn}
+use Rattle.gup_op_fork.specs.Forked.{place_of, birth_behind, ShowsForking, StandsAsFork, forking_view}
 use Rattle.gup_op_base.specs.Said.{whats_of}
+use Rattle.gup_op_base.specs.Turns.{IsTurnOf}
 use Rattle.gup_core.proofs.Parting.{front_there, back_there, front_now, back_now, others_now, below_other, four}
 use Rattle.gup_core.proofs.takes.fork_two.Goals as goal
 
@@ -71,7 +73,9 @@ returns-then-parent_at-child_at-clause-turn c old_parent new_parent old_child ne
     let low_now = ap (λ k. slice_get behind k) (sym c.get-parent_at.ensures.value) ∙ front_now s.result.0.now (slice_set s.result.1.now 0 c.fork.new.child) i c.fork.new.parent within in
     let high_now = ap (λ k. slice_get behind k) (sym c.get-child_at.ensures.value) ∙ back_now s.result.0.now s.result.1.now n i c.fork.new.parent c.fork.new.child s.ensures.front_len some in
     four
-    (λ (p p' k k' : SpaceParts). IsForkTurn (fork_change_of a.frames.now c.fork.new.frames p p' k k') a.actor a.proc a.child (place_of a.place) (place_of c.fork.result.1) (whats_of c.fork.result.0))
+    (λ (p p' k k' : SpaceParts). (birth : Birth) → IsTurnOf (ShowsForking a.actor a.proc a.child) (StandsAsFork a.actor a.proc a.child)
+    (forking_view a.frames.now p k (place_of a.place) birth) (forking_view c.fork.new.frames p' k' (place_of c.fork.result.1) (birth_behind a.proc (whats_of c.fork.result.0)))
+    (λ s. fork_turn s a.actor a.proc a.child (s.job a.actor)) (whats_of c.fork.result.0))
     _ _ _ _ old_parent new_parent old_child new_child (sym low_is ∙ was_parent) (sym low_now ∙ is_parent) (sym high_is ∙ was_child) (sym high_now ∙ is_child) c.fork.ensures
 
 -- the child is in the front part, and the parent first in the other
@@ -136,5 +140,7 @@ returns-else-parent_at-child_at-clause-turn c old_parent new_parent old_child ne
     let low_now = ap (λ k. slice_get behind k) (sym c.get-child_at.ensures.value) ∙ front_now s.result.0.now (slice_set s.result.1.now 0 c.fork-else-parent_at-child_at.new.parent) i c.fork-else-parent_at-child_at.new.child within in
     let high_now = ap (λ k. slice_get behind k) (sym c.get-parent_at.ensures.value) ∙ back_now s.result.0.now s.result.1.now n i c.fork-else-parent_at-child_at.new.child c.fork-else-parent_at-child_at.new.parent s.ensures.front_len some in
     four
-    (λ (p p' k k' : SpaceParts). IsForkTurn (fork_change_of a.frames.now c.fork-else-parent_at-child_at.new.frames p p' k k') a.actor a.proc a.child (place_of a.place) (place_of c.fork-else-parent_at-child_at.result.1) (whats_of c.fork-else-parent_at-child_at.result.0))
+    (λ (p p' k k' : SpaceParts). (birth : Birth) → IsTurnOf (ShowsForking a.actor a.proc a.child) (StandsAsFork a.actor a.proc a.child)
+    (forking_view a.frames.now p k (place_of a.place) birth) (forking_view c.fork-else-parent_at-child_at.new.frames p' k' (place_of c.fork-else-parent_at-child_at.result.1) (birth_behind a.proc (whats_of c.fork-else-parent_at-child_at.result.0)))
+    (λ s. fork_turn s a.actor a.proc a.child (s.job a.actor)) (whats_of c.fork-else-parent_at-child_at.result.0))
     _ _ _ _ old_parent new_parent old_child new_child (sym high_is ∙ was_parent) (sym high_now ∙ is_parent) (sym low_is ∙ was_child) (sym low_now ∙ is_child) c.fork-else-parent_at-child_at.ensures

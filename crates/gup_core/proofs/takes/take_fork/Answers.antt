@@ -9,7 +9,7 @@ use Rattle.gup_core.proofs.Turning.{IsForkTurns, forked}
 use Rattle.gup_core.proofs.takes.take_fork.Goals as goal
 
 pub returns-clause-turn : goal.returns-clause-turn
-returns-clause-turn c slots far =
+returns-clause-turn c slots k rest =
     let a = c.args in
     let old = a.parts.now in
     let t = c.fork_two-said in
@@ -29,6 +29,6 @@ returns-clause-turn c slots far =
     (subst (λ (xs : List SpaceParts). (q : ℕ) → (q ≡ a.proc → ⊥) → (q ≡ a.child → ⊥) → slice_get t.new.spaces q ≡ slice_get xs q) was t.ensures.others) in
     let turn = subst (λ (xs : List SpaceParts). IsForkTurns old.frames t.new.frames old.spaces.items xs a.actor a.proc a.child a.place t.result.1 (whats_of t.result.0)) back
     (subst (λ (xs : List SpaceParts). IsForkTurns old.frames t.new.frames xs t.new.spaces a.actor a.proc a.child a.place t.result.1 (whats_of t.result.0)) was t.ensures.turn) in
-    forked old new a.actor a.proc a.child slots far a.place t.result.1 t.result.0
+    forked old new a.actor a.proc a.child slots 0 a.place t.result.1 t.result.0
     c.requires.fork.apart c.requires.there c.requires.fork.there (ap length (sym back) ∙ many) refl refl refl others turn
-    (c.set_birth.ensures.here ∙ ap (λ (b : Birth). Some b) c.birth_behind.ensures) c.set_birth.ensures.others
+    (c.set_birth.ensures.here ∙ ap (λ (b : Birth). Some b) c.birth_behind.ensures) c.set_birth.ensures.others k rest refl

@@ -3,9 +3,9 @@ use Rattle.gup_script.specs.declared.op.Op.{Op}
 use Rattle.gup_op_base.specs.Said.{whats_of}
 use Rattle.gup_core.specs.declared.parts.Parts.{Parts}
 use Rattle.gup_core.specs.Doers.{HasProcess}
-use Rattle.gup_core.specs.Goes.{IsTurnOfAll}
 use Rattle.gup_core.proofs.Refusing.{of_born, refused}
 use Rattle.gup_core.proofs.Singles.{some_is, process_is}
+use Rattle.gup_core.proofs.Turning.{IsTurnAmong}
 use Rattle.gup_core.proofs.Waiting.{forks_into}
 use Rattle.gup_core.proofs.takes.take_op.Goals as goal
 
@@ -17,7 +17,7 @@ returns-then-has_failed-clause-turn c =
     let old = a.parts.now in
     let new : Parts = record old { births = c.refuse.new.births } in
     refused old new a.actor a.proc a.far a.op.now a.place (whats_of c.refuse.result) (c.has_failed.ensures.failed c.if-has_failed.true) refl refl refl refl refl
-    (λ s b p shown. c.refuse.ensures.turn s b p shown)
+    c.refuse.ensures.turn
 
 -- ---- a fork
 
@@ -47,8 +47,8 @@ returns-in-Some-clause-turn c =
     of_born a.parts.now t.new.parts a.actor a.proc a.far a.op.now a.place t.result.1 (whats_of t.result.0)
     (λ has. absurd (cc (c.has_failed.ensures.other has))) c.requires.birth
     (λ p slots of_p has.
-    subst (λ (q : ℕ). IsTurnOfAll a.parts.now t.new.parts a.actor q slots a.far a.op.now a.place (whats_of t.result.0) t.result.1) (some_is a.proc c.unwrap.result p c.unwrap.ensures of_p)
-    (subst (λ (op : Op). IsTurnOfAll a.parts.now t.new.parts a.actor c.unwrap.result slots a.far op a.place (whats_of t.result.0) t.result.1) (sym is) (t.ensures.turn slots a.far)))
+    subst (λ (q : ℕ). IsTurnAmong a.parts.now t.new.parts a.actor q slots a.far a.op.now a.place (whats_of t.result.0) t.result.1) (some_is a.proc c.unwrap.result p c.unwrap.ensures of_p)
+    (subst (λ (op : Op). IsTurnAmong a.parts.now t.new.parts a.actor c.unwrap.result slots a.far op a.place (whats_of t.result.0) t.result.1) (sym is) (λ k rest far_is. t.ensures.turn slots k rest)))
 
 -- ---- another operation
 

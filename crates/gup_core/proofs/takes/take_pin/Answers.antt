@@ -2,11 +2,10 @@ use Rattle.std.proofs.Common.{ℕ, sym, ◌∙◌}
 use Rattle.std.specs.Vec.{with_item}
 use Rattle.arrayvec.specs.ArrayVec.{ArrayVec}
 use Rattle.gup_space.specs.Space.{SpaceParts}
-use Rattle.gup_op_pins.specs.Pins.{IsPinTurn}
 use Rattle.gup_op_base.specs.Said.{whats_of}
 use Rattle.gup_core.specs.declared.parts.Parts.{Parts}
-use Rattle.gup_core.specs.Goes.{pin_change}
 use Rattle.gup_core.proofs.Parting.{was_there, now_there, four}
+use Rattle.gup_core.proofs.Turning.{IsPinTurn}
 use Rattle.gup_core.proofs.takes.take_pin.Goals as goal
 
 pub returns-clause-turn : goal.returns-clause-turn
@@ -24,7 +23,7 @@ returns-clause-turn c old new was now was_space is_space was_taken is_taken =
       stores = a.parts.now.stores;
     } in
     four
-    (λ (x y : SpaceParts) (before after : ArrayVec ℕ). IsPinTurn (pin_change a.parts.now behind x y before after) a.actor a.proc a.handle a.page a.n a.write a.far (whats_of c.pin.result))
+    (λ (x y : SpaceParts) (before after : ArrayVec ℕ). IsPinTurn a.parts.now behind x y before after a.actor a.proc a.handle a.page a.n a.write a.far (whats_of c.pin.result))
     _ _ _ _ old new was now
     (sym (was_there spaces.items c.get.result a.proc c.index_mut.result.now c.index_mut.ensures.value c.get.ensures.value c.requires.there) ∙ was_space)
     (sym (now_there spaces.items c.get.result a.proc c.pin.new.space c.get.ensures.value c.requires.there) ∙ is_space)

@@ -6,16 +6,17 @@ use Rattle.gup_space.specs.Space.{space_of}
 use Rattle.gup_spec_turns.specs.Turn.{op_turn}
 use Rattle.gup_op_base.specs.Far.{HasFar}
 use Rattle.gup_spec_events.specs.State.{CoreState}
-use Rattle.gup_op_pins.specs.Held.{LeadsHandle, slots_in}
+use Rattle.gup_op_pins.specs.Held.{ShowsHeld, held_view, slots_in}
 use Rattle.gup_op_base.specs.Said.{whats_of}
+use Rattle.gup_op_base.specs.Turns.{Leads}
 use Rattle.gup_op_base.specs.Tidy.{needs_table}
 use Rattle.gup_core.specs.Doers.{HasProcess}
 use Rattle.gup_core.specs.Machine.{ShowsParts}
-use Rattle.gup_core.specs.Goes.{StandsAt, IsTurnOfAll, handle_change}
+use Rattle.gup_core.specs.Goes.{StandsAt}
 use Rattle.gup_core.proofs.Pinning.{unpin_is_handling, give_is_handling, take_is_handling, transfer_is_handling, unpin_leaves_stores, give_leaves_stores, take_leaves_stores}
 use Rattle.gup_core.proofs.Parting.{all_kept}
 use Rattle.gup_core.proofs.Singles.{some_is, process_is, any_process, is_alone, alone_process}
-use Rattle.gup_core.proofs.Turning.{there, alone, pinned, handled, leads_part, leads_store}
+use Rattle.gup_core.proofs.Turning.{IsTurnAmong, there, alone, pinned, handled, leads_part, leads_store}
 use Rattle.gup_core.proofs.Waiting.{single}
 use Rattle.gup_core.proofs.takes.take_single.Goals as goal
 
@@ -81,8 +82,8 @@ returns-in-Pin-clause-turn c p slots place of_p has =
     let turn =
     pinned a.parts.now t.new.parts a.actor c.unwrap.result slots a.far pin.handle pin.page pin.n pin.write place (whats_of t.result)
     within t.ensures.spaces ready.actor_taken t.ensures.taken t.ensures.births t.ensures.stores t.ensures.other_spaces t.ensures.others_taken t.ensures.turn in
-    subst (λ (op : Op). IsTurnOfAll a.parts.now t.new.parts a.actor p slots a.far op place (whats_of t.result) place) (sym pin.is)
-    (subst (λ (q : ℕ). IsTurnOfAll a.parts.now t.new.parts a.actor q slots a.far (Pin pin.handle pin.page pin.n pin.write) place (whats_of t.result) place) same turn)
+    subst (λ (op : Op). IsTurnAmong a.parts.now t.new.parts a.actor p slots a.far op place (whats_of t.result) place) (sym pin.is)
+    (subst (λ (q : ℕ). IsTurnAmong a.parts.now t.new.parts a.actor q slots a.far (Pin pin.handle pin.page pin.n pin.write) place (whats_of t.result) place) same turn)
 
 -- ---- operations on a pin
 
@@ -100,8 +101,8 @@ returns-in-Unpin-clause-turn c p slots place of_p has =
     let turn =
     handled old new a.actor p slots a.far (Unpin h) place (whats_of c.unpin.result) tt refl refl refl
     (λ s k. unpin_is_handling s a.actor h)
-    (λ s k shown stands far_is. leads_part old new a.actor s (op_turn s a.actor p slots k (Unpin h)) (whats_of c.unpin.result) refl (unpin_leaves_stores s a.actor h) shown (c.unpin.ensures.turn s shown.frames shown.pins tt)) in
-    subst (λ (op : Op). IsTurnOfAll old new a.actor p slots a.far op place (whats_of c.unpin.result) place) (sym c.in-Unpin.is) turn
+    (λ s k shown stands far_is. leads_part old new a.actor s (op_turn s a.actor p slots k (Unpin h)) (whats_of c.unpin.result) refl (unpin_leaves_stores s a.actor h) shown (c.unpin.ensures.turn s (record { frames = shown.frames; pins = shown.pins; store = tt }) tt)) in
+    subst (λ (op : Op). IsTurnAmong old new a.actor p slots a.far op place (whats_of c.unpin.result) place) (sym c.in-Unpin.is) turn
 
 pub returns-in-Give-clause-turn : goal.returns-in-Give-clause-turn
 returns-in-Give-clause-turn c p slots place of_p has =
@@ -113,8 +114,8 @@ returns-in-Give-clause-turn c p slots place of_p has =
     let turn =
     handled old new a.actor p slots a.far (Give h to) place (whats_of c.give.result) tt refl refl refl
     (λ s k. give_is_handling s a.actor h to)
-    (λ s k shown stands far_is. leads_part old new a.actor s (op_turn s a.actor p slots k (Give h to)) (whats_of c.give.result) refl (give_leaves_stores s a.actor h to) shown (c.give.ensures.turn old.frames s shown.frames shown.pins tt)) in
-    subst (λ (op : Op). IsTurnOfAll old new a.actor p slots a.far op place (whats_of c.give.result) place) (sym c.in-Give.is) turn
+    (λ s k shown stands far_is. leads_part old new a.actor s (op_turn s a.actor p slots k (Give h to)) (whats_of c.give.result) refl (give_leaves_stores s a.actor h to) shown (c.give.ensures.turn old.frames s (record { frames = shown.frames; pins = shown.pins; store = tt }) tt)) in
+    subst (λ (op : Op). IsTurnAmong old new a.actor p slots a.far op place (whats_of c.give.result) place) (sym c.in-Give.is) turn
 
 pub take_over-requires : goal.take_over-requires
 take_over-requires c =
@@ -130,8 +131,8 @@ returns-in-Take-clause-turn c p slots place of_p has =
     let turn =
     handled old new a.actor p slots a.far (Take h) place (whats_of c.take_over.result) tt refl refl refl
     (λ s k. take_is_handling a.actor h)
-    (λ s k shown stands far_is. leads_part old new a.actor s (op_turn s a.actor p slots k (Take h)) (whats_of c.take_over.result) refl (take_leaves_stores s a.actor h) shown (c.take_over.ensures.turn old.frames s shown.frames shown.pins tt)) in
-    subst (λ (op : Op). IsTurnOfAll old new a.actor p slots a.far op place (whats_of c.take_over.result) place) (sym c.in-Take.is) turn
+    (λ s k shown stands far_is. leads_part old new a.actor s (op_turn s a.actor p slots k (Take h)) (whats_of c.take_over.result) refl (take_leaves_stores s a.actor h) shown (c.take_over.ensures.turn old.frames s (record { frames = shown.frames; pins = shown.pins; store = tt }) tt)) in
+    subst (λ (op : Op). IsTurnAmong old new a.actor p slots a.far op place (whats_of c.take_over.result) place) (sym c.in-Take.is) turn
 
 -- ---- a transfer
 
@@ -167,15 +168,15 @@ returns-in-Transfer-clause-turn c p slots place of_p has =
     let now = there new.stores.items a.actor (omega (arith, ready.actor_store, t.ensures.stores)) in
     let op : Op = Transfer x.handle x.outward x.index x.slot x.n in
     let led = λ (s : CoreState) (k : ℕ) (shown : ShowsParts old s) (stands : StandsAt s a.actor p k op) (far_is : a.far ≡ k).
-    leads_store old new a.actor s (op_turn s a.actor p slots k op) (whats_of t.result) was.0 now.0 now.1 t.ensures.others
+    leads_store old new a.actor s (op_turn s a.actor p slots k op) (whats_of t.result) now.0 now.1 t.ensures.others
     (transfer_is_handling s a.actor slots x.handle x.outward x.index x.slot x.n k) shown
-    (subst (λ (n : ℕ). LeadsHandle (handle_change old new was.0 now.0) a.actor s (op_turn s a.actor p n k op) (whats_of t.result)) (has was.0 was.1)
-    (subst (λ (q : ℕ). LeadsHandle (handle_change old new was.0 now.0) a.actor s (op_turn s a.actor p (slots_in was.0) q op) (whats_of t.result)) far_is
-    (t.ensures.turn was.0 now.0 was.1 now.1 s shown.frames shown.pins (shown.stores a.actor was.0 was.1) (stands.whole x.handle x.index x.slot x.n x.outward refl)))) in
+    (subst (λ (n : ℕ). Leads (ShowsHeld a.actor) (held_view new.frames new.handles now.0) s (op_turn s a.actor p n k op) (whats_of t.result)) (has was.0 was.1)
+    (subst (λ (q : ℕ). Leads (ShowsHeld a.actor) (held_view new.frames new.handles now.0) s (op_turn s a.actor p (slots_in was.0) q op) (whats_of t.result)) far_is
+    (t.ensures.turn was.0 now.0 was.1 now.1 s (record { frames = shown.frames; pins = shown.pins; store = shown.stores a.actor was.0 was.1 }) (stands.whole x.handle x.index x.slot x.n x.outward refl)))) in
     let turn =
     handled old new a.actor p slots a.far op place (whats_of t.result) tt t.ensures.spaces t.ensures.births t.ensures.taken
     (λ s k. transfer_is_handling s a.actor slots x.handle x.outward x.index x.slot x.n k) led in
-    subst (λ (o : Op). IsTurnOfAll old new a.actor p slots a.far o place (whats_of t.result) place) (sym x.is) turn
+    subst (λ (o : Op). IsTurnAmong old new a.actor p slots a.far o place (whats_of t.result) place) (sym x.is) turn
 
 -- ---- an operation of one process
 
@@ -210,6 +211,6 @@ returns-in_default c =
       stores = refl;
       slots = all_kept (λ (was now : Option (List ℕ)). slots_in now ≡ slots_in was) old.stores.items (λ x. refl);
       turn = λ p slots place of_p has.
-          subst (λ (k : ℕ). IsTurnOfAll old new a.actor k slots a.far op place (whats_of t.result) place) (some_is a.proc q p c.unwrap-in_default.ensures of_p)
+          subst (λ (k : ℕ). IsTurnAmong old new a.actor k slots a.far op place (whats_of t.result) place) (some_is a.proc q p c.unwrap-in_default.ensures of_p)
           (alone old new a.actor q slots a.far op place (whats_of t.result) alone_so (single op c.requires.single) within t.ensures.many refl refl refl refl t.ensures.others (λ was now k. t.ensures.turn was now slots k));
     }

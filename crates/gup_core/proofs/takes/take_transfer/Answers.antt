@@ -1,10 +1,9 @@
 use Rattle.std.proofs.Common.{◌≡◌, ℕ, List, Option, refl, sym, ◌∙◌}
-use Rattle.std.specs.Vec.{with_item}
-use Rattle.gup_op_devices.specs.Transfers.{IsTransferTurn}
-use Rattle.gup_op_pins.specs.Held.{slots_in}
+use Rattle.gup_spec_turns.specs.DeviceTurns.{transfer_turn}
+use Rattle.gup_op_devices.specs.Transfers.{IsWhole}
+use Rattle.gup_op_pins.specs.Held.{ShowsHeld, held_view, slots_in}
 use Rattle.gup_op_base.specs.Said.{whats_of}
-use Rattle.gup_core.specs.declared.parts.Parts.{Parts}
-use Rattle.gup_core.specs.Goes.{handle_change}
+use Rattle.gup_op_base.specs.Turns.{IsTurnOf}
 use Rattle.gup_core.proofs.Parting.{was_there, now_there, other_there, kept_at, two}
 use Rattle.gup_core.proofs.takes.take_transfer.Goals as goal
 
@@ -21,9 +20,9 @@ pub returns-clause-turn : goal.returns-clause-turn
 returns-clause-turn c old new was_is is =
     let a = c.args in
     let stores = a.parts.now.stores in
-    let behind : Parts = record a.parts.now { frames = c.transfer.new.frames; stores = with_item stores c.get.result c.transfer.new.store } in
     two
-    (λ (x y : Option (List ℕ)). IsTransferTurn (handle_change a.parts.now behind x y) a.actor a.handle a.outward a.index a.slot a.n a.far (whats_of c.transfer.result))
+    (λ (x y : Option (List ℕ)). IsTurnOf (ShowsHeld a.actor) (λ s. IsWhole s a.actor a.handle) (held_view a.parts.now.frames a.parts.now.handles x) (held_view c.transfer.new.frames a.parts.now.handles y)
+    (λ s. transfer_turn s a.actor (slots_in x) a.handle a.outward a.index a.slot a.n a.far) (whats_of c.transfer.result))
     _ _ old new
     (sym (was_there stores.items c.get.result a.actor c.index_mut.result.now c.index_mut.ensures.value c.get.ensures.value c.requires.actor) ∙ was_is)
     (sym (now_there stores.items c.get.result a.actor c.transfer.new.store c.get.ensures.value c.requires.actor) ∙ is)
