@@ -5,7 +5,6 @@ pub mod Parting
 pub mod Notes
 pub mod Scripts
 pub mod Singles
-pub mod Waiting
 pub mod Resting
 pub mod Turning
 pub mod Refusing

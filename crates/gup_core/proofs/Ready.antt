@@ -21,12 +21,14 @@ use Rattle.gup_spec_turns.specs.ForkPlace.{IsNoFork, StandsFork}
 use Rattle.gup_law_turns.proofs.ScriptLemmas.{op_is_op, child_declared, thread_birth, has_ops_declared}
 use Rattle.gup_op_base.specs.Tidy.{needs_table}
 use Rattle.gup_core.specs.declared.seats.Seat.{Seat}
-use Rattle.gup_core.specs.Births.{HasFailed}
-use Rattle.gup_core.specs.Doers.{HasProcess, IsProcessOf}
-use Rattle.gup_core.specs.declared.parts.Parts.{Parts}
-use Rattle.gup_core.specs.Goes.{StandsAt, IsForkReady, IsReady, KeepsSlots}
+use Rattle.gup_op_waits.specs.Births.{HasFailed}
+use Rattle.gup_op_waits.specs.Doers.{HasProcess, IsProcessOf}
+use Rattle.gup_op_waits.specs.declared.parts.Parts.{Parts}
+use Rattle.gup_op_waits.specs.Stands.{StandsAt}
+use Rattle.gup_core.specs.Goes.{IsForkReady, IsReady, KeepsSlots}
 use Rattle.gup_core.specs.Seats.{IsSeat}
-use Rattle.gup_core.specs.Machine.{MachineValue, Shows, AreParts, IsMachine}
+use Rattle.gup_core.specs.Machine.{MachineValue, Shows, IsMachine}
+use Rattle.gup_op_waits.specs.Parts.{AreParts}
 use Rattle.gup_core.specs.Rest.{IsAtRest, op_of_seat}
 use Rattle.gup_core.proofs.Resting.{Stand, standing, op_there, stands_at}
 use Rattle.gup_core.proofs.Scripts.{thread_there, process_there, own_process, found_there, has_process, few_answered}
@@ -34,7 +36,7 @@ use Rattle.gup_core.proofs.Singles.{table_process}
 use Rattle.gup_core.proofs.Refusing.{birth_unfailed}
 use Rattle.gup_core.proofs.Taking.{IsWaiting}
 use Rattle.gup_core.proofs.Turning.{there}
-use Rattle.gup_core.proofs.Waiting.{single_needs, born_and_free, locks_free, given_free, keeps_given, table_free}
+use Rattle.gup_op_waits.proofs.Waits.{single_needs, born_and_free, locks_free, given_free, keeps_given, table_free}
 
 -- a process that is born is none that a fork brings
 unborn_child : (s : CoreState) (a p child : ℕ) (job : Job) (prepared : Option ℕ) → StandsFork s a p child job prepared → s.birth child ≡ born → ⊥

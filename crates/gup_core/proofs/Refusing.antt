@@ -22,17 +22,17 @@ use Rattle.gup_spec_turns.specs.ForkPlace.{StandsFork, place_in}
 use Rattle.gup_op_fork.specs.declared.forks.ForkPlace.{ForkPlace}
 use Rattle.gup_op_base.specs.Turns.{Leads, IsTurnOf, Anywhere}
 use Rattle.gup_op_base.proofs.Leading.{leads_alike}
-use Rattle.gup_core.specs.declared.births.Birth.{Birth}
-use Rattle.gup_core.specs.declared.births.Birth.TheVariants.{Unborn, Growing, Born, Failed}
-use Rattle.gup_core.specs.declared.parts.Parts.{Parts}
-use Rattle.gup_core.specs.Births.{HasFailed}
-use Rattle.gup_core.specs.Doers.{IsProcessOf}
+use Rattle.gup_op_waits.specs.declared.births.Birth.{Birth}
+use Rattle.gup_op_waits.specs.declared.births.Birth.TheVariants.{Unborn, Growing, Born, Failed}
+use Rattle.gup_op_waits.specs.declared.parts.Parts.{Parts}
+use Rattle.gup_op_waits.specs.Births.{HasFailed}
+use Rattle.gup_op_waits.specs.Doers.{IsProcessOf}
 use Rattle.gup_core.specs.Goes.{HasSlots}
-use Rattle.gup_core.specs.Machine.{IsBirth, ShowsSpaces, ShowsBirths, ShowsParts}
+use Rattle.gup_op_waits.specs.Parts.{IsBirth, ShowsSpaces, ShowsBirths, ShowsParts}
 use Rattle.gup_core.proofs.Owning.{Pins, pins_of}
 use Rattle.gup_core.proofs.Scripts.{process_of_doer}
 use Rattle.gup_core.proofs.Turning.{IsTurnAmong, IsTurnBy, there, pins_shown, taken_shown, stores_shown}
-use Rattle.gup_core.proofs.Waiting.{born_and_free}
+use Rattle.gup_op_waits.proofs.Waits.{born_and_free}
 
 -- ---- which processes have failed
 

@@ -27,8 +27,9 @@ use Rattle.gup_op_fork.specs.Forked.{IsCountedIn, IsCopyOf, IsReadyAt}
 use Rattle.gup_op_pins.specs.Pins.{IsPin, frames_in}
 use Rattle.gup_op_base.specs.Tidy.{IsTidy}
 use Rattle.gup_core.specs.declared.seats.Seat.{Seat}
-use Rattle.gup_core.specs.Machine.{MachineValue, Shows, ShowsParts, IsReached, IsMachine}
-use Rattle.gup_core.specs.Goes.{StandsAt}
+use Rattle.gup_core.specs.Machine.{MachineValue, Shows, IsReached, IsMachine}
+use Rattle.gup_op_waits.specs.Parts.{ShowsParts}
+use Rattle.gup_op_waits.specs.Stands.{StandsAt}
 use Rattle.gup_core.specs.Rest.{IsAtRest, HoldsNoLock, op_of_seat}
 use Rattle.gup_core.specs.Seats.{IsSeat}
 

@@ -1,37 +1,18 @@
 -- What is true of the actors of a script.
-use Rattle.std.proofs.Common.{◌≡◌, ℕ, true, false, ◌<◌, ◌≤◌, Option, Some, None, IsSome, IfSome, List, [], ◌∷◌, length, slice_get, sum_by, zero, suc, refl, sym, ap, ◌∙◌, subst, inl, inr, arith}
-use Rattle.std.proofs.lemmas.Option.{slice_get_cases}
+use Rattle.std.proofs.Common.{◌≡◌, ℕ, true, false, ◌<◌, ◌≤◌, Option, Some, None, IsSome, IfSome, List, [], ◌∷◌, length, slice_get, sum_by, zero, suc, refl, sym, ap, ◌∙◌, arith}
 use Rattle.std.proofs.lemmas.List.Sums.{sum_by-cons}
 use Rattle.gup_script.specs.declared.op.Kind.{Kind}
 use Rattle.gup_script.specs.declared.op.Kind.TheVariants.{Thread, Device, Mover}
 use Rattle.gup_script.specs.declared.op.Op.{Op}
 use Rattle.gup_script.specs.declared.op.Op.TheVariants.{Map, Unmap, Protect, Discard, Load, Store, Pin, Unpin, Give, Take, Transfer, Fork, Exit}
 use Rattle.gup_script.specs.Limits.{most_pinned, most_words}
-use Rattle.gup_base.specs.Counts.{most_slots}
 use Rattle.gup_script.specs.Script.{ScriptValue, Actor, actor_at, is_thread}
 use Rattle.gup_script.specs.Valid.{IsScript, IsOp, IsOfDevice, KindFits}
-use Rattle.gup_spec_journal.specs.Place.{Doer, doer, thread_in, slots_of_kind, slots_in, ops_in, ops_of, process_in, process_of, process_of_kind}
+use Rattle.gup_spec_journal.specs.Place.{Doer, doer, thread_in, ops_in, ops_of, process_in, process_of, process_of_kind}
 use Rattle.gup_law_turns.proofs.ScriptLemmas.{all_at, is_of_thread}
-use Rattle.gup_core.specs.Doers.{HasProcess, IsProcessOf}
+use Rattle.gup_op_waits.specs.Doers.{HasProcess, IsProcessOf}
 use Rattle.gup_op_base.specs.Far.{HasFar}
 use Rattle.gup_core.specs.Seats.{far_behind}
-
--- what is said of each declared actor holds of what the script has: how many slots its store has
-pub slots_found : (script : ScriptValue) (a : ℕ) (kind : Kind) → a < length script.actors → ((x : Actor) → actor_at script a ≡ Some x → kind ≡ x.kind) → slots_of_kind kind ≡ (doer script a).slots
-slots_found script a kind h each =
-    elim (slice_get_cases script.actors a).1 [
-      | inl there ↦ ap slots_of_kind (each there.0 there.2) ∙ ap slots_in (sym there.2)
-      | inr past ↦ absurd (omega (arith, past.0))
-    ]
-
--- a device's store has slots, and not too many
-pub slots_fit : (script : ScriptValue) (a slots : ℕ) (kind : Kind) → IsScript script → a < length script.actors → ((x : Actor) → actor_at script a ≡ Some x → kind ≡ x.kind) → kind ≡ Device slots → (1 ≤ slots) × (slots ≤ most_slots)
-slots_fit script a slots kind valid h each is =
-    elim (slice_get_cases script.actors a).1 [
-      | inl there ↦
-          subst (λ (k : Kind). KindFits script k) (sym (each there.0 there.2) ∙ is) (all_at (λ (x : Actor). KindFits script x.kind) script.actors a there.0 valid.kinds there.2)
-      | inr past ↦ absurd (omega (arith, past.0))
-    ]
 
 -- an actor with an operation of a process is a thread of a declared one
 

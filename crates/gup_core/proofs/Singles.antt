@@ -6,12 +6,7 @@ use Rattle.gup_space.specs.Space.{SpaceValue}
 use Rattle.gup_op_pages.specs.Alone.{IsAlone}
 use Rattle.gup_op_base.specs.Tidy.{needs_table}
 use Rattle.gup_spec_turns.specs.ForkPlace.{IsNoFork}
-use Rattle.gup_core.specs.Doers.{HasProcess}
-
--- ---- the process of an operation
-
-pub some_is : (o : Option ℕ) (q p : ℕ) → o ≡ Some q → IfSome o (λ x. x ≡ p) → q ≡ p
-some_is o q p is h = subst (λ (x : Option ℕ). IfSome x (λ y. y ≡ p)) is h
+use Rattle.gup_op_waits.specs.Doers.{HasProcess}
 
 pub process_is : (o : Option ℕ) (q : ℕ) → o ≡ Some q → IfSome o (λ x. x ≡ q)
 process_is o q is = subst (λ (x : Option ℕ). IfSome x (λ y. y ≡ q)) (sym is) refl

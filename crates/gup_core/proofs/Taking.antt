@@ -27,11 +27,13 @@ use Rattle.gup_op_base.specs.Far.{far_in}
 use Rattle.gup_op_fork.specs.Forked.{place_of}
 use Rattle.gup_op_base.specs.Said.{whats_by, whats_of}
 use Rattle.gup_op_base.specs.Turns.{Leads}
-use Rattle.gup_core.specs.declared.parts.Parts.{Parts}
+use Rattle.gup_op_waits.specs.declared.parts.Parts.{Parts}
 use Rattle.gup_core.specs.declared.seats.Seat.{Seat}
-use Rattle.gup_core.specs.Doers.{IsProcessOf}
-use Rattle.gup_core.specs.Goes.{StandsAt, ShowsAll, all_view}
-use Rattle.gup_core.specs.Machine.{MachineValue, machine_of, counted, ShowsParts, Shows, TakesTurns, AreParts, IsMachine}
+use Rattle.gup_op_waits.specs.Doers.{IsProcessOf}
+use Rattle.gup_op_waits.specs.Stands.{StandsAt}
+use Rattle.gup_core.specs.Goes.{ShowsAll, all_view}
+use Rattle.gup_core.specs.Machine.{MachineValue, machine_of, counted, Shows, TakesTurns, IsMachine}
+use Rattle.gup_op_waits.specs.Parts.{ShowsParts, AreParts}
 use Rattle.gup_core.specs.Rest.{IsAtRest, op_of_seat}
 use Rattle.gup_core.specs.Seats.{IsSeat, far_behind, seat_behind}
 use Rattle.gup_core.proofs.Notes.{NoTwo, turn_two}

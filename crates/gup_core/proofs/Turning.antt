@@ -35,12 +35,13 @@ use Rattle.gup_op_pins.specs.Held.{ShowsStore, ShowsHeld, held_view}
 use Rattle.gup_op_base.specs.Said.{answer_what, event_what, whats_by, whats_of}
 use Rattle.gup_op_base.specs.Turns.{Leads, IsTurnOf, Anywhere}
 use Rattle.gup_spec_journal.specs.Place.{Doer}
-use Rattle.gup_core.specs.declared.births.Birth.{Birth}
-use Rattle.gup_core.specs.Births.{birth_said}
-use Rattle.gup_core.specs.declared.parts.Parts.{Parts}
-use Rattle.gup_core.specs.Goes.{StandsAt, ShowsAll, StandsFree, all_view, HasSlots}
-use Rattle.gup_core.specs.Doers.{IsProcessOf}
-use Rattle.gup_core.specs.Machine.{ShowsSpaces, IsBirth, ShowsBirths, ShowsTaken, ShowsStores, ShowsParts}
+use Rattle.gup_op_waits.specs.declared.births.Birth.{Birth}
+use Rattle.gup_op_waits.specs.Births.{birth_said}
+use Rattle.gup_op_waits.specs.declared.parts.Parts.{Parts}
+use Rattle.gup_op_waits.specs.Stands.{StandsAt}
+use Rattle.gup_core.specs.Goes.{ShowsAll, StandsFree, all_view, HasSlots}
+use Rattle.gup_op_waits.specs.Doers.{IsProcessOf}
+use Rattle.gup_op_waits.specs.Parts.{ShowsSpaces, IsBirth, ShowsBirths, ShowsTaken, ShowsStores, ShowsParts}
 use Rattle.gup_core.proofs.Owning.{AreOwn, are_of, turn_is_own, births_stay, IsUnforked, forks_stay, Pins, pins_of, own_leave_pins}
 use Rattle.gup_core.proofs.Forking.{AreForking, fork_is_own, fork_leave_pins, fork_leaves_others, fork_births_stay, fork_places_stay}
 use Rattle.gup_core.proofs.Pinning.{ArePinning, pin_is_pinning, pinnings_of, pinnings_births, pinnings_stores, pinnings_taken, pinnings_forks, AreHandling, Rest, rest_of, handling_leave, handlings_of, handlings_stores}

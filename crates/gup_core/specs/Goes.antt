@@ -3,38 +3,26 @@ use Rattle.std.specs.Prelude.{◌≡◌, ℕ, ◌<◌, ◌^◌, Bool, true, leng
 use Rattle.arrayvec.specs.ArrayVec.{ArrayVec}
 use Rattle.gup_script.specs.Valid.{IsOp}
 use Rattle.gup_script.specs.declared.op.Op.{Op}
-use Rattle.gup_script.specs.declared.op.Op.TheVariants.{Pin, Take, Transfer, Fork}
+use Rattle.gup_script.specs.declared.op.Op.TheVariants.{Pin, Take, Fork}
 use Rattle.gup_frames.specs.Frames.{FramesValue, frames_of}
 use Rattle.gup_space.specs.Space.{SpaceParts, space_of}
 use Rattle.gup_handles.specs.Handles.{handles_of, unmade, IsGivenTo as IsKeptFor}
-use Rattle.gup_spec_events.specs.State.{CoreState, idle}
+use Rattle.gup_spec_events.specs.State.{CoreState}
 use Rattle.gup_law_base.specs.Sound.{IsSound}
 use Rattle.gup_spec_journal.specs.Place.{Doer}
 use Rattle.gup_spec_turns.specs.Waits.{waiting_for}
-use Rattle.gup_spec_turns.specs.ForkPlace.{ForkPlace as Place, place_in, IsNoFork, KeepsFrame, StandsFork}
-use Rattle.gup_spec_turns.specs.PinPlace.{StandsPin}
+use Rattle.gup_spec_turns.specs.ForkPlace.{ForkPlace as Place, place_in, IsNoFork}
 use Rattle.gup_op_fork.specs.declared.forks.ForkPlace.{ForkPlace}
 use Rattle.gup_op_base.specs.Far.{HasFar}
 use Rattle.gup_op_fork.specs.Forked.{place_of, IsReadyAt}
 use Rattle.gup_op_pins.specs.Pins.{IsWeighed}
-use Rattle.gup_op_devices.specs.Transfers.{IsWhole}
 use Rattle.gup_op_pins.specs.Held.{slots_in}
 use Rattle.gup_op_base.specs.Tidy.{IsTidy, needs_table}
-use Rattle.gup_core.specs.declared.births.Birth.{Birth}
-use Rattle.gup_core.specs.declared.parts.Parts.{Parts}
-use Rattle.gup_core.specs.Doers.{HasProcess}
-use Rattle.gup_core.specs.Machine.{EachSpace, ShowsParts}
-
--- The actor of process p stands before a turn of this operation, of which so many turns are over: it is in the middle of
--- nothing but, where the operation is one, a fork; a pin has taken its first pages, a pin that is taken is given to it, and
--- one whose words it moves has all its pages.
-pub record StandsAt (s : CoreState) (a p far : ℕ) (op : Op) : Type 0 where
-  pub idle_job : IsNoFork (Some op) → s.job a ≡ idle
-  pub keeps : KeepsFrame (s.job a) (s.prepared a)
-  pub fork : (child : ℕ) → op ≡ Fork child → StandsFork s a p child (s.job a) (s.prepared a)
-  pub pin : (handle page n : ℕ) (write : Bool) → op ≡ Pin handle page n write → StandsPin s a p handle page n write far
-  pub pinned : (handle page n : ℕ) (write : Bool) → op ≡ Pin handle page n write → 0 < far → s.has_pinned p ≡ true
-  pub whole : (handle index slot n : ℕ) (outward : Bool) → op ≡ Transfer handle outward index slot n → IsWhole s a handle
+use Rattle.gup_op_waits.specs.declared.births.Birth.{Birth}
+use Rattle.gup_op_waits.specs.declared.parts.Parts.{Parts}
+use Rattle.gup_op_waits.specs.Doers.{HasProcess}
+use Rattle.gup_op_waits.specs.Parts.{EachSpace, ShowsParts}
+use Rattle.gup_op_waits.specs.Stands.{StandsAt}
 
 -- The parts of a machine, where the fork of an actor stands, and where those of others do.
 pub record AllView : Type 0 where

@@ -16,7 +16,8 @@ use Rattle.gup_op_fork.specs.Forked.{place_of, IsReadyAt}
 use Rattle.gup_op_pins.specs.Pins.{IsWeighed}
 use Rattle.gup_op_base.specs.Tidy.{IsTidy}
 use Rattle.gup_core.specs.declared.seats.Seat.{Seat}
-use Rattle.gup_core.specs.Machine.{MachineValue, AreParts, EachSpace}
+use Rattle.gup_core.specs.Machine.{MachineValue}
+use Rattle.gup_op_waits.specs.Parts.{AreParts, EachSpace}
 
 -- the operation that an actor of this seat does
 abbrev pub op_of_seat : MachineValue → (a : ℕ) → Seat → Option Op

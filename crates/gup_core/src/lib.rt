@@ -2,10 +2,7 @@
 //! pins and stores that take no more memory than they had at the start.
 #![tactic(auto)]
 
-mod births;
-mod locks;
 mod machine;
-mod parts;
 mod seats;
 mod takes;
 mod turn;

@@ -5,14 +5,14 @@ ghost use Rattle.gup_spec_turns.specs.Run.{RunState, waiting_in};
 ghost use Rattle.gup_core.specs.Machine.{Shows, TakesTurns, IsNew, free_frames_in};
 ghost use Rattle.gup_core.specs.Rest.{IsAtRest};
 
-use crate::locks::waits_for;
-use crate::parts::{self, Parts};
 use crate::seats::{self, Seat, seat_of, set_seat};
 use crate::takes::take_op;
 use crate::turn::{Head, Turn};
 use crate::turns::{next_turn, notes, op_at, ops, process};
 use gup_base::{ActorNo, NoMemory, Zone};
 use gup_op_base::is_last;
+use gup_op_waits::parts::{self, Parts};
+use gup_op_waits::waits_for;
 use gup_plain::{Waiting, What};
 use gup_script::Script;
 use std::alloc::Global;

@@ -5,7 +5,7 @@ ghost use Rattle.gup_script.specs.declared.op.Kind.TheVariants.{Thread};
 ghost use Rattle.gup_spec_journal.specs.Place.{ops_of, doer};
 ghost use Rattle.gup_script.specs.Script.{is_thread};
 ghost use Rattle.gup_op_base.specs.Said.{whats_of};
-ghost use Rattle.gup_core.specs.Doers.{IsProcessOf};
+ghost use Rattle.gup_op_waits.specs.Doers.{IsProcessOf};
 ghost use Rattle.gup_core.specs.Machine.{counted};
 
 use crate::turn::{Head, Turn};

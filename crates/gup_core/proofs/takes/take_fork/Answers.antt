@@ -1,9 +1,9 @@
 use Rattle.std.proofs.Common.{◌≡◌, ℕ, List, length, slice_get, Some, refl, sym, ap, ◌∙◌, subst}
 use Rattle.std.specs.Vec.{with_items}
 use Rattle.gup_space.specs.Space.{SpaceParts}
-use Rattle.gup_core.specs.declared.births.Birth.{Birth}
+use Rattle.gup_op_waits.specs.declared.births.Birth.{Birth}
 use Rattle.gup_op_base.specs.Said.{whats_of}
-use Rattle.gup_core.specs.declared.parts.Parts.{Parts}
+use Rattle.gup_op_waits.specs.declared.parts.Parts.{Parts}
 use Rattle.gup_core.proofs.Parting.{written_back}
 use Rattle.gup_core.proofs.Turning.{IsForkTurns, forked}
 use Rattle.gup_core.proofs.takes.take_fork.Goals as goal

@@ -1,12 +1,13 @@
 use Rattle.std.proofs.Common.{ℕ, refl, sym, ◌∙◌, subst}
 use Rattle.gup_script.specs.declared.op.Op.{Op}
 use Rattle.gup_op_base.specs.Said.{whats_of}
-use Rattle.gup_core.specs.declared.parts.Parts.{Parts}
-use Rattle.gup_core.specs.Doers.{HasProcess}
+use Rattle.gup_op_waits.specs.declared.parts.Parts.{Parts}
+use Rattle.gup_op_waits.specs.Doers.{HasProcess}
 use Rattle.gup_core.proofs.Refusing.{of_born, refused}
-use Rattle.gup_core.proofs.Singles.{some_is, process_is}
+use Rattle.gup_op_waits.proofs.ScriptSlots.{some_is}
+use Rattle.gup_core.proofs.Singles.{process_is}
 use Rattle.gup_core.proofs.Turning.{IsTurnAmong}
-use Rattle.gup_core.proofs.Waiting.{forks_into}
+use Rattle.gup_op_waits.proofs.Waits.{forks_into}
 use Rattle.gup_core.proofs.takes.take_op.Goals as goal
 
 -- ---- of a failed process

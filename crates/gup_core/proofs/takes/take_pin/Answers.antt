@@ -3,7 +3,7 @@ use Rattle.std.specs.Vec.{with_item}
 use Rattle.arrayvec.specs.ArrayVec.{ArrayVec}
 use Rattle.gup_space.specs.Space.{SpaceParts}
 use Rattle.gup_op_base.specs.Said.{whats_of}
-use Rattle.gup_core.specs.declared.parts.Parts.{Parts}
+use Rattle.gup_op_waits.specs.declared.parts.Parts.{Parts}
 use Rattle.gup_core.proofs.Parting.{was_there, now_there, four}
 use Rattle.gup_core.proofs.Turning.{IsPinTurn}
 use Rattle.gup_core.proofs.takes.take_pin.Goals as goal

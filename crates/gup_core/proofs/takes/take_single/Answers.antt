@@ -10,14 +10,15 @@ use Rattle.gup_op_pins.specs.Held.{ShowsHeld, held_view, slots_in}
 use Rattle.gup_op_base.specs.Said.{whats_of}
 use Rattle.gup_op_base.specs.Turns.{Leads}
 use Rattle.gup_op_base.specs.Tidy.{needs_table}
-use Rattle.gup_core.specs.Doers.{HasProcess}
-use Rattle.gup_core.specs.Machine.{ShowsParts}
-use Rattle.gup_core.specs.Goes.{StandsAt}
+use Rattle.gup_op_waits.specs.Doers.{HasProcess}
+use Rattle.gup_op_waits.specs.Parts.{ShowsParts}
+use Rattle.gup_op_waits.specs.Stands.{StandsAt}
 use Rattle.gup_core.proofs.Pinning.{unpin_is_handling, give_is_handling, take_is_handling, transfer_is_handling, unpin_leaves_stores, give_leaves_stores, take_leaves_stores}
 use Rattle.gup_core.proofs.Parting.{all_kept}
-use Rattle.gup_core.proofs.Singles.{some_is, process_is, any_process, is_alone, alone_process}
+use Rattle.gup_op_waits.proofs.ScriptSlots.{some_is}
+use Rattle.gup_core.proofs.Singles.{process_is, any_process, is_alone, alone_process}
 use Rattle.gup_core.proofs.Turning.{IsTurnAmong, there, alone, pinned, handled, leads_part, leads_store}
-use Rattle.gup_core.proofs.Waiting.{single}
+use Rattle.gup_op_waits.proofs.Waits.{single}
 use Rattle.gup_core.proofs.takes.take_single.Goals as goal
 
 -- ---- a pin

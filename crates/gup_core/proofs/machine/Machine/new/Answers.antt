@@ -2,7 +2,8 @@ use Rattle.std.proofs.Common.{length, sym, ap, ◌∙◌, refl, subst}
 use Rattle.std.proofs.Math.ListN.{length-replicate}
 use Rattle.gup_script.specs.Script.{ScriptValue}
 use Rattle.gup_spec_turns.specs.Run.{run_start}
-use Rattle.gup_core.specs.Machine.{machine_of, Shows, AreParts}
+use Rattle.gup_core.specs.Machine.{machine_of, Shows}
+use Rattle.gup_op_waits.specs.Parts.{AreParts}
 use Rattle.gup_core.proofs.Starting.{no_turn, shows_start}
 use Rattle.gup_core.proofs.machine.Machine.new.Goals as goal
 

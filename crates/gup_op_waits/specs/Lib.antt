@@ -1,0 +1,6 @@
+pub mod Births
+pub mod Doers
+pub mod Locks
+pub mod Stores
+pub mod Parts
+pub mod Stands

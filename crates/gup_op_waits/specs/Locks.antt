@@ -1,0 +1,25 @@
+-- Which locks a turn needs, by what the machine keeps.
+use Rattle.std.specs.Prelude.{ℕ, ◌-◌, false, Option, Some, None, is_some}
+use Rattle.gup_base.specs.declared.entry.Rights.{Rights}
+use Rattle.gup_plain.specs.Event.{page_numbers}
+use Rattle.gup_plain.specs.Put.{lowest}
+use Rattle.gup_script.specs.declared.op.Op.{Op}
+use Rattle.gup_script.specs.declared.op.Op.TheVariants.{Fork}
+use Rattle.gup_spec_turns.specs.Waits.{Locks, both_locks, no_lock}
+use Rattle.gup_spec_turns.specs.ForkPlace.{ForkPlace, unbegun, from_page}
+use Rattle.gup_op_waits.specs.declared.locks.Locks.{Locks as KeptLocks}
+
+abbrev pub locks_of : KeptLocks → Locks
+locks_of locks = record { structure = locks.structure; table = locks.table }
+
+-- those of a fork, by the rights of its child and by where it stands
+abbrev pub fork_needs : (right : ℕ → Option Rights) → ForkPlace → Locks
+fork_needs right unbegun = both_locks
+fork_needs right (from_page page) =
+    record { structure = false; table = is_some (lowest page (page_numbers - page) (λ g. is_some (right g))) }
+fork_needs right other = no_lock
+
+-- the child that the operation brings, if it is a fork
+abbrev pub child_in : Op → Option ℕ
+child_in (Fork child) = Some child
+child_in op = None

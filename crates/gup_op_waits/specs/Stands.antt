@@ -1,0 +1,19 @@
+-- Where an actor stands before a turn of its operation.
+use Rattle.std.specs.Prelude.{◌≡◌, ℕ, ◌<◌, Bool, true, Some}
+use Rattle.gup_script.specs.declared.op.Op.{Op}
+use Rattle.gup_script.specs.declared.op.Op.TheVariants.{Pin, Transfer, Fork}
+use Rattle.gup_spec_events.specs.State.{CoreState, idle}
+use Rattle.gup_spec_turns.specs.ForkPlace.{IsNoFork, KeepsFrame, StandsFork}
+use Rattle.gup_spec_turns.specs.PinPlace.{StandsPin}
+use Rattle.gup_op_devices.specs.Transfers.{IsWhole}
+
+-- The actor of process p stands before a turn of this operation, of which so many turns are over: it is in the middle of
+-- nothing but, where the operation is one, a fork; a pin has taken its first pages, a pin that is taken is given to it, and
+-- one whose words it moves has all its pages.
+pub record StandsAt (s : CoreState) (a p far : ℕ) (op : Op) : Type 0 where
+  pub idle_job : IsNoFork (Some op) → s.job a ≡ idle
+  pub keeps : KeepsFrame (s.job a) (s.prepared a)
+  pub fork : (child : ℕ) → op ≡ Fork child → StandsFork s a p child (s.job a) (s.prepared a)
+  pub pin : (handle page n : ℕ) (write : Bool) → op ≡ Pin handle page n write → StandsPin s a p handle page n write far
+  pub pinned : (handle page n : ℕ) (write : Bool) → op ≡ Pin handle page n write → 0 < far → s.has_pinned p ≡ true
+  pub whole : (handle index slot n : ℕ) (outward : Bool) → op ≡ Transfer handle outward index slot n → IsWhole s a handle
