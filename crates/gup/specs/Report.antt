@@ -8,6 +8,7 @@ use Rattle.gup_lines.specs.Text.{outcomes_of}
 use Rattle.gup_io.specs.Faults.{EndsInFault}
 use Rattle.gup_io.specs.Transfers.{AppendsPart}
 use Rattle.gup_spec_journal.specs.Plain.{IsPlain}
+use Rattle.gup_spec_journal.specs.Thorough.{IsThorough}
 use Rattle.gup_spec_journal.specs.Follows.{Follows}
 use Rattle.gup_spec_journal.specs.Order.{InOrder}
 use Rattle.gup_spec_journal.specs.Place.{starts_born}
@@ -92,6 +93,7 @@ pub record IsRunOf (script : ScriptValue) (stuck : Bool) (notes : List NoteValue
   pub follows : Follows script notes
   pub in_order : InOrder script notes
   pub plain : IsPlain script notes
+  pub thorough : IsThorough script notes
   pub owned : OwnsBytes (starts_born script) (journal_events notes)
   pub causes : HasCauses script notes
   pub end : RunState

@@ -6,6 +6,7 @@ ghost use Rattle.gup_io.specs.Faults.{HasCause, EndsInFault};
 ghost use Rattle.gup_script.specs.Script.{ScriptValue};
 ghost use Rattle.gup_spec_journal.specs.Place.{starts_born};
 ghost use Rattle.gup_spec_journal.specs.Plain.{IsPlain};
+ghost use Rattle.gup_spec_journal.specs.Thorough.{IsThorough};
 ghost use Rattle.gup_spec_journal.specs.Follows.{Follows};
 ghost use Rattle.gup_spec_journal.specs.Order.{InOrder};
 ghost use Rattle.gup_law_owners.specs.Owners.{OwnsBytes, journal_events};
@@ -22,7 +23,7 @@ use gup_core::Machine;
 use gup_io::{ReadToEnd, Sink, Source, read_up_to, write_all};
 use gup_law_journal::{
     core_run_follows, core_run_is_in_order, core_run_is_known, core_run_is_plain,
-    finished_runs_answer_all, no_frame_has_its_cause, runs_end_at_waits,
+    core_run_is_thorough, finished_runs_answer_all, no_frame_has_its_cause, runs_end_at_waits,
 };
 use gup_law_owners::plain_journals_are_owned;
 use gup_plain::Journal;
@@ -122,6 +123,7 @@ fn run_script(alloc: Global, script: &Script) -> Result<Told, NoMemory>
     core_run_follows();
     core_run_is_in_order();
     core_run_is_plain();
+    core_run_is_thorough();
     plain_journals_are_owned();
     core_run_is_known();
     no_frame_has_its_cause();
@@ -232,37 +234,39 @@ pub fn gup<S: Source, K: Sink>(
     source: &mut S,
     sink: &mut K,
 ) -> Report
-    // The headline: where the source tells its bytes, they are a script, the journal follows it in its order and is
-    // plain, what the sink took is the journal's text and nothing else, and the journal is the core run, in which
-    // every actor has finished, or, at status 4, at whose end actors have operations left, and each waits for a process
-    // or for a pin.
-    ensures script { HasRun result.status → AreScript (S.remaining source.old) }
-    ensures follows { HasRun result.status
+    // The headline, of `run`: where the source tells its bytes, they are a script, the journal follows it in its order and
+    // is plain and thorough, what the sink took is the journal's text and nothing else, and the journal is the core run, in
+    // which every actor has finished, or, at status 4, at whose end actors have operations left, and each waits for a
+    // process or for a pin.
+    ensures script { IsRun (map string_bytes words.now) → HasRun result.status → AreScript (S.remaining source.old) }
+    ensures follows { IsRun (map string_bytes words.now) → HasRun result.status
         → OfScript (S.remaining source.old) (λ script. Follows script result.journal.notes) }
-    ensures in_order { HasRun result.status
+    ensures in_order { IsRun (map string_bytes words.now) → HasRun result.status
         → OfScript (S.remaining source.old) (λ script. InOrder script result.journal.notes) }
-    ensures plain { HasRun result.status
+    ensures plain { IsRun (map string_bytes words.now) → HasRun result.status
         → OfScript (S.remaining source.old) (λ script. IsPlain script result.journal.notes) }
-    ensures text { result.status ≡ 0 → OfScript (S.remaining source.old)
+    ensures thorough { IsRun (map string_bytes words.now) → HasRun result.status
+        → OfScript (S.remaining source.old) (λ script. IsThorough script result.journal.notes) }
+    ensures text { IsRun (map string_bytes words.now) → result.status ≡ 0 → OfScript (S.remaining source.old)
         (λ script. Appends (K.taken sink.old) (K.taken sink.new) (text_of script result.journal.notes)) }
-    ensures stuck_text { result.status ≡ 4 → OfScript (S.remaining source.old)
+    ensures stuck_text { IsRun (map string_bytes words.now) → result.status ≡ 4 → OfScript (S.remaining source.old)
         (λ script. (end : RunState) × IsCoreRun script result.journal.notes end
         × Appends (K.taken sink.old) (K.taken sink.new) (run_text script result.journal.notes end)) }
-    ensures core { result.status ≡ 0
+    ensures core { IsRun (map string_bytes words.now) → result.status ≡ 0
         → OfScript (S.remaining source.old) (λ script. IsFinishedRun script result.journal.notes) }
-    ensures stuck { result.status ≡ 4
+    ensures stuck { IsRun (map string_bytes words.now) → result.status ≡ 4
         → OfScript (S.remaining source.old) (λ script. IsStuckRun script result.journal.notes) }
 
     // Each process owns its bytes in that journal: what is read of an object was last written to it, or is 0, and what
     // a page names is written by its process, by devices through a pin of it, and by the fork that made it.
-    ensures owned { HasRun result.status → OfScript (S.remaining source.old)
+    ensures owned { IsRun (map string_bytes words.now) → HasRun result.status → OfScript (S.remaining source.old)
         (λ script. OwnsBytes (starts_born script) (journal_events result.journal.notes)) }
 
     // Each operation has one answer, where all have finished, and each refusal its cause: the plain state denies the
     // operation so, or its turn needs a frame and none is free that it may take; and where that is so it is refused.
-    ensures lines { result.status ≡ 0 → OfScript (S.remaining source.old)
+    ensures lines { IsRun (map string_bytes words.now) → result.status ≡ 0 → OfScript (S.remaining source.old)
         (λ script. length (outcomes_of result.journal.notes) ≡ operations script) }
-    ensures causes { HasRun result.status
+    ensures causes { IsRun (map string_bytes words.now) → HasRun result.status
         → OfScript (S.remaining source.old) (λ script. HasCauses script result.journal.notes) }
 
     // Which statuses there are. Words that are a command and bytes that are a script give status 0, where all actors

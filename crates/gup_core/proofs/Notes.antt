@@ -1,7 +1,8 @@
 -- No turn has two events and no answer: an operation that goes on counts one page or word a turn.
-use Rattle.std.proofs.Common.{◌==◌, ℕ, ◌+◌, Bool, true, false, List, [], ◌∷◌, nat_lt, Option, Some, None, Ok, Err, zero, suc}
+use Rattle.std.proofs.Common.{◌==◌, ℕ, ◌+◌, Bool, true, false, List, [], ◌∷◌, length, nat_lt, Option, Some, None, Ok, Err, zero, suc}
 use Rattle.gup_base.specs.declared.entry.Entry.{Entry}
 use Rattle.gup_base.specs.declared.entry.Rights.{Rights}
+use Rattle.gup_base.specs.declared.entry.Want.{Want}
 use Rattle.gup_plain.specs.Denial.{any_mapped, any_unmapped, map_denial, protect_denial, is_held_by, transfer_denial}
 use Rattle.gup_plain.specs.Event.{words}
 use Rattle.gup_plain.specs.State.{Birth, unborn, growing, born, failed}
@@ -60,11 +61,11 @@ ends_two : (a p handle n far : ℕ) (answer : Answer) → NoTwo (ends_pin a p ha
 ends_two a p handle n zero answer = tt
 ends_two a p handle n (suc far) answer = tt
 
-pin_two : (fault : Fault) (s : CoreState) (a p handle page n far : ℕ) (write : Bool) → NoTwo (pin_turn_by fault s a p handle page n far write).whats
-pin_two (Err answer) s a p handle page n far write = ends_two a p handle n far answer
-pin_two (Ok before) s a p handle page n far write = go (far + 1 == n)
+pin_two : (fault : Fault) (s : CoreState) (a p handle page n got : ℕ) (want : Want) → NoTwo (pin_turn_by fault s a p handle page n got want).whats
+pin_two (Err answer) s a p handle page n got want = ends_two a p handle n got answer
+pin_two (Ok before) s a p handle page n got want = go (got + 1 == n)
   where
-    go : (last : Bool) → NoTwo (Event (events.PinTry a p page write) ∷ pinned_if last a handle n)
+    go : (last : Bool) → NoTwo (Event (events.PinTry a p page want.write) ∷ pinned_if last a handle n)
     go true = tt
     go false = tt
 
@@ -127,7 +128,9 @@ no_two s a p slots far (Protect page n rights) = protect_two (protect_denial (an
 no_two s a p slots far (Discard page n) = discard_two (s.right p (page + far)) a p (page + far) (s.entry p (page + far)) (far + 1 == n)
 no_two s a p slots far (Load page word) = load_two s (load_fault s a p page (s.entry p page)) a p page word
 no_two s a p slots far (Store page word value) = store_two s (store_fault s a p page (s.entry p page)) a p page word value
-no_two s a p slots far (Pin handle page n write) = pin_two (pin_fault s a p (page + far) write) s a p handle (page + far) n far write
+no_two s a p slots far (Pin handle page n want fast) =
+    let got : ℕ = length (s.taken a) in
+    pin_two (pin_fault s a p (page + got) want.write) s a p handle (page + got) n got want
 no_two s a p slots far (Unpin handle) = unpin_two (is_held_by (s.handle handle) a) a handle (s.pinned handle)
 no_two s a p slots far (Give handle to) = give_two (is_held_by (s.handle handle) a) a handle to
 no_two s a p slots far (Take handle) = tt
@@ -143,7 +146,7 @@ refused_two a p (Protect page n rights) = tt
 refused_two a p (Discard page n) = tt
 refused_two a p (Load page word) = tt
 refused_two a p (Store page word value) = tt
-refused_two a p (Pin handle page n write) = tt
+refused_two a p (Pin handle page n want fast) = tt
 refused_two a p (Unpin handle) = tt
 refused_two a p (Give handle to) = tt
 refused_two a p (Take handle) = tt

@@ -185,7 +185,7 @@ turn_is_own s a p slots far (Load page word) alone =
 turn_is_own s a p slots far (Store page word value) alone =
     store_own s (store_fault_by (allows_store (s.entry p page)) s a p page (s.entry p page)) a p page word value
     (store_fault_own (allows_store (s.entry p page)) s a p page (s.entry p page))
-turn_is_own s a p slots far (Pin handle page n write) alone = absurd alone
+turn_is_own s a p slots far (Pin handle page n want fast) alone = absurd alone
 turn_is_own s a p slots far (Unpin handle) alone = absurd alone
 turn_is_own s a p slots far (Give handle to) alone = absurd alone
 turn_is_own s a p slots far (Take handle) alone = absurd alone

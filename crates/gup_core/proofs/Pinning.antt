@@ -1,9 +1,10 @@
 -- The events of a turn of a pin are of frames, of its process, of its handle and of what its actor has taken; those of a
 -- turn of an operation on a pin are of frames, of the pin and of the actor's store.
-use Rattle.std.proofs.Common.{◌≡◌, ℕ, ◌+◌, ◌==◌, Bool, true, false, List, [], ◌∷◌, ◌++◌, Option, Some, None, Ok, Err, zero, suc, refl, ap, ◌∙◌, if◌then◌else◌, arith}
+use Rattle.std.proofs.Common.{◌≡◌, ℕ, ◌+◌, ◌==◌, Bool, true, false, List, [], ◌∷◌, ◌++◌, length, Option, Some, None, Ok, Err, zero, suc, refl, ap, ◌∙◌, if◌then◌else◌, arith}
 use Rattle.std.proofs.lemmas.Bool.Decides.{nat_tests}
 use Rattle.gup_base.specs.declared.entry.Entry.{Entry}
 use Rattle.gup_base.specs.declared.entry.Rights.{Rights}
+use Rattle.gup_base.specs.declared.entry.Want.{Want}
 use Rattle.gup_plain.specs.Denial.{is_held_by, transfer_denial}
 use Rattle.gup_plain.specs.State.{Birth}
 use Rattle.gup_plain.specs.declared.answer.Answer.{Answer}
@@ -73,16 +74,17 @@ ends_pinning : (a p handle n far : ℕ) (answer : Answer) → ArePinning a p (en
 ends_pinning a p handle n zero answer = (flags, tt)
 ends_pinning a p handle n (suc far) answer = (makes handle, tt)
 
-pin_pinning : (fault : Fault) (s : CoreState) (a p handle page n far : ℕ) (write : Bool) → AreOwn a p (events_of fault) → ArePinning a p (pin_turn_by fault s a p handle page n far write).events
-pin_pinning (Err answer) s a p handle page n far write own = ends_pinning a p handle n far answer
-pin_pinning (Ok before) s a p handle page n far write own =
-    let first : ArePinning a p (raises a p far ++ before) = two_lists (IsPinning a p) (raises a p far) before (raises_pinning a p far) (ready_pinning a p before own) in
-    two_lists (IsPinning a p) (raises a p far ++ before) (pin_page a p page _ write false ∷ makes_if (far + 1 == n) a handle) first
-    (pins_it page _ write false, makes_pinning (far + 1 == n) a p handle)
+pin_pinning : (fault : Fault) (s : CoreState) (a p handle page n got : ℕ) (want : Want) → AreOwn a p (events_of fault) → ArePinning a p (pin_turn_by fault s a p handle page n got want).events
+pin_pinning (Err answer) s a p handle page n got want own = ends_pinning a p handle n got answer
+pin_pinning (Ok before) s a p handle page n got want own =
+    let first : ArePinning a p (raises a p got ++ before) = two_lists (IsPinning a p) (raises a p got) before (raises_pinning a p got) (ready_pinning a p before own) in
+    two_lists (IsPinning a p) (raises a p got ++ before) (pin_page a p page _ want.write want.long ∷ makes_if (got + 1 == n) a handle) first
+    (pins_it page _ want.write want.long, makes_pinning (got + 1 == n) a p handle)
 
-pub pin_is_pinning : (s : CoreState) (a p handle page n far : ℕ) (write : Bool) → ArePinning a p (pin_turn s a p handle page n far write).events
-pin_is_pinning s a p handle page n far write =
-    pin_pinning (pin_fault s a p (page + far) write) s a p handle (page + far) n far write (pin_fault_own s a p (page + far) write)
+pub pin_is_pinning : (s : CoreState) (a p handle page n : ℕ) (want : Want) → ArePinning a p (pin_turn s a p handle page n want).events
+pin_is_pinning s a p handle page n want =
+    let got : ℕ = length (s.taken a) in
+    pin_pinning (pin_fault s a p (page + got) want.write) s a p handle (page + got) n got want (pin_fault_own s a p (page + got) want.write)
 
 -- what they leave
 

@@ -105,13 +105,13 @@ is_ready m a asked proc seat op stand machine rest of_asked of_a here present wa
           let has : HasProcess op = subst HasProcess (sym is) tt in
           fork_ready m r a p child seat stands h rest (same has) here forks (sym (thread_birth who r.core.birth (thread has)) ∙ born_free.0);
       weighed = rest.weighed;
-      yet = λ handle page n write is. rest.yet a handle page n write seat here (present ∙ ap (λ (x : Op). Some x) is);
-      taken = λ pages handle page n write there is. rest.taken a handle page n write seat pages here there (present ∙ ap (λ (x : Op). Some x) is);
-      pinned = λ space handle page n write there is some.
+      yet = λ handle page n want fast is. rest.yet a handle page n want fast seat here (present ∙ ap (λ (x : Op). Some x) is);
+      taken = λ pages handle page n want fast there is. rest.taken a handle page n want fast seat pages here there (present ∙ ap (λ (x : Op). Some x) is);
+      pinned = λ space handle page n want fast there is some.
           let found : slice_get m.parts.spaces.items own ≡ Some space = ap (λ k. slice_get m.parts.spaces.items k) (same (subst HasProcess (sym is) tt)) ∙ there in
           let far : seat.far ≡ (r.places a).far =
           (subst (λ (o : Option Op). IsSeat o (r.places a) seat) (now ∙ ap (λ (x : Op). Some x) is) (h.seats a seat here)).1 in
-          sym (h.parts.spaces own space found).has_pinned ∙ at.pinned handle page n write is (subst (λ k. 0 < k) far some);
+          sym (h.parts.spaces own space found).has_pinned ∙ at.pinned handle page n want fast is (subst (λ k. 0 < k) far some);
       given = λ handle is. keeps_given (handles_of m.parts.handles handle) (r.core.handle handle) (r.core.pinned handle) a (h.parts.pins handle) (given_free r.core a own handle op is born_free.1);
       actor_taken = omega (arith, actor, rest.parts.taken);
       actor_store = omega (arith, actor, rest.parts.stores);

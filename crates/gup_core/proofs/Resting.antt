@@ -130,7 +130,7 @@ far_fits script r a seat (Map page n rights) h at is = tt
 far_fits script r a seat (Protect page n rights) h at is = tt
 far_fits script r a seat (Load page word) h at is = tt
 far_fits script r a seat (Store page word value) h at is = tt
-far_fits script r a seat (Pin handle page n write) h at is = subst (λ (k : ℕ). k < n) (sym at.1) (h.pins a handle page n write is).within
+far_fits script r a seat (Pin handle page n want fast) h at is = subst (λ (k : ℕ). k < n) (sym at.1) (h.pins a handle page n want fast is).within
 far_fits script r a seat (Unpin handle) h at is = tt
 far_fits script r a seat (Give handle to) h at is = tt
 far_fits script r a seat (Take handle) h at is = tt
@@ -191,8 +191,8 @@ stands_at script r a op h is =
       idle_job = λ single. h.idle_jobs a (subst IsNoFork (sym is) single);
       keeps = h.keeps a;
       fork = λ child same. h.forks a child (is ∙ ap (λ (x : Op). Some x) same);
-      pin = λ handle page n write same. h.pins a handle page n write (is ∙ ap (λ (x : Op). Some x) same);
-      pinned = λ handle page n write same some. h.flagged a handle page n write (is ∙ ap (λ (x : Op). Some x) same) some;
+      pin = λ handle page n want fast same. h.pins a handle page n want fast (is ∙ ap (λ (x : Op). Some x) same);
+      pinned = λ handle page n want fast same some. h.flagged a handle page n want fast (is ∙ ap (λ (x : Op). Some x) same) some;
       whole = λ handle index slot n outward same holds.
           whole_by (back_in script r handle) a (r.core.pinned handle) (r.core.handle handle) (h.handles handle)
           (ap (λ (o : Option Op). given_back o handle (r.places a).far) (is ∙ ap (λ (x : Op). Some x) same)) holds;
@@ -223,11 +223,11 @@ at_rest m valid is there stand =
           let now : present_op m.script a (r.places a) ≡ Some op = op_there m r a seat (Some op) shown here present in
           far_fits m.script r a seat op h (subst (λ (o : Option Op). IsSeat o (r.places a) seat) now (shown.seats a seat here)) now;
       weighed = λ k. weighed_by (frames_of m.parts.frames) r.core (handles_of m.parts.handles k) (r.core.handle k) (r.core.pinned k) there parts.frames (parts.pins k) (h.weighed k);
-      yet = λ a handle page n write seat here present.
+      yet = λ a handle page n want fast seat here present.
           unmade_kept (handles_of m.parts.handles handle) (r.core.handle handle) (r.core.pinned handle) (parts.pins handle)
-          (h.pins a handle page n write (op_there m r a seat (Some (Pin handle page n write)) shown here present)).yet;
-      taken = λ a handle page n write seat pages here taken present.
-          let now : present_op m.script a (r.places a) ≡ Some (Pin handle page n write) = op_there m r a seat (Some (Pin handle page n write)) shown here present in
-          let at : IsSeat (Some (Pin handle page n write)) (r.places a) seat = subst (λ (o : Option Op). IsSeat o (r.places a) seat) now (shown.seats a seat here) in
-          ap length (sym (parts.taken a pages taken)) ∙ length_frames (r.core.taken a) ∙ (h.pins a handle page n write now).taken.many ∙ sym at.1;
+          (h.pins a handle page n want fast (op_there m r a seat (Some (Pin handle page n want fast)) shown here present)).yet;
+      taken = λ a handle page n want fast seat pages here taken present.
+          let now : present_op m.script a (r.places a) ≡ Some (Pin handle page n want fast) = op_there m r a seat (Some (Pin handle page n want fast)) shown here present in
+          let at : IsSeat (Some (Pin handle page n want fast)) (r.places a) seat = subst (λ (o : Option Op). IsSeat o (r.places a) seat) now (shown.seats a seat here) in
+          ap length (sym (parts.taken a pages taken)) ∙ length_frames (r.core.taken a) ∙ (h.pins a handle page n want fast now).taken.many ∙ sym at.1;
     }

@@ -23,7 +23,7 @@ no_device (Protect page n rights) has of_device = of_device
 no_device (Discard page n) has of_device = of_device
 no_device (Load page word) has of_device = of_device
 no_device (Store page word value) has of_device = of_device
-no_device (Pin handle page n write) has of_device = of_device
+no_device (Pin handle page n want fast) has of_device = of_device
 no_device (Unpin handle) has of_device = has
 no_device (Give handle to) has of_device = has
 no_device (Take handle) has of_device = has
@@ -90,7 +90,7 @@ far_below (Map page n rights) far is has = omega arith
 far_below (Protect page n rights) far is has = omega arith
 far_below (Load page word) far is has = omega arith
 far_below (Store page word value) far is has = omega arith
-far_below (Pin handle page n write) far is has = let few : n ≤ most_pinned = is.1 in omega arith
+far_below (Pin handle page n want fast) far is has = let few : n ≤ most_pinned = is.1 in omega arith
 far_below (Unpin handle) far is has = omega arith
 far_below (Give handle to) far is has = omega arith
 far_below (Take handle) far is has = omega arith

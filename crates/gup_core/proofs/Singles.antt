@@ -1,5 +1,6 @@
 -- What a turn of an operation that is no fork needs, and which operations those are.
 use Rattle.std.proofs.Common.{◌≡◌, ℕ, true, Option, Some, None, IfSome, Bool, sym, refl, subst}
+use Rattle.gup_base.specs.declared.entry.Want.{Want}
 use Rattle.gup_script.specs.declared.op.Op.{Op}
 use Rattle.gup_script.specs.declared.op.Op.TheVariants.{Map, Unmap, Protect, Discard, Load, Store, Pin, Unpin, Give, Take, Transfer, Fork, Exit}
 use Rattle.gup_space.specs.Space.{SpaceValue}
@@ -19,7 +20,7 @@ any_process (Some q) = (q, refl)
 -- ---- which operations are of one process alone
 
 pub is_alone : (op : Op) → IsNoFork (Some op)
-    → ((handle page n : ℕ) (write : Bool) → op ≡ Pin handle page n write → ⊥) → ((handle : ℕ) → op ≡ Unpin handle → ⊥) → ((handle to : ℕ) → op ≡ Give handle to → ⊥) → ((handle : ℕ) → op ≡ Take handle → ⊥)
+    → ((handle page n : ℕ) (want : Want) (fast : Bool) → op ≡ Pin handle page n want fast → ⊥) → ((handle : ℕ) → op ≡ Unpin handle → ⊥) → ((handle to : ℕ) → op ≡ Give handle to → ⊥) → ((handle : ℕ) → op ≡ Take handle → ⊥)
     → ((handle : ℕ) (outward : Bool) (index slot n : ℕ) → op ≡ Transfer handle outward index slot n → ⊥) → IsAlone op
 is_alone (Map page n rights) single pin unpin give take transfer = tt
 is_alone (Unmap page n) single pin unpin give take transfer = tt
@@ -27,7 +28,7 @@ is_alone (Protect page n rights) single pin unpin give take transfer = tt
 is_alone (Discard page n) single pin unpin give take transfer = tt
 is_alone (Load page word) single pin unpin give take transfer = tt
 is_alone (Store page word value) single pin unpin give take transfer = tt
-is_alone (Pin handle page n write) single pin unpin give take transfer = pin handle page n write refl
+is_alone (Pin handle page n want fast) single pin unpin give take transfer = pin handle page n want fast refl
 is_alone (Unpin handle) single pin unpin give take transfer = unpin handle refl
 is_alone (Give handle to) single pin unpin give take transfer = give handle to refl
 is_alone (Take handle) single pin unpin give take transfer = take handle refl
@@ -43,7 +44,7 @@ alone_process (Protect page n rights) alone = tt
 alone_process (Discard page n) alone = tt
 alone_process (Load page word) alone = tt
 alone_process (Store page word value) alone = tt
-alone_process (Pin handle page n write) alone = absurd alone
+alone_process (Pin handle page n want fast) alone = absurd alone
 alone_process (Unpin handle) alone = absurd alone
 alone_process (Give handle to) alone = absurd alone
 alone_process (Take handle) alone = absurd alone
@@ -59,7 +60,7 @@ table_process S (Protect page n rights) needed = tt
 table_process S (Discard page n) needed = tt
 table_process S (Load page word) needed = tt
 table_process S (Store page word value) needed = tt
-table_process S (Pin handle page n write) needed = tt
+table_process S (Pin handle page n want fast) needed = tt
 table_process S (Unpin handle) needed = absurd (cc needed)
 table_process S (Give handle to) needed = absurd (cc needed)
 table_process S (Take handle) needed = absurd (cc needed)

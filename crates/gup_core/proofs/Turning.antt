@@ -4,6 +4,7 @@ use Rattle.std.specs.Option.{option_or}
 use Rattle.std.proofs.lemmas.Bool.Decides.{nat_tests}
 use Rattle.std.proofs.lemmas.Option.{slice_get_cases}
 use Rattle.arrayvec.specs.ArrayVec.{ArrayVec}
+use Rattle.gup_base.specs.declared.entry.Want.{Want}
 use Rattle.gup_plain.specs.State.{Birth as CoreBirth}
 use Rattle.gup_plain.specs.declared.answer.Answer.{Answer}
 use Rattle.gup_plain.specs.declared.event.PlainEvent.{PlainEvent}
@@ -61,10 +62,10 @@ IsTurnBy old new a proc far op fork whats next =
     → IsTurnOf (ShowsAll a) (StandsFree a who k op) (all_view old fork others) (all_view new next others) (λ s. turn_of s who k op) whats
 
 -- a turn of a pin, by what is kept of its process and of what it has taken
-abbrev pub IsPinTurn : (old new : Parts) → (x y : SpaceParts) → (was now : ArrayVec ℕ) → (a p handle page n : ℕ) → (write : Bool) → (far : ℕ) → List What → Type 0
-IsPinTurn old new x y was now a p handle page n write far whats =
-    IsTurnOf (ShowsPinning a p) (StandsAtPage a p handle page n write far) (pinning_view old.frames x old.handles was.items) (pinning_view new.frames y new.handles now.items)
-    (λ s. pin_turn s a p handle page n far write) whats
+abbrev pub IsPinTurn : (old new : Parts) → (x y : SpaceParts) → (was now : ArrayVec ℕ) → (a p handle page n : ℕ) → Want → (far : ℕ) → List What → Type 0
+IsPinTurn old new x y was now a p handle page n want far whats =
+    IsTurnOf (ShowsPinning a p) (StandsAtPage a p handle page n want far) (pinning_view old.frames x old.handles was.items) (pinning_view new.frames y new.handles now.items)
+    (λ s. pin_turn s a p handle page n want) whats
 
 -- ---- one element of a list
 
@@ -163,28 +164,28 @@ alone old new a p slots far op fork whats by_itself single within many births ha
 
 -- ---- a turn of a pin
 
-pub pinned : (old new : Parts) (a p slots far handle page n : ℕ) (write : Bool) (fork : ForkPlace) (whats : List What)
+pub pinned : (old new : Parts) (a p slots far handle page n : ℕ) (want : Want) (fast : Bool) (fork : ForkPlace) (whats : List What)
     → p < length old.spaces.items → length new.spaces.items ≡ length old.spaces.items
     → a < length old.taken.items → length new.taken.items ≡ length old.taken.items
     → new.births ≡ old.births → new.stores ≡ old.stores
     → ((q : ℕ) → (q ≡ p → ⊥) → slice_get new.spaces.items q ≡ slice_get old.spaces.items q)
     → ((b : ℕ) → (b ≡ a → ⊥) → slice_get new.taken.items b ≡ slice_get old.taken.items b)
     → ((x y : SpaceParts) (was now : ArrayVec ℕ) → slice_get old.spaces.items p ≡ Some x → slice_get new.spaces.items p ≡ Some y → slice_get old.taken.items a ≡ Some was → slice_get new.taken.items a ≡ Some now
-    → IsPinTurn old new x y was now a p handle page n write far whats)
-    → IsTurnAmong old new a p slots far (Pin handle page n write) fork whats fork
-pinned old new a p slots far handle page n write fork whats within many taker takers births stores others untaken turn k rest far_is s shown stands =
+    → IsPinTurn old new x y was now a p handle page n want far whats)
+    → IsTurnAmong old new a p slots far (Pin handle page n want fast) fork whats fork
+pinned old new a p slots far handle page n want fast fork whats within many taker takers births stores others untaken turn k rest far_is s shown stands =
     let x = there old.spaces.items p within in
     let y = there new.spaces.items p (omega (arith, within, many)) in
     let was = there old.taken.items a taker in
     let now = there new.taken.items a (omega (arith, taker, takers)) in
-    let es : List CoreEvent = (pin_turn s a p handle page n k write).events in
-    let own : ArePinning a p es = pin_is_pinning s a p handle page n k write in
+    let es : List CoreEvent = (pin_turn s a p handle page n want).events in
+    let own : ArePinning a p es = pin_is_pinning s a p handle page n want in
     let none : IsUnforked (s.job a) = λ f. ap (λ job. fork_place job f) (stands.idle_job tt) in
-    let turn_at : IsPinTurn old new x.0 y.0 was.0 now.0 a p handle page n write k whats =
-    subst (λ (q : ℕ). IsPinTurn old new x.0 y.0 was.0 now.0 a p handle page n write q whats) far_is (turn x.0 y.0 was.0 now.0 x.1 y.1 was.1 now.1) in
-    let led : Leads (ShowsPinning a p) (pinning_view new.frames y.0 new.handles now.0.items) s (pin_turn s a p handle page n k write) whats =
+    let turn_at : IsPinTurn old new x.0 y.0 was.0 now.0 a p handle page n want k whats =
+    subst (λ (q : ℕ). IsPinTurn old new x.0 y.0 was.0 now.0 a p handle page n want q whats) far_is (turn x.0 y.0 was.0 now.0 x.1 y.1 was.1 now.1) in
+    let led : Leads (ShowsPinning a p) (pinning_view new.frames y.0 new.handles now.0.items) s (pin_turn s a p handle page n want) whats =
     turn_at s (record { frames = shown.parts.frames; space = shown.parts.spaces p x.0 x.1; pins = shown.parts.pins; taken = shown.parts.taken a was.0 was.1 })
-    (record { at = stands.pin handle page n write refl; flagged = stands.pinned handle page n write refl }) in
+    (record { at = stands.pin handle page n want fast refl; flagged = stands.pinned handle page n want fast refl }) in
     let parts : ShowsParts new (run s es) =
     record {
       frames = led.shown.frames;

@@ -1,6 +1,7 @@
 -- What a turn of an operation is over among all that the machine has, and what it needs of that.
 use Rattle.std.specs.Prelude.{◌≡◌, ℕ, ◌<◌, ◌^◌, Bool, true, length, slice_get, List, Option, Some, None}
 use Rattle.arrayvec.specs.ArrayVec.{ArrayVec}
+use Rattle.gup_base.specs.declared.entry.Want.{Want}
 use Rattle.gup_script.specs.Valid.{IsOp}
 use Rattle.gup_script.specs.declared.op.Op.{Op}
 use Rattle.gup_script.specs.declared.op.Op.TheVariants.{Pin, Take, Fork}
@@ -75,9 +76,9 @@ pub record IsReady (parts : Parts) (a p : ℕ) (op : Op) (gone : ℕ) (place : F
   pub far : HasFar op gone
   pub fork : (child : ℕ) → op ≡ Fork child → IsForkReady (frames_of parts.frames) parts.spaces.items parts.births.items a p child place
   pub weighed : (h : ℕ) → IsWeighed (frames_of parts.frames) (handles_of parts.handles h)
-  pub yet : (handle page n : ℕ) (write : Bool) → op ≡ Pin handle page n write → handles_of parts.handles handle ≡ unmade
-  pub taken : (pages : ArrayVec ℕ) (handle page n : ℕ) (write : Bool) → slice_get parts.taken.items a ≡ Some pages → op ≡ Pin handle page n write → length pages.items ≡ gone
-  pub pinned : (space : SpaceParts) (handle page n : ℕ) (write : Bool) → slice_get parts.spaces.items p ≡ Some space → op ≡ Pin handle page n write → 0 < gone → (space_of space).has_pinned ≡ true
+  pub yet : (handle page n : ℕ) (want : Want) (fast : Bool) → op ≡ Pin handle page n want fast → handles_of parts.handles handle ≡ unmade
+  pub taken : (pages : ArrayVec ℕ) (handle page n : ℕ) (want : Want) (fast : Bool) → slice_get parts.taken.items a ≡ Some pages → op ≡ Pin handle page n want fast → length pages.items ≡ gone
+  pub pinned : (space : SpaceParts) (handle page n : ℕ) (want : Want) (fast : Bool) → slice_get parts.spaces.items p ≡ Some space → op ≡ Pin handle page n want fast → 0 < gone → (space_of space).has_pinned ≡ true
   pub given : (handle : ℕ) → op ≡ Take handle → IsKeptFor (handles_of parts.handles handle) a
   pub actor_taken : a < length parts.taken.items
   pub actor_store : a < length parts.stores.items

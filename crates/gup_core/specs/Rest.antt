@@ -1,6 +1,7 @@
 -- What is true of a machine between two turns.
 use Rattle.std.specs.Prelude.{◌≡◌, ℕ, ◌+◌, ◌*◌, ◌≤◌, Bool, length, slice_get, Option, Some}
 use Rattle.arrayvec.specs.ArrayVec.{ArrayVec}
+use Rattle.gup_base.specs.declared.entry.Want.{Want}
 use Rattle.gup_plain.specs.Event.{page_numbers}
 use Rattle.gup_script.specs.declared.op.Op.{Op}
 use Rattle.gup_script.specs.declared.op.Op.TheVariants.{Pin, Fork}
@@ -44,5 +45,5 @@ pub record IsAtRest (m : MachineValue) : Type 0 where
   pub answered : (a : ℕ) (seat : Seat) → slice_get m.seats a ≡ Some seat → seat.answered ≤ length (ops_of m.script a)
   pub far : (a : ℕ) (seat : Seat) (op : Op) → slice_get m.seats a ≡ Some seat → op_of_seat m a seat ≡ Some op → HasFar op seat.far
   pub weighed : (h : ℕ) → IsWeighed (frames_of m.parts.frames) (handles_of m.parts.handles h)
-  pub yet : (a handle page n : ℕ) (write : Bool) (seat : Seat) → slice_get m.seats a ≡ Some seat → op_of_seat m a seat ≡ Some (Pin handle page n write) → handles_of m.parts.handles handle ≡ unmade
-  pub taken : (a handle page n : ℕ) (write : Bool) (seat : Seat) (pages : ArrayVec ℕ) → slice_get m.seats a ≡ Some seat → slice_get m.parts.taken.items a ≡ Some pages → op_of_seat m a seat ≡ Some (Pin handle page n write) → length pages.items ≡ seat.far
+  pub yet : (a handle page n : ℕ) (want : Want) (fast : Bool) (seat : Seat) → slice_get m.seats a ≡ Some seat → op_of_seat m a seat ≡ Some (Pin handle page n want fast) → handles_of m.parts.handles handle ≡ unmade
+  pub taken : (a handle page n : ℕ) (want : Want) (fast : Bool) (seat : Seat) (pages : ArrayVec ℕ) → slice_get m.seats a ≡ Some seat → slice_get m.parts.taken.items a ≡ Some pages → op_of_seat m a seat ≡ Some (Pin handle page n want fast) → length pages.items ≡ seat.far

@@ -15,7 +15,7 @@ IsSeat op place seat = (seat.answered ≡ place.answered) × (seat.far ≡ far_i
 abbrev pub far_behind : Op → (far : ℕ) → ℕ
 far_behind (Unmap page n) far = far + 1
 far_behind (Discard page n) far = far + 1
-far_behind (Pin handle page n write) far = far + 1
+far_behind (Pin handle page n want fast) far = far + 1
 far_behind (Transfer handle outward index slot n) far = far + 1
 far_behind op far = 0
 

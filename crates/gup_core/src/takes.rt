@@ -1,5 +1,5 @@
 //! A turn of an operation among all processes.
-ghost use Rattle.std.specs.Prelude.{◌≡◌, ℕ, ◌+◌, ◌<◌, ◌≤◌, ◌^◌, true, length, slice_get, List, Option, Some, None, IsSome, IfSome};
+ghost use Rattle.std.specs.Prelude.{◌≡◌, ℕ, ◌+◌, ◌<◌, ◌≤◌, ◌^◌, true, false, length, slice_get, List, Option, Some, None, IsSome, IfSome};
 ghost use Rattle.std.specs.Option.{option_or};
 ghost use Rattle.arrayvec.specs.ArrayVec.{ArrayVec as ArrayVecValue};
 ghost use Rattle.gup_plain.specs.State.{Birth as CoreBirth};
@@ -30,7 +30,7 @@ ghost use Rattle.gup_op_waits.specs.Stands.{StandsAt};
 ghost use Rattle.gup_core.specs.Goes.{ShowsAll, StandsFree, all_view, IsReady, IsForkReady, HasSlots, KeepsSlots};
 ghost use Rattle.gup_op_waits.specs.Locks.{child_in};
 
-use gup_base::{ActorNo, HandleNo, PageNo, ProcNo};
+use gup_base::{ActorNo, HandleNo, PageNo, ProcNo, Want};
 use gup_frames::Frames;
 use gup_op_base::{Said, done, refused};
 use gup_op_devices::transfer;
@@ -112,8 +112,9 @@ fn take_single(parts: &mut Parts, actor: ActorNo, proc: Option<ProcNo>, far: u16
             handle,
             page,
             n,
-            write,
-        } => take_pin(parts, actor, proc.unwrap(), handle, page, n, write, far),
+            want,
+            fast: _,
+        } => take_pin(parts, actor, proc.unwrap(), handle, page, n, want, far),
         Op::Unpin { handle } => unpin(&mut parts.frames, &mut parts.handles, actor, handle),
         Op::Give { handle, to } => give(&mut parts.handles, actor, handle, to),
         Op::Take { handle } => take_over(&mut parts.handles, actor, handle),
@@ -143,7 +144,7 @@ fn take_pin(
     handle: HandleNo,
     page: PageNo,
     n: u8,
-    write: bool,
+    want: Want,
     far: u16,
 ) -> Said
     requires there { proc < length parts.old.spaces.items }
@@ -160,6 +161,7 @@ fn take_pin(
     requires within { far < n }
     requires most { n ≤ 16 }
     requires range { page + n ≤ 2 ^ 35 }
+    requires short { want.long ≡ false }
     ensures spaces { length parts.new.spaces.items ≡ length parts.old.spaces.items }
     ensures taken { length parts.new.taken.items ≡ length parts.old.taken.items }
     ensures births { parts.new.births ≡ parts.old.births }
@@ -171,10 +173,10 @@ fn take_pin(
     ensures turn { (old new : SpaceParts) (was now : ArrayVecValue ℕ)
         → slice_get parts.old.spaces.items proc ≡ Some old → slice_get parts.new.spaces.items proc ≡ Some new
         → slice_get parts.old.taken.items actor ≡ Some was → slice_get parts.new.taken.items actor ≡ Some now
-        → IsTurnOf (ShowsPinning actor proc) (StandsAtPage actor proc handle page n write far)
+        → IsTurnOf (ShowsPinning actor proc) (StandsAtPage actor proc handle page n want far)
         (pinning_view parts.old.frames old parts.old.handles was.items)
         (pinning_view parts.new.frames new parts.new.handles now.items)
-        (λ s. pin_turn s actor proc handle page n far write) (whats_of result) }
+        (λ s. pin_turn s actor proc handle page n want) (whats_of result) }
 {
     pin(
         &mut parts.spaces[proc.get() as usize],
@@ -186,7 +188,7 @@ fn take_pin(
         handle,
         page,
         n,
-        write,
+        want,
         far,
     )
 }

@@ -51,7 +51,7 @@ module _ (n : ℕ) where
   fork_sum (Discard page m) low = sum_zero n (λ j. 0) (λ j. refl)
   fork_sum (Load page word) low = sum_zero n (λ j. 0) (λ j. refl)
   fork_sum (Store page word value) low = sum_zero n (λ j. 0) (λ j. refl)
-  fork_sum (Pin handle page m write) low = sum_zero n (λ j. 0) (λ j. refl)
+  fork_sum (Pin handle page m want fast) low = sum_zero n (λ j. 0) (λ j. refl)
   fork_sum (Unpin handle) low = sum_zero n (λ j. 0) (λ j. refl)
   fork_sum (Give handle to) low = sum_zero n (λ j. 0) (λ j. refl)
   fork_sum (Take handle) low = sum_zero n (λ j. 0) (λ j. refl)
@@ -95,7 +95,7 @@ module _ (child : ℕ) where
   brings_or (Discard page n) = inl refl
   brings_or (Load page word) = inl refl
   brings_or (Store page word value) = inl refl
-  brings_or (Pin handle page n write) = inl refl
+  brings_or (Pin handle page n want fast) = inl refl
   brings_or (Unpin handle) = inl refl
   brings_or (Give handle to) = inl refl
   brings_or (Take handle) = inl refl

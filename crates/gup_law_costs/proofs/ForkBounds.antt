@@ -471,7 +471,7 @@ module _ (s : CoreState) (a p : ℕ) (place : Place) where
   op_spent slots (Discard page n) birth few stands = page_op_spent slots (Discard page n) refl (birth tt) stands
   op_spent slots (Load page word) birth few stands = page_op_spent slots (Load page word) refl (birth tt) stands
   op_spent slots (Store page word value) birth few stands = page_op_spent slots (Store page word value) refl (birth tt) stands
-  op_spent slots (Pin handle page n write) birth few stands = page_op_spent slots (Pin handle page n write) refl (birth tt) stands
+  op_spent slots (Pin handle page n want fast) birth few stands = page_op_spent slots (Pin handle page n want fast) refl (birth tt) stands
   op_spent slots (Unpin handle) birth few stands = handle_op_spent slots (Unpin handle) refl (λ e. e) stands
   op_spent slots (Give handle to) birth few stands = handle_op_spent slots (Give handle to) refl (λ e. e) stands
   op_spent slots (Take handle) birth few stands = handle_op_spent slots (Take handle) refl (λ e. e) stands
@@ -487,7 +487,7 @@ module _ (s : CoreState) (a p : ℕ) (place : Place) where
   failed_spent (Discard page n) lost parent stands = refused_spent (Discard page n) refl stands
   failed_spent (Load page word) lost parent stands = refused_spent (Load page word) refl stands
   failed_spent (Store page word value) lost parent stands = refused_spent (Store page word value) refl stands
-  failed_spent (Pin handle page n write) lost parent stands = refused_spent (Pin handle page n write) refl stands
+  failed_spent (Pin handle page n want fast) lost parent stands = refused_spent (Pin handle page n want fast) refl stands
   failed_spent (Unpin handle) lost parent stands = refused_spent (Unpin handle) refl stands
   failed_spent (Give handle to) lost parent stands = refused_spent (Give handle to) refl stands
   failed_spent (Take handle) lost parent stands = refused_spent (Take handle) refl stands

@@ -1,6 +1,6 @@
 -- What a turn of an operation on pages that isn't a fork does to the mapped pages of its process and to jobs, and how
 -- far it brings the operation.
-use Rattle.std.proofs.Common.{◌≡◌, ℕ, ◌+◌, ◌<◌, ◌≤◌, ◌==◌, Bool, true, false, is_some, if◌then◌else◌, List, [], ◌∷◌, ◌++◌, Option, Some, None, inl, inr, refl, ap, sym, subst, ◌∙◌, zero, suc, arith, append_assoc}
+use Rattle.std.proofs.Common.{◌≡◌, ℕ, ◌+◌, ◌<◌, ◌≤◌, ◌==◌, Bool, true, false, is_some, if◌then◌else◌, List, [], ◌∷◌, ◌++◌, length, Option, Some, None, inl, inr, refl, ap, sym, subst, ◌∙◌, zero, suc, arith, append_assoc}
 use Rattle.std.specs.Prelude.{◌⊎◌, Ok}
 use Rattle.std.proofs.lemmas.Bool.Decides.{nat_tests}
 use Rattle.gup_base.specs.declared.entry.Entry.{Entry}
@@ -46,7 +46,7 @@ answer_bound (Protect page n rights) a p place next s t is = is
 answer_bound (Discard page n) a p place next s t is = inl is
 answer_bound (Load page word) a p place next s t is = is
 answer_bound (Store page word value) a p place next s t is = is
-answer_bound (Pin handle page n write) a p place next s t is = inl is
+answer_bound (Pin handle page n want fast) a p place next s t is = inl is
 answer_bound (Unpin handle) a p place next s t is = inl is
 answer_bound (Give handle to) a p place next s t is = is
 answer_bound (Take handle) a p place next s t is = is
@@ -54,11 +54,12 @@ answer_bound (Transfer handle outward index slot n) a p place next s t is = inl 
 answer_bound (Fork child) a p place next s t is = inl is
 answer_bound Exit a p place next s t is = inl is
 
--- where a turn of an operation stands: short of the last page or word that it goes over; forks stand aside
+-- where a turn of an operation stands: short of the last page or word that it goes over, a pin with those that it has taken;
+-- forks stand aside
 abbrev pub StandsShort : CoreState → (a : ℕ) → Op → Place → Type 0
 StandsShort s a (Unmap page n) place = place.far < n
 StandsShort s a (Discard page n) place = place.far < n
-StandsShort s a (Pin handle page n write) place = place.far < n
+StandsShort s a (Pin handle page n want fast) place = (place.far < n) × (length (s.taken a) ≡ place.far)
 StandsShort s a (Unpin handle) place = (place.far < most_pinned) × HasLeft s a handle place.far
 StandsShort s a (Transfer handle outward index slot n) place = place.far < n
 StandsShort s a (Fork child) place = ⊥
@@ -319,8 +320,11 @@ takes_cost (Unmap page n) a p place next s t short rests gained (inl is) = inl (
 takes_cost (Unmap page n) a p place next s t short rests gained (inr on) = let far = on.0.1 in inr (on.0.0, omega arith)
 takes_cost (Discard page n) a p place next s t short rests gained (inl is) = inl (is, rests, omega arith)
 takes_cost (Discard page n) a p place next s t short rests gained (inr on) = let far = on.0.1 in inr (on.0.0, omega arith)
-takes_cost (Pin handle page n write) a p place next s t short rests gained (inl is) = inl (is, rests, omega arith)
-takes_cost (Pin handle page n write) a p place next s t short rests gained (inr on) = let far = on.0.1 in inr (on.0.0, omega arith)
+takes_cost (Pin handle page n want fast) a p place next s t short rests gained (inl is) = let less = short.0 in inl (is, rests, omega arith)
+takes_cost (Pin handle page n want fast) a p place next s t short rests gained (inr on) =
+    let far = on.0.1 in
+    let less = short.0 in
+    inr (on.0.0, omega arith)
 takes_cost (Unpin handle) a p place next s t short rests gained (inl is) = let less = short.0 in inl (is, rests, omega arith)
 takes_cost (Unpin handle) a p place next s t short rests gained (inr on) =
     let far = on.0.1 in

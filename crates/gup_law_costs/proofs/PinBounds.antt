@@ -6,9 +6,9 @@ use Rattle.std.proofs.lemmas.List.{length-take-le}
 use Rattle.gup_base.specs.declared.entry.Entry.{Entry}
 use Rattle.gup_base.specs.declared.entry.Rights.{Rights}
 use Rattle.gup_base.specs.declared.entry.Rights.TheVariants.{R, RW}
+use Rattle.gup_base.specs.declared.entry.Want.{Want}
 use Rattle.gup_plain.specs.Put.{put}
 use Rattle.gup_plain.specs.Denial.{any_mapped, any_unmapped, map_denial, protect_denial, is_held_by, transfer_denial}
-use Rattle.gup_plain.specs.State.{held}
 use Rattle.gup_plain.specs.declared.answer.Answer.{Answer}
 use Rattle.gup_plain.specs.declared.answer.Answer.TheVariants as answers
 use Rattle.gup_script.specs.declared.op.Op.{Op}
@@ -135,37 +135,39 @@ module _ (s : CoreState) (a p : ℕ) (place : Place) (rests : s.job a ≡ idle) 
   raises_leave zero = leaves_same s a (run s (raises a p 0)) rests refl refl refl
   raises_leave (suc far) = leaves_same s a s rests refl refl refl
 
-  pinned_leaves : (t : CoreState) → t.job a ≡ idle → (page handle : ℕ) (e : Entry) (write last : Bool) → LeavesPages t a (run t (pin_page a p page e write false ∷ makes_if last a handle))
-  pinned_leaves t idles page handle e write true = leaves_same t a (run t (pin_page a p page e write false ∷ makes_if true a handle)) idles refl refl refl
-  pinned_leaves t idles page handle e write false = leaves_same t a (run t (pin_page a p page e write false ∷ makes_if false a handle)) idles refl refl refl
+  pinned_leaves : (t : CoreState) → t.job a ≡ idle → (page handle : ℕ) (e : Entry) (want : Want) (last : Bool) → LeavesPages t a (run t (pin_page a p page e want.write want.long ∷ makes_if last a handle))
+  pinned_leaves t idles page handle e want true = leaves_same t a (run t (pin_page a p page e want.write want.long ∷ makes_if true a handle)) idles refl refl refl
+  pinned_leaves t idles page handle e want false = leaves_same t a (run t (pin_page a p page e want.write want.long ∷ makes_if false a handle)) idles refl refl refl
 
   -- the turn that ends a pin
-  ends_moved : (handle page n : ℕ) (write : Bool) (got : ℕ) (answer : Answer) → IsMoved s a p place (Pin handle page n write) (ends_pin a p handle n got answer)
-  ends_moved handle page n write zero answer = still s a p place rests (Pin handle page n write) (ends_pin a p handle n zero answer) refl refl refl refl
-  ends_moved handle page n write (suc got) answer = still s a p place rests (Pin handle page n write) (ends_pin a p handle n (suc got) answer) refl refl refl refl
+  ends_moved : (handle page n : ℕ) (want : Want) (fast : Bool) (got : ℕ) (answer : Answer) → IsMoved s a p place (Pin handle page n want fast) (ends_pin a p handle n got answer)
+  ends_moved handle page n want fast zero answer = still s a p place rests (Pin handle page n want fast) (ends_pin a p handle n zero answer) refl refl refl refl
+  ends_moved handle page n want fast (suc got) answer = still s a p place rests (Pin handle page n want fast) (ends_pin a p handle n (suc got) answer) refl refl refl refl
 
-  pinned_moved : (handle page n g : ℕ) (write last : Bool) (before : List CoreEvent) (e : Entry) → place.far < n → (place.far + 1 == n) ≡ last → LeavesPages s a (run s before) → IsMoved s a p place (Pin handle page n write) (pins_behind before a p handle g n write last e)
-  pinned_moved handle page n g write last before e less test leaves =
-      let turn : CoreTurn = pins_behind before a p handle g n write last e in
+  pinned_moved : (handle page n g : ℕ) (want : Want) (fast last : Bool) (before : List CoreEvent) (e : Entry) → place.far < n → (place.far + 1 == n) ≡ last → LeavesPages s a (run s before) → IsMoved s a p place (Pin handle page n want fast) (pins_behind before a p handle g n want last e)
+  pinned_moved handle page n g want fast last before e less test leaves =
+      let turn : CoreTurn = pins_behind before a p handle g n want last e in
       let there : CoreState = run s before in
       let all : LeavesPages s a (run s turn.events) =
-      subst (LeavesPages s a) (sym (run_behind s before (pin_page a p g e write false ∷ makes_if last a handle)))
-      (leaves_both s a there (run there (pin_page a p g e write false ∷ makes_if last a handle)) leaves (pinned_leaves there leaves.jobs.idle g handle e write last)) in
-      keeping s a p place rests (Pin handle page n write) turn all.right all.jobs (bound last test)
+      subst (LeavesPages s a) (sym (run_behind s before (pin_page a p g e want.write want.long ∷ makes_if last a handle)))
+      (leaves_both s a there (run there (pin_page a p g e want.write want.long ∷ makes_if last a handle)) leaves (pinned_leaves there leaves.jobs.idle g handle e want last)) in
+      keeping s a p place rests (Pin handle page n want fast) turn all.right all.jobs (bound last test)
     where
-      bound : (l : Bool) → (place.far + 1 == n) ≡ l → IsWithinBound (Pin handle page n write) a p place (place_behind place (pins_behind before a p handle g n write l e).whats) s (run s (pins_behind before a p handle g n write last e).events)
+      bound : (l : Bool) → (place.far + 1 == n) ≡ l → IsWithinBound (Pin handle page n want fast) a p place (place_behind place (pins_behind before a p handle g n want l e).whats) s (run s (pins_behind before a p handle g n want last e).events)
       bound true is = inl refl
       bound false is = inr ((refl, refl), goes_less s a p place rests place.far n less is)
 
-  pin_moved : (handle page n : ℕ) (write : Bool) → place.far < n → (fault : Fault) → FaultLeaves a fault → IsMoved s a p place (Pin handle page n write) (pin_turn_by fault s a p handle (page + place.far) n place.far write)
-  pin_moved handle page n write less (Err answer) leaves = ends_moved handle page n write place.far answer
-  pin_moved handle page n write less (Ok before) leaves =
-      let g : ℕ = page + place.far in
-      let first : CoreState = run s (raises a p place.far) in
-      let raised = raises_leave place.far in
-      let all : LeavesPages s a (run s (raises a p place.far ++ before)) =
-      subst (LeavesPages s a) (sym (run_behind s (raises a p place.far) before)) (leaves_both s a first (run first before) raised (leaves first raised.jobs.idle)) in
-      pinned_moved handle page n g write (place.far + 1 == n) (raises a p place.far ++ before) (entry_in ((run s (raises a p place.far ++ before)).entry p g)) less refl all
+  -- it has got so many pages as it had turns
+  pin_moved : (handle page n got : ℕ) (want : Want) (fast : Bool) → place.far < n → got ≡ place.far → (fault : Fault) → FaultLeaves a fault → IsMoved s a p place (Pin handle page n want fast) (pin_turn_by fault s a p handle (page + got) n got want)
+  pin_moved handle page n got want fast less many (Err answer) leaves = ends_moved handle page n want fast got answer
+  pin_moved handle page n got want fast less many (Ok before) leaves =
+      let g : ℕ = page + got in
+      let first : CoreState = run s (raises a p got) in
+      let raised = raises_leave got in
+      let all : LeavesPages s a (run s (raises a p got ++ before)) =
+      subst (LeavesPages s a) (sym (run_behind s (raises a p got) before)) (leaves_both s a first (run first before) raised (leaves first raised.jobs.idle)) in
+      let test : (place.far + 1 == n) ≡ (got + 1 == n) = ap (λ (k : ℕ). k + 1 == n) (sym many) in
+      pinned_moved handle page n g want fast (got + 1 == n) (raises a p got ++ before) (entry_in ((run s (raises a p got ++ before)).entry p g)) less test all
 
   -- what is done with a pin that is made
 
@@ -216,8 +218,9 @@ module _ (s : CoreState) (a p : ℕ) (place : Place) (rests : s.job a ≡ idle) 
   op_moved slots (Store page word value) short = store_moved s a p place rests page word value (s.entry p page) (allows_store (s.entry p page))
   op_moved slots (Protect page n rights) short = protect_moved s a p place rests page n rights (protect_denial (any_unmapped (s.right p) page n)) refl
   op_moved slots (Discard page n) short = discard_moved s a p place rests page n (s.right p (page + place.far)) (s.entry p (page + place.far)) (place.far + 1 == n) short refl
-  op_moved slots (Pin handle page n write) short =
-      pin_moved handle page n write short (pin_fault s a p (page + place.far) write) (pin_fault_leaves s a p (page + place.far) write)
+  op_moved slots (Pin handle page n want fast) short =
+      let got : ℕ = length (s.taken a) in
+      pin_moved handle page n got want fast short.0 short.1 (pin_fault s a p (page + got) want.write) (pin_fault_leaves s a p (page + got) want.write)
   op_moved slots (Unpin handle) short = unpin_moved handle (is_held_by (s.handle handle) a) refl short.1
   op_moved slots (Give handle to) short = give_moved handle to (is_held_by (s.handle handle) a)
   op_moved slots (Take handle) short = still s a p place rests (Take handle) (take_turn a handle) refl refl refl refl
@@ -248,7 +251,7 @@ kept_rights s a p slots far (Protect page n rights) none = absurd (none tt)
 kept_rights s a p slots far (Discard page n) none = absurd (none tt)
 kept_rights s a p slots far (Load page word) none = absurd (none tt)
 kept_rights s a p slots far (Store page word value) none = absurd (none tt)
-kept_rights s a p slots far (Pin handle page n write) none = absurd (none tt)
+kept_rights s a p slots far (Pin handle page n want fast) none = absurd (none tt)
 kept_rights s a p slots far (Unpin handle) none = kept_unpin s a handle (is_held_by (s.handle handle) a)
 kept_rights s a p slots far (Give handle to) none = kept_give s a handle to (is_held_by (s.handle handle) a)
 kept_rights s a p slots far (Take handle) none = refl

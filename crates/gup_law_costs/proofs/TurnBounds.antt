@@ -123,7 +123,7 @@ goes_unmapped (Protect page n rights) a p place next s t same bound = refl
 goes_unmapped (Discard page n) a p place next s t same bound = refl
 goes_unmapped (Load page word) a p place next s t same bound = refl
 goes_unmapped (Store page word value) a p place next s t same bound = refl
-goes_unmapped (Pin handle page n write) a p place next s t same bound = refl
+goes_unmapped (Pin handle page n want fast) a p place next s t same bound = refl
 goes_unmapped (Unpin handle) a p place next s t same bound = refl
 goes_unmapped (Give handle to) a p place next s t same bound = refl
 goes_unmapped (Take handle) a p place next s t same bound = refl
@@ -300,7 +300,7 @@ few_turns published script valid r h within a op is = go op is (subst (λ (o : O
     go (Discard page n) is fits = fits.1
     go (Load page word) is fits = let first = fits.1.0 in omega (arith, first)
     go (Store page word value) is fits = let first = fits.1.0 in omega (arith, first)
-    go (Pin handle page n write) is fits = fits.2.within
+    go (Pin handle page n want fast) is fits = fits.2.within
     go (Unpin handle) is fits = (is_standing published script valid r h).unpins a handle is
     go (Give handle to) is fits = let first = fits.1.0 in omega (arith, first)
     go (Take handle) is fits = let first = fits.1.0 in omega (arith, first)

@@ -1,7 +1,7 @@
 //! The laws of how many turns there are: each takes of a cost that a script has, so a run ends.
 #![tactic(auto)]
 
-ghost use Rattle.std.specs.Prelude.{◌≡◌, ℕ, ◌+◌, ◌<◌, ◌≤◌, ◌*◌, true, false, List, length, None, Some};
+ghost use Rattle.std.specs.Prelude.{◌≡◌, ℕ, ◌+◌, ◌-◌, ◌<◌, ◌≤◌, ◌*◌, ◌^◌, true, false, List, length, None, Some};
 ghost use Rattle.gup_script.specs.declared.op.Op.{Op};
 ghost use Rattle.gup_script.specs.Script.{ScriptValue};
 ghost use Rattle.gup_script.specs.Valid.{IsScript};
@@ -18,6 +18,12 @@ pub fn turns_are_spent()
     ensures kept { (script : ScriptValue) (r : RunState) (a : ℕ) → can_go script r a ≡ false → cost script (run_after script r a) ≡ cost script r }
     ensures start { (script : ScriptValue) → IsScript script → cost script (run_start script) ≤ 1025 * operations script + 527361 * forks script }
     ensures few_forks { (script : ScriptValue) → IsScript script → forks script ≤ length script.processes }
+{}
+
+/// The written turns of a script and what its start costs are few together: the number of a run's turn, and one more, fits
+/// 32 bits.
+pub fn costs_are_few()
+    ensures { (script : ScriptValue) → IsScript script → length script.turns + cost script (run_start script) < 2 ^ 32 - 1 }
 {}
 
 /// How many turns an operation has at most: a mapping, a protection, a load, a store, a give and a take one, what goes over

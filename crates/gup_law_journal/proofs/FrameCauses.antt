@@ -5,6 +5,7 @@ use Rattle.std.proofs.lemmas.Bool.Decides.{nat_tests}
 use Rattle.gup_base.specs.declared.entry.Entry.{Entry}
 use Rattle.gup_base.specs.declared.entry.Rights.{Rights}
 use Rattle.gup_base.specs.declared.entry.Rights.TheVariants.{R, RW}
+use Rattle.gup_base.specs.declared.entry.Want.{Want}
 use Rattle.gup_plain.specs.State.{Birth, born, failed, objects_of}
 use Rattle.gup_plain.specs.declared.answer.Answer.{Answer}
 use Rattle.gup_plain.specs.declared.answer.Answer.TheVariants as answers
@@ -295,11 +296,11 @@ module _ (s : CoreState) (a p : ℕ) where
   pinned_cause cause true handle n = ((λ e. absurd e), ((λ e. absurd e), tt))
   pinned_cause cause false handle n = tt
 
-  pin_exact : (needs : Type 0) (handle page n far : ℕ) (write : Bool) (fault : Fault) → IsExactFault s needs fault → IsExact s needs (pin_turn_by fault s a p handle page n far write)
-  pin_exact needs handle page n far write (Err answer) exact = ends_exact needs handle n far answer exact
-  pin_exact needs handle page n far write (Ok before) exact =
+  pin_exact : (needs : Type 0) (handle page n got : ℕ) (want : Want) (fault : Fault) → IsExactFault s needs fault → IsExact s needs (pin_turn_by fault s a p handle page n got want)
+  pin_exact needs handle page n got want (Err answer) exact = ends_exact needs handle n got answer exact
+  pin_exact needs handle page n got want (Ok before) exact =
       record {
-        only = ((λ e. absurd e), pinned_cause (Finds s needs) (far + 1 == n) handle n);
+        only = ((λ e. absurd e), pinned_cause (Finds s needs) (got + 1 == n) handle n);
         always = λ need none. absurd (exact need none);
       }
 
@@ -403,7 +404,7 @@ module _ (s : CoreState) (a p : ℕ) where
   never : (turn : CoreTurn) → NeverWants turn → IsExact s ⊥ turn
   never turn wants = exact_never s ⊥ turn (λ e. e) wants
 
-  op_exact : (slots far : ℕ) (op : Op) → IsExact s (NeedsFor s a p far op) (op_turn s a p slots far op)
+  op_exact : (slots far : ℕ) (op : Op) → IsExact s (NeedsFor s a p op) (op_turn s a p slots far op)
   op_exact slots far (Map page n rights) =
       never (op_turn s a p slots far (Map page n rights)) (map_cause page n rights (map_denial (any_mapped (s.right p) page n) (s.pages p) n) refl)
   op_exact slots far (Unmap page n) =
@@ -414,8 +415,9 @@ module _ (s : CoreState) (a p : ℕ) where
       never (op_turn s a p slots far (Protect page n rights)) (protect_cause page n rights (protect_denial (any_unmapped (s.right p) page n)) refl)
   op_exact slots far (Discard page n) =
       never (op_turn s a p slots far (Discard page n)) (discard_cause (page + far) (s.right p (page + far)) (s.entry p (page + far)) (far + 1 == n))
-  op_exact slots far (Pin handle page n write) =
-      pin_exact (NeedsForPin s p (page + far) write) handle (page + far) n far write (pin_fault s a p (page + far) write) (pin_fault_exact (page + far) write)
+  op_exact slots far (Pin handle page n want fast) =
+      let got : ℕ = length (s.taken a) in
+      pin_exact (NeedsForPin s p (page + got) want.write) handle (page + got) n got want (pin_fault s a p (page + got) want.write) (pin_fault_exact (page + got) want.write)
   op_exact slots far (Unpin handle) =
       never (op_turn s a p slots far (Unpin handle)) (unpin_cause (is_held_by (s.handle handle) a) handle (s.pinned handle))
   op_exact slots far (Give handle to) = never (op_turn s a p slots far (Give handle to)) (give_cause (is_held_by (s.handle handle) a) handle to)
@@ -435,7 +437,7 @@ module _ (s : CoreState) (a p : ℕ) where
   failed_cause (Protect page n rights) = ((λ e. absurd e), tt)
   failed_cause (Discard page n) = ((λ e. absurd e), tt)
   failed_cause (Fork child) = ((λ e. absurd e), ((λ e. absurd e), tt))
-  failed_cause (Pin handle page n write) = ((λ e. absurd e), tt)
+  failed_cause (Pin handle page n want fast) = ((λ e. absurd e), tt)
   failed_cause (Unpin handle) = ((λ e. absurd e), tt)
   failed_cause (Give handle to) = ((λ e. absurd e), tt)
   failed_cause (Take handle) = ((λ e. absurd e), tt)
@@ -454,10 +456,10 @@ none_held : (s : CoreState) (op : Op) → free_frame s ≡ None → AreHeld s (a
 none_held s op none f below allowed free = no_frame_free s none f below free
 
 -- what a turn needs, by the operation and what the actor waits for
-abbrev NeedsAt : CoreState → Doer → (far : ℕ) → Option Op → Option Waiting → Op → Type 0
-NeedsAt s who far present waiting op = (present ≡ Some op) × (waiting ≡ None) × (birth_for s.birth who ≡ born) × NeedsFor s who.actor who.proc far op
+abbrev NeedsAt : CoreState → Doer → Option Op → Option Waiting → Op → Type 0
+NeedsAt s who present waiting op = (present ≡ Some op) × (waiting ≡ None) × (birth_for s.birth who ≡ born) × NeedsFor s who.actor who.proc op
 
-finds_only : (s : CoreState) (who : Doer) (far : ℕ) (present : Option Op) (waiting : Option Waiting) → waiting_with s who present ≡ waiting → LacksFrame (core_turn_by s who far present waiting).whats → (op : Op) × NeedsAt s who far present waiting op × AreHeld s (allowed_of op)
+finds_only : (s : CoreState) (who : Doer) (far : ℕ) (present : Option Op) (waiting : Option Waiting) → waiting_with s who present ≡ waiting → LacksFrame (core_turn_by s who far present waiting).whats → (op : Op) × NeedsAt s who present waiting op × AreHeld s (allowed_of op)
 finds_only s who far None waiting is lacks = absurd (lacking ⊥ (Idle ∷ []) ((λ e. e), tt) lacks)
 finds_only s who far (Some op) (Some waiting) is lacks = absurd (lacking ⊥ (Wait waiting ∷ []) ((λ e. e), tt) lacks)
 finds_only s who far (Some op) None is lacks = go (waits_no_birth (birth_for s.birth who) who.proc (waits_born s who.actor who.proc op) is)
@@ -468,15 +470,15 @@ finds_only s who far (Some op) None is lacks = go (waits_no_birth (birth_for s.b
     turn : CoreTurn
     turn = op_turn s who.actor who.proc who.slots far op
 
-    go : (birth_for s.birth who ≡ born) ⊎ (birth_for s.birth who ≡ failed) → (o : Op) × NeedsAt s who far (Some op) None o × AreHeld s (allowed_of o)
+    go : (birth_for s.birth who ≡ born) ⊎ (birth_for s.birth who ≡ failed) → (o : Op) × NeedsAt s who (Some op) None o × AreHeld s (allowed_of o)
     go (inl birth) =
         let exact = op_exact s who.actor who.proc who.slots far op in
-        let finds = lacking (Finds s (NeedsFor s who.actor who.proc far op)) turn.whats exact.only (subst (λ (b : Birth). LacksFrame (turn_at b refused turn).whats) birth lacks) in
+        let finds = lacking (Finds s (NeedsFor s who.actor who.proc op)) turn.whats exact.only (subst (λ (b : Birth). LacksFrame (turn_at b refused turn).whats) birth lacks) in
         (op, (refl, refl, birth, finds.0), none_held s op finds.1)
     go (inr birth) =
         absurd (lacking ⊥ refused.whats (failed_cause s who.actor who.proc op) (subst (λ (b : Birth). LacksFrame (turn_at b refused turn).whats) birth lacks))
 
-finds_always : (s : CoreState) (who : Doer) (far : ℕ) (present : Option Op) (waiting : Option Waiting) (op : Op) → NeedsAt s who far present waiting op → AreHeld s (allowed_of op) → LacksFrame (core_turn_by s who far present waiting).whats
+finds_always : (s : CoreState) (who : Doer) (far : ℕ) (present : Option Op) (waiting : Option Waiting) (op : Op) → NeedsAt s who present waiting op → AreHeld s (allowed_of op) → LacksFrame (core_turn_by s who far present waiting).whats
 finds_always s who far present waiting op needs held =
     let exact = op_exact s who.actor who.proc who.slots far op in
     let lacks : LacksFrame (op_turn s who.actor who.proc who.slots far op).whats = exact.always needs.3 (held_none s op held) in

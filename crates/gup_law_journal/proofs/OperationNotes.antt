@@ -1,6 +1,7 @@
 -- A run follows its script: what an actor's notes are from a state on, backwards from the end.
 use Rattle.std.proofs.Common.{◌≡◌, ℕ, ◌+◌, ◌-◌, ◌<◌, ◌≤◌, ◌==◌, ◌++◌, ◌⊎◌, inl, inr, Bool, false, IsTrue, List, [], ◌∷◌, Option, Some, None, slice_get, drop, refl, sym, ap, ◌∙◌, subst, append_assoc, zero, suc, arith}
 use Rattle.std.proofs.Math.Seq.{drop-nil}
+use Rattle.gup_base.specs.declared.entry.Want.{Want}
 use Rattle.gup_plain.specs.Event.{words}
 use Rattle.gup_plain.specs.Note.{NoteValue}
 use Rattle.gup_plain.specs.State.{PlainState}
@@ -13,7 +14,7 @@ use Rattle.gup_plain.specs.declared.note.What.TheVariants.{Silent, Idle, Wait, E
 use Rattle.gup_plain.specs.declared.note.Waiting.{Waiting}
 use Rattle.gup_script.specs.declared.op.Op.{Op}
 use Rattle.gup_script.specs.declared.op.Op.TheVariants.{Map, Unmap, Protect, Discard, Load, Store, Pin, Unpin, Give, Take, Transfer, Fork, Exit}
-use Rattle.gup_spec_journal.specs.Follows.{Who, Completes, IsTurn, AreBehind, AreBefore, Then, IsRefused, TakesDown, TakesDownLast, TakesDownAll, TakesDownWhole, CopiesFrom, CopiesPage, ForksPages, EndsShort, PinsPages, Unpins, moves_word, MovesWords, Shape, Shapes, refuses, own_notes, notes_of_turn, is_of_operation}
+use Rattle.gup_spec_journal.specs.Follows.{Who, Completes, IsTurn, AreBehind, AreBefore, Then, IsRefused, TakesDown, TakesDownLast, TakesDownAll, TakesDownWhole, CopiesFrom, CopiesPage, ForksPages, TriesIn, EndsShort, PinsPages, Unpins, moves_word, MovesWords, Shape, Shapes, refuses, own_notes, notes_of_turn, is_of_operation}
 use Rattle.gup_spec_journal.specs.Order.{Moves}
 use Rattle.gup_spec_journal.specs.Place.{Place, Doer, place_behind}
 use Rattle.gup_spec_turns.specs.ForkPlace.{ForkPlace, unbegun, from_page, at_page, wants_frame, at_word}
@@ -52,8 +53,8 @@ RestOf who (Map page n rights) far at notes = Shape who (Map page n rights) note
 RestOf who (Protect page n rights) far at notes = Shape who (Protect page n rights) notes
 RestOf who (Load page word) far at notes = Shape who (Load page word) notes
 RestOf who (Store page word value) far at notes = Shape who (Store page word value) notes
-RestOf who (Pin handle page n write) far at notes =
-    PinsPages who handle page n write far (n - far) notes ⊎ ((far ≡ 0) × IsRefused who (Pin handle page n write) notes)
+RestOf who (Pin handle page n want fast) far at notes =
+    PinsPages who handle page n want far (n - far) notes ⊎ ((far ≡ 0) × IsRefused who (Pin handle page n want fast) notes)
 RestOf who (Unpin handle) far at notes =
     ((more : ℕ) × Unpins who handle more notes) ⊎ ((far ≡ 0) × IsRefused who (Unpin handle) notes)
 RestOf who (Give handle to) far at notes = Shape who (Give handle to) notes
@@ -122,10 +123,10 @@ shape_of who (Map page n rights) notes rest = rest
 shape_of who (Protect page n rights) notes rest = rest
 shape_of who (Load page word) notes rest = rest
 shape_of who (Store page word value) notes rest = rest
-shape_of who (Pin handle page n write) notes (inl pins) =
+shape_of who (Pin handle page n want fast) notes (inl pins) =
     let many : n - 0 ≡ n = omega arith in
-    inl (subst (λ (k : ℕ). PinsPages who handle page n write 0 k notes) many pins)
-shape_of who (Pin handle page n write) notes (inr refusal) = inr refusal.1
+    inl (subst (λ (k : ℕ). PinsPages who handle page n want 0 k notes) many pins)
+shape_of who (Pin handle page n want fast) notes (inr refusal) = inr refusal.1
 shape_of who (Unpin handle) notes (inl unpins) = inl unpins
 shape_of who (Unpin handle) notes (inr refusal) = inr refusal.1
 shape_of who (Give handle to) notes rest = rest
@@ -145,14 +146,14 @@ takes_down who event page zero now later some before down all = absurd (omega ar
 takes_down who event page (suc m) now later some before down all = (now, later, refl, before, down, all)
 
 -- one page of a pin more in front, and the page that is refused
-pins_more : (who : Who) (handle page n : ℕ) (write : Bool) (got m : ℕ) (now later : List NoteValue) → 1 ≤ m → AreBefore now later → IsTurn who (Event (events.PinTry who.actor who.proc (page + got) write) ∷ []) now → PinsPages who handle page n write (got + 1) m later → PinsPages who handle page n write got (suc m) (now ++ later)
-pins_more who handle page n write got zero now later some before first pins = absurd (omega arith)
-pins_more who handle page n write got (suc m) now later some before first pins = inl (now, later, refl, before, first, pins)
+pins_more : (who : Who) (handle page n : ℕ) (want : Want) (got m : ℕ) (now later : List NoteValue) → 1 ≤ m → AreBefore now later → TriesIn who want (Event (events.PinTry who.actor who.proc (page + got) want.write) ∷ []) now → PinsPages who handle page n want (got + 1) m later → PinsPages who handle page n want got (suc m) (now ++ later)
+pins_more who handle page n want got zero now later some before first pins = absurd (omega arith)
+pins_more who handle page n want got (suc m) now later some before first pins = inl (now, later, refl, before, first, pins)
 
-pins_short : (who : Who) (handle page n : ℕ) (write : Bool) (got left : ℕ) (now : List NoteValue) → 0 < left → EndsShort who handle n got now → PinsPages who handle page n write got left now
-pins_short who handle page n write got zero now some end = absurd (omega arith)
-pins_short who handle page n write got (suc zero) now some end = inr end
-pins_short who handle page n write got (suc (suc left)) now some end = inr end
+pins_short : (who : Who) (handle page n : ℕ) (want : Want) (got left : ℕ) (now : List NoteValue) → 0 < left → EndsShort who handle n want got now → PinsPages who handle page n want got left now
+pins_short who handle page n want got zero now some end = absurd (omega arith)
+pins_short who handle page n want got (suc zero) now some end = inr end
+pins_short who handle page n want got (suc (suc left)) now some end = inr end
 
 -- one word of a transfer more in front
 moves_more : (who : Who) (handle : ℕ) (outward : Bool) (index slot value m : ℕ) (now later : List NoteValue) → 1 ≤ m → AreBefore now later → IsTurn who (Event (moves_word who.actor handle outward index slot value) ∷ []) now → MovesWords who handle outward (index + 1) (slot + 1) m later → MovesWords who handle outward index slot (suc m) (now ++ later)
@@ -192,7 +193,7 @@ refused_rest who (Load page word) far now first refusal = inr refusal
 refused_rest who (Store page word value) far now first refusal = inr refusal
 refused_rest who (Protect page n rights) far now first refusal = inr refusal
 refused_rest who (Discard page n) far now first refusal = inr (first, refusal)
-refused_rest who (Pin handle page n write) far now first refusal = inr (first, refusal)
+refused_rest who (Pin handle page n want fast) far now first refusal = inr (first, refusal)
 refused_rest who (Unpin handle) far now first refusal = inr (first, refusal)
 refused_rest who (Give handle to) far now first refusal = inr refusal
 refused_rest who (Take handle) far now first refusal = inr refusal
@@ -271,13 +272,13 @@ module _ (who : Doer) (t : ℕ) (place : Place) (ops : List Op) (later : List No
       inr (now whats ++ front, rest, joined whats front rest is, joined_before whats front rest is behind before, inl (suc pages, more), shapes)
 
   -- a pin takes one page more
-  pins_on : (handle page n : ℕ) (write : Bool) (whats : List What) → place.far + 1 < n → IsTurn present (Event (events.PinTry who.actor who.proc (page + place.far) write) ∷ []) (now whats) → Left who.actor who.proc (place.answered + 1) (Pin handle page n write ∷ ops_behind) (place.far + 1) unbegun later → LeftBefore (Pin handle page n write) unbegun (now whats ++ later)
-  pins_on handle page n write whats more first (inl none) = absurd (let e = none.0 in omega arith)
-  pins_on handle page n write whats more first (inr (front, rest, is, before, inr refusal, shapes)) = absurd (let e = refusal.0 in omega arith)
-  pins_on handle page n write whats more first (inr (front, rest, is, before, inl pins, shapes)) =
+  pins_on : (handle page n : ℕ) (want : Want) (fast : Bool) (whats : List What) → place.far + 1 < n → TriesIn present want (Event (events.PinTry who.actor who.proc (page + place.far) want.write) ∷ []) (now whats) → Left who.actor who.proc (place.answered + 1) (Pin handle page n want fast ∷ ops_behind) (place.far + 1) unbegun later → LeftBefore (Pin handle page n want fast) unbegun (now whats ++ later)
+  pins_on handle page n want fast whats more first (inl none) = absurd (let e = none.0 in omega arith)
+  pins_on handle page n want fast whats more first (inr (front, rest, is, before, inr refusal, shapes)) = absurd (let e = refusal.0 in omega arith)
+  pins_on handle page n want fast whats more first (inr (front, rest, is, before, inl pins, shapes)) =
       let left = n - (place.far + 1) in
       let many : suc left ≡ n - place.far = omega arith in
-      let whole : PinsPages present handle page n write place.far (n - place.far) (now whats ++ front) = subst (λ (k : ℕ). PinsPages present handle page n write place.far k (now whats ++ front)) many (pins_more present handle page n write place.far left (now whats) front (omega arith) (front_before whats front rest is behind) first pins) in
+      let whole : PinsPages present handle page n want place.far (n - place.far) (now whats ++ front) = subst (λ (k : ℕ). PinsPages present handle page n want place.far k (now whats ++ front)) many (pins_more present handle page n want place.far left (now whats) front (omega arith) (front_before whats front rest is behind) first pins) in
       inr (now whats ++ front, rest, joined whats front rest is, joined_before whats front rest is behind before, inl whole, shapes)
 
   -- an unpin gives back one page more in front
@@ -356,13 +357,13 @@ module _ (who : Doer) (t : ℕ) (place : Place) (ops : List Op) (later : List No
   op_left op whats (took_lowest page none) is left =
       exits_on page whats (t, refl) (subst (λ (os : List Op). Left who.actor who.proc (place.answered + 1) os (place.far + 1) unbegun later) is left)
   op_left op whats (took_all none) is left = ends op unbegun whats (inl (zero, (t, refl))) left
-  op_left op whats (pinned_page handle page n write more free) is left =
-      pins_on handle page n write whats more (t, refl) (subst (λ (os : List Op). Left who.actor who.proc (place.answered + 1) os (place.far + 1) unbegun later) is left)
-  op_left op whats (pinned_all handle page n write last free) is left =
+  op_left op whats (pinned_page handle page n want fast more free) is left =
+      pins_on handle page n want fast whats more (t, refl) (subst (λ (os : List Op). Left who.actor who.proc (place.answered + 1) os (place.far + 1) unbegun later) is left)
+  op_left op whats (pinned_all handle page n want fast last free) is left =
       let one : 1 ≡ n - place.far = omega arith in
-      ends op unbegun whats (inl (subst (λ (k : ℕ). PinsPages present handle page n write place.far k (now whats)) one (inl (t, refl)))) left
-  op_left op whats (pinned_short handle page n write cause some less end right) is left =
-      ends op unbegun whats (inl (pins_short present handle page n write place.far (n - place.far) (now whats) (omega arith) (some, cause, end, (t, refl)))) left
+      ends op unbegun whats (inl (subst (λ (k : ℕ). PinsPages present handle page n want place.far k (now whats)) one (inl (t, refl)))) left
+  op_left op whats (pinned_short handle page n want fast cause some less end right) is left =
+      ends op unbegun whats (inl (pins_short present handle page n want place.far (n - place.far) (now whats) (omega arith) (some, cause, end, (t, refl)))) left
   op_left op whats (unpinned_page handle free more) is left =
       unpins_on handle whats (t, refl) (subst (λ (os : List Op). Left who.actor who.proc (place.answered + 1) os (place.far + 1) unbegun later) is left)
   op_left op whats (unpinned_last handle none free last) is left = ends op unbegun whats (inl (zero, (t, refl))) left

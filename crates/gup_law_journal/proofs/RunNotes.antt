@@ -41,7 +41,7 @@ untaking s handle who (Some (Protect page n rights)) place fits far = refl
 untaking s handle who (Some (Discard page n)) place fits far = refl
 untaking s handle who (Some (Load page word)) place fits far = refl
 untaking s handle who (Some (Store page word value)) place fits far = refl
-untaking s handle who (Some (Pin h page n write)) place fits far = refl
+untaking s handle who (Some (Pin h page n want fast)) place fits far = refl
 untaking s handle who (Some (Unpin h)) place fits far = refl
 untaking s handle who (Some (Give h to)) place fits far = refl
 untaking s handle who (Some (Take h)) place fits far = absurd (let first = fits.1.0 in omega arith)

@@ -1,6 +1,7 @@
 -- Which answers turns have, and how many.
 use Rattle.std.proofs.Common.{◌≡◌, ℕ, ◌+◌, ◌<◌, Bool, true, false, IsTrue, List, [], ◌∷◌, ◌++◌, length, Option, Some, None, refl, sym, ap, subst, ◌∙◌, arith, leb-true, leb-false, nat_le}
 use Rattle.std.proofs.lemmas.Option.{slice_get_past}
+use Rattle.gup_base.specs.declared.entry.Want.{Want}
 use Rattle.gup_plain.specs.Put.{put}
 use Rattle.gup_plain.specs.Note.{NoteValue}
 use Rattle.gup_plain.specs.State.{PlainState}
@@ -68,11 +69,11 @@ known_refusal op (answers.Short got wanted cause) is =
 known_refusal op answers.Words is = tt
 
 -- what ends a pin is a cause that there is
-known_cause : (cause : Cause) → EndsPin cause → IsKnownCause cause
-known_cause causes.Missing end = tt
-known_cause causes.Forbidden end = tt
-known_cause causes.NoFrame end = tt
-known_cause (causes.Unmovable count) end = end
+known_cause : (want : Want) (cause : Cause) → EndsPin want cause → IsKnownCause cause
+known_cause want causes.Missing end = tt
+known_cause want causes.Forbidden end = tt
+known_cause want causes.NoFrame end = tt
+known_cause want (causes.Unmovable count) end = end
 
 -- the notes of a turn
 abbrev pub AreKnownWhats : List What → Type 0
@@ -93,9 +94,9 @@ known_turn (passed op page n event over more none) = (tt, tt)
 known_turn (passed_last op page n event over last none) = (tt, tt)
 known_turn (took_lowest page none) = (tt, tt)
 known_turn (took_all none) = (tt, tt)
-known_turn (pinned_page handle page n write more undenied) = (tt, tt)
-known_turn (pinned_all handle page n write last undenied) = (tt, (tt, (tt, tt)))
-known_turn (pinned_short handle page n write cause some less end right) = (tt, (known_cause cause end, tt))
+known_turn (pinned_page handle page n want fast more undenied) = (tt, tt)
+known_turn (pinned_all handle page n want fast last undenied) = (tt, (tt, (tt, tt)))
+known_turn (pinned_short handle page n want fast cause some less end right) = (tt, (known_cause want cause end, tt))
 known_turn (unpinned_page handle undenied more) = (tt, tt)
 known_turn (unpinned_last handle none undenied last) = (tt, (tt, tt))
 known_turn (moved_word handle outward index slot n value more undenied) = (tt, tt)

@@ -1,4 +1,5 @@
-//! The laws of the journal that turns write: it follows its script, is in its order, is plain, and refuses with cause.
+//! The laws of the journal that turns write: it follows its script, is in its order, is plain and thorough, and refuses with
+//! cause.
 #![tactic(auto)]
 
 ghost use Rattle.std.specs.Prelude.{◌≡◌, ℕ, ◌<◌, false, List, length, Some};
@@ -8,6 +9,7 @@ ghost use Rattle.gup_script.specs.Script.{ScriptValue};
 ghost use Rattle.gup_script.specs.Valid.{IsScript};
 ghost use Rattle.gup_spec_journal.specs.Place.{first_place};
 ghost use Rattle.gup_spec_journal.specs.Plain.{IsPlain};
+ghost use Rattle.gup_spec_journal.specs.Thorough.{IsThorough};
 ghost use Rattle.gup_spec_journal.specs.Follows.{Follows};
 ghost use Rattle.gup_spec_journal.specs.Order.{Turn, InOrder, journal_of};
 ghost use Rattle.gup_spec_turns.specs.Run.{RunState, Runs, AreTurns, AreBetween, run_start, turn_in, waiting_in, can_go, IsCoreRun};
@@ -37,6 +39,15 @@ pub fn core_run_is_in_order()
 pub fn core_run_is_plain()
     ensures turns { (script : ScriptValue) (turns : List Turn) (end : RunState) → IsScript script → AreTurns script (run_start script) turns end → IsPlain script (journal_of 1 (λ _. first_place) turns) }
     ensures run { (script : ScriptValue) (notes : List NoteValue) (end : RunState) → IsScript script → IsCoreRun script notes end → IsPlain script notes }
+{
+    gup_law_events::simulates();
+    gup_law_events::starts_sound();
+}
+
+/// Turns in any order are thorough, and so is the core run of a script: no operation that goes page by page misses one.
+pub fn core_run_is_thorough()
+    ensures turns { (script : ScriptValue) (turns : List Turn) (end : RunState) → IsScript script → AreTurns script (run_start script) turns end → IsThorough script (journal_of 1 (λ _. first_place) turns) }
+    ensures run { (script : ScriptValue) (notes : List NoteValue) (end : RunState) → IsScript script → IsCoreRun script notes end → IsThorough script notes }
 {
     gup_law_events::simulates();
     gup_law_events::starts_sound();

@@ -1,5 +1,5 @@
 -- What is true beside soundness while no operation gets, moves, mirrors or walks, and of which events turns are made.
-use Rattle.std.proofs.Common.{◌≡◌, ℕ, Bool, false, List, [], ◌∷◌, Option, None, refl}
+use Rattle.std.proofs.Common.{◌≡◌, ℕ, Bool, List, [], ◌∷◌, Option, None, refl}
 use Rattle.gup_base.specs.declared.entry.Entry.{Entry}
 use Rattle.gup_base.specs.declared.entry.Rights.{Rights}
 use Rattle.gup_spec_events.specs.State.{CoreState, ForkStep, core_start}
@@ -50,7 +50,7 @@ pub data IsTurnEvent (a p c : ℕ) (strand : Strand) : CoreEvent → Type 0 wher
   loading : (page word f value : ℕ) → IsTurnEvent a p c strand (load a p page word f value)
   storing : (page word f value : ℕ) → IsTurnEvent a p c strand (store a p page word f value)
   raising : (h : ℕ) → strand ≡ of_pin h → IsTurnEvent a p c strand (raise_flag a p)
-  pinning : (h : ℕ) → strand ≡ of_pin h → (page : ℕ) (e : Entry) (write : Bool) → IsTurnEvent a p c strand (pin_page a p page e write false)
+  pinning : (h : ℕ) → strand ≡ of_pin h → (page : ℕ) (e : Entry) (write long : Bool) → IsTurnEvent a p c strand (pin_page a p page e write long)
   making : (h : ℕ) → strand ≡ of_pin h → IsTurnEvent a p c strand (make_handle a h)
   handling : {e : CoreEvent} (h : ℕ) → strand ≡ of_handle h → IsHandleEvent a h e → IsTurnEvent a p c strand e
   beginning : IsTurnEvent a p c strand (begin_fork a p c)

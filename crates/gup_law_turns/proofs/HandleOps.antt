@@ -22,7 +22,8 @@ use Rattle.gup_spec_journal.specs.Denial.{op_denial}
 use Rattle.gup_spec_journal.specs.Follows.{refuses}
 use Rattle.gup_spec_journal.specs.Order.{is_given_to, taking_waits, handle_waits}
 use Rattle.gup_spec_journal.specs.Place.{Place, Doer}
-use Rattle.gup_spec_journal.specs.Plain.{IsAnswerOf, Passes}
+use Rattle.gup_spec_journal.specs.Plain.{IsAnswerOf, pages_got}
+use Rattle.gup_spec_journal.specs.Thorough.{Passes}
 use Rattle.gup_spec_turns.specs.ForkPlace.{unbegun}
 use Rattle.gup_spec_turns.specs.CoreTurn.{answers_with}
 use Rattle.gup_spec_turns.specs.PinTurns.{last_of, but_last, unpinned, unpin_turn, give_turn, take_turn}
@@ -92,7 +93,7 @@ module _ (s : CoreState) (who : Doer) (place : Place) (h : IsQuiet s who.actor) 
   a = who.actor
 
   -- an operation is refused
-  answered : (op : Op) (answer : Answer) → AtFirst place → IsTrue (refuses op answer) → IsAnswerOf (op_denial (plain_of s) who place.far op) answer → Passes (plain_of s) who.proc op place.far → MakesPin s s a op → IsTurned s who place op (answers_with answer)
+  answered : (op : Op) (answer : Answer) → AtFirst place → IsTrue (refuses op answer) → IsAnswerOf (op_denial (plain_of s) who (pages_got (plain_of s) who.actor) op) answer → Passes (plain_of s) who.proc op place.far → MakesPin s s a op → IsTurned s who place op (answers_with answer)
   answered op answer first refusal right passes pin =
       record {
         done = record { kinds = tt; can = tt; rest = h.rest; told = refl };

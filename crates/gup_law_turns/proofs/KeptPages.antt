@@ -27,7 +27,7 @@ pages_event s a p c (discarding page was) = record { handle = refl; pinned = ref
 pages_event s a p c (loading page word f value) = record { handle = refl; pinned = refl; taken = refl; has_pinned = refl }
 pages_event s a p c (storing page word f value) = record { handle = refl; pinned = refl; taken = refl; has_pinned = refl }
 pages_event s a p c (raising h is) = absurd (cc is)
-pages_event s a p c (pinning h is page e write) = absurd (cc is)
+pages_event s a p c (pinning h is page e write long) = absurd (cc is)
 pages_event s a p c (making h is) = absurd (cc is)
 pages_event s a p c (handling h is event) = absurd (cc is)
 pages_event s a p c beginning = record { handle = refl; pinned = refl; taken = refl; has_pinned = refl }

@@ -79,7 +79,7 @@ module _ (s : CoreState) (a p c : ℕ) (strand : Strand) where
   leaves_event (loading page word f value) = record { process = λ q other child. refl; birth = λ q child. refl; job = λ b other. refl; prepared = λ b other. refl; owed = λ b other. refl }
   leaves_event (storing page word f value) = record { process = λ q other child. refl; birth = λ q child. refl; job = λ b other. refl; prepared = λ b other. refl; owed = λ b other. refl }
   leaves_event (raising h is) = record { process = λ q other child. refl; birth = λ q child. refl; job = λ b other. refl; prepared = λ b other. refl; owed = λ b other. refl }
-  leaves_event (pinning h is page e write) = record { process = λ q other child. refl; birth = λ q child. refl; job = λ b other. refl; prepared = λ b other. refl; owed = λ b other. refl }
+  leaves_event (pinning h is page e write long) = record { process = λ q other child. refl; birth = λ q child. refl; job = λ b other. refl; prepared = λ b other. refl; owed = λ b other. refl }
   leaves_event (making h is) = record { process = λ q other child. refl; birth = λ q child. refl; job = λ b other. refl; prepared = λ b other. refl; owed = λ b other. refl }
   leaves_event (handling h is event) = leaves_handle h event
   leaves_event beginning = record { process = λ q other child. rw (other, child) refl; birth = λ q child. rw child refl; job = λ b other. rw other refl; prepared = λ b other. refl; owed = λ b other. refl }
@@ -122,7 +122,7 @@ module _ (s : CoreState) (a p c : ℕ) (strand : Strand) where
   calm_event (loading page word f value) h = assumption
   calm_event (storing page word f value) h = assumption
   calm_event (raising handle is) h = assumption
-  calm_event (pinning handle is page e write) h = assumption
+  calm_event (pinning handle is page e write long) h = assumption
   calm_event (making handle is) h = assumption
   calm_event (handling handle is event) h = calm_handle handle event h
   calm_event beginning h = assumption
@@ -155,7 +155,7 @@ module _ (s : CoreState) (a p c : ℕ) (strand : Strand) where
   births_event (loading page word f value) sound can q lives = lives
   births_event (storing page word f value) sound can q lives = lives
   births_event (raising h is) sound can q lives = lives
-  births_event (pinning h is page e write) sound can q lives = lives
+  births_event (pinning h is page e write long) sound can q lives = lives
   births_event (making h is) sound can q lives = lives
   births_event (handling h is (unpinning f left)) sound can q lives = lives
   births_event (handling h is (giving to)) sound can q lives = lives
@@ -200,7 +200,7 @@ module _ (s : CoreState) (a p c : ℕ) (strand : Strand) where
   barred_event b (loading page word f value) locked job can = record { entry = refl; structure = refl; table = refl; job = refl }
   barred_event b (storing page word f value) locked job can = record { entry = refl; structure = refl; table = refl; job = refl }
   barred_event b (raising h is) locked job can = record { entry = refl; structure = refl; table = refl; job = refl }
-  barred_event b (pinning h is page e write) locked job can = absurd (let free = can.1.0 in cc)
+  barred_event b (pinning h is page e write long) locked job can = absurd (let free = can.1.0 in cc)
   barred_event b (making h is) locked job can = record { entry = refl; structure = refl; table = refl; job = refl }
   barred_event b (handling h is (unpinning f left)) locked job can = record { entry = refl; structure = refl; table = refl; job = refl }
   barred_event b (handling h is (giving to)) locked job can = record { entry = refl; structure = refl; table = refl; job = refl }
@@ -397,10 +397,10 @@ module _ (s : CoreState) (a : ℕ) (strand : Strand) where
       (λ making holding taking. taking can)
       (λ b other holds. other (sym (subst (λ (x : Handle). IsHeldBy x b) (put_same h new s.handle) holds)))
 
-  pins_pinning : (p page : ℕ) (e : Entry) (write : Bool) → LeavesPinsOf a strand s (happens s (pin_page a p page e write false))
-  pins_pinning p page e write =
+  pins_pinning : (p page : ℕ) (e : Entry) (write long : Bool) → LeavesPinsOf a strand s (happens s (pin_page a p page e write long))
+  pins_pinning p page e write long =
       record {
-        taken = λ b other. put_apart a b (s.taken a ++ record { proc = p; page = page; frame = e.frame; object = s.object p page; write = write; long = false } ∷ []) s.taken other;
+        taken = λ b other. put_apart a b (s.taken a ++ record { proc = p; page = page; frame = e.frame; object = s.object p page; write = write; long = long } ∷ []) s.taken other;
         flags = λ none. refl;
         others = λ h no_pin no_handle. record { handle = refl; pinned = refl };
         unheld = λ h making holding taking. record { handle = refl; pinned = refl };
@@ -433,7 +433,7 @@ module _ (s : CoreState) (a : ℕ) (strand : Strand) where
   pins_event p c e (loading page word f value) can = same_pins a strand s (happens s e) refl refl refl refl
   pins_event p c e (storing page word f value) can = same_pins a strand s (happens s e) refl refl refl refl
   pins_event p c e (raising h is) can = pins_raising h p is
-  pins_event p c e (pinning h is page entry write) can = pins_pinning p page entry write
+  pins_event p c e (pinning h is page entry write long) can = pins_pinning p page entry write long
   pins_event p c e (making h is) can = pins_making h is can
   pins_event p c e (handling h is (unpinning f left)) can = pins_unpinning h f left is can
   pins_event p c e (handling h is (giving to)) can = pins_giving h to is can

@@ -25,7 +25,8 @@ use Rattle.gup_law_events.specs.Law.{all_told}
 use Rattle.gup_spec_journal.specs.Denial.{op_denial}
 use Rattle.gup_spec_journal.specs.Place.{Place, Doer}
 use Rattle.gup_spec_journal.specs.Follows.{refuses}
-use Rattle.gup_spec_journal.specs.Plain.{IsAnswerOf, Passes}
+use Rattle.gup_spec_journal.specs.Plain.{IsAnswerOf, pages_got}
+use Rattle.gup_spec_journal.specs.Thorough.{Passes}
 use Rattle.gup_spec_turns.specs.ForkPlace.{unbegun}
 use Rattle.gup_spec_turns.specs.CoreTurn.{CoreTurn, answers_with, free_frame, allows_store, frame_in, done_if, silent_or_done}
 use Rattle.gup_spec_turns.specs.PageTurns.{loads, load_turn, stores, lowers_entry, lowers, lowers_for, lowest_page, exit_turn_by}
@@ -75,7 +76,7 @@ module _ (s : CoreState) (who : Doer) (place : Place) (h : IsOpen s who.actor wh
       }
 
   -- an operation is answered without an event
-  answered : (op : Op) (answer : Answer) → IsOfPages op s → AtFirst place → IsTrue (refuses op answer) → IsAnswerOf (op_denial (plain_of s) who place.far op) answer → Passes (plain_of s) p op place.far → IsTurned s who place op (answers_with answer)
+  answered : (op : Op) (answer : Answer) → IsOfPages op s → AtFirst place → IsTrue (refuses op answer) → IsAnswerOf (op_denial (plain_of s) who (pages_got (plain_of s) who.actor) op) answer → Passes (plain_of s) p op place.far → IsTurned s who place op (answers_with answer)
   answered op answer alone first refusal right passes =
       done_turn op (answers_with answer) (record { kinds = tt; can = tt; rest = h.rest; told = refl }) alone job
       (refused op answer first refusal right passes) (λ still. still)
@@ -97,7 +98,7 @@ module _ (s : CoreState) (who : Doer) (place : Place) (h : IsOpen s who.actor wh
 
   -- load, after the events of a fault
 
-  load_ready : (page word : ℕ) (before : List CoreEvent) → word < words → AtFirst place → op_denial (plain_of s) who place.far (Load page word) ≡ None → IsReady s a p before → IsSome ((run s before).entry p page) → IsTurned s who place (Load page word) (loads s before a p page word)
+  load_ready : (page word : ℕ) (before : List CoreEvent) → word < words → AtFirst place → op_denial (plain_of s) who (pages_got (plain_of s) who.actor) (Load page word) ≡ None → IsReady s a p before → IsSome ((run s before).entry p page) → IsTurned s who place (Load page word) (loads s before a p page word)
   load_ready page word before within first undenied ready there =
       let t : CoreState = run s before in
       let f : ℕ = frame_in (t.entry p page) in
@@ -130,7 +131,7 @@ module _ (s : CoreState) (who : Doer) (place : Place) (h : IsOpen s who.actor wh
 
   -- store, after the events of a fault
 
-  store_ready : (page word value : ℕ) (before : List CoreEvent) → word < words → AtFirst place → op_denial (plain_of s) who place.far (Store page word value) ≡ None → IsReady s a p before → allows_store ((run s before).entry p page) ≡ true → IsTurned s who place (Store page word value) (stores s before a p page word value)
+  store_ready : (page word value : ℕ) (before : List CoreEvent) → word < words → AtFirst place → op_denial (plain_of s) who (pages_got (plain_of s) who.actor) (Store page word value) ≡ None → IsReady s a p before → allows_store ((run s before).entry p page) ≡ true → IsTurned s who place (Store page word value) (stores s before a p page word value)
   store_ready page word value before within first undenied ready may =
       let t : CoreState = run s before in
       let f : ℕ = frame_in (t.entry p page) in

@@ -3,6 +3,7 @@ use Rattle.std.proofs.Common.{◌≡◌, ℕ, ◌+◌, ◌<◌, inl, inr, ◌==�
 use Rattle.std.proofs.Math.Path.{subst₂}
 use Rattle.std.proofs.lemmas.Bool.Decides.{nat_tests}
 use Rattle.std.proofs.lemmas.List.{length-append}
+use Rattle.gup_base.specs.declared.entry.Want.{Want}
 use Rattle.gup_plain.specs.Denial.{is_held_by}
 use Rattle.gup_plain.specs.Event.{IsHeldBy, IsGivenTo, given_to, held_by}
 use Rattle.gup_plain.specs.Put.{put}
@@ -123,7 +124,7 @@ first_back (Some (Protect page n rights)) h = refl
 first_back (Some (Discard page n)) h = refl
 first_back (Some (Load page word)) h = refl
 first_back (Some (Store page word value)) h = refl
-first_back (Some (Pin handle page n write)) h = refl
+first_back (Some (Pin handle page n want fast)) h = refl
 first_back (Some (Unpin handle)) h = go (handle == h)
   where
     none : ℕ
@@ -176,10 +177,10 @@ module _ (script : ScriptValue) (s : CoreState) (who : Doer) (place : Place) whe
 
   -- the pin that the operation makes, gives or takes, or moves words of
 
-  pin_change : (handle page n : ℕ) (write : Bool) (turn : CoreTurn) → birth_for s.birth who ≡ born → present_op script who.actor place ≡ Some (Pin handle page n write) → IsTaken s who place (Some (Pin handle page n write)) None turn → ChangeBy handle (Some (Pin handle page n write)) turn
-  pin_change handle page n write turn birth is turns =
-      let behind = none_behind (run s turn.events) handle (Some (Pin handle page n write)) turn.whats is (λ far. refl) (turn_behind (run s turn.events) turns.shape) in
-      elim (turns.pin (Pin handle page n write) refl refl birth) [
+  pin_change : (handle page n : ℕ) (want : Want) (fast : Bool) (turn : CoreTurn) → birth_for s.birth who ≡ born → present_op script who.actor place ≡ Some (Pin handle page n want fast) → IsTaken s who place (Some (Pin handle page n want fast)) None turn → ChangeBy handle (Some (Pin handle page n want fast)) turn
+  pin_change handle page n want fast turn birth is turns =
+      let behind = none_behind (run s turn.events) handle (Some (Pin handle page n want fast)) turn.whats is (λ far. refl) (turn_behind (run s turn.events) turns.shape) in
+      elim (turns.pin (Pin handle page n want fast) refl refl birth) [
         | inl same ↦ is_kept same.0 same.1 (λ holds. behind)
         | inr makes ↦ is_made makes.0 makes.1 behind
       ]
@@ -247,11 +248,11 @@ module _ (script : ScriptValue) (s : CoreState) (who : Doer) (place : Place) whe
         | inr other ↦ other_change h (Some op) None (going op) is (none other) (λ e. cc (sym about ∙ e)) (λ e. other (sym (same_handle (sym about ∙ e)))) turns
       ]
 
-  pin_or_other : (h handle page n : ℕ) (write : Bool) → birth_for s.birth who ≡ born → present_op script who.actor place ≡ Some (Pin handle page n write) → IsGoing (Pin handle page n write) → ChangeBy h (Some (Pin handle page n write)) (going (Pin handle page n write))
-  pin_or_other h handle page n write birth is turns =
-      let op : Op = Pin handle page n write in
+  pin_or_other : (h handle page n : ℕ) (want : Want) (fast : Bool) → birth_for s.birth who ≡ born → present_op script who.actor place ≡ Some (Pin handle page n want fast) → IsGoing (Pin handle page n want fast) → ChangeBy h (Some (Pin handle page n want fast)) (going (Pin handle page n want fast))
+  pin_or_other h handle page n want fast birth is turns =
+      let op : Op = Pin handle page n want fast in
       elim (same_or_apart h handle) [
-        | inl same ↦ subst (λ (k : ℕ). ChangeBy k (Some op) (going op)) (sym same) (pin_change handle page n write (going op) birth is turns)
+        | inl same ↦ subst (λ (k : ℕ). ChangeBy k (Some op) (going op)) (sym same) (pin_change handle page n want fast (going op) birth is turns)
         | inr other ↦ other_change h (Some op) None (going op) is (λ far. refl) (λ e. other (sym (same_pin e))) (λ e. cc e) turns
       ]
 
@@ -263,7 +264,7 @@ module _ (script : ScriptValue) (s : CoreState) (who : Doer) (place : Place) whe
   op_changes h (Discard page n) birth is turns = pages_change h (Discard page n) (λ far. refl) refl is turns
   op_changes h (Load page word) birth is turns = pages_change h (Load page word) (λ far. refl) refl is turns
   op_changes h (Store page word value) birth is turns = pages_change h (Store page word value) (λ far. refl) refl is turns
-  op_changes h (Pin handle page n write) birth is turns = pin_or_other h handle page n write birth is turns
+  op_changes h (Pin handle page n want fast) birth is turns = pin_or_other h handle page n want fast birth is turns
   op_changes h (Unpin handle) birth is turns =
       about_change h handle (Unpin handle) refl (λ other far. other_back handle h far other) (unpin_change handle birth is turns) is turns
   op_changes h (Give handle to) birth is turns =
@@ -284,7 +285,7 @@ module _ (script : ScriptValue) (s : CoreState) (who : Doer) (place : Place) whe
   failed_keeps h (Discard page n) = record { handle = refl; pinned = refl }
   failed_keeps h (Load page word) = record { handle = refl; pinned = refl }
   failed_keeps h (Store page word value) = record { handle = refl; pinned = refl }
-  failed_keeps h (Pin handle page n write) = record { handle = refl; pinned = refl }
+  failed_keeps h (Pin handle page n want fast) = record { handle = refl; pinned = refl }
   failed_keeps h (Unpin handle) = record { handle = refl; pinned = refl }
   failed_keeps h (Give handle to) = record { handle = refl; pinned = refl }
   failed_keeps h (Take handle) = record { handle = refl; pinned = refl }

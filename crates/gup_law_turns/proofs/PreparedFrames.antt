@@ -49,7 +49,7 @@ module _ (s : CoreState) (a p c : ℕ) (strand : Strand) (h : ArePreparedThere s
   there_event (loading page word f value) can = h
   there_event (storing page word f value) can = h
   there_event (raising handle is) can = h
-  there_event (pinning handle is page e write) can = h
+  there_event (pinning handle is page e write long) can = h
   there_event (making handle is) can = h
   there_event (handling handle is (unpinning f left)) can = h
   there_event (handling handle is (giving to)) can = h

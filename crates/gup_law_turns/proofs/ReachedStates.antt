@@ -1,9 +1,10 @@
 -- What is known of each state that turns lead to.
-use Rattle.std.proofs.Common.{◌≡◌, ℕ, ◌≤◌, ◌<◌, ◌⊎◌, inl, inr, Bool, List, [], ◌∷◌, length, slice_get, Contains, Option, Some, None, IsSome, true, refl, ap, sym, ◌∙◌, subst, arith, ◌+◌, ◌-◌, zero, suc}
+use Rattle.std.proofs.Common.{◌≡◌, ℕ, ◌≤◌, ◌<◌, ◌⊎◌, inl, inr, Bool, List, [], ◌∷◌, length, slice_get, Contains, Option, Some, None, IsSome, true, refl, ap, sym, ◌∙◌, subst, arith, ◌+◌, zero, suc}
 use Rattle.std.proofs.lemmas.List.Sums.{get_or-le-sum_by}
 use Rattle.std.proofs.lemmas.Option.{slice_get_within}
 use Rattle.gup_base.specs.declared.entry.Entry.{Entry}
 use Rattle.gup_base.specs.declared.entry.Rights.{Rights}
+use Rattle.gup_base.specs.declared.entry.Want.{Want}
 use Rattle.gup_plain.specs.State.{PlainState, unborn, failed, Handle, unmade, held, given, gone, objects_of}
 use Rattle.gup_plain.specs.Event.{most_pages}
 use Rattle.gup_plain.specs.declared.note.What.{What}
@@ -99,7 +100,7 @@ no_frame s who (Some (Protect page n rights)) place fits = idle_stands (s.job wh
 no_frame s who (Some (Discard page n)) place fits = idle_stands (s.job who.actor) fits.0.0
 no_frame s who (Some (Load page word)) place fits = idle_stands (s.job who.actor) fits.0.0
 no_frame s who (Some (Store page word value)) place fits = idle_stands (s.job who.actor) fits.0.0
-no_frame s who (Some (Pin handle page n write)) place fits = idle_stands (s.job who.actor) fits.0
+no_frame s who (Some (Pin handle page n want fast)) place fits = idle_stands (s.job who.actor) fits.0
 no_frame s who (Some (Unpin handle)) place fits = idle_stands (s.job who.actor) fits.0.0
 no_frame s who (Some (Give handle to)) place fits = idle_stands (s.job who.actor) fits.0.0
 no_frame s who (Some (Take handle)) place fits = idle_stands (s.job who.actor) fits.0.0
@@ -115,7 +116,7 @@ idle_job s who (Some (Protect page n rights)) place no_fork fits = fits.0.0
 idle_job s who (Some (Discard page n)) place no_fork fits = fits.0.0
 idle_job s who (Some (Load page word)) place no_fork fits = fits.0.0
 idle_job s who (Some (Store page word value)) place no_fork fits = fits.0.0
-idle_job s who (Some (Pin handle page n write)) place no_fork fits = fits.0
+idle_job s who (Some (Pin handle page n want fast)) place no_fork fits = fits.0
 idle_job s who (Some (Unpin handle)) place no_fork fits = fits.0.0
 idle_job s who (Some (Give handle to)) place no_fork fits = fits.0.0
 idle_job s who (Some (Take handle)) place no_fork fits = fits.0.0
@@ -133,7 +134,7 @@ untaken s who (Some (Protect page n rights)) place no_pin fits = fits.0.1
 untaken s who (Some (Discard page n)) place no_pin fits = fits.0.1
 untaken s who (Some (Load page word)) place no_pin fits = fits.0.1
 untaken s who (Some (Store page word value)) place no_pin fits = fits.0.1
-untaken s who (Some (Pin handle page n write)) place no_pin fits = absurd no_pin
+untaken s who (Some (Pin handle page n want fast)) place no_pin fits = absurd no_pin
 untaken s who (Some (Unpin handle)) place no_pin fits = fits.0.1
 untaken s who (Some (Give handle to)) place no_pin fits = fits.0.1
 untaken s who (Some (Take handle)) place no_pin fits = fits.0.1
@@ -142,7 +143,7 @@ untaken s who (Some (Fork child)) place no_pin fits = fits.0
 untaken s who (Some Exit) place no_pin fits = fits.1
 
 -- an operation whose actor may have taken pages is a pin
-no_pin_or_pin : (op : Option Op) → IsNoPin op ⊎ ((handle page n : ℕ) × (write : Bool) × (op ≡ Some (Pin handle page n write)))
+no_pin_or_pin : (op : Option Op) → IsNoPin op ⊎ ((handle page n : ℕ) × (want : Want) × (fast : Bool) × (op ≡ Some (Pin handle page n want fast)))
 no_pin_or_pin None = inl tt
 no_pin_or_pin (Some (Map page n rights)) = inl tt
 no_pin_or_pin (Some (Unmap page n)) = inl tt
@@ -150,7 +151,7 @@ no_pin_or_pin (Some (Protect page n rights)) = inl tt
 no_pin_or_pin (Some (Discard page n)) = inl tt
 no_pin_or_pin (Some (Load page word)) = inl tt
 no_pin_or_pin (Some (Store page word value)) = inl tt
-no_pin_or_pin (Some (Pin handle page n write)) = inr (handle, page, n, write, refl)
+no_pin_or_pin (Some (Pin handle page n want fast)) = inr (handle, page, n, want, fast, refl)
 no_pin_or_pin (Some (Unpin handle)) = inl tt
 no_pin_or_pin (Some (Give handle to)) = inl tt
 no_pin_or_pin (Some (Take handle)) = inl tt
@@ -185,19 +186,19 @@ few_pins script valid r h =
       taken = λ a k t there. at a k t there (no_pin_or_pin (op_in script r a));
     }
   where
-    at : (a k : ℕ) (t : Taken) → slice_get (r.core.taken a) k ≡ Some t → IsNoPin (op_in script r a) ⊎ ((handle page n : ℕ) × (write : Bool) × (op_in script r a ≡ Some (Pin handle page n write))) → (a < 81) × (k < 16)
+    at : (a k : ℕ) (t : Taken) → slice_get (r.core.taken a) k ≡ Some t → IsNoPin (op_in script r a) ⊎ ((handle page n : ℕ) × (want : Want) × (fast : Bool) × (op_in script r a ≡ Some (Pin handle page n want fast))) → (a < 81) × (k < 16)
     at a k t there (inl no_pin) =
         absurd (let none : slice_get (r.core.taken a) k ≡ None = ap (λ (xs : List Taken). slice_get xs k) (untaken r.core (doer script a) (op_in script r a) (r.places a) no_pin (h.fits a)) in cc)
     at a k t there (inr pin) =
-        let op : Op = Pin pin.0 pin.1 pin.2 pin.3 in
-        let fits : FitsOp r.core (doer script a) op (r.places a) = subst (λ (o : Option Op). FitsAt r.core (doer script a) o (r.places a)) pin.4 (h.fits a) in
-        let range : IsOp op = op_is_op script valid a (r.places a).answered op pin.4 in
+        let op : Op = Pin pin.0 pin.1 pin.2 pin.3 pin.4 in
+        let fits : FitsOp r.core (doer script a) op (r.places a) = subst (λ (o : Option Op). FitsAt r.core (doer script a) o (r.places a)) pin.5 (h.fits a) in
+        let range : IsOp op = op_is_op script valid a (r.places a).answered op pin.5 in
         let within = slice_get_within (r.core.taken a) k t there in
         let stands = fits.2 in
         let many = stands.taken.many in
         let one = stands.within in
         let most = range.1 in
-        let declared = has_ops_declared script a (r.places a).answered op pin.4 in
+        let declared = has_ops_declared script a (r.places a).answered op pin.5 in
         let actors = valid.few_actors in
         (omega (arith, declared, actors), omega (arith, within, many, one, most))
 
@@ -217,8 +218,8 @@ first_taken : (xs : List Taken) → 0 < length xs → (t : Taken) × (slice_get 
 first_taken [] some = absurd (omega (arith, some))
 first_taken (t ∷ xs) some = (t, refl)
 
-pin_flagged : (s : CoreState) (a p page far : ℕ) (write : Bool) → IsSound s → HasTaken p page write far (s.taken a) → 0 < far → s.has_pinned p ≡ true
-pin_flagged s a p page far write sound taken some =
+pin_flagged : (s : CoreState) (a p page far : ℕ) (want : Want) → IsSound s → HasTaken p page want far (s.taken a) → 0 < far → s.has_pinned p ≡ true
+pin_flagged s a p page far want sound taken some =
     let many = taken.many in
     let first = first_taken (s.taken a) (omega (arith, many, some)) in
     let proc = (taken.each 0 first.0 first.1).0 in
@@ -262,8 +263,8 @@ is_standing published script valid r h =
       prepared = λ a f is. is_prepared s k.sound h.there a f is;
       keeps = λ a. (k.rest a).prepared;
       untaken = λ a no_pin. untaken s (doer script a) (present_op script a (r.places a)) (r.places a) no_pin (k.fits a);
-      pins = λ a handle page n write is. (at a (Pin handle page n write) is).2;
-      flagged = λ a handle page n write is. pin_flagged s a (process_of script a) page (r.places a).far write k.sound (at a (Pin handle page n write) is).2.taken;
+      pins = λ a handle page n want fast is. (at a (Pin handle page n want fast) is).2;
+      flagged = λ a handle page n want fast is. pin_flagged s a (process_of script a) page (r.places a).far want k.sound (at a (Pin handle page n want fast) is).2.taken;
       unpins = λ a handle is. unpin_short (back_in script r handle) (s.pinned handle) (s.handle handle) a (r.places a).far (k.handles handle) (at a (Unpin handle) is).2 (at a (Unpin handle) is).3;
       handles = k.handles;
       made = k.made;

@@ -1,5 +1,6 @@
 -- Where an actor stands before an operation.
 use Rattle.std.proofs.Common.{◌≡◌, ℕ, ◌≤◌, false, [], Bool, Option, Some, None, slice_get, refl, ap, arith}
+use Rattle.gup_base.specs.declared.entry.Want.{Want}
 use Rattle.gup_plain.specs.State.{unborn, unmade}
 use Rattle.gup_script.specs.Script.{ScriptValue}
 use Rattle.gup_script.specs.Valid.{IsScript, IsOp, ForksAt, PinsAt}
@@ -16,25 +17,25 @@ abbrev pub fresh_place : ℕ → Place
 fresh_place k = record { answered = k; far = 0; had = false }
 
 -- no page is taken yet
-none_taken : (p page : ℕ) (write : Bool) → HasTaken p page write 0 []
-none_taken p page write = record { many = refl; each = λ k t is. absurd (cc is) }
+none_taken : (p page : ℕ) (want : Want) → HasTaken p page want 0 []
+none_taken p page want = record { many = refl; each = λ k t is. absurd (cc is) }
 
 -- It stands where that can, if it is in the middle of nothing, a fork's child is unborn, a pin's handle is unmade, and the
 -- handles that it holds have all their pages.
-fresh_op : (t : CoreState) (who : Doer) (k : ℕ) (op : Op) → Rests t who.actor → IsOp op → ((child : ℕ) → op ≡ Fork child → t.birth child ≡ unborn) → ((h page n : ℕ) (write : Bool) → op ≡ Pin h page n write → t.handle h ≡ unmade) → ((h : ℕ) → HasLeft t who.actor h 0) → FitsOp t who op (fresh_place k)
+fresh_op : (t : CoreState) (who : Doer) (k : ℕ) (op : Op) → Rests t who.actor → IsOp op → ((child : ℕ) → op ≡ Fork child → t.birth child ≡ unborn) → ((h page n : ℕ) (want : Want) (fast : Bool) → op ≡ Pin h page n want fast → t.handle h ≡ unmade) → ((h : ℕ) → HasLeft t who.actor h 0) → FitsOp t who op (fresh_place k)
 fresh_op t who k (Map page n rights) rests range births yet left = (rests, (refl, refl))
 fresh_op t who k (Unmap page n) rests range births yet left = (rests, (let some : 1 ≤ n = range.0 in omega arith))
 fresh_op t who k (Load page word) rests range births yet left = (rests, (refl, refl))
 fresh_op t who k (Store page word value) rests range births yet left = (rests, (refl, refl))
 fresh_op t who k (Protect page n rights) rests range births yet left = (rests, (refl, refl))
 fresh_op t who k (Discard page n) rests range births yet left = (rests, (let some : 1 ≤ n = range.0 in omega arith))
-fresh_op t who k (Pin handle page n write) rests range births yet left = (
+fresh_op t who k (Pin handle page n want fast) rests range births yet left = (
   rests.0,
   ((λ far. refl), (λ far. absurd (omega arith))),
   record {
     within = let some : 1 ≤ n = range.0 in omega arith;
-    yet = yet handle page n write refl;
-    taken = rw rests.1 (none_taken who.proc page write);
+    yet = yet handle page n want fast refl;
+    taken = rw rests.1 (none_taken who.proc page want);
   },
 )
 fresh_op t who k (Unpin handle) rests range births yet left = (rests, refl, (λ far. absurd (omega arith)), left handle)
@@ -45,12 +46,12 @@ fresh_op t who k (Transfer handle outward index slot n) rests range births yet l
 fresh_op t who k (Fork child) rests range births yet left = (rests.1, rw rests.0 ((refl, refl), births child refl))
 fresh_op t who k Exit rests range births yet left = rests
 
-fresh_at : (script : ScriptValue) → IsScript script → (t : CoreState) (who : Doer) (a k : ℕ) (op : Option Op) → slice_get (ops_of script a) k ≡ op → Rests t who.actor → ((child : ℕ) → op ≡ Some (Fork child) → t.birth child ≡ unborn) → ((h page n : ℕ) (write : Bool) → op ≡ Some (Pin h page n write) → t.handle h ≡ unmade) → ((h : ℕ) → HasLeft t who.actor h 0) → FitsAt t who op (fresh_place k)
+fresh_at : (script : ScriptValue) → IsScript script → (t : CoreState) (who : Doer) (a k : ℕ) (op : Option Op) → slice_get (ops_of script a) k ≡ op → Rests t who.actor → ((child : ℕ) → op ≡ Some (Fork child) → t.birth child ≡ unborn) → ((h page n : ℕ) (want : Want) (fast : Bool) → op ≡ Some (Pin h page n want fast) → t.handle h ≡ unmade) → ((h : ℕ) → HasLeft t who.actor h 0) → FitsAt t who op (fresh_place k)
 fresh_at script valid t who a k None there rests births yet left = (rests, (refl, refl))
 fresh_at script valid t who a k (Some op) there rests births yet left =
     fresh_op t who k op rests (op_is_op script valid a k op there) (λ child is. births child (ap (λ (o : Op). Some o) is))
-    (λ h page n write is. yet h page n write (ap (λ (o : Op). Some o) is)) left
+    (λ h page n want fast is. yet h page n want fast (ap (λ (o : Op). Some o) is)) left
 
 pub fresh_fits : (script : ScriptValue) → IsScript script → (t : CoreState) (who : Doer) (a k : ℕ) → Rests t who.actor → ((child : ℕ) → ForksAt script a k child → t.birth child ≡ unborn) → ((h : ℕ) → PinsAt script a k h → t.handle h ≡ unmade) → ((h : ℕ) → HasLeft t who.actor h 0) → FitsAt t who (slice_get (ops_of script a) k) (fresh_place k)
 fresh_fits script valid t who a k rests births yet left =
-    fresh_at script valid t who a k (slice_get (ops_of script a) k) refl rests births (λ h page n write is. yet h (page, n, write, is)) left
+    fresh_at script valid t who a k (slice_get (ops_of script a) k) refl rests births (λ h page n want fast is. yet h (page, n, want, fast, is)) left

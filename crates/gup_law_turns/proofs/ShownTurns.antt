@@ -2,7 +2,7 @@
 use Rattle.std.proofs.Common.{◌≡◌, ℕ, ◌+◌, ◌<◌, ◌⊎◌, length, ◌==◌, if◌then◌else◌, eqb-true, Bool, true, false, List, [], ◌∷◌, ◌++◌, Option, Some, None, refl, ap, sym, subst, inl, inr}
 use Rattle.gup_plain.specs.Denial.{is_held_by}
 use Rattle.gup_plain.specs.Event.{IsHeldBy, IsGivenTo, given_to, held_by}
-use Rattle.gup_plain.specs.State.{born, gone, Birth, unborn, growing, failed, held}
+use Rattle.gup_plain.specs.State.{born, gone, Birth, unborn, growing, failed}
 use Rattle.gup_plain.specs.declared.event.PlainEvent.{PlainEvent}
 use Rattle.gup_plain.specs.declared.note.What.{What}
 use Rattle.gup_plain.specs.declared.note.What.TheVariants.{Silent, Idle, Wait, Event, Done}
@@ -50,7 +50,7 @@ FitsNext t who op place (Wait waiting ∷ whats) = FitsNext t who op place whats
 -- What a turn makes of the pin that its operation names. A pin makes it with all its pages, or leaves it unmade; an unpin
 -- gives back one page, with the last of which it is gone; a give and a take leave its pages.
 abbrev pub MakesPin : (s t : CoreState) → (a : ℕ) → Op → Type 0
-MakesPin s t a (Pin handle page n write) =
+MakesPin s t a (Pin handle page n want fast) =
     (t.handle handle ≡ s.handle handle) × (t.pinned handle ≡ s.pinned handle)
     ⊎ IsHeldBy (t.handle handle) a × StandsHandle (λ b. 0) (t.pinned handle) (t.handle handle)
 MakesPin s t a (Unpin handle) =

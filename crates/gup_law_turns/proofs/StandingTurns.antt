@@ -5,6 +5,7 @@ use Rattle.std.proofs.lemmas.Bool.Decides.{nat_tests}
 use Rattle.std.proofs.lemmas.Option.{slice_get_within}
 use Rattle.gup_base.specs.declared.entry.Entry.{Entry}
 use Rattle.gup_base.specs.declared.entry.Rights.{Rights}
+use Rattle.gup_base.specs.declared.entry.Want.{Want}
 use Rattle.gup_script.specs.Valid.{IsScript, IsChild, ForksAt, PinsAt}
 use Rattle.gup_plain.specs.Denial.{is_held_by, transfer_denial, has_words, has_slots}
 use Rattle.gup_plain.specs.Event.{IsHeldBy, IsGivenTo, may_write}
@@ -90,7 +91,7 @@ idle_or_holds s who (Some (Protect page n rights)) place fits = inl fits.0.0
 idle_or_holds s who (Some (Discard page n)) place fits = inl fits.0.0
 idle_or_holds s who (Some (Load page word)) place fits = inl fits.0.0
 idle_or_holds s who (Some (Store page word value)) place fits = inl fits.0.0
-idle_or_holds s who (Some (Pin handle page n write)) place fits = inl fits.0
+idle_or_holds s who (Some (Pin handle page n want fast)) place fits = inl fits.0
 idle_or_holds s who (Some (Unpin handle)) place fits = inl fits.0.0
 idle_or_holds s who (Some (Give handle to)) place fits = inl fits.0.0
 idle_or_holds s who (Some (Take handle)) place fits = inl fits.0.0
@@ -120,7 +121,7 @@ born_apart s who q (Some (Protect page n rights)) place fits is other same = oth
 born_apart s who q (Some (Discard page n)) place fits is other same = other same
 born_apart s who q (Some (Load page word)) place fits is other same = other same
 born_apart s who q (Some (Store page word value)) place fits is other same = other same
-born_apart s who q (Some (Pin handle page n write)) place fits is other same = other same
+born_apart s who q (Some (Pin handle page n want fast)) place fits is other same = other same
 born_apart s who q (Some (Unpin handle)) place fits is other same = other same
 born_apart s who q (Some (Give handle to)) place fits is other same = other same
 born_apart s who q (Some (Take handle)) place fits is other same = other same
@@ -137,7 +138,7 @@ child_emptied t p q page (Some (Protect g n rights)) none other same is = absurd
 child_emptied t p q page (Some (Discard g n)) none other same is = absurd (other same)
 child_emptied t p q page (Some (Load g word)) none other same is = absurd (other same)
 child_emptied t p q page (Some (Store g word value)) none other same is = absurd (other same)
-child_emptied t p q page (Some (Pin handle g n write)) none other same is = absurd (other same)
+child_emptied t p q page (Some (Pin handle g n want fast)) none other same is = absurd (other same)
 child_emptied t p q page (Some (Unpin handle)) none other same is = absurd (other same)
 child_emptied t p q page (Some (Give handle to)) none other same is = absurd (other same)
 child_emptied t p q page (Some (Take handle)) none other same is = absurd (other same)
@@ -154,7 +155,7 @@ child_below script valid a p k (Some (Protect page n rights)) is below = below
 child_below script valid a p k (Some (Discard page n)) is below = below
 child_below script valid a p k (Some (Load page word)) is below = below
 child_below script valid a p k (Some (Store page word value)) is below = below
-child_below script valid a p k (Some (Pin handle page n write)) is below = below
+child_below script valid a p k (Some (Pin handle page n want fast)) is below = below
 child_below script valid a p k (Some (Unpin handle)) is below = below
 child_below script valid a p k (Some (Give handle to)) is below = below
 child_below script valid a p k (Some (Take handle)) is below = below
@@ -171,7 +172,7 @@ other_child script valid a p k (Some (Protect page n rights)) is b j child forks
 other_child script valid a p k (Some (Discard page n)) is b j child forks other twice same = other same
 other_child script valid a p k (Some (Load page word)) is b j child forks other twice same = other same
 other_child script valid a p k (Some (Store page word value)) is b j child forks other twice same = other same
-other_child script valid a p k (Some (Pin handle page n write)) is b j child forks other twice same = other same
+other_child script valid a p k (Some (Pin handle page n want fast)) is b j child forks other twice same = other same
 other_child script valid a p k (Some (Unpin handle)) is b j child forks other twice same = other same
 other_child script valid a p k (Some (Give handle to)) is b j child forks other twice same = other same
 other_child script valid a p k (Some (Take handle)) is b j child forks other twice same = other same
@@ -351,9 +352,10 @@ module _ (script : ScriptValue) (valid : IsScript script) (r : RunState) (h : St
       at_pin same =
           let page = makes.0 in
           let n = makes.1 in
-          let write = makes.2 in
-          let is : present_op script a behind ≡ Some (Pin handle page n write) = ap (λ (j : ℕ). slice_get (ops_of script a) j) (sym same) ∙ makes.3 in
-          let fits : FitsAt t who (Some (Pin handle page n write)) behind = subst (λ (o : Option Op). FitsAt t who o behind) is fits_own in
+          let want = makes.2 in
+          let fast = makes.3 in
+          let is : present_op script a behind ≡ Some (Pin handle page n want fast) = ap (λ (j : ℕ). slice_get (ops_of script a) j) (sym same) ∙ makes.4 in
+          let fits : FitsAt t who (Some (Pin handle page n want fast)) behind = subst (λ (o : Option Op). FitsAt t who o behind) is fits_own in
           fits.2.yet
 
   -- another actor
@@ -484,9 +486,9 @@ module _ (script : ScriptValue) (valid : IsScript script) (r : RunState) (h : St
         let kept = pins.held_then handle b other (is_holder (t.handle handle) b is) in
         subst₂ (λ (x : Handle) (xs : List ℕ). is_held_by x b ≡ true → (0 < length xs) × (length xs + far ≡ length (objects_of x))) (sym kept.handle) (sym kept.pinned) has is
 
-    pin_kept : (handle page n far : ℕ) (write : Bool) → t.handle handle ≡ unmade → StandsPin s b q handle page n write far → StandsPin t b q handle page n write far
-    pin_kept handle page n far write yet at =
-        record { within = at.within; yet = yet; taken = subst (HasTaken q page write far) (sym taken_kept) at.taken }
+    pin_kept : (handle page n far : ℕ) (want : Want) → t.handle handle ≡ unmade → StandsPin s b q handle page n want far → StandsPin t b q handle page n want far
+    pin_kept handle page n far want yet at =
+        record { within = at.within; yet = yet; taken = subst (HasTaken q page want far) (sym taken_kept) at.taken }
 
     op_kept : (its : Place) (o : Option Op) → present_op script b its ≡ o → (0 < its.far → birth_for s.birth (doer script b) ≡ born) → ((child : ℕ) → ForksAt script b its.answered child → its.far ≡ 0 → t.birth child ≡ unborn) → ((handle : ℕ) → PinsAt script b its.answered handle → t.handle handle ≡ unmade) → FitsAt s (doer script b) o its → FitsAt t (doer script b) o its
     op_kept its None is begun unforked yet fits = (rests_kept fits.0, fits.1)
@@ -496,8 +498,8 @@ module _ (script : ScriptValue) (valid : IsScript script) (r : RunState) (h : St
     op_kept its (Some (Discard page n)) is begun unforked yet fits = (rests_kept fits.0, fits.1)
     op_kept its (Some (Load page word)) is begun unforked yet fits = (rests_kept fits.0, fits.1)
     op_kept its (Some (Store page word value)) is begun unforked yet fits = (rests_kept fits.0, fits.1)
-    op_kept its (Some (Pin handle page n write)) is begun unforked yet fits =
-        (job_kept ∙ fits.0, fits.1, pin_kept handle page n its.far write (yet handle (page, n, write, is)) fits.2)
+    op_kept its (Some (Pin handle page n want fast)) is begun unforked yet fits =
+        (job_kept ∙ fits.0, fits.1, pin_kept handle page n its.far want (yet handle (page, n, want, fast, is)) fits.2)
     op_kept its (Some (Unpin handle)) is begun unforked yet fits = (
       rests_kept fits.0,
       fits.1,

@@ -1,6 +1,7 @@
 -- The shapes of a turn: what its notes say, by the operation and the plain state before it.
 use Rattle.std.proofs.Common.{◌≡◌, ℕ, ◌+◌, ◌<◌, ◌≤◌, Bool, true, false, IsTrue, List, [], ◌∷◌, length, Option, Some, None, subst}
 use Rattle.gup_base.specs.declared.entry.Rights.{Rights}
+use Rattle.gup_base.specs.declared.entry.Want.{Want}
 use Rattle.gup_plain.specs.Denial.{is_held_by, transfer_denial}
 use Rattle.gup_plain.specs.Event.{words}
 use Rattle.gup_plain.specs.State.{PlainState, born, failed, objects_of}
@@ -20,7 +21,8 @@ use Rattle.gup_spec_events.specs.Event.{run}
 use Rattle.gup_law_events.specs.Law.{all_told}
 use Rattle.gup_spec_journal.specs.Denial.{op_denial}
 use Rattle.gup_spec_journal.specs.Place.{Place, Doer, birth_for}
-use Rattle.gup_spec_journal.specs.Plain.{IsAnswerOf, Passes, refusal_by_cause}
+use Rattle.gup_spec_journal.specs.Plain.{IsAnswerOf, pages_got, refusal_by_cause}
+use Rattle.gup_spec_journal.specs.Thorough.{Passes}
 use Rattle.gup_spec_journal.specs.Follows.{refuses, EndsPin, moves_word}
 use Rattle.gup_spec_turns.specs.ForkPlace.{ForkPlace, KeepsFrame, StandsFork, unbegun, from_page, at_page, wants_frame, at_word}
 use Rattle.gup_spec_turns.specs.PinPlace.{StandsPin}
@@ -63,8 +65,8 @@ HasLeft s a handle back =
 abbrev pub FitsOp : CoreState → Doer → Op → Place → Type 0
 FitsOp s who (Unmap page n) place = Rests s who.actor × (place.far < n)
 FitsOp s who (Discard page n) place = Rests s who.actor × (place.far < n)
-FitsOp s who (Pin handle page n write) place =
-    (s.job who.actor ≡ idle) × HadIfBegun place × StandsPin s who.actor who.proc handle page n write place.far
+FitsOp s who (Pin handle page n want fast) place =
+    (s.job who.actor ≡ idle) × HadIfBegun place × StandsPin s who.actor who.proc handle page n want place.far
 FitsOp s who (Unpin handle) place =
     Rests s who.actor × (place.had ≡ false) × (0 < place.far → is_held_by (s.handle handle) who.actor ≡ true)
     × HasLeft s who.actor handle place.far
@@ -98,12 +100,12 @@ IsOfProcess op = Unit {0}
 -- where it stands to where it stands then.
 pub data TurnOf (s : PlainState) (who : Doer) (place : Place) : Op → ForkPlace → List What → ForkPlace → Type 0 where
   -- its only turn: it is refused, or has its event
-  refused : (op : Op) (answer : Answer) → AtFirst place → IsTrue (refuses op answer) → IsAnswerOf (op_denial s who place.far op) answer → Passes s who.proc op place.far → TurnOf s who place op unbegun (Done answer ∷ []) unbegun
-  mapped : (page n : ℕ) (rights : Rights) → AtFirst place → op_denial s who place.far (Map page n rights) ≡ None → TurnOf s who place (Map page n rights) unbegun (Event (events.Map who.actor who.proc page n rights) ∷ Done answers.Plain ∷ []) unbegun
-  protected : (page n : ℕ) (rights : Rights) → AtFirst place → op_denial s who place.far (Protect page n rights) ≡ None → TurnOf s who place (Protect page n rights) unbegun (Event (events.Protect who.actor who.proc page n rights) ∷ Done answers.Plain ∷ []) unbegun
-  loaded : (page word value : ℕ) → AtFirst place → op_denial s who place.far (Load page word) ≡ None → TurnOf s who place (Load page word) unbegun (Event (events.Load who.actor who.proc page word value) ∷ Done (answers.Value value) ∷ []) unbegun
-  stored : (page word value : ℕ) → AtFirst place → op_denial s who place.far (Store page word value) ≡ None → TurnOf s who place (Store page word value) unbegun (Event (events.Store who.actor who.proc page word value) ∷ Done answers.Plain ∷ []) unbegun
-  gave : (handle to : ℕ) → AtFirst place → op_denial s who place.far (Give handle to) ≡ None → TurnOf s who place (Give handle to) unbegun (Event (events.Give who.actor handle to) ∷ Done answers.Plain ∷ []) unbegun
+  refused : (op : Op) (answer : Answer) → AtFirst place → IsTrue (refuses op answer) → IsAnswerOf (op_denial s who (pages_got s who.actor) op) answer → Passes s who.proc op place.far → TurnOf s who place op unbegun (Done answer ∷ []) unbegun
+  mapped : (page n : ℕ) (rights : Rights) → AtFirst place → op_denial s who (pages_got s who.actor) (Map page n rights) ≡ None → TurnOf s who place (Map page n rights) unbegun (Event (events.Map who.actor who.proc page n rights) ∷ Done answers.Plain ∷ []) unbegun
+  protected : (page n : ℕ) (rights : Rights) → AtFirst place → op_denial s who (pages_got s who.actor) (Protect page n rights) ≡ None → TurnOf s who place (Protect page n rights) unbegun (Event (events.Protect who.actor who.proc page n rights) ∷ Done answers.Plain ∷ []) unbegun
+  loaded : (page word value : ℕ) → AtFirst place → op_denial s who (pages_got s who.actor) (Load page word) ≡ None → TurnOf s who place (Load page word) unbegun (Event (events.Load who.actor who.proc page word value) ∷ Done (answers.Value value) ∷ []) unbegun
+  stored : (page word value : ℕ) → AtFirst place → op_denial s who (pages_got s who.actor) (Store page word value) ≡ None → TurnOf s who place (Store page word value) unbegun (Event (events.Store who.actor who.proc page word value) ∷ Done answers.Plain ∷ []) unbegun
+  gave : (handle to : ℕ) → AtFirst place → op_denial s who (pages_got s who.actor) (Give handle to) ≡ None → TurnOf s who place (Give handle to) unbegun (Event (events.Give who.actor handle to) ∷ Done answers.Plain ∷ []) unbegun
   took_over : (handle : ℕ) → AtFirst place → TurnOf s who place (Take handle) unbegun (Event (events.Take who.actor handle) ∷ Done answers.Plain ∷ []) unbegun
   -- one page of several
   took : (op : Op) (page n : ℕ) (event : ℕ → PlainEvent) → GoesOver who.actor who.proc op page n event → place.far + 1 < n → TurnOf s who place op unbegun (Event (event (page + place.far)) ∷ []) unbegun
@@ -114,15 +116,15 @@ pub data TurnOf (s : PlainState) (who : Doer) (place : Place) : Op → ForkPlace
   took_lowest : (page : ℕ) → ((g : ℕ) → g < page → s.right who.proc g ≡ None) → TurnOf s who place Exit unbegun (Event (events.Unmap who.actor who.proc page) ∷ []) unbegun
   took_all : ((g : ℕ) → s.right who.proc g ≡ None) → TurnOf s who place Exit unbegun (Done answers.Plain ∷ []) unbegun
   -- a pin: one page of several, the last one, or one that is refused
-  pinned_page : (handle page n : ℕ) (write : Bool) → place.far + 1 < n → op_denial s who place.far (Pin handle page n write) ≡ None → TurnOf s who place (Pin handle page n write) unbegun (Event (events.PinTry who.actor who.proc (page + place.far) write) ∷ []) unbegun
-  pinned_all : (handle page n : ℕ) (write : Bool) → place.far + 1 ≡ n → op_denial s who place.far (Pin handle page n write) ≡ None → TurnOf s who place (Pin handle page n write) unbegun (Event (events.PinTry who.actor who.proc (page + place.far) write) ∷ Event (events.PinOk who.actor handle) ∷ Done (answers.Pinned n) ∷ []) unbegun
-  pinned_short : (handle page n : ℕ) (write : Bool) (cause : Cause) → 0 < place.far → place.far < n → EndsPin cause → IsAnswerOf (op_denial s who place.far (Pin handle page n write)) (refusal_by_cause cause) → TurnOf s who place (Pin handle page n write) unbegun (Event (events.PinOk who.actor handle) ∷ Done (answers.Short place.far n cause) ∷ []) unbegun
+  pinned_page : (handle page n : ℕ) (want : Want) (fast : Bool) → place.far + 1 < n → op_denial s who (pages_got s who.actor) (Pin handle page n want fast) ≡ None → TurnOf s who place (Pin handle page n want fast) unbegun (Event (events.PinTry who.actor who.proc (page + place.far) want.write) ∷ []) unbegun
+  pinned_all : (handle page n : ℕ) (want : Want) (fast : Bool) → place.far + 1 ≡ n → op_denial s who (pages_got s who.actor) (Pin handle page n want fast) ≡ None → TurnOf s who place (Pin handle page n want fast) unbegun (Event (events.PinTry who.actor who.proc (page + place.far) want.write) ∷ Event (events.PinOk who.actor handle) ∷ Done (answers.Pinned n) ∷ []) unbegun
+  pinned_short : (handle page n : ℕ) (want : Want) (fast : Bool) (cause : Cause) → 0 < place.far → place.far < n → EndsPin want cause → IsAnswerOf (op_denial s who place.far (Pin handle page n want fast)) (refusal_by_cause cause) → TurnOf s who place (Pin handle page n want fast) unbegun (Event (events.PinOk who.actor handle) ∷ Done (answers.Short place.far n cause) ∷ []) unbegun
   -- an unpin: one page of several, and the last one
-  unpinned_page : (handle : ℕ) → op_denial s who place.far (Unpin handle) ≡ None → place.far + 1 < length (objects_of (s.handle handle)) → TurnOf s who place (Unpin handle) unbegun (Silent ∷ []) unbegun
-  unpinned_last : (handle : ℕ) → place.had ≡ false → op_denial s who place.far (Unpin handle) ≡ None → place.far + 1 ≡ length (objects_of (s.handle handle)) → TurnOf s who place (Unpin handle) unbegun (Event (events.Unpin who.actor handle) ∷ Done answers.Plain ∷ []) unbegun
+  unpinned_page : (handle : ℕ) → op_denial s who (pages_got s who.actor) (Unpin handle) ≡ None → place.far + 1 < length (objects_of (s.handle handle)) → TurnOf s who place (Unpin handle) unbegun (Silent ∷ []) unbegun
+  unpinned_last : (handle : ℕ) → place.had ≡ false → op_denial s who (pages_got s who.actor) (Unpin handle) ≡ None → place.far + 1 ≡ length (objects_of (s.handle handle)) → TurnOf s who place (Unpin handle) unbegun (Event (events.Unpin who.actor handle) ∷ Done answers.Plain ∷ []) unbegun
   -- a transfer: one word of several, and the last one
-  moved_word : (handle : ℕ) (outward : Bool) (index slot n value : ℕ) → place.far + 1 < n → op_denial s who place.far (Transfer handle outward index slot n) ≡ None → TurnOf s who place (Transfer handle outward index slot n) unbegun (Event (moves_word who.actor handle outward (index + place.far) (slot + place.far) value) ∷ []) unbegun
-  moved_last : (handle : ℕ) (outward : Bool) (index slot n value : ℕ) → place.far + 1 ≡ n → op_denial s who place.far (Transfer handle outward index slot n) ≡ None → TurnOf s who place (Transfer handle outward index slot n) unbegun (Event (moves_word who.actor handle outward (index + place.far) (slot + place.far) value) ∷ Done answers.Words ∷ []) unbegun
+  moved_word : (handle : ℕ) (outward : Bool) (index slot n value : ℕ) → place.far + 1 < n → op_denial s who (pages_got s who.actor) (Transfer handle outward index slot n) ≡ None → TurnOf s who place (Transfer handle outward index slot n) unbegun (Event (moves_word who.actor handle outward (index + place.far) (slot + place.far) value) ∷ []) unbegun
+  moved_last : (handle : ℕ) (outward : Bool) (index slot n value : ℕ) → place.far + 1 ≡ n → op_denial s who (pages_got s who.actor) (Transfer handle outward index slot n) ≡ None → TurnOf s who place (Transfer handle outward index slot n) unbegun (Event (moves_word who.actor handle outward (index + place.far) (slot + place.far) value) ∷ Done answers.Words ∷ []) unbegun
   -- a fork: its beginning, a page that is passed, one that is counted and then shared, its end
   began : (child : ℕ) → AtFirst place → TurnOf s who place (Fork child) unbegun (Event (events.ForkBegin who.proc child) ∷ []) (from_page 0)
   passed_page : (child from page : ℕ) → IsBegun place → from ≤ page → TurnOf s who place (Fork child) (from_page from) (Event (events.ForkPage who.proc child page) ∷ []) (from_page (page + 1))
@@ -177,7 +179,7 @@ child_of p op = p
 
 -- what an operation is about
 abbrev pub strand_of : Option Op → Strand
-strand_of (Some (Pin handle page n write)) = of_pin handle
+strand_of (Some (Pin handle page n want fast)) = of_pin handle
 strand_of (Some (Unpin handle)) = of_handle handle
 strand_of (Some (Give handle to)) = of_handle handle
 strand_of (Some (Take handle)) = of_handle handle

@@ -48,7 +48,7 @@ of_no_device (Protect page n rights) own device = device
 of_no_device (Discard page n) own device = device
 of_no_device (Load page word) own device = device
 of_no_device (Store page word value) own device = device
-of_no_device (Pin handle page n write) own device = device
+of_no_device (Pin handle page n want fast) own device = device
 of_no_device (Unpin handle) own device = own
 of_no_device (Give handle to) own device = own
 of_no_device (Take handle) own device = own
@@ -98,7 +98,7 @@ module _ (s : CoreState) (who : Doer) (place : Place) (quiet : IsQuiet s who.act
   op_turned (Store page word value) h = store_turned s who place (opened (h.birth tt)) page word value h.range h.fits h.free
   op_turned (Protect page n rights) h = protect_turned s who place (opened (h.birth tt)) page n rights h.fits h.free
   op_turned (Discard page n) h = discard_turned s who place (opened (h.birth tt)) page n h.fits h.free
-  op_turned (Pin handle page n write) h = pin_turned s who place (opened (h.birth tt)) handle page n write h.range h.fits h.free
+  op_turned (Pin handle page n want fast) h = pin_turned s who place (opened (h.birth tt)) handle page n want fast h.range h.fits h.free
   op_turned (Unpin handle) h = unpin_turned s who place quiet handle h.fits
   op_turned (Give handle to) h = give_turned s who place quiet handle to h.fits
   op_turned (Take handle) h =
@@ -124,7 +124,7 @@ module _ (s : CoreState) (who : Doer) (place : Place) (first : place.far ≡ 0) 
   rests_first (Store page word value) fits = fits.0
   rests_first (Protect page n rights) fits = fits.0
   rests_first (Discard page n) fits = fits.0
-  rests_first (Pin handle page n write) fits = (fits.0, none_taken (s.taken who.actor) (fits.2.taken.many ∙ first))
+  rests_first (Pin handle page n want fast) fits = (fits.0, none_taken (s.taken who.actor) (fits.2.taken.many ∙ first))
   rests_first (Unpin handle) fits = fits.0
   rests_first (Give handle to) fits = fits.0
   rests_first (Take handle) fits = fits.0
@@ -171,7 +171,7 @@ module _ (s : CoreState) (who : Doer) (place : Place) (quiet : IsQuiet s who.act
   failed_step (Store page word value) own fits = refuses_op (Store page word value) refl (λ child same. cc same) fits
   failed_step (Protect page n rights) own fits = refuses_op (Protect page n rights) refl (λ child same. cc same) fits
   failed_step (Discard page n) own fits = refuses_op (Discard page n) refl (λ child same. cc same) fits
-  failed_step (Pin handle page n write) own fits = refuses_op (Pin handle page n write) refl (λ child same. cc same) fits
+  failed_step (Pin handle page n want fast) own fits = refuses_op (Pin handle page n want fast) refl (λ child same. cc same) fits
   failed_step (Unpin handle) own fits = refuses_op (Unpin handle) refl (λ child same. cc same) fits
   failed_step (Give handle to) own fits = refuses_op (Give handle to) refl (λ child same. cc same) fits
   failed_step (Take handle) own fits = refuses_op (Take handle) refl (λ child same. cc same) fits

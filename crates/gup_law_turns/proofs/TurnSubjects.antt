@@ -94,7 +94,7 @@ going_by s who far (Protect page n rights) own later = inr (record { birth = inl
 going_by s who far (Discard page n) own later = inr (record { birth = inl (own tt); later = later })
 going_by s who far (Load page word) own later = inr (record { birth = inl (own tt); later = later })
 going_by s who far (Store page word value) own later = inr (record { birth = inl (own tt); later = later })
-going_by s who far (Pin handle page n write) own later = inr (record { birth = inl (own tt); later = later })
+going_by s who far (Pin handle page n want fast) own later = inr (record { birth = inl (own tt); later = later })
 going_by s who far (Unpin handle) own later =
     inl (
       handle,
@@ -130,7 +130,7 @@ unborn_silent a p (Protect page n rights) refusal = refl
 unborn_silent a p (Discard page n) refusal = refl
 unborn_silent a p (Load page word) refusal = refl
 unborn_silent a p (Store page word value) refusal = refl
-unborn_silent a p (Pin handle page n write) refusal = refl
+unborn_silent a p (Pin handle page n want fast) refusal = refl
 unborn_silent a p (Unpin handle) refusal = refl
 unborn_silent a p (Give handle to) refusal = refl
 unborn_silent a p (Take handle) refusal = refl

@@ -1,13 +1,14 @@
 -- What is known of each state that turns lead to, whoever takes them.
 use Rattle.std.specs.Prelude.{◌≡◌, ℕ, ◌+◌, ◌*◌, ◌≤◌, ◌<◌, ◌==◌, Bool, true, if◌then◌else◌, List, [], length, slice_get, Option, Some, None, IsSome}
 use Rattle.gup_base.specs.declared.entry.Entry.{Entry}
+use Rattle.gup_base.specs.declared.entry.Want.{Want}
 use Rattle.gup_plain.specs.Event.{page_numbers}
 use Rattle.gup_plain.specs.State.{unborn, Handle, unmade, held, given, gone}
 use Rattle.gup_script.specs.declared.op.Op.{Op}
 use Rattle.gup_script.specs.declared.op.Op.TheVariants.{Unmap, Discard, Pin, Unpin, Transfer, Fork}
 use Rattle.gup_script.specs.Limits.{most_pinned}
 use Rattle.gup_script.specs.Script.{ScriptValue}
-use Rattle.gup_spec_events.specs.State.{idle, counted}
+use Rattle.gup_spec_events.specs.State.{idle}
 use Rattle.gup_spec_events.specs.Event.{bias}
 use Rattle.gup_spec_events.specs.Invariant.{Holds}
 use Rattle.gup_law_base.specs.Sound.{IsSound}
@@ -54,8 +55,8 @@ pub record IsStanding (script : ScriptValue) (r : RunState) : Type 0 where
   pub keeps : (a : ℕ) → KeepsFrame (r.core.job a) (r.core.prepared a)
   pub prepared : (a f : ℕ) → r.core.prepared a ≡ Some f → IsPrepared r.core f
   pub untaken : (a : ℕ) → IsNoPin (present_op script a (r.places a)) → r.core.taken a ≡ []
-  pub pins : (a handle page n : ℕ) (write : Bool) → present_op script a (r.places a) ≡ Some (Pin handle page n write) → StandsPin r.core a (process_of script a) handle page n write (r.places a).far
-  pub flagged : (a handle page n : ℕ) (write : Bool) → present_op script a (r.places a) ≡ Some (Pin handle page n write) → 0 < (r.places a).far → r.core.has_pinned (process_of script a) ≡ true
+  pub pins : (a handle page n : ℕ) (want : Want) (fast : Bool) → present_op script a (r.places a) ≡ Some (Pin handle page n want fast) → StandsPin r.core a (process_of script a) handle page n want (r.places a).far
+  pub flagged : (a handle page n : ℕ) (want : Want) (fast : Bool) → present_op script a (r.places a) ≡ Some (Pin handle page n want fast) → 0 < (r.places a).far → r.core.has_pinned (process_of script a) ≡ true
   pub handles : (h : ℕ) → StandsHandle (back_in script r h) (r.core.pinned h) (r.core.handle h)
   pub made : (h : ℕ) → (r.core.handle h ≡ unmade → ⊥) → h < length script.handles
   pub weighed : (h k f : ℕ) → slice_get (r.core.pinned h) k ≡ Some f → bias ≤ r.core.count f

@@ -26,6 +26,14 @@ pub fn runs_are_turns()
     ensures taken { (script : ScriptValue) (actors : List ℕ) (r : RunState) → (turns : List Turn) × (actors_of turns ≡ actors) × AreTurns script r turns (turned script r actors) }
 {}
 
+/// A turn rests on the core state and on where the actors stand, and so do both after it: neither the pointer nor the number
+/// of turns is read, which only say whose turn is next.
+pub fn turns_read_no_order()
+    ensures turn { (script : ScriptValue) (r s : RunState) (a : ℕ) → r.core ≡ s.core → r.places ≡ s.places → core_turn_in script r a ≡ core_turn_in script s a }
+    ensures core { (script : ScriptValue) (r s : RunState) (a : ℕ) → r.core ≡ s.core → r.places ≡ s.places → (run_after script r a).core ≡ (run_after script s a).core }
+    ensures places { (script : ScriptValue) (r s : RunState) (a : ℕ) → r.core ≡ s.core → r.places ≡ s.places → (run_after script r a).places ≡ (run_after script s a).places }
+{}
+
 /// Whichever actors have taken turns, and whoever is next: each core event of its turn can happen when it does, and the plain
 /// state that its notes lead to is the one that the core state after the turn stands for.
 pub fn turns_can_happen()

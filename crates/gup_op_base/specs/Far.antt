@@ -7,7 +7,7 @@ use Rattle.gup_script.specs.declared.op.Op.TheVariants.{Unmap, Discard, Pin, Tra
 abbrev pub far_in : Option Op → (far : ℕ) → ℕ
 far_in (Some (Unmap page n)) far = far
 far_in (Some (Discard page n)) far = far
-far_in (Some (Pin handle page n write)) far = far
+far_in (Some (Pin handle page n want fast)) far = far
 far_in (Some (Transfer handle outward index slot n)) far = far
 far_in op far = 0
 
@@ -15,6 +15,6 @@ far_in op far = 0
 abbrev pub HasFar : Op → (far : ℕ) → Type 0
 HasFar (Unmap page n) far = far < n
 HasFar (Discard page n) far = far < n
-HasFar (Pin handle page n write) far = far < n
+HasFar (Pin handle page n want fast) far = far < n
 HasFar (Transfer handle outward index slot n) far = far < n
 HasFar op far = Unit {0}

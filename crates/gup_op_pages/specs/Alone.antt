@@ -8,7 +8,7 @@ use Rattle.gup_space.specs.Shows.{ShowsFrames, ShowsSpace}
 use Rattle.gup_spec_events.specs.State.{CoreState}
 
 abbrev pub IsAlone : Op → Type 0
-IsAlone (Pin handle page n write) = ⊥
+IsAlone (Pin handle page n want fast) = ⊥
 IsAlone (Unpin handle) = ⊥
 IsAlone (Give handle to) = ⊥
 IsAlone (Take handle) = ⊥

@@ -3,6 +3,7 @@ use Rattle.std.proofs.Common.{◌≡◌, ℕ, ◌+◌, ◌<◌, ◌==◌, Bool, 
 use Rattle.std.proofs.lemmas.List.{map-append}
 use Rattle.std.proofs.lemmas.Bool.Decides.{nat_tests}
 use Rattle.gup_base.specs.declared.entry.Entry.{Entry}
+use Rattle.gup_base.specs.declared.entry.Want.{Want}
 use Rattle.gup_plain.specs.Put.{put}
 use Rattle.gup_plain.specs.State as plain
 use Rattle.gup_plain.specs.declared.answer.Answer.{Answer}
@@ -22,7 +23,7 @@ use Rattle.gup_spec_events.specs.Invariant.{frame_of}
 use Rattle.gup_spec_events.specs.Fault.{Fault, events_of, refusal_of}
 use Rattle.gup_fault.specs.Faults.{IsFault}
 use Rattle.gup_spec_turns.specs.CoreTurn.{entry_in}
-use Rattle.gup_spec_turns.specs.PinTurns.{raises, makes_if, pinned_if, pins, cause_of, ends_pin, pin_turn, pin_turn_by}
+use Rattle.gup_spec_turns.specs.PinTurns.{raises, makes_if, pinned_if, pins, cause_of, ends_pin, pin_turn, pin_turn_at, pin_turn_by}
 use Rattle.gup_op_pins.specs.Pins.{IsPin, ShowsPins, PinningView, ShowsPinning, StandsAtPage, raised, fault_to_pin}
 use Rattle.gup_op_base.specs.Tidy.{IsTidy}
 use Rattle.gup_op_base.specs.Turns.{Leads, IsTurnOf}
@@ -102,12 +103,12 @@ IsMade true old new a handle frame write =
     (new.pins ≡ put handle (held a (old.taken ++ frame ∷ []) write) old.pins) × (new.taken ≡ [])
 IsMade false old new a handle frame write = (new.pins ≡ old.pins) × (new.taken ≡ old.taken ++ frame ∷ [])
 
-abbrev taken_page : CoreState → (p page : ℕ) → Entry → Bool → TakenPage
-taken_page s p page e write =
-    record { proc = p; page = page; frame = e.frame; object = s.object p page; write = write; long = false }
+abbrev taken_page : CoreState → (p page : ℕ) → Entry → Want → TakenPage
+taken_page s p page e want =
+    record { proc = p; page = page; frame = e.frame; object = s.object p page; write = want.write; long = want.long }
 
-page_taken : (a p page : ℕ) (e : Entry) (write : Bool) (s : CoreState) → (happens s (pin_page a p page e write false)).taken a ≡ s.taken a ++ taken_page s p page e write ∷ []
-page_taken a p page e write s = grind (arith, nat_tests)
+page_taken : (a p page : ℕ) (e : Entry) (want : Want) (s : CoreState) → (happens s (pin_page a p page e want.write want.long)).taken a ≡ s.taken a ++ taken_page s p page e want ∷ []
+page_taken a p page e want s = grind (arith, nat_tests)
 
 frames_behind : (taken : List TakenPage) (last : TakenPage) (frames : List ℕ) → frames_taken taken ≡ frames → frames_taken (taken ++ last ∷ []) ≡ frames ++ last.frame ∷ []
 frames_behind taken last frames is = map-append (λ (t : TakenPage). t.frame) taken (last ∷ []) ∙ ap (λ (fs : List ℕ). fs ++ last.frame ∷ []) is
@@ -121,45 +122,45 @@ flag_again : (p : ℕ) (S : SpaceValue) (s : CoreState) → s.has_pinned p ≡ t
 flag_again p S s flag h =
     record { right = h.right; pages = h.pages; entry = h.entry; sequence = h.sequence; has_pinned = flag; structure = h.structure; table = h.table }
 
-take_page : (old new : PinningView) (F1 : FramesValue) (S2 : SpaceValue) (a p handle page frame : ℕ) (write last : Bool) (e : Entry) (s : CoreState)
-    → e.frame ≡ frame → new.frames ≡ with_references frame 1024 F1 → new.space ≡ record S2 { has_pinned = true } → IsMade last old new a handle frame write
+take_page : (old new : PinningView) (F1 : FramesValue) (S2 : SpaceValue) (a p handle page frame : ℕ) (want : Want) (last : Bool) (e : Entry) (s : CoreState)
+    → e.frame ≡ frame → new.frames ≡ with_references frame 1024 F1 → new.space ≡ record S2 { has_pinned = true } → IsMade last old new a handle frame want.write
     → ShowsFrames F1 s → ShowsSpace p S2 s → ShowsPins old.pins s → frames_taken (s.taken a) ≡ old.taken → s.has_pinned p ≡ true
-    → ((k : ℕ) (t : TakenPage) → slice_get (s.taken a) k ≡ Some t → t.write ≡ write)
-    → ShowsPinning a p new (run s (pin_page a p page e write false ∷ makes_if last a handle))
-take_page old new F1 S2 a p handle page frame write last e s is new_frames new_space made frames space shown taken flag writes = go last made
+    → ((k : ℕ) (t : TakenPage) → slice_get (s.taken a) k ≡ Some t → t.write ≡ want.write)
+    → ShowsPinning a p new (run s (pin_page a p page e want.write want.long ∷ makes_if last a handle))
+take_page old new F1 S2 a p handle page frame want last e s is new_frames new_space made frames space shown taken flag writes = go last made
   where
     t : CoreState
-    t = happens s (pin_page a p page e write false)
+    t = happens s (pin_page a p page e want.write want.long)
 
     frames_now : ShowsFrames new.frames t
     frames_now =
         subst (λ (x : FramesValue). ShowsFrames x t) (ap (λ f. with_references f 1024 F1) is ∙ sym new_frames)
-        (shows_frames p F1 s (pinning a page e write false) frames)
+        (shows_frames p F1 s (pinning a page e want.write want.long) frames)
 
     space_now : ShowsSpace p new.space t
     space_now =
         subst (λ (x : SpaceValue). ShowsSpace p x t) (sym new_space)
-        (flag_again p S2 t flag (shows_space p S2 s (pinning a page e write false) space))
+        (flag_again p S2 t flag (shows_space p S2 s (pinning a page e want.write want.long) space))
 
-    pages : t.taken a ≡ s.taken a ++ taken_page s p page e write ∷ []
-    pages = page_taken a p page e write s
+    pages : t.taken a ≡ s.taken a ++ taken_page s p page e want ∷ []
+    pages = page_taken a p page e want s
 
     taken_now : frames_taken (t.taken a) ≡ old.taken ++ frame ∷ []
     taken_now =
-        ap frames_taken pages ∙ frames_behind (s.taken a) (taken_page s p page e write) old.taken taken
+        ap frames_taken pages ∙ frames_behind (s.taken a) (taken_page s p page e want) old.taken taken
         ∙ ap (λ f. old.taken ++ f ∷ []) is
 
-    writes_now : writes_taken (t.taken a) ≡ write
-    writes_now = ap writes_taken pages ∙ writes_behind (s.taken a) (taken_page s p page e write) write writes refl
+    writes_now : writes_taken (t.taken a) ≡ want.write
+    writes_now = ap writes_taken pages ∙ writes_behind (s.taken a) (taken_page s p page e want) want.write writes refl
 
-    go : (more : Bool) → IsMade more old new a handle frame write → ShowsPinning a p new (run t (makes_if more a handle))
+    go : (more : Bool) → IsMade more old new a handle frame want.write → ShowsPinning a p new (run t (makes_if more a handle))
     go true by =
         record {
           frames = shows_frames p new.frames t (making a handle) frames_now;
           space = shows_space p new.space t (making a handle) space_now;
           pins =
               subst (λ (x : HandlesValue). ShowsPins x (happens t (make_handle a handle))) (sym by.0)
-              (pins_made old.pins a handle (old.taken ++ frame ∷ []) write t taken_now writes_now shown);
+              (pins_made old.pins a handle (old.taken ++ frame ∷ []) want.write t taken_now writes_now shown);
           taken = none_taken a handle t ∙ sym by.1;
         }
     go false by =
@@ -175,24 +176,24 @@ abbrev pub tried_whats : (last : Bool) → (a p handle page n : ℕ) → (write 
 tried_whats last a p handle page n write = Event (events.PinTry a p page write) ∷ pinned_if last a handle n
 
 -- the pin after events that lead there
-pins_lead : (new : PinningView) (es : List CoreEvent) (a p handle page n : ℕ) (write last : Bool) (s t : CoreState) → run s es ≡ t
-    → ShowsPinning a p new (run t (pin_page a p page (entry_in (t.entry p page)) write false ∷ makes_if last a handle))
-    → Leads (ShowsPinning a p) new s (pins s es a p handle page n write last) (tried_whats last a p handle page n write)
-pins_lead new es a p handle page n write last s t same behind =
-    let rest : CoreState → List CoreEvent = λ u. pin_page a p page (entry_in (u.entry p page)) write false ∷ makes_if last a handle in
+pins_lead : (new : PinningView) (es : List CoreEvent) (a p handle page n : ℕ) (want : Want) (last : Bool) (s t : CoreState) → run s es ≡ t
+    → ShowsPinning a p new (run t (pin_page a p page (entry_in (t.entry p page)) want.write want.long ∷ makes_if last a handle))
+    → Leads (ShowsPinning a p) new s (pins s es a p handle page n want last) (tried_whats last a p handle page n want.write)
+pins_lead new es a p handle page n want last s t same behind =
+    let rest : CoreState → List CoreEvent = λ u. pin_page a p page (entry_in (u.entry p page)) want.write want.long ∷ makes_if last a handle in
     let here : ShowsPinning a p new (run (run s es) (rest (run s es))) = subst (λ (u : CoreState). ShowsPinning a p new (run u (rest u))) (sym same) behind in
     let all : ShowsPinning a p new (run s (es ++ rest (run s es))) = subst (ShowsPinning a p new) (sym (run_behind s es (rest (run s es)))) here in
     record { says = refl; shown = all }
 
 -- what a fault of a pin comes to
-pin_after : (new : PinningView) (fault : Fault) (a p handle page n far : ℕ) (write last : Bool) (s : CoreState) → (far + 1 == n) ≡ last → refusal_of fault ≡ None
+pin_after : (new : PinningView) (fault : Fault) (a p handle page n far : ℕ) (want : Want) (last : Bool) (s : CoreState) → (far + 1 == n) ≡ last → refusal_of fault ≡ None
     → ((t : CoreState) → t ≡ run (run s (raises a p far)) (events_of fault)
-    → ShowsPinning a p new (run t (pin_page a p page (entry_in (t.entry p page)) write false ∷ makes_if last a handle)))
-    → Leads (ShowsPinning a p) new s (pin_turn_by fault s a p handle page n far write) (tried_whats last a p handle page n write)
-pin_after new (Err answer) a p handle page n far write last s is refused behind = absurd (cc)
-pin_after new (Ok before) a p handle page n far write last s is unrefused behind =
-    leads_alike (ap (λ b. pins s (raises a p far ++ before) a p handle page n write b) is)
-    (pins_lead new (raises a p far ++ before) a p handle page n write last s (run (run s (raises a p far)) before) (run_behind s (raises a p far) before)
+    → ShowsPinning a p new (run t (pin_page a p page (entry_in (t.entry p page)) want.write want.long ∷ makes_if last a handle)))
+    → Leads (ShowsPinning a p) new s (pin_turn_by fault s a p handle page n far want) (tried_whats last a p handle page n want.write)
+pin_after new (Err answer) a p handle page n far want last s is refused behind = absurd (cc)
+pin_after new (Ok before) a p handle page n far want last s is unrefused behind =
+    leads_alike (ap (λ b. pins s (raises a p far ++ before) a p handle page n want b) is)
+    (pins_lead new (raises a p far ++ before) a p handle page n want last s (run (run s (raises a p far)) before) (run_behind s (raises a p far) before)
     (behind (run (run s (raises a p far)) before) refl))
 
 -- a fault of a page of a pin that stands at this one
@@ -207,20 +208,22 @@ fault_at F F1 S S1 S2 page far at write denied space is h =
     subst (λ (x : SpaceValue). IsFault (ch F F1 x S2) denied (λ b q. fault_to_pin F x b q (page + far) write)) space
     (subst (λ g. IsFault (ch F F1 S1 S2) denied (λ b q. fault_to_pin F S1 b q g write)) is h)
 
-turn_is : (F : FramesValue) (S : SpaceValue) (a p handle page n far : ℕ) (write : Bool) (s : CoreState) → ShowsFrames F s → ShowsSpace p S s
-    → pin_turn s a p handle page n far write ≡ pin_turn_by (fault_to_pin F (raised far S) a p (page + far) write) s a p handle (page + far) n far write
-turn_is F S a p handle page n far write s frames space =
-    ap (λ (x : Fault). pin_turn_by x s a p handle (page + far) n far write)
-    (pin_fault_same F S a p (page + far) write s frames space ∙ sym (fault_raised F S a p (page + far) far write))
+-- the pin stands at the page after those that it has taken
+turn_is : (F : FramesValue) (S : SpaceValue) (a p handle page n far : ℕ) (want : Want) (s : CoreState) → length (s.taken a) ≡ far → ShowsFrames F s → ShowsSpace p S s
+    → pin_turn s a p handle page n want ≡ pin_turn_by (fault_to_pin F (raised far S) a p (page + far) want.write) s a p handle (page + far) n far want
+turn_is F S a p handle page n far want s many frames space =
+    ap (λ (got : ℕ). pin_turn_at s a p handle page n got want) many
+    ∙ ap (λ (x : Fault). pin_turn_by x s a p handle (page + far) n far want)
+    (pin_fault_same F S a p (page + far) want.write s frames space ∙ sym (fault_raised F S a p (page + far) far want.write))
 
 -- the page is pinned
-pub pinned_page : (old new : PinningView) (F1 : FramesValue) (S2 : SpaceValue) (a p handle page n far frame : ℕ) (write last : Bool) → (far + 1 == n) ≡ last → old.space.table ≡ None
-    → PinFault old.frames F1 old.space S2 (page + far) far write None → frame_of (S2.entry (page + far)) ≡ Some frame
-    → new.frames ≡ with_references frame 1024 F1 → new.space ≡ record S2 { has_pinned = true } → IsMade last old new a handle frame write
-    → IsTurnOf (ShowsPinning a p) (StandsAtPage a p handle page n write far) old new (λ s. pin_turn s a p handle page n far write) (tried_whats last a p handle (page + far) n write)
-pinned_page old new F1 S2 a p handle page n far frame write last is unlocked fault at new_frames new_space made s shown stands =
-    leads_alike (turn_is old.frames old.space a p handle page n far write s shown.frames shown.space)
-    (pin_after new (fault_to_pin F (raised far S) a p (page + far) write) a p handle (page + far) n far write last s is (fault.refused a p) (λ t here. behind t here))
+pub pinned_page : (old new : PinningView) (F1 : FramesValue) (S2 : SpaceValue) (a p handle page n far frame : ℕ) (want : Want) (last : Bool) → (far + 1 == n) ≡ last → old.space.table ≡ None
+    → PinFault old.frames F1 old.space S2 (page + far) far want.write None → frame_of (S2.entry (page + far)) ≡ Some frame
+    → new.frames ≡ with_references frame 1024 F1 → new.space ≡ record S2 { has_pinned = true } → IsMade last old new a handle frame want.write
+    → IsTurnOf (ShowsPinning a p) (StandsAtPage a p handle page n want far) old new (λ s. pin_turn s a p handle page n want) (tried_whats last a p handle (page + far) n want.write)
+pinned_page old new F1 S2 a p handle page n far frame want last is unlocked fault at new_frames new_space made s shown stands =
+    leads_alike (turn_is old.frames old.space a p handle page n far want s stands.at.taken.many shown.frames shown.space)
+    (pin_after new (fault_to_pin F (raised far S) a p (page + far) want.write) a p handle (page + far) n far want last s is (fault.refused a p) (λ t here. behind t here))
   where
     F : FramesValue
     F = old.frames
@@ -232,7 +235,7 @@ pinned_page old new F1 S2 a p handle page n far frame write last is unlocked fau
     t0 = run s (raises a p far)
 
     t1 : CoreState
-    t1 = run t0 (events_of (fault_to_pin F (raised far S) a p (page + far) write))
+    t1 = run t0 (events_of (fault_to_pin F (raised far S) a p (page + far) want.write))
 
     shows : ShowsFrames F1 t1 × ShowsSpace p S2 t1
     shows =
@@ -240,15 +243,15 @@ pinned_page old new F1 S2 a p handle page n far frame write last is unlocked fau
         ((raise_space S a p far s shown.space).table ∙ raised_unlocked S far unlocked)
 
     same : IsLeft t0 t1
-    same = pin_fault_leaves F (raised far S) a p (page + far) write t0
+    same = pin_fault_leaves F (raised far S) a p (page + far) want.write t0
 
     taken_same : t1.taken a ≡ s.taken a
     taken_same = ap (λ (f : ℕ → List TakenPage). f a) (same.taken ∙ raise_taken a p far s)
 
-    behind : (t : CoreState) → t ≡ t1 → ShowsPinning a p new (run t (pin_page a p (page + far) (entry_in (t.entry p (page + far))) write false ∷ makes_if last a handle))
+    behind : (t : CoreState) → t ≡ t1 → ShowsPinning a p new (run t (pin_page a p (page + far) (entry_in (t.entry p (page + far))) want.write want.long ∷ makes_if last a handle))
     behind t here =
-        subst (λ (u : CoreState). ShowsPinning a p new (run u (pin_page a p (page + far) (entry_in (u.entry p (page + far))) write false ∷ makes_if last a handle))) (sym here)
-        (take_page old new F1 S2 a p handle (page + far) frame write last (entry_in (t1.entry p (page + far))) t1
+        subst (λ (u : CoreState). ShowsPinning a p new (run u (pin_page a p (page + far) (entry_in (u.entry p (page + far))) want.write want.long ∷ makes_if last a handle))) (sym here)
+        (take_page old new F1 S2 a p handle (page + far) frame want last (entry_in (t1.entry p (page + far))) t1
         (ap (λ o. (entry_in o).frame) (shows.1.entry (page + far)) ∙ frame_is (S2.entry (page + far)) frame at) new_frames new_space made
         shows.0 shows.1
         (shows_same old.pins s t1 (same.handle ∙ raise_handle a p far s) (same.pinned ∙ raise_pinned a p far s) shown.pins)
@@ -258,20 +261,20 @@ pinned_page old new F1 S2 a p handle page n far frame write last is unlocked fau
 
 -- ---- a page is refused
 
-refused_after : (new : PinningView) (fault : Fault) (a p handle page n far : ℕ) (write : Bool) (answer : Answer) (s : CoreState) (whats : List What) → refusal_of fault ≡ Some answer
-    → Leads (ShowsPinning a p) new s (ends_pin a p handle n far answer) whats → Leads (ShowsPinning a p) new s (pin_turn_by fault s a p handle page n far write) whats
-refused_after new (Ok before) a p handle page n far write answer s whats refused h = absurd (cc)
-refused_after new (Err denied) a p handle page n far write answer s whats refused h =
+refused_after : (new : PinningView) (fault : Fault) (a p handle page n far : ℕ) (want : Want) (answer : Answer) (s : CoreState) (whats : List What) → refusal_of fault ≡ Some answer
+    → Leads (ShowsPinning a p) new s (ends_pin a p handle n far answer) whats → Leads (ShowsPinning a p) new s (pin_turn_by fault s a p handle page n far want) whats
+refused_after new (Ok before) a p handle page n far want answer s whats refused h = absurd (cc)
+refused_after new (Err denied) a p handle page n far want answer s whats refused h =
     let same : denied ≡ answer = cc in
     leads_alike (ap (λ (x : Answer). ends_pin a p handle n far x) same) h
 
 -- without a page the pin is refused
-pub pin_refused : (old new : PinningView) (F1 : FramesValue) (S2 : SpaceValue) (a p handle page n far : ℕ) (write : Bool) (answer : Answer) → far ≡ 0
-    → PinFault old.frames F1 old.space S2 (page + far) far write (Some answer) → new.frames ≡ F1 → new.space ≡ S2 → new.pins ≡ old.pins → new.taken ≡ old.taken
-    → IsTurnOf (ShowsPinning a p) (StandsAtPage a p handle page n write far) old new (λ s. pin_turn s a p handle page n far write) (Done answer ∷ [])
-pin_refused old new F1 S2 a p handle page n zero write answer first fault new_frames new_space new_pins new_taken s shown stands =
-    leads_alike (turn_is old.frames old.space a p handle page n 0 write s shown.frames shown.space)
-    (refused_after new (fault_to_pin old.frames (raised 0 old.space) a p (page + 0) write) a p handle (page + 0) n 0 write answer s (Done answer ∷ []) (fault.refused a p)
+pub pin_refused : (old new : PinningView) (F1 : FramesValue) (S2 : SpaceValue) (a p handle page n far : ℕ) (want : Want) (answer : Answer) → far ≡ 0
+    → PinFault old.frames F1 old.space S2 (page + far) far want.write (Some answer) → new.frames ≡ F1 → new.space ≡ S2 → new.pins ≡ old.pins → new.taken ≡ old.taken
+    → IsTurnOf (ShowsPinning a p) (StandsAtPage a p handle page n want far) old new (λ s. pin_turn s a p handle page n want) (Done answer ∷ [])
+pin_refused old new F1 S2 a p handle page n zero want answer first fault new_frames new_space new_pins new_taken s shown stands =
+    leads_alike (turn_is old.frames old.space a p handle page n 0 want s stands.at.taken.many shown.frames shown.space)
+    (refused_after new (fault_to_pin old.frames (raised 0 old.space) a p (page + 0) want.write) a p handle (page + 0) n 0 want answer s (Done answer ∷ []) (fault.refused a p)
     (record {
       says = refl;
       shown = record {
@@ -281,7 +284,7 @@ pin_refused old new F1 S2 a p handle page n zero write answer first fault new_fr
         taken = shown.taken ∙ sym new_taken;
       };
     }))
-pin_refused old new F1 S2 a p handle page n (suc far) write answer first fault new_frames new_space new_pins new_taken s shown stands = absurd (omega arith)
+pin_refused old new F1 S2 a p handle page n (suc far) want answer first fault new_frames new_space new_pins new_taken s shown stands = absurd (omega arith)
 
 -- what the turn of a short pin says
 abbrev pub short_whats : (a handle n far : ℕ) → Answer → List What
@@ -289,22 +292,22 @@ short_whats a handle n far answer =
     Event (events.PinOk a handle) ∷ Done (answers.Short far n (cause_of answer)) ∷ []
 
 -- after others the pin has those
-pub pin_short : (old new : PinningView) (F1 : FramesValue) (S2 : SpaceValue) (a p handle page n far : ℕ) (write : Bool) (answer : Answer) → (far ≡ 0 → ⊥)
-    → PinFault old.frames F1 old.space S2 (page + far) far write (Some answer) → new.frames ≡ F1 → new.space ≡ S2
-    → new.pins ≡ put handle (held a old.taken write) old.pins → new.taken ≡ []
-    → IsTurnOf (ShowsPinning a p) (StandsAtPage a p handle page n write far) old new (λ s. pin_turn s a p handle page n far write) (short_whats a handle n far answer)
-pin_short old new F1 S2 a p handle page n zero write answer some fault new_frames new_space new_pins new_taken s shown stands = absurd (some refl)
-pin_short old new F1 S2 a p handle page n (suc far) write answer some fault new_frames new_space new_pins new_taken s shown stands =
+pub pin_short : (old new : PinningView) (F1 : FramesValue) (S2 : SpaceValue) (a p handle page n far : ℕ) (want : Want) (answer : Answer) → (far ≡ 0 → ⊥)
+    → PinFault old.frames F1 old.space S2 (page + far) far want.write (Some answer) → new.frames ≡ F1 → new.space ≡ S2
+    → new.pins ≡ put handle (held a old.taken want.write) old.pins → new.taken ≡ []
+    → IsTurnOf (ShowsPinning a p) (StandsAtPage a p handle page n want far) old new (λ s. pin_turn s a p handle page n want) (short_whats a handle n far answer)
+pin_short old new F1 S2 a p handle page n zero want answer some fault new_frames new_space new_pins new_taken s shown stands = absurd (some refl)
+pin_short old new F1 S2 a p handle page n (suc far) want answer some fault new_frames new_space new_pins new_taken s shown stands =
     let t : CoreState = happens s (make_handle a handle) in
-    let writes : writes_taken (s.taken a) ≡ write = writes_some (s.taken a) write (omega (arith, stands.at.taken.many)) (λ k x found. (stands.at.taken.each k x found).2) in
-    leads_alike (turn_is old.frames old.space a p handle page n (suc far) write s shown.frames shown.space)
-    (refused_after new (fault_to_pin old.frames old.space a p (page + suc far) write) a p handle (page + suc far) n (suc far) write answer s (short_whats a handle n (suc far) answer) (fault.refused a p)
+    let writes : writes_taken (s.taken a) ≡ want.write = writes_some (s.taken a) want.write (omega (arith, stands.at.taken.many)) (λ k x found. (stands.at.taken.each k x found).2) in
+    leads_alike (turn_is old.frames old.space a p handle page n (suc far) want s stands.at.taken.many shown.frames shown.space)
+    (refused_after new (fault_to_pin old.frames old.space a p (page + suc far) want.write) a p handle (page + suc far) n (suc far) want answer s (short_whats a handle n (suc far) answer) (fault.refused a p)
     (record {
       says = refl;
       shown = record {
         frames = subst (λ (x : FramesValue). ShowsFrames x t) (sym (new_frames ∙ (fault.unchanged answer refl).0)) (shows_frames p old.frames s (making a handle) shown.frames);
         space = subst (λ (x : SpaceValue). ShowsSpace p x t) (sym (new_space ∙ (fault.unchanged answer refl).1)) (shows_space p old.space s (making a handle) shown.space);
-        pins = subst (λ (x : HandlesValue). ShowsPins x t) (sym new_pins) (pins_made old.pins a handle old.taken write s shown.taken writes shown.pins);
+        pins = subst (λ (x : HandlesValue). ShowsPins x t) (sym new_pins) (pins_made old.pins a handle old.taken want.write s shown.taken writes shown.pins);
         taken = none_taken a handle s ∙ sym new_taken;
       };
     }))

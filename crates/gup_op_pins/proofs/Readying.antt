@@ -1,10 +1,11 @@
 -- What a pin's fault reads, what it leaves, and that the page is ready after it.
-use Rattle.std.proofs.Common.{◌≡◌, ℕ, ◌<◌, ◌^◌, ◌==◌, Bool, true, false, cond, [], ◌∷◌, ◌++◌, Option, Some, None, IsSome, Result, Ok, Err, OnOk, zero, suc, refl, ap, ◌∙◌, subst, arith}
+use Rattle.std.proofs.Common.{◌≡◌, ℕ, ◌<◌, ◌^◌, ◌==◌, Bool, true, false, cond, [], ◌∷◌, ◌++◌, Option, Some, None, IsSome, Result, Ok, Err, OnOk, zero, suc, refl, sym, ap, ◌∙◌, subst, arith}
 use Rattle.std.proofs.lemmas.Bool.Decides.{nat_tests}
 use Rattle.gup_base.specs.declared.entry.Allowed.TheVariants.{Any}
 use Rattle.gup_base.specs.declared.entry.Entry.{Entry}
 use Rattle.gup_base.specs.declared.entry.Rights.{Rights}
 use Rattle.gup_base.specs.declared.entry.Rights.TheVariants.{R, RW}
+use Rattle.gup_base.specs.declared.entry.Want.{Want}
 use Rattle.gup_frames.specs.Frames.{FramesValue, IsFrame, free_frame}
 use Rattle.gup_space.specs.Space.{SpaceValue}
 use Rattle.gup_space.specs.Shows.{Change, ShowsFrames, ShowsSpace}
@@ -259,3 +260,10 @@ ready_behind c page write (Ok ok) tidy few unlocked fault there marked writable 
         normal = λ long. absurd (cc);
       };
     }
+
+-- as the pin asks for it
+pub as_wanted : (want : Want) (write : Bool) (F : FramesValue) (S : SpaceValue) (page : ℕ) (r : Result (Unit {0}) Denied) → want.write ≡ write → want.long ≡ false
+    → OnOk r (IsReady F S page (want_of write)) → OnOk r (IsReady F S page want)
+as_wanted want write F S page r to_write short ready =
+    let same : want_of write ≡ want = ap (λ (w : Bool). want_of w) (sym to_write) ∙ ap (λ (l : Bool). record want { long = l }) (sym short) in
+    subst (λ (w : Want). OnOk r (IsReady F S page w)) same ready

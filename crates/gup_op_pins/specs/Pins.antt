@@ -51,7 +51,7 @@ fault_to_pin frames space a p page true =
 fault_to_pin frames space a p page false =
     unshare_fault a p page (space.right page) (space.entry page) frames.mark frames.count (free_frame frames Any)
 
--- what a pin of this kind asks for
+-- what a pin of this kind asks for, that isn't long-term
 abbrev pub want_of : (write : Bool) → Want
 want_of write = record { write = write; long = false }
 
@@ -74,6 +74,6 @@ pub record ShowsPinning (a p : ℕ) (view : PinningView) (s : CoreState) : Type 
   pub taken : frames_taken (s.taken a) ≡ view.taken
 
 -- the pin stands at this page; after its first page the process has pinned
-pub record StandsAtPage (a p handle page n : ℕ) (write : Bool) (far : ℕ) (s : CoreState) : Type 0 where
-  pub at : StandsPin s a p handle page n write far
+pub record StandsAtPage (a p handle page n : ℕ) (want : Want) (far : ℕ) (s : CoreState) : Type 0 where
+  pub at : StandsPin s a p handle page n want far
   pub flagged : 0 < far → s.has_pinned p ≡ true

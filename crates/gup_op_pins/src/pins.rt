@@ -39,7 +39,7 @@ pub fn pin(
     handle: HandleNo,
     page: PageNo,
     n: u8,
-    write: bool,
+    want: Want,
     far: u16,
 ) -> Said
     requires tidy { IsTidy (frames_of frames.old) (space_of space.old) }
@@ -51,27 +51,27 @@ pub fn pin(
     requires within { far < n }
     requires most { n ≤ 16 }
     requires range { page + n ≤ 2 ^ 35 }
-    ensures { IsTurnOf (ShowsPinning actor proc) (StandsAtPage actor proc handle page n write far)
+    requires short { want.long ≡ false }
+    ensures { IsTurnOf (ShowsPinning actor proc) (StandsAtPage actor proc handle page n want far)
         (pinning_view frames.old space.old handles.old taken.old.items)
         (pinning_view frames.new space.new handles.new taken.new.items)
-        (λ s. pin_turn s actor proc handle page n far write) (whats_of result) }
+        (λ s. pin_turn s actor proc handle page n want) (whats_of result) }
 {
     raise_flag(space, far);
     let page = page_behind(page, far);
-    match ready(space, frames, page, write) {
+    match ready(space, frames, page, want) {
         Ok(()) => {
-            let want = Want { write, long: false };
             taken.push(pin_page(space, frames, page, want));
             let tried = PlainEvent::PinTry {
                 actor,
                 proc,
                 page,
-                write,
+                write: want.write,
             };
             if far + 1 < u16::from(n) {
                 return happened(tried);
             }
-            hold(handles, taken, actor, handle, write);
+            hold(handles, taken, actor, handle, want.write);
             Said {
                 event: Some(tried),
                 next: Some(PlainEvent::PinOk { actor, handle }),
@@ -85,7 +85,7 @@ pub fn pin(
                 wanted: n,
                 cause: cause_of(denied),
             };
-            hold(handles, taken, actor, handle, write);
+            hold(handles, taken, actor, handle, want.write);
             done(PlainEvent::PinOk { actor, handle }, answer)
         }
     }
@@ -101,15 +101,16 @@ fn raise_flag(space: &mut Space, far: u16)
 }
 
 // Makes the page ready for a pin: its frame is exclusive, and its entry writable where the pin is to write.
-fn ready(space: &mut Space, frames: &mut Frames, page: PageNo, write: bool) -> Result<(), Denied>
+fn ready(space: &mut Space, frames: &mut Frames, page: PageNo, want: Want) -> Result<(), Denied>
     requires tidy { IsTidy (frames_of frames.old) (space_of space.old) }
     requires table { (space_of space.old).table ≡ None }
     requires few { (f : ℕ) → (frames_of frames.old).count f < 2 ^ 40 }
+    requires short { want.long ≡ false }
     ensures fault { IsFault (change_of frames.old frames.new space.old space.new) (denial_of result)
-        (λ a p. fault_to_pin (frames_of frames.old) (space_of space.old) a p page write) }
-    ensures ready { OnOk result (IsReady (frames_of frames.new) (space_of space.new) page (want_of write)) }
+        (λ a p. fault_to_pin (frames_of frames.old) (space_of space.old) a p page want.write) }
+    ensures ready { OnOk result (IsReady (frames_of frames.new) (space_of space.new) page want) }
 {
-    if write {
+    if want.write {
         ready_to_write(space, frames, page)
     } else {
         ready_to_read(space, frames, page)

@@ -1,5 +1,6 @@
 -- Where an actor stands before a turn of its operation.
 use Rattle.std.specs.Prelude.{◌≡◌, ℕ, ◌<◌, Bool, true, Some}
+use Rattle.gup_base.specs.declared.entry.Want.{Want}
 use Rattle.gup_script.specs.declared.op.Op.{Op}
 use Rattle.gup_script.specs.declared.op.Op.TheVariants.{Pin, Transfer, Fork}
 use Rattle.gup_spec_events.specs.State.{CoreState, idle}
@@ -14,6 +15,6 @@ pub record StandsAt (s : CoreState) (a p far : ℕ) (op : Op) : Type 0 where
   pub idle_job : IsNoFork (Some op) → s.job a ≡ idle
   pub keeps : KeepsFrame (s.job a) (s.prepared a)
   pub fork : (child : ℕ) → op ≡ Fork child → StandsFork s a p child (s.job a) (s.prepared a)
-  pub pin : (handle page n : ℕ) (write : Bool) → op ≡ Pin handle page n write → StandsPin s a p handle page n write far
-  pub pinned : (handle page n : ℕ) (write : Bool) → op ≡ Pin handle page n write → 0 < far → s.has_pinned p ≡ true
+  pub pin : (handle page n : ℕ) (want : Want) (fast : Bool) → op ≡ Pin handle page n want fast → StandsPin s a p handle page n want far
+  pub pinned : (handle page n : ℕ) (want : Want) (fast : Bool) → op ≡ Pin handle page n want fast → 0 < far → s.has_pinned p ≡ true
   pub whole : (handle index slot n : ℕ) (outward : Bool) → op ≡ Transfer handle outward index slot n → IsWhole s a handle

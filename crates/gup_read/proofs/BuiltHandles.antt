@@ -8,6 +8,7 @@ use Rattle.gup_script.specs.Limits.{most_pinned, most_words}
 use Rattle.gup_spec_grammar.specs.declared.fault.Reason.TheVariants as reasons
 use Rattle.gup_spec_grammar.specs.Said.{Word, pins, unpins, takes, gives, transfers, pin_word, write_word, transfer_word}
 use Rattle.gup_spec_grammar.specs.Outline.{Outline}
+use Rattle.gup_spec_grammar.specs.Grammar.{want_of}
 use Rattle.gup_read.specs.Reading.{◌>>=◌, check, way_in, pinned_in, pin_in, unpin_in, take_in, give_in, transfer_in}
 use Rattle.gup_read.proofs.Chains.{goes, checked, both, all_three, same_word, unused_Decides}
 use Rattle.gup_read.proofs.ActionWords.{said_with, action_in}
@@ -34,11 +35,11 @@ is_plain fast true = false
 is_plain fast false = not fast
 
 -- a pin is built, or later, once all else of it is right
-pin_ends : (st : Outline) (fast long write : Bool) (handle first count : Word) (page n : ℕ) → IsRange most_pinned first count page n → Ends st (pins fast handle first count write long) (Ok (cond (is_plain fast long) (Some (ops.Pin (length st.script.handles) page n write)) None))
+pin_ends : (st : Outline) (fast long write : Bool) (handle first count : Word) (page n : ℕ) → IsRange most_pinned first count page n → Ends st (pins fast handle first count write long) (Ok (cond (is_plain fast long) (Some (ops.Pin (length st.script.handles) page n (want_of write false) false)) None))
 pin_ends st true true write handle first count page n h = later refl (λ b. b)
 pin_ends st true false write handle first count page n h = later refl (λ b. b)
 pin_ends st false true write handle first count page n h = later refl (λ b. b)
-pin_ends st false false write handle first count page n h = built (ops.Pin (length st.script.handles) page n write) refl tt (page, n, h, refl)
+pin_ends st false false write handle first count page n h = built (ops.Pin (length st.script.handles) page n (want_of write false) false) refl tt (page, n, h, refl)
 
 pin_judged : (st : Outline) (a : ℕ) (fast long write : Bool) (handle first count : Word) → Judged st a (pins fast handle first count write long) (pinned_in (is_plain fast long) st handle first count (write_word write))
 unfolding pinned_in

@@ -4,6 +4,7 @@ use Rattle.std.proofs.Common.{◌≡◌, ◌⊎◌, ◌==◌, ℕ, ◌<◌, ◌�
 use Rattle.std.specs.List.{AllByRecursion, list_any}
 use Rattle.std.proofs.lemmas.Bool.{not-true}
 use Rattle.std.proofs.lemmas.Bool.Decides.{Decides-eqb}
+use Rattle.gup_base.specs.declared.entry.Want.{Want}
 use Rattle.gup_script.specs.declared.op.Op.{Op}
 use Rattle.gup_script.specs.declared.op.Op.TheVariants.{Map, Unmap, Protect, Discard, Load, Store, Pin, Unpin, Give, Take, Transfer, Fork, Exit}
 use Rattle.gup_script.specs.Script.{ScriptValue, Process, Actor, ops_in}
@@ -26,7 +27,7 @@ child_stays (x ∷ xs) ys (suc p) h = child_stays xs ys p h
 -- what an operation names stays declared when more is
 still_declared : (s t : ScriptValue) (more : List Process) → t.processes ≡ s.processes ++ more → length s.handles ≤ length t.handles → length s.actors ≤ length t.actors → (op : Op) → AreDeclared s op → AreDeclared t op
 still_declared s t more e handles actors (Fork child) h = rw e (child_stays s.processes more child h)
-still_declared s t more e handles actors (Pin handle page n write) h = omega arith
+still_declared s t more e handles actors (Pin handle page n want fast) h = omega arith
 still_declared s t more e handles actors (Unpin handle) h = omega arith
 still_declared s t more e handles actors (Give handle to) h = (omega (arith, h.0), omega (arith, h.1))
 still_declared s t more e handles actors (Take handle) h = omega arith
@@ -54,7 +55,7 @@ abbrev pub IsForkOf : Op → (child : ℕ) → Type 0
 IsForkOf op child = op ≡ Fork child
 
 abbrev pub IsPinOf : Op → (handle : ℕ) → Type 0
-IsPinOf op handle = (page n : ℕ) × (write : Bool) × (op ≡ Pin handle page n write)
+IsPinOf op handle = (page n : ℕ) × (want : Want) × (fast : Bool) × (op ≡ Pin handle page n want fast)
 
 -- the actor's operation at this place brings, or makes, what has this number
 abbrev pub At : (Op → ℕ → Type 0) → List Actor → (a k number : ℕ) → Type 0
@@ -123,7 +124,7 @@ op_once Brings actors c new fresh h a b j k number e f =
     way (inr x) (inr y) = (x.0 ∙ sym y.0, x.1 ∙ sym y.1)
 
 pub fork_no_pin : (op : Op) (child handle : ℕ) → IsForkOf op child → IsPinOf op handle → ⊥
-fork_no_pin op child handle f p = absurd (cc (f, p.3))
+fork_no_pin op child handle f p = absurd (cc (f, p.4))
 
 -- what is true of each operation is true of one at its place
 op_is : (P : Op → Type 0) (actors : List Actor) → AllByRecursion (λ (a : Actor). All P a.ops) actors → (a k : ℕ) (op : Op) → OpAt actors a k op → P op
@@ -133,7 +134,7 @@ op_is P (actor ∷ actors) h (suc a) k op e = op_is P actors h.1 a k op e
 
 -- the handle of a pin is declared
 pub pin_declared : (s : ScriptValue) → AllByRecursion (λ (a : Actor). All (AreDeclared s) a.ops) s.actors → (a k handle : ℕ) → At IsPinOf s.actors a k handle → handle < length s.handles
-pin_declared s h a k handle p = subst (AreDeclared s) p.2.3 (op_is (AreDeclared s) s.actors h a k p.0 p.1)
+pin_declared s h a k handle p = subst (AreDeclared s) p.2.4 (op_is (AreDeclared s) s.actors h a k p.0 p.1)
 
 -- ---- a child that no fork brings so far
 

@@ -3,6 +3,7 @@
 use Rattle.std.proofs.Common.{◌≡◌, ℕ, Bool, true, false, List, length, slice_get, Contains, refl, sym, subst, Option, Some, None, arith}
 use Rattle.std.specs.Prelude.{codes}
 use Rattle.std.proofs.lemmas.List.{length_push}
+use Rattle.gup_base.specs.declared.entry.Want.{Want}
 use Rattle.gup_script.specs.declared.op.Kind.{Kind}
 use Rattle.gup_script.specs.declared.op.Kind.TheVariants.{Thread, Device, Mover}
 use Rattle.gup_script.specs.declared.op.Op.{Op}
@@ -10,7 +11,7 @@ use Rattle.gup_script.specs.declared.op.Op.TheVariants.{Pin, Fork}
 use Rattle.gup_script.specs.Script.{Actor, process_at}
 use Rattle.gup_spec_grammar.specs.Outline.{Outline, with_handle, is_child, is_forked}
 use Rattle.gup_spec_grammar.specs.Said.{Word, Action, maps, unmaps, protects, discards, loads, stores, exits, pins, forks, unpins, takes, gives, transfers, action_words, op_words, op_words_of}
-use Rattle.gup_spec_grammar.specs.Grammar.{NamesProcess, ActionNames, ActionOnce, Means, with_declared, first_word}
+use Rattle.gup_spec_grammar.specs.Grammar.{NamesProcess, ActionNames, ActionOnce, want_of, Means, with_declared, first_word}
 use Rattle.gup_script.specs.Valid.{IsOp, FitsKind, IsOfThread, IsOfDevice, AreDeclared}
 use Rattle.gup_read.proofs.Following.{none_among}
 use Rattle.gup_read.proofs.Forking.{IsForkOf, IsPinOf, IsFresh, child_is, fork_no_pin, pin_declared, unforked}
@@ -26,7 +27,7 @@ is_op st (discards first count) op m = subst IsOp (sym m.3) (m.2.2, m.2.3, m.2.4
 is_op st (loads address) op m = subst IsOp (sym m.3) (m.2.1, m.2.2)
 is_op st (stores address value) op m = subst IsOp (sym m.5) (m.3.1, m.3.2, m.4.1)
 is_op st exits op m = subst IsOp (sym m) tt
-is_op st (pins false handle first count write false) op m = subst IsOp (sym m.3) (m.2.2, m.2.3, m.2.4)
+is_op st (pins false handle first count write false) op m = subst IsOp (sym m.3) (m.2.2, m.2.3, m.2.4, record { short = refl; slow = refl })
 is_op st (forks child) op m = subst IsOp (sym m.2) tt
 is_op st (unpins handle) op m = subst IsOp (sym m.2) tt
 is_op st (takes handle) op m = subst IsOp (sym m.2) tt
@@ -84,31 +85,31 @@ fork_fits st child p named once =
       fresh_pin = λ a k handle is at. absurd (fork_no_pin (Fork p) p handle refl is);
     }
 
-pin_fits : (st : Outline) (page n : ℕ) (write : Bool) → Stands st → Fits st.script.actors (Pin (length st.script.handles) page n write)
-pin_fits st page n write h =
-    let pin : Op = Pin (length st.script.handles) page n write in
+pin_fits : (st : Outline) (page n : ℕ) (want : Want) (fast : Bool) → Stands st → Fits st.script.actors (Pin (length st.script.handles) page n want fast)
+pin_fits st page n want fast h =
+    let pin : Op = Pin (length st.script.handles) page n want fast in
     record {
-      fresh_fork = λ a k child is at. absurd (fork_no_pin pin child (length st.script.handles) is (page, n, write, refl));
+      fresh_fork = λ a k child is at. absurd (fork_no_pin pin child (length st.script.handles) is (page, n, want, fast, refl));
       fresh_pin = λ a k handle is at.
-          let same : length st.script.handles ≡ handle = cc is.3 in
+          let same : length st.script.handles ≡ handle = cc is.4 in
           let lt = pin_declared st.script h.declared a k handle at in
           omega arith;
     }
 
 pub fits : (st : Outline) (action : Action) (op : Op) → Stands st → Means st action op → ActionOnce st action → Fits (with_declared action st).script.actors op
-fits st (maps first count rights) op h m once = other_fits st.script.actors op (λ child is. absurd (cc (m.3, is)), λ handle is. absurd (cc (m.3, is.3)))
-fits st (unmaps first count) op h m once = other_fits st.script.actors op (λ child is. absurd (cc (m.3, is)), λ handle is. absurd (cc (m.3, is.3)))
-fits st (protects first count rights) op h m once = other_fits st.script.actors op (λ child is. absurd (cc (m.3, is)), λ handle is. absurd (cc (m.3, is.3)))
-fits st (discards first count) op h m once = other_fits st.script.actors op (λ child is. absurd (cc (m.3, is)), λ handle is. absurd (cc (m.3, is.3)))
-fits st (loads address) op h m once = other_fits st.script.actors op (λ child is. absurd (cc (m.3, is)), λ handle is. absurd (cc (m.3, is.3)))
-fits st (stores address value) op h m once = other_fits st.script.actors op (λ child is. absurd (cc (m.5, is)), λ handle is. absurd (cc (m.5, is.3)))
-fits st exits op h m once = other_fits st.script.actors op (λ child is. absurd (cc (m, is)), λ handle is. absurd (cc (m, is.3)))
-fits st (pins false handle first count write false) op h m once = subst (Fits st.script.actors) (sym m.3) (pin_fits st m.0 m.1 write h)
+fits st (maps first count rights) op h m once = other_fits st.script.actors op (λ child is. absurd (cc (m.3, is)), λ handle is. absurd (cc (m.3, is.4)))
+fits st (unmaps first count) op h m once = other_fits st.script.actors op (λ child is. absurd (cc (m.3, is)), λ handle is. absurd (cc (m.3, is.4)))
+fits st (protects first count rights) op h m once = other_fits st.script.actors op (λ child is. absurd (cc (m.3, is)), λ handle is. absurd (cc (m.3, is.4)))
+fits st (discards first count) op h m once = other_fits st.script.actors op (λ child is. absurd (cc (m.3, is)), λ handle is. absurd (cc (m.3, is.4)))
+fits st (loads address) op h m once = other_fits st.script.actors op (λ child is. absurd (cc (m.3, is)), λ handle is. absurd (cc (m.3, is.4)))
+fits st (stores address value) op h m once = other_fits st.script.actors op (λ child is. absurd (cc (m.5, is)), λ handle is. absurd (cc (m.5, is.4)))
+fits st exits op h m once = other_fits st.script.actors op (λ child is. absurd (cc (m, is)), λ handle is. absurd (cc (m, is.4)))
+fits st (pins false handle first count write false) op h m once = subst (Fits st.script.actors) (sym m.3) (pin_fits st m.0 m.1 (want_of write false) false h)
 fits st (forks child) op h m once = subst (Fits st.script.actors) (sym m.2) (fork_fits st child m.0 m.1 once)
-fits st (unpins handle) op h m once = other_fits st.script.actors op (λ child is. absurd (cc (m.2, is)), λ number is. absurd (cc (m.2, is.3)))
-fits st (takes handle) op h m once = other_fits st.script.actors op (λ child is. absurd (cc (m.2, is)), λ number is. absurd (cc (m.2, is.3)))
-fits st (gives handle to) op h m once = other_fits st.script.actors op (λ child is. absurd (cc (m.4, is)), λ number is. absurd (cc (m.4, is.3)))
-fits st (transfers outward handle index slot count) op h m once = other_fits st.script.actors op (λ child is. absurd (cc (m.8, is)), λ number is. absurd (cc (m.8, is.3)))
+fits st (unpins handle) op h m once = other_fits st.script.actors op (λ child is. absurd (cc (m.2, is)), λ number is. absurd (cc (m.2, is.4)))
+fits st (takes handle) op h m once = other_fits st.script.actors op (λ child is. absurd (cc (m.2, is)), λ number is. absurd (cc (m.2, is.4)))
+fits st (gives handle to) op h m once = other_fits st.script.actors op (λ child is. absurd (cc (m.4, is)), λ number is. absurd (cc (m.4, is.4)))
+fits st (transfers outward handle index slot count) op h m once = other_fits st.script.actors op (λ child is. absurd (cc (m.8, is)), λ number is. absurd (cc (m.8, is.4)))
 fits st _ op h m once = absurd m
 
 -- ---- the operation is one of its actor's kind

@@ -8,7 +8,7 @@ use Rattle.gup_script.specs.Script.{Actor, actor_at}
 use Rattle.gup_spec_grammar.specs.declared.fault.Reason.{Reason}
 use Rattle.gup_spec_grammar.specs.Said.{Word, Action, maps, unmaps, protects, discards, loads, stores, exits, pins, forks, unpins, takes, gives, transfers, write_word, action_words, op_words_of}
 use Rattle.gup_spec_grammar.specs.Outline.{Outline}
-use Rattle.gup_spec_grammar.specs.Grammar.{ActionOnce, HandleLimits, Means}
+use Rattle.gup_spec_grammar.specs.Grammar.{ActionOnce, HandleLimits, want_of, Means}
 use Rattle.gup_read.specs.Reading.{with_pinned, op_of_actor}
 use Rattle.gup_read.specs.Steps.{IsDeclarable}
 use Rattle.gup_read.proofs.Chains.{tried_ok, unused_Decides}
@@ -40,7 +40,7 @@ declarable_by st (stores address value) op word fields same once few m = subst (
 declarable_by st exits op word fields same once few m = subst (λ (o : Op). IsDeclarable o fields st) (sym m) tt
 declarable_by st (pins false handle first count write false) op word fields same once few m =
     let behind : fields ≡ handle ∷ first ∷ count ∷ write_word write ∷ [] = ap behind_first same in
-    let pin : Op = Pin (length st.script.handles) m.0 m.1 write in
+    let pin : Op = Pin (length st.script.handles) m.0 m.1 (want_of write false) false in
     subst (λ (o : Op). IsDeclarable o fields st) (sym m.3)
     (subst (λ (words : List Word). IsDeclarable pin words st) (sym behind) ((unused_Decides st.names handle).1 once, few))
 declarable_by st (forks child) op word fields same once few m = subst (λ (o : Op). IsDeclarable o fields st) (sym m.2) tt
@@ -79,6 +79,6 @@ declarable st a word fields op e =
 -- ---- the actors stay
 
 pub still_within : (op : Op) (fields : List Word) (st : Outline) (a : ℕ) → a < length st.script.actors → a < length (with_pinned op fields st).script.actors
-still_within (Pin handle page n write) [] st a lt = lt
-still_within (Pin handle page n write) (name ∷ fields) st a lt = lt
+still_within (Pin handle page n want fast) [] st a lt = lt
+still_within (Pin handle page n want fast) (name ∷ fields) st a lt = lt
 still_within _ fields st a lt = lt

@@ -115,7 +115,7 @@ one_kind actor = way actor.kind where
   way Mover = refl
 
 pin_at : (s : ScriptValue) (a k handle : ℕ) → PinsAt s a k handle → At IsPinOf s.actors a k handle
-pin_at s a k handle p = (Pin handle p.0 p.1 p.2, p.3, (p.0, p.1, p.2, refl))
+pin_at s a k handle p = (Pin handle p.0 p.1 p.2 p.3, p.4, (p.0, p.1, p.2, p.3, refl))
 
 stands_script : (st : Outline) → Stands st → IsScript st.script
 stands_script st h =

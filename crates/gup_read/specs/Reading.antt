@@ -16,7 +16,7 @@ use Rattle.gup_spec_grammar.specs.declared.fault.Reason.{Reason}
 use Rattle.gup_spec_grammar.specs.declared.fault.Reason.TheVariants as reasons
 use Rattle.gup_spec_grammar.specs.declared.fault.ScriptFault.{ScriptFault}
 use Rattle.gup_script.specs.Script.{Actor, FrameCounts, actor_at, is_thread}
-use Rattle.gup_spec_grammar.specs.Grammar.{Stage, before_head, before_frames, open_at, most_bytes}
+use Rattle.gup_spec_grammar.specs.Grammar.{Stage, before_head, before_frames, open_at, most_bytes, want_of}
 use Rattle.gup_spec_grammar.specs.Outline.{Outline, frame_counts, empty_outline, with_process, with_actor, with_handle, with_operation, with_turns, with_seed, is_device, how_many, has_mover, is_child, is_forked, next_handle, is_receiver, draws}
 use Rattle.gup_read_outline.specs.Named.{process_of, actor_of, pin_of, is_got_name, is_mirror_of, may_mirror}
 use Rattle.gup_script.specs.Limits.{most_processes, most_threads, most_devices, most_pinned, most_words, most_operations, most_turns, most_frames, most_tables}
@@ -108,7 +108,7 @@ pinned_in built st handle first count way = do
   _ ← check reasons.Name (is_name handle)
   _ ← check reasons.Twice (is_unused st.names handle)
   h ← need reasons.Limit (next_handle st)
-  Ok (if built then Some (ops.Pin h range.0 range.1 write) else None)
+  Ok (if built then Some (ops.Pin h range.0 range.1 (want_of write false) false) else None)
 
 unfoldable pub pin_in : (fast : Bool) → Outline → List (List ℕ) → Result (Option Op) Reason
 pin_in fast st (handle ∷ first ∷ count ∷ way ∷ []) = pinned_in (not fast) st handle first count way
@@ -264,7 +264,7 @@ op_of_actor st a (Some actor) word fields = op_of_kind st a actor.kind word fiel
 
 -- the outline with the handle of a pin, whose name is the first word after the operation's own
 abbrev pub with_pinned : Op → List (List ℕ) → Outline → Outline
-with_pinned (ops.Pin handle page n write) (name ∷ fields) st = with_handle name st
+with_pinned (ops.Pin handle page n want fast) (name ∷ fields) st = with_handle name st
 with_pinned op fields st = st
 
 -- the words after `on`

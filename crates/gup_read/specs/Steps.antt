@@ -26,7 +26,7 @@ Makes found next (Err e) = IsTrouble found e
 
 -- the handle of a pin, named by the first of the words, may be declared
 abbrev pub IsDeclarable : Op → List (List ℕ) → Outline → Type 0
-IsDeclarable (ops.Pin handle page n write) (name ∷ fields) st =
+IsDeclarable (ops.Pin handle page n want fast) (name ∷ fields) st =
     (is_unused st.names name ≡ true) × (length st.script.handles < most_handles)
 IsDeclarable op fields st = Unit {0}
 

@@ -7,7 +7,7 @@ ghost use Rattle.gup_script.specs.Script.{Actor, actor_at};
 ghost use Rattle.gup_read.specs.Reading.{rights_in, map_in, unmap_in, protect_in, discard_in, load_in, store_in, exit_in, way_in, pinned_in, pin_in, get_in, put_in, fork_in, unpin_in, take_in, give_in, transfer_in, segments_in, at_most_64, parts_in, mirror_in, look_in, move_in, thread_op_in, device_op_in, mover_op_in, op_of_kind, op_of_actor};
 
 use crate::refusal::check;
-use gup_base::{ActorNo, PageNo, Rights};
+use gup_base::{ActorNo, PageNo, Rights, Want};
 use gup_read_outline::Reader;
 use gup_read_words::{address, count, index, is_name, number, page, range, segment, word_no};
 use gup_script::{Kind, Op};
@@ -157,7 +157,8 @@ fn pinned_pages(
             handle,
             page,
             n,
-            write,
+            want: Want { write, long: false },
+            fast: false,
         }))
     } else {
         Ok(None)

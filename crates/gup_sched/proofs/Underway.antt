@@ -60,27 +60,31 @@ underway_turn script m n notes told r a next few kept taken u =
 pub underway_end : (script : ScriptValue) (m : MachineValue) (notes : List NoteValue) (r : RunState) → next_actor script r ≡ None → Underway script m notes r → IsCoreRun script notes r
 underway_end script m notes r stop u = subst (λ (ns : List NoteValue). IsCoreRun script ns r) (append-nil notes) (u.goes_on [] r (stop, refl))
 
+-- the most turns of a run
+abbrev pub most : ScriptValue → ℕ
+most script = length script.turns + cost script (run_start script)
+
 -- what the laws of the core run say of the cost
 pub record HasCosts (script : ScriptValue) : Type 0 where
   pub spent : (r : RunState) (a : ℕ) → IsStanding script r → can_go script r a ≡ true → cost script (run_after script r a) < cost script r
   pub kept : (r : RunState) (a : ℕ) → can_go script r a ≡ false → cost script (run_after script r a) ≡ cost script r
   pub start : cost script (run_start script) ≤ 1025 * operations script + 527361 * forks script
-  pub few_forks : forks script ≤ length script.processes
+  pub few : most script < 2 ^ 32 - 1
   pub stand : (actors : List ℕ) → IsStanding script (turned script (run_start script) actors)
 
 pub has_costs : (script : ScriptValue) → IsScript script
     → ((s : ScriptValue) (r : RunState) (a : ℕ) → IsScript s → IsStanding s r → can_go s r a ≡ true → cost s (run_after s r a) < cost s r)
     → ((s : ScriptValue) (r : RunState) (a : ℕ) → can_go s r a ≡ false → cost s (run_after s r a) ≡ cost s r)
     → ((s : ScriptValue) → IsScript s → cost s (run_start s) ≤ 1025 * operations s + 527361 * forks s)
-    → ((s : ScriptValue) → IsScript s → forks s ≤ length s.processes)
+    → ((s : ScriptValue) → IsScript s → most s < 2 ^ 32 - 1)
     → ((s : ScriptValue) (actors : List ℕ) → IsScript s → IsStanding s (turned s (run_start s) actors))
     → HasCosts script
-has_costs script valid spent kept start few_forks stand =
+has_costs script valid spent kept start few stand =
     record {
       spent = λ r a stands goes. spent script r a valid stands goes;
       kept = kept script;
       start = start script valid;
-      few_forks = few_forks script valid;
+      few = few script valid;
       stand = λ actors. stand script actors valid;
     }
 
@@ -124,10 +128,6 @@ written_turn script valid costs m n notes told taken r a is there kept takes w =
 
 -- after them
 
--- the most turns of a run
-abbrev pub most : ScriptValue → ℕ
-most script = length script.turns + cost script (run_start script)
-
 pub record IsPointed (script : ScriptValue) (m : MachineValue) (notes : List NoteValue) (from : ℕ) (r : RunState) : Type 0 where
   pub underway : Underway script m notes r
   pub pointer : r.pointer ≡ from
@@ -140,17 +140,8 @@ pointed_first script m notes r w =
     let cheap = w.cheap in
     record { underway = w.underway; pointer = w.pointer; written = omega (arith, turns); cheap = omega (arith, turns, cheap) }
 
-few_in_all : (script : ScriptValue) → IsScript script → HasCosts script → most script < 2 ^ 32 - 1
-few_in_all script valid costs =
-    let turns = valid.few_turns in
-    let ops = valid.few_ops in
-    let processes = valid.few_processes in
-    let start = costs.start in
-    let few = costs.few_forks in
-    omega (arith, turns, ops, processes, start, few)
-
-pub pointed_turn : (script : ScriptValue) → IsScript script → HasCosts script → (m n : MachineValue) (notes told : List NoteValue) (pointer : ℕ) (r : RunState) (a : ℕ) → pointed script r (length script.actors) pointer ≡ Some a → n.script ≡ m.script → TakesTurn m n a r told → IsPointed script m notes pointer r → IsPointed script n (notes ++ told) (behind (length script.actors) a) (run_after script r a) × (m.turns < n.turns) × (n.turns ≤ most script)
-pointed_turn script valid costs m n notes told pointer r a is kept takes h =
+pub pointed_turn : (script : ScriptValue) → HasCosts script → (m n : MachineValue) (notes told : List NoteValue) (pointer : ℕ) (r : RunState) (a : ℕ) → pointed script r (length script.actors) pointer ≡ Some a → n.script ≡ m.script → TakesTurn m n a r told → IsPointed script m notes pointer r → IsPointed script n (notes ++ told) (behind (length script.actors) a) (run_after script r a) × (m.turns < n.turns) × (n.turns ≤ most script)
+pointed_turn script costs m n notes told pointer r a is kept takes h =
     let written : written_in script r ≡ None = slice_get_past script.turns r.turns h.written in
     let found : pointed script r (length script.actors) r.pointer ≡ Some a = ap (λ (k : ℕ). pointed script r (length script.actors) k) h.pointer ∙ is in
     let next : next_actor script r ≡ Some a = ap (next_by script r) written ∙ found in
@@ -158,7 +149,7 @@ pointed_turn script valid costs m n notes told pointer r a is kept takes h =
     let less = costs.spent r a (standing script m notes r costs h.underway) goes in
     let cheap = h.cheap in
     let far = h.written in
-    let bound = few_in_all script valid costs in
+    let bound = costs.few in
     let few : r.turns < 2 ^ 32 - 1 = omega (arith, cheap, bound) in
     let before : m.turns ≡ r.turns = let shown = h.underway.shown.turns in grind (arith, nat_tests) in
     let after : n.turns ≡ r.turns + 1 = let shown = (subst (λ (s : ScriptValue). Shows n (run_after s r a)) h.underway.same takes.shown).turns in grind (arith, nat_tests) in (

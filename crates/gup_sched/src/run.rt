@@ -9,7 +9,7 @@ ghost use Rattle.gup_sched.specs.Ran.{SaysStuck};
 use crate::order::{actor_no, behind, is_stuck, next_to_go};
 use gup_base::{ActorNo, NoMemory};
 use gup_core::{Machine, Turn};
-use gup_law_costs::turns_are_spent;
+use gup_law_costs::{costs_are_few, turns_are_spent};
 use gup_law_turns::reached_states_stand;
 use gup_plain::Journal;
 use gup_script::Script;
@@ -37,6 +37,7 @@ pub fn run_all(alloc: Global, machine: Machine, script: &Script) -> Result<Run, 
 {
     reached_states_stand();
     turns_are_spent();
+    costs_are_few();
     let mut machine = machine;
     let mut journal = Journal::new(alloc);
     let actors = script.actors();

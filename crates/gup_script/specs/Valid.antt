@@ -1,5 +1,6 @@
 -- What is true of every script that is read.
 use Rattle.std.specs.Prelude.{◌≡◌, ℕ, ◌+◌, ◌^◌, ◌<◌, ◌≤◌, Bool, false, length, slice_get, sum_by, All, Option, None, Some}
+use Rattle.gup_base.specs.declared.entry.Want.{Want}
 use Rattle.gup_script.specs.declared.op.Kind.{Kind}
 use Rattle.gup_script.specs.declared.op.Kind.TheVariants.{Thread, Device, Mover}
 use Rattle.gup_script.specs.declared.op.Op.{Op}
@@ -8,10 +9,15 @@ use Rattle.gup_script.specs.Script.{ScriptValue, Process, Actor, process_at, ops
 use Rattle.gup_script.specs.Limits.{most_handles, most_operations, most_pinned, most_turns, most_words}
 use Rattle.gup_base.specs.Counts.{most_slots}
 
--- the numbers of an operation are in range
+-- the numbers of an operation are in range, and its kind is built
 
 abbrev pub IsPages : (page n : ℕ) → Type 0
 IsPages page n = (1 ≤ n) × (n ≤ 1024) × (page + n ≤ 2 ^ 35)
+
+-- neither long-term nor lockless pins are built
+pub record IsBuiltPin (want : Want) (fast : Bool) : Type 0 where
+  pub short : want.long ≡ false
+  pub slow : fast ≡ false
 
 abbrev pub IsOp : Op → Type 0
 IsOp (Map page n rights) = IsPages page n
@@ -20,7 +26,7 @@ IsOp (Protect page n rights) = IsPages page n
 IsOp (Discard page n) = IsPages page n
 IsOp (Load page word) = (page < 2 ^ 35) × (word < 512)
 IsOp (Store page word value) = (page < 2 ^ 35) × (word < 512) × (value < 2 ^ 64)
-IsOp (Pin handle page n write) = (1 ≤ n) × (n ≤ most_pinned) × (page + n ≤ 2 ^ 35)
+IsOp (Pin handle page n want fast) = (1 ≤ n) × (n ≤ most_pinned) × (page + n ≤ 2 ^ 35) × IsBuiltPin want fast
 IsOp (Transfer handle outward index slot n) = (1 ≤ n) × (n ≤ most_words) × (index < 2 ^ 32) × (slot < 2 ^ 32)
 IsOp op = Unit {0}
 
@@ -33,7 +39,7 @@ IsChild (Some process) = process.born ≡ false
 -- is given to.
 abbrev pub AreDeclared : ScriptValue → Op → Type 0
 AreDeclared s (Fork child) = IsChild (process_at s child)
-AreDeclared s (Pin handle page n write) = handle < length s.handles
+AreDeclared s (Pin handle page n want fast) = handle < length s.handles
 AreDeclared s (Unpin handle) = handle < length s.handles
 AreDeclared s (Give handle to) = (handle < length s.handles) × (to < length s.actors)
 AreDeclared s (Take handle) = handle < length s.handles
@@ -47,7 +53,7 @@ ForksAt s a k child = slice_get (ops_of s a) k ≡ Some (Fork child)
 -- the actor's operation at this place is a pin that makes the handle
 abbrev pub PinsAt : ScriptValue → (a k handle : ℕ) → Type 0
 PinsAt s a k handle =
-    (page : ℕ) × (n : ℕ) × (write : Bool) × (slice_get (ops_of s a) k ≡ Some (Pin handle page n write))
+    (page : ℕ) × (n : ℕ) × (want : Want) × (fast : Bool) × (slice_get (ops_of s a) k ≡ Some (Pin handle page n want fast))
 
 -- The process of a thread is declared.
 abbrev pub KindFits : ScriptValue → Kind → Type 0

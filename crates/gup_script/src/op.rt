@@ -1,4 +1,4 @@
-use gup_base::{ActorNo, HandleNo, PageNo, ProcNo, Rights, WordNo};
+use gup_base::{ActorNo, HandleNo, PageNo, ProcNo, Rights, Want, WordNo};
 
 /// An operation of an actor.
 #[derive(Clone, Copy, Debug, PartialEq, Eq)]
@@ -37,13 +37,15 @@ pub enum Op {
         word: WordNo,
         value: u64,
     },
-    /// `pin H p n read` or `pin H p n write`: pins the pages from p to p + n - 1, to read them or also to write them
-    /// (`pin_user_pages`), and makes the handle.
+    /// `pin H p n read` or `pin H p n write`, then optionally `long`, and the same words after `pinfast`: pins the pages
+    /// from p to p + n - 1, to read them or also to write them (`pin_user_pages`), for long (`FOLL_LONGTERM`), and makes
+    /// the handle. A fast pin begins with the lockless walk (`pin_user_pages_fast`).
     Pin {
         handle: HandleNo,
         page: PageNo,
         n: u8,
-        write: bool,
+        want: Want,
+        fast: bool,
     },
     /// `unpin H`: gives the pages of a pin back (`unpin_user_pages`).
     Unpin {

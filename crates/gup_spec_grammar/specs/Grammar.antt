@@ -1,11 +1,12 @@
 -- The grammar of scripts: which bytes spell which script. A text's lines are its parts before the line feeds, and a
 -- line's words are its parts between the spaces. Each line that is not passed over says something that is right
 -- after the lines before it.
-use Rattle.std.specs.Prelude.{◌≡◌, ℕ, ◌+◌, ◌≤◌, ◌<◌, ◌⊎◌, true, false, List, [], ◌∷◌, ◌++◌, length, replicate, codes, decimal, Contains, Some, None}
+use Rattle.std.specs.Prelude.{◌≡◌, ℕ, ◌+◌, ◌≤◌, ◌<◌, ◌⊎◌, true, false, Bool, List, [], ◌∷◌, ◌++◌, length, replicate, codes, decimal, Contains, Some, None}
 use Rattle.std.specs.List.{AllByRecursion}
 use Rattle.gup_spec_grammar.specs.Spelling.{IsNumber, IsCount, IsIndex, IsPage, IsWordNo, IsAddress, IsRange, IsSegment, IsTurnWord, IsName, IsPrintable, parts}
 use Rattle.gup_spec_grammar.specs.Names.{find}
 use Rattle.gup_spec_grammar.specs.declared.named.Named.TheVariants as named
+use Rattle.gup_base.specs.declared.entry.Want.{Want}
 use Rattle.gup_script.specs.declared.op.Kind.TheVariants.{Thread, Device, Mover}
 use Rattle.gup_script.specs.declared.op.Op.{Op}
 use Rattle.gup_script.specs.declared.op.Op.TheVariants as ops
@@ -155,6 +156,10 @@ ActionLimits st action = HandleLimits st action × (st.operations < most_operati
 
 -- 5. What a right line makes
 
+-- what a pin asks for
+abbrev pub want_of : (write long : Bool) → Want
+want_of write long = record { write = write; long = long }
+
 -- The operation that an action is. Those that none is said of come later: a line with one is right, and refused for
 -- that alone. A pin makes the next handle.
 abbrev pub Means : Outline → Action → Op → Type 0
@@ -168,7 +173,8 @@ Means st (stores address value) op =
     (page w v : ℕ) × IsAddress address page w × IsNumber value v × (op ≡ ops.Store page w v)
 Means st exits op = op ≡ ops.Exit
 Means st (pins false handle first count write false) op =
-    (page n : ℕ) × IsRange most_pinned first count page n × (op ≡ ops.Pin (length st.script.handles) page n write)
+    (page n : ℕ) × IsRange most_pinned first count page n
+    × (op ≡ ops.Pin (length st.script.handles) page n (want_of write false) false)
 Means st (forks child) op = (p : ℕ) × NamesProcess st child p × (op ≡ ops.Fork p)
 Means st (unpins handle) op = (h : ℕ) × NamesPin st handle h × (op ≡ ops.Unpin h)
 Means st (takes handle) op = (h : ℕ) × NamesPin st handle h × (op ≡ ops.Take h)

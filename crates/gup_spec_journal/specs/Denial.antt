@@ -7,19 +7,19 @@ use Rattle.gup_script.specs.declared.op.Op.{Op}
 use Rattle.gup_script.specs.declared.op.Op.TheVariants.{Map, Protect, Load, Store, Pin, Unpin, Give, Transfer}
 use Rattle.gup_spec_journal.specs.Place.{Doer, birth_for}
 
--- What denies an operation of a born process. A pin is denied page by page: at the one after those that it has so far.
-abbrev pub op_denial : PlainState → Doer → (far : ℕ) → Op → Option Answer
-op_denial s who far (Map page n rights) = map_denial (any_mapped (s.right who.proc) page n) (s.pages who.proc) n
-op_denial s who far (Protect page n rights) = protect_denial (any_unmapped (s.right who.proc) page n)
-op_denial s who far (Load page word) = load_denial (s.right who.proc page)
-op_denial s who far (Store page word value) = store_denial (s.right who.proc page)
-op_denial s who far (Pin handle page n write) = pin_denial write (s.right who.proc (page + far))
-op_denial s who far (Unpin handle) = holder_denial (is_held_by (s.handle handle) who.actor)
-op_denial s who far (Give handle to) = holder_denial (is_held_by (s.handle handle) who.actor)
-op_denial s who far (Transfer handle outward index slot n) =
+-- What denies an operation of a born process. A pin is denied page by page: at the one after those that it has got.
+abbrev pub op_denial : PlainState → Doer → (got : ℕ) → Op → Option Answer
+op_denial s who got (Map page n rights) = map_denial (any_mapped (s.right who.proc) page n) (s.pages who.proc) n
+op_denial s who got (Protect page n rights) = protect_denial (any_unmapped (s.right who.proc) page n)
+op_denial s who got (Load page word) = load_denial (s.right who.proc page)
+op_denial s who got (Store page word value) = store_denial (s.right who.proc page)
+op_denial s who got (Pin handle page n want fast) = pin_denial want.write (s.right who.proc (page + got))
+op_denial s who got (Unpin handle) = holder_denial (is_held_by (s.handle handle) who.actor)
+op_denial s who got (Give handle to) = holder_denial (is_held_by (s.handle handle) who.actor)
+op_denial s who got (Transfer handle outward index slot n) =
     transfer_denial (s.handle handle) who.actor outward who.slots slot ((index, n) ∷ [])
-op_denial s who far op = None
+op_denial s who got op = None
 
 -- what denies an operation, if something does: first, of a thread's, that its process failed to come into being
-abbrev pub denial : PlainState → Doer → (far : ℕ) → Op → Option Answer
-denial s who far op = denial_at (birth_for s.birth who) (op_denial s who far op)
+abbrev pub denial : PlainState → Doer → (got : ℕ) → Op → Option Answer
+denial s who got op = denial_at (birth_for s.birth who) (op_denial s who got op)

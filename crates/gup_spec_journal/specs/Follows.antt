@@ -1,6 +1,7 @@
 -- A journal follows its script where each actor's notes are those of its operations in order, and the notes of one
 -- operation have one of the shapes of its kind. Each turn of an actor is later than the one before it.
 use Rattle.std.specs.Prelude.{◌≡◌, ℕ, ◌+◌, ◌≤◌, ◌<◌, ◌==◌, ◌&&◌, ◌⊎◌, Bool, true, false, not, IsTrue, List, [], ◌∷◌, ◌++◌, map, filter, zero, suc}
+use Rattle.gup_base.specs.declared.entry.Want.{Want}
 use Rattle.gup_plain.specs.Event.{words}
 use Rattle.gup_plain.specs.Note.{NoteValue}
 use Rattle.gup_plain.specs.declared.answer.Answer.{Answer}
@@ -57,9 +58,9 @@ refuses (Store page word value) answers.NoFrame = true
 refuses (Map page n rights) answers.Overlap = true
 refuses (Map page n rights) answers.Full = true
 refuses (Protect page n rights) answers.Missing = true
-refuses (Pin handle page n write) answers.Missing = true
-refuses (Pin handle page n write) answers.Forbidden = true
-refuses (Pin handle page n write) answers.NoFrame = true
+refuses (Pin handle page n want fast) answers.Missing = true
+refuses (Pin handle page n want fast) answers.Forbidden = true
+refuses (Pin handle page n want fast) answers.NoFrame = true
 refuses (Unpin handle) answers.NotHeld = true
 refuses (Give handle to) answers.NotHeld = true
 refuses (Transfer handle outward index slot n) answers.NotHeld = true
@@ -71,9 +72,12 @@ refuses (Fork child) answers.Unborn = false
 refuses op answers.Unborn = true
 refuses op answer = false
 
--- a refusal is one turn
+-- the turns of an operation that is refused, the last of which has these notes: one turn, so far
+abbrev pub RefusesIn : Who → Op → List What → List NoteValue → Type 0
+RefusesIn who op whats notes = IsTurn who whats notes
+
 abbrev pub IsRefused : Who → Op → List NoteValue → Type 0
-IsRefused who op notes = (answer : Answer) × IsTrue (refuses op answer) × IsTurn who (Done answer ∷ []) notes
+IsRefused who op notes = (answer : Answer) × IsTrue (refuses op answer) × RefusesIn who op (Done answer ∷ []) notes
 
 -- one page in a turn: with its event, or passed in silence
 abbrev pub TakesDown : Who → PlainEvent → List NoteValue → Type 0
@@ -142,29 +146,35 @@ Forks who child notes =
     (pages : ℕ)
     × Then (IsTurn who (Event (events.ForkBegin who.proc child) ∷ [])) (ForksPages who child 0 pages) notes
 
+-- the turns of one page of a pin that is tried, the last of which has these notes: one turn, so far
+abbrev pub TriesIn : Who → Want → List What → List NoteValue → Type 0
+TriesIn who want whats notes = IsTurn who whats notes
+
 -- what may refuse a page of a pin
-abbrev pub EndsPin : Cause → Type 0
-EndsPin (causes.Unmovable count) = ⊥
-EndsPin cause = Unit {0}
+abbrev pub EndsPin : Want → Cause → Type 0
+EndsPin want causes.Missing = Unit {0}
+EndsPin want causes.Forbidden = Unit {0}
+EndsPin want causes.NoFrame = Unit {0}
+EndsPin want cause = ⊥
 
 -- the page after the first `got` of n is refused: the pin has those, where there are some
-abbrev pub EndsShort : Who → (handle n got : ℕ) → List NoteValue → Type 0
-EndsShort who handle n got notes =
-    (0 < got) × (cause : Cause) × EndsPin cause
-    × IsTurn who (Event (events.PinOk who.actor handle) ∷ Done (answers.Short got n cause) ∷ []) notes
+abbrev pub EndsShort : Who → (handle n : ℕ) → Want → (got : ℕ) → List NoteValue → Type 0
+EndsShort who handle n want got notes =
+    (0 < got) × (cause : Cause) × EndsPin want cause
+    × TriesIn who want (Event (events.PinOk who.actor handle) ∷ Done (answers.Short got n cause) ∷ []) notes
 
--- Of the n pages of a pin the first `got` are taken, and so many are left: they are tried in rising order, one a turn, to
--- the last one or to the first that is refused. The last turn makes the handle.
-abbrev pub PinsPages : Who → (handle page n : ℕ) → (write : Bool) → (got left : ℕ) → List NoteValue → Type 0
-PinsPages who handle page n write got zero notes = ⊥
-PinsPages who handle page n write got (suc zero) notes =
-    IsTurn who (Event (events.PinTry who.actor who.proc (page + got) write) ∷ Event (events.PinOk who.actor handle)
+-- Of the n pages of a pin the first `got` are taken, and so many are left: they are tried in rising order, to the last one or to
+-- the first that is refused. The last turn makes the handle.
+abbrev pub PinsPages : Who → (handle page n : ℕ) → Want → (got left : ℕ) → List NoteValue → Type 0
+PinsPages who handle page n want got zero notes = ⊥
+PinsPages who handle page n want got (suc zero) notes =
+    TriesIn who want (Event (events.PinTry who.actor who.proc (page + got) want.write) ∷ Event (events.PinOk who.actor handle)
     ∷ Done (answers.Pinned n) ∷ []) notes
-    ⊎ EndsShort who handle n got notes
-PinsPages who handle page n write got (suc (suc left)) notes =
-    Then (IsTurn who (Event (events.PinTry who.actor who.proc (page + got) write) ∷ []))
-    (PinsPages who handle page n write (got + 1) (suc left)) notes
-    ⊎ EndsShort who handle n got notes
+    ⊎ EndsShort who handle n want got notes
+PinsPages who handle page n want got (suc (suc left)) notes =
+    Then (TriesIn who want (Event (events.PinTry who.actor who.proc (page + got) want.write) ∷ []))
+    (PinsPages who handle page n want (got + 1) (suc left)) notes
+    ⊎ EndsShort who handle n want got notes
 
 -- an unpin gives back so many pages, one a turn, and then the last, with which the pin is gone
 abbrev pub Unpins : Who → (handle more : ℕ) → List NoteValue → Type 0
@@ -199,7 +209,7 @@ Completes who (Protect page n rights) notes =
     IsTurn who (Event (events.Protect who.actor who.proc page n rights) ∷ Done answers.Plain ∷ []) notes
 Completes who (Unmap page n) notes = TakesDownAll who (events.Unmap who.actor who.proc) page n notes
 Completes who (Discard page n) notes = TakesDownAll who (events.Discard who.actor who.proc) page n notes
-Completes who (Pin handle page n write) notes = PinsPages who handle page n write 0 n notes
+Completes who (Pin handle page n want fast) notes = PinsPages who handle page n want 0 n notes
 Completes who (Unpin handle) notes = (more : ℕ) × Unpins who handle more notes
 Completes who (Give handle to) notes = IsTurn who (Event (events.Give who.actor handle to) ∷ Done answers.Plain ∷ []) notes
 Completes who (Take handle) notes = IsTurn who (Event (events.Take who.actor handle) ∷ Done answers.Plain ∷ []) notes

@@ -1,5 +1,6 @@
 pub mod Place
 pub mod Denial
 pub mod Plain
+pub mod Thorough
 pub mod Follows
 pub mod Order

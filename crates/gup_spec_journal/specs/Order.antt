@@ -11,7 +11,7 @@ use Rattle.gup_plain.specs.declared.note.Waiting.TheVariants as waitings
 use Rattle.gup_script.specs.declared.op.Op.{Op}
 use Rattle.gup_script.specs.declared.op.Op.TheVariants.{Unpin, Give, Take, Transfer, Fork}
 use Rattle.gup_script.specs.Script.{ScriptValue}
-use Rattle.gup_spec_journal.specs.Place.{Place, first_place, place_behind, process_of, doer, birth_for, present_op, has_finished, starts_born}
+use Rattle.gup_spec_journal.specs.Place.{Place, first_place, place_behind, doer_of, birth_for, present_op, has_finished, starts_born}
 use Rattle.gup_spec_journal.specs.Plain.{plain_after}
 use Rattle.gup_spec_journal.specs.Follows.{is_of_operation, notes_of_turn}
 
@@ -59,8 +59,9 @@ pub record Ordered : Type 0 where
 
 abbrev pub waiting_of : ScriptValue → Ordered → ℕ → Option Waiting
 waiting_of script o a =
-    waiting_at (process_of script a) (birth_for o.plain.birth (doer script a))
-    (handle_waits o.plain.handle a (present_op script a (o.places a)))
+    let op = present_op script a (o.places a) in
+    let who = doer_of script a op in
+    waiting_at who.proc (birth_for o.plain.birth who) (handle_waits o.plain.handle a op)
 
 abbrev pub finished_in : ScriptValue → Ordered → ℕ → Bool
 finished_in script o a = has_finished script a (o.places a)
@@ -79,12 +80,14 @@ MayNeedLock (Some (Take handle)) = ⊥
 MayNeedLock (Some (Transfer handle outward index slot n)) = ⊥
 MayNeedLock (Some op) = Unit {0}
 
--- Another actor b of the same process is in the middle of an operation that keeps a lock, and a's operation may need it:
+-- Another actor b is in the middle of an operation that keeps a lock, of the same process as a's operation, which may need it:
 -- so a may wait for b.
 abbrev pub MayHold : ScriptValue → Ordered → (a b : ℕ) → Type 0
 MayHold script o a b =
-    (a ≡ b → ⊥) × (process_of script b ≡ process_of script a) × (0 < (o.places b).far)
-    × KeepsLock (present_op script b (o.places b)) × MayNeedLock (present_op script a (o.places a))
+    let op = present_op script a (o.places a) in
+    let other = present_op script b (o.places b) in
+    (a ≡ b → ⊥) × ((doer_of script b other).proc ≡ (doer_of script a op).proc) × (0 < (o.places b).far)
+    × KeepsLock other × MayNeedLock op
 
 -- one to three notes of the present operation
 abbrev pub AreOfOperation : List What → Type 0

@@ -57,7 +57,8 @@ abbrev pub slots_in : Option Actor → ℕ
 slots_in None = 0
 slots_in (Some actor) = slots_of_kind actor.kind
 
--- Who does an operation: an actor, which is a thread of a process, or has a store of so many slots.
+-- Who does an operation: an actor, with the process that the operation is of, or names, if it is of one; or with a store of
+-- so many slots.
 pub record Doer : Type 0 where
   pub actor : ℕ
   pub thread : Bool
@@ -69,6 +70,14 @@ doer_in a actor = record { actor = a; thread = thread_in actor; proc = process_i
 
 abbrev pub doer : ScriptValue → ℕ → Doer
 doer script a = doer_in a (actor_at script a)
+
+-- The same by the operation: which process this is of, or names. All operations so far are of their thread's own process.
+abbrev pub concerned : Doer → Option Op → Doer
+concerned who op = who
+
+-- who does an actor's operation
+abbrev pub doer_of : ScriptValue → (a : ℕ) → Option Op → Doer
+doer_of script a op = concerned (doer script a) op
 
 -- whether the process of a thread is born; whoever is no thread waits for no birth
 abbrev pub birth_by : (thread : Bool) → Birth → Birth

@@ -21,7 +21,7 @@ use Rattle.gup_script.specs.Script.{ScriptValue}
 use Rattle.gup_spec_events.specs.State.{CoreState}
 use Rattle.gup_spec_events.specs.Event.{IsAllowed}
 use Rattle.gup_spec_journal.specs.Order.{Turn}
-use Rattle.gup_spec_journal.specs.Place.{doer, birth_for, process_of, has_finished}
+use Rattle.gup_spec_journal.specs.Place.{doer_of, birth_for, has_finished}
 use Rattle.gup_spec_turns.specs.ForkPlace.{wants_frame, place_in}
 use Rattle.gup_spec_turns.specs.Run.{RunState, op_in, waiting_in}
 
@@ -59,24 +59,31 @@ NeedsForPin s p page true = NeedsForStore s p page
 NeedsForPin s p page false = IsSome (s.right p page) × NeedsOwn s (s.entry p page)
 
 -- An operation needs a frame at its next turn: a load, a store and a pin for their page, a pin's being the one after those
--- that it has, and a fork for the page that it copies, where it has none for it yet.
-abbrev pub NeedsFor : CoreState → (a p far : ℕ) → Op → Type 0
-NeedsFor s a p far (Load page word) = NeedsForLoad s p page
-NeedsFor s a p far (Store page word value) = NeedsForStore s p page
-NeedsFor s a p far (Pin handle page n write) = NeedsForPin s p (page + far) write
-NeedsFor s a p far (Fork child) = (page : ℕ) × (place_in s a ≡ wants_frame page)
-NeedsFor s a p far op = ⊥
+-- that it has taken, and a fork for the page that it copies, where it has none for it yet.
+abbrev pub NeedsFor : CoreState → (a p : ℕ) → Op → Type 0
+NeedsFor s a p (Load page word) = NeedsForLoad s p page
+NeedsFor s a p (Store page word value) = NeedsForStore s p page
+NeedsFor s a p (Pin handle page n want fast) = NeedsForPin s p (page + length (s.taken a)) want.write
+NeedsFor s a p (Fork child) = (page : ℕ) × (place_in s a ≡ wants_frame page)
+NeedsFor s a p op = ⊥
 
 -- the actor's next turn is one of this operation, which it waits for nothing to do, in a process that is born; and it
 -- needs a frame
 abbrev pub NeedsFrame : ScriptValue → RunState → (a : ℕ) → Op → Type 0
 NeedsFrame script r a op =
-    (op_in script r a ≡ Some op) × (waiting_in script r a ≡ None) × (birth_for r.core.birth (doer script a) ≡ born)
-    × NeedsFor r.core a (process_of script a) (r.places a).far op
+    let who = doer_of script a (Some op) in
+    (op_in script r a ≡ Some op) × (waiting_in script r a ≡ None) × (birth_for r.core.birth who ≡ born)
+    × NeedsFor r.core a who.proc op
 
 -- it needs one, and none that its operation may take is free
 abbrev pub FindsNoFrame : ScriptValue → RunState → (a : ℕ) → Type 0
 FindsNoFrame script r a = (op : Op) × NeedsFrame script r a op × AreHeld r.core (allowed_of op)
+
+-- what there must be in the state before an actor's turn that refuses its operation so, or a page of its pin, where it isn't
+-- the plain state that denies it: no other refusal of this kind comes so far
+abbrev pub CoreCause : ScriptValue → RunState → (a : ℕ) → Answer → Type 0
+CoreCause script r a answers.NoFrame = FindsNoFrame script r a
+CoreCause script r a answer = ⊥
 
 -- the turn answers for want of a frame, or that is the cause of its short pin
 abbrev pub LacksFrame : List What → Type 0

@@ -35,7 +35,7 @@ abbrev pub op_cost : Op → ℕ
 op_cost (Map page n rights) = n + 1
 op_cost (Unmap page n) = n
 op_cost (Discard page n) = n
-op_cost (Pin handle page n write) = n
+op_cost (Pin handle page n want fast) = n
 op_cost (Unpin handle) = most_pinned
 op_cost (Transfer handle outward index slot n) = n
 op_cost (Fork child) = 516 * most_pages + 2
@@ -46,7 +46,7 @@ abbrev pub op_left : CoreState → (a : ℕ) → Op → (far : ℕ) → ℕ
 op_left s a (Map page n rights) far = n + 1
 op_left s a (Unmap page n) far = n - far
 op_left s a (Discard page n) far = n - far
-op_left s a (Pin handle page n write) far = n - far
+op_left s a (Pin handle page n want fast) far = n - far
 op_left s a (Unpin handle) far = most_pinned - far
 op_left s a (Transfer handle outward index slot n) far = n - far
 op_left s a (Fork child) far = fork_left (s.right child) (place_in s a)
@@ -94,7 +94,7 @@ map_pages script = sum_by (λ (a : Actor). sum_by mapped_by a.ops) script.actors
 abbrev pub most_turns_of : ScriptValue → Op → ℕ
 most_turns_of script (Unmap page n) = n
 most_turns_of script (Discard page n) = n
-most_turns_of script (Pin handle page n write) = n
+most_turns_of script (Pin handle page n want fast) = n
 most_turns_of script (Unpin handle) = most_pinned
 most_turns_of script (Transfer handle outward index slot n) = n
 most_turns_of script (Fork child) = 515 * most_pages + 2
@@ -123,7 +123,7 @@ IsWithinBound (Unmap page n) a p place next before after =
     IsAnswered place next ⊎ (GoesOn place next × (next.far < n))
 IsWithinBound (Discard page n) a p place next before after =
     IsAnswered place next ⊎ (GoesOn place next × (next.far < n))
-IsWithinBound (Pin handle page n write) a p place next before after =
+IsWithinBound (Pin handle page n want fast) a p place next before after =
     IsAnswered place next ⊎ (GoesOn place next × (next.far < n))
 IsWithinBound (Unpin handle) a p place next before after =
     IsAnswered place next ⊎ (GoesOn place next × (next.far < length (objects_of (before.handle handle))))

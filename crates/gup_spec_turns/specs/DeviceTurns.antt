@@ -5,7 +5,7 @@ use Rattle.gup_plain.specs.declared.answer.Answer.TheVariants as answers
 use Rattle.gup_plain.specs.declared.note.What.{What}
 use Rattle.gup_plain.specs.declared.note.What.TheVariants.{Event, Done}
 use Rattle.gup_spec_events.specs.State.{CoreState}
-use Rattle.gup_spec_events.specs.Event.{CoreEvent, store, move_out, move_in}
+use Rattle.gup_spec_events.specs.Event.{CoreEvent, move_out, move_in}
 use Rattle.gup_plain.specs.Denial.{transfer_denial}
 use Rattle.gup_spec_journal.specs.Follows.{moves_word}
 use Rattle.gup_spec_turns.specs.CoreTurn.{CoreTurn, denied_or}

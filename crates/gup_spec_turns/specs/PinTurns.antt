@@ -1,6 +1,7 @@
 -- The turns of operations on pins: pin, unpin, give, take.
 use Rattle.std.specs.Prelude.{if◌then◌else◌, ℕ, ◌+◌, ◌-◌, ◌==◌, Bool, true, false, List, [], ◌∷◌, ◌++◌, length, take, slice_index, Ok, Err, zero, suc}
 use Rattle.gup_base.specs.declared.entry.Entry.{Entry}
+use Rattle.gup_base.specs.declared.entry.Want.{Want}
 use Rattle.gup_plain.specs.declared.answer.Answer.{Answer}
 use Rattle.gup_plain.specs.declared.answer.Answer.TheVariants as answers
 use Rattle.gup_plain.specs.declared.answer.Cause.{Cause}
@@ -8,7 +9,6 @@ use Rattle.gup_plain.specs.declared.answer.Cause.TheVariants as causes
 use Rattle.gup_plain.specs.declared.event.PlainEvent.TheVariants as events
 use Rattle.gup_plain.specs.declared.note.What.{What}
 use Rattle.gup_plain.specs.declared.note.What.TheVariants.{Silent, Event, Done}
-use Rattle.gup_script.specs.declared.op.Op.TheVariants.{Unpin, Give, Take}
 use Rattle.gup_spec_events.specs.State.{CoreState}
 use Rattle.gup_spec_events.specs.Event.{CoreEvent, raise_flag, pin_page, make_handle, unpin_page, give_handle, take_handle, run}
 use Rattle.gup_spec_events.specs.Fault.{Fault, write_fault, unshare_fault}
@@ -18,9 +18,9 @@ use Rattle.gup_spec_turns.specs.CoreTurn.{CoreTurn, free_frame, entry_in, ends_w
 -- pin: one page a turn
 
 -- has-pinned is set before the first page is tried
-abbrev pub raises : (a p far : ℕ) → List CoreEvent
+abbrev pub raises : (a p got : ℕ) → List CoreEvent
 raises a p zero = raise_flag a p ∷ []
-raises a p (suc far) = []
+raises a p (suc got) = []
 
 -- a page of a write pin needs a writable entry, one of a read pin an exclusive frame
 abbrev pub pin_fault : CoreState → (a p page : ℕ) → (write : Bool) → Fault
@@ -35,16 +35,16 @@ abbrev pub pinned_if : (last : Bool) → (a handle n : ℕ) → List What
 pinned_if last a handle n = if last then Event (events.PinOk a handle) ∷ Done (answers.Pinned n) ∷ [] else []
 
 -- after these events the page is pinned by its entry
-abbrev pub pins_behind : List CoreEvent → (a p handle page n : ℕ) → (write last : Bool) → Entry → CoreTurn
-pins_behind before a p handle page n write last e =
+abbrev pub pins_behind : List CoreEvent → (a p handle page n : ℕ) → Want → (last : Bool) → Entry → CoreTurn
+pins_behind before a p handle page n want last e =
     record {
-      events = before ++ pin_page a p page e write false ∷ makes_if last a handle;
-      whats = Event (events.PinTry a p page write) ∷ pinned_if last a handle n;
+      events = before ++ pin_page a p page e want.write want.long ∷ makes_if last a handle;
+      whats = Event (events.PinTry a p page want.write) ∷ pinned_if last a handle n;
     }
 
-abbrev pub pins : CoreState → List CoreEvent → (a p handle page n : ℕ) → (write last : Bool) → CoreTurn
-pins s before a p handle page n write last =
-    pins_behind before a p handle page n write last (entry_in ((run s before).entry p page))
+abbrev pub pins : CoreState → List CoreEvent → (a p handle page n : ℕ) → Want → (last : Bool) → CoreTurn
+pins s before a p handle page n want last =
+    pins_behind before a p handle page n want last (entry_in ((run s before).entry p page))
 
 -- the answer that refuses a page, as the cause of a short pin
 abbrev pub cause_of : Answer → Cause
@@ -59,14 +59,19 @@ ends_pin a p handle n zero answer = record { events = raises a p 0; whats = Done
 ends_pin a p handle n (suc got) answer =
     ends_with (make_handle a handle ∷ []) (events.PinOk a handle) (answers.Short (suc got) n (cause_of answer))
 
-abbrev pub pin_turn_by : Fault → CoreState → (a p handle page n far : ℕ) → (write : Bool) → CoreTurn
-pin_turn_by (Err answer) s a p handle page n far write = ends_pin a p handle n far answer
-pin_turn_by (Ok before) s a p handle page n far write =
-    pins s (raises a p far ++ before) a p handle page n write (far + 1 == n)
+abbrev pub pin_turn_by : Fault → CoreState → (a p handle page n got : ℕ) → Want → CoreTurn
+pin_turn_by (Err answer) s a p handle page n got want = ends_pin a p handle n got answer
+pin_turn_by (Ok before) s a p handle page n got want =
+    pins s (raises a p got ++ before) a p handle page n want (got + 1 == n)
 
-abbrev pub pin_turn : CoreState → (a p handle page n far : ℕ) → (write : Bool) → CoreTurn
-pin_turn s a p handle page n far write =
-    pin_turn_by (pin_fault s a p (page + far) write) s a p handle (page + far) n far write
+-- the turn of a pin that has got so many pages
+abbrev pub pin_turn_at : CoreState → (a p handle page n got : ℕ) → Want → CoreTurn
+pin_turn_at s a p handle page n got want =
+    pin_turn_by (pin_fault s a p (page + got) want.write) s a p handle (page + got) n got want
+
+-- it has got those that it has taken
+abbrev pub pin_turn : CoreState → (a p handle page n : ℕ) → Want → CoreTurn
+pin_turn s a p handle page n want = pin_turn_at s a p handle page n (length (s.taken a)) want
 
 -- unpin: the last page that the pin still has, one a turn
 

@@ -7,7 +7,7 @@ use Rattle.gup_script.specs.declared.op.Op.{Op}
 use Rattle.gup_script.specs.Script.{ScriptValue}
 use Rattle.gup_spec_events.specs.State.{CoreState, core_start}
 use Rattle.gup_spec_events.specs.Event.{run}
-use Rattle.gup_spec_journal.specs.Place.{Place, first_place, Doer, doer, present_op, starts_born}
+use Rattle.gup_spec_journal.specs.Place.{Place, first_place, Doer, doer_of, present_op, starts_born}
 use Rattle.gup_spec_journal.specs.Order.{Turn, places_behind, journal_of, behind, pointer_after}
 use Rattle.gup_spec_turns.specs.CoreTurn.{CoreTurn}
 use Rattle.gup_spec_turns.specs.Turn.{turn_of}
@@ -39,7 +39,7 @@ waiting_with s who (Some op) = waiting_for s who op
 
 -- what the actor waits for, if it waits
 abbrev pub waiting_in : ScriptValue → RunState → ℕ → Option Waiting
-waiting_in script r a = waiting_with r.core (doer script a) (op_in script r a)
+waiting_in script r a = waiting_with r.core (doer_of script a (op_in script r a)) (op_in script r a)
 
 -- the turn of an actor: idle where it has finished, without an event where it waits, else that of its operation
 abbrev pub core_turn_by : CoreState → Doer → (far : ℕ) → Option Op → Option Waiting → CoreTurn
@@ -49,7 +49,7 @@ core_turn_by s who far (Some op) None = turn_of s who far op
 
 abbrev pub core_turn_in : ScriptValue → RunState → ℕ → CoreTurn
 core_turn_in script r a =
-    core_turn_by r.core (doer script a) (r.places a).far (op_in script r a) (waiting_in script r a)
+    core_turn_by r.core (doer_of script a (op_in script r a)) (r.places a).far (op_in script r a) (waiting_in script r a)
 
 abbrev pub turn_in : ScriptValue → RunState → ℕ → Turn
 turn_in script r a = record { actor = a; whats = (core_turn_in script r a).whats }

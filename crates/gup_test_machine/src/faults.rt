@@ -37,9 +37,8 @@ fn expect_counted(rt: &impl Abort, space: &Space, frames: &Frames, page: PageNo)
     let Some(entry) = space.entry(page) else {
         return;
     };
-    assert!(rt; space.rights_at(page).is_some());
     expect_frame(rt, frames, entry.frame);
-    assert!(rt; frames.count(entry.frame) > 0);
+    assert!(rt; space.rights_at(page).is_some() && frames.count(entry.frame) > 0);
 }
 
 fn ready(
@@ -143,8 +142,7 @@ fn share(
     let frame = entry.frame;
     expect_frame(rt, frames, frame);
     let count = frames.count(frame);
-    assert!(rt; 0 < count);
-    assert!(rt; count < 1_099_511_627_776);
+    assert!(rt; 0 < count && count < 1_099_511_627_776);
     frames.grab(frame, 1);
     expect_frame(rt, frames, frame);
     frames.set_mark(frame, false);
@@ -153,8 +151,7 @@ fn share(
             frame,
             writable: false,
         };
-        assert!(rt; space.rights_at(at).is_some());
-        assert!(rt; space.entries() < 1_024);
+        assert!(rt; space.rights_at(at).is_some() && space.entries() < 1_024);
         space.set_entry(at, Some(shared));
     }
     Ok(())
@@ -238,8 +235,7 @@ fn fill_page(
     page: PageNo,
 ) -> Result<(), NoFrame> {
     expect_counted(rt, space, frames, page);
-    assert!(rt; space.rights_at(page).is_some());
-    assert!(rt; space.entry(page).is_none());
+    assert!(rt; space.rights_at(page).is_some() && space.entry(page).is_none());
     fill(space, frames, page, Allowed::Only(Zone::Normal))
 }
 
@@ -249,8 +245,7 @@ fn mark_alone(rt: &impl Abort, space: &Space, frames: &mut Frames, page: PageNo)
         return false;
     };
     expect_frame(rt, frames, entry.frame);
-    assert!(rt; !frames.mark(entry.frame));
-    assert!(rt; frames.count(entry.frame) == 1);
+    assert!(rt; !frames.mark(entry.frame) && frames.count(entry.frame) == 1);
     mark(space, frames, page);
     true
 }
@@ -293,10 +288,15 @@ fn pages_are_filled_and_upgraded(rt: HostRuntime) -> Result<(), Fail> {
     let mut frames = Frames::new(rt.alloc(), 1, 1).or(Err("memory"))?;
     let three = PageNo::new(3).ok_or("a page")?;
     let four = PageNo::new(4).ok_or("a page")?;
-    assert_eq!(rt; fill_page(&rt, &mut space, &mut frames, three), Ok(()));
-    assert_eq!(rt; fill_page(&rt, &mut space, &mut frames, four), Err(NoFrame));
-    assert!(rt; upgrade_marked(&rt, &mut space, &frames, three));
-    assert_eq!(rt; seen(&rt, &space, &frames, three), Some((1, true, true, 1)));
+    let filled = (
+        fill_page(&rt, &mut space, &mut frames, three),
+        fill_page(&rt, &mut space, &mut frames, four),
+    );
+    let upgraded = upgrade_marked(&rt, &mut space, &frames, three);
+    assert_eq!(rt;
+        (filled, upgraded, seen(&rt, &space, &frames, three)),
+        ((Ok(()), Err(NoFrame)), true, Some((1, true, true, 1)))
+    );
     Ok(())
 }
 
@@ -313,10 +313,10 @@ fn pages_are_broken_and_marked(rt: HostRuntime) -> Result<(), Fail> {
             "page {number}"
         );
     }
-    assert!(rt; mark_alone(&rt, &space, &mut frames, three));
+    let marked = mark_alone(&rt, &space, &mut frames, three);
     assert_eq!(rt;
-        seen(&rt, &space, &frames, three),
-        Some((0, false, true, 1))
+        (marked, seen(&rt, &space, &frames, three)),
+        (true, Some((0, false, true, 1)))
     );
     Ok(())
 }

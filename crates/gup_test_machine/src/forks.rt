@@ -31,10 +31,10 @@ fn expect_entry(rt: &impl Abort, parent: &Space, frames: &Frames, page: PageNo)
     let Some(entry) = parent.entry(page) else {
         panic!(rt; "the page has no entry");
     };
-    assert!(rt; parent.rights_at(page).is_some());
     expect_frame(rt, frames, entry.frame);
     let count = frames.count(entry.frame);
-    assert!(rt; count > 0 && count < 1_099_511_627_776);
+    let mapped = parent.rights_at(page).is_some();
+    assert!(rt; mapped && count > 0 && count < 1_099_511_627_776);
 }
 
 // The page is mapped, has no entry, and finds room for one.
@@ -43,9 +43,8 @@ fn expect_room(rt: &impl Abort, child: &Space, page: PageNo)
     ensures absent { (space_of child.now).entry page ≡ None }
     ensures room { HasRoom (space_of child.now) page }
 {
-    assert!(rt; child.rights_at(page).is_some());
-    assert!(rt; child.entry(page).is_none());
-    assert!(rt; child.entries() < 1_024);
+    let mapped = child.rights_at(page).is_some();
+    assert!(rt; mapped && child.entry(page).is_none() && child.entries() < 1_024);
 }
 
 // Maps page 3, and gives it frame 0, which is marked and whose word 0 is 7.
@@ -58,8 +57,7 @@ fn give(rt: &impl Abort, space: &mut Space, frames: &mut Frames) -> Option<()> {
     frames.set_mark(frame, true);
     expect_frame(rt, frames, frame);
     frames.set_word(frame, WordNo::new(0)?, 7);
-    assert!(rt; space.rights_at(page).is_some());
-    assert!(rt; space.entries() < 1_024);
+    assert!(rt; space.rights_at(page).is_some() && space.entries() < 1_024);
     let writable = true;
     space.set_entry(page, Some(Entry { frame, writable }));
     Some(())
@@ -88,9 +86,13 @@ fn a_child_has_its_parents_mappings(rt: HostRuntime) -> Result<(), Fail> {
     let mut child = Space::new(rt.alloc()).or(Err("memory"))?;
     let page = PageNo::new(3).ok_or("a page")?;
     begin_here(&rt, &mut parent, &mut child);
-    assert_eq!(rt; (parent.sequence(), child.sequence()), (1, 0));
-    assert_eq!(rt; (child.rights_at(page), child.len()), (Some(Rights::RW), 1));
-    assert!(rt; child.entry(page).is_none() && parent.entry(page).is_some());
+    let sequences = (parent.sequence(), child.sequence());
+    let mapped = (child.rights_at(page), child.len());
+    let entries = (child.entry(page).is_some(), parent.entry(page).is_some());
+    assert_eq!(rt;
+        (sequences, mapped, entries),
+        ((1, 0), (Some(Rights::RW), 1), (false, true))
+    );
     Ok(())
 }
 
@@ -194,9 +196,14 @@ fn shared_pages_are_read_only_in_both(rt: HostRuntime) -> Result<(), Fail> {
     begin_here(&rt, &mut parent, &mut child);
     assert_eq!(rt; seen(&rt, &frames, 0), Some((1, true, 7, 0, 1)));
     share_here(&rt, &mut parent, &mut child, &mut frames, page);
-    assert_eq!(rt; entry_seen(&parent, page), Some((0, false)));
-    assert_eq!(rt; entry_seen(&child, page), Some((0, false)));
-    assert_eq!(rt; seen(&rt, &frames, 0), Some((2, false, 7, 0, 1)));
+    let entries = (entry_seen(&parent, page), entry_seen(&child, page));
+    assert_eq!(rt;
+        (entries, seen(&rt, &frames, 0)),
+        (
+            (Some((0, false)), Some((0, false))),
+            Some((2, false, 7, 0, 1))
+        )
+    );
     Ok(())
 }
 
@@ -248,9 +255,10 @@ fn a_copied_page_is_the_childs_own(rt: HostRuntime) -> Result<(), Fail> {
     let page = PageNo::new(3).ok_or("a page")?;
     begin_here(&rt, &mut parent, &mut child);
     let copied = copy_here(&rt, &parent, &mut child, &mut frames, page);
-    assert!(rt; copied.is_some());
-    assert_eq!(rt; entry_seen(&child, page), Some((1, true)));
-    assert_eq!(rt; seen(&rt, &frames, 1), Some((1, true, 7, 0, 0)));
+    assert_eq!(rt;
+        (copied, entry_seen(&child, page), seen(&rt, &frames, 1)),
+        (Some(()), Some((1, true)), Some((1, true, 7, 0, 0)))
+    );
     Ok(())
 }
 
@@ -295,7 +303,9 @@ fn a_failed_fork_gives_its_references_back(rt: HostRuntime) -> Result<(), Fail> 
     let (mut parent, mut frames) = one_page(&rt, rt.alloc())?;
     let page = PageNo::new(3).ok_or("a page")?;
     let left = fail_child(&rt, rt.alloc(), &mut parent, &mut frames, page);
-    assert_eq!(rt; left, Some((0, 0)));
-    assert_eq!(rt; seen(&rt, &frames, 0), Some((1, false, 7, 0, 1)));
+    assert_eq!(rt;
+        (left, seen(&rt, &frames, 0)),
+        (Some((0, 0)), Some((1, false, 7, 0, 1)))
+    );
     Ok(())
 }

@@ -1,8 +1,8 @@
-ghost use Rattle.std.specs.Prelude.{◌≡◌, ◌<◌, ◌≤◌, ◌^◌, true, IsTrue, All, length, IfOk};
+ghost use Rattle.std.specs.Prelude.{◌≡◌, ◌<◌, ◌≤◌, ◌^◌, true, false, IsTrue, All, length, IfOk};
 ghost use Rattle.gup_script.specs.Valid.{IsOp, IsPages};
 ghost use Rattle.gup_op_pages.specs.Alone.{IsAlone};
 
-use gup_base::{ActorNo, HandleNo, NoMemory, PageNo, ProcNo, Rights, WordNo, Zone};
+use gup_base::{ActorNo, HandleNo, NoMemory, PageNo, ProcNo, Rights, Want, WordNo, Zone};
 use gup_core::Machine;
 use gup_plain::{Answer, PlainEvent, Waiting, What};
 use gup_script::{Actor, Contents, Kind, Op, Process, Script};
@@ -187,14 +187,18 @@ fn map(first: u8, n: u16) -> Op {
 }
 
 fn pin() -> Op
-    ensures { result ≡ Op.Pin 0 7 1 true }
+    ensures { result ≡ Op.Pin 0 7 1 (record { write = true; long = false }) false }
 {
     let (handle, page) = (HandleNo::new(0).unwrap(), page(7));
     Op::Pin {
         handle,
         page,
         n: 1,
-        write: true,
+        want: Want {
+            write: true,
+            long: false,
+        },
+        fast: false,
     }
 }
 

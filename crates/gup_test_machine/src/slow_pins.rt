@@ -28,9 +28,7 @@ fn expect_ready(rt: &impl Abort, space: &Space, frames: &Frames, page: PageNo, w
     let frame = entry.frame;
     expect_frame(rt, frames, frame);
     let count = frames.count(frame);
-    assert!(rt; 0 < count);
-    assert!(rt; count < 1_099_511_627_776);
-    assert!(rt; frames.mark(frame));
+    assert!(rt; 0 < count && count < 1_099_511_627_776 && frames.mark(frame));
     assert!(rt; entry.writable || !want.write);
     assert!(rt; frame.get() >= u64::from(frames.movable()) || !want.long);
 }
@@ -50,8 +48,7 @@ fn one_page(
     let frame = frames.take(allowed).ok_or("a frame")?;
     expect_frame(rt, frames, frame);
     frames.set_mark(frame, true);
-    assert!(rt; space.rights_at(page).is_some());
-    assert!(rt; space.entries() < 1_024);
+    assert!(rt; space.rights_at(page).is_some() && space.entries() < 1_024);
     space.set_entry(page, Some(Entry { frame, writable }));
     Ok((space, page))
 }

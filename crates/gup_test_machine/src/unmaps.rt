@@ -25,9 +25,8 @@ fn expect_counted(rt: &impl Abort, space: &Space, frames: &Frames, page: PageNo)
     let Some(entry) = space.entry(page) else {
         return;
     };
-    assert!(rt; space.rights_at(page).is_some());
     expect_frame(rt, frames, entry.frame);
-    assert!(rt; frames.count(entry.frame) > 0);
+    assert!(rt; space.rights_at(page).is_some() && frames.count(entry.frame) > 0);
 }
 
 // Maps the page, and gives it a frame where one is free.
@@ -40,8 +39,7 @@ fn give(rt: &impl Abort, space: &mut Space, frames: &mut Frames, page: PageNo) -
         return false;
     };
     let writable = true;
-    assert!(rt; space.rights_at(page).is_some());
-    assert!(rt; space.entries() < 1_024);
+    assert!(rt; space.rights_at(page).is_some() && space.entries() < 1_024);
     space.set_entry(page, Some(Entry { frame, writable }));
     true
 }
@@ -103,14 +101,10 @@ fn pages_are_taken_down(rt: HostRuntime) -> Result<(), Fail> {
         (3, true, 0, 0),
     ] {
         let page = PageNo::new(number).ok_or("a page")?;
+        let answer = call(&rt, &mut space, &mut frames, page, true);
         assert_eq!(rt;
-            call(&rt, &mut space, &mut frames, page, true),
-            was,
-            "page {number}"
-        );
-        assert_eq!(rt;
-            seen(&rt, &space, &frames, page),
-            Some((false, false, first, second)),
+            (answer, seen(&rt, &space, &frames, page)),
+            (was, Some((false, false, first, second))),
             "page {number}"
         );
     }
@@ -130,14 +124,10 @@ fn pages_are_discarded(rt: HostRuntime) -> Result<(), Fail> {
         (3, true, 0, 0),
     ] {
         let page = PageNo::new(number).ok_or("a page")?;
+        let answer = call(&rt, &mut space, &mut frames, page, false);
         assert_eq!(rt;
-            call(&rt, &mut space, &mut frames, page, false),
-            is,
-            "page {number}"
-        );
-        assert_eq!(rt;
-            seen(&rt, &space, &frames, page),
-            Some((is, false, first, second)),
+            (answer, seen(&rt, &space, &frames, page)),
+            (is, Some((is, false, first, second))),
             "page {number}"
         );
     }

@@ -42,8 +42,10 @@ fn take_all_of(
 ) -> Result<(), Fail> {
     assert!(rt; zones.0 <= 1_024 && zones.1 <= 1_024 - zones.0);
     let mut frames = Frames::new(alloc, zones.0, zones.1).or(Err("memory"))?;
-    assert_eq!(rt; (frames.movable(), frames.normal()), zones);
-    assert_eq!(rt; free(&frames), zones);
+    assert_eq!(rt;
+        (frames.movable(), frames.normal(), free(&frames)),
+        (zones.0, zones.1, zones)
+    );
     take_all(rt, &mut frames, allowed, numbers.0, numbers.1);
     assert_eq!(rt; free(&frames), left);
     Ok(())
@@ -116,12 +118,11 @@ fn stepped(
     left: u32,
 ) -> Result<(), Fail> {
     let frame = FrameNo::new(number).ok_or("a frame")?;
-    assert_eq!(rt; follow(frames, frame, step), Some(()));
+    let done = follow(frames, frame, step);
     assert_eq!(rt;
-        state(frames, frame),
-        Some((after.0, after.1, Zone::Normal))
+        (done, state(frames, frame), free(frames)),
+        (Some(()), Some((after.0, after.1, Zone::Normal)), (0, left))
     );
-    assert_eq!(rt; free(frames), (0, left));
     Ok(())
 }
 
@@ -180,8 +181,11 @@ fn words_are_written_copied_and_lost(rt: HostRuntime) -> Result<(), Fail> {
     follow(&mut frames, one, Step::Put(1)).ok_or("a reference")?;
     take_all(&rt, &mut frames, MOVABLE, 1, 2);
     for (number, v) in words {
-        assert_eq!(rt; read(&frames, one, number), Some(0), "word {number}");
-        assert_eq!(rt; read(&frames, last, number), Some(v), "word {number}");
+        assert_eq!(rt;
+            (read(&frames, one, number), read(&frames, last, number)),
+            (Some(0), Some(v)),
+            "word {number}"
+        );
     }
     Ok(())
 }

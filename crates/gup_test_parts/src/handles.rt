@@ -79,17 +79,42 @@ fn pages_go_from_the_last_to_the_first(rt: HostRuntime) -> Result<(), Fail> {
     let actor = ActorNo::new(80).ok_or("an actor")?;
     let other = ActorNo::new(0).ok_or("an actor")?;
     let (mut handles, pin, reference) = two_handles(&rt, rt.alloc(), actor, 23, true)?;
-    assert_eq!(rt; seen(&handles, pin, actor), Some((16, 7, true)));
-    assert_eq!(rt; seen(&handles, pin, other), None);
+    assert_eq!(rt;
+        (seen(&handles, pin, actor), seen(&handles, pin, other)),
+        (Some((16, 7, true)), None)
+    );
     assert_eq!(rt; dropped(&mut handles, pin, other), Err(NotHeld));
     for left in 0..16 {
         assert_eq!(rt; dropped(&mut handles, pin, actor), Ok(22 - left));
     }
-    assert_eq!(rt; dropped(&mut handles, pin, actor), Err(NotHeld));
+    for (handle, want) in [
+        (pin, Err(NotHeld)),
+        (reference, Ok(3)),
+        (reference, Err(NotHeld)),
+    ] {
+        assert_eq!(rt; dropped(&mut handles, handle, actor), want);
+    }
     assert_eq!(rt; seen(&handles, pin, actor), None);
-    assert_eq!(rt; dropped(&mut handles, reference, actor), Ok(3));
-    assert_eq!(rt; dropped(&mut handles, reference, actor), Err(NotHeld));
     Ok(())
+}
+
+#[derive(Clone, Copy, Debug)]
+enum Step {
+    Give,
+    Given,
+    Take,
+    Drop,
+}
+
+// Gives the pin to the other actor, asks whether it is given to this one, takes it or drops its last page, and answers
+// whether that worked or is so.
+fn did(handles: &mut Handles, h: HandleNo, actor: ActorNo, other: ActorNo, step: Step) -> bool {
+    match step {
+        Step::Give => handles.give(h, actor, other).is_ok(),
+        Step::Given => handles.given(h, actor),
+        Step::Take => handles.take(h, actor),
+        Step::Drop => dropped(handles, h, actor).is_ok(),
+    }
 }
 
 #[test]
@@ -97,23 +122,30 @@ fn pins_are_given_and_taken(rt: HostRuntime) -> Result<(), Fail> {
     let actor = ActorNo::new(5).ok_or("an actor")?;
     let other = ActorNo::new(6).ok_or("an actor")?;
     let (mut handles, pin, reference) = two_handles(&rt, rt.alloc(), actor, 9, false)?;
-    assert_eq!(rt; handles.give(pin, other, actor), Err(NotHeld));
-    assert!(rt; !handles.take(pin, actor));
-    assert_eq!(rt; handles.give(pin, actor, other), Ok(()));
-    assert_eq!(rt; handles.give(pin, actor, other), Err(NotHeld));
-    assert_eq!(rt; dropped(&mut handles, pin, actor), Err(NotHeld));
-    assert!(rt; !handles.given(pin, actor));
-    assert!(rt; handles.given(pin, other));
-    assert!(rt; !handles.take(pin, actor));
-    assert!(rt; handles.take(pin, other));
-    assert!(rt; !handles.given(pin, other));
-    assert_eq!(rt; seen(&handles, pin, other), Some((2, 7, false)));
-    assert_eq!(rt; dropped(&mut handles, pin, other), Ok(8));
-    assert_eq!(rt; handles.give(pin, other, other), Ok(()));
-    assert!(rt; handles.take(pin, other));
-    assert_eq!(rt; seen(&handles, pin, other), Some((1, 7, false)));
-    assert_eq!(rt; handles.give(reference, actor, other), Err(NotHeld));
-    assert_eq!(rt; seen(&handles, reference, actor), None);
+    for (step, who, done, seen_by_actor, seen_by_other) in [
+        (Step::Give, other, false, Some((2, 7, false)), None),
+        (Step::Take, actor, false, Some((2, 7, false)), None),
+        (Step::Give, actor, true, None, None),
+        (Step::Give, actor, false, None, None),
+        (Step::Drop, actor, false, None, None),
+        (Step::Given, actor, false, None, None),
+        (Step::Given, other, true, None, None),
+        (Step::Take, actor, false, None, None),
+        (Step::Take, other, true, None, Some((2, 7, false))),
+        (Step::Given, other, false, None, Some((2, 7, false))),
+        (Step::Drop, other, true, None, Some((1, 7, false))),
+        (Step::Give, other, true, None, None),
+        (Step::Take, other, true, None, Some((1, 7, false))),
+    ] {
+        let was = did(&mut handles, pin, who, other, step);
+        assert_eq!(rt;
+            (was, seen(&handles, pin, actor), seen(&handles, pin, other)),
+            (done, seen_by_actor, seen_by_other),
+            "{step:?} by {who:?}"
+        );
+    }
+    let given = did(&mut handles, reference, actor, other, Step::Give);
+    assert_eq!(rt; (given, seen(&handles, reference, actor)), (false, None));
     Ok(())
 }
 

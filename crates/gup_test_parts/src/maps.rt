@@ -2,6 +2,33 @@ use gup_base::{PageNo, Rights};
 use gup_maps::{Hole, MapRefusal, Maps, Table};
 use std::test::Fail;
 
+// Maps n pages, where there are so many from this one on, and answers how many are mapped then.
+fn map(maps: &mut Maps, first: u64, n: u16) -> Option<(Result<(), MapRefusal>, u16)> {
+    let page = PageNo::new(first)?;
+    if page.get() + u64::from(n) > 34_359_738_368 {
+        return None;
+    }
+    let answer = maps.map(page, n, Rights::R);
+    Some((answer, maps.len()))
+}
+
+// The rights of the page, the next mapped page, whether it was mapped when it is unmapped, and the same again.
+fn unmap_twice(
+    maps: &mut Maps,
+    page: PageNo,
+) -> (Option<Rights>, Option<u64>, bool, Option<Rights>, bool) {
+    let rights = maps.rights_at(page);
+    let next = maps.next_page(page).map(|p| p.get());
+    let was = maps.unmap_page(page);
+    (
+        rights,
+        next,
+        was,
+        maps.rights_at(page),
+        maps.unmap_page(page),
+    )
+}
+
 #[test]
 fn mappings_are_made_and_refused(rt: HostRuntime) -> Result<(), Fail> {
     let overlap = Err(MapRefusal::Overlap);
@@ -20,14 +47,11 @@ fn mappings_are_made_and_refused(rt: HostRuntime) -> Result<(), Fail> {
         (999, 0, Ok(()), 1_024),
         (34_359_672_833, 65_534, full, 1_024),
     ] {
-        let page = PageNo::new(first).ok_or("a page")?;
-        assert!(rt; page.get() + u64::from(n) <= 34_359_738_368);
         assert_eq!(rt;
-            maps.map(page, n, Rights::R),
-            want,
+            map(&mut maps, first, n),
+            Some((want, len)),
             "{n} pages from {first}"
         );
-        assert_eq!(rt; maps.len(), len, "{n} pages from {first}");
     }
     Ok(())
 }
@@ -63,30 +87,43 @@ fn rights_are_changed_and_lost(rt: HostRuntime) -> Result<(), Fail> {
         (34_359_738_367, Some(Rights::RW), Some(34_359_738_367), true),
     ] {
         let page = PageNo::new(number).ok_or("a page")?;
-        assert_eq!(rt; maps.rights_at(page), rights, "page {number}");
         assert_eq!(rt;
-            maps.next_page(page).map(|p| p.get()),
-            next,
+            unmap_twice(&mut maps, page),
+            (rights, next, mapped, None, false),
             "page {number}"
         );
-        assert_eq!(rt; maps.unmap_page(page), mapped, "page {number}");
-        assert_eq!(rt; maps.rights_at(page), None, "page {number}");
-        assert!(rt; !maps.unmap_page(page), "page {number}");
     }
-    assert_eq!(rt; maps.len(), 1);
-    assert_eq!(rt; maps.next_page(last), None);
+    assert_eq!(rt; (maps.len(), maps.next_page(last)), (1, None));
     Ok(())
+}
+
+// Gives the page a value, where there is room, and answers which it has then, and how many pages have one.
+fn kept(table: &mut Table<u64>, number: u64, value: u64) -> Option<(Option<u64>, u16)> {
+    let page = PageNo::new(number)?;
+    if table.len() >= 1_024 {
+        return None;
+    }
+    table.set(page, value);
+    Some((table.get(page), table.len()))
+}
+
+// The value of the page, the one that is taken out, and the next page that has one.
+fn removed(table: &mut Table<u64>, number: u64) -> Option<(Option<u64>, Option<u64>, Option<u64>)> {
+    let page = PageNo::new(number)?;
+    let value = table.get(page);
+    let out = table.remove(page);
+    Some((value, out, table.next(page).map(|p| p.get())))
 }
 
 #[test]
 fn values_are_kept_by_page(rt: HostRuntime) -> Result<(), Fail> {
     let mut table = Table::new(rt.alloc()).or(Err("memory"))?;
     for (number, value, len) in [(7, 1_u64, 1), (34_359_738_367, 2, 2), (0, 3, 3), (7, 4, 3)] {
-        let page = PageNo::new(number).ok_or("a page")?;
-        assert!(rt; table.len() < 1_024);
-        table.set(page, value);
-        assert_eq!(rt; table.get(page), Some(value), "page {number}");
-        assert_eq!(rt; table.len(), len, "page {number}");
+        assert_eq!(rt;
+            kept(&mut table, number, value),
+            Some((Some(value), len)),
+            "page {number}"
+        );
     }
     for (number, value, next) in [
         (0, Some(3), Some(7)),
@@ -94,10 +131,11 @@ fn values_are_kept_by_page(rt: HostRuntime) -> Result<(), Fail> {
         (7, Some(4), Some(34_359_738_367)),
         (34_359_738_367, Some(2), None),
     ] {
-        let page = PageNo::new(number).ok_or("a page")?;
-        assert_eq!(rt; table.get(page), value, "page {number}");
-        assert_eq!(rt; table.remove(page), value, "page {number}");
-        assert_eq!(rt; table.next(page).map(|p| p.get()), next, "page {number}");
+        assert_eq!(rt;
+            removed(&mut table, number),
+            Some((value, value, next)),
+            "page {number}"
+        );
     }
     assert_eq!(rt; table.len(), 0);
     Ok(())
@@ -126,12 +164,19 @@ fn rights_of(
 fn mappings_are_copied(rt: HostRuntime) -> Result<(), Fail> {
     let mut from = Maps::new(rt.alloc()).or(Err("memory"))?;
     let mut maps = Maps::new(rt.alloc()).or(Err("memory"))?;
-    assert!(rt; map_one(&mut from, 5, Rights::RW));
-    assert!(rt; map_one(&mut maps, 4, Rights::R));
+    let first = map_one(&mut from, 5, Rights::RW) && map_one(&mut maps, 4, Rights::R);
     maps.copy_from(&from);
-    assert_eq!(rt; rights_of(&maps, 4, 5), Some((None, Some(Rights::RW), 1)));
-    assert!(rt; map_one(&mut maps, 4, Rights::R));
-    assert_eq!(rt; rights_of(&from, 4, 5), Some((None, Some(Rights::RW), 1)));
+    let copied = rights_of(&maps, 4, 5);
+    let second = map_one(&mut maps, 4, Rights::R);
+    assert_eq!(rt;
+        (first, second, copied, rights_of(&from, 4, 5)),
+        (
+            true,
+            true,
+            Some((None, Some(Rights::RW), 1)),
+            Some((None, Some(Rights::RW), 1))
+        )
+    );
     Ok(())
 }
 
@@ -187,16 +232,23 @@ fn take_each(table: &mut Table<u64>, from: u16, to: u16) -> bool {
 #[test]
 fn lowest_values_are_taken_out(rt: HostRuntime) -> Result<(), Fail> {
     let mut table = Table::new(rt.alloc()).or(Err("memory"))?;
-    assert!(rt; set_each(&mut table, 1_000, 2_024));
-    assert!(rt; !set_each(&mut table, 0, 1));
-    assert!(rt; take_each(&mut table, 1_000, 2_000));
-    assert!(rt; set_each(&mut table, 2_024, 2_524));
-    assert!(rt; set_each(&mut table, 1_500, 2_000));
-    assert_eq!(rt; table.len(), 1_024);
-    assert!(rt; take_each(&mut table, 1_500, 2_524));
-    assert_eq!(rt; table.len(), 0);
-    assert!(rt; set_each(&mut table, 7, 8));
-    assert!(rt; take_each(&mut table, 7, 8));
+    for (sets, from, to, done, left) in [
+        (true, 1_000, 2_024, true, 1_024),
+        (true, 0, 1, false, 1_024),
+        (false, 1_000, 2_000, true, 24),
+        (true, 2_024, 2_524, true, 524),
+        (true, 1_500, 2_000, true, 1_024),
+        (false, 1_500, 2_524, true, 0),
+        (true, 7, 8, true, 1),
+        (false, 7, 8, true, 0),
+    ] {
+        let was = if sets {
+            set_each(&mut table, from, to)
+        } else {
+            take_each(&mut table, from, to)
+        };
+        assert_eq!(rt; (was, table.len()), (done, left), "{from} to {to}");
+    }
     Ok(())
 }
 
@@ -217,22 +269,32 @@ fn unmap_each(maps: &mut Maps, from: u16, to: u16, rights: Rights) -> bool {
     true
 }
 
-// Maps these pages, and answers how many are mapped then.
-fn map_range(maps: &mut Maps, from: u16, n: u16, rights: Rights) -> Option<u16> {
-    maps.map(PageNo::new(u64::from(from))?, n, rights).ok()?;
-    Some(maps.len())
+// Maps these pages, and answers whether that worked.
+fn map_range(maps: &mut Maps, from: u16, to: u16, rights: Rights) -> bool {
+    let Some(page) = PageNo::new(u64::from(from)) else {
+        return false;
+    };
+    to >= from && maps.map(page, to - from, rights).is_ok()
 }
 
 #[test]
 fn lowest_pages_are_unmapped(rt: HostRuntime) -> Result<(), Fail> {
     let mut maps = Maps::new(rt.alloc()).or(Err("memory"))?;
-    assert_eq!(rt; map_range(&mut maps, 5_000, 1_024, Rights::R), Some(1_024));
-    assert!(rt; unmap_each(&mut maps, 5_000, 6_000, Rights::R));
-    assert_eq!(rt; map_range(&mut maps, 6_024, 600, Rights::RW), Some(624));
-    assert_eq!(rt; map_range(&mut maps, 5_600, 400, Rights::RW), Some(1_024));
-    assert!(rt; unmap_each(&mut maps, 5_600, 6_000, Rights::RW));
-    assert!(rt; unmap_each(&mut maps, 6_000, 6_024, Rights::R));
-    assert!(rt; unmap_each(&mut maps, 6_024, 6_624, Rights::RW));
-    assert_eq!(rt; maps.len(), 0);
+    for (maps_them, from, to, rights, left) in [
+        (true, 5_000, 6_024, Rights::R, 1_024),
+        (false, 5_000, 6_000, Rights::R, 24),
+        (true, 6_024, 6_624, Rights::RW, 624),
+        (true, 5_600, 6_000, Rights::RW, 1_024),
+        (false, 5_600, 6_000, Rights::RW, 624),
+        (false, 6_000, 6_024, Rights::R, 600),
+        (false, 6_024, 6_624, Rights::RW, 0),
+    ] {
+        let done = if maps_them {
+            map_range(&mut maps, from, to, rights)
+        } else {
+            unmap_each(&mut maps, from, to, rights)
+        };
+        assert_eq!(rt; (done, maps.len()), (true, left), "{from} to {to}");
+    }
     Ok(())
 }

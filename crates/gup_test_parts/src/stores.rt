@@ -57,10 +57,15 @@ fn moved(
 fn new_stores_have_zeros(rt: HostRuntime) -> Result<(), NoMemory> {
     for words in [1, 512, 4_096] {
         let store = Store::new(rt.alloc(), words)?;
-        assert_eq!(rt; store.words(), words);
-        assert_eq!(rt; kept(&store, 0), Some(0));
-        assert_eq!(rt; kept(&store, words - 1), Some(0));
-        assert_eq!(rt; kept(&store, words), None);
+        assert_eq!(rt;
+            (
+                store.words(),
+                kept(&store, 0),
+                kept(&store, words - 1),
+                kept(&store, words)
+            ),
+            (words, Some(0), Some(0), None)
+        );
     }
     Ok(())
 }

@@ -1,4 +1,4 @@
-use gup_base::{ActorNo, HandleNo, PageNo, ProcNo, Rights, WordNo};
+use gup_base::{ActorNo, HandleNo, PageNo, ProcNo, Rights, Want, WordNo};
 use gup_read::read_script;
 use gup_script::{Kind, Op, Script};
 use gup_spec_grammar::{ReadRefusal, Reason, ScriptFault};
@@ -449,13 +449,21 @@ fn expect_held(rt: &impl Abort, script: &Script) -> Result<(), Fail> {
             handle: h,
             page,
             n: 16,
-            write: true,
+            want: Want {
+                write: true,
+                long: false,
+            },
+            fast: false,
         },
         Op::Pin {
             handle: g,
             page: last,
             n: 1,
-            write: false,
+            want: Want {
+                write: false,
+                long: false,
+            },
+            fast: false,
         },
         Op::Give { handle: h, to: d },
         Op::Take { handle: g },

@@ -10,7 +10,7 @@ use Rattle.gup_script.specs.declared.op.Op.{Op}
 use Rattle.gup_script.specs.Script.{ScriptValue}
 use Rattle.gup_exec_plain.specs.LastWrite.{ArePossible}
 use Rattle.gup_spec_journal.specs.Place.{Place, Doer, doer, present_op}
-use Rattle.gup_spec_journal.specs.Plain.{Judged, judged_first, judged_after, ArePlain, IsRightAt, plain_after}
+use Rattle.gup_spec_journal.specs.Plain.{Judged, judged_first, judged_after, AreSo, IsRightAt, plain_after}
 use Rattle.gup_law_owners.specs.Owners.{event_in, journal_events}
 use Rattle.gup_law_owners.proofs.plain_journals_are_possible.Goals as goal
 
@@ -23,7 +23,7 @@ first_possible s who place op Idle rest right possible = possible
 first_possible s who place op (Wait waiting) rest right possible = possible
 first_possible s who place op (Done answer) rest right possible = possible
 
-all_possible : (script : ScriptValue) (j : Judged) (notes : List NoteValue) → ArePlain script j notes → ArePossible j.plain (journal_events notes)
+all_possible : (script : ScriptValue) (j : Judged) (notes : List NoteValue) → AreSo IsRightAt script j notes → ArePossible j.plain (journal_events notes)
 all_possible script j [] plain = tt
 all_possible script j (note ∷ notes) plain =
     let place = j.places note.actor in

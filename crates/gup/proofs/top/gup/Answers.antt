@@ -3,6 +3,7 @@ use Rattle.std.specs.Io.KnownBytes.{Appends}
 use Rattle.gup_script.specs.Script.{ScriptValue}
 use Rattle.gup_spec_journal.specs.Place.{starts_born}
 use Rattle.gup_spec_journal.specs.Plain.{IsPlain}
+use Rattle.gup_spec_journal.specs.Thorough.{IsThorough}
 use Rattle.gup_spec_journal.specs.Follows.{Follows}
 use Rattle.gup_spec_journal.specs.Order.{InOrder}
 use Rattle.gup_law_owners.specs.Owners.{OwnsBytes, journal_events}
@@ -18,7 +19,7 @@ use Rattle.gup.proofs.ReadBytes.{has_cause, of_script, of_none, refused_none}
 use Rattle.gup.proofs.top.gup.Goals as goal
 
 pub returns-in-Ok-clause-follows : goal.returns-in-Ok-clause-follows
-returns-in-Ok-clause-follows g c has =
+returns-in-Ok-clause-follows g c command has =
     let script = c.in-Ok.script in
     let report = c.run_and_write.result in
     let W : List ℕ → Type 0 = λ text. Appends (g.K.Sink.taken c.args.sink.now) (g.K.Sink.taken c.run_and_write.new.sink) text in
@@ -27,7 +28,7 @@ returns-in-Ok-clause-follows g c has =
     (ran script report.journal.notes report.status W (P script) c.run_and_write.ensures.finished c.run_and_write.ensures.stuck (λ stuck text run. run.follows) has)
 
 pub returns-in-Ok-clause-in_order : goal.returns-in-Ok-clause-in_order
-returns-in-Ok-clause-in_order g c has =
+returns-in-Ok-clause-in_order g c command has =
     let script = c.in-Ok.script in
     let report = c.run_and_write.result in
     let W : List ℕ → Type 0 = λ text. Appends (g.K.Sink.taken c.args.sink.now) (g.K.Sink.taken c.run_and_write.new.sink) text in
@@ -36,7 +37,7 @@ returns-in-Ok-clause-in_order g c has =
     (ran script report.journal.notes report.status W (P script) c.run_and_write.ensures.finished c.run_and_write.ensures.stuck (λ stuck text run. run.in_order) has)
 
 pub returns-in-Ok-clause-plain : goal.returns-in-Ok-clause-plain
-returns-in-Ok-clause-plain g c has =
+returns-in-Ok-clause-plain g c command has =
     let script = c.in-Ok.script in
     let report = c.run_and_write.result in
     let W : List ℕ → Type 0 = λ text. Appends (g.K.Sink.taken c.args.sink.now) (g.K.Sink.taken c.run_and_write.new.sink) text in
@@ -44,8 +45,17 @@ returns-in-Ok-clause-plain g c has =
     of_script (g.S.Source.remaining c.args.source.now) script P c.one_script.ensures c.in-Ok.ensures.script
     (ran script report.journal.notes report.status W (P script) c.run_and_write.ensures.finished c.run_and_write.ensures.stuck (λ stuck text run. run.plain) has)
 
+pub returns-in-Ok-clause-thorough : goal.returns-in-Ok-clause-thorough
+returns-in-Ok-clause-thorough g c command has =
+    let script = c.in-Ok.script in
+    let report = c.run_and_write.result in
+    let W : List ℕ → Type 0 = λ text. Appends (g.K.Sink.taken c.args.sink.now) (g.K.Sink.taken c.run_and_write.new.sink) text in
+    let P : ScriptValue → Type 0 = λ s. IsThorough s report.journal.notes in
+    of_script (g.S.Source.remaining c.args.source.now) script P c.one_script.ensures c.in-Ok.ensures.script
+    (ran script report.journal.notes report.status W (P script) c.run_and_write.ensures.finished c.run_and_write.ensures.stuck (λ stuck text run. run.thorough) has)
+
 pub returns-in-Ok-clause-owned : goal.returns-in-Ok-clause-owned
-returns-in-Ok-clause-owned g c has =
+returns-in-Ok-clause-owned g c command has =
     let script = c.in-Ok.script in
     let report = c.run_and_write.result in
     let W : List ℕ → Type 0 = λ text. Appends (g.K.Sink.taken c.args.sink.now) (g.K.Sink.taken c.run_and_write.new.sink) text in
@@ -54,7 +64,7 @@ returns-in-Ok-clause-owned g c has =
     (ran script report.journal.notes report.status W (P script) c.run_and_write.ensures.finished c.run_and_write.ensures.stuck (λ stuck text run. run.owned) has)
 
 pub returns-in-Ok-clause-causes : goal.returns-in-Ok-clause-causes
-returns-in-Ok-clause-causes g c has =
+returns-in-Ok-clause-causes g c command has =
     let script = c.in-Ok.script in
     let report = c.run_and_write.result in
     let W : List ℕ → Type 0 = λ text. Appends (g.K.Sink.taken c.args.sink.now) (g.K.Sink.taken c.run_and_write.new.sink) text in
@@ -63,7 +73,7 @@ returns-in-Ok-clause-causes g c has =
     (ran script report.journal.notes report.status W (P script) c.run_and_write.ensures.finished c.run_and_write.ensures.stuck (λ stuck text run. run.causes) has)
 
 pub returns-in-Ok-clause-core : goal.returns-in-Ok-clause-core
-returns-in-Ok-clause-core g c is =
+returns-in-Ok-clause-core g c command is =
     let script = c.in-Ok.script in
     let notes = c.run_and_write.result.journal.notes in
     let W : List ℕ → Type 0 = λ text. Appends (g.K.Sink.taken c.args.sink.now) (g.K.Sink.taken c.run_and_write.new.sink) text in
@@ -72,7 +82,7 @@ returns-in-Ok-clause-core g c is =
     (finished_run script notes W (c.run_and_write.ensures.finished is))
 
 pub returns-in-Ok-clause-stuck : goal.returns-in-Ok-clause-stuck
-returns-in-Ok-clause-stuck g c is =
+returns-in-Ok-clause-stuck g c command is =
     let script = c.in-Ok.script in
     let notes = c.run_and_write.result.journal.notes in
     let W : List ℕ → Type 0 = λ text. Appends (g.K.Sink.taken c.args.sink.now) (g.K.Sink.taken c.run_and_write.new.sink) text in
@@ -81,7 +91,7 @@ returns-in-Ok-clause-stuck g c is =
     (stuck_run script notes W (c.run_and_write.ensures.stuck is))
 
 pub returns-in-Ok-clause-text : goal.returns-in-Ok-clause-text
-returns-in-Ok-clause-text g c is =
+returns-in-Ok-clause-text g c command is =
     let script = c.in-Ok.script in
     let notes = c.run_and_write.result.journal.notes in
     let W : List ℕ → Type 0 = λ text. Appends (g.K.Sink.taken c.args.sink.now) (g.K.Sink.taken c.run_and_write.new.sink) text in
@@ -90,7 +100,7 @@ returns-in-Ok-clause-text g c is =
     (finished_written script notes W (c.run_and_write.ensures.finished is))
 
 pub returns-in-Ok-clause-stuck_text : goal.returns-in-Ok-clause-stuck_text
-returns-in-Ok-clause-stuck_text g c is =
+returns-in-Ok-clause-stuck_text g c command is =
     let script = c.in-Ok.script in
     let notes = c.run_and_write.result.journal.notes in
     let W : List ℕ → Type 0 = λ text. Appends (g.K.Sink.taken c.args.sink.now) (g.K.Sink.taken c.run_and_write.new.sink) text in
@@ -99,7 +109,7 @@ returns-in-Ok-clause-stuck_text g c is =
     (stuck_written script notes W (c.run_and_write.ensures.stuck is))
 
 pub returns-in-Ok-clause-lines : goal.returns-in-Ok-clause-lines
-returns-in-Ok-clause-lines g c is =
+returns-in-Ok-clause-lines g c command is =
     let script = c.in-Ok.script in
     let notes = c.run_and_write.result.journal.notes in
     let P : ScriptValue → Type 0 = λ s. length (outcomes_of notes) ≡ operations s in

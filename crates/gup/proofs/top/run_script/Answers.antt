@@ -1,7 +1,7 @@
 use Rattle.std.proofs.Common.{◌≡◌, ℕ, ◌++◌, Bool, false, List, ap, subst, ◌∙◌}
 use Rattle.gup_script.specs.Script.{ScriptValue}
 use Rattle.gup_spec_journal.specs.Place.{first_place}
-use Rattle.gup_spec_journal.specs.Plain.{ArePlain, judged_first}
+use Rattle.gup_spec_journal.specs.Plain.{AreSo, IsRightAt, judged_first}
 use Rattle.gup_spec_turns.specs.Cause.{AreKnown, HaveFinished}
 use Rattle.gup_spec_turns.specs.Run.{RunState, run_start}
 use Rattle.gup_sched.specs.Ran.{SaysStuck}
@@ -40,9 +40,10 @@ returns c =
       follows = c.core_run_follows.ensures.run script notes end valid core;
       in_order = c.core_run_is_in_order.ensures script notes end valid core;
       plain = plain;
+      thorough = c.core_run_is_thorough.ensures.run script notes end valid core;
       owned = c.plain_journals_are_owned.ensures script notes plain;
       causes =
-          (core.0, end, core.1, core.2, caused c.no_frame_has_its_cause.ensures script (judged_first script) 1 (λ _. first_place) core.0 (run_start script) end core.2 (subst (ArePlain script (judged_first script)) core.1 plain) (subst AreKnown core.1 known));
+          (core.0, end, core.1, core.2, caused c.no_frame_has_its_cause.ensures script (judged_first script) 1 (λ _. first_place) core.0 (run_start script) end core.2 (subst (AreSo IsRightAt script (judged_first script)) core.1 plain) (subst AreKnown core.1 known));
       end = end;
       core = core;
       ends = run.3;

@@ -17,7 +17,7 @@ overflow_add-result c =
             | inl discard ↦ let few = fits _ discard.2 refl in omega arith
             | inr later ↦
                 elim later [
-                  | inl pin ↦ let few = fits _ pin.4 refl in omega arith
+                  | inl pin ↦ let few = fits _ pin.5 refl in omega arith
                   | inr transfer ↦ let few = fits _ transfer.5 refl in omega arith
                 ]
           ]

@@ -23,7 +23,7 @@ returns-clause-turn c old new was now was_space is_space was_taken is_taken =
       stores = a.parts.now.stores;
     } in
     four
-    (λ (x y : SpaceParts) (before after : ArrayVec ℕ). IsPinTurn a.parts.now behind x y before after a.actor a.proc a.handle a.page a.n a.write a.far (whats_of c.pin.result))
+    (λ (x y : SpaceParts) (before after : ArrayVec ℕ). IsPinTurn a.parts.now behind x y before after a.actor a.proc a.handle a.page a.n a.want a.far (whats_of c.pin.result))
     _ _ _ _ old new was now
     (sym (was_there spaces.items c.get.result a.proc c.index_mut.result.now c.index_mut.ensures.value c.get.ensures.value c.requires.there) ∙ was_space)
     (sym (now_there spaces.items c.get.result a.proc c.pin.new.space c.get.ensures.value c.requires.there) ∙ is_space)

@@ -45,17 +45,17 @@ take_pin-requires-clause-few c = (c.requires.ready c.unwrap.result (process_is c
 pub take_pin-requires-clause-unmade : goal.take_pin-requires-clause-unmade
 take_pin-requires-clause-unmade c =
     let ready = (c.requires.ready c.unwrap.result (process_is c.args.proc c.unwrap.result c.unwrap.ensures)).1 in
-    ready.yet c.in-Pin.handle c.in-Pin.page c.in-Pin.n c.in-Pin.write c.in-Pin.is
+    ready.yet c.in-Pin.handle c.in-Pin.page c.in-Pin.n c.in-Pin.want c.in-Pin.fast c.in-Pin.is
 
 pub take_pin-requires-clause-taken : goal.take_pin-requires-clause-taken
 take_pin-requires-clause-taken c pages here =
     let ready = (c.requires.ready c.unwrap.result (process_is c.args.proc c.unwrap.result c.unwrap.ensures)).1 in
-    ready.taken pages c.in-Pin.handle c.in-Pin.page c.in-Pin.n c.in-Pin.write here c.in-Pin.is
+    ready.taken pages c.in-Pin.handle c.in-Pin.page c.in-Pin.n c.in-Pin.want c.in-Pin.fast here c.in-Pin.is
 
 pub take_pin-requires-clause-pinned : goal.take_pin-requires-clause-pinned
 take_pin-requires-clause-pinned c space here some =
     let ready = (c.requires.ready c.unwrap.result (process_is c.args.proc c.unwrap.result c.unwrap.ensures)).1 in
-    ready.pinned space c.in-Pin.handle c.in-Pin.page c.in-Pin.n c.in-Pin.write here c.in-Pin.is some
+    ready.pinned space c.in-Pin.handle c.in-Pin.page c.in-Pin.n c.in-Pin.want c.in-Pin.fast here c.in-Pin.is some
 
 pub take_pin-requires-clause-within : goal.take_pin-requires-clause-within
 take_pin-requires-clause-within c =
@@ -72,6 +72,11 @@ take_pin-requires-clause-range c =
     let ready = (c.requires.ready c.unwrap.result (process_is c.args.proc c.unwrap.result c.unwrap.ensures)).1 in
     (subst (λ (op : Op). IsOp op) c.in-Pin.is ready.in_range).2
 
+pub take_pin-requires-clause-short : goal.take_pin-requires-clause-short
+take_pin-requires-clause-short c =
+    let ready = (c.requires.ready c.unwrap.result (process_is c.args.proc c.unwrap.result c.unwrap.ensures)).1 in
+    (subst (λ (op : Op). IsOp op) c.in-Pin.is ready.in_range).3.short
+
 pub returns-in-Pin-clause-turn : goal.returns-in-Pin-clause-turn
 returns-in-Pin-clause-turn c p slots place of_p has =
     let a = c.args in
@@ -81,10 +86,10 @@ returns-in-Pin-clause-turn c p slots place of_p has =
     let same : c.unwrap.result ≡ p = some_is a.proc c.unwrap.result p c.unwrap.ensures of_p in
     let within = (c.requires.ready c.unwrap.result (process_is a.proc c.unwrap.result c.unwrap.ensures)).1.there (subst HasProcess (sym pin.is) tt) in
     let turn =
-    pinned a.parts.now t.new.parts a.actor c.unwrap.result slots a.far pin.handle pin.page pin.n pin.write place (whats_of t.result)
+    pinned a.parts.now t.new.parts a.actor c.unwrap.result slots a.far pin.handle pin.page pin.n pin.want pin.fast place (whats_of t.result)
     within t.ensures.spaces ready.actor_taken t.ensures.taken t.ensures.births t.ensures.stores t.ensures.other_spaces t.ensures.others_taken t.ensures.turn in
     subst (λ (op : Op). IsTurnAmong a.parts.now t.new.parts a.actor p slots a.far op place (whats_of t.result) place) (sym pin.is)
-    (subst (λ (q : ℕ). IsTurnAmong a.parts.now t.new.parts a.actor q slots a.far (Pin pin.handle pin.page pin.n pin.write) place (whats_of t.result) place) same turn)
+    (subst (λ (q : ℕ). IsTurnAmong a.parts.now t.new.parts a.actor q slots a.far (Pin pin.handle pin.page pin.n pin.want pin.fast) place (whats_of t.result) place) same turn)
 
 -- ---- operations on a pin
 

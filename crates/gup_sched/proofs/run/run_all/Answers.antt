@@ -24,7 +24,7 @@ pub loop-actor-preserved : goal.loop-actor-preserved
 loop-actor-preserved c =
     let script = c.args.script.now in
     let valid = c.actors-actors.ensures.valid in
-    let costs = has_costs script valid c.turns_are_spent.ensures.spent c.turns_are_spent.ensures.kept c.turns_are_spent.ensures.start c.turns_are_spent.ensures.few_forks c.reached_states_stand.ensures in
+    let costs = has_costs script valid c.turns_are_spent.ensures.spent c.turns_are_spent.ensures.kept c.turns_are_spent.ensures.start c.costs_are_few.ensures c.reached_states_stand.ensures in
     let r : RunState = c.loop-actor.invariant.0 in
     let w = c.loop-actor.invariant.1 in
     let items = c.turns-actor-items.result.now in
@@ -64,14 +64,14 @@ pub loop-actor-2-preserved : goal.loop-actor-2-preserved
 loop-actor-2-preserved c =
     let script = c.args.script.now in
     let valid = c.actors-actors.ensures.valid in
-    let costs = has_costs script valid c.turns_are_spent.ensures.spent c.turns_are_spent.ensures.kept c.turns_are_spent.ensures.start c.turns_are_spent.ensures.few_forks c.reached_states_stand.ensures in
+    let costs = has_costs script valid c.turns_are_spent.ensures.spent c.turns_are_spent.ensures.kept c.turns_are_spent.ensures.start c.costs_are_few.ensures c.reached_states_stand.ensures in
     let r : RunState = c.loop-actor-2.invariant.1.0 in
     let h = c.loop-actor-2.invariant.1.1 in
     let a = c.in-Some.actor in
     let n = c.take_turn-in-Some.new.machine in
     let found = is_pointed script c.loop-actor-2.machine.script r c.actors-actors.result c.loop-actor-2.pointer c.next_to_go.result (Some a) h.underway.same c.actors-actors.ensures.count (c.next_to_go.ensures.next r h.underway.shown) c.in-Some.is in
     let taken = c.in_ok-take_turn-2.ensures.turn r h.underway.shown in
-    let after = pointed_turn script valid costs c.loop-actor-2.machine n c.loop-actor-2.journal.notes taken.0 c.loop-actor-2.pointer r a found c.in_ok-take_turn-2.ensures.script taken.2 h in
+    let after = pointed_turn script costs c.loop-actor-2.machine n c.loop-actor-2.journal.notes taken.0 c.loop-actor-2.pointer r a found c.in_ok-take_turn-2.ensures.script taken.2 h in
     let notes = subst (λ (ns : List NoteValue). IsPointed script n ns (behind (length script.actors) a) (run_after script r a)) (sym taken.1) after.0 in
     let next : behind (length script.actors) a ≡ c.behind-pointer.result = ap (λ (k : ℕ). behind k a) (sym c.actors-actors.ensures.count) ∙ sym c.behind-pointer.ensures.next in
     ((λ some. c.behind-pointer.ensures.below), (run_after script r a, subst (λ (k : ℕ). IsPointed script n c.take_turn-in-Some.new.journal.notes k (run_after script r a)) next notes))
@@ -80,14 +80,14 @@ pub loop-actor-2-smaller : goal.loop-actor-2-smaller
 loop-actor-2-smaller c =
     let script = c.args.script.now in
     let valid = c.actors-actors.ensures.valid in
-    let costs = has_costs script valid c.turns_are_spent.ensures.spent c.turns_are_spent.ensures.kept c.turns_are_spent.ensures.start c.turns_are_spent.ensures.few_forks c.reached_states_stand.ensures in
+    let costs = has_costs script valid c.turns_are_spent.ensures.spent c.turns_are_spent.ensures.kept c.turns_are_spent.ensures.start c.costs_are_few.ensures c.reached_states_stand.ensures in
     let r : RunState = c.loop-actor-2.invariant.1.0 in
     let h = c.loop-actor-2.invariant.1.1 in
     let a = c.in-Some.actor in
     let n = c.take_turn-in-Some.new.machine in
     let found = is_pointed script c.loop-actor-2.machine.script r c.actors-actors.result c.loop-actor-2.pointer c.next_to_go.result (Some a) h.underway.same c.actors-actors.ensures.count (c.next_to_go.ensures.next r h.underway.shown) c.in-Some.is in
     let taken = c.in_ok-take_turn-2.ensures.turn r h.underway.shown in
-    let after = pointed_turn script valid costs c.loop-actor-2.machine n c.loop-actor-2.journal.notes taken.0 c.loop-actor-2.pointer r a found c.in_ok-take_turn-2.ensures.script taken.2 h in
+    let after = pointed_turn script costs c.loop-actor-2.machine n c.loop-actor-2.journal.notes taken.0 c.loop-actor-2.pointer r a found c.in_ok-take_turn-2.ensures.script taken.2 h in
     fewer (most script) c.loop-actor-2.machine.turns n.turns after.1 after.2
 
 -- the end
@@ -104,7 +104,7 @@ returns-clause-core c =
     let m = c.loop-actor-2.machine in
     let r : RunState = c.loop-actor-2.invariant.1.0 in
     let h = c.loop-actor-2.invariant.1.1 in
-    let costs = has_costs script c.actors-actors.ensures.valid c.turns_are_spent.ensures.spent c.turns_are_spent.ensures.kept c.turns_are_spent.ensures.start c.turns_are_spent.ensures.few_forks c.reached_states_stand.ensures in
+    let costs = has_costs script c.actors-actors.ensures.valid c.turns_are_spent.ensures.spent c.turns_are_spent.ensures.kept c.turns_are_spent.ensures.start c.costs_are_few.ensures c.reached_states_stand.ensures in
     let turns = few_turns script m c.loop-actor-2.journal.notes c.loop-actor-2.pointer r costs h in
     let none = is_pointed script m.script r c.actors-actors.result c.loop-actor-2.pointer c.next_to_go.result None h.underway.same c.actors-actors.ensures.count (c.next_to_go.ensures.next r h.underway.shown) c.in_default.is in
     (r, pointed_end script m c.loop-actor-2.journal.notes c.loop-actor-2.pointer r none h, h.underway.shown, stuck_at c.is_stuck.result m.script script r h.underway.same (c.is_stuck.ensures r h.underway.shown), turns)

@@ -1,4 +1,5 @@
 use Rattle.std.proofs.Common.{◌≡◌, ℕ, ◌<◌, ◌≤◌, Bool, true, false, List, [], ◌∷◌, ◌++◌, length, map, slice_get, get_or, All, Some, None, zero, suc, refl, sym, ap, ◌∙◌, subst, arith}
+use Rattle.gup_base.specs.declared.entry.Want.{Want}
 use Rattle.gup_script.specs.declared.op.Kind.{Kind}
 use Rattle.gup_script.specs.declared.op.Kind.TheVariants.{Thread}
 use Rattle.gup_script.specs.declared.op.Op.{Op}
@@ -34,10 +35,13 @@ all_four P x0 x1 x2 x3 h0 h1 h2 h3 (suc (suc zero)) d within = h2
 all_four P x0 x1 x2 x3 h0 h1 h2 h3 (suc (suc (suc zero))) d within = h3
 all_four P x0 x1 x2 x3 h0 h1 h2 h3 (suc (suc (suc (suc k)))) d within = absurd (omega arith)
 
-abbrev pub last_ops : List Op
-last_ops = Pin 0 7 1 true ∷ Fork 2 ∷ []
+abbrev pub pins_page : Op
+pins_page = Pin 0 7 1 (record { write = true; long = false }) false
 
-all_last : (P : Op → Type 0) → P (Pin 0 7 1 true) → P (Fork 2) → All P last_ops
+abbrev pub last_ops : List Op
+last_ops = pins_page ∷ Fork 2 ∷ []
+
+all_last : (P : Op → Type 0) → P pins_page → P (Fork 2) → All P last_ops
 all_last P pin fork zero d within = pin
 all_last P pin fork (suc zero) d within = fork
 all_last P pin fork (suc (suc k)) d within = absurd (omega arith)
@@ -53,7 +57,7 @@ single_declares s (Protect page n rights) alone = tt
 single_declares s (Discard page n) alone = tt
 single_declares s (Load page word) alone = tt
 single_declares s (Store page word value) alone = tt
-single_declares s (Pin handle page n write) alone = absurd alone
+single_declares s (Pin handle page n want fast) alone = absurd alone
 single_declares s (Unpin handle) alone = absurd alone
 single_declares s (Give handle to) alone = absurd alone
 single_declares s (Take handle) alone = absurd alone
@@ -68,7 +72,7 @@ of_thread (Protect page n rights) alone = tt
 of_thread (Discard page n) alone = tt
 of_thread (Load page word) alone = tt
 of_thread (Store page word value) alone = tt
-of_thread (Pin handle page n write) alone = absurd alone
+of_thread (Pin handle page n want fast) alone = absurd alone
 of_thread (Unpin handle) alone = absurd alone
 of_thread (Give handle to) alone = absurd alone
 of_thread (Take handle) alone = absurd alone
@@ -82,8 +86,8 @@ all_by P Q each ops all k d within = each (get_or ops k d) (all k d within)
 no_fork_at : (ops : List Op) (j child : ℕ) → AreSingle ops → slice_get ops j ≡ Some (Fork child) → ⊥
 no_fork_at ops j child single is = all_at IsAlone ops j (Fork child) single is
 
-no_pin_at : (ops : List Op) (j handle : ℕ) → AreSingle ops → ((page : ℕ) × (n : ℕ) × (write : Bool) × (slice_get ops j ≡ Some (Pin handle page n write))) → ⊥
-no_pin_at ops j handle single is = all_at IsAlone ops j (Pin handle is.0 is.1 is.2) single is.3
+no_pin_at : (ops : List Op) (j handle : ℕ) → AreSingle ops → ((page : ℕ) × (n : ℕ) × (want : Want) × (fast : Bool) × (slice_get ops j ≡ Some (Pin handle page n want fast))) → ⊥
+no_pin_at ops j handle single is = all_at IsAlone ops j (Pin handle is.0 is.1 is.2 is.3) single is.4
 
 pin_is_at : (p0 p1 p2 : Process) (x0 x1 x2 x3 : Actor) (name : List ℕ) (a j handle : ℕ) → AreSingle x0.ops → AreSingle x1.ops → AreSingle x2.ops → x3.ops ≡ last_ops
     → PinsAt (four_threads p0 p1 p2 x0 x1 x2 x3 name) a j handle → (a ≡ 3) × (j ≡ 0)
@@ -92,12 +96,12 @@ pin_is_at p0 p1 p2 x0 x1 x2 x3 name (suc zero) j handle s0 s1 s2 last is = absur
 pin_is_at p0 p1 p2 x0 x1 x2 x3 name (suc (suc zero)) j handle s0 s1 s2 last is = absurd (no_pin_at x2.ops j handle s2 is)
 pin_is_at p0 p1 p2 x0 x1 x2 x3 name (suc (suc (suc zero))) zero handle s0 s1 s2 last is = (refl, refl)
 pin_is_at p0 p1 p2 x0 x1 x2 x3 name (suc (suc (suc zero))) (suc zero) handle s0 s1 s2 last is =
-    let other : Some (Fork 2) ≡ Some (Pin handle is.0 is.1 is.2) = ap (λ ops. slice_get ops 1) (sym last) ∙ is.3 in
+    let other : Some (Fork 2) ≡ Some (Pin handle is.0 is.1 is.2 is.3) = ap (λ ops. slice_get ops 1) (sym last) ∙ is.4 in
     absurd (cc other)
 pin_is_at p0 p1 p2 x0 x1 x2 x3 name (suc (suc (suc zero))) (suc (suc j)) handle s0 s1 s2 last is =
-    let past : None ≡ Some (Pin handle is.0 is.1 is.2) = ap (λ ops. slice_get ops (suc (suc j))) (sym last) ∙ is.3 in
+    let past : None ≡ Some (Pin handle is.0 is.1 is.2 is.3) = ap (λ ops. slice_get ops (suc (suc j))) (sym last) ∙ is.4 in
     absurd (cc past)
-pin_is_at p0 p1 p2 x0 x1 x2 x3 name (suc (suc (suc (suc a)))) j handle s0 s1 s2 last is = absurd (cc is.3)
+pin_is_at p0 p1 p2 x0 x1 x2 x3 name (suc (suc (suc (suc a)))) j handle s0 s1 s2 last is = absurd (cc is.4)
 
 fork_is_at : (p0 p1 p2 : Process) (x0 x1 x2 x3 : Actor) (name : List ℕ) (a j child : ℕ) → AreSingle x0.ops → AreSingle x1.ops → AreSingle x2.ops → x3.ops ≡ last_ops
     → ForksAt (four_threads p0 p1 p2 x0 x1 x2 x3 name) a j child → (a ≡ 3) × (j ≡ 1)
@@ -105,7 +109,7 @@ fork_is_at p0 p1 p2 x0 x1 x2 x3 name zero j child s0 s1 s2 last is = absurd (no_
 fork_is_at p0 p1 p2 x0 x1 x2 x3 name (suc zero) j child s0 s1 s2 last is = absurd (no_fork_at x1.ops j child s1 is)
 fork_is_at p0 p1 p2 x0 x1 x2 x3 name (suc (suc zero)) j child s0 s1 s2 last is = absurd (no_fork_at x2.ops j child s2 is)
 fork_is_at p0 p1 p2 x0 x1 x2 x3 name (suc (suc (suc zero))) zero child s0 s1 s2 last is =
-    let other : Some (Pin 0 7 1 true) ≡ Some (Fork child) = ap (λ ops. slice_get ops 0) (sym last) ∙ is in
+    let other : Some pins_page ≡ Some (Fork child) = ap (λ ops. slice_get ops 0) (sym last) ∙ is in
     absurd (cc other)
 fork_is_at p0 p1 p2 x0 x1 x2 x3 name (suc (suc (suc zero))) (suc zero) child s0 s1 s2 last is = (refl, refl)
 fork_is_at p0 p1 p2 x0 x1 x2 x3 name (suc (suc (suc zero))) (suc (suc j)) child s0 s1 s2 last is =
@@ -132,7 +136,7 @@ are_script p0 p1 p2 x0 x1 x2 x3 name unborn k0 k1 k2 k3 o0 o1 o2 s0 s1 s2 last l
       few_handles = omega arith;
       kinds =
           all_four (λ x. KindFits s x.kind) x0 x1 x2 x3 (fits x0.kind 0 k0 (omega arith)) (fits x1.kind 1 k1 (omega arith)) (fits x2.kind 2 k2 (omega arith)) (fits x3.kind 0 k3 (omega arith));
-      ops = all_four (λ x. All IsOp x.ops) x0 x1 x2 x3 o0 o1 o2 (subst (λ (ops : List Op). All IsOp ops) (sym last) (all_last IsOp (omega arith, omega arith, omega arith) tt));
+      ops = all_four (λ x. All IsOp x.ops) x0 x1 x2 x3 o0 o1 o2 (subst (λ (ops : List Op). All IsOp ops) (sym last) (all_last IsOp (omega arith, omega arith, omega arith, record { short = refl; slow = refl }) tt));
       ops_fit =
           all_four (λ x. All (FitsKind x.kind) x.ops) x0 x1 x2 x3
           (any x0.kind 0 x0.ops k0 (threads x0.ops s0)) (any x1.kind 1 x1.ops k1 (threads x1.ops s1)) (any x2.kind 2 x2.ops k2 (threads x2.ops s2))
