@@ -14,12 +14,12 @@ use Rattle.gup_spec_journal.specs.Follows.{notes_of_turn}
 use Rattle.gup_spec_journal.specs.Order.{Turn, journal_of, places_behind}
 use Rattle.gup_spec_journal.specs.Place.{Place, Doer, doer, present_op}
 use Rattle.gup_plain.specs.Denial.{is_denial}
-use Rattle.gup_spec_journal.specs.Denial.{denial}
-use Rattle.gup_spec_journal.specs.Plain.{Judged, judged_before, got_at, refusal_in, IsAnswerAfter, IsRightAt, AreSo}
+use Rattle.gup_spec_journal.specs.Denial.{References, denial}
+use Rattle.gup_spec_journal.specs.Plain.{Judged, judged_by, judged_before, got_at, refusal_in, IsAnswerAfter, IsRightAt, AreSo}
 use Rattle.gup_spec_turns.specs.Cause.{CoreCause, LacksFrame, LacksExactly, IsKnownAnswer, IsKnown, AreKnown, answers_in, answered_in}
 use Rattle.gup_spec_turns.specs.Run.{RunState, Runs, run_after, turn_in}
 use Rattle.gup_lines.specs.Text.{words_after, outcomes_from, outcomes_of}
-use Rattle.gup.specs.Cause.{IsCausedBy, IsCausedAt, judged_note, judged_turn, IsCausedTurn, AreCaused}
+use Rattle.gup.specs.Cause.{IsCausedBy, IsCausedAt, judged_turn, IsCausedTurn, AreCaused}
 
 -- a denial is the plain state's, wherever it was judged
 denied_so : (had : Bool) (d : Option Answer) (a : Answer) → is_denial a ≡ true → IsAnswerAfter had d a → d ≡ Some a
@@ -77,22 +77,22 @@ lacks_later what whats (inl (k, less, is)) = inl (suc k, omega (arith, less), is
 lacks_later what whats (inr (got, wanted, (k, less, is))) = inr (got, wanted, (suc k, omega (arith, less), is))
 
 module _ (core : Answer → Type 0) where
-  caused_at : (s : PlainState) (who : Doer) (place : Place) (op : Option Op) (what : What) (whats : List What) → (LacksFrame (what ∷ whats) → core answers.NoFrame) → IsKnown what → IsRightAt s who place op what → IsCausedAt core s who op what
-  caused_at s who place None what whats lacks known right = tt
-  caused_at s who place (Some op) (Done answer) whats lacks known right =
-      by_answer core op place.had (denial s who (got_at s who.actor answer) op) answer known (λ want. lacks (lacks_first answer whats want)) right.1
-  caused_at s who place (Some op) Silent whats lacks known right = tt
-  caused_at s who place (Some op) Idle whats lacks known right = tt
-  caused_at s who place (Some op) (Wait waiting) whats lacks known right = tt
-  caused_at s who place (Some op) (Event event) whats lacks known right = tt
+  caused_at : (s : PlainState) (references : References) (who : Doer) (place : Place) (op : Option Op) (what : What) (whats : List What) → (LacksFrame (what ∷ whats) → core answers.NoFrame) → IsKnown what → IsRightAt s references who place op what → IsCausedAt core s references who op what
+  caused_at s references who place None what whats lacks known right = tt
+  caused_at s references who place (Some op) (Done answer) whats lacks known right =
+      by_answer core op place.had (denial s references who (got_at s who.actor answer) op) answer known (λ want. lacks (lacks_first answer whats want)) right.1
+  caused_at s references who place (Some op) Silent whats lacks known right = tt
+  caused_at s references who place (Some op) Idle whats lacks known right = tt
+  caused_at s references who place (Some op) (Wait waiting) whats lacks known right = tt
+  caused_at s references who place (Some op) (Event event) whats lacks known right = tt
 
   -- the notes of a turn are caused, and the rest is plain and known after them
-  caused_turn : (script : ScriptValue) (j : Judged) (t a n : ℕ) (whats : List What) (rest : List NoteValue) → (LacksFrame whats → core answers.NoFrame) → AreSo IsRightAt script j (notes_of_turn t a n whats ++ rest) → AreKnown (notes_of_turn t a n whats ++ rest) → IsCausedTurn core script j a whats × AreSo IsRightAt script (judged_turn j a whats) rest × AreKnown rest
+  caused_turn : (script : ScriptValue) (j : Judged) (t a n : ℕ) (whats : List What) (rest : List NoteValue) → (LacksFrame whats → core answers.NoFrame) → AreSo IsRightAt script j (notes_of_turn t a n whats ++ rest) → AreKnown (notes_of_turn t a n whats ++ rest) → IsCausedTurn core script j a whats × AreSo IsRightAt script (judged_turn script j a whats) rest × AreKnown rest
   caused_turn script j t a n [] rest lacks plain known = (tt, plain, known)
   caused_turn script j t a n (what ∷ whats) rest lacks plain known =
-      let later = caused_turn script (judged_note j a what) t a n whats rest (λ lack. lacks (lacks_later what whats lack)) plain.1 known.1 in
+      let later = caused_turn script (judged_by script j a what) t a n whats rest (λ lack. lacks (lacks_later what whats lack)) plain.1 known.1 in
       let place : Place = j.places a in
-      ((caused_at j.plain (doer script a) place (present_op script a place) what whats lacks known.0 plain.0, later.0), later.1, later.2)
+      ((caused_at j.plain j.references (doer script a) place (present_op script a place) what whats lacks known.0 plain.0, later.0), later.1, later.2)
 
 -- in a plain journal of known answers, whose turns answer for want of a frame only where they find none, each refusal has its
 -- cause
@@ -103,7 +103,7 @@ caused exact script j number places (turn ∷ turns) r end run plain known =
     let here : LacksExactly script r turn = subst (λ (t : Turn). LacksExactly script r (record { actor = a; whats = t.whats })) (sym run.1) (exact script r a) in
     let rest : List NoteValue = journal_of (number + 1) (places_behind places turn) turns in
     let now = caused_turn (CoreCause script r a) script j number a ((places a).answered + 1) turn.whats rest here.0 plain known in
-    let later = caused exact script (judged_turn j a turn.whats) (number + 1) (places_behind places turn) turns (run_after script r a) end run.2 now.1 now.2 in
+    let later = caused exact script (judged_turn script j a turn.whats) (number + 1) (places_behind places turn) turns (run_after script r a) end run.2 now.1 now.2 in
     (now.0, here, later)
 
 -- as many outcomes as answers, whatever words were moved before

@@ -1,7 +1,6 @@
 -- The causes of refusals.
 use Rattle.std.specs.Prelude.{◌≡◌, ℕ, List, [], ◌∷◌, Option, Some}
 use Rattle.gup_plain.specs.Note.{NoteValue}
-use Rattle.gup_plain.specs.Put.{put}
 use Rattle.gup_plain.specs.State.{PlainState}
 use Rattle.gup_plain.specs.declared.answer.Answer.{Answer}
 use Rattle.gup_plain.specs.declared.answer.Answer.TheVariants.{Plain, Value, Pinned, Words, NoFrame, Unmovable, Busy, Untouched, Stale}
@@ -9,10 +8,10 @@ use Rattle.gup_plain.specs.declared.note.What.{What}
 use Rattle.gup_plain.specs.declared.note.What.TheVariants.{Done}
 use Rattle.gup_script.specs.declared.op.Op.{Op}
 use Rattle.gup_script.specs.Script.{ScriptValue}
-use Rattle.gup_spec_journal.specs.Denial.{denial}
+use Rattle.gup_spec_journal.specs.Denial.{References, denial}
 use Rattle.gup_spec_journal.specs.Order.{Turn, journal_of}
-use Rattle.gup_spec_journal.specs.Place.{place_after, Doer, first_place, doer_of, present_op}
-use Rattle.gup_spec_journal.specs.Plain.{Judged, plain_after, judged_first, got_at, refusal_in}
+use Rattle.gup_spec_journal.specs.Place.{Doer, first_place, doer_of, present_op}
+use Rattle.gup_spec_journal.specs.Plain.{Judged, judged_first, judged_by, got_at, refusal_in}
 use Rattle.gup_spec_turns.specs.Cause.{CoreCause, LacksExactly}
 use Rattle.gup_spec_turns.specs.Run.{RunState, Runs, run_start, run_after}
 
@@ -31,27 +30,23 @@ IsCausedBy core denied Stale = core Stale
 IsCausedBy core denied answer = denied ≡ Some answer
 
 -- An answer has its cause; that of a short pin is what refused the page that ended it.
-abbrev pub IsCausedAt : (core : Answer → Type 0) → PlainState → Doer → Option Op → What → Type 0
-IsCausedAt core s who (Some op) (Done answer) =
-    IsCausedBy core (denial s who (got_at s who.actor answer) op) (refusal_in answer)
-IsCausedAt core s who op what = Unit {0}
+abbrev pub IsCausedAt : (core : Answer → Type 0) → PlainState → References → Doer → Option Op → What → Type 0
+IsCausedAt core s references who (Some op) (Done answer) =
+    IsCausedBy core (denial s references who (got_at s who.actor answer) op) (refusal_in answer)
+IsCausedAt core s references who op what = Unit {0}
 
 -- what notes of actor a have led to, after what was before
-abbrev pub judged_note : Judged → (a : ℕ) → What → Judged
-judged_note j a what =
-    record { plain = plain_after j.plain what; places = put a (place_after (j.places a) what) j.places }
-
-abbrev pub judged_turn : Judged → (a : ℕ) → List What → Judged
-judged_turn j a [] = j
-judged_turn j a (what ∷ whats) = judged_turn (judged_note j a what) a whats
+abbrev pub judged_turn : ScriptValue → Judged → (a : ℕ) → List What → Judged
+judged_turn script j a [] = j
+judged_turn script j a (what ∷ whats) = judged_turn script (judged_by script j a what) a whats
 
 -- each answer of a turn of actor a is no refusal's, or has its cause in what the notes before it have led to
 abbrev pub IsCausedTurn : (core : Answer → Type 0) → ScriptValue → Judged → (a : ℕ) → List What → Type 0
 IsCausedTurn core script j a [] = Unit {0}
 IsCausedTurn core script j a (what ∷ whats) =
     let op = present_op script a (j.places a) in
-    IsCausedAt core j.plain (doer_of script a op) op what
-    × IsCausedTurn core script (judged_note j a what) a whats
+    IsCausedAt core j.plain j.references (doer_of script a op) op what
+    × IsCausedTurn core script (judged_by script j a what) a whats
 
 -- the same of each turn of a core run from here on, and it answers for want of a frame exactly where it finds none
 abbrev pub AreCaused : ScriptValue → RunState → Judged → List Turn → Type 0
@@ -59,7 +54,7 @@ AreCaused script r j [] = Unit {0}
 AreCaused script r j (turn ∷ turns) =
     IsCausedTurn (CoreCause script r turn.actor) script j turn.actor turn.whats
     × LacksExactly script r turn
-    × AreCaused script (run_after script r turn.actor) (judged_turn j turn.actor turn.whats) turns
+    × AreCaused script (run_after script r turn.actor) (judged_turn script j turn.actor turn.whats) turns
 
 -- Every refusal is the plain state's, or the core state's of its turn in the core run whose journal it is. One for want of a
 -- frame comes exactly where the turn needs a frame and none is free that it may take.

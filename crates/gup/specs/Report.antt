@@ -24,11 +24,15 @@ use Rattle.gup_spec_grammar.specs.declared.fault.Reason.TheVariants as reasons
 use Rattle.gup_spec_grammar.specs.declared.fault.ScriptFault.{ScriptFault}
 use Rattle.gup_script.specs.Script.{ScriptValue}
 
--- The one command so far: the word `run` alone.
+-- The command `run`: that word alone.
 abbrev pub IsRun : List (List ℕ) → Type 0
 IsRun words = words ≡ codes "run" ∷ []
 
--- the statuses that the program has
+-- the words are a command: there is one so far
+abbrev pub IsCommand : List (List ℕ) → Type 0
+IsCommand words = IsRun words
+
+-- the statuses that `run` has
 abbrev pub IsStatus : ℕ → Type 0
 IsStatus status =
     (status ≡ 0) ⊎ (status ≡ 2) ⊎ (status ≡ 3) ⊎ (status ≡ 4) ⊎ (status ≡ 5) ⊎ (status ≡ 6) ⊎ (status ≡ 7)

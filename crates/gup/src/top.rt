@@ -15,7 +15,7 @@ ghost use Rattle.gup_spec_turns.specs.Run.{RunState, IsCoreRun};
 ghost use Rattle.gup_lines.specs.Text.{text_of, outcomes_of};
 ghost use Rattle.gup.specs.Cause.{HasCauses};
 ghost use Rattle.gup.specs.Stuck.{IsFinishedRun, IsStuckRun, run_text};
-ghost use Rattle.gup.specs.Report.{IsRun, IsStatus, HasRun, OfScript, AreScript, IsRunOf, IsPartlyTold, IsEnd, IsScriptOf, IsUnreadFor, IsRefusedFor, IsReadThrough, IfFault, usage, refusal_text};
+ghost use Rattle.gup.specs.Report.{IsRun, IsCommand, IsStatus, HasRun, OfScript, AreScript, IsRunOf, IsPartlyTold, IsEnd, IsScriptOf, IsUnreadFor, IsRefusedFor, IsReadThrough, IfFault, usage, refusal_text};
 
 use crate::text::{journal_text, push_stuck_lines, refusal_line};
 use gup_base::NoMemory;
@@ -269,24 +269,26 @@ pub fn gup<S: Source, K: Sink>(
     ensures causes { IsRun (map string_bytes words.now) → HasRun result.status
         → OfScript (S.remaining source.old) (λ script. HasCauses script result.journal.notes) }
 
-    // Which statuses there are. Words that are a command and bytes that are a script give status 0, where all actors
-    // finish, or 4, where some are stuck, where neither the source nor the sink has failed, unless memory runs out.
-    ensures statuses { IsStatus result.status }
+    // Which statuses `run` has. Bytes that are a script give status 0, where all actors finish, or 4, where some are stuck,
+    // where neither the source nor the sink has failed, unless memory runs out.
+    ensures statuses { IsRun (map string_bytes words.now) → IsStatus result.status }
     ensures complete { IsRun (map string_bytes words.now)
         → (HasCause (S.faults source.old) (S.faults source.new) → ⊥)
         → (HasCause (K.faults sink.old) (K.faults sink.new) → ⊥)
         → OfScript (S.remaining source.old) (λ script. IsEnd script result.status result.journal.notes) }
 
     // Status 2 comes exactly where the words are no command, unless the sink fails.
-    ensures usage { result.status ≡ 2 → IsRun (map string_bytes words.now) → ⊥ }
-    ensures no_command { (IsRun (map string_bytes words.now) → ⊥) → (result.status ≡ 2) ⊎ (result.status ≡ 6) }
-    ensures unread { (IsRun (map string_bytes words.now) → ⊥) → source.new ≡ source.old }
+    ensures usage { result.status ≡ 2 → IsCommand (map string_bytes words.now) → ⊥ }
+    ensures no_command { (IsCommand (map string_bytes words.now) → ⊥) → (result.status ≡ 2) ⊎ (result.status ≡ 6) }
+    ensures unread { (IsCommand (map string_bytes words.now) → ⊥) → source.new ≡ source.old }
     ensures usage_text { result.status ≡ 2 → Appends (K.taken sink.old) (K.taken sink.new) usage }
-    ensures usage_unrun { (IsRun (map string_bytes words.now) → ⊥) → (result.journal.notes ≡ []) × (result.refusal ≡ None) }
+    ensures usage_unrun { (IsCommand (map string_bytes words.now) → ⊥)
+        → (result.journal.notes ≡ []) × (result.refusal ≡ None) }
 
     // Status 3 comes only where the bytes are no script; where they are one and it is not refused, see above.
-    ensures refused { result.status ≡ 3 → OfScript (S.remaining source.old) (λ script. ⊥) }
-    ensures refusal { IfSome result.refusal (IsRefusedFor (S.remaining source.old)) }
+    ensures refused { IsRun (map string_bytes words.now) → result.status ≡ 3
+        → OfScript (S.remaining source.old) (λ script. ⊥) }
+    ensures refusal { IsRun (map string_bytes words.now) → IfSome result.refusal (IsRefusedFor (S.remaining source.old)) }
     ensures refusal_there { result.status ≡ 3 → IsSome result.refusal }
     ensures refusal_text { result.status ≡ 3 → IfSome result.refusal
         (λ fault. Appends (K.taken sink.old) (K.taken sink.new) (refusal_text fault)) }
@@ -296,7 +298,8 @@ pub fn gup<S: Source, K: Sink>(
     ensures read_fault { result.status ≡ 5
         → EndsInFault (S.faults source.old) (S.faults source.new) (S.faulted source.new) }
     ensures no_read_fault { (result.status ≡ 5 → ⊥) → S.faults source.new ≡ S.faults source.old }
-    ensures reading { Loses 0 1048577 (S.remaining source.old) (S.remaining source.new) }
+    ensures reading { IsRun (map string_bytes words.now)
+        → Loses 0 1048577 (S.remaining source.old) (S.remaining source.new) }
     ensures read_through { IsRun (map string_bytes words.now) → (result.status ≡ 5 → ⊥) → (result.status ≡ 7 → ⊥)
         → IsReadThrough (S.remaining source.old) (S.remaining source.new) }
     ensures unwritten { (result.status ≡ 5) ⊎ (result.status ≡ 7) → sink.new ≡ sink.old }
@@ -307,7 +310,7 @@ pub fn gup<S: Source, K: Sink>(
     ensures write_fault { result.status ≡ 6
         → EndsInFault (K.faults sink.old) (K.faults sink.new) (K.faulted sink.new) }
     ensures no_write_fault { (result.status ≡ 6 → ⊥) → K.faults sink.new ≡ K.faults sink.old }
-    ensures usage_part { result.status ≡ 6 → (IsRun (map string_bytes words.now) → ⊥)
+    ensures usage_part { result.status ≡ 6 → (IsCommand (map string_bytes words.now) → ⊥)
         → AppendsPart (K.taken sink.old) (K.taken sink.new) usage }
     ensures refusal_part { result.status ≡ 6 → IfSome result.refusal
         (λ fault. AppendsPart (K.taken sink.old) (K.taken sink.new) (refusal_text fault)) }

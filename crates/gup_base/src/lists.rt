@@ -2,6 +2,7 @@
 ghost use Rattle.std.specs.Prelude.{◌≡◌, ◌<◌, [], ◌∷◌, ◌++◌, length};
 
 use arrayvec::ArrayVec;
+use std::alloc::AllocError;
 use std::marker::Model;
 
 /// The segments of a transfer, in order: where each begins in the pin, and how many words it has. At most 8.
@@ -43,6 +44,17 @@ impl Parts {
         ensures { result.now ≡ self.now }
     {
         self.parts.as_slice()
+    }
+}
+
+impl Clone for Parts {
+    ghost is_clone = { λ v w. w ≡ v };
+
+    /// The same segments. This takes no memory.
+    fn clone(&self) -> Result<Self, AllocError> {
+        Ok(Parts {
+            parts: self.parts.clone()?,
+        })
     }
 }
 

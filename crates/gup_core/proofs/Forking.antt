@@ -8,12 +8,12 @@ use Rattle.gup_space.specs.Space.{SpaceValue}
 use Rattle.gup_space.specs.Shows.{ShowsSpace}
 use Rattle.gup_fork.proofs.ForkAfter.{IsForkEvent, beginning, counting, lowering, unmarking, giving, passing, ending, writing, placing, failing_at, putting}
 use Rattle.gup_fork.proofs.ForkLemmas.{leaves_others, job_stays, birth_stays}
-use Rattle.gup_spec_events.specs.State.{CoreState, Job, idle, marking, moving, forking, walking, ForkStep, between, counted, lowered, cleared, copying, failing}
+use Rattle.gup_spec_events.specs.State.{CoreState, Job, idle, forking, ForkStep, between, counted, copying}
 use Rattle.gup_spec_events.specs.Event.{CoreEvent, happens, take_frame, run}
 use Rattle.gup_spec_events.specs.Failure.{are_gone, puts_entry, puts_entries}
 use Rattle.gup_spec_turns.specs.ForkTurns.{page_turn, next_page, next_turn, frame_turn, copy_turn, copying_turn, fork_step_turn, fork_turn}
 use Rattle.gup_spec_turns.specs.CoreTurn.{free_frame}
-use Rattle.gup_spec_turns.specs.ForkPlace.{fork_place, place_in}
+use Rattle.gup_spec_turns.specs.JobPlace.{job_place, place_in}
 use Rattle.gup_core.proofs.Owning.{AreAll, through, two_lists, pins_of}
 
 -- an event of a turn of a fork of process p into c by actor a
@@ -61,32 +61,19 @@ copying_own s a p c done page word (Some to) = copy_own s a p c done page word t
 step_own : (s : CoreState) (a p c : ℕ) (done : List ℕ) (step : ForkStep) → AreForking a p c (fork_step_turn s a p c done step).events
 step_own s a p c done between = next_own s a p c done (next_page (s.right c) done)
 step_own s a p c done (counted page) = (forks _ (lowering done page _ _), (forks _ (unmarking done page _ false), (forks _ (giving done page _ false), tt)))
-step_own s a p c done (lowered page) = tt
-step_own s a p c done (cleared page) = tt
 step_own s a p c done (copying page word) = copying_own s a p c done page word (s.prepared a)
-step_own s a p c done failing = tt
+step_own s a p c done step = tt
 
 pub fork_is_own : (s : CoreState) (a p c : ℕ) (job : Job) → AreForking a p c (fork_turn s a p c job).events
 fork_is_own s a p c (forking q d done step) = step_own s a p c done step
 fork_is_own s a p c idle = (forks _ beginning, tt)
-fork_is_own s a p c (marking q page f) = tt
-fork_is_own s a p c (moving q page e allowed count) = tt
-fork_is_own s a p c (walking q write long sequence step) = tt
+fork_is_own s a p c job = tt
 
 -- ---- what they leave
 
 fork_leaves_pins : (a p c : ℕ) (s : CoreState) {e : CoreEvent} → IsForkEvent a p c e → pins_of (happens s e) ≡ pins_of s
 fork_leaves_pins a p c s beginning = refl
-fork_leaves_pins a p c s (counting done page entry copies) = refl
-fork_leaves_pins a p c s (lowering done page f writable) = refl
-fork_leaves_pins a p c s (unmarking done page f writable) = refl
-fork_leaves_pins a p c s (giving done page f writable) = refl
-fork_leaves_pins a p c s (passing done page) = refl
-fork_leaves_pins a p c s (ending done) = refl
-fork_leaves_pins a p c s (writing done page word to entry) = refl
-fork_leaves_pins a p c s (placing done page to rights) = refl
-fork_leaves_pins a p c s (failing_at done step ends) = refl
-fork_leaves_pins a p c s (putting done page entry ends) = refl
+fork_leaves_pins a p c s event = refl
 
 forking_leaves_pins : (a p c : ℕ) (s : CoreState) {e : CoreEvent} → IsForking a p c e → pins_of (happens s e) ≡ pins_of s
 forking_leaves_pins a p c s (forks e own) = fork_leaves_pins a p c s own
@@ -117,24 +104,15 @@ fork_births_stay a p c q s es other own = through (IsForking a p c) (λ x. x.bir
 -- of other actors: their jobs, and the frames that they have prepared
 
 fork_frame : (a p c b : ℕ) (s : CoreState) {e : CoreEvent} → (a ≡ b → ⊥) → IsForkEvent a p c e → (happens s e).prepared b ≡ s.prepared b
-fork_frame a p c b s other beginning = refl
-fork_frame a p c b s other (counting done page entry copies) = refl
-fork_frame a p c b s other (lowering done page f writable) = refl
-fork_frame a p c b s other (unmarking done page f writable) = refl
-fork_frame a p c b s other (giving done page f writable) = refl
-fork_frame a p c b s other (passing done page) = refl
-fork_frame a p c b s other (ending done) = refl
-fork_frame a p c b s other (writing done page word to entry) = refl
 fork_frame a p c b s other (placing done page to rights) = grind (arith, nat_tests)
-fork_frame a p c b s other (failing_at done step ends) = refl
-fork_frame a p c b s other (putting done page entry ends) = refl
+fork_frame a p c b s other event = refl
 
 forking_place : (a p c b : ℕ) (s : CoreState) {e : CoreEvent} → (a ≡ b → ⊥) → IsForking a p c e → place_in (happens s e) b ≡ place_in s b
 forking_place a p c b s other (forks e own) =
-    ap (λ job. fork_place job ((happens s e).prepared b)) (job_stays a p c b s other own) ∙ ap (λ f. fork_place (s.job b) f) (fork_frame a p c b s other own)
+    ap (λ job. job_place job ((happens s e).prepared b)) (job_stays a p c b s other own) ∙ ap (λ f. job_place (s.job b) f) (fork_frame a p c b s other own)
 forking_place a p c b s other (takes f) =
     let same : (happens s (take_frame a f)).prepared b ≡ s.prepared b = grind (arith, nat_tests) in
-    ap (λ g. fork_place (s.job b) g) same
+    ap (λ g. job_place (s.job b) g) same
 
 pub fork_places_stay : (a p c b : ℕ) (s : CoreState) (es : List CoreEvent) → (a ≡ b → ⊥) → AreForking a p c es → place_in (run s es) b ≡ place_in s b
 fork_places_stay a p c b s es other own = through (IsForking a p c) (λ x. place_in x b) (λ x e is. forking_place a p c b x other is) s es own

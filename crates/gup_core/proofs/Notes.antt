@@ -1,25 +1,26 @@
 -- No turn has two events and no answer: an operation that goes on counts one page or word a turn.
 use Rattle.std.proofs.Common.{◌==◌, ℕ, ◌+◌, Bool, true, false, List, [], ◌∷◌, length, nat_lt, Option, Some, None, Ok, Err, zero, suc}
+use Rattle.gup_base.specs.Parts.{words_of, word_at}
 use Rattle.gup_base.specs.declared.entry.Entry.{Entry}
 use Rattle.gup_base.specs.declared.entry.Rights.{Rights}
 use Rattle.gup_base.specs.declared.entry.Want.{Want}
 use Rattle.gup_plain.specs.Denial.{any_mapped, any_unmapped, map_denial, protect_denial, is_held_by, transfer_denial}
 use Rattle.gup_plain.specs.Event.{words}
-use Rattle.gup_plain.specs.State.{Birth, unborn, growing, born, failed}
+use Rattle.gup_plain.specs.State.{Birth, failed}
 use Rattle.gup_plain.specs.declared.answer.Answer.{Answer}
 use Rattle.gup_plain.specs.declared.event.PlainEvent.TheVariants as events
 use Rattle.gup_plain.specs.declared.note.What.{What}
 use Rattle.gup_plain.specs.declared.note.What.TheVariants.{Event}
 use Rattle.gup_script.specs.declared.op.Op.{Op}
-use Rattle.gup_script.specs.declared.op.Op.TheVariants.{Map, Unmap, Protect, Discard, Load, Store, Pin, Unpin, Give, Take, Transfer, Fork, Exit}
-use Rattle.gup_spec_events.specs.State.{CoreState, Job, idle, marking, moving, forking, walking, ForkStep, between, counted, lowered, cleared, copying, failing}
+use Rattle.gup_script.specs.declared.op.Op.TheVariants.{Map, Unmap, Protect, Discard, Load, Store, Pin, Unpin, Give, Transfer, Fork, Exit}
+use Rattle.gup_spec_events.specs.State.{CoreState, Job, forking, ForkStep, between, copying}
 use Rattle.gup_spec_events.specs.Fault.{Fault}
 use Rattle.gup_spec_turns.specs.Turn.{op_turn, failed_turn, turn_at}
 use Rattle.gup_spec_turns.specs.PageTurns.{load_fault, store_fault, exit_turn_by, lowest_page}
 use Rattle.gup_spec_turns.proofs.TurnParts.{loads_after, stores_after, map_turn_by, unmap_turn_by, protect_turn_by, discard_turn_by, unpin_turn_by, give_turn_by, transfer_turn_by}
 use Rattle.gup_spec_turns.specs.PinTurns.{pin_fault, pinned_if, ends_pin, pin_turn_by, but_last, unpinned}
 use Rattle.gup_spec_turns.specs.ForkTurns.{page_turn, next_page, next_turn, frame_turn, copy_turn, copying_turn, fork_step_turn, fork_turn}
-use Rattle.gup_spec_turns.specs.CoreTurn.{free_frame}
+use Rattle.gup_spec_turns.specs.CoreTurn.{free_frame, free_in, zones_of}
 
 abbrev pub NoTwo : List What → Type 0
 NoTwo (Event event ∷ Event next ∷ []) = ⊥
@@ -108,18 +109,12 @@ copying_two s a p c done page word (Some to) = copy_two s a p c done page word t
 
 step_two : (s : CoreState) (a p c : ℕ) (done : List ℕ) (step : ForkStep) → NoTwo (fork_step_turn s a p c done step).whats
 step_two s a p c done between = next_two s a p c done (next_page (s.right c) done)
-step_two s a p c done (counted page) = tt
-step_two s a p c done (lowered page) = tt
-step_two s a p c done (cleared page) = tt
 step_two s a p c done (copying page word) = copying_two s a p c done page word (s.prepared a)
-step_two s a p c done failing = tt
+step_two s a p c done step = tt
 
 fork_two : (s : CoreState) (a p c : ℕ) (job : Job) → NoTwo (fork_turn s a p c job).whats
 fork_two s a p c (forking q d done step) = step_two s a p c done step
-fork_two s a p c idle = tt
-fork_two s a p c (marking q page f) = tt
-fork_two s a p c (moving q page e allowed count) = tt
-fork_two s a p c (walking q write long sequence step) = tt
+fork_two s a p c job = tt
 
 no_two : (s : CoreState) (a p slots far : ℕ) (op : Op) → NoTwo (op_turn s a p slots far op).whats
 no_two s a p slots far (Map page n rights) = map_two (map_denial (any_mapped (s.right p) page n) (s.pages p) n) a p page n rights
@@ -130,32 +125,19 @@ no_two s a p slots far (Load page word) = load_two s (load_fault s a p page (s.e
 no_two s a p slots far (Store page word value) = store_two s (store_fault s a p page (s.entry p page)) a p page word value
 no_two s a p slots far (Pin handle page n want fast) =
     let got : ℕ = length (s.taken a) in
-    pin_two (pin_fault s a p (page + got) want.write) s a p handle (page + got) n got want
+    pin_two (pin_fault s a p (page + got) want.write (free_in s (zones_of want))) s a p handle (page + got) n got want
 no_two s a p slots far (Unpin handle) = unpin_two (is_held_by (s.handle handle) a) a handle (s.pinned handle)
 no_two s a p slots far (Give handle to) = give_two (is_held_by (s.handle handle) a) a handle to
-no_two s a p slots far (Take handle) = tt
-no_two s a p slots far (Transfer handle outward index slot n) =
-    transfer_two (transfer_denial (s.handle handle) a outward slots slot ((index, n) ∷ [])) s a handle outward (far + 1 == n) (index + far) (slot + far)
+no_two s a p slots far (Transfer handle outward slot parts) =
+    transfer_two (transfer_denial (s.handle handle) a outward slots slot parts) s a handle outward (far + 1 == words_of parts) (word_at parts far) (slot + far)
 no_two s a p slots far (Fork child) = fork_two s a p child (s.job a)
 no_two s a p slots far Exit = exit_two s a p (lowest_page (s.right p))
+no_two s a p slots far op = tt
 
 refused_two : (a p : ℕ) (op : Op) → NoTwo (failed_turn a p op).whats
-refused_two a p (Map page n rights) = tt
-refused_two a p (Unmap page n) = tt
-refused_two a p (Protect page n rights) = tt
-refused_two a p (Discard page n) = tt
-refused_two a p (Load page word) = tt
-refused_two a p (Store page word value) = tt
-refused_two a p (Pin handle page n want fast) = tt
-refused_two a p (Unpin handle) = tt
-refused_two a p (Give handle to) = tt
-refused_two a p (Take handle) = tt
-refused_two a p (Transfer handle outward index slot n) = tt
 refused_two a p (Fork child) = tt
-refused_two a p Exit = tt
+refused_two a p op = tt
 
 pub turn_two : (b : Birth) (s : CoreState) (a p slots far : ℕ) (op : Op) → NoTwo (turn_at b (failed_turn a p op) (op_turn s a p slots far op)).whats
 turn_two failed s a p slots far op = refused_two a p op
-turn_two born s a p slots far op = no_two s a p slots far op
-turn_two unborn s a p slots far op = no_two s a p slots far op
-turn_two (growing parent) s a p slots far op = no_two s a p slots far op
+turn_two b s a p slots far op = no_two s a p slots far op

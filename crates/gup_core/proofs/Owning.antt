@@ -1,6 +1,6 @@
 -- The events of a turn of one process are of frames and of that process. They bear no process, leave forks where they are,
 -- and are of no pin.
-use Rattle.std.proofs.Common.{◌≡◌, ℕ, ◌+◌, ◌==◌, Bool, true, false, cond, List, [], ◌∷◌, ◌++◌, Option, Some, None, Ok, Err, zero, suc, refl, sym, ap, ◌∙◌, eqb-true, if◌then◌else◌}
+use Rattle.std.proofs.Common.{◌≡◌, ℕ, ◌+◌, ◌==◌, Bool, true, false, cond, List, [], ◌∷◌, ◌++◌, Option, Some, None, Ok, Err, zero, suc, refl, sym, ap, ◌∙◌, eqb-true, if◌then◌else◌, arith}
 use Rattle.gup_base.specs.declared.entry.Entry.{Entry}
 use Rattle.gup_base.specs.declared.entry.Rights.{Rights}
 use Rattle.gup_base.specs.declared.entry.Rights.TheVariants.{R, RW}
@@ -9,7 +9,7 @@ use Rattle.gup_plain.specs.Put.{put}
 use Rattle.gup_plain.specs.State.{Handle}
 use Rattle.gup_plain.specs.declared.answer.Answer.{Answer}
 use Rattle.gup_script.specs.declared.op.Op.{Op}
-use Rattle.gup_script.specs.declared.op.Op.TheVariants.{Map, Unmap, Protect, Discard, Load, Store, Pin, Unpin, Give, Take, Transfer, Fork, Exit}
+use Rattle.gup_script.specs.declared.op.Op.TheVariants.{Map, Unmap, Protect, Discard, Load, Store, Exit}
 use Rattle.gup_space.proofs.After.{IsOf, AreOf, taking, filling, counting, marking_it, upgrading, breaking, putting, dropping, discarding, mapping, lowering, protecting, loading, storing}
 use Rattle.gup_spec_events.specs.State.{CoreState, Taken as TakenPage, Job, idle, marking}
 use Rattle.gup_spec_events.specs.Event.{CoreEvent, happens, take_frame, fill, count_one, set_mark, upgrade, break_entry, put_entry, drop_entry, discard_entry, map_pages, lower_entry, protect_pages, load, store, run}
@@ -18,7 +18,7 @@ use Rattle.gup_spec_turns.specs.Turn.{op_turn}
 use Rattle.gup_spec_turns.specs.PageTurns.{load_fault, lowers_entry, lowers, lowers_for, exit_turn_by, lowest_page}
 use Rattle.gup_spec_turns.proofs.TurnParts.{loads_after, store_fault_by, stores_after, map_turn_by, unmap_turn_by, protect_turn_by, discard_turn_by}
 use Rattle.gup_spec_turns.specs.CoreTurn.{allows_store, free_frame}
-use Rattle.gup_spec_turns.specs.ForkPlace.{fork_place, place_in, unbegun}
+use Rattle.gup_spec_turns.specs.JobPlace.{job_place, place_in, unbegun}
 use Rattle.gup_op_pages.specs.Alone.{IsAlone}
 
 -- an event of a turn of actor a over process p
@@ -185,13 +185,8 @@ turn_is_own s a p slots far (Load page word) alone =
 turn_is_own s a p slots far (Store page word value) alone =
     store_own s (store_fault_by (allows_store (s.entry p page)) s a p page (s.entry p page)) a p page word value
     (store_fault_own (allows_store (s.entry p page)) s a p page (s.entry p page))
-turn_is_own s a p slots far (Pin handle page n want fast) alone = absurd alone
-turn_is_own s a p slots far (Unpin handle) alone = absurd alone
-turn_is_own s a p slots far (Give handle to) alone = absurd alone
-turn_is_own s a p slots far (Take handle) alone = absurd alone
-turn_is_own s a p slots far (Transfer handle outward index slot n) alone = absurd alone
-turn_is_own s a p slots far (Fork child) alone = absurd alone
 turn_is_own s a p slots far Exit alone = exit_own s a p (lowest_page (s.right p))
+turn_is_own s a p slots far op alone = grind arith
 
 -- ---- pins and stores
 
@@ -204,19 +199,7 @@ pins_of s = (s.handle, s.pinned, s.taken, s.store)
 
 pub own_leaves_pins : (a p : ℕ) (s : CoreState) {e : CoreEvent} → IsOwn a p e → pins_of (happens s e) ≡ pins_of s
 own_leaves_pins a p s (takes f) = refl
-own_leaves_pins a p s (fills_it page f) = refl
-own_leaves_pins a p s (counts page f writable) = refl
-own_leaves_pins a p s (marks_it page f) = refl
-own_leaves_pins a p s (upgrades page f) = refl
-own_leaves_pins a p s (breaks_it page old new was writable) = refl
-own_leaves_pins a p s (puts f) = refl
-own_leaves_pins a p s (drops page was) = refl
-own_leaves_pins a p s (discards_it page was) = refl
-own_leaves_pins a p s (maps page n rights) = refl
-own_leaves_pins a p s (lowers_it page f) = refl
-own_leaves_pins a p s (protects page n rights) = refl
-own_leaves_pins a p s (loads_it page word f value) = refl
-own_leaves_pins a p s (stores_it page word f value) = refl
+own_leaves_pins a p s event = refl
 
 pub own_leave_pins : (a p : ℕ) (s : CoreState) (es : List CoreEvent) → AreOwn a p es → pins_of (run s es) ≡ pins_of s
 own_leave_pins a p s es own = through (IsOwn a p) pins_of (λ x e is. own_leaves_pins a p x is) s es own
@@ -227,19 +210,7 @@ own_leave_pins a p s es own = through (IsOwn a p) pins_of (λ x e is. own_leaves
 
 pub birth_stays : (a p : ℕ) (s : CoreState) {e : CoreEvent} → IsOwn a p e → (happens s e).birth ≡ s.birth
 birth_stays a p s (takes f) = refl
-birth_stays a p s (fills_it page f) = refl
-birth_stays a p s (counts page f writable) = refl
-birth_stays a p s (marks_it page f) = refl
-birth_stays a p s (upgrades page f) = refl
-birth_stays a p s (breaks_it page old new was writable) = refl
-birth_stays a p s (puts f) = refl
-birth_stays a p s (drops page was) = refl
-birth_stays a p s (discards_it page was) = refl
-birth_stays a p s (maps page n rights) = refl
-birth_stays a p s (lowers_it page f) = refl
-birth_stays a p s (protects page n rights) = refl
-birth_stays a p s (loads_it page word f value) = refl
-birth_stays a p s (stores_it page word f value) = refl
+birth_stays a p s event = refl
 
 pub births_stay : (a p : ℕ) (s : CoreState) (es : List CoreEvent) → AreOwn a p es → (run s es).birth ≡ s.birth
 births_stay a p s [] own = refl
@@ -247,58 +218,37 @@ births_stay a p s (e ∷ es) own = births_stay a p (happens s e) es own.1 ∙ bi
 
 -- whatever frame its actor has prepared, the job is no fork
 abbrev pub IsUnforked : Job → Type 0
-IsUnforked job = (prepared : Option ℕ) → fork_place job prepared ≡ unbegun
+IsUnforked job = (prepared : Option ℕ) → job_place job prepared ≡ unbegun
 
 -- a job that is no fork, in the place of one that is none
-job_put : (a b : ℕ) (job : Job) (jobs : ℕ → Job) (prepared : Option ℕ) → IsUnforked job → IsUnforked (jobs a) → fork_place (put a job jobs b) prepared ≡ fork_place (jobs b) prepared
+job_put : (a b : ℕ) (job : Job) (jobs : ℕ → Job) (prepared : Option ℕ) → IsUnforked job → IsUnforked (jobs a) → job_place (put a job jobs b) prepared ≡ job_place (jobs b) prepared
 job_put a b job jobs prepared new old = go (b == a) refl
   where
-    go : (here : Bool) → (b == a) ≡ here → fork_place (cond here job (jobs b)) prepared ≡ fork_place (jobs b) prepared
-    go true is = new prepared ∙ sym (old prepared) ∙ ap (λ k. fork_place (jobs k) prepared) (sym (eqb-true b a is))
+    go : (here : Bool) → (b == a) ≡ here → job_place (cond here job (jobs b)) prepared ≡ job_place (jobs b) prepared
+    go true is = new prepared ∙ sym (old prepared) ∙ ap (λ k. job_place (jobs k) prepared) (sym (eqb-true b a is))
     go false is = refl
 
 -- what an actor that does no fork has prepared
-frame_put : (a b : ℕ) (frame : Option ℕ) (jobs : ℕ → Job) (prepared : ℕ → Option ℕ) → IsUnforked (jobs a) → fork_place (jobs b) (put a frame prepared b) ≡ fork_place (jobs b) (prepared b)
+frame_put : (a b : ℕ) (frame : Option ℕ) (jobs : ℕ → Job) (prepared : ℕ → Option ℕ) → IsUnforked (jobs a) → job_place (jobs b) (put a frame prepared b) ≡ job_place (jobs b) (prepared b)
 frame_put a b frame jobs prepared none = go (b == a) refl
   where
-    at : (f : Option ℕ) → b ≡ a → fork_place (jobs b) f ≡ unbegun
-    at f e = ap (λ k. fork_place (jobs k) f) e ∙ none f
+    at : (f : Option ℕ) → b ≡ a → job_place (jobs b) f ≡ unbegun
+    at f e = ap (λ k. job_place (jobs k) f) e ∙ none f
 
-    go : (here : Bool) → (b == a) ≡ here → fork_place (jobs b) (cond here frame (prepared b)) ≡ fork_place (jobs b) (prepared b)
+    go : (here : Bool) → (b == a) ≡ here → job_place (jobs b) (cond here frame (prepared b)) ≡ job_place (jobs b) (prepared b)
     go true is = at frame (eqb-true b a is) ∙ sym (at (prepared b) (eqb-true b a is))
     go false is = refl
 
-pub job_stays : (a p b : ℕ) (s : CoreState) {e : CoreEvent} (prepared : Option ℕ) → IsOwn a p e → IsUnforked (s.job a) → fork_place ((happens s e).job b) prepared ≡ fork_place (s.job b) prepared
-job_stays a p b s prepared (takes f) none = refl
-job_stays a p b s prepared (fills_it page f) none = refl
+pub job_stays : (a p b : ℕ) (s : CoreState) {e : CoreEvent} (prepared : Option ℕ) → IsOwn a p e → IsUnforked (s.job a) → job_place ((happens s e).job b) prepared ≡ job_place (s.job b) prepared
 job_stays a p b s prepared (counts page f writable) none = job_put a b (marking p page f) s.job prepared (λ f. refl) none
 job_stays a p b s prepared (marks_it page f) none = job_put a b idle s.job prepared (λ f. refl) none
-job_stays a p b s prepared (upgrades page f) none = refl
-job_stays a p b s prepared (breaks_it page old new was writable) none = refl
-job_stays a p b s prepared (puts f) none = refl
-job_stays a p b s prepared (drops page was) none = refl
-job_stays a p b s prepared (discards_it page was) none = refl
-job_stays a p b s prepared (maps page n rights) none = refl
-job_stays a p b s prepared (lowers_it page f) none = refl
-job_stays a p b s prepared (protects page n rights) none = refl
-job_stays a p b s prepared (loads_it page word f value) none = refl
-job_stays a p b s prepared (stores_it page word f value) none = refl
+job_stays a p b s prepared event none = refl
 
-frame_stays : (a p b : ℕ) (s : CoreState) {e : CoreEvent} → IsOwn a p e → IsUnforked (s.job a) → fork_place (s.job b) ((happens s e).prepared b) ≡ place_in s b
+frame_stays : (a p b : ℕ) (s : CoreState) {e : CoreEvent} → IsOwn a p e → IsUnforked (s.job a) → job_place (s.job b) ((happens s e).prepared b) ≡ place_in s b
 frame_stays a p b s (takes f) none = frame_put a b (Some f) s.job s.prepared none
 frame_stays a p b s (fills_it page f) none = frame_put a b None s.job s.prepared none
-frame_stays a p b s (counts page f writable) none = refl
-frame_stays a p b s (marks_it page f) none = refl
-frame_stays a p b s (upgrades page f) none = refl
 frame_stays a p b s (breaks_it page old new was writable) none = frame_put a b None s.job s.prepared none
-frame_stays a p b s (puts f) none = refl
-frame_stays a p b s (drops page was) none = refl
-frame_stays a p b s (discards_it page was) none = refl
-frame_stays a p b s (maps page n rights) none = refl
-frame_stays a p b s (lowers_it page f) none = refl
-frame_stays a p b s (protects page n rights) none = refl
-frame_stays a p b s (loads_it page word f value) none = refl
-frame_stays a p b s (stores_it page word f value) none = refl
+frame_stays a p b s event none = refl
 
 pub fork_stays : (a p b : ℕ) (s : CoreState) {e : CoreEvent} → IsOwn a p e → IsUnforked (s.job a) → place_in (happens s e) b ≡ place_in s b
 fork_stays a p b s {e} own none = job_stays a p b s ((happens s e).prepared b) own none ∙ frame_stays a p b s own none

@@ -2,6 +2,7 @@
 -- turn of an operation on a pin are of frames, of the pin and of the actor's store.
 use Rattle.std.proofs.Common.{◌≡◌, ℕ, ◌+◌, ◌==◌, Bool, true, false, List, [], ◌∷◌, ◌++◌, length, Option, Some, None, Ok, Err, zero, suc, refl, ap, ◌∙◌, if◌then◌else◌, arith}
 use Rattle.std.proofs.lemmas.Bool.Decides.{nat_tests}
+use Rattle.gup_base.specs.Parts.{Part, words_of, word_at}
 use Rattle.gup_base.specs.declared.entry.Entry.{Entry}
 use Rattle.gup_base.specs.declared.entry.Rights.{Rights}
 use Rattle.gup_base.specs.declared.entry.Want.{Want}
@@ -12,11 +13,11 @@ use Rattle.gup_space.proofs.After.{IsOf, AreOf, flagging, pinning, making, unpin
 use Rattle.gup_spec_events.specs.State.{CoreState, Taken as TakenPage, Job}
 use Rattle.gup_spec_events.specs.Event.{CoreEvent, happens, raise_flag, pin_page, make_handle, unpin_page, give_handle, take_handle, move_out, move_in, run}
 use Rattle.gup_spec_events.specs.Fault.{Fault, events_of, unshare_fault, unshares, marks, breaks}
-use Rattle.gup_spec_turns.specs.CoreTurn.{free_frame}
+use Rattle.gup_spec_turns.specs.CoreTurn.{free_in, zones_of}
 use Rattle.gup_spec_turns.specs.PinTurns.{raises, pin_fault, makes_if, ends_pin, pin_turn_by, pin_turn, last_of, but_last, unpin_turn, give_turn, take_turn}
 use Rattle.gup_spec_turns.proofs.TurnParts.{unpin_turn_by, give_turn_by, transfer_turn_by}
 use Rattle.gup_spec_turns.specs.DeviceTurns.{moves, moves_value, transfer_turn, frame_at}
-use Rattle.gup_spec_turns.specs.ForkPlace.{fork_place, place_in}
+use Rattle.gup_spec_turns.specs.JobPlace.{job_place, place_in}
 use Rattle.gup_core.proofs.Owning.{IsOwn, AreOwn, AreAll, through, two_lists, is_of, counts, marks_it, fills_own, breaks_own, write_fault_own, birth_stays, IsUnforked, job_stays, fork_stays, Pins, own_leaves_pins}
 
 -- ---- pins
@@ -58,9 +59,9 @@ unshare_own a p page None entry mark count free = tt
 unshare_own a p page (Some rights) None mark count free = fills_own a p page free
 unshare_own a p page (Some rights) (Some e) mark count free = unshares_own a p page e (mark e.frame) (count e.frame) free
 
-pin_fault_own : (s : CoreState) (a p page : ℕ) (write : Bool) → AreOwn a p (events_of (pin_fault s a p page write))
-pin_fault_own s a p page true = write_fault_own a p page (s.right p page) (s.entry p page) s.mark s.count (free_frame s)
-pin_fault_own s a p page false = unshare_own a p page (s.right p page) (s.entry p page) s.mark s.count (free_frame s)
+pin_fault_own : (s : CoreState) (a p page : ℕ) (write : Bool) (free : Option ℕ) → AreOwn a p (events_of (pin_fault s a p page write free))
+pin_fault_own s a p page true free = write_fault_own a p page (s.right p page) (s.entry p page) s.mark s.count free
+pin_fault_own s a p page false free = unshare_own a p page (s.right p page) (s.entry p page) s.mark s.count free
 
 raises_pinning : (a p far : ℕ) → ArePinning a p (raises a p far)
 raises_pinning a p zero = (flags, tt)
@@ -84,24 +85,21 @@ pin_pinning (Ok before) s a p handle page n got want own =
 pub pin_is_pinning : (s : CoreState) (a p handle page n : ℕ) (want : Want) → ArePinning a p (pin_turn s a p handle page n want).events
 pin_is_pinning s a p handle page n want =
     let got : ℕ = length (s.taken a) in
-    pin_pinning (pin_fault s a p (page + got) want.write) s a p handle (page + got) n got want (pin_fault_own s a p (page + got) want.write)
+    let free : Option ℕ = free_in s (zones_of want) in
+    pin_pinning (pin_fault s a p (page + got) want.write free) s a p handle (page + got) n got want (pin_fault_own s a p (page + got) want.write free)
 
 -- what they leave
 
 pinning_births : (a p : ℕ) (s : CoreState) {e : CoreEvent} → IsPinning a p e → (happens s e).birth ≡ s.birth
 pinning_births a p s (readies e own) = birth_stays a p s own
-pinning_births a p s flags = refl
-pinning_births a p s (pins_it page e write long) = refl
-pinning_births a p s (makes h) = refl
+pinning_births a p s event = refl
 
 pub pinnings_births : (a p : ℕ) (s : CoreState) (es : List CoreEvent) → ArePinning a p es → (run s es).birth ≡ s.birth
 pinnings_births a p s es all = through (IsPinning a p) (λ x. x.birth) (λ x e is. pinning_births a p x is) s es all
 
 pinning_stores : (a p : ℕ) (s : CoreState) {e : CoreEvent} → IsPinning a p e → (happens s e).store ≡ s.store
 pinning_stores a p s (readies e own) = ap (λ (k : Pins). k.3) (own_leaves_pins a p s own)
-pinning_stores a p s flags = refl
-pinning_stores a p s (pins_it page e write long) = refl
-pinning_stores a p s (makes h) = refl
+pinning_stores a p s event = refl
 
 pub pinnings_stores : (a p : ℕ) (s : CoreState) (es : List CoreEvent) → ArePinning a p es → (run s es).store ≡ s.store
 pinnings_stores a p s es all = through (IsPinning a p) (λ x. x.store) (λ x e is. pinning_stores a p x is) s es all
@@ -115,17 +113,13 @@ pinning_taken a p b s other (makes h) = grind (arith, nat_tests)
 pub pinnings_taken : (a p b : ℕ) (s : CoreState) (es : List CoreEvent) → (b ≡ a → ⊥) → ArePinning a p es → (run s es).taken b ≡ s.taken b
 pinnings_taken a p b s es other all = through (IsPinning a p) (λ x. x.taken b) (λ x e is. pinning_taken a p b x other is) s es all
 
-pinning_jobs : (a p b : ℕ) (s : CoreState) {e : CoreEvent} (prepared : Option ℕ) → IsPinning a p e → IsUnforked (s.job a) → fork_place ((happens s e).job b) prepared ≡ fork_place (s.job b) prepared
+pinning_jobs : (a p b : ℕ) (s : CoreState) {e : CoreEvent} (prepared : Option ℕ) → IsPinning a p e → IsUnforked (s.job a) → job_place ((happens s e).job b) prepared ≡ job_place (s.job b) prepared
 pinning_jobs a p b s prepared (readies e own) none = job_stays a p b s prepared own none
-pinning_jobs a p b s prepared flags none = refl
-pinning_jobs a p b s prepared (pins_it page e write long) none = refl
-pinning_jobs a p b s prepared (makes h) none = refl
+pinning_jobs a p b s prepared event none = refl
 
 pinning_forks : (a p b : ℕ) (s : CoreState) {e : CoreEvent} → IsPinning a p e → IsUnforked (s.job a) → place_in (happens s e) b ≡ place_in s b
 pinning_forks a p b s (readies e own) none = fork_stays a p b s own none
-pinning_forks a p b s flags none = refl
-pinning_forks a p b s (pins_it page e write long) none = refl
-pinning_forks a p b s (makes h) none = refl
+pinning_forks a p b s event none = refl
 
 pub pinnings_forks : (a p b : ℕ) (s : CoreState) (es : List CoreEvent) → ArePinning a p es → IsUnforked (s.job a) → place_in (run s es) b ≡ place_in s b
 pinnings_forks a p b s [] all none = refl
@@ -189,9 +183,9 @@ transfer_handling (Some denied) s a handle outward last index slot = tt
 transfer_handling None s a handle outward last index slot =
     (move_handling a handle outward index slot (frame_at (s.pinned handle) index) (moves_value s a outward index slot (frame_at (s.pinned handle) index)), tt)
 
-pub transfer_is_handling : (s : CoreState) (a slots handle : ℕ) (outward : Bool) (index slot n far : ℕ) → AreHandling a (transfer_turn s a slots handle outward index slot n far).events
-transfer_is_handling s a slots handle outward index slot n far =
-    transfer_handling (transfer_denial (s.handle handle) a outward slots slot ((index, n) ∷ [])) s a handle outward (far + 1 == n) (index + far) (slot + far)
+pub transfer_is_handling : (s : CoreState) (a slots handle : ℕ) (outward : Bool) (slot : ℕ) (parts : List Part) (far : ℕ) → AreHandling a (transfer_turn s a slots handle outward slot parts far).events
+transfer_is_handling s a slots handle outward slot parts far =
+    transfer_handling (transfer_denial (s.handle handle) a outward slots slot parts) s a handle outward (far + 1 == words_of parts) (word_at parts far) (slot + far)
 
 -- what they leave
 
@@ -204,20 +198,14 @@ rest_of s = (s.birth, s.taken, s.job, s.prepared)
 
 handling_rest : (a : ℕ) (s : CoreState) {e : CoreEvent} → IsHandling a e → rest_of (happens s e) ≡ rest_of s
 handling_rest a s (unpins h f left) = refl
-handling_rest a s (gives h to) = refl
-handling_rest a s (takes_over h) = refl
-handling_rest a s (moves_from_it h index slot f value) = refl
-handling_rest a s (moves_into h index slot f value) = refl
+handling_rest a s event = refl
 
 pub handling_leave : (a : ℕ) (s : CoreState) (es : List CoreEvent) → AreHandling a es → rest_of (run s es) ≡ rest_of s
 handling_leave a s es all = through (IsHandling a) rest_of (λ x e is. handling_rest a x is) s es all
 
 handling_stores : (a b slot : ℕ) (s : CoreState) {e : CoreEvent} → (b ≡ a → ⊥) → IsHandling a e → (happens s e).store b slot ≡ s.store b slot
-handling_stores a b slot s other (unpins h f left) = refl
-handling_stores a b slot s other (gives h to) = refl
-handling_stores a b slot s other (takes_over h) = refl
 handling_stores a b slot s other (moves_from_it h index at f value) = grind (arith, nat_tests)
-handling_stores a b slot s other (moves_into h index at f value) = refl
+handling_stores a b slot s other event = refl
 
 pub handlings_stores : (a b slot : ℕ) (s : CoreState) (es : List CoreEvent) → (b ≡ a → ⊥) → AreHandling a es → (run s es).store b slot ≡ s.store b slot
 handlings_stores a b slot s es other all = through (IsHandling a) (λ x. x.store b slot) (λ x e is. handling_stores a b slot x other is) s es all

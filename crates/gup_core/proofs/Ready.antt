@@ -13,11 +13,11 @@ use Rattle.gup_space.specs.Space.{space_of}
 use Rattle.gup_space.specs.Shows.{ShowsSpace}
 use Rattle.gup_handles.specs.Handles.{handles_of}
 use Rattle.gup_spec_events.specs.Event.{bias}
-use Rattle.gup_spec_events.specs.State.{CoreState, Job, idle, marking, moving, forking, walking, between, counted as counted_page, lowered, cleared, copying, failing}
+use Rattle.gup_spec_events.specs.State.{CoreState, Job, idle, forking, between, counted as counted_page, copying}
 use Rattle.gup_spec_turns.specs.Waits.{waits_for_locks, locks_needed, waits_born, waiting_for, both_if}
 use Rattle.gup_spec_turns.specs.Run.{RunState, op_in}
 use Rattle.gup_law_turns.specs.Standing.{IsStanding}
-use Rattle.gup_spec_turns.specs.ForkPlace.{IsNoFork, StandsFork}
+use Rattle.gup_spec_turns.specs.JobPlace.{IsNoFork, StandsFork}
 use Rattle.gup_law_turns.proofs.ScriptLemmas.{op_is_op, child_declared, thread_birth, has_ops_declared}
 use Rattle.gup_op_base.specs.Tidy.{needs_table}
 use Rattle.gup_core.specs.declared.seats.Seat.{Seat}
@@ -43,20 +43,16 @@ unborn_child : (s : CoreState) (a p child : ℕ) (job : Job) (prepared : Option 
 unborn_child s a p child idle prepared h is = absurd (cc (sym h ∙ is))
 unborn_child s a p child (forking q c done between) prepared h is = absurd (cc (sym h.birth ∙ is))
 unborn_child s a p child (forking q c done (counted_page page)) prepared h is = absurd (cc (sym h.0.birth ∙ is))
-unborn_child s a p child (forking q c done (lowered page)) prepared h is = absurd h
-unborn_child s a p child (forking q c done (cleared page)) prepared h is = absurd h
 unborn_child s a p child (forking q c done (copying page word)) prepared h is = absurd (cc (sym h.0.birth ∙ is))
-unborn_child s a p child (forking q c done failing) prepared h is = absurd h
-unborn_child s a p child (marking q page f) prepared h is = absurd h
-unborn_child s a p child (moving q page e allowed count) prepared h is = absurd h
-unborn_child s a p child (walking q write long sequence step) prepared h is = absurd h
+unborn_child s a p child (forking q c done step) prepared h is = absurd h
+unborn_child s a p child job prepared h is = absurd h
 
 few_references : (n : ℕ) → n ≤ 16 * page_numbers + bias * 17680 → n < 2 ^ 40
 unfolding page_numbers
 few_references n within = omega arith
 
 fork_ready : (m : MachineValue) (r : RunState) (a p child : ℕ) (seat : Seat) → IsStanding m.script r → Shows m r → IsAtRest m → process_of m.script a ≡ p → slice_get m.seats a ≡ Some seat → op_of_seat m a seat ≡ Some (Fork child) → r.core.birth (process_of m.script a) ≡ born
-    → IsForkReady (frames_of m.parts.frames) m.parts.spaces.items m.parts.births.items a p child seat.fork
+    → IsForkReady (frames_of m.parts.frames) m.parts.spaces.items m.parts.births.items a p child seat.job
 fork_ready m r a p child seat stands h rest own here present is_born =
     let declared : child < length m.script.processes = child_declared m.script rest.valid a seat.answered child present in
     let at : StandsFork r.core a (process_of m.script a) child (r.core.job a) (r.core.prepared a) = stands.forks a child (op_there m r a seat (Some (Fork child)) h here present) in
@@ -69,7 +65,7 @@ fork_ready m r a p child seat stands h rest own here present is_born =
     }
 
 pub is_ready : (m : MachineValue) (a : ℕ) (asked proc : Option ℕ) (seat : Seat) (op : Op) → Stand → IsMachine m → IsAtRest m → IsProcessOf (doer m.script a) asked → IsProcessOf (doer m.script a) proc → slice_get m.seats a ≡ Some seat → op_of_seat m a seat ≡ Some op → IsWaiting m a asked seat op None
-    → (HasFailed m.parts.births.items proc → ⊥) → (p : ℕ) → IfSome proc (λ q. q ≡ p) → IsReady m.parts a p op seat.far seat.fork
+    → (HasFailed m.parts.births.items proc → ⊥) → (p : ℕ) → IfSome proc (λ q. q ≡ p) → IsReady m.parts a p op seat.far seat.job
 is_ready m a asked proc seat op stand machine rest of_asked of_a here present waiting unfailed p of_p =
     let who : Doer = doer m.script a in
     let own : ℕ = process_of m.script a in
@@ -78,7 +74,7 @@ is_ready m a asked proc seat op stand machine rest of_asked of_a here present wa
     let stands : IsStanding m.script r = standing m r stand rest.valid h in
     let now : op_in m.script r a ≡ Some op = op_there m r a seat (Some op) h here present in
     let at : StandsAt r.core a own (r.places a).far op = stands_at m.script r a op stands now in
-    let free : waiting_for r.core who op ≡ None = sym (waiting r.core who (r.places a).far h.parts refl of_asked (h.forks a seat here) at) in
+    let free : waiting_for r.core who op ≡ None = sym (waiting r.core who (r.places a).far h.parts refl of_asked (h.jobs a seat here) at) in
     let locks : Option Waiting = waits_for_locks (locks_needed r.core a own op) a (r.core.structure own) (r.core.table own) in
     let born_free : (birth_for r.core.birth who ≡ born) × (waits_born r.core a own op ≡ None) =
     born_and_free (birth_for r.core.birth who) own (waits_born r.core a own op) (birth_unfailed m.parts.births.items proc who r.core unfailed (found_there m.script rest.valid a (length m.parts.births.items) proc rest.parts.births of_a) of_a h.parts.births) free in

@@ -6,20 +6,20 @@ use Rattle.gup_base.specs.declared.entry.Rights.{Rights}
 use Rattle.gup_plain.specs.State.{Birth as CoreBirth, born, failed}
 use Rattle.gup_plain.specs.declared.note.What.{What}
 use Rattle.gup_script.specs.declared.op.Op.{Op}
-use Rattle.gup_script.specs.declared.op.Op.TheVariants.{Map, Unmap, Protect, Discard, Load, Store, Pin, Unpin, Give, Take, Transfer, Fork, Exit}
+use Rattle.gup_script.specs.declared.op.Op.TheVariants.{Fork}
 use Rattle.gup_spec_journal.specs.Place.{Doer, birth_by, birth_for}
 use Rattle.gup_maps.specs.Table.{at}
 use Rattle.gup_frames.specs.Frames.{FramesValue, frames_of}
 use Rattle.gup_space.specs.Space.{SpaceParts, space_of}
 use Rattle.gup_space.specs.Shows.{ShowsFrames, ShowsSpace}
-use Rattle.gup_spec_events.specs.State.{CoreState, Job, idle, marking, moving, forking, walking, ForkStep, between, counted, lowered, cleared, copying, failing}
+use Rattle.gup_spec_events.specs.State.{CoreState, Job, idle, forking, ForkStep, between, counted, copying}
 use Rattle.gup_spec_events.specs.Event.{CoreEvent, fail_unborn, run}
 use Rattle.gup_law_base.specs.Sound.{IsSound, forking_of}
 use Rattle.gup_spec_turns.specs.CoreTurn.{CoreTurn}
 use Rattle.gup_spec_turns.specs.Turn.{op_turn, failed_turn, turn_at, turn_of}
 use Rattle.gup_spec_turns.specs.Waits.{waits_born}
-use Rattle.gup_spec_turns.specs.ForkPlace.{StandsFork, place_in}
-use Rattle.gup_op_fork.specs.declared.forks.ForkPlace.{ForkPlace}
+use Rattle.gup_spec_turns.specs.JobPlace.{StandsFork, place_in}
+use Rattle.gup_op_base.specs.declared.jobs.JobPlace.{JobPlace}
 use Rattle.gup_op_base.specs.Turns.{Leads, IsTurnOf, Anywhere}
 use Rattle.gup_op_base.proofs.Leading.{leads_alike}
 use Rattle.gup_op_waits.specs.declared.births.Birth.{Birth}
@@ -60,7 +60,7 @@ birth_unfailed births (Some p) who s unfailed within of_who shown is =
 
 -- ---- no process has failed
 
-pub of_born : (old new : Parts) (a : ℕ) (proc : Option ℕ) (far : ℕ) (op : Op) (place next : ForkPlace) (whats : List What)
+pub of_born : (old new : Parts) (a : ℕ) (proc : Option ℕ) (far : ℕ) (op : Op) (place next : JobPlace) (whats : List What)
     → (HasFailed old.births.items proc → ⊥) → IfSome proc (λ p. p < length old.births.items)
     → ((p slots : ℕ) → IfSome proc (λ q. q ≡ p) → HasSlots old a slots → IsTurnAmong old new a p slots far op place whats next)
     → IsTurnBy old new a proc far op place whats next
@@ -80,19 +80,8 @@ data IsRefusal (a p : ℕ) (op : Op) : List CoreEvent → Type 0 where
   fails_too : (child : ℕ) → op ≡ Fork child → IsRefusal a p op (fail_unborn a p child ∷ [])
 
 refusal : (a p : ℕ) (op : Op) → IsRefusal a p op (failed_turn a p op).events
-refusal a p (Map page n rights) = nothing
-refusal a p (Unmap page n) = nothing
-refusal a p (Protect page n rights) = nothing
-refusal a p (Discard page n) = nothing
-refusal a p (Load page word) = nothing
-refusal a p (Store page word value) = nothing
-refusal a p (Pin handle page n want fast) = nothing
-refusal a p (Unpin handle) = nothing
-refusal a p (Give handle to) = nothing
-refusal a p (Take handle) = nothing
-refusal a p (Transfer handle outward index slot n) = nothing
-refusal a p Exit = nothing
 refusal a p (Fork child) = fails_too child refl
+refusal a p op = nothing
 
 -- the child of a fork of a failed process has no mappings: the fork has not begun
 no_maps : (s : CoreState) (a p child : ℕ) (job : Job) (prepared : Option ℕ) → IsSound s → StandsFork s a p child job prepared → s.job a ≡ job → s.birth p ≡ failed → (g : ℕ) → s.right child g ≡ None
@@ -109,12 +98,8 @@ no_maps s a p child job prepared sound stands at has g = go job prepared stands 
     go (forking q c done between) f h is = absurd (forks_born q c done between h.parent is)
     go (forking q c done (counted page)) f h is = absurd (forks_born q c done (counted page) h.0.parent is)
     go (forking q c done (copying page word)) f h is = absurd (forks_born q c done (copying page word) h.0.parent is)
-    go (forking q c done (lowered page)) f h is = absurd h
-    go (forking q c done (cleared page)) f h is = absurd h
-    go (forking q c done failing) f h is = absurd h
-    go (marking q page old) f h is = absurd h
-    go (moving q page e allowed count) f h is = absurd h
-    go (walking q write long sequence step) f h is = absurd h
+    go (forking q c done step) f h is = absurd h
+    go job f h is = absurd h
 
 -- what it leaves: frames, processes, pins, and where forks stand
 
@@ -168,7 +153,7 @@ failed_process : (births : List Birth) (proc : Option ℕ) (who : Doer) (s : Cor
 failed_process births None who s has of_who shown = absurd has
 failed_process births (Some p) who s has of_who shown = ap (λ (q : ℕ). s.birth q) of_who.1 ∙ shown p Failed has
 
-pub refused : (old new : Parts) (a : ℕ) (proc : Option ℕ) (far : ℕ) (op : Op) (place : ForkPlace) (whats : List What)
+pub refused : (old new : Parts) (a : ℕ) (proc : Option ℕ) (far : ℕ) (op : Op) (place : JobPlace) (whats : List What)
     → HasFailed old.births.items proc → new.frames ≡ old.frames → new.spaces ≡ old.spaces → new.handles ≡ old.handles → new.taken ≡ old.taken → new.stores ≡ old.stores
     → ((b p : ℕ) → IsTurnOf ShowsBirths Anywhere old.births.items new.births.items (λ s. failed_turn b p op) whats)
     → IsTurnBy old new a proc far op place whats place
@@ -196,7 +181,7 @@ refused old new a proc far op place whats has frames spaces handles taken stores
       says = led.says;
       shown = record {
         parts = parts;
-        fork = shown.fork ∙ sym (places_left who.actor p op s made a);
+        job = shown.job ∙ sym (places_left who.actor p op s made a);
         others = λ b apart. places_left who.actor p op s made b ∙ shown.others b apart;
       };
     })

@@ -1,12 +1,13 @@
 -- What is true of a machine between two turns, by the state that turns led to.
 use Rattle.std.proofs.Common.{◌≡◌, ℕ, ◌+◌, ◌*◌, ◌<◌, ◌≤◌, ◌++◌, true, List, [], ◌∷◌, length, slice_get, Option, Some, None, IsSome, suc, refl, sym, ap, ◌∙◌, subst, eqb-true, arith}
+use Rattle.gup_base.specs.Parts.{words_of}
 use Rattle.gup_base.specs.declared.entry.Entry.{Entry}
 use Rattle.gup_base.specs.declared.entry.Rights.{Rights}
 use Rattle.gup_plain.specs.Denial.{is_held_by}
 use Rattle.gup_plain.specs.Event.{page_numbers}
 use Rattle.gup_plain.specs.State.{Handle, unmade, held, given, gone, objects_of}
 use Rattle.gup_script.specs.declared.op.Op.{Op}
-use Rattle.gup_script.specs.declared.op.Op.TheVariants.{Map, Unmap, Protect, Discard, Load, Store, Pin, Unpin, Give, Take, Transfer, Fork, Exit}
+use Rattle.gup_script.specs.declared.op.Op.TheVariants.{Unmap, Discard, Pin, Transfer, Fork}
 use Rattle.gup_script.specs.Script.{ScriptValue}
 use Rattle.gup_script.specs.Valid.{IsScript}
 use Rattle.gup_spec_journal.specs.Place.{ops_of, process_of, present_op}
@@ -16,11 +17,11 @@ use Rattle.gup_space.specs.Shows.{ShowsFrames, ShowsSpace}
 use Rattle.gup_handles.specs.Handles.{HandleValue, handles_of}
 use Rattle.gup_handles.specs.Handles as kept
 use Rattle.gup_spec_events.specs.Event.{bias, taken_frames as frames_taken}
-use Rattle.gup_spec_events.specs.State.{CoreState, Taken, Job, idle, marking, moving, forking, walking, between, counted, lowered, cleared, copying, failing}
+use Rattle.gup_spec_events.specs.State.{CoreState, Taken, Job, idle, forking, between, counted, copying}
 use Rattle.gup_law_base.specs.Sound.{IsSound, keeps_table, keeps_structure}
 use Rattle.gup_spec_turns.specs.Run.{RunState, run_start, run_after, turned}
 use Rattle.gup_spec_turns.specs.ForkTurns.{first_behind}
-use Rattle.gup_spec_turns.specs.ForkPlace.{ForkPlace, fork_place, place_in, IsNoFork, StandsFork, IsForking, HasCounted, IsPrepared}
+use Rattle.gup_spec_turns.specs.JobPlace.{JobPlace, job_place, place_in, IsNoFork, StandsFork, IsForking, HasCounted, IsPrepared}
 use Rattle.gup_law_turns.specs.Standing.{IsStanding, StandsHandle, given_back, back_in}
 use Rattle.gup_op_base.specs.Far.{HasFar}
 use Rattle.gup_op_fork.specs.Forked.{IsCountedIn, IsCopyOf, IsReadyAt}
@@ -105,7 +106,7 @@ pub ready_at : (s : CoreState) (F : FramesValue) (P C : SpaceValue) (a p child :
     → StandsFork s a p child (s.job a) (s.prepared a) → ((f : ℕ) → s.prepared a ≡ Some f → IsPrepared s f) → IsReadyAt F a (place_in s a) P C
 ready_at s F P C a p child frames parent kid stands prepares = go (s.job a) (s.prepared a) stands prepares
   where
-    go : (job : Job) (prepared : Option ℕ) → StandsFork s a p child job prepared → ((f : ℕ) → prepared ≡ Some f → IsPrepared s f) → IsReadyAt F a (fork_place job prepared) P C
+    go : (job : Job) (prepared : Option ℕ) → StandsFork s a p child job prepared → ((f : ℕ) → prepared ≡ Some f → IsPrepared s f) → IsReadyAt F a (job_place job prepared) P C
     go idle prepared h kept_so = tt
     go (forking q c done between) prepared h kept_so = sym parent.structure ∙ h.locked
     go (forking q c done (counted page)) prepared h kept_so =
@@ -114,29 +115,17 @@ ready_at s F P C a p child frames parent kid stands prepares = go (s.job a) (s.p
         (sym parent.structure ∙ h.0.locked, counted_in s P C a p child q c done page parent kid h.0 h.1)
     go (forking q c done (copying page word)) (Some to) h kept_so =
         (sym parent.structure ∙ h.0.locked, counted_in s P C a p child q c done page parent kid h.0 h.1, copy_of s F P p page to frames parent (kept_so to refl), h.2)
-    go (forking q c done (lowered page)) prepared h kept_so = absurd h
-    go (forking q c done (cleared page)) prepared h kept_so = absurd h
-    go (forking q c done failing) prepared h kept_so = absurd h
-    go (marking q page f) prepared h kept_so = absurd h
-    go (moving q page e allowed count) prepared h kept_so = absurd h
-    go (walking q write long sequence step) prepared h kept_so = absurd h
+    go (forking q c done step) prepared h kept_so = absurd h
+    go job prepared h kept_so = absurd h
 
 -- ---- actors
 
 far_fits : (script : ScriptValue) (r : RunState) (a : ℕ) (seat : Seat) (op : Op) → IsStanding script r → IsSeat (Some op) (r.places a) seat → present_op script a (r.places a) ≡ Some op → HasFar op seat.far
 far_fits script r a seat (Unmap page n) h at is = subst (λ (k : ℕ). k < n) (sym at.1) (h.unmaps a page n is)
 far_fits script r a seat (Discard page n) h at is = subst (λ (k : ℕ). k < n) (sym at.1) (h.discards a page n is)
-far_fits script r a seat (Map page n rights) h at is = tt
-far_fits script r a seat (Protect page n rights) h at is = tt
-far_fits script r a seat (Load page word) h at is = tt
-far_fits script r a seat (Store page word value) h at is = tt
 far_fits script r a seat (Pin handle page n want fast) h at is = subst (λ (k : ℕ). k < n) (sym at.1) (h.pins a handle page n want fast is).within
-far_fits script r a seat (Unpin handle) h at is = tt
-far_fits script r a seat (Give handle to) h at is = tt
-far_fits script r a seat (Take handle) h at is = tt
-far_fits script r a seat (Transfer handle outward index slot n) h at is = subst (λ (k : ℕ). k < n) (sym at.1) (h.transfers a handle outward index slot n is)
-far_fits script r a seat (Fork child) h at is = tt
-far_fits script r a seat Exit h at is = tt
+far_fits script r a seat (Transfer handle outward slot parts) h at is = subst (λ (k : ℕ). k < words_of parts) (sym at.1) (h.transfers a handle outward slot parts is)
+far_fits script r a seat op h at is = tt
 
 -- the operation of an actor's seat is that of its place
 pub op_there : (m : MachineValue) (r : RunState) (a : ℕ) (seat : Seat) (op : Option Op) → Shows m r → slice_get m.seats a ≡ Some seat → op_of_seat m a seat ≡ op → present_op m.script a (r.places a) ≡ op
@@ -175,12 +164,10 @@ length_frames (t ∷ taken) = ap (λ n. suc n) (length_frames taken)
 
 -- a pin whose words its holder moves has all its pages
 whole_by : (back : ℕ → ℕ) (a : ℕ) (pinned : List ℕ) (handle : Handle) → StandsHandle back pinned handle → back a ≡ 0 → is_held_by handle a ≡ true → length pinned ≡ length (objects_of handle)
-whole_by back a pinned unmade stands none holds = absurd (cc holds)
-whole_by back a pinned gone stands none holds = absurd (cc holds)
-whole_by back a pinned (given to objects write) stands none holds = absurd (cc holds)
 whole_by back a pinned (held by objects write) stands none holds =
     let zero_back : back by ≡ 0 = ap back (eqb-true by a holds) ∙ none in
     omega (arith, stands.2, zero_back)
+whole_by back a pinned handle stands none holds = absurd (cc holds)
 
 -- ---- before a turn
 
@@ -193,7 +180,7 @@ stands_at script r a op h is =
       fork = λ child same. h.forks a child (is ∙ ap (λ (x : Op). Some x) same);
       pin = λ handle page n want fast same. h.pins a handle page n want fast (is ∙ ap (λ (x : Op). Some x) same);
       pinned = λ handle page n want fast same some. h.flagged a handle page n want fast (is ∙ ap (λ (x : Op). Some x) same) some;
-      whole = λ handle index slot n outward same holds.
+      whole = λ handle slot outward parts same holds.
           whole_by (back_in script r handle) a (r.core.pinned handle) (r.core.handle handle) (h.handles handle)
           (ap (λ (o : Option Op). given_back o handle (r.places a).far) (is ∙ ap (λ (x : Op). Some x) same)) holds;
     }
@@ -214,7 +201,7 @@ at_rest m valid is there stand =
       unlocked = λ p a space seat here sits single.
           idle_unlocked r.core (space_of space) p a h.sound (h.idle_jobs a (subst IsNoFork (sym (op_there m r a seat (op_of_seat m a seat) shown sits refl)) single)) (parts.spaces p space here);
       forks = λ a child seat parent kid sits op parent_is kid_is.
-          subst (λ (k : ForkPlace). IsReadyAt (frames_of m.parts.frames) a k (space_of parent) (space_of kid)) (sym (shown.forks a seat sits))
+          subst (λ (k : JobPlace). IsReadyAt (frames_of m.parts.frames) a k (space_of parent) (space_of kid)) (sym (shown.jobs a seat sits))
           (ready_at r.core (frames_of m.parts.frames) (space_of parent) (space_of kid) a (process_of m.script a) child parts.frames
           (parts.spaces (process_of m.script a) parent parent_is) (parts.spaces child kid kid_is)
           (h.forks a child (op_there m r a seat (Some (Fork child)) shown sits op)) (h.prepared a));

@@ -4,8 +4,7 @@ use Rattle.std.proofs.lemmas.List.Sums.{sum_by-cons}
 use Rattle.gup_script.specs.declared.op.Kind.{Kind}
 use Rattle.gup_script.specs.declared.op.Kind.TheVariants.{Thread, Device, Mover}
 use Rattle.gup_script.specs.declared.op.Op.{Op}
-use Rattle.gup_script.specs.declared.op.Op.TheVariants.{Map, Unmap, Protect, Discard, Load, Store, Pin, Unpin, Give, Take, Transfer, Fork, Exit}
-use Rattle.gup_script.specs.Limits.{most_pinned, most_words}
+use Rattle.gup_script.specs.declared.op.Op.TheVariants.{Unmap}
 use Rattle.gup_script.specs.Script.{ScriptValue, Actor, actor_at, is_thread}
 use Rattle.gup_script.specs.Valid.{IsScript, IsOp, IsOfDevice, KindFits}
 use Rattle.gup_spec_journal.specs.Place.{Doer, doer, thread_in, ops_in, ops_of, process_in, process_of, process_of_kind}
@@ -17,19 +16,7 @@ use Rattle.gup_core.specs.Seats.{far_behind}
 -- an actor with an operation of a process is a thread of a declared one
 
 no_device : (op : Op) → HasProcess op → IsOfDevice op → ⊥
-no_device (Map page n rights) has of_device = of_device
-no_device (Unmap page n) has of_device = of_device
-no_device (Protect page n rights) has of_device = of_device
-no_device (Discard page n) has of_device = of_device
-no_device (Load page word) has of_device = of_device
-no_device (Store page word value) has of_device = of_device
-no_device (Pin handle page n want fast) has of_device = of_device
-no_device (Unpin handle) has of_device = has
-no_device (Give handle to) has of_device = has
-no_device (Take handle) has of_device = has
-no_device (Transfer handle outward index slot n) has of_device = has
-no_device (Fork child) has of_device = of_device
-no_device Exit has of_device = of_device
+no_device op has of_device = grind arith
 
 pub thread_there : (script : ScriptValue) → IsScript script → (a k : ℕ) (op : Op) → slice_get (ops_of script a) k ≡ Some op → HasProcess op → (doer script a).thread ≡ true
 thread_there script valid a k op is has = is_of_thread script valid a k op is (no_device op has)
@@ -84,19 +71,8 @@ few_ops script valid a = go (actor_at script a) refl
 
 -- an operation that goes over pages or words goes over 1,024 at most
 pub far_below : (op : Op) (far : ℕ) → IsOp op → HasFar op far → far_behind op far ≤ 1024
-far_below (Unmap page n) far is has = let few : n ≤ 1024 = is.1 in omega arith
-far_below (Discard page n) far is has = let few : n ≤ 1024 = is.1 in omega arith
-far_below (Map page n rights) far is has = omega arith
-far_below (Protect page n rights) far is has = omega arith
-far_below (Load page word) far is has = omega arith
-far_below (Store page word value) far is has = omega arith
-far_below (Pin handle page n want fast) far is has = let few : n ≤ most_pinned = is.1 in omega arith
-far_below (Unpin handle) far is has = omega arith
-far_below (Give handle to) far is has = omega arith
-far_below (Take handle) far is has = omega arith
-far_below (Transfer handle outward index slot n) far is has = let few : n ≤ most_words = is.1 in omega arith
-far_below (Fork child) far is has = omega arith
-far_below Exit far is has = omega arith
+far_below (Unmap page n) far is has = omega arith
+far_below op far is has = omega arith
 
 -- so the number of an operation fits
 pub few_answered : (script : ScriptValue) → IsScript script → (a answered : ℕ) → answered ≤ length (ops_of script a) → answered ≤ 16384

@@ -3,8 +3,8 @@ use Rattle.std.proofs.Common.{◌≡◌, ℕ, List, [], replicate, slice_get, So
 use Rattle.gup_script.specs.Script.{ScriptValue}
 use Rattle.gup_spec_journal.specs.Place.{present_op, first_place}
 use Rattle.gup_spec_turns.specs.Run.{run_start}
-use Rattle.gup_op_fork.specs.declared.forks.ForkPlace.TheVariants.{Unbegun}
-use Rattle.gup_op_fork.specs.Forked.{place_of}
+use Rattle.gup_op_base.specs.declared.jobs.JobPlace.TheVariants.{Unbegun}
+use Rattle.gup_op_base.specs.Jobs.{place_of}
 use Rattle.gup_core.specs.declared.seats.Seat.{Seat}
 use Rattle.gup_op_waits.specs.declared.parts.Parts.{Parts}
 use Rattle.gup_core.specs.Machine.{machine_of, Shows}
@@ -13,7 +13,7 @@ use Rattle.gup_core.specs.Seats.{IsSeat, first_seats}
 use Rattle.gup_core.proofs.Taking.{first_far}
 
 abbrev pub no_turn : Seat
-no_turn = record { answered = 0; far = 0; fork = Unbegun }
+no_turn = record { answered = 0; far = 0; job = Unbegun }
 
 same_seat : (n : ℕ) (seat : Seat) (a : ℕ) (found : Seat) → slice_get (replicate n seat) a ≡ Some found → found ≡ seat
 same_seat zero seat a found is = absurd (cc)
@@ -32,6 +32,6 @@ shows_start script parts seats n shown first =
       reached = ([], refl);
       parts = shown;
       seats = λ a seat here. first_seat script a seat (one_of_first n seats a seat first here);
-      forks = λ a seat here. ap (λ (s : Seat). place_of s.fork) (one_of_first n seats a seat first here);
+      jobs = λ a seat here. ap (λ (s : Seat). place_of s.job) (one_of_first n seats a seat first here);
       turns = refl;
     }

@@ -8,7 +8,7 @@ use Rattle.gup_plain.specs.declared.note.Waiting.{Waiting}
 use Rattle.gup_plain.specs.declared.note.What.{What}
 use Rattle.gup_plain.specs.declared.note.What.TheVariants.{Idle, Wait}
 use Rattle.gup_script.specs.declared.op.Op.{Op}
-use Rattle.gup_script.specs.declared.op.Op.TheVariants.{Map, Unmap, Protect, Discard, Load, Store, Pin, Unpin, Give, Take, Transfer, Fork, Exit}
+use Rattle.gup_script.specs.declared.op.Op.TheVariants.{Unmap}
 use Rattle.gup_script.specs.Script.{ScriptValue}
 use Rattle.gup_spec_journal.specs.Place.{Place, Doer, doer, place_behind, process_of, present_op, birth_for}
 use Rattle.gup_spec_journal.specs.Follows.{notes_of_turn}
@@ -20,11 +20,11 @@ use Rattle.gup_spec_turns.specs.Turn.{turn_of}
 use Rattle.gup_spec_turns.specs.Waits.{waiting_for}
 use Rattle.gup_spec_turns.specs.Run.{RunState, op_in, waiting_with, waiting_in, core_turn_by, core_turn_in, run_after, written_in}
 use Rattle.gup_law_turns.specs.Standing.{IsStanding}
-use Rattle.gup_spec_turns.specs.ForkPlace.{place_in}
-use Rattle.gup_op_fork.specs.declared.forks.ForkPlace.{ForkPlace}
+use Rattle.gup_spec_turns.specs.JobPlace.{place_in}
+use Rattle.gup_op_base.specs.declared.jobs.JobPlace.{JobPlace}
 use Rattle.gup_op_base.specs.declared.said.Said.{Said}
 use Rattle.gup_op_base.specs.Far.{far_in}
-use Rattle.gup_op_fork.specs.Forked.{place_of}
+use Rattle.gup_op_base.specs.Jobs.{place_of}
 use Rattle.gup_op_base.specs.Said.{whats_by, whats_of}
 use Rattle.gup_op_base.specs.Turns.{Leads}
 use Rattle.gup_op_waits.specs.declared.parts.Parts.{Parts}
@@ -48,9 +48,9 @@ counted_next m t is = grind (arith, nat_tests)
 shows_behind : (m : MachineValue) (parts : Parts) (seats : List Seat) (turns : ℕ) (r : RunState) (a : ℕ) (t : CoreTurn)
     → core_turn_in m.script r a ≡ t → Shows m r → turns ≡ counted m.turns → ShowsParts parts (run r.core t.events)
     → ((b : ℕ) (seat : Seat) → slice_get seats b ≡ Some seat → IsSeat (present_op m.script b (places_behind r.places (record { actor = a; whats = t.whats }) b)) (places_behind r.places (record { actor = a; whats = t.whats }) b) seat)
-    → ((b : ℕ) (seat : Seat) → slice_get seats b ≡ Some seat → place_of seat.fork ≡ place_in (run r.core t.events) b)
+    → ((b : ℕ) (seat : Seat) → slice_get seats b ≡ Some seat → place_of seat.job ≡ place_in (run r.core t.events) b)
     → Shows (machine_of m.script parts seats turns) (run_after m.script r a)
-shows_behind m parts seats turns r a t is h count shown places forks =
+shows_behind m parts seats turns r a t is h count shown places jobs =
     let behind : CoreTurn → RunState =
     λ u. record {
       core = run r.core u.events;
@@ -63,7 +63,7 @@ shows_behind m parts seats turns r a t is h count shown places forks =
       parts = subst (λ (u : CoreTurn). ShowsParts parts (behind u).core) (sym is) shown;
       seats =
           subst (λ (u : CoreTurn). (b : ℕ) (seat : Seat) → slice_get seats b ≡ Some seat → IsSeat (present_op m.script b ((behind u).places b)) ((behind u).places b) seat) (sym is) places;
-      forks = subst (λ (u : CoreTurn). (b : ℕ) (seat : Seat) → slice_get seats b ≡ Some seat → place_of seat.fork ≡ place_in (behind u).core b) (sym is) forks;
+      jobs = subst (λ (u : CoreTurn). (b : ℕ) (seat : Seat) → slice_get seats b ≡ Some seat → place_of seat.job ≡ place_in (behind u).core b) (sym is) jobs;
       turns = count ∙ counted_next m.turns r.turns h.turns;
     }
 
@@ -90,12 +90,12 @@ seats_behind script places seats others a turn seat actor old same here new b s 
 
 -- its fork stands where the seat says, and those of others where they stood
 forks_behind : (s t : CoreState) (seats others : List Seat) (a : ℕ) (seat : Seat)
-    → ((b : ℕ) (x : Seat) → slice_get seats b ≡ Some x → place_of x.fork ≡ place_in s b)
+    → ((b : ℕ) (x : Seat) → slice_get seats b ≡ Some x → place_of x.job ≡ place_in s b)
     → ((b : ℕ) → (b ≡ a → ⊥) → slice_get others b ≡ slice_get seats b) → slice_get others a ≡ Some seat
-    → place_of seat.fork ≡ place_in t a → ((b : ℕ) → (b ≡ a → ⊥) → place_in t b ≡ place_in s b)
-    → (b : ℕ) (x : Seat) → slice_get others b ≡ Some x → place_of x.fork ≡ place_in t b
+    → place_of seat.job ≡ place_in t a → ((b : ℕ) → (b ≡ a → ⊥) → place_in t b ≡ place_in s b)
+    → (b : ℕ) (x : Seat) → slice_get others b ≡ Some x → place_of x.job ≡ place_in t b
 forks_behind s t seats others a seat old same here new stay =
-    replaced (λ b (x : Seat). place_of x.fork ≡ place_in t b) seats others a seat here same new
+    replaced (λ b (x : Seat). place_of x.job ≡ place_in t b) seats others a seat here same new
     (λ b x apart found. old b x found ∙ sym (stay b apart))
 
 -- the same notes
@@ -117,7 +117,7 @@ stays m r a seat turns what h here count is same =
     shows_behind m m.parts m.seats turns r a (record { events = []; whats = what ∷ [] }) is h count h.parts
     (seats_behind m.script r.places m.seats m.seats a (record { actor = a; whats = what ∷ [] }) seat refl h.seats (λ b apart. refl) here
     (subst (λ (x : Place). IsSeat (present_op m.script a x) x seat) (sym same) (h.seats a seat here)))
-    h.forks
+    h.jobs
 
 says_so : (m : MachineValue) (r : RunState) (a : ℕ) (seat : Seat) (turns : ℕ) (t : CoreTurn) (whats : List What) → Shows m r → slice_get m.seats a ≡ Some seat → turns ≡ counted m.turns → core_turn_in m.script r a ≡ t → t.whats ≡ whats
     → notes_of_turn turns a (seat.answered + 1) whats ≡ notes_of_turn (counted m.turns) a ((r.places a).answered + 1) (core_turn_in m.script r a).whats
@@ -141,7 +141,7 @@ idles m a seat turns here none count r h =
 abbrev pub IsWaiting : MachineValue → (a : ℕ) → (proc : Option ℕ) → Seat → Op → Option Waiting → Type 0
 IsWaiting m a proc seat op waiting =
     (s : CoreState) (who : Doer) (far : ℕ) → ShowsParts m.parts s → who.actor ≡ a → IsProcessOf who proc
-    → place_of seat.fork ≡ place_in s a → StandsAt s a who.proc far op → waiting ≡ waiting_for s who op
+    → place_of seat.job ≡ place_in s a → StandsAt s a who.proc far op → waiting ≡ waiting_for s who op
 
 -- it is what the core run says
 pub waiting_is : (m : MachineValue) (a : ℕ) (proc : Option ℕ) (seat : Seat) (op : Op) (waiting : Option Waiting) → Stand → IsAtRest m → IsProcessOf (doer m.script a) proc → slice_get m.seats a ≡ Some seat → op_of_seat m a seat ≡ Some op → IsWaiting m a proc seat op waiting
@@ -149,7 +149,7 @@ pub waiting_is : (m : MachineValue) (a : ℕ) (proc : Option ℕ) (seat : Seat) 
 waiting_is m a proc seat op waiting stand rest of_a here present is r h =
     let now : present_op m.script a (r.places a) ≡ Some op = op_there m r a seat (Some op) h here present in
     let at : StandsAt r.core a (process_of m.script a) (r.places a).far op = stands_at m.script r a op (standing m r stand rest.valid h) now in
-    is r.core (doer m.script a) (r.places a).far h.parts refl of_a (h.forks a seat here) at
+    is r.core (doer m.script a) (r.places a).far h.parts refl of_a (h.jobs a seat here) at
     ∙ ap (λ o. waiting_with r.core (doer m.script a) o) (sym now)
 
 pub waits : (m : MachineValue) (a : ℕ) (seat : Seat) (op : Op) (turns : ℕ) (waiting : Waiting) → slice_get m.seats a ≡ Some seat → op_of_seat m a seat ≡ Some op → turns ≡ counted m.turns
@@ -168,58 +168,35 @@ waits m a seat op turns waiting here present count waiting_so r h =
 
 -- nothing is counted before an operation's first turn
 pub first_far : (op : Option Op) → 0 ≡ far_in op 0
-first_far None = refl
 first_far (Some (Unmap page n)) = refl
-first_far (Some (Discard page n)) = refl
-first_far (Some (Map page n rights)) = refl
-first_far (Some (Protect page n rights)) = refl
-first_far (Some (Load page word)) = refl
-first_far (Some (Store page word value)) = refl
-first_far (Some (Pin handle page n want fast)) = refl
-first_far (Some (Unpin handle)) = refl
-first_far (Some (Give handle to)) = refl
-first_far (Some (Take handle)) = refl
-first_far (Some (Transfer handle outward index slot n)) = refl
-first_far (Some (Fork child)) = refl
-first_far (Some Exit) = refl
+first_far op = refl
 
 far_next : (op : Op) (far at : ℕ) → at ≡ far_in (Some op) far → far_behind op at ≡ far_in (Some op) (far + 1)
 far_next (Unmap page n) far at is = ap (λ k. k + 1) is
-far_next (Discard page n) far at is = ap (λ k. k + 1) is
-far_next (Map page n rights) far at is = refl
-far_next (Protect page n rights) far at is = refl
-far_next (Load page word) far at is = refl
-far_next (Store page word value) far at is = refl
-far_next (Pin handle page n want fast) far at is = ap (λ k. k + 1) is
-far_next (Unpin handle) far at is = refl
-far_next (Give handle to) far at is = refl
-far_next (Take handle) far at is = refl
-far_next (Transfer handle outward index slot n) far at is = ap (λ k. k + 1) is
-far_next (Fork child) far at is = refl
-far_next Exit far at is = refl
+far_next op far at is = omega arith
 
 -- after a turn of its operation the actor's seat is at its place
-seat_next : (script : ScriptValue) (a : ℕ) (place : Place) (seat : Seat) (op : Op) (fork : ForkPlace) (event next : Option PlainEvent) (answer : Option Answer)
+seat_next : (script : ScriptValue) (a : ℕ) (place : Place) (seat : Seat) (op : Op) (job : JobPlace) (event next : Option PlainEvent) (answer : Option Answer)
     → present_op script a place ≡ Some op → IsSeat (Some op) place seat → NoTwo (whats_by event next answer)
-    → IsSeat (present_op script a (place_behind place (whats_by event next answer))) (place_behind place (whats_by event next answer)) (seat_behind seat op (is_some answer) fork)
-seat_next script a place seat op fork None None None is at two =
-    subst (λ (o : Option Op). IsSeat o (place_behind place (whats_by None None None)) (seat_behind seat op false fork)) (sym is) (at.0, far_next op place.far seat.far at.1)
-seat_next script a place seat op fork (Some event) None None is at two =
-    subst (λ (o : Option Op). IsSeat o (place_behind place (whats_by (Some event) None None)) (seat_behind seat op false fork)) (sym is) (at.0, far_next op place.far seat.far at.1)
-seat_next script a place seat op fork None (Some next) None is at two =
-    subst (λ (o : Option Op). IsSeat o (place_behind place (whats_by None (Some next) None)) (seat_behind seat op false fork)) (sym is) (at.0, far_next op place.far seat.far at.1)
-seat_next script a place seat op fork (Some event) (Some next) None is at two = absurd two
-seat_next script a place seat op fork None None (Some answer) is at two = (ap (λ k. k + 1) at.0, first_far (present_op script a (place_behind place (whats_by None None (Some answer)))))
-seat_next script a place seat op fork (Some event) None (Some answer) is at two =
+    → IsSeat (present_op script a (place_behind place (whats_by event next answer))) (place_behind place (whats_by event next answer)) (seat_behind seat op (is_some answer) job)
+seat_next script a place seat op job None None None is at two =
+    subst (λ (o : Option Op). IsSeat o (place_behind place (whats_by None None None)) (seat_behind seat op false job)) (sym is) (at.0, far_next op place.far seat.far at.1)
+seat_next script a place seat op job (Some event) None None is at two =
+    subst (λ (o : Option Op). IsSeat o (place_behind place (whats_by (Some event) None None)) (seat_behind seat op false job)) (sym is) (at.0, far_next op place.far seat.far at.1)
+seat_next script a place seat op job None (Some next) None is at two =
+    subst (λ (o : Option Op). IsSeat o (place_behind place (whats_by None (Some next) None)) (seat_behind seat op false job)) (sym is) (at.0, far_next op place.far seat.far at.1)
+seat_next script a place seat op job (Some event) (Some next) None is at two = absurd two
+seat_next script a place seat op job None None (Some answer) is at two = (ap (λ k. k + 1) at.0, first_far (present_op script a (place_behind place (whats_by None None (Some answer)))))
+seat_next script a place seat op job (Some event) None (Some answer) is at two =
     (ap (λ k. k + 1) at.0, first_far (present_op script a (place_behind place (whats_by (Some event) None (Some answer)))))
-seat_next script a place seat op fork None (Some next) (Some answer) is at two =
+seat_next script a place seat op job None (Some next) (Some answer) is at two =
     (ap (λ k. k + 1) at.0, first_far (present_op script a (place_behind place (whats_by None (Some next) (Some answer)))))
-seat_next script a place seat op fork (Some event) (Some next) (Some answer) is at two =
+seat_next script a place seat op job (Some event) (Some next) (Some answer) is at two =
     (ap (λ k. k + 1) at.0, first_far (present_op script a (place_behind place (whats_by (Some event) (Some next) (Some answer)))))
 
-fork_of_seat : (seat : Seat) (op : Op) (answered : Bool) (fork : ForkPlace) → (seat_behind seat op answered fork).fork ≡ fork
-fork_of_seat seat op true fork = refl
-fork_of_seat seat op false fork = refl
+job_of_seat : (seat : Seat) (op : Op) (answered : Bool) (job : JobPlace) → (seat_behind seat op answered job).job ≡ job
+job_of_seat seat op true job = refl
+job_of_seat seat op false job = refl
 
 -- the turn is that of the operation, or its refusal
 taken_is : (m : MachineValue) (r : RunState) (a : ℕ) (op : Op) → op_in m.script r a ≡ Some op → waiting_in m.script r a ≡ None → core_turn_in m.script r a ≡ turn_of r.core (doer m.script a) (r.places a).far op
@@ -227,13 +204,13 @@ taken_is m r a op is none =
     ap (λ o. core_turn_by r.core (doer m.script a) (r.places a).far o (waiting_in m.script r a)) is
     ∙ ap (λ w. core_turn_by r.core (doer m.script a) (r.places a).far (Some op) w) none
 
-pub goes : (m : MachineValue) (a : ℕ) (proc : Option ℕ) (seat next : Seat) (op : Op) (parts : Parts) (seats : List Seat) (turns : ℕ) (said : Said) (fork : ForkPlace)
+pub goes : (m : MachineValue) (a : ℕ) (proc : Option ℕ) (seat next : Seat) (op : Op) (parts : Parts) (seats : List Seat) (turns : ℕ) (said : Said) (job : JobPlace)
     → Stand → IsAtRest m → IsProcessOf (doer m.script a) proc → slice_get m.seats a ≡ Some seat → op_of_seat m a seat ≡ Some op → turns ≡ counted m.turns
     → ((r : RunState) → Shows m r → None ≡ waiting_in m.script r a)
-    → next ≡ seat_behind seat op (is_some said.answer) fork → slice_get seats a ≡ Some next → ((b : ℕ) → (b ≡ a → ⊥) → slice_get seats b ≡ slice_get m.seats b)
-    → IsTurnBy m.parts parts a proc seat.far op seat.fork (whats_of said) fork
+    → next ≡ seat_behind seat op (is_some said.answer) job → slice_get seats a ≡ Some next → ((b : ℕ) → (b ≡ a → ⊥) → slice_get seats b ≡ slice_get m.seats b)
+    → IsTurnBy m.parts parts a proc seat.far op seat.job (whats_of said) job
     → TakesTurns m (machine_of m.script parts seats turns) a (notes_of_turn turns a (seat.answered + 1) (whats_of said))
-goes m a proc seat next op parts seats turns said fork stand rest of_a here present count ready next_is seated unseated turn r h =
+goes m a proc seat next op parts seats turns said job stand rest of_a here present count ready next_is seated unseated turn r h =
     let far : ℕ = (r.places a).far in
     let who : Doer = doer m.script a in
     let stands : IsStanding m.script r = standing m r stand rest.valid h in
@@ -243,18 +220,18 @@ goes m a proc seat next op parts seats turns said fork stand rest of_a here pres
     let t : CoreTurn = turn_of r.core who far op in
     let is : core_turn_in m.script r a ≡ t = taken_is m r a op op_is (sym (ready r h)) in
     let forks = place_in r.core in
-    let led : Leads (ShowsAll a) (all_view parts fork forks) r.core t (whats_of said) =
-    turn who far forks refl of_a (rest.parts.slots a) at.1 r.core (record { parts = h.parts; fork = h.forks a seat here; others = λ b apart. refl })
+    let led : Leads (ShowsAll a) (all_view parts job forks) r.core t (whats_of said) =
+    turn who far forks refl of_a (rest.parts.slots a) at.1 r.core (record { parts = h.parts; job = h.jobs a seat here; others = λ b apart. refl })
     (record { sound = stands.sound; at = stands_at m.script r a op stands op_is; free = free }) in
-    let seated_so : slice_get seats a ≡ Some (seat_behind seat op (is_some said.answer) fork) = seated ∙ ap (λ (s : Seat). Some s) next_is in
+    let seated_so : slice_get seats a ≡ Some (seat_behind seat op (is_some said.answer) job) = seated ∙ ap (λ (s : Seat). Some s) next_is in
     let two : NoTwo (whats_of said) = subst (λ (ws : List What). NoTwo ws) led.says (turn_two (birth_for r.core.birth who) r.core a who.proc who.slots far op) in
     record {
       said = says_so m r a seat turns t (whats_of said) h here count is led.says;
       shown =
           shows_behind m parts seats turns r a t is h count led.shown.parts
-          (seats_behind m.script r.places m.seats seats a (record { actor = a; whats = t.whats }) (seat_behind seat op (is_some said.answer) fork) refl h.seats unseated seated_so
-          (subst (λ (ws : List What). IsSeat (present_op m.script a (place_behind (r.places a) ws)) (place_behind (r.places a) ws) (seat_behind seat op (is_some said.answer) fork)) (sym led.says)
-          (seat_next m.script a (r.places a) seat op fork said.event said.next said.answer op_is at two)))
-          (forks_behind r.core (run r.core t.events) m.seats seats a (seat_behind seat op (is_some said.answer) fork) h.forks unseated seated_so
-          (ap place_of (fork_of_seat seat op (is_some said.answer) fork) ∙ led.shown.fork) led.shown.others);
+          (seats_behind m.script r.places m.seats seats a (record { actor = a; whats = t.whats }) (seat_behind seat op (is_some said.answer) job) refl h.seats unseated seated_so
+          (subst (λ (ws : List What). IsSeat (present_op m.script a (place_behind (r.places a) ws)) (place_behind (r.places a) ws) (seat_behind seat op (is_some said.answer) job)) (sym led.says)
+          (seat_next m.script a (r.places a) seat op job said.event said.next said.answer op_is at two)))
+          (forks_behind r.core (run r.core t.events) m.seats seats a (seat_behind seat op (is_some said.answer) job) h.jobs unseated seated_so
+          (ap place_of (job_of_seat seat op (is_some said.answer) job) ∙ led.shown.job) led.shown.others);
     }

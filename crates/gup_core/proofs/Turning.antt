@@ -25,12 +25,13 @@ use Rattle.gup_spec_turns.specs.CoreTurn.{CoreTurn}
 use Rattle.gup_spec_turns.specs.Turn.{op_turn, turn_of}
 use Rattle.gup_spec_turns.specs.ForkTurns.{fork_turn}
 use Rattle.gup_spec_turns.specs.PinTurns.{pin_turn}
-use Rattle.gup_spec_turns.specs.ForkPlace.{ForkPlace as Place, IsNoFork, fork_place}
-use Rattle.gup_op_fork.specs.declared.forks.ForkPlace.{ForkPlace}
+use Rattle.gup_spec_turns.specs.JobPlace.{JobPlace as Place, IsNoFork, job_place}
+use Rattle.gup_op_base.specs.declared.jobs.JobPlace.{JobPlace}
 use Rattle.gup_op_base.specs.declared.said.Said.{Said}
 use Rattle.gup_op_pages.specs.Alone.{IsAlone, ShowsAlone, alone_view}
 use Rattle.gup_op_base.specs.Far.{far_in}
-use Rattle.gup_op_fork.specs.Forked.{place_of, birth_behind, ShowsForking, StandsAsFork, forking_view}
+use Rattle.gup_op_base.specs.Jobs.{place_of}
+use Rattle.gup_op_fork.specs.Forked.{birth_behind, ShowsForking, StandsAsFork, forking_view}
 use Rattle.gup_op_pins.specs.Pins.{IsPin, ShowsPins, ShowsPinning, StandsAtPage, pinning_view}
 use Rattle.gup_op_pins.specs.Held.{ShowsStore, ShowsHeld, held_view}
 use Rattle.gup_op_base.specs.Said.{answer_what, event_what, whats_by, whats_of}
@@ -49,17 +50,17 @@ use Rattle.gup_core.proofs.Pinning.{ArePinning, pin_is_pinning, pinnings_of, pin
 
 -- ---- turns that are stated more than once
 
--- the operation's turn, from these parts and this place of its fork to those, wherever the forks of others stand
-abbrev pub IsTurnAmong : (old new : Parts) → (a p slots far : ℕ) → Op → (fork : ForkPlace) → List What → (next : ForkPlace) → Type 0
-IsTurnAmong old new a p slots far op fork whats next =
+-- the operation's turn, from these parts and this place of its job to those, wherever the jobs of others stand
+abbrev pub IsTurnAmong : (old new : Parts) → (a p slots far : ℕ) → Op → (place : JobPlace) → List What → (next : JobPlace) → Type 0
+IsTurnAmong old new a p slots far op place whats next =
     (k : ℕ) (others : ℕ → Place) → far ≡ far_in (Some op) k
-    → IsTurnOf (ShowsAll a) (λ s. StandsAt s a p k op) (all_view old fork others) (all_view new next others) (λ s. op_turn s a p slots k op) whats
+    → IsTurnOf (ShowsAll a) (λ s. StandsAt s a p k op) (all_view old place others) (all_view new next others) (λ s. op_turn s a p slots k op) whats
 
 -- the actor's turn: the operation's own, or, where its process has failed, its refusal
-abbrev pub IsTurnBy : (old new : Parts) → (a : ℕ) → (proc : Option ℕ) → (far : ℕ) → Op → (fork : ForkPlace) → List What → (next : ForkPlace) → Type 0
-IsTurnBy old new a proc far op fork whats next =
+abbrev pub IsTurnBy : (old new : Parts) → (a : ℕ) → (proc : Option ℕ) → (far : ℕ) → Op → (place : JobPlace) → List What → (next : JobPlace) → Type 0
+IsTurnBy old new a proc far op place whats next =
     (who : Doer) (k : ℕ) (others : ℕ → Place) → who.actor ≡ a → IsProcessOf who proc → HasSlots old a who.slots → far ≡ far_in (Some op) k
-    → IsTurnOf (ShowsAll a) (StandsFree a who k op) (all_view old fork others) (all_view new next others) (λ s. turn_of s who k op) whats
+    → IsTurnOf (ShowsAll a) (StandsFree a who k op) (all_view old place others) (all_view new next others) (λ s. turn_of s who k op) whats
 
 -- a turn of a pin, by what is kept of its process and of what it has taken
 abbrev pub IsPinTurn : (old new : Parts) → (x y : SpaceParts) → (was now : ArrayVec ℕ) → (a p handle page n : ℕ) → Want → (far : ℕ) → List What → Type 0
@@ -129,18 +130,18 @@ spaces_behind s p es before behind new own old shown now others =
 
 -- ---- a turn of one process
 
-pub alone : (old new : Parts) (a p slots far : ℕ) (op : Op) (fork : ForkPlace) (whats : List What)
+pub alone : (old new : Parts) (a p slots far : ℕ) (op : Op) (place : JobPlace) (whats : List What)
     → IsAlone op → IsNoFork (Some op) → p < length old.spaces.items → length new.spaces.items ≡ length old.spaces.items
     → new.births ≡ old.births → new.handles ≡ old.handles → new.taken ≡ old.taken → new.stores ≡ old.stores
     → ((q : ℕ) → (q ≡ p → ⊥) → slice_get new.spaces.items q ≡ slice_get old.spaces.items q)
     → ((was now : SpaceParts) (k : ℕ) → slice_get old.spaces.items p ≡ Some was → slice_get new.spaces.items p ≡ Some now → far ≡ far_in (Some op) k → IsTurnOf (ShowsAlone p) Anywhere (alone_view old.frames was) (alone_view new.frames now) (λ s. op_turn s a p slots k op) whats)
-    → IsTurnAmong old new a p slots far op fork whats fork
-alone old new a p slots far op fork whats by_itself single within many births handles taken stores others turn k rest far_is s shown stands =
+    → IsTurnAmong old new a p slots far op place whats place
+alone old new a p slots far op place whats by_itself single within many births handles taken stores others turn k rest far_is s shown stands =
     let was = there old.spaces.items p within in
     let now = there new.spaces.items p (omega (arith, within, many)) in
     let es : List CoreEvent = (op_turn s a p slots k op).events in
     let own : AreOwn a p es = turn_is_own s a p slots k op by_itself in
-    let none : IsUnforked (s.job a) = λ f. ap (λ job. fork_place job f) (stands.idle_job single) in
+    let none : IsUnforked (s.job a) = λ f. ap (λ job. job_place job f) (stands.idle_job single) in
     let stay : pins_of (run s es) ≡ pins_of s = own_leave_pins a p s es own in
     let led : Leads (ShowsAlone p) (alone_view new.frames now.0) s (op_turn s a p slots k op) whats =
     turn was.0 now.0 k was.1 now.1 far_is s (record { frames = shown.parts.frames; space = shown.parts.spaces p was.0 was.1 }) tt in
@@ -157,14 +158,14 @@ alone old new a p slots far op fork whats by_itself single within many births ha
       says = led.says;
       shown = record {
         parts = parts;
-        fork = shown.fork ∙ sym (forks_stay a p a s es own none);
+        job = shown.job ∙ sym (forks_stay a p a s es own none);
         others = λ b apart. forks_stay a p b s es own none ∙ shown.others b apart;
       };
     }
 
 -- ---- a turn of a pin
 
-pub pinned : (old new : Parts) (a p slots far handle page n : ℕ) (want : Want) (fast : Bool) (fork : ForkPlace) (whats : List What)
+pub pinned : (old new : Parts) (a p slots far handle page n : ℕ) (want : Want) (fast : Bool) (place : JobPlace) (whats : List What)
     → p < length old.spaces.items → length new.spaces.items ≡ length old.spaces.items
     → a < length old.taken.items → length new.taken.items ≡ length old.taken.items
     → new.births ≡ old.births → new.stores ≡ old.stores
@@ -172,15 +173,15 @@ pub pinned : (old new : Parts) (a p slots far handle page n : ℕ) (want : Want)
     → ((b : ℕ) → (b ≡ a → ⊥) → slice_get new.taken.items b ≡ slice_get old.taken.items b)
     → ((x y : SpaceParts) (was now : ArrayVec ℕ) → slice_get old.spaces.items p ≡ Some x → slice_get new.spaces.items p ≡ Some y → slice_get old.taken.items a ≡ Some was → slice_get new.taken.items a ≡ Some now
     → IsPinTurn old new x y was now a p handle page n want far whats)
-    → IsTurnAmong old new a p slots far (Pin handle page n want fast) fork whats fork
-pinned old new a p slots far handle page n want fast fork whats within many taker takers births stores others untaken turn k rest far_is s shown stands =
+    → IsTurnAmong old new a p slots far (Pin handle page n want fast) place whats place
+pinned old new a p slots far handle page n want fast place whats within many taker takers births stores others untaken turn k rest far_is s shown stands =
     let x = there old.spaces.items p within in
     let y = there new.spaces.items p (omega (arith, within, many)) in
     let was = there old.taken.items a taker in
     let now = there new.taken.items a (omega (arith, taker, takers)) in
     let es : List CoreEvent = (pin_turn s a p handle page n want).events in
     let own : ArePinning a p es = pin_is_pinning s a p handle page n want in
-    let none : IsUnforked (s.job a) = λ f. ap (λ job. fork_place job f) (stands.idle_job tt) in
+    let none : IsUnforked (s.job a) = λ f. ap (λ job. job_place job f) (stands.idle_job tt) in
     let turn_at : IsPinTurn old new x.0 y.0 was.0 now.0 a p handle page n want k whats =
     subst (λ (q : ℕ). IsPinTurn old new x.0 y.0 was.0 now.0 a p handle page n want q whats) far_is (turn x.0 y.0 was.0 now.0 x.1 y.1 was.1 now.1) in
     let led : Leads (ShowsPinning a p) (pinning_view new.frames y.0 new.handles now.0.items) s (pin_turn s a p handle page n want) whats =
@@ -201,7 +202,7 @@ pinned old new a p slots far handle page n want fast fork whats within many take
       says = led.says;
       shown = record {
         parts = parts;
-        fork = shown.fork ∙ sym (pinnings_forks a p a s es own none);
+        job = shown.job ∙ sym (pinnings_forks a p a s es own none);
         others = λ b apart. pinnings_forks a p b s es own none ∙ shown.others b apart;
       };
     }
@@ -214,12 +215,12 @@ pub record ShowsPart (parts : Parts) (s : CoreState) : Type 0 where
   pub pins : ShowsPins (handles_of parts.handles) s
   pub stores : ShowsStores parts.stores.items s
 
-pub handled : (old new : Parts) (a p slots far : ℕ) (op : Op) (fork : ForkPlace) (whats : List What)
+pub handled : (old new : Parts) (a p slots far : ℕ) (op : Op) (place : JobPlace) (whats : List What)
     → IsNoFork (Some op) → new.spaces ≡ old.spaces → new.births ≡ old.births → new.taken ≡ old.taken
     → ((s : CoreState) (k : ℕ) → AreHandling a (op_turn s a p slots k op).events)
     → ((s : CoreState) (k : ℕ) → ShowsParts old s → StandsAt s a p k op → far ≡ far_in (Some op) k → Leads ShowsPart new s (op_turn s a p slots k op) whats)
-    → IsTurnAmong old new a p slots far op fork whats fork
-handled old new a p slots far op fork whats single spaces births taken handling turn k rest far_is s shown stands =
+    → IsTurnAmong old new a p slots far op place whats place
+handled old new a p slots far op place whats single spaces births taken handling turn k rest far_is s shown stands =
     let es : List CoreEvent = (op_turn s a p slots k op).events in
     let own : AreHandling a es = handling s k in
     let stay : rest_of (run s es) ≡ rest_of s = handling_leave a s es own in
@@ -239,8 +240,8 @@ handled old new a p slots far op fork whats single spaces births taken handling 
       says = led.says;
       shown = record {
         parts = parts;
-        fork = shown.fork ∙ ap (λ (k : Rest). fork_place (k.2 a) (k.3 a)) (sym stay);
-        others = λ b apart. ap (λ (k : Rest). fork_place (k.2 b) (k.3 b)) stay ∙ shown.others b apart;
+        job = shown.job ∙ ap (λ (k : Rest). job_place (k.2 a) (k.3 a)) (sym stay);
+        others = λ b apart. ap (λ (k : Rest). job_place (k.2 b) (k.3 b)) stay ∙ shown.others b apart;
       };
     }
 
@@ -297,27 +298,9 @@ others_behind s a p c es before behind new_parent new_child own old parent paren
 
 -- the child's birth after it
 birth_of_event : (p : ℕ) (event : PlainEvent) (whats : List What) (b : CoreBirth) → b ≡ birth_behind p (Event event ∷ whats) → IsBirth (birth_said (Some event)) b
-birth_of_event p (events.Map actor proc page n rights) whats b is = (p, is)
-birth_of_event p (events.Unmap actor proc page) whats b is = (p, is)
-birth_of_event p (events.Discard actor proc page) whats b is = (p, is)
-birth_of_event p (events.Protect actor proc page n rights) whats b is = (p, is)
-birth_of_event p (events.Load actor proc page word value) whats b is = (p, is)
-birth_of_event p (events.Store actor proc page word value) whats b is = (p, is)
-birth_of_event p (events.PinTry actor proc page write) whats b is = (p, is)
-birth_of_event p (events.PinDrop actor page) whats b is = (p, is)
-birth_of_event p (events.PinOk actor handle) whats b is = (p, is)
-birth_of_event p (events.Unpin actor handle) whats b is = (p, is)
-birth_of_event p (events.Give actor handle to) whats b is = (p, is)
-birth_of_event p (events.Take actor handle) whats b is = (p, is)
-birth_of_event p (events.MoveOut actor handle index slot value) whats b is = (p, is)
-birth_of_event p (events.MoveIn actor handle index slot value) whats b is = (p, is)
-birth_of_event p (events.MirrorFill actor mirror proc page) whats b is = (p, is)
-birth_of_event p (events.Look actor mirror word value) whats b is = (p, is)
-birth_of_event p (events.ForkBegin parent child) whats b is = (p, is)
-birth_of_event p (events.ForkPage parent child page) whats b is = (p, is)
-birth_of_event p (events.ForkWord parent child page word) whats b is = (p, is)
 birth_of_event p (events.ForkEnd parent child) whats b is = is
 birth_of_event p (events.ForkFail child) whats b is = is
+birth_of_event p event whats b is = (p, is)
 
 birth_now : (p : ℕ) (event next : Option PlainEvent) (answer : Option Answer) (b : CoreBirth) → b ≡ birth_behind p (whats_by event next answer) → IsBirth (birth_said (option_or event next)) b
 birth_now p (Some event) next answer b is = birth_of_event p event (event_what next (answer_what answer)) b is
@@ -332,7 +315,7 @@ births_behind s a p c es before behind new own old now others shown =
     (λ q birth apart found. subst (λ (x : CoreBirth). IsBirth birth x) (sym (fork_births_stay a p c q s es (λ is. apart (sym is)) own)) (old q birth found))
 
 -- so it is from each two processes that stand in these places
-abbrev pub IsForkTurns : (old_frames new_frames : FrameLists) → (before behind : List SpaceParts) → (a p c : ℕ) → (place next : ForkPlace) → List What → Type 0
+abbrev pub IsForkTurns : (old_frames new_frames : FrameLists) → (before behind : List SpaceParts) → (a p c : ℕ) → (place next : JobPlace) → List What → Type 0
 IsForkTurns old_frames new_frames before behind a p c place next whats =
     (old_parent new_parent old_child new_child : SpaceParts)
     → slice_get before p ≡ Some old_parent → slice_get behind p ≡ Some new_parent → slice_get before c ≡ Some old_child → slice_get behind c ≡ Some new_child
@@ -340,7 +323,7 @@ IsForkTurns old_frames new_frames before behind a p c place next whats =
     (forking_view old_frames old_parent old_child (place_of place) birth) (forking_view new_frames new_parent new_child (place_of next) (birth_behind p whats))
     (λ s. fork_turn s a p c (s.job a)) whats
 
-pub forked : (old new : Parts) (a p c slots far : ℕ) (place next : ForkPlace) (said : Said)
+pub forked : (old new : Parts) (a p c slots far : ℕ) (place next : JobPlace) (said : Said)
     → (p ≡ c → ⊥) → p < length old.spaces.items → c < length old.spaces.items → length new.spaces.items ≡ length old.spaces.items
     → new.handles ≡ old.handles → new.taken ≡ old.taken → new.stores ≡ old.stores
     → ((q : ℕ) → (q ≡ p → ⊥) → (q ≡ c → ⊥) → slice_get new.spaces.items q ≡ slice_get old.spaces.items q)
@@ -357,7 +340,7 @@ forked old new a p c slots far place next said apart p_in c_in many handles take
     let stay : pins_of (run s t.events) ≡ pins_of s = fork_leave_pins a p c s t.events own in
     let led : Leads (ShowsForking a p c) (forking_view new.frames new_parent.0 new_child.0 (place_of next) (birth_behind p (whats_of said))) s t (whats_of said) =
     turn old_parent.0 new_parent.0 old_child.0 new_child.0 old_parent.1 new_parent.1 old_child.1 new_child.1 (s.birth c) s
-    (record { frames = shown.parts.frames; parent = shown.parts.spaces p old_parent.0 old_parent.1; child = shown.parts.spaces c old_child.0 old_child.1; place = sym shown.fork; birth = refl })
+    (record { frames = shown.parts.frames; parent = shown.parts.spaces p old_parent.0 old_parent.1; child = shown.parts.spaces c old_child.0 old_child.1; place = sym shown.job; birth = refl })
     (record { apart = apart; keeps = stands.keeps; at = stands.fork c refl }) in
     let parts : ShowsParts new (run s t.events) =
     record {
@@ -373,7 +356,7 @@ forked old new a p c slots far place next said apart p_in c_in many handles take
       says = led.says;
       shown = record {
         parts = parts;
-        fork = sym led.shown.place;
+        job = sym led.shown.place;
         others = λ b other. fork_places_stay a p c b s t.events (λ is. other (sym is)) own ∙ shown.others b other;
       };
     }

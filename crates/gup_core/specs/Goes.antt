@@ -12,10 +12,11 @@ use Rattle.gup_spec_events.specs.State.{CoreState}
 use Rattle.gup_law_base.specs.Sound.{IsSound}
 use Rattle.gup_spec_journal.specs.Place.{Doer}
 use Rattle.gup_spec_turns.specs.Waits.{waiting_for}
-use Rattle.gup_spec_turns.specs.ForkPlace.{ForkPlace as Place, place_in, IsNoFork}
-use Rattle.gup_op_fork.specs.declared.forks.ForkPlace.{ForkPlace}
+use Rattle.gup_spec_turns.specs.JobPlace.{JobPlace as Place, place_in, IsNoFork}
+use Rattle.gup_op_base.specs.declared.jobs.JobPlace.{JobPlace}
 use Rattle.gup_op_base.specs.Far.{HasFar}
-use Rattle.gup_op_fork.specs.Forked.{place_of, IsReadyAt}
+use Rattle.gup_op_base.specs.Jobs.{place_of}
+use Rattle.gup_op_fork.specs.Forked.{IsReadyAt}
 use Rattle.gup_op_pins.specs.Pins.{IsWeighed}
 use Rattle.gup_op_pins.specs.Held.{slots_in}
 use Rattle.gup_op_base.specs.Tidy.{IsTidy, needs_table}
@@ -25,19 +26,19 @@ use Rattle.gup_op_waits.specs.Doers.{HasProcess}
 use Rattle.gup_op_waits.specs.Parts.{EachSpace, ShowsParts}
 use Rattle.gup_op_waits.specs.Stands.{StandsAt}
 
--- The parts of a machine, where the fork of an actor stands, and where those of others do.
+-- The parts of a machine, where the job of an actor stands, and where those of others do.
 pub record AllView : Type 0 where
   pub parts : Parts
-  pub fork : ForkPlace
+  pub job : JobPlace
   pub others : ℕ → Place
 
-abbrev pub all_view : Parts → ForkPlace → (others : ℕ → Place) → AllView
-all_view parts fork others = record { parts = parts; fork = fork; others = others }
+abbrev pub all_view : Parts → JobPlace → (others : ℕ → Place) → AllView
+all_view parts job others = record { parts = parts; job = job; others = others }
 
 -- the state has all that, of actor a
 pub record ShowsAll (a : ℕ) (view : AllView) (s : CoreState) : Type 0 where
   pub parts : ShowsParts view.parts s
-  pub fork : place_of view.fork ≡ place_in s a
+  pub job : place_of view.job ≡ place_in s a
   pub others : (b : ℕ) → (b ≡ a → ⊥) → place_in s b ≡ view.others b
 
 -- the state is sound, and actor a, which waits for nothing, stands there before a turn of the operation
@@ -52,7 +53,7 @@ HasSlots parts a slots = (store : Option (List ℕ)) → slice_get parts.stores.
 
 -- What a turn of actor a's fork of process p into this child needs: they are two processes, and what is true between two
 -- turns.
-pub record IsForkReady (frames : FramesValue) (spaces : List SpaceParts) (births : List Birth) (a p child : ℕ) (fork : ForkPlace) : Type 0 where
+pub record IsForkReady (frames : FramesValue) (spaces : List SpaceParts) (births : List Birth) (a p child : ℕ) (fork : JobPlace) : Type 0 where
   pub apart : p ≡ child → ⊥
   pub there : child < length spaces
   pub declared : child < length births
@@ -64,10 +65,10 @@ abbrev pub KeepsSlots : (old new : List (Option (List ℕ))) → Type 0
 KeepsSlots old new =
     (a : ℕ) (was now : Option (List ℕ)) → slice_get old a ≡ Some was → slice_get new a ≡ Some now → slots_in now ≡ slots_in was
 
--- What a turn of an operation needs that has gone so far, and whose fork stands there: its numbers are in range, it is of
+-- What a turn of an operation needs that has gone so far, and whose job stands there: its numbers are in range, it is of
 -- process p where it is of one, each process is tidy, counts are small, nobody holds a lock that it needs, pins have
 -- the weight of their pages, and after the first page of a pin the process has pinned.
-pub record IsReady (parts : Parts) (a p : ℕ) (op : Op) (gone : ℕ) (place : ForkPlace) : Type 0 where
+pub record IsReady (parts : Parts) (a p : ℕ) (op : Op) (gone : ℕ) (place : JobPlace) : Type 0 where
   pub there : HasProcess op → p < length parts.spaces.items
   pub tidy : EachSpace (IsTidy (frames_of parts.frames)) parts.spaces.items
   pub few_counts : (f : ℕ) → (frames_of parts.frames).count f < 2 ^ 40

@@ -8,8 +8,8 @@ use Rattle.gup_spec_journal.specs.Follows.{notes_of_turn}
 use Rattle.gup_frames.specs.Frames.{free_of}
 use Rattle.gup_spec_events.specs.State.{CoreState}
 use Rattle.gup_spec_turns.specs.Run.{RunState, run_start, run_after, core_turn_in, turned}
-use Rattle.gup_spec_turns.specs.ForkPlace.{place_in}
-use Rattle.gup_op_fork.specs.Forked.{place_of}
+use Rattle.gup_spec_turns.specs.JobPlace.{place_in}
+use Rattle.gup_op_base.specs.Jobs.{place_of}
 use Rattle.gup_op_waits.specs.declared.parts.Parts.{Parts}
 use Rattle.gup_core.specs.declared.seats.Seat.{Seat}
 use Rattle.gup_core.specs.Seats.{IsSeat}
@@ -45,7 +45,7 @@ pub record Shows (m : MachineValue) (r : RunState) : Type 0 where
   pub reached : IsReached m.script r
   pub parts : ShowsParts m.parts r.core
   pub seats : (a : ℕ) (seat : Seat) → slice_get m.seats a ≡ Some seat → IsSeat (present_op m.script a (r.places a)) (r.places a) seat
-  pub forks : (a : ℕ) (seat : Seat) → slice_get m.seats a ≡ Some seat → place_of seat.fork ≡ place_in r.core a
+  pub jobs : (a : ℕ) (seat : Seat) → slice_get m.seats a ≡ Some seat → place_of seat.job ≡ place_in r.core a
   pub turns : m.turns ≡ min r.turns (2 ^ 32 - 1)
 
 -- A turn of the machine is the actor's turn of the core run from r: the notes are its, and the machine shows the

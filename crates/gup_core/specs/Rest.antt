@@ -11,9 +11,10 @@ use Rattle.gup_frames.specs.Frames.{frames_of}
 use Rattle.gup_space.specs.Space.{SpaceValue, SpaceParts, space_of}
 use Rattle.gup_handles.specs.Handles.{handles_of, unmade}
 use Rattle.gup_spec_events.specs.Event.{bias}
-use Rattle.gup_spec_turns.specs.ForkPlace.{IsNoFork}
+use Rattle.gup_spec_turns.specs.JobPlace.{IsNoFork}
 use Rattle.gup_op_base.specs.Far.{HasFar}
-use Rattle.gup_op_fork.specs.Forked.{place_of, IsReadyAt}
+use Rattle.gup_op_base.specs.Jobs.{place_of}
+use Rattle.gup_op_fork.specs.Forked.{IsReadyAt}
 use Rattle.gup_op_pins.specs.Pins.{IsWeighed}
 use Rattle.gup_op_base.specs.Tidy.{IsTidy}
 use Rattle.gup_core.specs.declared.seats.Seat.{Seat}
@@ -41,7 +42,7 @@ pub record IsAtRest (m : MachineValue) : Type 0 where
   pub few_forks : EachSpace (λ space. space.sequence ≤ 32) m.parts.spaces.items
   pub few_counts : (f : ℕ) → (frames_of m.parts.frames).count f ≤ 16 * page_numbers + bias * 17680
   pub unlocked : (p a : ℕ) (space : SpaceParts) (seat : Seat) → slice_get m.parts.spaces.items p ≡ Some space → slice_get m.seats a ≡ Some seat → IsNoFork (op_of_seat m a seat) → HoldsNoLock (space_of space) a
-  pub forks : (a child : ℕ) (seat : Seat) (parent kid : SpaceParts) → slice_get m.seats a ≡ Some seat → op_of_seat m a seat ≡ Some (Fork child) → slice_get m.parts.spaces.items (process_of m.script a) ≡ Some parent → slice_get m.parts.spaces.items child ≡ Some kid → IsReadyAt (frames_of m.parts.frames) a (place_of seat.fork) (space_of parent) (space_of kid)
+  pub forks : (a child : ℕ) (seat : Seat) (parent kid : SpaceParts) → slice_get m.seats a ≡ Some seat → op_of_seat m a seat ≡ Some (Fork child) → slice_get m.parts.spaces.items (process_of m.script a) ≡ Some parent → slice_get m.parts.spaces.items child ≡ Some kid → IsReadyAt (frames_of m.parts.frames) a (place_of seat.job) (space_of parent) (space_of kid)
   pub answered : (a : ℕ) (seat : Seat) → slice_get m.seats a ≡ Some seat → seat.answered ≤ length (ops_of m.script a)
   pub far : (a : ℕ) (seat : Seat) (op : Op) → slice_get m.seats a ≡ Some seat → op_of_seat m a seat ≡ Some op → HasFar op seat.far
   pub weighed : (h : ℕ) → IsWeighed (frames_of m.parts.frames) (handles_of m.parts.handles h)

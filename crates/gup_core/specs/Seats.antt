@@ -3,8 +3,8 @@ use Rattle.std.specs.Prelude.{◌≡◌, ℕ, ◌+◌, Bool, if◌then◌else◌
 use Rattle.gup_script.specs.declared.op.Op.{Op}
 use Rattle.gup_script.specs.declared.op.Op.TheVariants.{Unmap, Discard, Pin, Transfer}
 use Rattle.gup_spec_journal.specs.Place.{Place}
-use Rattle.gup_op_fork.specs.declared.forks.ForkPlace.{ForkPlace}
-use Rattle.gup_op_fork.specs.declared.forks.ForkPlace.TheVariants.{Unbegun}
+use Rattle.gup_op_base.specs.declared.jobs.JobPlace.{JobPlace}
+use Rattle.gup_op_base.specs.declared.jobs.JobPlace.TheVariants.{Unbegun}
 use Rattle.gup_op_base.specs.Far.{far_in}
 use Rattle.gup_core.specs.declared.seats.Seat.{Seat}
 
@@ -16,16 +16,16 @@ abbrev pub far_behind : Op → (far : ℕ) → ℕ
 far_behind (Unmap page n) far = far + 1
 far_behind (Discard page n) far = far + 1
 far_behind (Pin handle page n want fast) far = far + 1
-far_behind (Transfer handle outward index slot n) far = far + 1
+far_behind (Transfer handle outward slot parts) far = far + 1
 far_behind op far = 0
 
--- after a turn of its operation an actor stands at the next page or word, or at the next operation, and its fork there
-abbrev pub seat_behind : Seat → Op → (answered : Bool) → ForkPlace → Seat
-seat_behind seat op answered fork =
+-- after a turn of its operation an actor stands at the next page or word, or at the next operation, and its job there
+abbrev pub seat_behind : Seat → Op → (answered : Bool) → JobPlace → Seat
+seat_behind seat op answered job =
     if answered
-    then record { answered = seat.answered + 1; far = 0; fork = fork }
-    else record { answered = seat.answered; far = far_behind op seat.far; fork = fork }
+    then record { answered = seat.answered + 1; far = 0; job = job }
+    else record { answered = seat.answered; far = far_behind op seat.far; job = job }
 
 -- so many actors before their first operation
 abbrev pub first_seats : (actors : ℕ) → List Seat
-first_seats actors = replicate actors (record { answered = 0; far = 0; fork = Unbegun })
+first_seats actors = replicate actors (record { answered = 0; far = 0; job = Unbegun })

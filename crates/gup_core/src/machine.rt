@@ -90,14 +90,14 @@ impl Machine {
             &self.parts,
             actor,
             process(&self.script, actor),
-            seat.fork,
-            &op,
+            seat.job,
+            op,
         ) {
             return Turn::one(&head, What::Wait(waiting));
         }
         let proc = process(&self.script, actor);
-        let (said, fork) = take_op(&mut self.parts, actor, proc, seat.far, seat.fork, &op);
-        let next = seats::behind(&seat, &op, is_last(&said), fork);
+        let (said, job) = take_op(&mut self.parts, actor, proc, seat.far, seat.job, op);
+        let next = seats::behind(&seat, op, is_last(&said), job);
         set_seat(&mut self.seats, actor, &next);
         notes(&head, &said)
     }
@@ -116,7 +116,7 @@ impl Machine {
             return None;
         };
         let proc = process(&self.script, actor);
-        waits_for(&self.parts, actor, proc, seat.fork, &op)
+        waits_for(&self.parts, actor, proc, seat.job, op)
     }
 
     /// Whether the actor has answered all its operations.

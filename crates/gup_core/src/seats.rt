@@ -5,17 +5,17 @@ ghost use Rattle.gup_op_base.specs.Far.{HasFar};
 ghost use Rattle.gup_core.specs.Seats.{seat_behind, far_behind, first_seats};
 
 use gup_base::{ActorNo, NoMemory};
-use gup_op_fork::ForkPlace;
+use gup_op_base::JobPlace;
 use gup_script::Op;
 use std::alloc::Global;
 
 /// Where an actor stands: how many operations it has answered, over how many pages or words the present one has gone, and where
-/// its fork stands, if it is in the middle of one.
+/// its job stands, if it is in the middle of one.
 #[derive(Clone, Copy, Debug)]
 pub struct Seat {
     pub answered: u32,
     pub far: u16,
-    pub fork: ForkPlace,
+    pub job: JobPlace,
 }
 
 /// So many actors before their first operation.
@@ -25,7 +25,7 @@ pub fn first(alloc: Global, actors: u8) -> Result<Vec<Seat>, NoMemory>
     let seat = Seat {
         answered: 0,
         far: 0,
-        fork: ForkPlace::Unbegun,
+        job: JobPlace::Unbegun,
     };
     let seats = vec![in alloc; seat; actors as usize]?;
     Ok(seats)
@@ -49,25 +49,25 @@ pub fn set_seat(seats: &mut Vec<Seat>, actor: ActorNo, seat: &Seat)
     seats[actor.get() as usize] = *seat;
 }
 
-/// After a turn of its present operation an actor stands at the next page or word, or at the next operation, and its fork
+/// After a turn of its present operation an actor stands at the next page or word, or at the next operation, and its job
 /// there.
-pub fn behind(seat: &Seat, op: &Op, answered: bool, fork: ForkPlace) -> Seat
+pub fn behind(seat: &Seat, op: &Op, answered: bool, job: JobPlace) -> Seat
     requires few { seat.now.answered + 1 < 2 ^ 32 }
     requires op { IsOp op.now }
     requires far { HasFar op.now seat.now.far }
-    ensures { result ≡ seat_behind seat.now op.now answered fork }
+    ensures { result ≡ seat_behind seat.now op.now answered job }
 {
     if answered {
         return Seat {
             answered: seat.answered + 1,
             far: 0,
-            fork,
+            job,
         };
     }
     Seat {
         answered: seat.answered,
         far: far_of(op, seat.far),
-        fork,
+        job,
     }
 }
 
@@ -81,6 +81,7 @@ fn far_of(op: &Op, far: u16) -> u16
         Op::Unmap { .. } | Op::Discard { .. } | Op::Pin { .. } | Op::Transfer { .. } => far + 1,
         Op::Map { .. } | Op::Protect { .. } | Op::Load { .. } | Op::Store { .. } => 0,
         Op::Unpin { .. } | Op::Give { .. } | Op::Take { .. } => 0,
-        Op::Fork { .. } | Op::Exit => 0,
+        Op::Get { .. } | Op::Put { .. } | Op::Mirror { .. } | Op::Look { .. } => 0,
+        Op::Move { .. } | Op::Fork { .. } | Op::Exit => 0,
     }
 }

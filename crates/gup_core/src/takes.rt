@@ -2,6 +2,7 @@
 ghost use Rattle.std.specs.Prelude.{◌≡◌, ℕ, ◌+◌, ◌<◌, ◌≤◌, ◌^◌, true, false, length, slice_get, List, Option, Some, None, IsSome, IfSome};
 ghost use Rattle.std.specs.Option.{option_or};
 ghost use Rattle.arrayvec.specs.ArrayVec.{ArrayVec as ArrayVecValue};
+ghost use Rattle.gup_base.specs.Parts.{words_of};
 ghost use Rattle.gup_plain.specs.State.{Birth as CoreBirth};
 ghost use Rattle.gup_script.specs.declared.op.Op.TheVariants.{Fork};
 ghost use Rattle.gup_script.specs.Valid.{IsOp};
@@ -13,10 +14,11 @@ ghost use Rattle.gup_spec_turns.specs.Turn.{op_turn, failed_turn, turn_of};
 ghost use Rattle.gup_spec_turns.specs.PinTurns.{pin_turn};
 ghost use Rattle.gup_spec_turns.specs.DeviceTurns.{transfer_turn};
 ghost use Rattle.gup_spec_turns.specs.ForkTurns.{fork_turn};
-ghost use Rattle.gup_spec_turns.specs.ForkPlace.{ForkPlace as Place};
+ghost use Rattle.gup_spec_turns.specs.JobPlace.{JobPlace as Place};
 ghost use Rattle.gup_op_pages.specs.Alone.{IsAlone, ShowsAlone, alone_view};
 ghost use Rattle.gup_op_base.specs.Far.{HasFar, far_in};
-ghost use Rattle.gup_op_fork.specs.Forked.{place_of, birth_behind as birth_after, IsReadyAt, ShowsForking, StandsAsFork, forking_view};
+ghost use Rattle.gup_op_base.specs.Jobs.{place_of};
+ghost use Rattle.gup_op_fork.specs.Forked.{birth_behind as birth_after, IsReadyAt, ShowsForking, StandsAsFork, forking_view};
 ghost use Rattle.gup_op_pins.specs.Pins.{IsWeighed, ShowsPinning, StandsAtPage, pinning_view};
 ghost use Rattle.gup_op_pins.specs.Held.{ShowsHeld, held_view, slots_in};
 ghost use Rattle.gup_op_devices.specs.Transfers.{IsWhole};
@@ -30,11 +32,11 @@ ghost use Rattle.gup_op_waits.specs.Stands.{StandsAt};
 ghost use Rattle.gup_core.specs.Goes.{ShowsAll, StandsFree, all_view, IsReady, IsForkReady, HasSlots, KeepsSlots};
 ghost use Rattle.gup_op_waits.specs.Locks.{child_in};
 
-use gup_base::{ActorNo, HandleNo, PageNo, ProcNo, Want};
+use gup_base::{ActorNo, HandleNo, PageNo, Parts as Moved, ProcNo, Want};
 use gup_frames::Frames;
-use gup_op_base::{Said, done, refused};
+use gup_op_base::{JobPlace, Said, done, refused};
 use gup_op_devices::transfer;
-use gup_op_fork::{ForkPlace, fork};
+use gup_op_fork::fork;
 use gup_op_pages::take;
 use gup_op_pins::{give, pin, take_over, unpin};
 use gup_op_waits::{Birth, Parts, child_of, has_failed, set_birth};
@@ -43,15 +45,15 @@ use gup_script::Op;
 use gup_space::Space;
 
 /// Takes a turn of the operation, which is of this process if it is of one, and answers what it says and where the actor's
-/// fork stands then. Where the process has failed, the operation is refused.
+/// job stands then. Where the process has failed, the operation is refused.
 pub fn take_op(
     parts: &mut Parts,
     actor: ActorNo,
     proc: Option<ProcNo>,
     far: u16,
-    place: ForkPlace,
+    place: JobPlace,
     op: &Op,
-) -> (Said, ForkPlace)
+) -> (Said, JobPlace)
     requires process { HasProcess op.now → IsSome proc }
     requires birth { IfSome proc (λ p. p < length parts.old.births.items) }
     requires child { (child : ℕ) → op.now ≡ Fork child → child < length parts.old.births.items }
@@ -94,37 +96,36 @@ fn refuse(births: &mut Vec<Birth>, op: &Op) -> Said
 // Takes a turn of an operation that is no fork.
 fn take_single(parts: &mut Parts, actor: ActorNo, proc: Option<ProcNo>, far: u16, op: &Op) -> Said
     requires process { HasProcess op.now → IsSome proc }
-    requires ready { (p : ℕ) → IfSome proc (λ q. q ≡ p) → (place : ForkPlace) × IsReady parts.old actor p op.now far place }
+    requires ready { (p : ℕ) → IfSome proc (λ q. q ≡ p) → (place : JobPlace) × IsReady parts.old actor p op.now far place }
     requires single { child_in op.now ≡ None }
     ensures spaces { length parts.new.spaces.items ≡ length parts.old.spaces.items }
     ensures births { length parts.new.births.items ≡ length parts.old.births.items }
     ensures taken { length parts.new.taken.items ≡ length parts.old.taken.items }
     ensures stores { length parts.new.stores.items ≡ length parts.old.stores.items }
     ensures slots { KeepsSlots parts.old.stores.items parts.new.stores.items }
-    ensures turn { (p slots : ℕ) (place : ForkPlace) → IfSome proc (λ q. q ≡ p) → HasSlots parts.old actor slots
+    ensures turn { (p slots : ℕ) (place : JobPlace) → IfSome proc (λ q. q ≡ p) → HasSlots parts.old actor slots
         → (k : ℕ) (others : ℕ → Place) → far ≡ far_in (Some op.now) k
         → IsTurnOf (ShowsAll actor) (λ s. StandsAt s actor p k op.now)
         (all_view parts.old place others) (all_view parts.new place others)
         (λ s. op_turn s actor p slots k op.now) (whats_of result) }
 {
-    match *op {
+    match op {
         Op::Pin {
             handle,
             page,
             n,
             want,
             fast: _,
-        } => take_pin(parts, actor, proc.unwrap(), handle, page, n, want, far),
-        Op::Unpin { handle } => unpin(&mut parts.frames, &mut parts.handles, actor, handle),
-        Op::Give { handle, to } => give(&mut parts.handles, actor, handle, to),
-        Op::Take { handle } => take_over(&mut parts.handles, actor, handle),
+        } => take_pin(parts, actor, proc.unwrap(), *handle, *page, *n, *want, far),
+        Op::Unpin { handle } => unpin(&mut parts.frames, &mut parts.handles, actor, *handle),
+        Op::Give { handle, to } => give(&mut parts.handles, actor, *handle, *to),
+        Op::Take { handle } => take_over(&mut parts.handles, actor, *handle),
         Op::Transfer {
             handle,
             outward,
-            index,
             slot,
-            n,
-        } => take_transfer(parts, actor, handle, outward, index, slot, n, far),
+            parts: moved,
+        } => take_transfer(parts, actor, *handle, *outward, *slot, moved, far),
         _ => take_alone(
             &mut parts.spaces,
             &mut parts.frames,
@@ -199,15 +200,14 @@ fn take_transfer(
     actor: ActorNo,
     handle: HandleNo,
     outward: bool,
-    index: u32,
     slot: u32,
-    n: u8,
+    moved: &Moved,
     far: u16,
 ) -> Said
     requires actor { actor < length parts.old.stores.items }
     requires weighed { IsWeighed (frames_of parts.old.frames) (handles_of parts.old.handles handle) }
-    requires within { far < n }
-    requires most { n ≤ 64 }
+    requires within { far < words_of moved.now }
+    requires most { words_of moved.now ≤ 64 }
     ensures stores { length parts.new.stores.items ≡ length parts.old.stores.items }
     ensures slots { KeepsSlots parts.old.stores.items parts.new.stores.items }
     ensures spaces { parts.new.spaces ≡ parts.old.spaces }
@@ -219,7 +219,7 @@ fn take_transfer(
         → slice_get parts.old.stores.items actor ≡ Some old → slice_get parts.new.stores.items actor ≡ Some new
         → IsTurnOf (ShowsHeld actor) (λ s. IsWhole s actor handle)
         (held_view parts.old.frames parts.old.handles old) (held_view parts.new.frames parts.new.handles new)
-        (λ s. transfer_turn s actor (slots_in old) handle outward index slot n far) (whats_of result) }
+        (λ s. transfer_turn s actor (slots_in old) handle outward slot moved.now far) (whats_of result) }
 {
     transfer(
         &mut parts.frames,
@@ -228,9 +228,8 @@ fn take_transfer(
         actor,
         handle,
         outward,
-        index,
         slot,
-        n,
+        moved,
         far,
     )
 }
@@ -276,8 +275,8 @@ fn take_fork(
     actor: ActorNo,
     proc: ProcNo,
     child: ProcNo,
-    place: ForkPlace,
-) -> (Said, ForkPlace)
+    place: JobPlace,
+) -> (Said, JobPlace)
     requires there { proc < length parts.old.spaces.items }
     requires tidy { EachSpace (IsTidy (frames_of parts.old.frames)) parts.old.spaces.items }
     requires few_counts { (f : ℕ) → (frames_of parts.old.frames).count f < 2 ^ 40 }
@@ -322,8 +321,8 @@ fn fork_two(
     actor: ActorNo,
     proc: ProcNo,
     child: ProcNo,
-    place: ForkPlace,
-) -> (Said, ForkPlace)
+    place: JobPlace,
+) -> (Said, JobPlace)
     requires apart { proc ≡ child → ⊥ }
     requires parent { proc < length spaces.old }
     requires child { child < length spaces.old }

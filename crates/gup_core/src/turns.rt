@@ -1,5 +1,5 @@
 //! What a turn takes: its number, its operation, and its notes.
-ghost use Rattle.std.specs.Prelude.{◌≡◌, ◌<◌, false, length, slice_get, Some, Option, MatchOption};
+ghost use Rattle.std.specs.Prelude.{◌≡◌, ◌<◌, false, length, slice_get, Some, None, Option, MatchOption};
 ghost use Rattle.gup_spec_journal.specs.Follows.{notes_of_turn};
 ghost use Rattle.gup_script.specs.declared.op.Kind.TheVariants.{Thread};
 ghost use Rattle.gup_spec_journal.specs.Place.{ops_of, doer};
@@ -46,10 +46,10 @@ pub fn notes(head: &Head, said: &Said) -> Turn
 }
 
 /// The operation at this place.
-pub fn op_at(ops: &[Op], k: u32) -> Option<Op>
-    ensures { result ≡ slice_get ops.now k }
+pub fn op_at(ops: &[Op], k: u32) -> Option<&Op>
+    ensures { MatchOption result (slice_get ops.now k ≡ None) (λ op. slice_get ops.now k ≡ Some op.now) }
 {
-    ops.get(k as usize).copied()
+    ops.get(k as usize)
 }
 
 /// The operations of an actor.

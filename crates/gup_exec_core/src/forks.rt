@@ -46,10 +46,10 @@ impl Trial {
         let names = self.object.own(&self.right, p, objects)?;
         clear(&mut self.contents, objects, PAGE_NUMBERS);
         self.contents.made = made;
+        let pages = self.right.count(p);
         self.procs.grow(c, p);
         self.right.put(c, rights);
         self.object.put(c, names);
-        let pages = *self.pages.get(p);
         self.pages.put(c, pages);
         self.sequence.put(p, sequence);
         self.structure.put(p, Some(a));

@@ -4,5 +4,6 @@ pub mod FlagsLemmas
 pub mod ResultLemmas
 pub mod OwnObjects
 pub mod SpaceLemmas
+pub mod CountedPages
 pub mod TableLemmas
 pub mod TakenLemmas

@@ -2,6 +2,7 @@
 use Rattle.std.specs.Prelude.{◌≡◌, ℕ, ◌+◌, ◌-◌, ◌<◌, Option, Some, None, IsSome}
 use Rattle.std.specs.Option.{option_map_or, option_map}
 use Rattle.gup_base.specs.declared.entry.Rights.{Rights}
+use Rattle.gup_plain.specs.Pages.{page_numbers}
 use Rattle.gup_exec_parts.specs.declared.pages.Page.{Page}
 
 abbrev pub page_with : Rights → (object : ℕ) → Page
@@ -27,6 +28,10 @@ with_rights rights found = option_map (λ (p : Page). page_with rights p.object)
 -- the same pages, each with an object of its own
 abbrev pub own_objects : (objects : ℕ) → (ℕ → Option Page) → ℕ → Option Page
 own_objects objects pages page = with_object (objects + page) (pages page)
+
+-- each page that is mapped has a number that a page may have
+abbrev pub AreNumbered : (ℕ → Option Page) → Type 0
+AreNumbered pages = (page : ℕ) → IsSome (right_in (pages page)) → page < page_numbers
 
 -- no page of the range is mapped
 abbrev pub AreFree : (ℕ → Option Page) → (first n : ℕ) → Type 0

@@ -9,7 +9,7 @@ use Rattle.gup_exec_parts.specs.declared.space.Birth.{Birth as Stage}
 use Rattle.gup_exec_parts.specs.declared.space.Birth.TheVariants as stages
 use Rattle.gup_exec_parts.specs.declared.space.Space.{Space}
 use Rattle.gup_exec_parts.specs.Flags.{flag_of}
-use Rattle.gup_exec_parts.specs.Pages.{right_in}
+use Rattle.gup_exec_parts.specs.Pages.{right_in, AreNumbered}
 use Rattle.gup_exec_parts.specs.Tables.{at_key}
 
 abbrev pub birth_of : Stage → Birth
@@ -48,4 +48,4 @@ CanProtect x page n = (x.birth ≡ born) × ((k : ℕ) → k < n → IsSome (rig
 
 -- what is mapped has a number that a page may have
 abbrev pub HasNumbers : SpaceState → Type 0
-HasNumbers x = (page : ℕ) → IsSome (right_in (x.page page)) → page < page_numbers
+HasNumbers x = AreNumbered x.page

@@ -2,8 +2,9 @@
 ghost use Rattle.std.specs.Prelude.{◌≡◌, ℕ, ◌+◌, ◌-◌, ◌^◌, ◌<◌, ◌≤◌, ◌↔◌, Option, Some, None, IsSome, IsTrue, IfOk, OnOk, OnErr};
 ghost use Rattle.std.specs.BTreeMap.{get, btree_map_len};
 ghost use Rattle.std.specs.Ordering.{nat_cmp};
+ghost use Rattle.gup_plain.specs.Pages.{mapped_pages};
 ghost use Rattle.gup_plain.specs.Put.{put, spread};
-ghost use Rattle.gup_exec_parts.specs.Pages.{page_with, pages_from, with_object, with_rights, own_objects, AreFree, AreMapped};
+ghost use Rattle.gup_exec_parts.specs.Pages.{page_with, pages_from, right_in, with_object, with_rights, own_objects, AreFree, AreMapped, AreNumbered};
 
 use gup_base::{NoMemory, PageNo, Rights};
 use std::alloc::Global;
@@ -148,11 +149,14 @@ pub fn protect(pages: &mut Pages, first: PageNo, n: u16, rights: Rights)
     }
 }
 
-/// The same pages with the same rights, each with an object of its own: that of page p is `objects` + p.
+/// The same pages with the same rights, each with an object of its own: that of page p is `objects` + p. There are as many
+/// as numbers of pages are mapped.
 pub fn with_own_objects(alloc: Global, pages: &Pages, objects: u64) -> Result<Pages, NoMemory>
     requires { objects + 2 ^ 35 < 2 ^ 64 }
     ensures pages { IfOk result (λ own. get nat_cmp own ≡ own_objects objects (get nat_cmp pages.now)) }
     ensures len { IfOk result (λ own. btree_map_len own ≡ btree_map_len pages.now) }
+    ensures counted { IfOk result (λ own. AreNumbered (get nat_cmp pages.now)
+        → btree_map_len own ≡ mapped_pages (λ page. right_in (get nat_cmp pages.now page))) }
 {
     let own = pages
         .iter()

@@ -3,6 +3,7 @@ use Rattle.std.proofs.Common.{◌≡◌, ℕ, ◌+◌, ◌-◌, ◌<◌, ◌≤�
 use Rattle.std.proofs.Math.Path.{fun_ext}
 use Rattle.std.proofs.lemmas.Bool.Decides.{nat_tests}
 use Rattle.gup_base.specs.declared.entry.Rights.{Rights}
+use Rattle.gup_plain.specs.Pages.{mapped_pages}
 use Rattle.gup_plain.specs.Put.{put, put2, within, spread}
 use Rattle.gup_plain.specs.State.{PlainState, Birth, growing, born, failed, named_or_zero}
 use Rattle.gup_plain.specs.Event.{happened, page_numbers}
@@ -217,15 +218,15 @@ own-objects : (x y : SpaceState) (made : ℕ) → x.page ≡ own_objects made y.
 own-objects x y made is = ap (λ (m : ℕ → Option Page). λ q. object_in (m q)) is ∙ fun_ext (λ q. own-object (y.page q) (made + q))
 
 pub after_grow : (s : PlainState) (f : ℕ → SpaceState) (parent child : ℕ) (x : SpaceState) → IsFresh s.made s.content
-    → x.birth ≡ growing parent → x.page ≡ own_objects s.made (f parent).page → x.pages ≡ (f parent).pages → x.copied ≡ (λ _ _. false)
+    → x.birth ≡ growing parent → x.page ≡ own_objects s.made (f parent).page → x.pages ≡ mapped_pages (λ page. right_in ((f parent).page page)) → x.copied ≡ (λ _ _. false)
     → with_spaces (record s { made = s.made + page_numbers }) (put child x f) ≡ happened (with_spaces s f) (events.ForkBegin parent child)
 after_grow s f parent child x fresh birth pages len copied =
     let t = with_spaces s f in
     let none : ℕ → ℕ → Bool = λ _ _. false in
     let object : ℕ → ℕ = λ page. named_or_zero (t.right parent page) (s.made + page) in
-    one_space (record s { made = s.made + page_numbers }) f child x (put child (growing parent) t.birth) (put child (t.right parent) t.right) (put child object t.object) (put child (t.pages parent) t.pages) (put child none t.copied)
+    one_space (record s { made = s.made + page_numbers }) f child x (put child (growing parent) t.birth) (put child (t.right parent) t.right) (put child object t.object) (put child (mapped_pages (t.right parent)) t.pages) (put child none t.copied)
     (through_put birth_in child x f (growing parent) birth) (through_put rights child x f (t.right parent) (own-rights x (f parent) s.made pages))
-    (through_put objects child x f object (own-objects x (f parent) s.made pages)) (through_put pages_in child x f (t.pages parent) len) (through_put copied_in child x f none copied)
+    (through_put objects child x f object (own-objects x (f parent) s.made pages)) (through_put pages_in child x f (mapped_pages (t.right parent)) len) (through_put copied_in child x f none copied)
     ∙ ap
     (λ (c : ℕ → ℕ → ℕ).
     record t {
@@ -234,7 +235,7 @@ after_grow s f parent child x fresh birth pages len copied =
       birth = put child (growing parent) t.birth;
       right = put child (t.right parent) t.right;
       object = put child object t.object;
-      pages = put child (t.pages parent) t.pages;
+      pages = put child (mapped_pages (t.right parent)) t.pages;
       copied = put child none t.copied;
     })
     (fresh_range s.made page_numbers s.content fresh)

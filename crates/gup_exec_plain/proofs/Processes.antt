@@ -1,9 +1,10 @@
 -- What a changed process in the parts is to the plain state.
-use Rattle.std.proofs.Common.{◌≡◌, ℕ, ◌+◌, ◌-◌, ◌<◌, Bool, true, false, Option, None, IsSome, vec_len, length, get_or, slice_set, refl, sym, ◌∙◌, ap, arith}
+use Rattle.std.proofs.Common.{◌≡◌, ℕ, ◌+◌, ◌-◌, ◌<◌, Bool, true, false, Option, None, IsSome, vec_len, length, get_or, slice_set, refl, sym, subst, ◌∙◌, ap, arith}
 use Rattle.std.specs.BTreeMap.{BTreeMap, get, btree_map_len}
 use Rattle.std.specs.Ordering.{nat_cmp}
 use Rattle.std.specs.Vec.{with_item}
 use Rattle.gup_base.specs.declared.entry.Rights.{Rights}
+use Rattle.gup_plain.specs.Pages.{mapped_pages}
 use Rattle.gup_plain.specs.Put.{put, put2, spread}
 use Rattle.gup_plain.specs.State.{PlainState, Birth, growing, born, failed}
 use Rattle.gup_plain.specs.Event.{happened, page_numbers}
@@ -14,7 +15,7 @@ use Rattle.gup_exec_plain.specs.declared.parts.Parts.{Parts}
 use Rattle.gup_exec_parts.specs.declared.space.Birth.{Birth as Stage}
 use Rattle.gup_exec_parts.specs.declared.space.Space.{Space}
 use Rattle.gup_exec_parts.specs.Contents.{content_of}
-use Rattle.gup_exec_parts.specs.Pages.{with_object, with_rights, own_objects, pages_from}
+use Rattle.gup_exec_parts.specs.Pages.{right_in, with_object, with_rights, own_objects, pages_from, AreNumbered}
 use Rattle.gup_exec_plain.specs.Parts.{state_of, spaces_of, other_state, with_spaces, IsMade}
 use Rattle.gup_exec_parts.specs.Space.{SpaceState, seen, blank, birth_of, copied_of}
 use Rattle.gup_exec_parts.specs.Tables.{at_place}
@@ -138,19 +139,23 @@ ended_badly v p i was space at is =
     ap (with_spaces (other_state v)) (replaced v p i was space at ∙ ap (λ (y : SpaceState). put p y (spaces_of v)) is)
     ∙ after_fail (other_state v) (spaces_of v) p
 
+-- the pages of a process have numbers that pages may have
+pub numbered : (v : Parts) (p : ℕ) (from : Space) → IsMade (state_of v) → seen from ≡ spaces_of v p → AreNumbered (get nat_cmp from.pages)
+numbered v p from sound is = subst (λ (x : SpaceState). AreNumbered x.page) (sym is) (λ page. sound.numbers p page)
+
 abbrev sprout : (parent : ℕ) → BTreeMap ℕ Page → SpaceState
 sprout parent pages = record { birth = growing parent; page = get nat_cmp pages; pages = btree_map_len pages; copied = λ _ _. false }
 
 pub begun : (v : Parts) (parent p i made : ℕ) (was space from : Space) (pages : BTreeMap ℕ Page) → At v p i was → IsMade (state_of v)
     → made ≡ v.contents.made + 34359738368 → seen from ≡ spaces_of v parent
-    → get nat_cmp pages ≡ own_objects v.contents.made (get nat_cmp from.pages) → btree_map_len pages ≡ btree_map_len from.pages
+    → get nat_cmp pages ≡ own_objects v.contents.made (get nat_cmp from.pages) → btree_map_len pages ≡ mapped_pages (λ page. right_in (get nat_cmp from.pages page))
     → seen space ≡ sprout parent pages
     → state_of (record v { contents = record v.contents { made = made }; spaces = with_item v.spaces i space }) ≡ happened (state_of v) (events.ForkBegin parent p)
 begun v parent p i made was space from pages at sound more from_is own kept is =
     let x = sprout parent pages in
     let more_is : made ≡ v.contents.made + page_numbers = more ∙ ap (λ (n : ℕ). v.contents.made + n) (sym page_numbers-is) in
     let own_is : get nat_cmp pages ≡ own_objects v.contents.made (spaces_of v parent).page = rw (← from_is) own in
-    let len : btree_map_len pages ≡ (spaces_of v parent).pages = rw (← from_is) kept in
+    let len : btree_map_len pages ≡ mapped_pages (λ page. right_in ((spaces_of v parent).page page)) = rw (← from_is) kept in
     ap (λ (k : ℕ). with_spaces (record (other_state v) { made = k }) (at_place seen blank (slice_set v.spaces.items i space))) more_is
     ∙ ap (with_spaces (record (other_state v) { made = v.contents.made + page_numbers })) (replaced v p i was space at ∙ ap (λ (y : SpaceState). put p y (spaces_of v)) is)
     ∙ after_grow (other_state v) (spaces_of v) parent p x sound.content refl own_is len refl

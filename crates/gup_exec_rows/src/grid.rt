@@ -1,14 +1,17 @@
 //! What processes have at their pages.
-ghost use Rattle.std.specs.Prelude.{◌≡◌, ℕ, ◌+◌, ◌<◌, ◌≤◌, ◌^◌, ◌↔◌, IsTrue, IsSome, Some, None, All, Contains, Option, IfOk};
-ghost use Rattle.std.specs.BTreeMap.{get, keys};
+ghost use Rattle.std.specs.Prelude.{◌≡◌, ℕ, ◌+◌, ◌<◌, ◌≤◌, ◌^◌, ◌↔◌, IsTrue, IsSome, Some, None, All, Contains, Option, IfOk, is_some, if◌then◌else◌, length, nat_lt};
+ghost use Rattle.std.specs.BTreeMap.{get, keys, IsOrdered};
+ghost use Rattle.std.specs.List.{filter};
 ghost use Rattle.std.specs.Ordering.{nat_cmp};
 ghost use Rattle.gup_spec_events.specs.Event.{AreGone};
+ghost use Rattle.gup_plain.specs.Pages.{page_numbers, sum_below};
 ghost use Rattle.gup_plain.specs.Put.{put, put2, spread};
 ghost use Rattle.gup_exec_rows.specs.Grid.{found};
 ghost use Rattle.gup_exec_rows.specs.Lists.{IsOneOf};
 
 use crate::row::Row;
 use gup_base::{Entry, NoMemory, PageNo, ProcNo};
+use gup_exec_parts::space::PAGE_NUMBERS;
 use std::alloc::Global;
 use std::collections::BTreeMap;
 
@@ -40,6 +43,21 @@ fn all_among<V>(row: &BTreeMap<PageNo, V>, pages: &[PageNo]) -> bool
     ensures { IsTrue result ↔ All (λ page. IsOneOf pages.now page) (keys row.now) }
 {
     row.keys().all(|page| has_page(pages, *page))
+}
+
+// How many pages have a value, of those that a number can name, which is each.
+fn count_numbers<V>(row: &BTreeMap<PageNo, V>) -> u64
+    ensures count { result ≡ length (filter (λ page. nat_lt page (2 ^ 35)) (keys row.now)) }
+    ensures ordered { IsOrdered nat_cmp row.now }
+{
+    row.keys().filter(|page| page.get() < PAGE_NUMBERS).count() as u64
+}
+
+// How many numbers of pages have a value.
+fn count<V>(row: &BTreeMap<PageNo, V>) -> u64
+    ensures { result ≡ sum_below page_numbers (λ page. if is_some (get nat_cmp row.now page) then 1 else 0) }
+{
+    count_numbers(row)
 }
 
 // Whether it is so that no page of the row has an entry, or that one has.
@@ -99,6 +117,13 @@ impl<V: Copy + Drop> Grid<V> {
         ensures { get nat_cmp result.now ≡ found self.now p }
     {
         self.rows.get(p)
+    }
+
+    /// How many pages of the process have a value.
+    pub fn count(&self, p: ProcNo) -> u64
+        ensures { result ≡ sum_below page_numbers (λ page. if is_some (found self.now p page) then 1 else 0) }
+    {
+        count(self.row(p))
     }
 
     /// Whether each page that has a value is one of these.

@@ -3,6 +3,7 @@
 use Rattle.std.specs.Prelude.{◌≡◌, ℕ, true, false, List, [], ◌∷◌, Option, None}
 use Rattle.std.proofs.Common.{refl, sym, ap, subst, ◌∙◌, arith}
 use Rattle.std.proofs.lemmas.Bool.Decides.{nat_tests}
+use Rattle.gup_plain.specs.Pages.{mapped_pages}
 use Rattle.gup_plain.specs.Put.{put}
 use Rattle.gup_frames.specs.Frames.{FramesValue}
 use Rattle.gup_space.specs.Shows.{ShowsFrames, ShowsSpace}
@@ -15,6 +16,12 @@ use Rattle.gup_fork.proofs.ForkAfter.{IsForkEvent, beginning, counting, lowering
 
 own_lock : (k : ℕ) (holder : Option ℕ) (f : ℕ → Option ℕ) → put k holder f k ≡ holder
 own_lock k holder f = grind (arith, nat_tests)
+
+own_count : (k n : ℕ) (f : ℕ → ℕ) → put k n f k ≡ n
+own_count k n f = grind (arith, nat_tests)
+
+other_count : (k j n : ℕ) (f : ℕ → ℕ) → (j ≡ k → ⊥) → put k n f j ≡ f j
+other_count k j n f apart = grind (arith, nat_tests)
 
 -- the table lock after a failure
 own_table : (p : ℕ) (step : ForkStep) (f : ℕ → Option ℕ) → put p (elim step [ between ↦ f p | counted page ↦ None | lowered page ↦ None | cleared page ↦ None | copying page word ↦ None | failing ↦ None ]) f p ≡ table_behind step (f p)
@@ -114,7 +121,7 @@ shows_frames a p c frames s (putting done page e ends) h =
 
 pub shows_parent : (a p c : ℕ) (parent : SpaceValue) (s : CoreState) {e : CoreEvent} → (p ≡ c → ⊥) → IsForkEvent a p c e → ShowsSpace p parent s → ShowsSpace p (parent_behind e parent) (happens s e)
 shows_parent a p c parent s apart beginning h =
-    record { right = λ g. grind (arith, nat_tests, h.right g); pages = grind (arith, nat_tests, h.pages); entry = h.entry; sequence = grind (arith, nat_tests, h.sequence); has_pinned = h.has_pinned; structure = grind (arith, nat_tests, h.structure); table = h.table }
+    record { right = λ g. grind (arith, nat_tests, h.right g); pages = other_count c p (mapped_pages (s.right p)) s.pages apart ∙ h.pages; entry = h.entry; sequence = grind (arith, nat_tests, h.sequence); has_pinned = h.has_pinned; structure = grind (arith, nat_tests, h.structure); table = h.table }
 shows_parent a p c parent s apart (counting done page entry copies) h =
     record { right = h.right; pages = h.pages; entry = h.entry; sequence = h.sequence; has_pinned = h.has_pinned; structure = h.structure; table = grind (arith, nat_tests, h.table) }
 shows_parent a p c parent s apart (lowering done page f writable) h =
@@ -142,7 +149,7 @@ shows_parent a p c parent s apart (putting done page e false) h =
 
 pub shows_child : (a p c : ℕ) (parent child : SpaceValue) (s : CoreState) {e : CoreEvent} → (p ≡ c → ⊥) → IsForkEvent a p c e → ShowsSpace p parent s → ShowsSpace c child s → ShowsSpace c (child_behind e parent child) (happens s e)
 shows_child a p c parent child s apart beginning of h =
-    record { right = λ g. grind (arith, nat_tests, of.right g); pages = grind (arith, nat_tests, of.pages); entry = h.entry; sequence = grind (arith, nat_tests, h.sequence); has_pinned = h.has_pinned; structure = grind (arith, nat_tests, h.structure); table = h.table }
+    record { right = λ g. grind (arith, nat_tests, of.right g); pages = own_count c (mapped_pages (s.right p)) s.pages ∙ ap mapped_pages (λ i g. of.right g i); entry = h.entry; sequence = grind (arith, nat_tests, h.sequence); has_pinned = h.has_pinned; structure = grind (arith, nat_tests, h.structure); table = h.table }
 shows_child a p c parent child s apart (counting done page entry copies) of h =
     record { right = h.right; pages = h.pages; entry = h.entry; sequence = h.sequence; has_pinned = h.has_pinned; structure = h.structure; table = grind (arith, nat_tests, h.table) }
 shows_child a p c parent child s apart (lowering done page f writable) of h =

@@ -2,6 +2,7 @@
 use Rattle.std.specs.Prelude.{◌≡◌, ℕ, ◌+◌, ◌-◌, ◌==◌, ◌&&◌, ◌||◌, nat_le, nat_lt, if◌then◌else◌, Bool, false, List, [], ◌∷◌, Option, Some, None, zero, suc}
 use Rattle.gup_base.specs.declared.entry.Entry.{Entry}
 use Rattle.gup_plain.specs.Event.{page_numbers}
+use Rattle.gup_plain.specs.Pages.{mapped_pages}
 use Rattle.gup_frames.specs.Frames.{FramesValue, FrameLists, frames_of, with_mark, with_references, without_references}
 use Rattle.gup_space.specs.Shows.{ShowsFrames, ShowsSpace}
 use Rattle.gup_space.specs.Space.{SpaceValue, SpaceParts, space_of, with_entry}
@@ -43,9 +44,9 @@ AreForkEvents k events =
     → ShowsFrames k.new_frames (run s (events p c)) × ShowsSpace p k.new_parent (run s (events p c))
     × ShowsSpace c k.new_child (run s (events p c))
 
--- the child has its parent's mappings
+-- the child has its parent's mappings, and as many pages as have rights in them
 abbrev pub with_maps_of : (parent child : SpaceValue) → SpaceValue
-with_maps_of parent child = record child { right = parent.right; pages = parent.pages }
+with_maps_of parent child = record child { right = parent.right; pages = mapped_pages parent.right }
 
 -- a frame that the fork copies: it is exclusive, the process has pinned, and it may be pinned
 abbrev pub copies_frame : FramesValue → SpaceValue → (f : ℕ) → Bool

@@ -32,6 +32,7 @@ pub fn begin(parent: &mut Space, child: &mut Space)
         (with_structure (Some a) (fork_change_of frames frames parent.old parent.new child.old child.new))
         (λ p c. begin_fork a p c ∷ []) }
 {
+    parent.is_counted();
     child.copy_maps(parent);
     parent.raise();
 }

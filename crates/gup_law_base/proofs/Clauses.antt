@@ -9,7 +9,7 @@ use Rattle.gup_plain.specs.State.{growing, born, unborn, failed, Noted, objects_
 use Rattle.gup_spec_events.specs.State.{CoreState, Taken, one, copying, cleared, failing, entered}
 use Rattle.gup_spec_events.specs.Event.{writes_taken, long_taken, is_odd}
 use Rattle.gup_spec_events.specs.Invariant.{frame_of, is_inside}
-use Rattle.gup_law_base.specs.Sound.{Marking, Moving, Forking, Walking, View, marking_of, moving_of, forking_of, walking_of, marked_frame, fork_child, step_page, shared_page, lowered_page, is_failing, copied_words, words_written, birth_of_child, keeps_table, keeps_structure, is_open, tried_page, tried_entry, rechecked_entry, unkept, IsUncopiedBy, held, held_by_walk, Tally}
+use Rattle.gup_law_base.specs.Sound.{Marking, Moving, Forking, Walking, View, marking_of, moving_of, forking_of, walking_of, marked_frame, fork_child, step_page, shared_page, lowered_page, is_failing, copied_words, words_written, birth_of_child, keeps_table, keeps_structure, is_open, tried_page, tried_entry, rechecked_entry, unkept, IsUncopiedBy, held, held_by_walk, Tally, AreWalkers}
 
 module _ (v : View) (s : CoreState) where
   abbrev pub References : Type 0
@@ -214,6 +214,9 @@ module _ (v : View) (s : CoreState) where
   TakenApart = (a j k : ℕ) (t u : Taken) → slice_get (s.taken a) j ≡ Some t → slice_get (s.taken a) k ≡ Some u → t.page ≡ u.page → j ≡ k
 
   -- walks
+  abbrev pub WalksNumber : Type 0
+  WalksNumber = (p : ℕ) → AreWalkers v.walks p (s.walks p)
+
   abbrev pub WalkFlag : Type 0
   WalkFlag = (a : ℕ) (w : Walking) → v.walks a ≡ Some w → s.has_pinned w.proc ≡ true
 

@@ -2,6 +2,7 @@ pub mod Children
 pub mod Clauses
 pub mod Holders
 pub mod Lonely
+pub mod Numbers
 pub mod PinLists
 pub mod Rows
 pub mod Steps

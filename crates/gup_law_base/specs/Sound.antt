@@ -144,6 +144,11 @@ abbrev pub walk_frame : Option Walking → Option ℕ
 walk_frame None = None
 walk_frame (Some w) = step_frame w.step
 
+-- the process that it walks
+abbrev pub walk_process : Option Walking → Option ℕ
+walk_process None = None
+walk_process (Some w) = Some w.proc
+
 -- may the walk have to drop what it has taken?
 abbrev pub is_open : Option Walking → Bool
 is_open None = false
@@ -199,6 +204,14 @@ Tally count holds =
     × HasNoRepetition holders
     × ((x : Holder) → (holds x ≡ Some f → Contains holders x) × (Contains holders x → holds x ≡ Some f))
     × (sum_by weight holders ≡ count f)
+
+-- the actors in a walk of the process are n, a list without repetition
+abbrev pub AreWalkers : (walks : ℕ → Option Walking) (p n : ℕ) → Type 0
+AreWalkers walks p n =
+    (walkers : List ℕ)
+    × HasNoRepetition walkers
+    × ((a : ℕ) → (walk_process (walks a) ≡ Some p → Contains walkers a) × (Contains walkers a → walk_process (walks a) ≡ Some p))
+    × (length walkers ≡ n)
 
 -- 4. The clauses. The exclusive object of a frame, `own`, carries them: each pinned page is compared with it alone, and
 -- no two pins with one another.
@@ -285,6 +298,7 @@ pub record IsSoundBy (v : View) (s : CoreState) : Type 0 where
   pub taken_apart : (a j k : ℕ) (t u : Taken) → slice_get (s.taken a) j ≡ Some t → slice_get (s.taken a) k ≡ Some u → t.page ≡ u.page → j ≡ k
   -- walks
 
+  pub walks_number : (p : ℕ) → AreWalkers v.walks p (s.walks p)
   pub walk_flag : (a : ℕ) (w : Walking) → v.walks a ≡ Some w → s.has_pinned w.proc ≡ true
   pub walk_empty : (a k : ℕ) (w : Walking) (t : Taken) → v.walks a ≡ Some w → w.step ≡ entered → slice_get (s.taken a) k ≡ Some t → ⊥
   pub walk_even : (a : ℕ) (w : Walking) → v.walks a ≡ Some w → is_inside w.step ≡ true → is_odd w.sequence ≡ false

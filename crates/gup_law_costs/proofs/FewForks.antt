@@ -4,11 +4,11 @@ use Rattle.std.specs.Prelude.{sum_by}
 use Rattle.std.proofs.lemmas.Bool.Decides.{nat_tests}
 use Rattle.std.proofs.lemmas.List.Sums.{sum_by-cons}
 use Rattle.gup_script.specs.declared.op.Op.{Op}
-use Rattle.gup_script.specs.declared.op.Op.TheVariants.{Map, Unmap, Protect, Discard, Load, Store, Pin, Unpin, Give, Take, Transfer, Fork, Exit}
+use Rattle.gup_script.specs.declared.op.Op.TheVariants.{Fork}
 use Rattle.gup_script.specs.Script.{ScriptValue, Actor, ops_in}
 use Rattle.gup_script.specs.Valid.{IsScript}
 use Rattle.gup_spec_turns.specs.Cost.{is_fork, forks}
-use Rattle.gup_spec_turns.specs.Pages.{sum_below}
+use Rattle.gup_plain.specs.Pages.{sum_below}
 use Rattle.gup_law_turns.proofs.ScriptLemmas.{child_declared}
 use Rattle.gup_law_turns.proofs.Sums.{sum_at, sum_both, sum_ones, sum_zero}
 
@@ -45,18 +45,7 @@ module _ (n : ℕ) where
       let none = sum_zero n (λ j. 0) (λ j. refl) in
       let here : brings (Fork c) c ≡ 1 = grind (arith, nat_tests) in
       omega (arith, all, none, here)
-  fork_sum (Map page m rights) low = sum_zero n (λ j. 0) (λ j. refl)
-  fork_sum (Unmap page m) low = sum_zero n (λ j. 0) (λ j. refl)
-  fork_sum (Protect page m rights) low = sum_zero n (λ j. 0) (λ j. refl)
-  fork_sum (Discard page m) low = sum_zero n (λ j. 0) (λ j. refl)
-  fork_sum (Load page word) low = sum_zero n (λ j. 0) (λ j. refl)
-  fork_sum (Store page word value) low = sum_zero n (λ j. 0) (λ j. refl)
-  fork_sum (Pin handle page m want fast) low = sum_zero n (λ j. 0) (λ j. refl)
-  fork_sum (Unpin handle) low = sum_zero n (λ j. 0) (λ j. refl)
-  fork_sum (Give handle to) low = sum_zero n (λ j. 0) (λ j. refl)
-  fork_sum (Take handle) low = sum_zero n (λ j. 0) (λ j. refl)
-  fork_sum (Transfer handle outward index slot m) low = sum_zero n (λ j. 0) (λ j. refl)
-  fork_sum Exit low = sum_zero n (λ j. 0) (λ j. refl)
+  fork_sum op low = sum_zero n (λ j. 0) (λ j. refl)
 
   bringing_sum : (ops : List Op) → ((k c : ℕ) → BringsAt ops k c → c < n) → sum_below n (bringing ops) ≡ sum_by is_fork ops
   bringing_sum [] low = sum_zero n (λ j. 0) (λ j. refl)
@@ -89,18 +78,7 @@ module _ (child : ℕ) where
 
   brings_or : (op : Op) → IsForkOr op (brings op child)
   brings_or (Fork c) = brings_by c (child == c) refl
-  brings_or (Map page n rights) = inl refl
-  brings_or (Unmap page n) = inl refl
-  brings_or (Protect page n rights) = inl refl
-  brings_or (Discard page n) = inl refl
-  brings_or (Load page word) = inl refl
-  brings_or (Store page word value) = inl refl
-  brings_or (Pin handle page n want fast) = inl refl
-  brings_or (Unpin handle) = inl refl
-  brings_or (Give handle to) = inl refl
-  brings_or (Take handle) = inl refl
-  brings_or (Transfer handle outward index slot n) = inl refl
-  brings_or Exit = inl refl
+  brings_or op = inl refl
 
   bringing_or : (ops : List Op) → (bringing ops child ≡ 0) ⊎ ((k : ℕ) × BringsAt ops k child)
   bringing_or [] = inl refl

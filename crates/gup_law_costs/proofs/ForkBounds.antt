@@ -10,16 +10,17 @@ use Rattle.gup_plain.specs.State.{Birth, unborn, growing, born, failed}
 use Rattle.gup_plain.specs.declared.answer.Answer.TheVariants as answers
 use Rattle.gup_plain.specs.declared.note.What.TheVariants.{Silent}
 use Rattle.gup_script.specs.declared.op.Op.{Op}
-use Rattle.gup_script.specs.declared.op.Op.TheVariants.{Map, Unmap, Protect, Discard, Load, Store, Pin, Unpin, Give, Take, Transfer, Fork, Exit}
-use Rattle.gup_spec_events.specs.State.{CoreState, Job, idle, marking, moving, forking, walking, ForkStep, between, counted, lowered, cleared, copying, failing}
+use Rattle.gup_script.specs.declared.op.Op.TheVariants.{Fork}
+use Rattle.gup_spec_events.specs.State.{CoreState, Job, idle, forking, ForkStep, between, counted, lowered, cleared, copying, failing}
 use Rattle.gup_spec_events.specs.Event.{CoreEvent, happens, begin_fork, count_page, copies_page, fail_fork, put_child, fail_unborn, run}
 use Rattle.gup_spec_events.specs.Failure.{are_gone, puts_entry, puts_entries, fails}
 use Rattle.gup_spec_events.proofs.Gone.{no_puts}
 use Rattle.gup_law_base.specs.Sound.{Forking, forking_of}
 use Rattle.gup_spec_journal.specs.Place.{Place, Doer, birth_by, birth_for, place_behind}
 use Rattle.gup_spec_turns.specs.Cost.{mapped_by, fork_turns, fork_left, GoesOn, IsWithinBound}
-use Rattle.gup_spec_turns.specs.Pages.{mapped_pages, pages_from}
-use Rattle.gup_spec_turns.specs.ForkPlace.{ForkPlace, copying_place, fork_place, place_in, IsForking, StandsFork, unbegun, from_page, at_page, wants_frame, at_word}
+use Rattle.gup_plain.specs.Pages.{mapped_pages}
+use Rattle.gup_spec_turns.specs.Pages.{pages_from}
+use Rattle.gup_spec_turns.specs.JobPlace.{JobPlace, copying_place, job_place, place_in, IsForking, StandsFork, unbegun, from_page, at_page, wants_frame, at_word}
 use Rattle.gup_spec_turns.specs.CoreTurn.{CoreTurn, answers_with, free_frame}
 use Rattle.gup_spec_turns.specs.ForkTurns.{first_behind, next_page, page_turn, next_turn, share_turn, frame_turn, copy_turn, copying_turn, fork_turn}
 use Rattle.gup_spec_turns.specs.Turn.{op_turn, turn_at, failed_turn, turn_of}
@@ -95,20 +96,14 @@ apart_locked s p q parent a b grows locked other grows_too locked_too apart = go
     go false same = refl
 
 -- a fork stands in the middle
-abbrev IsMiddle : ForkPlace → Type 0
+abbrev IsMiddle : JobPlace → Type 0
 IsMiddle unbegun = ⊥
-IsMiddle (from_page page) = Unit {0}
-IsMiddle (at_page page) = Unit {0}
-IsMiddle (wants_frame page) = Unit {0}
-IsMiddle (at_word page word to) = Unit {0}
+IsMiddle place = Unit {0}
 
 -- there its turns are all that it costs
-left_turns : (right : ℕ → Option Rights) (x : ForkPlace) → IsMiddle x → fork_left right x ≡ fork_turns right x
+left_turns : (right : ℕ → Option Rights) (x : JobPlace) → IsMiddle x → fork_left right x ≡ fork_turns right x
 left_turns right unbegun middle = absurd middle
-left_turns right (from_page page) middle = refl
-left_turns right (at_page page) middle = refl
-left_turns right (wants_frame page) middle = refl
-left_turns right (at_word page word to) middle = refl
+left_turns right place middle = refl
 
 -- a copy that has begun is in the middle, and costs at most as much as one that wants its frame
 copying_middle : (page word : ℕ) (prepared : Option ℕ) → IsMiddle (copying_place page word prepared)
@@ -120,8 +115,8 @@ copying_few right page word None = omega arith
 copying_few right page word (Some to) = omega arith
 
 -- where a fork stands, by its actor's job and the frame that this has prepared
-pub place_by : (t : CoreState) (a : ℕ) (job : Job) (prepared : Option ℕ) → t.job a ≡ job → t.prepared a ≡ prepared → place_in t a ≡ fork_place job prepared
-place_by t a job prepared is has = ap (λ (j : Job). fork_place j (t.prepared a)) is ∙ ap (fork_place job) has
+pub place_by : (t : CoreState) (a : ℕ) (job : Job) (prepared : Option ℕ) → t.job a ≡ job → t.prepared a ≡ prepared → place_in t a ≡ job_place job prepared
+place_by t a job prepared is has = ap (λ (j : Job). job_place j (t.prepared a)) is ∙ ap (job_place job) has
 
 module _ (a p c : ℕ) (done : List ℕ) where
   -- The references of a failed child that are given back leave all mappings, other actors' jobs, and what actors have prepared.
@@ -239,7 +234,7 @@ module _ (s : CoreState) (a p : ℕ) (place : Place) where
 
   module _ (child : ℕ) where
     -- a fork goes on from one place in the middle to another, and leaves all mappings
-    fork_goes : (turn : CoreTurn) (x y : ForkPlace) → IsMiddle x → IsMiddle y → place_in s a ≡ x → place_in (run s turn.events) a ≡ y → (run s turn.events).right ≡ s.right → ((b : ℕ) → (b == a) ≡ false → (run s turn.events).job b ≡ s.job b) → ((b : ℕ) → (b == a) ≡ false → (run s turn.events).prepared b ≡ s.prepared b) → GoesOn place (place_behind place turn.whats) → fork_turns (s.right child) y < fork_turns (s.right child) x → IsSpent s a p place (Fork child) turn
+    fork_goes : (turn : CoreTurn) (x y : JobPlace) → IsMiddle x → IsMiddle y → place_in s a ≡ x → place_in (run s turn.events) a ≡ y → (run s turn.events).right ≡ s.right → ((b : ℕ) → (b == a) ≡ false → (run s turn.events).job b ≡ s.job b) → ((b : ℕ) → (b == a) ≡ false → (run s turn.events).prepared b ≡ s.prepared b) → GoesOn place (place_behind place turn.whats) → fork_turns (s.right child) y < fork_turns (s.right child) x → IsSpent s a p place (Fork child) turn
     fork_goes turn x y from to was is same jobs prepared goes less =
         let t : CoreState = run s turn.events in
         let before : fork_turns (s.right child) (place_in s a) ≡ fork_turns (s.right child) x = ap (fork_turns (s.right child)) was in
@@ -288,7 +283,7 @@ module _ (s : CoreState) (a p : ℕ) (place : Place) where
     end_spent : (q c : ℕ) (done : List ℕ) → s.job a ≡ forking q c done between → IsSpent s a p place (Fork child) (next_turn s a p child done None)
     end_spent q c done is =
         let t : CoreState = run s (next_turn s a p child done None).events in
-        let left : fork_left (s.right child) (place_in s a) ≡ 515 * pages_from (s.right child) (first_behind done) + 1 = ap (λ (j : Job). fork_left (s.right child) (fork_place j (s.prepared a))) is in
+        let left : fork_left (s.right child) (place_in s a) ≡ 515 * pages_from (s.right child) (first_behind done) + 1 = ap (λ (j : Job). fork_left (s.right child) (job_place j (s.prepared a))) is in
         record {
           others = λ q other. refl;
           grown = λ q parent b grows locked apart. refl;
@@ -310,7 +305,7 @@ module _ (s : CoreState) (a p : ℕ) (place : Place) where
         go entry fewer
       where
         was : place_in s a ≡ from_page (first_behind done)
-        was = ap (λ (j : Job). fork_place j (s.prepared a)) is
+        was = ap (λ (j : Job). job_place j (s.prepared a)) is
 
         -- whether it is to be copied or to be shared
         counts : (e : Entry) (copies : Bool) → pages_from (s.right child) (page + 1) < pages_from (s.right child) (first_behind done) → IsSpent s a p place (Fork child) (record { events = count_page a p child done page e copies ∷ []; whats = Silent ∷ [] })
@@ -342,7 +337,7 @@ module _ (s : CoreState) (a p : ℕ) (place : Place) where
         let two : Job = forking p child done (cleared page) in
         let job : Job = forking p child (page ∷ done) between in
         let last : ℕ → Job = put a two (put a one s.job) in
-        fork_goes turn (at_page page) (from_page (page + 1)) tt tt (ap (λ (j : Job). fork_place j (s.prepared a)) is)
+        fork_goes turn (at_page page) (from_page (page + 1)) tt tt (ap (λ (j : Job). job_place j (s.prepared a)) is)
         (place_by (run s turn.events) a job (s.prepared a) (put_same a job last) refl) refl
         (λ b other. put_other a b job last other ∙ put_other a b two (put a one s.job) other ∙ put_other a b one s.job other) (λ b other. refl) (refl, refl) (omega arith)
 
@@ -368,12 +363,9 @@ module _ (s : CoreState) (a p : ℕ) (place : Place) where
               no_more (t.right q) (s.right q) 0 (ap (λ (f : ℕ → ℕ → Option Rights). f q) lost.right ∙ put_other child q none s.right (apart_born s.birth child q (growing p) forks.birth (growing_born p) birth));
         }
       where
-        some_left : (right : ℕ → Option Rights) (x : ForkPlace) → 0 < fork_left right x
+        some_left : (right : ℕ → Option Rights) (x : JobPlace) → 0 < fork_left right x
         some_left right unbegun = omega arith
-        some_left right (from_page page) = omega arith
-        some_left right (at_page page) = omega arith
-        some_left right (wants_frame page) = omega arith
-        some_left right (at_word page word to) = omega arith
+        some_left right place = omega arith
 
     -- the counted page is copied: the frame for it, its words, and its place in the child
     copying_spent : (q c : ℕ) (done : List ℕ) (page word : ℕ) (prepared : Option ℕ) → s.job a ≡ forking q c done (copying page word) → s.prepared a ≡ prepared → IsForking s a p child q c done → IsSpent s a p place (Fork child) (copying_turn s a p child done page word prepared)
@@ -405,19 +397,15 @@ module _ (s : CoreState) (a p : ℕ) (place : Place) where
 
     fork_spent : (job : Job) → s.job a ≡ job → StandsFork s a p child job (s.prepared a) → mapped_pages (s.right p) ≤ 1024 → IsSpent s a p place (Fork child) (fork_turn s a p child job)
     fork_spent idle is stands few = begin_spent is stands few
-    fork_spent (marking q page f) is stands few = absurd stands
-    fork_spent (moving q page e allowed count) is stands few = absurd stands
-    fork_spent (walking q write long sequence step) is stands few = absurd stands
     fork_spent (forking q c done between) is stands few = next (next_page (s.right child) done) refl
       where
         next : (found : Option ℕ) → next_page (s.right child) done ≡ found → IsSpent s a p place (Fork child) (next_turn s a p child done found)
         next None same = end_spent q c done is
         next (Some page) same = page_spent q c done page (s.entry p page) is same
     fork_spent (forking q c done (counted page)) is stands few = share_spent q c done page (s.entry p page) is
-    fork_spent (forking q c done (lowered page)) is stands few = absurd stands
-    fork_spent (forking q c done (cleared page)) is stands few = absurd stands
     fork_spent (forking q c done (copying page word)) is stands few = copying_spent q c done page word (s.prepared a) is refl stands.0
-    fork_spent (forking q c done failing) is stands few = absurd stands
+    fork_spent (forking q c done step) is stands few = absurd stands
+    fork_spent job is stands few = absurd stands
 
     -- one of a failed process makes its child failed too
     unborn_spent : s.job a ≡ idle → s.birth child ≡ unborn → IsSpent s a p place (Fork child) (failed_turn a p (Fork child))
@@ -439,9 +427,6 @@ module _ (s : CoreState) (a p : ℕ) (place : Place) where
     -- no fork of a failed process is in the middle
     unborn_by : (job : Job) → s.job a ≡ job → StandsFork s a p child job (s.prepared a) → ((k : Forking) → forking_of job ≡ Some k → s.birth k.proc ≡ born) → s.birth p ≡ failed → IsSpent s a p place (Fork child) (failed_turn a p (Fork child))
     unborn_by idle is stands parent lost = unborn_spent is stands
-    unborn_by (marking q page f) is stands parent lost = absurd stands
-    unborn_by (moving q page e allowed count) is stands parent lost = absurd stands
-    unborn_by (walking q write long sequence step) is stands parent lost = absurd stands
     unborn_by (forking q c done step) is stands parent lost = absurd (born_failed step stands)
       where
         not_both : q ≡ p → ⊥
@@ -452,10 +437,9 @@ module _ (s : CoreState) (a p : ℕ) (place : Place) where
         born_failed : (x : ForkStep) → StandsFork s a p child (forking q c done x) (s.prepared a) → ⊥
         born_failed between there = not_both there.parent
         born_failed (counted page) there = not_both there.0.parent
-        born_failed (lowered page) there = there
-        born_failed (cleared page) there = there
         born_failed (copying page word) there = not_both there.0.parent
-        born_failed failing there = there
+        born_failed x there = there
+    unborn_by job is stands parent lost = absurd stands
 
   -- where an operation stands: its actor is idle, unless it forks
   abbrev pub StandsAt : Op → Type 0
@@ -465,34 +449,12 @@ module _ (s : CoreState) (a p : ℕ) (place : Place) where
   -- every operation of a born process, or of whoever waits for no birth
   op_spent : (slots : ℕ) (op : Op) → (IsOfProcess op → s.birth p ≡ born) → mapped_pages (s.right p) ≤ 1024 → StandsAt op → IsSpent s a p place op (op_turn s a p slots place.far op)
   op_spent slots (Fork child) birth few stands = fork_spent child (s.job a) refl stands few
-  op_spent slots (Map page n rights) birth few stands = page_op_spent slots (Map page n rights) refl (birth tt) stands
-  op_spent slots (Unmap page n) birth few stands = page_op_spent slots (Unmap page n) refl (birth tt) stands
-  op_spent slots (Protect page n rights) birth few stands = page_op_spent slots (Protect page n rights) refl (birth tt) stands
-  op_spent slots (Discard page n) birth few stands = page_op_spent slots (Discard page n) refl (birth tt) stands
-  op_spent slots (Load page word) birth few stands = page_op_spent slots (Load page word) refl (birth tt) stands
-  op_spent slots (Store page word value) birth few stands = page_op_spent slots (Store page word value) refl (birth tt) stands
-  op_spent slots (Pin handle page n want fast) birth few stands = page_op_spent slots (Pin handle page n want fast) refl (birth tt) stands
-  op_spent slots (Unpin handle) birth few stands = handle_op_spent slots (Unpin handle) refl (λ e. e) stands
-  op_spent slots (Give handle to) birth few stands = handle_op_spent slots (Give handle to) refl (λ e. e) stands
-  op_spent slots (Take handle) birth few stands = handle_op_spent slots (Take handle) refl (λ e. e) stands
-  op_spent slots (Transfer handle outward index slot n) birth few stands = handle_op_spent slots (Transfer handle outward index slot n) refl (λ e. e) stands
-  op_spent slots Exit birth few stands = page_op_spent slots Exit refl (birth tt) stands
+  op_spent slots op birth few stands = search (page_op_spent slots op refl, handle_op_spent slots op refl, birth, stands)
 
   -- every operation of a thread of a failed process
   failed_spent : (op : Op) → s.birth p ≡ failed → ((k : Forking) → forking_of (s.job a) ≡ Some k → s.birth k.proc ≡ born) → StandsAt op → IsSpent s a p place op (failed_turn a p op)
   failed_spent (Fork child) lost parent stands = unborn_by child (s.job a) refl stands parent lost
-  failed_spent (Map page n rights) lost parent stands = refused_spent (Map page n rights) refl stands
-  failed_spent (Unmap page n) lost parent stands = refused_spent (Unmap page n) refl stands
-  failed_spent (Protect page n rights) lost parent stands = refused_spent (Protect page n rights) refl stands
-  failed_spent (Discard page n) lost parent stands = refused_spent (Discard page n) refl stands
-  failed_spent (Load page word) lost parent stands = refused_spent (Load page word) refl stands
-  failed_spent (Store page word value) lost parent stands = refused_spent (Store page word value) refl stands
-  failed_spent (Pin handle page n want fast) lost parent stands = refused_spent (Pin handle page n want fast) refl stands
-  failed_spent (Unpin handle) lost parent stands = refused_spent (Unpin handle) refl stands
-  failed_spent (Give handle to) lost parent stands = refused_spent (Give handle to) refl stands
-  failed_spent (Take handle) lost parent stands = refused_spent (Take handle) refl stands
-  failed_spent (Transfer handle outward index slot n) lost parent stands = refused_spent (Transfer handle outward index slot n) refl stands
-  failed_spent Exit lost parent stands = refused_spent Exit refl stands
+  failed_spent op lost parent stands = refused_spent op refl stands
 
 -- only a thread is of a failed process
 failed_proc : (who : Doer) (births : ℕ → Birth) → birth_for births who ≡ failed → births who.proc ≡ failed

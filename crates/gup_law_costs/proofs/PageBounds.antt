@@ -3,6 +3,7 @@
 use Rattle.std.proofs.Common.{◌≡◌, ℕ, ◌+◌, ◌<◌, ◌≤◌, ◌==◌, Bool, true, false, is_some, if◌then◌else◌, List, [], ◌∷◌, ◌++◌, length, Option, Some, None, inl, inr, refl, ap, sym, subst, ◌∙◌, zero, suc, arith, append_assoc}
 use Rattle.std.specs.Prelude.{◌⊎◌, Ok}
 use Rattle.std.proofs.lemmas.Bool.Decides.{nat_tests}
+use Rattle.gup_base.specs.Parts.{words_of}
 use Rattle.gup_base.specs.declared.entry.Entry.{Entry}
 use Rattle.gup_base.specs.declared.entry.Rights.{Rights}
 use Rattle.gup_base.specs.declared.entry.Rights.TheVariants.{R, RW}
@@ -15,14 +16,14 @@ use Rattle.gup_plain.specs.declared.note.What.{What}
 use Rattle.gup_plain.specs.declared.note.What.TheVariants.{Event}
 use Rattle.gup_plain.specs.Denial.{any_unmapped, protect_denial}
 use Rattle.gup_script.specs.declared.op.Op.{Op}
-use Rattle.gup_script.specs.declared.op.Op.TheVariants.{Map, Unmap, Protect, Discard, Load, Store, Pin, Unpin, Give, Take, Transfer, Fork, Exit}
+use Rattle.gup_script.specs.declared.op.Op.TheVariants.{Map, Unmap, Protect, Discard, Load, Store, Pin, Unpin, Get, Put, Transfer, Mirror, Look, Move, Fork, Exit}
 use Rattle.gup_script.specs.Limits.{most_pinned}
 use Rattle.gup_spec_events.specs.State.{CoreState, Job, idle, marking}
 use Rattle.gup_spec_events.specs.Event.{CoreEvent, happens, protect_pages, lower_entry, drop_entry, discard_entry, upgrade, run}
 use Rattle.gup_spec_events.specs.Fault.{Fault, fills, fills_writable, breaks, marks, makes_writable, read_fault, write_fault, gives_back}
 use Rattle.gup_spec_journal.specs.Place.{Place, place_behind}
 use Rattle.gup_spec_turns.specs.Cost.{mapped_by, op_left, IsAnswered, IsWithinBound}
-use Rattle.gup_spec_turns.specs.Pages.{mapped_pages}
+use Rattle.gup_plain.specs.Pages.{mapped_pages}
 use Rattle.gup_spec_turns.specs.CoreTurn.{CoreTurn, answers_with, free_frame, done_if, silent_or_done}
 use Rattle.gup_spec_turns.proofs.TurnParts.{loads_after, stores_after, store_fault_by, map_turn_by, unmap_turn_by, protect_turn_by, discard_turn_by}
 use Rattle.gup_spec_turns.specs.PageTurns.{load_turn, lowers_entry, lowers, lowers_for, lowest_page, exit_turn_by}
@@ -40,28 +41,22 @@ put2_other k l j x f e = rw e refl
 
 -- an answer is within the bound of every operation
 pub answer_bound : (op : Op) (a p : ℕ) (place next : Place) (s t : CoreState) → IsAnswered place next → IsWithinBound op a p place next s t
-answer_bound (Map page n rights) a p place next s t is = is
 answer_bound (Unmap page n) a p place next s t is = inl is
-answer_bound (Protect page n rights) a p place next s t is = is
-answer_bound (Discard page n) a p place next s t is = inl is
-answer_bound (Load page word) a p place next s t is = is
-answer_bound (Store page word value) a p place next s t is = is
-answer_bound (Pin handle page n want fast) a p place next s t is = inl is
-answer_bound (Unpin handle) a p place next s t is = inl is
-answer_bound (Give handle to) a p place next s t is = is
-answer_bound (Take handle) a p place next s t is = is
-answer_bound (Transfer handle outward index slot n) a p place next s t is = inl is
-answer_bound (Fork child) a p place next s t is = inl is
-answer_bound Exit a p place next s t is = inl is
+answer_bound op a p place next s t is = search (is, inl)
 
 -- where a turn of an operation stands: short of the last page or word that it goes over, a pin with those that it has taken;
--- forks stand aside
+-- forks stand aside, and what isn't built
 abbrev pub StandsShort : CoreState → (a : ℕ) → Op → Place → Type 0
 StandsShort s a (Unmap page n) place = place.far < n
 StandsShort s a (Discard page n) place = place.far < n
 StandsShort s a (Pin handle page n want fast) place = (place.far < n) × (length (s.taken a) ≡ place.far)
 StandsShort s a (Unpin handle) place = (place.far < most_pinned) × HasLeft s a handle place.far
-StandsShort s a (Transfer handle outward index slot n) place = place.far < n
+StandsShort s a (Transfer handle outward slot parts) place = place.far < words_of parts
+StandsShort s a (Get handle page) place = ⊥
+StandsShort s a (Put handle) place = ⊥
+StandsShort s a (Mirror mirror proc page) place = ⊥
+StandsShort s a (Look mirror word) place = ⊥
+StandsShort s a (Move proc page zone) place = ⊥
 StandsShort s a (Fork child) place = ⊥
 StandsShort s a op place = Unit {0}
 
@@ -312,10 +307,6 @@ TakesCost s t a op place next before after =
     ⊎ ((next.answered ≡ place.answered) × (op_left t a op next.far + after < op_left s a op place.far + before))
 
 pub takes_cost : (op : Op) (a p : ℕ) (place next : Place) (s t : CoreState) → StandsShort s a op place → t.job a ≡ idle → mapped_pages (t.right p) ≤ mapped_pages (s.right p) + mapped_by op → IsWithinBound op a p place next s t → TakesCost s t a op place next (mapped_pages (s.right p)) (mapped_pages (t.right p))
-takes_cost (Map page n rights) a p place next s t short rests gained bound = inl (bound, rests, omega arith)
-takes_cost (Protect page n rights) a p place next s t short rests gained bound = inl (bound, rests, omega arith)
-takes_cost (Load page word) a p place next s t short rests gained bound = inl (bound, rests, omega arith)
-takes_cost (Store page word value) a p place next s t short rests gained bound = inl (bound, rests, omega arith)
 takes_cost (Unmap page n) a p place next s t short rests gained (inl is) = inl (is, rests, omega arith)
 takes_cost (Unmap page n) a p place next s t short rests gained (inr on) = let far = on.0.1 in inr (on.0.0, omega arith)
 takes_cost (Discard page n) a p place next s t short rests gained (inl is) = inl (is, rests, omega arith)
@@ -330,10 +321,9 @@ takes_cost (Unpin handle) a p place next s t short rests gained (inr on) =
     let far = on.0.1 in
     let less = short.0 in
     inr (on.0.0, omega arith)
-takes_cost (Give handle to) a p place next s t short rests gained bound = inl (bound, rests, omega arith)
-takes_cost (Take handle) a p place next s t short rests gained bound = inl (bound, rests, omega arith)
-takes_cost (Transfer handle outward index slot n) a p place next s t short rests gained (inl is) = inl (is, rests, omega arith)
-takes_cost (Transfer handle outward index slot n) a p place next s t short rests gained (inr on) = let far = on.0.1 in inr (on.0.0, omega arith)
+takes_cost (Transfer handle outward slot parts) a p place next s t short rests gained (inl is) = inl (is, rests, omega arith)
+takes_cost (Transfer handle outward slot parts) a p place next s t short rests gained (inr on) = let far = on.0.1 in inr (on.0.0, omega arith)
 takes_cost (Fork child) a p place next s t short rests gained bound = absurd short
 takes_cost Exit a p place next s t short rests gained (inl is) = inl (is, rests, omega arith)
 takes_cost Exit a p place next s t short rests gained (inr on) = let less = mapped_lost (s.right p) (t.right p) on.1 in inr (on.0.0, omega arith)
+takes_cost op a p place next s t short rests gained bound = inl (bound, rests, omega arith)

@@ -3,6 +3,7 @@
 use Rattle.std.proofs.Common.{◌≡◌, ℕ, ◌+◌, ◌-◌, ◌<◌, ◌==◌, Bool, true, false, if◌then◌else◌, List, [], ◌∷◌, ◌++◌, length, Option, Some, None, inl, inr, refl, ap, sym, subst, ◌∙◌, zero, suc, arith}
 use Rattle.std.specs.Prelude.{Ok, Err}
 use Rattle.std.proofs.lemmas.List.{length-take-le}
+use Rattle.gup_base.specs.Parts.{Part, words_of, word_at}
 use Rattle.gup_base.specs.declared.entry.Entry.{Entry}
 use Rattle.gup_base.specs.declared.entry.Rights.{Rights}
 use Rattle.gup_base.specs.declared.entry.Rights.TheVariants.{R, RW}
@@ -12,13 +13,13 @@ use Rattle.gup_plain.specs.Denial.{any_mapped, any_unmapped, map_denial, protect
 use Rattle.gup_plain.specs.declared.answer.Answer.{Answer}
 use Rattle.gup_plain.specs.declared.answer.Answer.TheVariants as answers
 use Rattle.gup_script.specs.declared.op.Op.{Op}
-use Rattle.gup_script.specs.declared.op.Op.TheVariants.{Map, Unmap, Protect, Discard, Load, Store, Pin, Unpin, Give, Take, Transfer, Fork, Exit}
+use Rattle.gup_script.specs.declared.op.Op.TheVariants.{Map, Unmap, Protect, Discard, Load, Store, Pin, Unpin, Give, Take, Transfer, Exit}
 use Rattle.gup_spec_events.specs.State.{CoreState, Job, idle, marking}
 use Rattle.gup_spec_events.specs.Event.{CoreEvent, take_frame, fill, break_entry, put_entry, pin_page, upgrade, run}
 use Rattle.gup_spec_events.specs.Fault.{Fault, fills, fills_writable, breaks, marks, makes_writable, unshares, unshare_fault, write_fault}
 use Rattle.gup_spec_journal.specs.Place.{Place, place_behind}
 use Rattle.gup_spec_turns.specs.Cost.{IsWithinBound}
-use Rattle.gup_spec_turns.specs.CoreTurn.{CoreTurn, answers_with, free_frame, allows_store, entry_in}
+use Rattle.gup_spec_turns.specs.CoreTurn.{CoreTurn, answers_with, free_in, zones_of, allows_store, entry_in}
 use Rattle.gup_spec_turns.specs.PageTurns.{lowest_page}
 use Rattle.gup_spec_turns.specs.PinTurns.{raises, pin_fault, makes_if, pins_behind, ends_pin, pin_turn_by, but_last, unpinned, take_turn}
 use Rattle.gup_spec_turns.proofs.TurnParts.{unpin_turn_by, give_turn_by, transfer_turn_by}
@@ -124,9 +125,9 @@ module _ (a p page : ℕ) where
       go true = λ s rests. leaves_same s a s rests refl refl refl
       go false = makes_leave e (mark e.frame) (count e.frame) free
 
-pin_fault_leaves : (s : CoreState) (a p page : ℕ) (write : Bool) → FaultLeaves a (pin_fault s a p page write)
-pin_fault_leaves s a p page true = write_leaves a p page (s.right p page) (s.entry p page) s.mark s.count (free_frame s)
-pin_fault_leaves s a p page false = unshare_leaves a p page (s.right p page) (s.entry p page) s.mark s.count (free_frame s)
+pin_fault_leaves : (s : CoreState) (a p page : ℕ) (write : Bool) (free : Option ℕ) → FaultLeaves a (pin_fault s a p page write free)
+pin_fault_leaves s a p page true free = write_leaves a p page (s.right p page) (s.entry p page) s.mark s.count free
+pin_fault_leaves s a p page false free = unshare_leaves a p page (s.right p page) (s.entry p page) s.mark s.count free
 
 module _ (s : CoreState) (a p : ℕ) (place : Place) (rests : s.job a ≡ idle) where
   -- a pin
@@ -195,22 +196,22 @@ module _ (s : CoreState) (a p : ℕ) (place : Place) (rests : s.job a ≡ idle) 
   give_moved handle to false = still s a p place rests (Give handle to) (give_turn_by false a handle to) refl refl refl refl
   give_moved handle to true = still s a p place rests (Give handle to) (give_turn_by true a handle to) refl refl refl refl
 
-  word_moved : (handle : ℕ) (outward : Bool) (index slot n i j f : ℕ) (last : Bool) → place.far < n → (place.far + 1 == n) ≡ last → IsMoved s a p place (Transfer handle outward index slot n) (moves_from s a handle outward last i j f)
-  word_moved handle true index slot n i j f true less test = still s a p place rests (Transfer handle true index slot n) (moves_from s a handle true true i j f) refl refl refl refl
-  word_moved handle false index slot n i j f true less test = still s a p place rests (Transfer handle false index slot n) (moves_from s a handle false true i j f) refl refl refl refl
-  word_moved handle true index slot n i j f false less test =
+  word_moved : (handle : ℕ) (outward : Bool) (slot : ℕ) (parts : List Part) (i j f : ℕ) (last : Bool) → place.far < words_of parts → (place.far + 1 == words_of parts) ≡ last → IsMoved s a p place (Transfer handle outward slot parts) (moves_from s a handle outward last i j f)
+  word_moved handle true slot parts i j f true less test = still s a p place rests (Transfer handle true slot parts) (moves_from s a handle true true i j f) refl refl refl refl
+  word_moved handle false slot parts i j f true less test = still s a p place rests (Transfer handle false slot parts) (moves_from s a handle false true i j f) refl refl refl refl
+  word_moved handle true slot parts i j f false less test =
       let turn : CoreTurn = moves_from s a handle true false i j f in
-      keeping s a p place rests (Transfer handle true index slot n) turn refl (same_jobs s a p place rests (run s turn.events) refl refl) (inr ((refl, refl), goes_less s a p place rests place.far n less test))
-  word_moved handle false index slot n i j f false less test =
+      keeping s a p place rests (Transfer handle true slot parts) turn refl (same_jobs s a p place rests (run s turn.events) refl refl) (inr ((refl, refl), goes_less s a p place rests place.far (words_of parts) less test))
+  word_moved handle false slot parts i j f false less test =
       let turn : CoreTurn = moves_from s a handle false false i j f in
-      keeping s a p place rests (Transfer handle false index slot n) turn refl (same_jobs s a p place rests (run s turn.events) refl refl) (inr ((refl, refl), goes_less s a p place rests place.far n less test))
+      keeping s a p place rests (Transfer handle false slot parts) turn refl (same_jobs s a p place rests (run s turn.events) refl refl) (inr ((refl, refl), goes_less s a p place rests place.far (words_of parts) less test))
 
-  transfer_moved : (handle : ℕ) (outward : Bool) (index slot n : ℕ) (denied : Option Answer) (last : Bool) → place.far < n → (place.far + 1 == n) ≡ last → IsMoved s a p place (Transfer handle outward index slot n) (transfer_turn_by denied s a handle outward last (index + place.far) (slot + place.far))
-  transfer_moved handle outward index slot n (Some answer) last less test = still s a p place rests (Transfer handle outward index slot n) (answers_with answer) refl refl refl refl
-  transfer_moved handle outward index slot n None last less test =
-      word_moved handle outward index slot n (index + place.far) (slot + place.far) (frame_at (s.pinned handle) (index + place.far)) last less test
+  transfer_moved : (handle : ℕ) (outward : Bool) (slot : ℕ) (parts : List Part) (denied : Option Answer) (last : Bool) → place.far < words_of parts → (place.far + 1 == words_of parts) ≡ last → IsMoved s a p place (Transfer handle outward slot parts) (transfer_turn_by denied s a handle outward last (word_at parts place.far) (slot + place.far))
+  transfer_moved handle outward slot parts (Some answer) last less test = still s a p place rests (Transfer handle outward slot parts) (answers_with answer) refl refl refl refl
+  transfer_moved handle outward slot parts None last less test =
+      word_moved handle outward slot parts (word_at parts place.far) (slot + place.far) (frame_at (s.pinned handle) (word_at parts place.far)) last less test
 
-  -- every operation but a fork
+  -- every operation that is built, but a fork
   pub op_moved : (slots : ℕ) (op : Op) → StandsShort s a op place → IsMoved s a p place op (op_turn s a p slots place.far op)
   op_moved slots (Map page n rights) short = map_moved s a p place rests page n rights (map_denial (any_mapped (s.right p) page n) (s.pages p) n)
   op_moved slots (Unmap page n) short = unmap_moved s a p place rests page n (s.right p (page + place.far)) (s.entry p (page + place.far)) (place.far + 1 == n) short refl
@@ -220,14 +221,15 @@ module _ (s : CoreState) (a p : ℕ) (place : Place) (rests : s.job a ≡ idle) 
   op_moved slots (Discard page n) short = discard_moved s a p place rests page n (s.right p (page + place.far)) (s.entry p (page + place.far)) (place.far + 1 == n) short refl
   op_moved slots (Pin handle page n want fast) short =
       let got : ℕ = length (s.taken a) in
-      pin_moved handle page n got want fast short.0 short.1 (pin_fault s a p (page + got) want.write) (pin_fault_leaves s a p (page + got) want.write)
+      let free : Option ℕ = free_in s (zones_of want) in
+      pin_moved handle page n got want fast short.0 short.1 (pin_fault s a p (page + got) want.write free) (pin_fault_leaves s a p (page + got) want.write free)
   op_moved slots (Unpin handle) short = unpin_moved handle (is_held_by (s.handle handle) a) refl short.1
   op_moved slots (Give handle to) short = give_moved handle to (is_held_by (s.handle handle) a)
   op_moved slots (Take handle) short = still s a p place rests (Take handle) (take_turn a handle) refl refl refl refl
-  op_moved slots (Transfer handle outward index slot n) short =
-      transfer_moved handle outward index slot n (transfer_denial (s.handle handle) a outward slots slot ((index, n) ∷ [])) (place.far + 1 == n) short refl
-  op_moved slots (Fork child) short = absurd short
+  op_moved slots (Transfer handle outward slot parts) short =
+      transfer_moved handle outward slot parts (transfer_denial (s.handle handle) a outward slots slot parts) (place.far + 1 == words_of parts) short refl
   op_moved slots Exit short = exit_moved s a p place rests (lowest_page (s.right p)) refl
+  op_moved slots op short = absurd short
 
 -- what is done with a pin that is made leaves all mappings
 
@@ -245,17 +247,9 @@ kept_word s a handle true last i j None = refl
 kept_word s a handle false last i j None = refl
 
 pub kept_rights : (s : CoreState) (a p slots far : ℕ) (op : Op) → (IsOfProcess op → ⊥) → (run s (op_turn s a p slots far op).events).right ≡ s.right
-kept_rights s a p slots far (Map page n rights) none = absurd (none tt)
-kept_rights s a p slots far (Unmap page n) none = absurd (none tt)
-kept_rights s a p slots far (Protect page n rights) none = absurd (none tt)
-kept_rights s a p slots far (Discard page n) none = absurd (none tt)
-kept_rights s a p slots far (Load page word) none = absurd (none tt)
-kept_rights s a p slots far (Store page word value) none = absurd (none tt)
-kept_rights s a p slots far (Pin handle page n want fast) none = absurd (none tt)
 kept_rights s a p slots far (Unpin handle) none = kept_unpin s a handle (is_held_by (s.handle handle) a)
 kept_rights s a p slots far (Give handle to) none = kept_give s a handle to (is_held_by (s.handle handle) a)
 kept_rights s a p slots far (Take handle) none = refl
-kept_rights s a p slots far (Transfer handle outward index slot n) none =
-    kept_word s a handle outward (far + 1 == n) (index + far) (slot + far) (transfer_denial (s.handle handle) a outward slots slot ((index, n) ∷ []))
-kept_rights s a p slots far (Fork child) none = absurd (none tt)
-kept_rights s a p slots far Exit none = absurd (none tt)
+kept_rights s a p slots far (Transfer handle outward slot parts) none =
+    kept_word s a handle outward (far + 1 == words_of parts) (word_at parts far) (slot + far) (transfer_denial (s.handle handle) a outward slots slot parts)
+kept_rights s a p slots far op none = absurd (none tt)

@@ -9,15 +9,15 @@ use Rattle.gup_plain.specs.Put.{put}
 use Rattle.gup_plain.specs.State.{born}
 use Rattle.gup_plain.specs.declared.note.Waiting.{Waiting}
 use Rattle.gup_script.specs.declared.op.Op.{Op}
-use Rattle.gup_script.specs.declared.op.Op.TheVariants.{Map, Unmap, Protect, Discard, Load, Store, Pin, Unpin, Give, Take, Transfer, Fork, Exit}
+use Rattle.gup_script.specs.declared.op.Op.TheVariants.{Map, Unmap, Discard, Pin, Unpin, Transfer, Fork, Exit}
 use Rattle.gup_script.specs.Script.{ScriptValue, Actor}
 use Rattle.gup_script.specs.Valid.{IsScript}
 use Rattle.gup_spec_events.specs.State.{CoreState}
 use Rattle.gup_spec_events.specs.Event.{CoreEvent, run}
 use Rattle.gup_spec_journal.specs.Place.{Place, doer, present_op, process_of, ops_of, ops_in}
 use Rattle.gup_spec_turns.specs.Cost.{fork_turns, mapped_by, map_pages, most_turns_of, IsAnswered, IsWithinBound}
-use Rattle.gup_spec_turns.specs.Pages.{sum_below, mapped_pages}
-use Rattle.gup_spec_turns.specs.ForkPlace.{ForkPlace, place_in, unbegun, from_page, at_page, wants_frame, at_word}
+use Rattle.gup_plain.specs.Pages.{sum_below, mapped_pages}
+use Rattle.gup_spec_turns.specs.JobPlace.{JobPlace, place_in, unbegun}
 use Rattle.gup_spec_turns.specs.Run.{turned, RunState, run_start, run_after, op_in, waiting_in, core_turn_in, is_ready}
 use Rattle.gup_law_turns.specs.Standing.{IsStanding}
 use Rattle.gup_law_turns.proofs.ScriptLemmas.{has_ops_declared, is_of_thread, thread_birth}
@@ -118,18 +118,7 @@ AreWithin script s places = (a : ℕ) → IsWithin script s (yet_mapped script p
 goes_unmapped : (op : Op) (a p : ℕ) (place next : Place) (s t : CoreState) → next.answered ≡ place.answered → IsWithinBound op a p place next s t → mapped_by op ≡ 0
 goes_unmapped (Map page n rights) a p place next s t same bound =
     absurd (let more : next.answered ≡ place.answered + 1 = ap (λ (q : Place). q.answered) bound in omega (arith, same, more))
-goes_unmapped (Unmap page n) a p place next s t same bound = refl
-goes_unmapped (Protect page n rights) a p place next s t same bound = refl
-goes_unmapped (Discard page n) a p place next s t same bound = refl
-goes_unmapped (Load page word) a p place next s t same bound = refl
-goes_unmapped (Store page word value) a p place next s t same bound = refl
-goes_unmapped (Pin handle page n want fast) a p place next s t same bound = refl
-goes_unmapped (Unpin handle) a p place next s t same bound = refl
-goes_unmapped (Give handle to) a p place next s t same bound = refl
-goes_unmapped (Take handle) a p place next s t same bound = refl
-goes_unmapped (Transfer handle outward index slot n) a p place next s t same bound = refl
-goes_unmapped (Fork child) a p place next s t same bound = refl
-goes_unmapped Exit a p place next s t same bound = refl
+goes_unmapped op a p place next s t same bound = refl
 
 -- an answer is none that goes on
 not_answered : (place next : Place) → next.answered ≡ place.answered → IsAnswered place next → ⊥
@@ -286,30 +275,22 @@ few_turns published script valid r h within a op is = go op is (subst (λ (o : O
     far : ℕ
     far = (r.places a).far
 
-    some_turns : (right : ℕ → Option Rights) (x : ForkPlace) → 0 < fork_turns right x
+    some_turns : (right : ℕ → Option Rights) (x : JobPlace) → 0 < fork_turns right x
     some_turns right unbegun = omega arith
-    some_turns right (from_page page) = omega arith
-    some_turns right (at_page page) = omega arith
-    some_turns right (wants_frame page) = omega arith
-    some_turns right (at_word page word to) = omega arith
+    some_turns right x = omega arith
 
     go : (o : Op) → op_in script r a ≡ Some o → FitsOp r.core (doer script a) o (r.places a) → far < most_turns_of script o
-    go (Map page n rights) is fits = let first = fits.1.0 in omega (arith, first)
     go (Unmap page n) is fits = fits.1
-    go (Protect page n rights) is fits = let first = fits.1.0 in omega (arith, first)
     go (Discard page n) is fits = fits.1
-    go (Load page word) is fits = let first = fits.1.0 in omega (arith, first)
-    go (Store page word value) is fits = let first = fits.1.0 in omega (arith, first)
     go (Pin handle page n want fast) is fits = fits.2.within
     go (Unpin handle) is fits = (is_standing published script valid r h).unpins a handle is
-    go (Give handle to) is fits = let first = fits.1.0 in omega (arith, first)
-    go (Take handle) is fits = let first = fits.1.0 in omega (arith, first)
-    go (Transfer handle outward index slot n) is fits = fits.2
+    go (Transfer handle outward slot parts) is fits = fits.2
     go (Fork child) is fits =
         let all = (within a).forks child is in
         let some = some_turns (r.core.right child) (place_in r.core a) in
         omega (arith, all, some)
     go Exit is fits = let all = (within a).exits is in omega (arith, all)
+    go op is fits = let first = fits.1.0 in omega (arith, first)
 
 -- after turns of any actors
 pub within_turned : Law → Published → (script : ScriptValue) → IsScript script → (actors : List ℕ) (r : RunState) → IsReached script r → AreWithin script r.core r.places → (a : ℕ) (op : Op) → op_in script (turned script r actors) a ≡ Some op → ((turned script r actors).places a).far < most_turns_of script op

@@ -5,20 +5,20 @@ use Rattle.std.proofs.lemmas.Bool.Decides.{nat_tests}
 use Rattle.std.proofs.lemmas.List.Sums.{sum_by-cons}
 use Rattle.gup_base.specs.declared.entry.Rights.{Rights}
 use Rattle.gup_plain.specs.Put.{put}
-use Rattle.gup_plain.specs.State.{Birth, unborn, growing, born, failed, Handle, unmade, held, given, gone, objects_of}
+use Rattle.gup_plain.specs.State.{Birth, growing, born, failed, Handle, held, objects_of}
 use Rattle.gup_plain.specs.Denial.{is_held_by}
 use Rattle.gup_plain.specs.declared.note.Waiting.{Waiting}
 use Rattle.gup_script.specs.declared.op.Op.{Op}
-use Rattle.gup_script.specs.declared.op.Op.TheVariants.{Map, Unmap, Protect, Discard, Load, Store, Pin, Unpin, Give, Take, Transfer, Fork, Exit}
+use Rattle.gup_script.specs.declared.op.Op.TheVariants.{Map, Unmap, Discard, Pin, Unpin, Transfer, Fork}
 use Rattle.gup_script.specs.Script.{ScriptValue, Actor}
 use Rattle.gup_script.specs.Valid.{IsScript, IsOp, IsOfDevice}
-use Rattle.gup_spec_events.specs.State.{CoreState, Job, idle, marking, moving, forking, walking, between, counted, lowered, cleared, copying, failing}
+use Rattle.gup_spec_events.specs.State.{CoreState, Job, idle, forking, between, counted, copying}
 use Rattle.gup_spec_events.specs.Event.{CoreEvent, run}
 use Rattle.gup_law_base.specs.Sound.{Forking, forking_of}
 use Rattle.gup_spec_journal.specs.Place.{Place, Doer, doer, birth_for, place_behind, process_of, ops_of, ops_in}
 use Rattle.gup_spec_turns.specs.Cost.{fork_left, op_cost, op_left, left_cost, actor_cost, cost, operations, is_fork, forks, IsBoundedTurn, IsWithinBound}
-use Rattle.gup_spec_turns.specs.Pages.{sum_below, mapped_pages}
-use Rattle.gup_spec_turns.specs.ForkPlace.{ForkPlace, fork_place, place_in, IsForking, StandsFork, IsNoFork, unbegun}
+use Rattle.gup_plain.specs.Pages.{sum_below, mapped_pages}
+use Rattle.gup_spec_turns.specs.JobPlace.{JobPlace, job_place, place_in, IsForking, StandsFork, IsNoFork, unbegun}
 use Rattle.gup_law_turns.specs.Standing.{IsStanding, StandsHandle, given_back, back_in}
 use Rattle.gup_spec_turns.specs.Run.{RunState, run_start, run_after, op_in, waiting_in, waiting_with, core_turn_by, core_turn_in, is_ready, can_go}
 use Rattle.gup_spec_turns.specs.Waits.{waits_born}
@@ -28,7 +28,7 @@ use Rattle.gup_law_costs.proofs.ForkBounds.{IsSpent, StandsAt, place_by, turn_sp
 use Rattle.gup_law_turns.proofs.MappedCounts.{mapped_none}
 use Rattle.gup_law_turns.proofs.Puts.{put_same, put_other, put_own}
 use Rattle.gup_law_costs.proofs.PinBounds.{kept_rights}
-use Rattle.gup_law_turns.proofs.ScriptLemmas.{has_ops_declared, child_declared, is_of_thread, thread_birth, has_process}
+use Rattle.gup_law_turns.proofs.ScriptLemmas.{has_ops_declared, op_is_op, child_declared, is_of_thread, thread_birth, has_process}
 use Rattle.gup_law_turns.proofs.TurnShapes.{HasLeft, IsOfProcess, child_of}
 use Rattle.gup_law_turns.proofs.ShownTurns.{idle_place, waits_no_birth}
 use Rattle.gup_law_turns.proofs.Sums.{sum_at, sum_same, sum_zero, sum_of_list}
@@ -47,19 +47,8 @@ cost_first (op ∷ ops) = refl
 
 -- an idle actor stands at the first turn of its operation
 left_op : (s : CoreState) (a : ℕ) → s.job a ≡ idle → (op : Op) → op_left s a op 0 ≡ op_cost op
-left_op s a rests (Map page n rights) = refl
-left_op s a rests (Unmap page n) = omega arith
-left_op s a rests (Protect page n rights) = refl
-left_op s a rests (Discard page n) = omega arith
-left_op s a rests (Load page word) = refl
-left_op s a rests (Store page word value) = refl
-left_op s a rests (Pin handle page n want fast) = omega arith
-left_op s a rests (Unpin handle) = omega arith
-left_op s a rests (Give handle to) = refl
-left_op s a rests (Take handle) = refl
-left_op s a rests (Transfer handle outward index slot n) = omega arith
 left_op s a rests (Fork child) = ap (fork_left (s.right child)) (idle_place s a rests)
-left_op s a rests Exit = refl
+left_op s a rests op = omega arith
 
 left_idle : (s : CoreState) (a : ℕ) → s.job a ≡ idle → (ops : List Op) (k : ℕ) → left_cost s a ops k 0 ≡ cost_from ops k
 left_idle s a rests [] k = refl
@@ -101,43 +90,28 @@ left_same s t a (op ∷ ops) (suc k) far same = left_same s t a ops k far same
 
 -- A measure of where a fork stands stays, if its actor's job and prepared frame do, and the rights of the child that grows;
 -- before its beginning it is to be of no rights.
-pub fork_stays : (measure : (ℕ → Option Rights) → ForkPlace → ℕ) → ((f g : ℕ → Option Rights) → measure f unbegun ≡ measure g unbegun) → (s t : CoreState) (b p child : ℕ) (job : Job) (prepared : Option ℕ) → StandsFork s b p child job prepared → s.job b ≡ job → s.prepared b ≡ prepared → t.job b ≡ s.job b → t.prepared b ≡ s.prepared b → (s.birth child ≡ growing p → s.structure p ≡ Some b → t.right child ≡ s.right child) → measure (t.right child) (place_in t b) ≡ measure (s.right child) (place_in s b)
+pub fork_stays : (measure : (ℕ → Option Rights) → JobPlace → ℕ) → ((f g : ℕ → Option Rights) → measure f unbegun ≡ measure g unbegun) → (s t : CoreState) (b p child : ℕ) (job : Job) (prepared : Option ℕ) → StandsFork s b p child job prepared → s.job b ≡ job → s.prepared b ≡ prepared → t.job b ≡ s.job b → t.prepared b ≡ s.prepared b → (s.birth child ≡ growing p → s.structure p ≡ Some b → t.right child ≡ s.right child) → measure (t.right child) (place_in t b) ≡ measure (s.right child) (place_in s b)
 fork_stays measure first s t b p child job prepared stands is has same kept rights =
     ap (measure (t.right child)) (place_by t b job prepared (same ∙ is) (kept ∙ has)) ∙ go job prepared stands
     ∙ sym (ap (measure (s.right child)) (place_by s b job prepared is has))
   where
-    grows : (x : ForkPlace) (q c : ℕ) (done : List ℕ) → IsForking s b p child q c done → measure (t.right child) x ≡ measure (s.right child) x
+    grows : (x : JobPlace) (q c : ℕ) (done : List ℕ) → IsForking s b p child q c done → measure (t.right child) x ≡ measure (s.right child) x
     grows x q c done forks = ap (λ (f : ℕ → Option Rights). measure f x) (rights forks.birth forks.locked)
 
-    go : (j : Job) (o : Option ℕ) → StandsFork s b p child j o → measure (t.right child) (fork_place j o) ≡ measure (s.right child) (fork_place j o)
+    go : (j : Job) (o : Option ℕ) → StandsFork s b p child j o → measure (t.right child) (job_place j o) ≡ measure (s.right child) (job_place j o)
     go idle o stands = first (t.right child) (s.right child)
-    go (marking q page f) o stands = absurd stands
-    go (moving q page e allowed count) o stands = absurd stands
-    go (walking q write long sequence step) o stands = absurd stands
-    go (forking q c done between) o stands = grows (fork_place (forking q c done between) o) q c done stands
-    go (forking q c done (counted page)) o stands = grows (fork_place (forking q c done (counted page)) o) q c done stands.0
-    go (forking q c done (lowered page)) o stands = absurd stands
-    go (forking q c done (cleared page)) o stands = absurd stands
-    go (forking q c done (copying page word)) o stands = grows (fork_place (forking q c done (copying page word)) o) q c done stands.0
-    go (forking q c done failing) o stands = absurd stands
+    go (forking q c done between) o stands = grows (job_place (forking q c done between) o) q c done stands
+    go (forking q c done (counted page)) o stands = grows (job_place (forking q c done (counted page)) o) q c done stands.0
+    go (forking q c done (copying page word)) o stands = grows (job_place (forking q c done (copying page word)) o) q c done stands.0
+    go (forking q c done step) o stands = absurd stands
+    go job o stands = absurd stands
 
 -- the operation of another actor has as much left
 op_stays : (script : ScriptValue) (r : RunState) → IsStanding script r → (t : CoreState) (b : ℕ) → t.job b ≡ r.core.job b → t.prepared b ≡ r.core.prepared b → ((q parent : ℕ) → r.core.birth q ≡ growing parent → r.core.structure parent ≡ Some b → t.right q ≡ r.core.right q) → (op : Op) → op_in script r b ≡ Some op → op_left t b op (r.places b).far ≡ op_left r.core b op (r.places b).far
-op_stays script r h t b job kept grown (Map page n rights) is = refl
-op_stays script r h t b job kept grown (Unmap page n) is = refl
-op_stays script r h t b job kept grown (Protect page n rights) is = refl
-op_stays script r h t b job kept grown (Discard page n) is = refl
-op_stays script r h t b job kept grown (Load page word) is = refl
-op_stays script r h t b job kept grown (Store page word value) is = refl
-op_stays script r h t b job kept grown (Pin handle page n want fast) is = refl
-op_stays script r h t b job kept grown (Unpin handle) is = refl
-op_stays script r h t b job kept grown (Give handle to) is = refl
-op_stays script r h t b job kept grown (Take handle) is = refl
-op_stays script r h t b job kept grown (Transfer handle outward index slot n) is = refl
 op_stays script r h t b job kept grown (Fork child) is =
     let p : ℕ = process_of script b in
     fork_stays fork_left (λ f g. refl) r.core t b p child (r.core.job b) (r.core.prepared b) (h.forks b child is) refl refl job kept (grown child p)
-op_stays script r h t b job kept grown Exit is = refl
+op_stays script r h t b job kept grown op is = refl
 
 -- an operation of a process is none of a device
 pub process_no_device : (op : Op) → IsOfProcess op → IsOfDevice op → ⊥
@@ -151,38 +125,28 @@ has_child script valid a k op there = go op there
     own o of is = has_process script valid a (is_of_thread script valid a k o is (process_no_device o of))
 
     go : (o : Op) → slice_get (ops_of script a) k ≡ Some o → (child_of (process_of script a) (Some o) < length script.processes) ⊎ (IsOfProcess o → ⊥)
-    go (Map page n rights) is = inl (own (Map page n rights) tt is)
-    go (Unmap page n) is = inl (own (Unmap page n) tt is)
-    go (Protect page n rights) is = inl (own (Protect page n rights) tt is)
-    go (Discard page n) is = inl (own (Discard page n) tt is)
-    go (Load page word) is = inl (own (Load page word) tt is)
-    go (Store page word value) is = inl (own (Store page word value) tt is)
-    go (Pin handle page n want fast) is = inl (own (Pin handle page n want fast) tt is)
-    go (Unpin handle) is = inr (λ e. e)
-    go (Give handle to) is = inr (λ e. e)
-    go (Take handle) is = inr (λ e. e)
-    go (Transfer handle outward index slot n) is = inr (λ e. e)
     go (Fork child) is = inl (child_declared script valid a k child is)
-    go Exit is = inl (own Exit tt is)
+    go op is = search (own op, inl, inr)
 
 -- the turn of an actor that can go
 
 -- of a pin that the actor holds, what is left
 left_of : (back : ℕ → ℕ) (pinned : List ℕ) (x : Handle) (a : ℕ) → StandsHandle back pinned x → is_held_by x a ≡ true → (0 < length pinned) × (length pinned + back a ≡ length (objects_of x))
-left_of back pinned unmade a stands is = absurd (cc is)
-left_of back pinned gone a stands is = absurd (cc is)
-left_of back pinned (given to objects write) a stands is = absurd (cc is)
 left_of back pinned (held by objects write) a stands is =
     let same : by ≡ a = eqb-true by a is in
     (stands.0, subst (λ (k : ℕ). length pinned + back k ≡ length objects) same stands.2)
+left_of back pinned x a stands is = absurd (cc is)
 
 gives_back_far : (handle far : ℕ) → given_back (Some (Unpin handle)) handle far ≡ far
 gives_back_far handle far = grind (arith, nat_tests)
 
 -- where an operation stands
-stands_at : (script : ScriptValue) (r : RunState) → IsStanding script r → (a : ℕ) (op : Op) → op_in script r a ≡ Some op → StandsAt r.core a (process_of script a) (r.places a) op
-stands_at script r h a op is = go op is
+stands_at : (script : ScriptValue) → IsScript script → (r : RunState) → IsStanding script r → (a : ℕ) (op : Op) → op_in script r a ≡ Some op → StandsAt r.core a (process_of script a) (r.places a) op
+stands_at script valid r h a op is = go op is
   where
+    built : (op : Op) → op_in script r a ≡ Some op → IsOp op
+    built op is = op_is_op script valid a (r.places a).answered op is
+
     rests : (op : Op) → IsNoFork (Some op) → op_in script r a ≡ Some op → r.core.job a ≡ idle
     rests op none is = h.idle_jobs a (subst IsNoFork (sym is) none)
 
@@ -193,21 +157,15 @@ stands_at script r h a op is = go op is
         (has.0, ap (λ (k : ℕ). length (r.core.pinned handle) + k) (sym back) ∙ has.1)
 
     go : (op : Op) → op_in script r a ≡ Some op → StandsAt r.core a (process_of script a) (r.places a) op
-    go (Map page n rights) is = (rests (Map page n rights) tt is, tt)
     go (Unmap page n) is = (rests (Unmap page n) tt is, h.unmaps a page n is)
-    go (Protect page n rights) is = (rests (Protect page n rights) tt is, tt)
     go (Discard page n) is = (rests (Discard page n) tt is, h.discards a page n is)
-    go (Load page word) is = (rests (Load page word) tt is, tt)
-    go (Store page word value) is = (rests (Store page word value) tt is, tt)
     go (Pin handle page n want fast) is =
         let stands = h.pins a handle page n want fast is in
         (rests (Pin handle page n want fast) tt is, (stands.within, stands.taken.many))
     go (Unpin handle) is = (rests (Unpin handle) tt is, (h.unpins a handle is, left handle is))
-    go (Give handle to) is = (rests (Give handle to) tt is, tt)
-    go (Take handle) is = (rests (Take handle) tt is, tt)
-    go (Transfer handle outward index slot n) is = (rests (Transfer handle outward index slot n) tt is, h.transfers a handle outward index slot n is)
+    go (Transfer handle outward slot parts) is = (rests (Transfer handle outward slot parts) tt is, h.transfers a handle outward slot parts is)
     go (Fork child) is = h.forks a child is
-    go Exit is = (rests Exit tt is, tt)
+    go op is = let right = built op is in (rests op tt is, search right)
 
 goes_by : (script : ScriptValue) (r : RunState) (a : ℕ) (op : Op) → op_in script r a ≡ Some op → waiting_in script r a ≡ None → (birth_for r.core.birth (doer script a) ≡ born) ⊎ (birth_for r.core.birth (doer script a) ≡ failed)
 goes_by script r a op is free =
@@ -227,30 +185,17 @@ spent_turn script valid r h a op is free =
     let P : Option Op → Option Waiting → Type 0 = λ o w. IsSpent r.core a p (r.places a) op (core_turn_by r.core who (r.places a).far o w) in
     let own : IsOfProcess op → r.core.birth p ≡ birth_for r.core.birth who =
     λ of. sym (thread_birth who r.core.birth (is_of_thread script valid a k op is (process_no_device op of))) in
-    let spent : P (Some op) None = turn_spent r.core who (r.places a) op (goes_by script r a op is free) own (forked_born script r h a) (h.few_pages p) (stands_at script r h a op is) in
+    let spent : P (Some op) None = turn_spent r.core who (r.places a) op (goes_by script r a op is free) own (forked_born script r h a) (h.few_pages p) (stands_at script valid r h a op is) in
     subst (λ (w : Option Waiting). P (op_in script r a) w) (sym free) (subst (λ (o : Option Op). P o None) (sym is) spent)
 
 -- what is of no process leaves all mappings, whether it is refused since its process failed or not
 kept_failed : (s : CoreState) (a p : ℕ) (op : Op) → (IsOfProcess op → ⊥) → (run s (failed_turn a p op).events).right ≡ s.right
-kept_failed s a p (Map page n rights) none = absurd (none tt)
-kept_failed s a p (Unmap page n) none = absurd (none tt)
-kept_failed s a p (Protect page n rights) none = absurd (none tt)
-kept_failed s a p (Discard page n) none = absurd (none tt)
-kept_failed s a p (Load page word) none = absurd (none tt)
-kept_failed s a p (Store page word value) none = absurd (none tt)
-kept_failed s a p (Pin handle page n want fast) none = absurd (none tt)
-kept_failed s a p (Unpin handle) none = refl
-kept_failed s a p (Give handle to) none = refl
-kept_failed s a p (Take handle) none = refl
-kept_failed s a p (Transfer handle outward index slot n) none = refl
 kept_failed s a p (Fork child) none = absurd (none tt)
-kept_failed s a p Exit none = absurd (none tt)
+kept_failed s a p op none = refl
 
 kept_at : (s : CoreState) (who : Doer) (far : ℕ) (op : Op) (b : Birth) → (IsOfProcess op → ⊥) → (run s (turn_at b (failed_turn who.actor who.proc op) (op_turn s who.actor who.proc who.slots far op)).events).right ≡ s.right
-kept_at s who far op unborn none = kept_rights s who.actor who.proc who.slots far op none
-kept_at s who far op (growing parent) none = kept_rights s who.actor who.proc who.slots far op none
-kept_at s who far op born none = kept_rights s who.actor who.proc who.slots far op none
 kept_at s who far op failed none = kept_failed s who.actor who.proc op none
+kept_at s who far op b none = kept_rights s who.actor who.proc who.slots far op none
 
 kept_turn : (script : ScriptValue) (r : RunState) (a : ℕ) (op : Op) → op_in script r a ≡ Some op → waiting_in script r a ≡ None → (IsOfProcess op → ⊥) → (run r.core (core_turn_in script r a).events).right ≡ r.core.right
 kept_turn script r a op is free none =
@@ -331,19 +276,8 @@ kept_cost script r a stays =
 
 -- an operation costs at most 1,025, and a fork 527,361 more
 most_of : (op : Op) → IsOp op → op_cost op ≤ 1025 + 527361 * is_fork op
-most_of (Map page n rights) range = let few = range.1 in omega arith
-most_of (Unmap page n) range = let few = range.1 in omega arith
-most_of (Protect page n rights) range = omega arith
-most_of (Discard page n) range = let few = range.1 in omega arith
-most_of (Load page word) range = omega arith
-most_of (Store page word value) range = omega arith
-most_of (Pin handle page n want fast) range = let few = range.1 in omega arith
-most_of (Unpin handle) range = omega arith
-most_of (Give handle to) range = omega arith
-most_of (Take handle) range = omega arith
-most_of (Transfer handle outward index slot n) range = let few = range.1 in omega arith
-most_of (Fork child) range = omega arith
-most_of Exit range = omega arith
+most_of (Map page n rights) range = omega arith
+most_of op range = omega arith
 
 most_of_ops : (ops : List Op) → All IsOp ops → sum_by op_cost ops ≤ 1025 * length ops + 527361 * sum_by is_fork ops
 most_of_ops [] range = omega arith

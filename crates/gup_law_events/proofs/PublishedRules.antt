@@ -8,8 +8,8 @@ use Rattle.gup_base.specs.declared.entry.Rights.TheVariants.{R, RW}
 use Rattle.gup_plain.specs.State.{born, failed}
 use Rattle.gup_spec_events.specs.State.{CoreState, Taken, Counted, one, Job, idle, marking, moving, forking, walking, ForkStep, between, counted, lowered, cleared, copying, failing, WalkStep, entered, ready, read, grabbed, rechecked, differed, refused, stopped, dropping, over}
 use Rattle.gup_spec_events.specs.Event.{bias, is_odd}
-use Rattle.gup_spec_events.specs.Invariant.{HasCleared, IsEntry, Names, IsSettled, IsExclusive, IsSharing, IsUndisturbed, IsParted, IsUncopied, StandsFor, IsAsPinned, AwaitsMark, IsWalked, AreNormal, Holds, frame_of, is_unsettled}
-use Rattle.gup_law_base.specs.Sound.{View, Moving, Forking, Walking, moving_of, forking_of, walking_of, is_open, is_failing, unkept, shared_page, IsUncopiedBy, IsSoundBy}
+use Rattle.gup_spec_events.specs.Invariant.{HasCleared, IsEntry, Names, IsSettled, IsExclusive, IsSharing, IsUndisturbed, IsParted, IsUncopied, StandsFor, IsAsPinned, AwaitsMark, IsWalked, CountsWalks, AreNormal, Holds, frame_of, is_unsettled, walked_process}
+use Rattle.gup_law_base.specs.Sound.{View, Moving, Forking, Walking, moving_of, forking_of, walking_of, walk_process, is_open, is_failing, unkept, shared_page, IsUncopiedBy, IsSoundBy}
 use Rattle.gup_law_base.proofs.Rows.{contains_at, at_within}
 use Rattle.gup_law_base.proofs.DonePages.{some_there}
 use Rattle.gup_law_base.proofs.Steps.{even_apart}
@@ -38,6 +38,13 @@ unsettled_is idle = refl
 unsettled_is (marking p page f) = refl
 unsettled_is (moving p page e allowed count) = refl
 unsettled_is (forking p c done step) = refl
+
+process_is : (job : Job) → walked_process job ≡ walk_process (walking_of job)
+process_is (walking p write long sequence step) = refl
+process_is idle = refl
+process_is (marking p page f) = refl
+process_is (moving p page e allowed count) = refl
+process_is (forking p c done step) = refl
 
 sharing_is : (step : ForkStep) (page : ℕ) → IsSharing step page → shared_page step ≡ Some page
 sharing_is (counted g) page is = ap (λ n. Some n) is
@@ -372,6 +379,13 @@ module _ (v : View) (s : CoreState) (h : IsSoundBy v s) where
         pair = pair;
       }
 
+  -- how many they are
+  walkers : CountsWalks s
+  walkers p =
+      let are = h.walks_number p in
+      let same = λ (a : ℕ). process_is (s.job a) ∙ ap walk_process (sym (h.walks_are a)) in
+      (are.0, are.1, (λ a. (λ is. (are.2 a).0 (sym (same a) ∙ is), λ has. same a ∙ (are.2 a).1 has)), are.3)
+
   -- 8. Zones
 
   normal : AreNormal s
@@ -382,4 +396,4 @@ module _ (v : View) (s : CoreState) (h : IsSoundBy v s) where
       }
 
   pub published : Holds s
-  published = record { counts = counts v s h; exclusive = exclusive; parted = parted; stands = stands; walked = walked; normal = normal }
+  published = record { counts = counts v s h; exclusive = exclusive; parted = parted; stands = stands; walked = walked; walks = walkers; normal = normal }

@@ -48,6 +48,7 @@ sound_start movable normal is_born = (
     references = none_counted (held (λ _ _. None) (λ _. None) (λ _. None) (λ _. None) (λ _. None) (λ _. []) (λ _. [])) none_held;
     grabs = none_counted (held_by_walk (λ _. None)) none_walks;
     count_is = λ f. refl;
+    walks_number = λ p. ([], tt, (λ a. (λ is. absurd (cc), λ has. absurd (no_element a has))), refl);
     marks_are = λ a. refl;
     moves_are = λ a. refl;
     forks_are = λ a. refl;

@@ -34,7 +34,8 @@ pub fn simulates()
 
 /// In a sound state each frame's count is that of its references, the exclusive rule holds, what a fork shares and a
 /// mover moves is under no pin, frames have the bytes that the plain state says, what a walk has taken is as good as
-/// pinned while no fork has begun, and what is pinned for long is of the normal zone.
+/// pinned while no fork has begun, a process has as many walks as actors walk it, and what is pinned for long is of the
+/// normal zone.
 pub fn sound_states_hold()
     ensures { (s : CoreState) → IsSound s → Holds s }
 {}

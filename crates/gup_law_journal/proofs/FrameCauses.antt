@@ -2,6 +2,9 @@
 use Rattle.std.proofs.Common.{◌≡◌, ℕ, ◌+◌, ◌<◌, ◌==◌, nat_lt, Bool, true, false, if◌then◌else◌, IsTrue, List, [], ◌∷◌, ◌++◌, length, slice_index_or, Option, Some, None, IsSome, ◌⊎◌, refl, sym, ap, subst, inl, inr, ◌&&◌, zero, suc, arith}
 use Rattle.std.specs.Prelude.{Ok, Err}
 use Rattle.std.proofs.lemmas.Bool.Decides.{nat_tests}
+use Rattle.gup_base.specs.Parts.{Part, words_of, word_at}
+use Rattle.gup_base.specs.declared.entry.Allowed.{Allowed}
+use Rattle.gup_base.specs.declared.entry.Allowed.TheVariants.{Any}
 use Rattle.gup_base.specs.declared.entry.Entry.{Entry}
 use Rattle.gup_base.specs.declared.entry.Rights.{Rights}
 use Rattle.gup_base.specs.declared.entry.Rights.TheVariants.{R, RW}
@@ -12,22 +15,22 @@ use Rattle.gup_plain.specs.declared.answer.Answer.TheVariants as answers
 use Rattle.gup_plain.specs.declared.note.What.{What}
 use Rattle.gup_plain.specs.declared.answer.Cause.{Cause}
 use Rattle.gup_plain.specs.declared.answer.Cause.TheVariants as causes
-use Rattle.gup_plain.specs.declared.note.What.TheVariants.{Silent, Idle, Wait, Event, Done}
+use Rattle.gup_plain.specs.declared.note.What.TheVariants.{Idle, Wait, Done}
 use Rattle.gup_plain.specs.declared.note.Waiting.{Waiting}
 use Rattle.gup_plain.specs.Denial.{any_mapped, any_unmapped, map_denial, protect_denial, is_held_by, has_words, has_slots, range_denial, transfer_denial_by, transfer_denial}
 use Rattle.gup_plain.specs.Event.{may_write, words}
 use Rattle.gup_script.specs.declared.op.Op.{Op}
 use Rattle.gup_script.specs.declared.op.Op.TheVariants.{Map, Unmap, Protect, Discard, Load, Store, Pin, Unpin, Give, Take, Transfer, Fork, Exit}
 use Rattle.gup_script.specs.Script.{ScriptValue}
-use Rattle.gup_spec_events.specs.State.{CoreState, Job, idle, marking, moving, forking, walking, between, counted, lowered, cleared, copying, failing}
+use Rattle.gup_spec_events.specs.State.{CoreState, Job, forking, between, counted, copying}
 use Rattle.gup_spec_events.specs.Event.{upgrade}
 use Rattle.gup_spec_events.specs.Fault.{Fault, fills, unshares, unshare_fault, read_fault, write_fault, fills_writable, breaks, makes_writable, marks}
 use Rattle.gup_spec_journal.specs.Follows.{refuses}
 use Rattle.gup_spec_journal.specs.Place.{Doer, doer, birth_for}
 use Rattle.gup_spec_turns.specs.Cause.{AreHeld, allowed_of, MayBeShared, NeedsOwn, NeedsWritable, NeedsForPin, NeedsFor, LacksFrame, LacksExactly}
-use Rattle.gup_spec_turns.specs.ForkPlace.{ForkPlace, copying_place, fork_place, unbegun, from_page, at_page, wants_frame, at_word}
+use Rattle.gup_spec_turns.specs.JobPlace.{JobPlace, copying_place, job_place, unbegun, from_page, at_page, wants_frame, at_word}
 use Rattle.gup_spec_turns.specs.Run.{RunState, op_in, waiting_in, waiting_with, core_turn_by, turn_in}
-use Rattle.gup_spec_turns.specs.CoreTurn.{CoreTurn, answers_with, free_frame, allows_store, silent_or_done}
+use Rattle.gup_spec_turns.specs.CoreTurn.{CoreTurn, answers_with, free_in, free_frame, zones_of, allows_store, silent_or_done}
 use Rattle.gup_spec_turns.specs.ForkTurns.{first_behind, next_page, page_turn, next_turn, frame_turn, copy_turn, copying_turn, fork_turn}
 use Rattle.gup_spec_turns.specs.Waits.{waits_born}
 use Rattle.gup_spec_turns.proofs.TurnParts.{loads_after, stores_after, store_fault_by, map_turn_by, unmap_turn_by, protect_turn_by, discard_turn_by, unpin_turn_by, give_turn_by, transfer_turn_by}
@@ -37,40 +40,21 @@ use Rattle.gup_spec_turns.specs.PinTurns.{pin_fault, pinned_if, cause_of, ends_p
 use Rattle.gup_law_turns.proofs.Puts.{some_same}
 use Rattle.gup_law_turns.proofs.NoteRightness.{unrefused_short, not_both}
 use Rattle.gup_law_turns.proofs.ShownTurns.{waits_no_birth}
-use Rattle.gup_law_turns.proofs.PageSearches.{free_frame_free, no_frame_free, denied_map, denied_protect}
+use Rattle.gup_law_turns.proofs.PageSearches.{free_in_free, free_in_allowed, none_free_in, denied_map, denied_protect}
 
 -- the answer is one for want of a frame, or of a short pin that ended so
 abbrev IsWantIn : Cause → Type 0
-IsWantIn causes.Missing = ⊥
-IsWantIn causes.Forbidden = ⊥
 IsWantIn causes.NoFrame = Unit {0}
-IsWantIn (causes.Unmovable count) = ⊥
+IsWantIn cause = ⊥
 
 abbrev IsWant : Answer → Type 0
-IsWant answers.Plain = ⊥
-IsWant (answers.Value value) = ⊥
-IsWant answers.Missing = ⊥
-IsWant answers.Forbidden = ⊥
 IsWant answers.NoFrame = Unit {0}
-IsWant answers.Overlap = ⊥
-IsWant answers.Full = ⊥
-IsWant answers.Unborn = ⊥
-IsWant (answers.Unmovable count) = ⊥
-IsWant (answers.Busy count) = ⊥
-IsWant answers.Untouched = ⊥
-IsWant answers.Stale = ⊥
-IsWant answers.NotHeld = ⊥
-IsWant answers.Range = ⊥
-IsWant (answers.Pinned pages) = ⊥
 IsWant (answers.Short got wanted cause) = IsWantIn cause
-IsWant answers.Words = ⊥
+IsWant answer = ⊥
 
 abbrev IsWantNote : What → Type 0
-IsWantNote Silent = ⊥
-IsWantNote Idle = ⊥
-IsWantNote (Wait waiting) = ⊥
-IsWantNote (Event event) = ⊥
 IsWantNote (Done answer) = IsWant answer
+IsWantNote what = ⊥
 
 -- each of the notes that answers so has this cause
 abbrev pub HaveCause : Type 0 → List What → Type 0
@@ -86,13 +70,13 @@ lacking : (cause : Type 0) (whats : List What) → HaveCause cause whats → Lac
 lacking cause whats have (inl (k, less, is)) = cause_at cause whats (Done answers.NoFrame) k tt have less is
 lacking cause whats have (inr (got, wanted, (k, less, is))) = cause_at cause whats (Done (answers.Short got wanted causes.NoFrame)) k tt have less is
 
--- A turn answers so exactly where it needs a frame and none is free.
-abbrev Finds : CoreState → (needs : Type 0) → Type 0
-Finds s needs = needs × (free_frame s ≡ None)
+-- A turn answers so exactly where it needs a frame and none is free in the zones from which it takes one.
+abbrev Finds : CoreState → Allowed → (needs : Type 0) → Type 0
+Finds s allowed needs = needs × (free_in s allowed ≡ None)
 
-record IsExact (s : CoreState) (needs : Type 0) (turn : CoreTurn) : Type 0 where
-  only : HaveCause (Finds s needs) turn.whats
-  always : needs → free_frame s ≡ None → LacksFrame turn.whats
+record IsExact (s : CoreState) (allowed : Allowed) (needs : Type 0) (turn : CoreTurn) : Type 0 where
+  only : HaveCause (Finds s allowed needs) turn.whats
+  always : needs → free_in s allowed ≡ None → LacksFrame turn.whats
 
 -- a turn that never answers so, and needs none
 
@@ -103,48 +87,23 @@ have_any : (cause : Type 0) (whats : List What) → HaveCause ⊥ whats → Have
 have_any cause [] never = tt
 have_any cause (what ∷ whats) never = ((λ want. absurd (never.0 want)), have_any cause whats never.1)
 
-exact_never : (s : CoreState) (needs : Type 0) (turn : CoreTurn) → (needs → ⊥) → NeverWants turn → IsExact s needs turn
-exact_never s needs turn none never = record { only = have_any (Finds s needs) turn.whats never; always = λ need free. absurd (none need) }
+exact_never : (s : CoreState) (allowed : Allowed) (needs : Type 0) (turn : CoreTurn) → (needs → ⊥) → NeverWants turn → IsExact s allowed needs turn
+exact_never s allowed needs turn none never = record { only = have_any (Finds s allowed needs) turn.whats never; always = λ need free. absurd (none need) }
+
+-- the turn of an operation that takes no frames
+never : (s : CoreState) (allowed : Allowed) (turn : CoreTurn) → NeverWants turn → IsExact s allowed ⊥ turn
+never s allowed turn wants = exact_never s allowed ⊥ turn (λ e. e) wants
 
 -- an answer that is a refusal of an operation that never wants a frame
 answered_so : (op : Op) (answer : Answer) → refuses op answers.NoFrame ≡ false → IsTrue (refuses op answer) → IsWant answer → ⊥
-answered_so op answers.Plain never refusal wants = absurd wants
-answered_so op (answers.Value value) never refusal wants = absurd wants
-answered_so op answers.Missing never refusal wants = absurd wants
-answered_so op answers.Forbidden never refusal wants = absurd wants
 answered_so op answers.NoFrame never refusal wants = absurd (not_both (refuses op answers.NoFrame) never refusal)
-answered_so op answers.Overlap never refusal wants = absurd wants
-answered_so op answers.Full never refusal wants = absurd wants
-answered_so op answers.Unborn never refusal wants = absurd wants
-answered_so op (answers.Unmovable count) never refusal wants = absurd wants
-answered_so op (answers.Busy count) never refusal wants = absurd wants
-answered_so op answers.Untouched never refusal wants = absurd wants
-answered_so op answers.Stale never refusal wants = absurd wants
-answered_so op answers.NotHeld never refusal wants = absurd wants
-answered_so op answers.Range never refusal wants = absurd wants
-answered_so op (answers.Pinned pages) never refusal wants = absurd wants
 answered_so op (answers.Short got wanted cause) never refusal wants = absurd (not_both (refuses op (answers.Short got wanted cause)) (unrefused_short op got wanted cause) refusal)
-answered_so op answers.Words never refusal wants = absurd wants
+answered_so op answer never refusal wants = absurd wants
 
 -- a short pin ends for want of a frame where its page was refused so
 ends_so : (answer : Answer) → IsWantIn (cause_of answer) → IsWant answer
-ends_so answers.Plain wants = wants
-ends_so (answers.Value value) wants = wants
-ends_so answers.Missing wants = wants
-ends_so answers.Forbidden wants = wants
-ends_so answers.NoFrame wants = tt
-ends_so answers.Overlap wants = wants
-ends_so answers.Full wants = wants
-ends_so answers.Unborn wants = wants
-ends_so (answers.Unmovable count) wants = wants
-ends_so (answers.Busy count) wants = wants
-ends_so answers.Untouched wants = wants
-ends_so answers.Stale wants = wants
-ends_so answers.NotHeld wants = wants
-ends_so answers.Range wants = wants
-ends_so (answers.Pinned pages) wants = wants
 ends_so (answers.Short got wanted cause) wants = absurd wants
-ends_so answers.Words wants = wants
+ends_so answer wants = wants
 
 -- no transfer is denied for want of a frame
 denied_range : (fits : Bool) (answer : Answer) → range_denial fits ≡ Some answer → IsWant answer → ⊥
@@ -157,14 +116,17 @@ denied_transfer true true may fits answer is = denied_range fits answer is
 denied_transfer true false true fits answer is = denied_range fits answer is
 denied_transfer true false false fits answer is = subst (λ (x : Answer). IsWant x → ⊥) (some_same is) (λ e. e)
 
--- a fault is refused so exactly where it needs a frame and none is free
-abbrev IsExactFault : CoreState → (needs : Type 0) → Fault → Type 0
-IsExactFault s needs (Ok events) = needs → free_frame s ≡ None → ⊥
-IsExactFault s needs (Err answer) = (IsWant answer → Finds s needs) × (needs → free_frame s ≡ None → answer ≡ answers.NoFrame)
+-- a fault is refused so exactly where it needs a frame and none is free in its zones
+abbrev IsExactFault : CoreState → Allowed → (needs : Type 0) → Fault → Type 0
+IsExactFault s allowed needs (Ok events) = needs → free_in s allowed ≡ None → ⊥
+IsExactFault s allowed needs (Err answer) = (IsWant answer → Finds s allowed needs) × (needs → free_in s allowed ≡ None → answer ≡ answers.NoFrame)
 
 -- a frame that is free, where none is
-free_and_none : (s : CoreState) (f : ℕ) → free_frame s ≡ Some f → free_frame s ≡ None → ⊥
-free_and_none s f is none = cc
+free_and_none : (s : CoreState) (allowed : Allowed) (f : ℕ) → free_in s allowed ≡ Some f → free_in s allowed ≡ None → ⊥
+free_and_none s allowed f is none = cc
+
+abbrev IsAbsent : Option Entry → Type 0
+IsAbsent entry = entry ≡ None
 
 -- an unmarked frame of one reference is not shared
 unshared : (count : ℕ) → (count == 1) ≡ true → (count ≡ 1 → ⊥) → ⊥
@@ -173,114 +135,95 @@ unshared count is more = more (grind (arith, nat_tests))
 shared : (count : ℕ) → (count == 1) ≡ false → count ≡ 1 → ⊥
 shared count is one = absurd (let no : ⊥ = grind (arith, nat_tests) in no)
 
-module _ (s : CoreState) (a p : ℕ) where
-  refused_exact : (needs : Type 0) (answer : Answer) → (IsWant answer → Finds s needs) × (needs → free_frame s ≡ None → answer ≡ answers.NoFrame) → IsExact s needs (answers_with answer)
+-- of a fault that takes frames from these zones
+module _ (s : CoreState) (a p : ℕ) (allowed : Allowed) where
+  refused_exact : (needs : Type 0) (answer : Answer) → (IsWant answer → Finds s allowed needs) × (needs → free_in s allowed ≡ None → answer ≡ answers.NoFrame) → IsExact s allowed needs (answers_with answer)
   refused_exact needs answer exact =
       record {
         only = (exact.0, tt);
         always = λ need none. inl (0, omega arith, ap Done (exact.1 need none));
       }
 
-  loads_exact : (needs : Type 0) (page word : ℕ) (fault : Fault) → IsExactFault s needs fault → IsExact s needs (loads_after s fault a p page word)
+  loads_exact : (needs : Type 0) (page word : ℕ) (fault : Fault) → IsExactFault s allowed needs fault → IsExact s allowed needs (loads_after s fault a p page word)
   loads_exact needs page word (Ok events) exact =
       record { only = ((λ e. absurd e), ((λ e. absurd e), tt)); always = λ need none. absurd (exact need none) }
   loads_exact needs page word (Err answer) exact = refused_exact needs answer exact
 
-  stores_exact : (needs : Type 0) (page word value : ℕ) (fault : Fault) → IsExactFault s needs fault → IsExact s needs (stores_after s fault a p page word value)
+  stores_exact : (needs : Type 0) (page word value : ℕ) (fault : Fault) → IsExactFault s allowed needs fault → IsExact s allowed needs (stores_after s fault a p page word value)
   stores_exact needs page word value (Ok events) exact =
       record { only = ((λ e. absurd e), ((λ e. absurd e), tt)); always = λ need none. absurd (exact need none) }
   stores_exact needs page word value (Err answer) exact = refused_exact needs answer exact
 
   -- loads
 
-  abbrev IsAbsent : Option Entry → Type 0
-  IsAbsent entry = entry ≡ None
-
-  read_exact : (page : ℕ) (rights : Option Rights) (free : Option ℕ) → free_frame s ≡ free → IsExactFault s (IsSome rights × IsAbsent None) (read_fault a p page rights None free)
+  read_exact : (page : ℕ) (rights : Option Rights) (free : Option ℕ) → free_in s allowed ≡ free → IsExactFault s allowed (IsSome rights × IsAbsent None) (read_fault a p page rights None free)
   read_exact page None free is = ((λ e. absurd e), λ need none. absurd (cc need.0))
   read_exact page (Some rights) None is = ((λ e. ((refl, refl), is)), λ need none. refl)
-  read_exact page (Some rights) (Some f) is = λ need none. free_and_none s f is none
-
-  load_exact : (page word : ℕ) (entry : Option Entry) → IsExact s (IsSome (s.right p page) × (entry ≡ None)) (load_turn s a p page word entry)
-  load_exact page word (Some e) = loads_exact (IsSome (s.right p page) × (Some e ≡ None)) page word (Ok []) (λ need none. absurd (cc need.1))
-  load_exact page word None =
-      loads_exact (IsSome (s.right p page) × IsAbsent None) page word (read_fault a p page (s.right p page) None (free_frame s)) (read_exact page (s.right p page) (free_frame s) refl)
+  read_exact page (Some rights) (Some f) is = λ need none. free_and_none s allowed f is none
 
   -- a page with an entry gets a copy where its frame may be shared
 
-  breaks_exact : (needs : Type 0) (page : ℕ) (e : Entry) (writable : Bool) (free : Option ℕ) → needs → free_frame s ≡ free → IsExactFault s needs (breaks a p page e writable free)
+  breaks_exact : (needs : Type 0) (page : ℕ) (e : Entry) (writable : Bool) (free : Option ℕ) → needs → free_in s allowed ≡ free → IsExactFault s allowed needs (breaks a p page e writable free)
   breaks_exact needs page e writable None need is = ((λ e. (need, is)), λ again none. refl)
-  breaks_exact needs page e writable (Some f) need is = λ again none. free_and_none s f is none
+  breaks_exact needs page e writable (Some f) need is = λ again none. free_and_none s allowed f is none
 
-  writable_exact : (page : ℕ) (e : Entry) (mark : Bool) (count : ℕ) (one : Bool) → (count == 1) ≡ one → IsExactFault s ((mark ≡ false) × (count ≡ 1 → ⊥)) (makes_writable a p page e mark count (free_frame s))
+  writable_exact : (page : ℕ) (e : Entry) (mark : Bool) (count : ℕ) (one : Bool) → (count == 1) ≡ one → IsExactFault s allowed ((mark ≡ false) × (count ≡ 1 → ⊥)) (makes_writable a p page e mark count (free_in s allowed))
   writable_exact page e true count one test = λ need none. absurd (cc need.0)
   writable_exact page e false count one test = rw test (go one test)
     where
-      go : (b : Bool) → (count == 1) ≡ b → IsExactFault s ((false ≡ false) × (count ≡ 1 → ⊥)) (if b then Ok (marks a p page e ++ upgrade a p page e.frame ∷ []) else breaks a p page e true (free_frame s))
+      go : (b : Bool) → (count == 1) ≡ b → IsExactFault s allowed ((false ≡ false) × (count ≡ 1 → ⊥)) (if b then Ok (marks a p page e ++ upgrade a p page e.frame ∷ []) else breaks a p page e true (free_in s allowed))
       go true is = λ need none. unshared count is need.1
-      go false is = breaks_exact ((false ≡ false) × (count ≡ 1 → ⊥)) page e true (free_frame s) (refl, shared count is) refl
+      go false is = breaks_exact ((false ≡ false) × (count ≡ 1 → ⊥)) page e true (free_in s allowed) (refl, shared count is) refl
 
-  fills_exact : (needs : Type 0) (page : ℕ) (free : Option ℕ) → needs → free_frame s ≡ free → IsExactFault s needs (fills a p page free)
+  fills_exact : (needs : Type 0) (page : ℕ) (free : Option ℕ) → needs → free_in s allowed ≡ free → IsExactFault s allowed needs (fills a p page free)
   fills_exact needs page None need is = ((λ e. (need, is)), λ again none. refl)
-  fills_exact needs page (Some f) need is = λ again none. free_and_none s f is none
+  fills_exact needs page (Some f) need is = λ again none. free_and_none s allowed f is none
 
-  fills_writable_exact : (needs : Type 0) (page : ℕ) (free : Option ℕ) → needs → free_frame s ≡ free → IsExactFault s needs (fills_writable a p page free)
+  fills_writable_exact : (needs : Type 0) (page : ℕ) (free : Option ℕ) → needs → free_in s allowed ≡ free → IsExactFault s allowed needs (fills_writable a p page free)
   fills_writable_exact needs page None need is = ((λ e. (need, is)), λ again none. refl)
-  fills_writable_exact needs page (Some f) need is = λ again none. free_and_none s f is none
+  fills_writable_exact needs page (Some f) need is = λ again none. free_and_none s allowed f is none
 
   -- what is needed for more reasons is needed for these
-  needs_too : (needs more : Type 0) (fault : Fault) → (more → needs) → (needs → more) → IsExactFault s needs fault → IsExactFault s more fault
+  needs_too : (needs more : Type 0) (fault : Fault) → (more → needs) → (needs → more) → IsExactFault s allowed needs fault → IsExactFault s allowed more fault
   needs_too needs more (Ok events) into from exact = λ need none. exact (into need) none
   needs_too needs more (Err answer) into from exact =
       ((λ want. let finds = exact.0 want in (from finds.0, finds.1)), λ need none. exact.1 (into need) none)
 
-  write_exact : (page : ℕ) (rights : Option Rights) (entry : Option Entry) → IsExactFault s ((rights ≡ Some RW) × NeedsWritable s entry) (write_fault a p page rights entry s.mark s.count (free_frame s))
+  write_exact : (page : ℕ) (rights : Option Rights) (entry : Option Entry) → IsExactFault s allowed ((rights ≡ Some RW) × NeedsWritable s entry) (write_fault a p page rights entry s.mark s.count (free_in s allowed))
   write_exact page None entry = ((λ e. absurd e), λ need none. absurd (cc need.0))
   write_exact page (Some R) entry = ((λ e. absurd e), λ need none. absurd (cc need.0))
-  write_exact page (Some RW) None = fills_writable_exact ((Some RW ≡ Some RW) × NeedsWritable s None) page (free_frame s) (refl, tt) refl
+  write_exact page (Some RW) None = fills_writable_exact ((Some RW ≡ Some RW) × NeedsWritable s None) page (free_in s allowed) (refl, tt) refl
   write_exact page (Some RW) (Some e) = go e.writable refl
     where
-      go : (writable : Bool) → e.writable ≡ writable → IsExactFault s ((Some RW ≡ Some RW) × NeedsWritable s (Some e)) (if writable then Ok [] else makes_writable a p page e (s.mark e.frame) (s.count e.frame) (free_frame s))
+      go : (writable : Bool) → e.writable ≡ writable → IsExactFault s allowed ((Some RW ≡ Some RW) × NeedsWritable s (Some e)) (if writable then Ok [] else makes_writable a p page e (s.mark e.frame) (s.count e.frame) (free_in s allowed))
       go true is = λ need none. absurd (cc (is, need.1.0))
       go false is =
-          needs_too (MayBeShared s e.frame) ((Some RW ≡ Some RW) × NeedsWritable s (Some e)) (makes_writable a p page e (s.mark e.frame) (s.count e.frame) (free_frame s))
+          needs_too (MayBeShared s e.frame) ((Some RW ≡ Some RW) × NeedsWritable s (Some e)) (makes_writable a p page e (s.mark e.frame) (s.count e.frame) (free_in s allowed))
           (λ need. need.1.1) (λ shares. (refl, (is, shares)))
           (writable_exact page e (s.mark e.frame) (s.count e.frame) (s.count e.frame == 1) refl)
 
-  store_exact : (page word value : ℕ) (entry : Option Entry) → IsExact s ((s.right p page ≡ Some RW) × NeedsWritable s entry) (store_turn s a p page word value entry)
-  store_exact page word value entry =
-      stores_exact ((s.right p page ≡ Some RW) × NeedsWritable s entry) page word value (store_fault_by (allows_store entry) s a p page entry) (by_entry (allows_store entry) refl)
-    where
-      writes : (o : Option Entry) → allows_store o ≡ true → NeedsWritable s o → ⊥
-      writes None is need = cc is
-      writes (Some e) is need = cc (is, need.0)
-
-      by_entry : (allowed : Bool) → allows_store entry ≡ allowed → IsExactFault s ((s.right p page ≡ Some RW) × NeedsWritable s entry) (store_fault_by allowed s a p page entry)
-      by_entry true is = λ need none. writes entry is need.1
-      by_entry false is = write_exact page (s.right p page) entry
-
   -- a page of a pin
 
-  unshare_exact : (page : ℕ) (rights : Option Rights) (entry : Option Entry) → IsExactFault s (IsSome rights × NeedsOwn s entry) (unshare_fault a p page rights entry s.mark s.count (free_frame s))
+  unshare_exact : (page : ℕ) (rights : Option Rights) (entry : Option Entry) → IsExactFault s allowed (IsSome rights × NeedsOwn s entry) (unshare_fault a p page rights entry s.mark s.count (free_in s allowed))
   unshare_exact page None entry = ((λ e. absurd e), λ need none. absurd (cc need.0))
-  unshare_exact page (Some rights) None = fills_exact (IsSome (Some rights) × NeedsOwn s None) page (free_frame s) (refl, tt) refl
+  unshare_exact page (Some rights) None = fills_exact (IsSome (Some rights) × NeedsOwn s None) page (free_in s allowed) (refl, tt) refl
   unshare_exact page (Some rights) (Some e) =
-      needs_too (MayBeShared s e.frame) (IsSome (Some rights) × NeedsOwn s (Some e)) (unshares a p page e (s.mark e.frame) (s.count e.frame) (free_frame s))
+      needs_too (MayBeShared s e.frame) (IsSome (Some rights) × NeedsOwn s (Some e)) (unshares a p page e (s.mark e.frame) (s.count e.frame) (free_in s allowed))
       (λ need. need.1) (λ shares. (refl, shares)) (by_mark (s.mark e.frame) (s.count e.frame) (s.count e.frame == 1) refl)
     where
-      by_count : (count : ℕ) (b : Bool) → (count == 1) ≡ b → IsExactFault s ((false ≡ false) × (count ≡ 1 → ⊥)) (if b then Ok (marks a p page e) else breaks a p page e false (free_frame s))
+      by_count : (count : ℕ) (b : Bool) → (count == 1) ≡ b → IsExactFault s allowed ((false ≡ false) × (count ≡ 1 → ⊥)) (if b then Ok (marks a p page e) else breaks a p page e false (free_in s allowed))
       by_count count true is = λ need none. unshared count is need.1
-      by_count count false is = breaks_exact ((false ≡ false) × (count ≡ 1 → ⊥)) page e false (free_frame s) (refl, shared count is) refl
+      by_count count false is = breaks_exact ((false ≡ false) × (count ≡ 1 → ⊥)) page e false (free_in s allowed) (refl, shared count is) refl
 
-      by_mark : (mark : Bool) (count : ℕ) (one : Bool) → (count == 1) ≡ one → IsExactFault s ((mark ≡ false) × (count ≡ 1 → ⊥)) (unshares a p page e mark count (free_frame s))
+      by_mark : (mark : Bool) (count : ℕ) (one : Bool) → (count == 1) ≡ one → IsExactFault s allowed ((mark ≡ false) × (count ≡ 1 → ⊥)) (unshares a p page e mark count (free_in s allowed))
       by_mark true count one test = λ need none. absurd (cc need.0)
       by_mark false count one test = rw test (by_count count one test)
 
-  pin_fault_exact : (page : ℕ) (write : Bool) → IsExactFault s (NeedsForPin s p page write) (pin_fault s a p page write)
+  pin_fault_exact : (page : ℕ) (write : Bool) → IsExactFault s allowed (NeedsForPin s p page write) (pin_fault s a p page write (free_in s allowed))
   pin_fault_exact page true = write_exact page (s.right p page) (s.entry p page)
   pin_fault_exact page false = unshare_exact page (s.right p page) (s.entry p page)
 
-  ends_exact : (needs : Type 0) (handle n got : ℕ) (answer : Answer) → (IsWant answer → Finds s needs) × (needs → free_frame s ≡ None → answer ≡ answers.NoFrame) → IsExact s needs (ends_pin a p handle n got answer)
+  ends_exact : (needs : Type 0) (handle n got : ℕ) (answer : Answer) → (IsWant answer → Finds s allowed needs) × (needs → free_in s allowed ≡ None → answer ≡ answers.NoFrame) → IsExact s allowed needs (ends_pin a p handle n got answer)
   ends_exact needs handle n zero answer exact =
       record {
         only = (exact.0, tt);
@@ -296,13 +239,31 @@ module _ (s : CoreState) (a p : ℕ) where
   pinned_cause cause true handle n = ((λ e. absurd e), ((λ e. absurd e), tt))
   pinned_cause cause false handle n = tt
 
-  pin_exact : (needs : Type 0) (handle page n got : ℕ) (want : Want) (fault : Fault) → IsExactFault s needs fault → IsExact s needs (pin_turn_by fault s a p handle page n got want)
+  pin_exact : (needs : Type 0) (handle page n got : ℕ) (want : Want) (fault : Fault) → IsExactFault s allowed needs fault → IsExact s allowed needs (pin_turn_by fault s a p handle page n got want)
   pin_exact needs handle page n got want (Err answer) exact = ends_exact needs handle n got answer exact
   pin_exact needs handle page n got want (Ok before) exact =
       record {
-        only = ((λ e. absurd e), pinned_cause (Finds s needs) (got + 1 == n) handle n);
+        only = ((λ e. absurd e), pinned_cause (Finds s allowed needs) (got + 1 == n) handle n);
         always = λ need none. absurd (exact need none);
       }
+
+module _ (s : CoreState) (a p : ℕ) where
+  load_exact : (page word : ℕ) (entry : Option Entry) → IsExact s Any (IsSome (s.right p page) × (entry ≡ None)) (load_turn s a p page word entry)
+  load_exact page word (Some e) = loads_exact s a p Any (IsSome (s.right p page) × (Some e ≡ None)) page word (Ok []) (λ need none. absurd (cc need.1))
+  load_exact page word None =
+      loads_exact s a p Any (IsSome (s.right p page) × IsAbsent None) page word (read_fault a p page (s.right p page) None (free_frame s)) (read_exact s a p Any page (s.right p page) (free_frame s) refl)
+
+  store_exact : (page word value : ℕ) (entry : Option Entry) → IsExact s Any ((s.right p page ≡ Some RW) × NeedsWritable s entry) (store_turn s a p page word value entry)
+  store_exact page word value entry =
+      stores_exact s a p Any ((s.right p page ≡ Some RW) × NeedsWritable s entry) page word value (store_fault_by (allows_store entry) s a p page entry) (by_entry (allows_store entry) refl)
+    where
+      writes : (o : Option Entry) → allows_store o ≡ true → NeedsWritable s o → ⊥
+      writes None is need = cc is
+      writes (Some e) is need = cc (is, need.0)
+
+      by_entry : (allowed : Bool) → allows_store entry ≡ allowed → IsExactFault s Any ((s.right p page ≡ Some RW) × NeedsWritable s entry) (store_fault_by allowed s a p page entry)
+      by_entry true is = λ need none. writes entry is need.1
+      by_entry false is = write_exact s a p Any page (s.right p page) entry
 
   -- what is done with a pin that is made wants no frame
 
@@ -318,11 +279,11 @@ module _ (s : CoreState) (a p : ℕ) where
   give_cause false handle to = ((λ e. absurd e), tt)
   give_cause true handle to = ((λ e. absurd e), ((λ e. absurd e), tt))
 
-  transfer_cause : (slots handle : ℕ) (outward last : Bool) (index slot n i j : ℕ) (denied : Option Answer) → transfer_denial (s.handle handle) a outward slots slot ((index, n) ∷ []) ≡ denied → NeverWants (transfer_turn_by denied s a handle outward last i j)
-  transfer_cause slots handle outward last index slot n i j (Some answer) is =
-      ((λ e. denied_transfer (is_held_by (s.handle handle) a) outward (may_write (s.handle handle)) (has_words (length (objects_of (s.handle handle))) ((index, n) ∷ []) && has_slots slots slot ((index, n) ∷ [])) answer is e), tt)
-  transfer_cause slots handle outward true index slot n i j None is = ((λ e. absurd e), ((λ e. absurd e), tt))
-  transfer_cause slots handle outward false index slot n i j None is = ((λ e. absurd e), tt)
+  transfer_cause : (slots handle : ℕ) (outward last : Bool) (slot i j : ℕ) (parts : List Part) (denied : Option Answer) → transfer_denial (s.handle handle) a outward slots slot parts ≡ denied → NeverWants (transfer_turn_by denied s a handle outward last i j)
+  transfer_cause slots handle outward last slot i j parts (Some answer) is =
+      ((λ e. denied_transfer (is_held_by (s.handle handle) a) outward (may_write (s.handle handle)) (has_words (length (objects_of (s.handle handle))) parts && has_slots slots slot parts) answer is e), tt)
+  transfer_cause slots handle outward true slot i j parts None is = ((λ e. absurd e), ((λ e. absurd e), tt))
+  transfer_cause slots handle outward false slot i j parts None is = ((λ e. absurd e), tt)
 
   map_cause : (page n : ℕ) (rights : Rights) (denied : Option Answer) → map_denial (any_mapped (s.right p) page n) (s.pages p) n ≡ denied → NeverWants (map_turn_by denied a p page n rights)
   map_cause page n rights (Some answer) is =
@@ -354,7 +315,7 @@ module _ (s : CoreState) (a p : ℕ) where
 
   -- a fork needs a frame only for a page that it copies, and fails only where none is free
 
-  unneeded : (x : ForkPlace) → ((page : ℕ) → x ≡ wants_frame page → ⊥) → ((page : ℕ) × (x ≡ wants_frame page)) → ⊥
+  unneeded : (x : JobPlace) → ((page : ℕ) → x ≡ wants_frame page → ⊥) → ((page : ℕ) × (x ≡ wants_frame page)) → ⊥
   unneeded x none need = none need.0 need.1
 
   page_cause : (c : ℕ) (done : List ℕ) (page : ℕ) (entry : Option Entry) → NeverWants (page_turn s a p c done page entry)
@@ -369,91 +330,73 @@ module _ (s : CoreState) (a p : ℕ) where
   copy_cause c done page word to true = ((λ e. absurd e), tt)
   copy_cause c done page word to false = ((λ e. absurd e), tt)
 
-  frame_exact : (c : ℕ) (done : List ℕ) (page word : ℕ) (free : Option ℕ) → free_frame s ≡ free → IsExact s ((g : ℕ) × (wants_frame page ≡ wants_frame g)) (frame_turn s a p c done page word free)
+  frame_exact : (c : ℕ) (done : List ℕ) (page word : ℕ) (free : Option ℕ) → free_frame s ≡ free → IsExact s Any ((g : ℕ) × (wants_frame page ≡ wants_frame g)) (frame_turn s a p c done page word free)
   frame_exact c done page word None is =
       record {
         only = ((λ e. absurd e), ((λ e. ((page, refl), is)), tt));
         always = λ need none. inl (1, omega arith, refl);
       }
   frame_exact c done page word (Some f) is =
-      record { only = ((λ e. absurd e), tt); always = λ need none. absurd (free_and_none s f is none) }
+      record { only = ((λ e. absurd e), tt); always = λ need none. absurd (free_and_none s Any f is none) }
 
-  copying_exact : (c : ℕ) (done : List ℕ) (page word : ℕ) (prepared : Option ℕ) → IsExact s ((g : ℕ) × (copying_place page word prepared ≡ wants_frame g)) (copying_turn s a p c done page word prepared)
+  copying_exact : (c : ℕ) (done : List ℕ) (page word : ℕ) (prepared : Option ℕ) → IsExact s Any ((g : ℕ) × (copying_place page word prepared ≡ wants_frame g)) (copying_turn s a p c done page word prepared)
   copying_exact c done page word None = frame_exact c done page word (free_frame s) refl
   copying_exact c done page word (Some to) =
-      exact_never s ((g : ℕ) × (at_word page word to ≡ wants_frame g)) (copy_turn s a p c done page word to (nat_lt word words)) (unneeded (at_word page word to) (λ g is. cc is)) (copy_cause c done page word to (nat_lt word words))
+      exact_never s Any ((g : ℕ) × (at_word page word to ≡ wants_frame g)) (copy_turn s a p c done page word to (nat_lt word words)) (unneeded (at_word page word to) (λ g is. cc is)) (copy_cause c done page word to (nat_lt word words))
 
   -- a turn of a fork that stands elsewhere
-  elsewhere : (x : ForkPlace) (turn : CoreTurn) → ((g : ℕ) → x ≡ wants_frame g → ⊥) → NeverWants turn → IsExact s ((g : ℕ) × (x ≡ wants_frame g)) turn
-  elsewhere x turn none never = exact_never s ((g : ℕ) × (x ≡ wants_frame g)) turn (unneeded x none) never
+  elsewhere : (x : JobPlace) (turn : CoreTurn) → ((g : ℕ) → x ≡ wants_frame g → ⊥) → NeverWants turn → IsExact s Any ((g : ℕ) × (x ≡ wants_frame g)) turn
+  elsewhere x turn none never = exact_never s Any ((g : ℕ) × (x ≡ wants_frame g)) turn (unneeded x none) never
 
-  fork_exact : (child : ℕ) (job : Job) → IsExact s ((g : ℕ) × (fork_place job (s.prepared a) ≡ wants_frame g)) (fork_turn s a p child job)
-  fork_exact child idle = elsewhere unbegun (fork_turn s a p child idle) (λ g is. cc is) ((λ e. absurd e), tt)
-  fork_exact child (marking q page f) = elsewhere unbegun (fork_turn s a p child (marking q page f)) (λ g is. cc is) ((λ e. absurd e), tt)
-  fork_exact child (moving q page entry allowed count) = elsewhere unbegun (fork_turn s a p child (moving q page entry allowed count)) (λ g is. cc is) ((λ e. absurd e), tt)
-  fork_exact child (walking q write long sequence step) = elsewhere unbegun (fork_turn s a p child (walking q write long sequence step)) (λ g is. cc is) ((λ e. absurd e), tt)
+  fork_exact : (child : ℕ) (job : Job) → IsExact s Any ((g : ℕ) × (job_place job (s.prepared a) ≡ wants_frame g)) (fork_turn s a p child job)
   fork_exact child (forking q c done between) =
       elsewhere (from_page (first_behind done)) (fork_turn s a p child (forking q c done between)) (λ g is. cc is) (next_cause child done (next_page (s.right child) done))
   fork_exact child (forking q c done (counted page)) = elsewhere (at_page page) (fork_turn s a p child (forking q c done (counted page))) (λ g is. cc is) ((λ e. absurd e), tt)
-  fork_exact child (forking q c done (lowered page)) = elsewhere unbegun (fork_turn s a p child (forking q c done (lowered page))) (λ g is. cc is) ((λ e. absurd e), tt)
-  fork_exact child (forking q c done (cleared page)) = elsewhere unbegun (fork_turn s a p child (forking q c done (cleared page))) (λ g is. cc is) ((λ e. absurd e), tt)
   fork_exact child (forking q c done (copying page word)) = copying_exact child done page word (s.prepared a)
-  fork_exact child (forking q c done failing) = elsewhere unbegun (fork_turn s a p child (forking q c done failing)) (λ g is. cc is) ((λ e. absurd e), tt)
+  fork_exact child (forking q c done step) = elsewhere unbegun (fork_turn s a p child (forking q c done step)) (λ g is. cc is) ((λ e. absurd e), tt)
+  fork_exact child job = elsewhere unbegun (fork_turn s a p child job) (λ g is. cc is) ((λ e. absurd e), tt)
 
-  -- the turn of an operation that takes no frames
-  never : (turn : CoreTurn) → NeverWants turn → IsExact s ⊥ turn
-  never turn wants = exact_never s ⊥ turn (λ e. e) wants
-
-  op_exact : (slots far : ℕ) (op : Op) → IsExact s (NeedsFor s a p op) (op_turn s a p slots far op)
+  op_exact : (slots far : ℕ) (op : Op) → IsExact s (allowed_of op) (NeedsFor s a p op) (op_turn s a p slots far op)
   op_exact slots far (Map page n rights) =
-      never (op_turn s a p slots far (Map page n rights)) (map_cause page n rights (map_denial (any_mapped (s.right p) page n) (s.pages p) n) refl)
+      never s Any (op_turn s a p slots far (Map page n rights)) (map_cause page n rights (map_denial (any_mapped (s.right p) page n) (s.pages p) n) refl)
   op_exact slots far (Unmap page n) =
-      never (op_turn s a p slots far (Unmap page n)) (unmap_cause (page + far) (s.right p (page + far)) (s.entry p (page + far)) (far + 1 == n))
+      never s Any (op_turn s a p slots far (Unmap page n)) (unmap_cause (page + far) (s.right p (page + far)) (s.entry p (page + far)) (far + 1 == n))
   op_exact slots far (Load page word) = load_exact page word (s.entry p page)
   op_exact slots far (Store page word value) = store_exact page word value (s.entry p page)
   op_exact slots far (Protect page n rights) =
-      never (op_turn s a p slots far (Protect page n rights)) (protect_cause page n rights (protect_denial (any_unmapped (s.right p) page n)) refl)
+      never s Any (op_turn s a p slots far (Protect page n rights)) (protect_cause page n rights (protect_denial (any_unmapped (s.right p) page n)) refl)
   op_exact slots far (Discard page n) =
-      never (op_turn s a p slots far (Discard page n)) (discard_cause (page + far) (s.right p (page + far)) (s.entry p (page + far)) (far + 1 == n))
+      never s Any (op_turn s a p slots far (Discard page n)) (discard_cause (page + far) (s.right p (page + far)) (s.entry p (page + far)) (far + 1 == n))
   op_exact slots far (Pin handle page n want fast) =
       let got : ℕ = length (s.taken a) in
-      pin_exact (NeedsForPin s p (page + got) want.write) handle (page + got) n got want (pin_fault s a p (page + got) want.write) (pin_fault_exact (page + got) want.write)
+      pin_exact s a p (zones_of want) (NeedsForPin s p (page + got) want.write) handle (page + got) n got want
+      (pin_fault s a p (page + got) want.write (free_in s (zones_of want))) (pin_fault_exact s a p (zones_of want) (page + got) want.write)
   op_exact slots far (Unpin handle) =
-      never (op_turn s a p slots far (Unpin handle)) (unpin_cause (is_held_by (s.handle handle) a) handle (s.pinned handle))
-  op_exact slots far (Give handle to) = never (op_turn s a p slots far (Give handle to)) (give_cause (is_held_by (s.handle handle) a) handle to)
-  op_exact slots far (Take handle) = never (op_turn s a p slots far (Take handle)) ((λ e. absurd e), ((λ e. absurd e), tt))
-  op_exact slots far (Transfer handle outward index slot n) =
-      never (op_turn s a p slots far (Transfer handle outward index slot n))
-      (transfer_cause slots handle outward (far + 1 == n) index slot n (index + far) (slot + far) (transfer_denial (s.handle handle) a outward slots slot ((index, n) ∷ [])) refl)
+      never s Any (op_turn s a p slots far (Unpin handle)) (unpin_cause (is_held_by (s.handle handle) a) handle (s.pinned handle))
+  op_exact slots far (Give handle to) = never s Any (op_turn s a p slots far (Give handle to)) (give_cause (is_held_by (s.handle handle) a) handle to)
+  op_exact slots far (Take handle) = never s Any (op_turn s a p slots far (Take handle)) ((λ e. absurd e), ((λ e. absurd e), tt))
+  op_exact slots far (Transfer handle outward slot parts) =
+      never s Any (op_turn s a p slots far (Transfer handle outward slot parts))
+      (transfer_cause slots handle outward (far + 1 == words_of parts) slot (word_at parts far) (slot + far) parts (transfer_denial (s.handle handle) a outward slots slot parts) refl)
   op_exact slots far (Fork child) = fork_exact child (s.job a)
-  op_exact slots far Exit = never (op_turn s a p slots far Exit) (exit_cause (lowest_page (s.right p)))
+  op_exact slots far Exit = never s Any (op_turn s a p slots far Exit) (exit_cause (lowest_page (s.right p)))
+  op_exact slots far op = never s Any (op_turn s a p slots far op) ((λ e. absurd e), tt)
 
   -- of a process that failed every operation is refused as unborn
   failed_cause : (op : Op) → NeverWants (failed_turn a p op)
-  failed_cause (Map page n rights) = ((λ e. absurd e), tt)
-  failed_cause (Unmap page n) = ((λ e. absurd e), tt)
-  failed_cause (Load page word) = ((λ e. absurd e), tt)
-  failed_cause (Store page word value) = ((λ e. absurd e), tt)
-  failed_cause (Protect page n rights) = ((λ e. absurd e), tt)
-  failed_cause (Discard page n) = ((λ e. absurd e), tt)
   failed_cause (Fork child) = ((λ e. absurd e), ((λ e. absurd e), tt))
-  failed_cause (Pin handle page n want fast) = ((λ e. absurd e), tt)
-  failed_cause (Unpin handle) = ((λ e. absurd e), tt)
-  failed_cause (Give handle to) = ((λ e. absurd e), tt)
-  failed_cause (Take handle) = ((λ e. absurd e), tt)
-  failed_cause (Transfer handle outward index slot n) = ((λ e. absurd e), tt)
-  failed_cause Exit = ((λ e. absurd e), tt)
+  failed_cause op = ((λ e. absurd e), tt)
 
--- each frame has a reference exactly where none is found free, and operations take frames of either zone
-held_none : (s : CoreState) (op : Op) → AreHeld s (allowed_of op) → free_frame s ≡ None
-held_none s op held = go (free_frame s) refl
+-- none is found free in these zones exactly where each of their frames has a reference
+held_none : (s : CoreState) (allowed : Allowed) → AreHeld s allowed → free_in s allowed ≡ None
+held_none s allowed held = go (free_in s allowed) refl
   where
-    go : (free : Option ℕ) → free_frame s ≡ free → free ≡ None
+    go : (free : Option ℕ) → free_in s allowed ≡ free → free ≡ None
     go None is = refl
-    go (Some f) is = let found = free_frame_free s f is in absurd (held f found.0 tt found.1)
+    go (Some f) is = let found = free_in_free s allowed f is in absurd (held f found.0 (free_in_allowed s allowed f is) found.1)
 
-none_held : (s : CoreState) (op : Op) → free_frame s ≡ None → AreHeld s (allowed_of op)
-none_held s op none f below allowed free = no_frame_free s none f below free
+none_held : (s : CoreState) (allowed : Allowed) → free_in s allowed ≡ None → AreHeld s allowed
+none_held s allowed none f below there free = none_free_in s allowed none f below there free
 
 -- what a turn needs, by the operation and what the actor waits for
 abbrev NeedsAt : CoreState → Doer → Option Op → Option Waiting → Op → Type 0
@@ -473,15 +416,15 @@ finds_only s who far (Some op) None is lacks = go (waits_no_birth (birth_for s.b
     go : (birth_for s.birth who ≡ born) ⊎ (birth_for s.birth who ≡ failed) → (o : Op) × NeedsAt s who (Some op) None o × AreHeld s (allowed_of o)
     go (inl birth) =
         let exact = op_exact s who.actor who.proc who.slots far op in
-        let finds = lacking (Finds s (NeedsFor s who.actor who.proc op)) turn.whats exact.only (subst (λ (b : Birth). LacksFrame (turn_at b refused turn).whats) birth lacks) in
-        (op, (refl, refl, birth, finds.0), none_held s op finds.1)
+        let finds = lacking (Finds s (allowed_of op) (NeedsFor s who.actor who.proc op)) turn.whats exact.only (subst (λ (b : Birth). LacksFrame (turn_at b refused turn).whats) birth lacks) in
+        (op, (refl, refl, birth, finds.0), none_held s (allowed_of op) finds.1)
     go (inr birth) =
         absurd (lacking ⊥ refused.whats (failed_cause s who.actor who.proc op) (subst (λ (b : Birth). LacksFrame (turn_at b refused turn).whats) birth lacks))
 
 finds_always : (s : CoreState) (who : Doer) (far : ℕ) (present : Option Op) (waiting : Option Waiting) (op : Op) → NeedsAt s who present waiting op → AreHeld s (allowed_of op) → LacksFrame (core_turn_by s who far present waiting).whats
 finds_always s who far present waiting op needs held =
     let exact = op_exact s who.actor who.proc who.slots far op in
-    let lacks : LacksFrame (op_turn s who.actor who.proc who.slots far op).whats = exact.always needs.3 (held_none s op held) in
+    let lacks : LacksFrame (op_turn s who.actor who.proc who.slots far op).whats = exact.always needs.3 (held_none s (allowed_of op) held) in
     let refused : CoreTurn = failed_turn who.actor who.proc op in
     let turn : CoreTurn = op_turn s who.actor who.proc who.slots far op in
     let born_turn : LacksFrame (core_turn_by s who far (Some op) None).whats = subst (λ (b : Birth). LacksFrame (turn_at b refused turn).whats) (sym needs.2) lacks in

@@ -5,12 +5,12 @@ use Rattle.gup_plain.specs.declared.note.Waiting.{Waiting}
 use Rattle.gup_plain.specs.declared.note.Waiting.TheVariants as waitings
 use Rattle.gup_script.specs.Script.{ScriptValue}
 use Rattle.gup_script.specs.declared.op.Op.{Op}
-use Rattle.gup_script.specs.declared.op.Op.TheVariants.{Map, Unmap, Protect, Discard, Load, Store, Pin, Unpin, Give, Take, Transfer, Fork, Exit}
-use Rattle.gup_spec_events.specs.State.{CoreState, Job, idle, marking, moving, forking, walking, between, counted, lowered, cleared, copying, failing}
+use Rattle.gup_script.specs.declared.op.Op.TheVariants.{Pin, Fork, Exit}
+use Rattle.gup_spec_events.specs.State.{CoreState, Job, idle, forking, between, counted, copying}
 use Rattle.gup_law_base.specs.Sound.{keeps_table, keeps_structure}
 use Rattle.gup_spec_journal.specs.Order.{MayNeedLock}
 use Rattle.gup_spec_journal.specs.Place.{Place, Doer, doer, process_of}
-use Rattle.gup_spec_turns.specs.ForkPlace.{IsForking}
+use Rattle.gup_spec_turns.specs.JobPlace.{IsForking}
 use Rattle.gup_spec_turns.specs.Run.{RunState, op_in, waiting_with, waiting_in}
 use Rattle.gup_spec_turns.specs.Waits.{Locks, locks_needed, held_by_other, waits_for_lock, first_waiting, waits_for_locks}
 use Rattle.gup_spec_turns.proofs.TurnParts.{waits_at}
@@ -47,19 +47,7 @@ held_locks locks a structure table waiting is =
 
 -- an operation that waits for a lock is one that may need one
 pub needs_lock : (s : CoreState) (a p : ℕ) (op : Op) (structure table : Option ℕ) (waiting : Waiting) → waits_for_locks (locks_needed s a p op) a structure table ≡ Some waiting → MayNeedLock (Some op)
-needs_lock s a p (Map page n rights) structure table waiting is = tt
-needs_lock s a p (Unmap page n) structure table waiting is = tt
-needs_lock s a p (Protect page n rights) structure table waiting is = tt
-needs_lock s a p (Discard page n) structure table waiting is = tt
-needs_lock s a p (Load page word) structure table waiting is = tt
-needs_lock s a p (Store page word value) structure table waiting is = tt
-needs_lock s a p (Pin handle page n want fast) structure table waiting is = tt
-needs_lock s a p (Fork child) structure table waiting is = tt
-needs_lock s a p Exit structure table waiting is = tt
-needs_lock s a p (Unpin handle) structure table waiting is = absurd (cc is)
-needs_lock s a p (Give handle to) structure table waiting is = absurd (cc is)
-needs_lock s a p (Take handle) structure table waiting is = absurd (cc is)
-needs_lock s a p (Transfer handle outward index slot n) structure table waiting is = absurd (cc is)
+needs_lock s a p op structure table waiting is = grind arith
 
 -- who holds a lock
 
@@ -91,27 +79,19 @@ fork_keeps s b q child p place (forking k c done between) prepared fits (inl e) 
 fork_keeps s b q child p place (forking k c done between) prepared fits (inr e) = absurd (cc e)
 fork_keeps s b q child p place (forking k c done (counted page)) prepared fits (inl e) = fork_of fits.1.0 fits.0 (some_same e)
 fork_keeps s b q child p place (forking k c done (counted page)) prepared fits (inr e) = fork_of fits.1.0 fits.0 (some_same e)
-fork_keeps s b q child p place (forking k c done (lowered page)) prepared fits keeps = absurd fits.1
-fork_keeps s b q child p place (forking k c done (cleared page)) prepared fits keeps = absurd fits.1
 fork_keeps s b q child p place (forking k c done (copying page n)) prepared fits (inl e) = fork_of fits.1.0 fits.0 (some_same e)
 fork_keeps s b q child p place (forking k c done (copying page n)) prepared fits (inr e) = fork_of fits.1.0 fits.0 (some_same e)
-fork_keeps s b q child p place (forking k c done failing) prepared fits keeps = absurd fits.1
-fork_keeps s b q child p place (marking k page f) prepared fits keeps = absurd fits
-fork_keeps s b q child p place (moving k page e allowed count) prepared fits keeps = absurd fits
-fork_keeps s b q child p place (walking k write long sequence step) prepared fits keeps = absurd fits
+fork_keeps s b q child p place (forking k c done step) prepared fits keeps = absurd fits.1
+fork_keeps s b q child p place job prepared fits keeps = absurd fits
 
 -- a fork that has begun has the structure lock of its process
 fork_locked : (s : CoreState) (b q child : ℕ) (place : Place) (job : Job) (prepared : Option ℕ) → FitsFork s b q child place job prepared → 0 < place.far → s.structure q ≡ Some b
 fork_locked s b q child place idle prepared fits far = absurd (let first = fits.0.0 in omega arith)
 fork_locked s b q child place (forking k c done between) prepared fits far = fits.1.locked
 fork_locked s b q child place (forking k c done (counted page)) prepared fits far = fits.1.0.locked
-fork_locked s b q child place (forking k c done (lowered page)) prepared fits far = absurd fits.1
-fork_locked s b q child place (forking k c done (cleared page)) prepared fits far = absurd fits.1
 fork_locked s b q child place (forking k c done (copying page n)) prepared fits far = fits.1.0.locked
-fork_locked s b q child place (forking k c done failing) prepared fits far = absurd fits.1
-fork_locked s b q child place (marking k page f) prepared fits far = absurd fits
-fork_locked s b q child place (moving k page e allowed count) prepared fits far = absurd fits
-fork_locked s b q child place (walking k write long sequence step) prepared fits far = absurd fits
+fork_locked s b q child place (forking k c done step) prepared fits far = absurd fits.1
+fork_locked s b q child place job prepared fits far = absurd fits
 
 -- the actor's present operation is a fork of process p, of which some turns are over
 pub record IsInFork (script : ScriptValue) (r : RunState) (b p : ℕ) : Type 0 where
@@ -123,21 +103,11 @@ pub record IsInFork (script : ScriptValue) (r : RunState) (b p : ℕ) : Type 0 w
 
 -- an actor that keeps a lock has such an operation
 op_keeps : (s : CoreState) (who : Doer) (p : ℕ) (op : Option Op) (place : Place) → FitsAt s who op place → Keeps (s.job who.actor) p → (child : ℕ) × (op ≡ Some (Fork child)) × IsForkOf s who.actor who.proc p place
-op_keeps s who p None place fits keeps = keeps_idle fits.0.0 keeps
 op_keeps s who p (Some (Fork child)) place fits keeps =
     (child, refl, fork_keeps s who.actor who.proc child p place (s.job who.actor) (s.prepared who.actor) fits.1 keeps)
-op_keeps s who p (Some (Map page n rights)) place fits keeps = keeps_idle fits.0.0 keeps
-op_keeps s who p (Some (Unmap page n)) place fits keeps = keeps_idle fits.0.0 keeps
-op_keeps s who p (Some (Protect page n rights)) place fits keeps = keeps_idle fits.0.0 keeps
-op_keeps s who p (Some (Discard page n)) place fits keeps = keeps_idle fits.0.0 keeps
-op_keeps s who p (Some (Load page word)) place fits keeps = keeps_idle fits.0.0 keeps
-op_keeps s who p (Some (Store page word value)) place fits keeps = keeps_idle fits.0.0 keeps
 op_keeps s who p (Some (Pin handle page n want fast)) place fits keeps = keeps_idle fits.0 keeps
-op_keeps s who p (Some (Unpin handle)) place fits keeps = keeps_idle fits.0.0 keeps
-op_keeps s who p (Some (Give handle to)) place fits keeps = keeps_idle fits.0.0 keeps
-op_keeps s who p (Some (Take handle)) place fits keeps = keeps_idle fits.0.0 keeps
-op_keeps s who p (Some (Transfer handle outward index slot n)) place fits keeps = keeps_idle fits.0.0 keeps
 op_keeps s who p (Some Exit) place fits keeps = keeps_idle fits.0 keeps
+op_keeps s who p op place fits keeps = keeps_idle fits.0.0 keeps
 
 -- what is of no value is none
 none_by : (o : Option Waiting) → ((waiting : Waiting) → o ≡ Some waiting → ⊥) → o ≡ None

@@ -1,6 +1,7 @@
 -- A run follows its script: what an actor's notes are from a state on, backwards from the end.
 use Rattle.std.proofs.Common.{◌≡◌, ℕ, ◌+◌, ◌-◌, ◌<◌, ◌≤◌, ◌==◌, ◌++◌, ◌⊎◌, inl, inr, Bool, false, IsTrue, List, [], ◌∷◌, Option, Some, None, slice_get, drop, refl, sym, ap, ◌∙◌, subst, append_assoc, zero, suc, arith}
 use Rattle.std.proofs.Math.Seq.{drop-nil}
+use Rattle.gup_base.specs.Parts.{Part, words_of, word_at}
 use Rattle.gup_base.specs.declared.entry.Want.{Want}
 use Rattle.gup_plain.specs.Event.{words}
 use Rattle.gup_plain.specs.Note.{NoteValue}
@@ -13,13 +14,13 @@ use Rattle.gup_plain.specs.declared.note.What.{What}
 use Rattle.gup_plain.specs.declared.note.What.TheVariants.{Silent, Idle, Wait, Event, Done}
 use Rattle.gup_plain.specs.declared.note.Waiting.{Waiting}
 use Rattle.gup_script.specs.declared.op.Op.{Op}
-use Rattle.gup_script.specs.declared.op.Op.TheVariants.{Map, Unmap, Protect, Discard, Load, Store, Pin, Unpin, Give, Take, Transfer, Fork, Exit}
+use Rattle.gup_script.specs.declared.op.Op.TheVariants.{Unmap, Discard, Pin, Unpin, Transfer, Fork, Exit}
 use Rattle.gup_spec_journal.specs.Follows.{Who, Completes, IsTurn, AreBehind, AreBefore, Then, IsRefused, TakesDown, TakesDownLast, TakesDownAll, TakesDownWhole, CopiesFrom, CopiesPage, ForksPages, TriesIn, EndsShort, PinsPages, Unpins, moves_word, MovesWords, Shape, Shapes, refuses, own_notes, notes_of_turn, is_of_operation}
 use Rattle.gup_spec_journal.specs.Order.{Moves}
 use Rattle.gup_spec_journal.specs.Place.{Place, Doer, place_behind}
-use Rattle.gup_spec_turns.specs.ForkPlace.{ForkPlace, unbegun, from_page, at_page, wants_frame, at_word}
+use Rattle.gup_spec_turns.specs.JobPlace.{JobPlace, unbegun, from_page, at_page, wants_frame, at_word}
 use Rattle.gup_law_turns.proofs.Puts.{some_same}
-use Rattle.gup_law_turns.proofs.TurnShapes.{TurnOf, refused, mapped, protected, loaded, stored, gave, took_over, took, took_last, passed, passed_last, took_lowest, took_all, pinned_page, pinned_all, pinned_short, unpinned_page, unpinned_last, moved_word, moved_last, began, passed_page, counted_page, shared_page, ended, counted_copy, took_frame, copied_word, placed_copy, failed_fork, GoesOver, unmaps, discards, TurnAt, idles, waits, goes, unborn_refused, unborn_fork}
+use Rattle.gup_law_turns.proofs.TurnShapes.{TurnOf, refused, loaded, took, took_last, passed, passed_last, took_lowest, took_all, pinned_page, pinned_all, pinned_short, unpinned_page, unpinned_last, moved_word, moved_last, began, passed_page, counted_page, shared_page, ended, counted_copy, took_frame, copied_word, placed_copy, failed_fork, GoesOver, unmaps, discards, TurnAt, idles, waits, goes, unborn_refused, unborn_fork}
 use Rattle.gup_law_journal.proofs.TurnOrder.{op_moves, refusal_moves, failure_moves}
 use Rattle.gup_law_journal.proofs.ActorNotes.{own_other, own_same, own_idle, behind_front, behind_rest, before_append, turn_before}
 
@@ -32,7 +33,7 @@ RestOver who op page n event far notes = TakesDownAll who event (page + far) (n 
 -- Of a fork that looks for its next page, the pages from there on; of one that has counted a page, also that one's share;
 -- of one that wants a frame, also that one's copy, or its failure; and of one that has copied some words, also those that
 -- are left.
-abbrev pub RestOfFork : Who → (child : ℕ) → ForkPlace → List NoteValue → Type 0
+abbrev pub RestOfFork : Who → (child : ℕ) → JobPlace → List NoteValue → Type 0
 RestOfFork who child unbegun notes = Completes who (Fork child) notes
 RestOfFork who child (from_page page) notes = (pages : ℕ) × ForksPages who child page pages notes
 RestOfFork who child (at_page page) notes =
@@ -44,41 +45,36 @@ RestOfFork who child (wants_frame page) notes =
 RestOfFork who child (at_word page word to) notes =
     (pages : ℕ) × Then (CopiesFrom who child page word) (ForksPages who child (page + 1) pages) notes
 
-abbrev pub RestOf : Who → Op → (far : ℕ) → ForkPlace → List NoteValue → Type 0
+abbrev pub RestOf : Who → Op → (far : ℕ) → JobPlace → List NoteValue → Type 0
 RestOf who (Unmap page n) far at notes = RestOver who (Unmap page n) page n (events.Unmap who.actor who.proc) far notes
 RestOf who (Discard page n) far at notes = RestOver who (Discard page n) page n (events.Discard who.actor who.proc) far notes
 RestOf who Exit far at notes = ((pages : ℕ) × TakesDownWhole who pages notes) ⊎ ((far ≡ 0) × IsRefused who Exit notes)
 RestOf who (Fork child) far at notes = RestOfFork who child at notes
-RestOf who (Map page n rights) far at notes = Shape who (Map page n rights) notes
-RestOf who (Protect page n rights) far at notes = Shape who (Protect page n rights) notes
-RestOf who (Load page word) far at notes = Shape who (Load page word) notes
-RestOf who (Store page word value) far at notes = Shape who (Store page word value) notes
 RestOf who (Pin handle page n want fast) far at notes =
     PinsPages who handle page n want far (n - far) notes ⊎ ((far ≡ 0) × IsRefused who (Pin handle page n want fast) notes)
 RestOf who (Unpin handle) far at notes =
     ((more : ℕ) × Unpins who handle more notes) ⊎ ((far ≡ 0) × IsRefused who (Unpin handle) notes)
-RestOf who (Give handle to) far at notes = Shape who (Give handle to) notes
-RestOf who (Take handle) far at notes = Shape who (Take handle) notes
-RestOf who (Transfer handle outward index slot n) far at notes =
-    MovesWords who handle outward (index + far) (slot + far) (n - far) notes
-    ⊎ ((far ≡ 0) × IsRefused who (Transfer handle outward index slot n) notes)
+RestOf who (Transfer handle outward slot parts) far at notes =
+    MovesWords who handle outward slot parts far (words_of parts - far) notes
+    ⊎ ((far ≡ 0) × IsRefused who (Transfer handle outward slot parts) notes)
+RestOf who op far at notes = Shape who op notes
 
-rest_over : (who : Who) {op : Op} {page n : ℕ} {event : ℕ → PlainEvent} (far : ℕ) (at : ForkPlace) (notes : List NoteValue) → GoesOver who.actor who.proc op page n event → RestOf who op far at notes → RestOver who op page n event far notes
+rest_over : (who : Who) {op : Op} {page n : ℕ} {event : ℕ → PlainEvent} (far : ℕ) (at : JobPlace) (notes : List NoteValue) → GoesOver who.actor who.proc op page n event → RestOf who op far at notes → RestOver who op page n event far notes
 rest_over who far at notes (unmaps page n) rest = rest
 rest_over who far at notes (discards page n) rest = rest
 
-over_rest : (who : Who) {op : Op} {page n : ℕ} {event : ℕ → PlainEvent} (far : ℕ) (at : ForkPlace) (notes : List NoteValue) → GoesOver who.actor who.proc op page n event → RestOver who op page n event far notes → RestOf who op far at notes
+over_rest : (who : Who) {op : Op} {page n : ℕ} {event : ℕ → PlainEvent} (far : ℕ) (at : JobPlace) (notes : List NoteValue) → GoesOver who.actor who.proc op page n event → RestOver who op page n event far notes → RestOf who op far at notes
 over_rest who far at notes (unmaps page n) rest = rest
 over_rest who far at notes (discards page n) rest = rest
 
 -- what is left of the operation, and then those after it
-abbrev pub Goes : (a p number : ℕ) → Op → List Op → (far : ℕ) → ForkPlace → List NoteValue → Type 0
+abbrev pub Goes : (a p number : ℕ) → Op → List Op → (far : ℕ) → JobPlace → List NoteValue → Type 0
 Goes a p number op ops far at notes =
     Then (RestOf (record { actor = a; proc = p; number = number }) op far at) (Shapes a p (number + 1) ops) notes
 
 -- The notes that are left of an actor with these operations left, of the first of which so many turns are over. An
 -- operation that has begun is ended.
-abbrev pub Left : (a p number : ℕ) → List Op → (far : ℕ) → ForkPlace → List NoteValue → Type 0
+abbrev pub Left : (a p number : ℕ) → List Op → (far : ℕ) → JobPlace → List NoteValue → Type 0
 Left a p number [] far at notes = notes ≡ []
 Left a p number (op ∷ ops) far at notes = (far ≡ 0) × (notes ≡ []) ⊎ Goes a p number op ops far at notes
 
@@ -102,15 +98,6 @@ all_of who event page n notes all =
     let many : n - 0 ≡ n = omega arith in
     subst (λ (k : ℕ). TakesDownAll who event page k notes) many (subst (λ (g : ℕ). TakesDownAll who event g (n - 0) notes) first all)
 
-moves_of : (who : Who) (handle : ℕ) (outward : Bool) (index slot n : ℕ) (notes : List NoteValue) → MovesWords who handle outward (index + 0) (slot + 0) (n - 0) notes → MovesWords who handle outward index slot n notes
-moves_of who handle outward index slot n notes all =
-    let first : index + 0 ≡ index = omega arith in
-    let there : slot + 0 ≡ slot = omega arith in
-    let many : n - 0 ≡ n = omega arith in
-    subst (λ (k : ℕ). MovesWords who handle outward index slot k notes) many
-    (subst (λ (k : ℕ). MovesWords who handle outward index k (n - 0) notes) there
-    (subst (λ (k : ℕ). MovesWords who handle outward k (slot + 0) (n - 0) notes) first all))
-
 shape_of : (who : Who) (op : Op) (notes : List NoteValue) → RestOf who op 0 unbegun notes → Shape who op notes
 shape_of who (Unmap page n) notes (inl all) = inl (all_of who (events.Unmap who.actor who.proc) page n notes all)
 shape_of who (Unmap page n) notes (inr refusal) = inr refusal.1
@@ -119,20 +106,17 @@ shape_of who (Discard page n) notes (inr refusal) = inr refusal.1
 shape_of who Exit notes (inl whole) = inl whole
 shape_of who Exit notes (inr refusal) = inr refusal.1
 shape_of who (Fork child) notes rest = inl rest
-shape_of who (Map page n rights) notes rest = rest
-shape_of who (Protect page n rights) notes rest = rest
-shape_of who (Load page word) notes rest = rest
-shape_of who (Store page word value) notes rest = rest
 shape_of who (Pin handle page n want fast) notes (inl pins) =
     let many : n - 0 ≡ n = omega arith in
     inl (subst (λ (k : ℕ). PinsPages who handle page n want 0 k notes) many pins)
 shape_of who (Pin handle page n want fast) notes (inr refusal) = inr refusal.1
 shape_of who (Unpin handle) notes (inl unpins) = inl unpins
 shape_of who (Unpin handle) notes (inr refusal) = inr refusal.1
-shape_of who (Give handle to) notes rest = rest
-shape_of who (Take handle) notes rest = rest
-shape_of who (Transfer handle outward index slot n) notes (inl all) = inl (moves_of who handle outward index slot n notes all)
-shape_of who (Transfer handle outward index slot n) notes (inr refusal) = inr refusal.1
+shape_of who (Transfer handle outward slot parts) notes (inl all) =
+    let many : words_of parts - 0 ≡ words_of parts = omega arith in
+    inl (subst (λ (k : ℕ). MovesWords who handle outward slot parts 0 k notes) many all)
+shape_of who (Transfer handle outward slot parts) notes (inr refusal) = inr refusal.1
+shape_of who op notes rest = rest
 
 pub left_shapes : (a p number : ℕ) (ops : List Op) (notes : List NoteValue) → Left a p number ops 0 unbegun notes → Shapes a p number ops notes
 left_shapes a p number [] notes left = left
@@ -156,49 +140,23 @@ pins_short who handle page n want got (suc zero) now some end = inr end
 pins_short who handle page n want got (suc (suc left)) now some end = inr end
 
 -- one word of a transfer more in front
-moves_more : (who : Who) (handle : ℕ) (outward : Bool) (index slot value m : ℕ) (now later : List NoteValue) → 1 ≤ m → AreBefore now later → IsTurn who (Event (moves_word who.actor handle outward index slot value) ∷ []) now → MovesWords who handle outward (index + 1) (slot + 1) m later → MovesWords who handle outward index slot (suc m) (now ++ later)
-moves_more who handle outward index slot value zero now later some before first all = absurd (omega arith)
-moves_more who handle outward index slot value (suc m) now later some before first all = (value, (now, later, refl, before, first, all))
+moves_more : (who : Who) (handle : ℕ) (outward : Bool) (slot : ℕ) (parts : List Part) (k value m : ℕ) (now later : List NoteValue) → 1 ≤ m → AreBefore now later → IsTurn who (Event (moves_word who.actor handle outward (word_at parts k) (slot + k) value) ∷ []) now → MovesWords who handle outward slot parts (k + 1) m later → MovesWords who handle outward slot parts k (suc m) (now ++ later)
+moves_more who handle outward slot parts k value zero now later some before first all = absurd (omega arith)
+moves_more who handle outward slot parts k value (suc m) now later some before first all = (value, (now, later, refl, before, first, all))
 
 -- what is left of an actor at a place
-abbrev pub LeftAt : (a p : ℕ) → List Op → Place → ForkPlace → List NoteValue → Type 0
+abbrev pub LeftAt : (a p : ℕ) → List Op → Place → JobPlace → List NoteValue → Type 0
 LeftAt a p ops place at notes = Left a p (place.answered + 1) (drop place.answered ops) place.far at notes
 
 -- a fork of a born process is not refused
 pub fork_unrefused : (child : ℕ) (answer : Answer) → refuses (Fork child) answer ≡ false
 fork_unrefused child answers.Plain = refl
-fork_unrefused child (answers.Value value) = refl
-fork_unrefused child answers.Missing = refl
-fork_unrefused child answers.Forbidden = refl
-fork_unrefused child answers.NoFrame = refl
-fork_unrefused child answers.Overlap = refl
-fork_unrefused child answers.Full = refl
-fork_unrefused child answers.Unborn = refl
-fork_unrefused child (answers.Unmovable count) = refl
-fork_unrefused child (answers.Busy count) = refl
-fork_unrefused child answers.Untouched = refl
-fork_unrefused child answers.Stale = refl
-fork_unrefused child answers.NotHeld = refl
-fork_unrefused child answers.Range = refl
-fork_unrefused child (answers.Pinned pages) = refl
-fork_unrefused child (answers.Short got wanted cause) = refl
-fork_unrefused child answers.Words = refl
+fork_unrefused child answer = refl
 
 refused_rest : (who : Who) (op : Op) (far : ℕ) (now : List NoteValue) → far ≡ 0 → IsRefused who op now → RestOf who op far unbegun now
 refused_rest who (Fork child) far now first refusal =
     absurd (let none = fork_unrefused child refusal.0 in let is : IsTrue (refuses (Fork child) refusal.0) = refusal.1 in cc)
-refused_rest who (Map page n rights) far now first refusal = inr refusal
-refused_rest who (Unmap page n) far now first refusal = inr (first, refusal)
-refused_rest who (Load page word) far now first refusal = inr refusal
-refused_rest who (Store page word value) far now first refusal = inr refusal
-refused_rest who (Protect page n rights) far now first refusal = inr refusal
-refused_rest who (Discard page n) far now first refusal = inr (first, refusal)
-refused_rest who (Pin handle page n want fast) far now first refusal = inr (first, refusal)
-refused_rest who (Unpin handle) far now first refusal = inr (first, refusal)
-refused_rest who (Give handle to) far now first refusal = inr refusal
-refused_rest who (Take handle) far now first refusal = inr refusal
-refused_rest who (Transfer handle outward index slot n) far now first refusal = inr (first, refusal)
-refused_rest who Exit far now first refusal = inr (first, refusal)
+refused_rest who op far now first refusal = search (first, refusal, inr)
 
 last_rest : (who : Who) (op : Op) (page n : ℕ) (event : ℕ → PlainEvent) (far : ℕ) (now : List NoteValue) → far + 1 ≡ n → TakesDownLast who (event (page + far)) now → RestOver who op page n event far now
 last_rest who op page n event far now last down =
@@ -239,11 +197,11 @@ module _ (who : Doer) (t : ℕ) (place : Place) (ops : List Op) (later : List No
   front_before whats front rest is after = now_before whats front (behind_front t front rest (subst (AreBehind t) is after))
 
   -- what is left before the turn: of this operation, and of those after it
-  abbrev LeftBefore : Op → ForkPlace → List NoteValue → Type 0
+  abbrev LeftBefore : Op → JobPlace → List NoteValue → Type 0
   LeftBefore op at notes = Left who.actor who.proc (place.answered + 1) (op ∷ ops_behind) place.far at notes
 
   -- the operation ends with this turn
-  ends : (op : Op) (at : ForkPlace) (whats : List What) → RestOf present op place.far at (now whats) → Left who.actor who.proc (place.answered + 1 + 1) ops_behind 0 unbegun later → LeftBefore op at (now whats ++ later)
+  ends : (op : Op) (at : JobPlace) (whats : List What) → RestOf present op place.far at (now whats) → Left who.actor who.proc (place.answered + 1 + 1) ops_behind 0 unbegun later → LeftBefore op at (now whats ++ later)
   ends op at whats rest left = inr (now whats, later, refl, now_before whats later behind, rest, left_shapes who.actor who.proc (place.answered + 1 + 1) ops_behind later left)
 
   -- it takes one page down, and goes on
@@ -290,24 +248,18 @@ module _ (who : Doer) (t : ℕ) (place : Place) (ops : List Op) (later : List No
       inr (now whats ++ front, rest, joined whats front rest is, joined_before whats front rest is behind before, inl (suc more, whole), shapes)
 
   -- a transfer moves one word more in front
-  moves_on : (handle : ℕ) (outward : Bool) (index slot n value : ℕ) (whats : List What) → place.far + 1 < n → IsTurn present (Event (moves_word who.actor handle outward (index + place.far) (slot + place.far) value) ∷ []) (now whats) → Left who.actor who.proc (place.answered + 1) (Transfer handle outward index slot n ∷ ops_behind) (place.far + 1) unbegun later → LeftBefore (Transfer handle outward index slot n) unbegun (now whats ++ later)
-  moves_on handle outward index slot n value whats more first (inl none) = absurd (let e = none.0 in omega arith)
-  moves_on handle outward index slot n value whats more first (inr (front, rest, is, before, inr refusal, shapes)) = absurd (let e = refusal.0 in omega arith)
-  moves_on handle outward index slot n value whats more first (inr (front, rest, is, before, inl all, shapes)) =
-      let i = index + place.far in
-      let j = slot + place.far in
-      let left = n - (place.far + 1) in
-      let next : index + (place.far + 1) ≡ i + 1 = omega arith in
-      let then : slot + (place.far + 1) ≡ j + 1 = omega arith in
-      let many : suc left ≡ n - place.far = omega arith in
-      let there : MovesWords present handle outward (i + 1) (j + 1) left front =
-      subst (λ (k : ℕ). MovesWords present handle outward (i + 1) k left front) then (subst (λ (k : ℕ). MovesWords present handle outward k (slot + (place.far + 1)) left front) next all) in
-      let whole : MovesWords present handle outward i j (n - place.far) (now whats ++ front) =
-      subst (λ (k : ℕ). MovesWords present handle outward i j k (now whats ++ front)) many (moves_more present handle outward i j value left (now whats) front (omega arith) (front_before whats front rest is behind) first there) in
+  moves_on : (handle : ℕ) (outward : Bool) (slot : ℕ) (parts : List Part) (value : ℕ) (whats : List What) → place.far + 1 < words_of parts → IsTurn present (Event (moves_word who.actor handle outward (word_at parts place.far) (slot + place.far) value) ∷ []) (now whats) → Left who.actor who.proc (place.answered + 1) (Transfer handle outward slot parts ∷ ops_behind) (place.far + 1) unbegun later → LeftBefore (Transfer handle outward slot parts) unbegun (now whats ++ later)
+  moves_on handle outward slot parts value whats more first (inl none) = absurd (let e = none.0 in omega arith)
+  moves_on handle outward slot parts value whats more first (inr (front, rest, is, before, inr refusal, shapes)) = absurd (let e = refusal.0 in omega arith)
+  moves_on handle outward slot parts value whats more first (inr (front, rest, is, before, inl all, shapes)) =
+      let left = words_of parts - (place.far + 1) in
+      let many : suc left ≡ words_of parts - place.far = omega arith in
+      let whole : MovesWords present handle outward slot parts place.far (words_of parts - place.far) (now whats ++ front) =
+      subst (λ (k : ℕ). MovesWords present handle outward slot parts place.far k (now whats ++ front)) many (moves_more present handle outward slot parts place.far value left (now whats) front (omega arith) (front_before whats front rest is behind) first all) in
       inr (now whats ++ front, rest, joined whats front rest is, joined_before whats front rest is behind before, inl whole, shapes)
 
   -- a fork goes on from where it stands to where it stands then
-  forks_on : (child : ℕ) (at next : ForkPlace) (whats : List What) → ((front : List NoteValue) → AreBehind t front → RestOfFork present child next front → RestOfFork present child at (now whats ++ front)) → Left who.actor who.proc (place.answered + 1) (Fork child ∷ ops_behind) (place.far + 1) next later → LeftBefore (Fork child) at (now whats ++ later)
+  forks_on : (child : ℕ) (at next : JobPlace) (whats : List What) → ((front : List NoteValue) → AreBehind t front → RestOfFork present child next front → RestOfFork present child at (now whats ++ front)) → Left who.actor who.proc (place.answered + 1) (Fork child ∷ ops_behind) (place.far + 1) next later → LeftBefore (Fork child) at (now whats ++ later)
   forks_on child at next whats on (inl none) = absurd (let e = none.0 in omega arith)
   forks_on child at next whats on (inr (front, rest, is, before, begun, shapes)) =
       inr (now whats ++ front, rest, joined whats front rest is, joined_before whats front rest is behind before, on front (behind_front t front rest (subst (AreBehind t) is behind)) begun, shapes)
@@ -338,14 +290,9 @@ module _ (who : Doer) (t : ℕ) (place : Place) (ops : List Op) (later : List No
   placed_before : (child page to : ℕ) (whats : List What) → IsTurn present (Silent ∷ []) (now whats) → (front : List NoteValue) → AreBehind t front → RestOfFork present child (from_page (page + 1)) front → RestOfFork present child (at_word page words to) (now whats ++ front)
   placed_before child page to whats silent front after (pages, all) = (pages, (now whats, front, refl, now_before whats front after, (zero, none_left words, silent), all))
 
-  op_left : {s : PlainState} (op : Op) {from to : ForkPlace} (whats : List What) → TurnOf s who place op from whats to → drop place.answered ops ≡ op ∷ ops_behind → LeftAt who.actor who.proc ops (place_behind place whats) to later → LeftBefore op from (now whats ++ later)
+  op_left : {s : PlainState} (op : Op) {from to : JobPlace} (whats : List What) → TurnOf s who place op from whats to → drop place.answered ops ≡ op ∷ ops_behind → LeftAt who.actor who.proc ops (place_behind place whats) to later → LeftBefore op from (now whats ++ later)
   op_left op whats (refused o answer first refusal right passes) is left = ends op unbegun whats (refused_rest present op place.far (now whats) first.0 (answer, refusal, (t, refl))) left
-  op_left op whats (mapped page n rights first free) is left = ends op unbegun whats (inl (t, refl)) left
-  op_left op whats (protected page n rights first free) is left = ends op unbegun whats (inl (t, refl)) left
   op_left op whats (loaded page word value first free) is left = ends op unbegun whats (inl (value, (t, refl))) left
-  op_left op whats (stored page word value first free) is left = ends op unbegun whats (inl (t, refl)) left
-  op_left op whats (gave handle to first free) is left = ends op unbegun whats (inl (t, refl)) left
-  op_left op whats (took_over handle first) is left = ends op unbegun whats (inl (t, refl)) left
   op_left op whats (took o page n event over more) is left =
       takes_and_goes op page n event whats over more (inl (t, refl)) (subst (λ (os : List Op). Left who.actor who.proc (place.answered + 1) os (place.far + 1) unbegun later) is left)
   op_left op whats (passed o page n event over more none) is left =
@@ -367,11 +314,11 @@ module _ (who : Doer) (t : ℕ) (place : Place) (ops : List Op) (later : List No
   op_left op whats (unpinned_page handle free more) is left =
       unpins_on handle whats (t, refl) (subst (λ (os : List Op). Left who.actor who.proc (place.answered + 1) os (place.far + 1) unbegun later) is left)
   op_left op whats (unpinned_last handle none free last) is left = ends op unbegun whats (inl (zero, (t, refl))) left
-  op_left op whats (moved_word handle outward index slot n value more free) is left =
-      moves_on handle outward index slot n value whats more (t, refl) (subst (λ (os : List Op). Left who.actor who.proc (place.answered + 1) os (place.far + 1) unbegun later) is left)
-  op_left op whats (moved_last handle outward index slot n value last free) is left =
-      let one : 1 ≡ n - place.far = omega arith in
-      ends op unbegun whats (inl (subst (λ (k : ℕ). MovesWords present handle outward (index + place.far) (slot + place.far) k (now whats)) one (value, (t, refl)))) left
+  op_left op whats (moved_word handle outward slot parts value more free) is left =
+      moves_on handle outward slot parts value whats more (t, refl) (subst (λ (os : List Op). Left who.actor who.proc (place.answered + 1) os (place.far + 1) unbegun later) is left)
+  op_left op whats (moved_last handle outward slot parts value last free) is left =
+      let one : 1 ≡ words_of parts - place.far = omega arith in
+      ends op unbegun whats (inl (subst (λ (k : ℕ). MovesWords present handle outward slot parts place.far k (now whats)) one (value, (t, refl)))) left
   op_left op whats (began child first) is left =
       forks_on child unbegun (from_page 0) whats (λ front after h. inl (h.0, (now whats, front, refl, now_before whats front after, (t, refl), h.1))) (subst (λ (os : List Op). Left who.actor who.proc (place.answered + 1) os (place.far + 1) (from_page 0) later) is left)
   op_left op whats (passed_page child first page begun up) is left =
@@ -390,19 +337,20 @@ module _ (who : Doer) (t : ℕ) (place : Place) (ops : List Op) (later : List No
   op_left op whats (placed_copy child page to begun) is left =
       forks_on child (at_word page words to) (from_page (page + 1)) whats (placed_before child page to whats (t, refl)) (subst (λ (os : List Op). Left who.actor who.proc (place.answered + 1) os (place.far + 1) (from_page (page + 1)) later) is left)
   op_left op whats (failed_fork child page begun) is left = ends op (wants_frame page) whats (inr (t, refl)) left
+  op_left op whats turn is left = ends op unbegun whats (inl (t, refl)) left
 
   -- a turn without notes of an operation
-  same_left : (at : ForkPlace) (what : What) → is_of_operation what ≡ false → LeftAt who.actor who.proc ops place at later → LeftAt who.actor who.proc ops place at (own_notes who.actor (now (what ∷ [])) ++ later)
+  same_left : (at : JobPlace) (what : What) → is_of_operation what ≡ false → LeftAt who.actor who.proc ops place at later → LeftAt who.actor who.proc ops place at (own_notes who.actor (now (what ∷ [])) ++ later)
   same_left at what other left = subst (λ (ns : List NoteValue). LeftAt who.actor who.proc ops place at (ns ++ later)) (sym (own_idle who.actor t (place.answered + 1) what other)) left
 
   -- one of the operation at which it stands
-  own_left : (op : Op) (at : ForkPlace) (whats : List What) → slice_get ops place.answered ≡ Some op → Moves whats → LeftBefore op at (now whats ++ later) → LeftAt who.actor who.proc ops place at (own_notes who.actor (now whats) ++ later)
+  own_left : (op : Op) (at : JobPlace) (whats : List What) → slice_get ops place.answered ≡ Some op → Moves whats → LeftBefore op at (now whats ++ later) → LeftAt who.actor who.proc ops place at (own_notes who.actor (now whats) ++ later)
   own_left op at whats is moves here =
       subst (λ (ns : List NoteValue). LeftAt who.actor who.proc ops place at (ns ++ later)) (sym (own_same who.actor t (place.answered + 1) whats moves.2))
       (subst (λ (os : List Op). Left who.actor who.proc (place.answered + 1) os place.far at (now whats ++ later)) (sym (ops_split ops place.answered op is)) here)
 
   -- any turn of the actor's
-  pub turn_left : {s : PlainState} {op : Option Op} {waiting : Option Waiting} {from to : ForkPlace} {whats : List What} → TurnAt s who place op waiting from whats to → slice_get ops place.answered ≡ op → LeftAt who.actor who.proc ops (place_behind place whats) to later → LeftAt who.actor who.proc ops place from (own_notes who.actor (now whats) ++ later)
+  pub turn_left : {s : PlainState} {op : Option Op} {waiting : Option Waiting} {from to : JobPlace} {whats : List What} → TurnAt s who place op waiting from whats to → slice_get ops place.answered ≡ op → LeftAt who.actor who.proc ops (place_behind place whats) to later → LeftAt who.actor who.proc ops place from (own_notes who.actor (now whats) ++ later)
   turn_left (idles waiting at) is left = same_left at Idle refl left
   turn_left (waits op waiting at) is left = same_left at (Wait waiting) refl left
   turn_left (goes op whats from to birth own turn) is left =
@@ -415,5 +363,5 @@ module _ (who : Doer) (t : ℕ) (place : Place) (ops : List Op) (later : List No
       own_left (Fork child) unbegun whats is (failure_moves child) (ends (Fork child) unbegun whats (inr (t, refl)) left)
 
 -- a turn of another actor changes nothing
-pub other_left : (a p b t n : ℕ) (place : Place) (at : ForkPlace) (ops : List Op) (whats : List What) (later : List NoteValue) → (b == a) ≡ false → LeftAt a p ops place at later → LeftAt a p ops place at (own_notes a (notes_of_turn t b n whats) ++ later)
+pub other_left : (a p b t n : ℕ) (place : Place) (at : JobPlace) (ops : List Op) (whats : List What) (later : List NoteValue) → (b == a) ≡ false → LeftAt a p ops place at later → LeftAt a p ops place at (own_notes a (notes_of_turn t b n whats) ++ later)
 other_left a p b t n place at ops whats later e left = subst (λ (ns : List NoteValue). LeftAt a p ops place at (ns ++ later)) (sym (own_other a t b n whats e)) left

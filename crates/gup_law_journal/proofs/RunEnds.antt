@@ -6,16 +6,16 @@ use Rattle.gup_plain.specs.State.{Birth, born, unborn, growing, failed, Handle}
 use Rattle.gup_plain.specs.declared.note.Waiting.{Waiting}
 use Rattle.gup_plain.specs.declared.note.Waiting.TheVariants as waitings
 use Rattle.gup_script.specs.declared.op.Op.{Op}
-use Rattle.gup_script.specs.declared.op.Op.TheVariants.{Map, Unmap, Protect, Discard, Load, Store, Pin, Unpin, Give, Take, Transfer, Fork, Exit}
+use Rattle.gup_script.specs.declared.op.Op.TheVariants.{Take, Fork}
 use Rattle.gup_script.specs.Script.{ScriptValue, actor_at}
 use Rattle.gup_script.specs.Valid.{IsScript, AreDeclared}
-use Rattle.gup_spec_events.specs.State.{CoreState, Job, idle, marking, moving, forking, walking, ForkStep, between, counted, lowered, cleared, copying, failing}
+use Rattle.gup_spec_events.specs.State.{CoreState, Job, idle, forking, ForkStep, between, counted, copying}
 use Rattle.gup_law_base.specs.Sound.{Forking, forking_of, keeps_table, keeps_structure}
 use Rattle.gup_spec_journal.specs.Order.{Turn, is_given_to, taking_waits, handle_waits}
 use Rattle.gup_spec_journal.specs.Place.{Doer, doer, birth_by, birth_for, ops_of, process_of}
 use Rattle.gup_spec_turns.specs.Cause.{WaitsForBirthOrPin}
 use Rattle.gup_law_turns.specs.Standing.{IsStanding}
-use Rattle.gup_spec_turns.specs.ForkPlace.{IsNoFork, StandsFork}
+use Rattle.gup_spec_turns.specs.JobPlace.{IsNoFork, StandsFork}
 use Rattle.gup_spec_turns.specs.Run.{RunState, Runs, run_after, op_in, waiting_with, waiting_in, is_ready, can_go}
 use Rattle.gup_spec_turns.specs.Waits.{Locks, fork_locks, locks_needed, held_by_other, waits_for_lock, first_waiting, waits_for_locks, waits_born, waiting_for}
 use Rattle.gup_spec_turns.proofs.TurnParts.{waits_at}
@@ -67,23 +67,14 @@ held_by_self a = go (a == a) refl
 -- a fork in the middle of a process keeps its structure lock
 fork_keeps : (s : CoreState) (b p child q : ℕ) (job : Job) (prepared : Option ℕ) → StandsFork s b p child job prepared → keeps_table job ≡ Some q → keeps_structure job ≡ Some q
 fork_keeps s b p child q idle prepared stands keeps = absurd (cc keeps)
-fork_keeps s b p child q (marking k page f) prepared stands keeps = absurd stands
-fork_keeps s b p child q (moving k page e allowed count) prepared stands keeps = absurd stands
-fork_keeps s b p child q (walking k write long sequence step) prepared stands keeps = absurd stands
 fork_keeps s b p child q (forking k c done between) prepared stands keeps = absurd (cc keeps)
-fork_keeps s b p child q (forking k c done (counted page)) prepared stands keeps = keeps
-fork_keeps s b p child q (forking k c done (lowered page)) prepared stands keeps = keeps
-fork_keeps s b p child q (forking k c done (cleared page)) prepared stands keeps = keeps
-fork_keeps s b p child q (forking k c done (copying page n)) prepared stands keeps = keeps
-fork_keeps s b p child q (forking k c done failing) prepared stands keeps = absurd (cc keeps)
+fork_keeps s b p child q (forking k c done step) prepared stands keeps = cc keeps
+fork_keeps s b p child q job prepared stands keeps = absurd stands
 
 fork_kept : (s : CoreState) (b q : ℕ) (job : Job) → ((k : Forking) → forking_of job ≡ Some k → s.structure k.proc ≡ Some b) → keeps_structure job ≡ Some q → s.structure q ≡ Some b
-fork_kept s b q idle locked keeps = absurd (cc keeps)
-fork_kept s b q (marking k page f) locked keeps = absurd (cc keeps)
-fork_kept s b q (moving k page e allowed count) locked keeps = absurd (cc keeps)
-fork_kept s b q (walking k write long sequence step) locked keeps = absurd (cc keeps)
 fork_kept s b q (forking k c done step) locked keeps =
     subst (λ (n : ℕ). s.structure n ≡ Some b) (some_same keeps) (locked (record { proc = k; child = c; done = done; step = step }) refl)
+fork_kept s b q job locked keeps = absurd (cc keeps)
 
 -- whoever is of a born process waits for no birth
 born_for : (who : Doer) (births : ℕ → Birth) → births who.proc ≡ born → birth_for births who ≡ born
@@ -108,18 +99,7 @@ taking_waits_for false handle w is = sym (same_waiting is)
 
 waits_to_take : (handle : ℕ → Handle) (a : ℕ) (op : Op) (w : Waiting) → handle_waits handle a (Some op) ≡ Some w → (h : ℕ) × (op ≡ Take h) × (w ≡ waitings.Handle h)
 waits_to_take handle a (Take h) w is = (h, refl, taking_waits_for (is_given_to (handle h) a) h w is)
-waits_to_take handle a (Map page n rights) w is = absurd (cc is)
-waits_to_take handle a (Unmap page n) w is = absurd (cc is)
-waits_to_take handle a (Protect page n rights) w is = absurd (cc is)
-waits_to_take handle a (Discard page n) w is = absurd (cc is)
-waits_to_take handle a (Load page word) w is = absurd (cc is)
-waits_to_take handle a (Store page word value) w is = absurd (cc is)
-waits_to_take handle a (Pin h page n want fast) w is = absurd (cc is)
-waits_to_take handle a (Unpin h) w is = absurd (cc is)
-waits_to_take handle a (Give h to) w is = absurd (cc is)
-waits_to_take handle a (Transfer h outward index slot n) w is = absurd (cc is)
-waits_to_take handle a (Fork child) w is = absurd (cc is)
-waits_to_take handle a Exit w is = absurd (cc is)
+waits_to_take handle a op w is = absurd (cc is)
 
 -- and of a pin of the script
 handle_declared : (script : ScriptValue) → IsScript script → (a k h : ℕ) → slice_get (ops_of script a) k ≡ Some (Take h) → h < length script.handles
@@ -138,20 +118,8 @@ module _ (script : ScriptValue) (r : RunState) (h : IsStanding script r) where
       no_fork o is none = idle_keeps (h.idle_jobs b (subst IsNoFork (sym is) none)) keeps
 
       go : (o : Option Op) → op_in script r b ≡ o → (child : ℕ) × (op_in script r b ≡ Some (Fork child))
-      go None is = absurd (no_fork None is tt)
-      go (Some (Map page n rights)) is = absurd (no_fork (Some (Map page n rights)) is tt)
-      go (Some (Unmap page n)) is = absurd (no_fork (Some (Unmap page n)) is tt)
-      go (Some (Protect page n rights)) is = absurd (no_fork (Some (Protect page n rights)) is tt)
-      go (Some (Discard page n)) is = absurd (no_fork (Some (Discard page n)) is tt)
-      go (Some (Load page word)) is = absurd (no_fork (Some (Load page word)) is tt)
-      go (Some (Store page word value)) is = absurd (no_fork (Some (Store page word value)) is tt)
       go (Some (Fork child)) is = (child, is)
-      go (Some (Pin handle page n want fast)) is = absurd (no_fork (Some (Pin handle page n want fast)) is tt)
-      go (Some (Unpin handle)) is = absurd (no_fork (Some (Unpin handle)) is tt)
-      go (Some (Give handle to)) is = absurd (no_fork (Some (Give handle to)) is tt)
-      go (Some (Take handle)) is = absurd (no_fork (Some (Take handle)) is tt)
-      go (Some (Transfer handle outward index slot n)) is = absurd (no_fork (Some (Transfer handle outward index slot n)) is tt)
-      go (Some Exit) is = absurd (no_fork (Some Exit) is tt)
+      go op is = absurd (no_fork op is tt)
 
   -- whoever holds a table lock holds the structure lock too
   holds_both : (p d : ℕ) → r.core.table p ≡ Some d → r.core.structure p ≡ Some d
@@ -191,21 +159,17 @@ module _ (script : ScriptValue) (r : RunState) (h : IsStanding script r) where
 
       go : (j : Job) → r.core.job b ≡ j → StandsFork r.core b p child j (r.core.prepared b) → (j ≡ idle → ⊥) → waiting_for r.core (doer script b) (Fork child) ≡ None
       go idle is stands busy = absurd (busy refl)
-      go (marking q page f) is stands busy = absurd stands
-      go (moving q page e allowed count) is stands busy = absurd stands
-      go (walking q write long sequence step) is stands busy = absurd stands
       go (forking q c done between) is stands busy =
           unlocked (is_born q c done between is stands.parent)
           (ap (λ (j : Job). waits_for_locks (fork_locks (r.core.right child) j) b (r.core.structure p) (r.core.table p)) is ∙ table_unwaited b p (is_some (next_page (r.core.right child) done)) stands.locked)
       go (forking q c done (counted page)) is stands busy =
           unlocked (is_born q c done (counted page) is stands.0.parent)
           (ap (λ (j : Job). waits_for_locks (fork_locks (r.core.right child) j) b (r.core.structure p) (r.core.table p)) is)
-      go (forking q c done (lowered page)) is stands busy = absurd stands
-      go (forking q c done (cleared page)) is stands busy = absurd stands
       go (forking q c done (copying page word)) is stands busy =
           unlocked (is_born q c done (copying page word) is stands.0.parent)
           (ap (λ (j : Job). waits_for_locks (fork_locks (r.core.right child) j) b (r.core.structure p) (r.core.table p)) is)
-      go (forking q c done failing) is stands busy = absurd stands
+      go (forking q c done step) is stands busy = absurd stands
+      go job is stands busy = absurd stands
 
   -- whoever keeps a lock can go
   keeper_goes : (b p : ℕ) → (keeps_structure (r.core.job b) ≡ Some p) ⊎ (keeps_table (r.core.job b) ≡ Some p) → (b < length script.actors) × (can_go script r b ≡ true)

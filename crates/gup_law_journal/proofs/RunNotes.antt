@@ -8,11 +8,11 @@ use Rattle.gup_plain.specs.State.{Birth, Handle}
 use Rattle.gup_spec_events.specs.State.{CoreState}
 use Rattle.gup_script.specs.Script.{ScriptValue}
 use Rattle.gup_script.specs.declared.op.Op.{Op}
-use Rattle.gup_script.specs.declared.op.Op.TheVariants.{Map, Unmap, Protect, Discard, Load, Store, Pin, Unpin, Give, Take, Transfer, Fork, Exit}
+use Rattle.gup_script.specs.declared.op.Op.TheVariants.{Take}
 use Rattle.gup_spec_journal.specs.Follows.{own_notes, notes_of_turn, AreBehind}
 use Rattle.gup_spec_journal.specs.Order.{Turn, journal_of, waiting_at, waiting_of, finished_in, handle_waits, IsOverAt}
 use Rattle.gup_spec_journal.specs.Place.{Place, Doer, doer, place_behind, process_of, ops_of}
-use Rattle.gup_spec_turns.specs.ForkPlace.{ForkPlace, place_in}
+use Rattle.gup_spec_turns.specs.JobPlace.{JobPlace, place_in}
 use Rattle.gup_spec_turns.specs.Run.{RunState, AreTurns, AreBetween, run_after, op_in, core_turn_in, can_go}
 use Rattle.gup_law_journal.proofs.OperationNotes.{LeftAt, Left, ops_split, ops_over, turn_left, other_left}
 use Rattle.gup_law_journal.proofs.TurnOrder.{ordered_of, is_over, finished_is}
@@ -25,7 +25,7 @@ use Rattle.gup_law_turns.proofs.TurnSteps.{taken}
 use Rattle.gup_law_turns.proofs.EventLists.{Law}
 
 -- what is left of an actor of the script
-abbrev pub LeftOf : ScriptValue → ℕ → Place → ForkPlace → List NoteValue → Type 0
+abbrev pub LeftOf : ScriptValue → ℕ → Place → JobPlace → List NoteValue → Type 0
 LeftOf script a place at notes = LeftAt a (process_of script a) (ops_of script a) place at notes
 
 -- an actor that neither waits nor has no operation left has not finished
@@ -34,20 +34,8 @@ not_over finished seen left none over = subst₂ IsOverAt left none over
 
 -- who is in the middle of an operation waits for no pin
 untaking : (s : CoreState) (handle : ℕ → Handle) (who : Doer) (op : Option Op) (place : Place) → FitsAt s who op place → 0 < place.far → handle_waits handle who.actor op ≡ None
-untaking s handle who None place fits far = refl
-untaking s handle who (Some (Map page n rights)) place fits far = refl
-untaking s handle who (Some (Unmap page n)) place fits far = refl
-untaking s handle who (Some (Protect page n rights)) place fits far = refl
-untaking s handle who (Some (Discard page n)) place fits far = refl
-untaking s handle who (Some (Load page word)) place fits far = refl
-untaking s handle who (Some (Store page word value)) place fits far = refl
-untaking s handle who (Some (Pin h page n want fast)) place fits far = refl
-untaking s handle who (Some (Unpin h)) place fits far = refl
-untaking s handle who (Some (Give h to)) place fits far = refl
 untaking s handle who (Some (Take h)) place fits far = absurd (let first = fits.1.0 in omega arith)
-untaking s handle who (Some (Transfer h outward index slot n)) place fits far = refl
-untaking s handle who (Some (Fork child)) place fits far = refl
-untaking s handle who (Some Exit) place fits far = refl
+untaking s handle who op place fits far = refl
 
 -- so where no actor can go, each stands between two operations
 end_between : (script : ScriptValue) → IsScript script → (r : RunState) → Stands script r → ((a : ℕ) → a < length script.actors → can_go script r a ≡ false) → (a : ℕ) (op : Option Op) → op_in script r a ≡ op → (r.places a).far ≡ 0
@@ -71,7 +59,7 @@ pub are_between : (script : ScriptValue) → IsScript script → (r : RunState) 
 are_between script valid r h stopped a below = end_between script valid r h stopped a (op_in script r a) refl
 
 -- nothing is left of an actor that stands between two operations
-nothing_left : (script : ScriptValue) (r : RunState) → AreBetween script r → (a : ℕ) (op : Option Op) → op_in script r a ≡ op → (at : ForkPlace) → LeftOf script a (r.places a) at []
+nothing_left : (script : ScriptValue) (r : RunState) → AreBetween script r → (a : ℕ) (op : Option Op) → op_in script r a ≡ op → (at : JobPlace) → LeftOf script a (r.places a) at []
 nothing_left script r between a None is at =
     let place = r.places a in
     subst (λ (os : List Op). Left a (process_of script a) (place.answered + 1) os place.far at []) (sym (ops_over (ops_of script a) place.answered is)) refl
@@ -81,7 +69,7 @@ nothing_left script r between a (Some op) is at =
     subst (λ (os : List Op). Left a (process_of script a) (place.answered + 1) os place.far at []) (sym (ops_split (ops_of script a) place.answered op is)) (inl (first, refl))
 
 -- where a fork of an actor stands
-abbrev stands_at : RunState → ℕ → ForkPlace
+abbrev stands_at : RunState → ℕ → JobPlace
 stands_at r a = place_in r.core a
 
 -- what a turn of actor b does to what is left of actor a
@@ -95,7 +83,7 @@ turn_of_any script valid r h b t a later true after e left =
     subst (λ (k : ℕ). LeftOf script k (r.places k) (stands_at r k) (own_notes k (notes_of_turn t b ((r.places b).answered + 1) whats) ++ later)) (sym same) before
 turn_of_any script valid r h b t a later false after e left =
     let apart : a ≡ b → ⊥ = λ same. let yes = eq-eqb a b same in cc in
-    let here : LeftOf script a (r.places a) (stands_at r a) later = subst (λ (at : ForkPlace). LeftOf script a (r.places a) at later) (places_stay script valid r h b a apart) left in
+    let here : LeftOf script a (r.places a) (stands_at r a) later = subst (λ (at : JobPlace). LeftOf script a (r.places a) at later) (places_stay script valid r h b a apart) left in
     other_left a (process_of script a) b t ((r.places b).answered + 1) (r.places a) (stands_at r a) (ops_of script a) (core_turn_in script r b).whats later (grind (arith, nat_tests)) here
 
 pub follows_turns : Law → (script : ScriptValue) → IsScript script → (turns : List Turn) (number : ℕ) (r end : RunState) → Stands script r → AreTurns script r turns end → AreBetween script end → (a : ℕ) → LeftOf script a (r.places a) (stands_at r a) (own_notes a (journal_of number r.places turns))

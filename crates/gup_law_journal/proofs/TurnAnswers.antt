@@ -1,5 +1,5 @@
 -- Which answers turns have, and how many.
-use Rattle.std.proofs.Common.{◌≡◌, ℕ, ◌+◌, ◌<◌, Bool, true, false, IsTrue, List, [], ◌∷◌, ◌++◌, length, Option, Some, None, refl, sym, ap, subst, ◌∙◌, arith, leb-true, leb-false, nat_le}
+use Rattle.std.proofs.Common.{◌≡◌, ℕ, ◌+◌, ◌<◌, Bool, true, false, IsTrue, List, [], ◌∷◌, ◌++◌, length, Option, Some, None, refl, sym, ap, subst, ◌∙◌, arith, leb-true, leb-false, nat_le, rules}
 use Rattle.std.proofs.lemmas.Option.{slice_get_past}
 use Rattle.gup_base.specs.declared.entry.Want.{Want}
 use Rattle.gup_plain.specs.Put.{put}
@@ -10,7 +10,7 @@ use Rattle.gup_plain.specs.declared.answer.Answer.TheVariants as answers
 use Rattle.gup_plain.specs.declared.answer.Cause.{Cause}
 use Rattle.gup_plain.specs.declared.answer.Cause.TheVariants as causes
 use Rattle.gup_plain.specs.declared.note.What.{What}
-use Rattle.gup_plain.specs.declared.note.What.TheVariants.{Silent, Idle, Wait, Event, Done}
+use Rattle.gup_plain.specs.declared.note.What.TheVariants.{Idle, Done}
 use Rattle.gup_plain.specs.declared.note.Waiting.{Waiting}
 use Rattle.gup_script.specs.declared.op.Op.{Op}
 use Rattle.gup_script.specs.Script.{ScriptValue, Actor}
@@ -20,14 +20,14 @@ use Rattle.gup_spec_journal.specs.Order.{Turn, journal_of, places_behind}
 use Rattle.gup_spec_journal.specs.Place.{Place, place_after, place_behind, ops_of, ops_in, Doer, doer}
 use Rattle.gup_spec_turns.specs.Cause.{IsKnownCause, IsKnownAnswer, IsKnown, AreKnown, answers_in, answered_in, HaveFinished}
 use Rattle.gup_spec_turns.specs.Cost.{operations}
-use Rattle.gup_spec_turns.specs.Pages.{sum_below}
-use Rattle.gup_spec_turns.specs.ForkPlace.{ForkPlace}
+use Rattle.gup_plain.specs.Pages.{sum_below}
+use Rattle.gup_spec_turns.specs.JobPlace.{JobPlace}
 use Rattle.gup_law_turns.specs.Standing.{IsStanding}
 use Rattle.gup_spec_turns.specs.Run.{RunState, AreTurns, run_start, run_after, core_turn_by, core_turn_in, op_in, waiting_in}
 use Rattle.gup_law_turns.proofs.Puts.{by_points, put_same, put_other, put_own}
 use Rattle.gup_law_turns.proofs.NoteRightness.{unrefused_short, not_both}
 use Rattle.gup_law_turns.proofs.ScriptLemmas.{has_ops_declared}
-use Rattle.gup_law_turns.proofs.TurnShapes.{TurnOf, refused, mapped, protected, loaded, stored, gave, took_over, took, took_last, passed, passed_last, took_lowest, took_all, pinned_page, pinned_all, pinned_short, unpinned_page, unpinned_last, moved_word, moved_last, began, passed_page, counted_page, shared_page, ended, counted_copy, took_frame, copied_word, placed_copy, failed_fork, TurnAt, idles, waits, goes, unborn_refused, unborn_fork}
+use Rattle.gup_law_turns.proofs.TurnShapes.{TurnOf, refused, pinned_short, TurnAt, goes}
 use Rattle.gup_law_turns.proofs.StandingTurns.{stands_on}
 use Rattle.gup_law_turns.proofs.StandingStates.{Stands}
 use Rattle.gup_law_turns.proofs.TurnSteps.{taken}
@@ -49,75 +49,32 @@ stale_never : (op : Op) → refuses op answers.Stale ≡ false
 stale_never op = grind arith
 
 known_refusal : (op : Op) (answer : Answer) → IsTrue (refuses op answer) → IsKnownAnswer answer
-known_refusal op answers.Plain is = tt
-known_refusal op (answers.Value value) is = tt
-known_refusal op answers.Missing is = tt
-known_refusal op answers.Forbidden is = tt
-known_refusal op answers.NoFrame is = tt
-known_refusal op answers.Overlap is = tt
-known_refusal op answers.Full is = tt
-known_refusal op answers.Unborn is = tt
 known_refusal op (answers.Unmovable count) is = not_both (refuses op (answers.Unmovable count)) (unmovable_never op count) is
 known_refusal op (answers.Busy count) is = not_both (refuses op (answers.Busy count)) (busy_never op count) is
 known_refusal op answers.Untouched is = not_both (refuses op answers.Untouched) (untouched_never op) is
 known_refusal op answers.Stale is = not_both (refuses op answers.Stale) (stale_never op) is
-known_refusal op answers.NotHeld is = tt
-known_refusal op answers.Range is = tt
-known_refusal op (answers.Pinned pages) is = tt
 known_refusal op (answers.Short got wanted cause) is =
     absurd (not_both (refuses op (answers.Short got wanted cause)) (unrefused_short op got wanted cause) is)
-known_refusal op answers.Words is = tt
+known_refusal op answer is = tt
 
 -- what ends a pin is a cause that there is
 known_cause : (want : Want) (cause : Cause) → EndsPin want cause → IsKnownCause cause
-known_cause want causes.Missing end = tt
-known_cause want causes.Forbidden end = tt
-known_cause want causes.NoFrame end = tt
 known_cause want (causes.Unmovable count) end = end
+known_cause want cause end = tt
 
 -- the notes of a turn
 abbrev pub AreKnownWhats : List What → Type 0
 AreKnownWhats [] = Unit {0}
 AreKnownWhats (what ∷ whats) = IsKnown what × AreKnownWhats whats
 
-known_turn : {s : PlainState} {who : Doer} {place : Place} {op : Op} {from to : ForkPlace} {whats : List What} → TurnOf s who place op from whats to → AreKnownWhats whats
+known_turn : {s : PlainState} {who : Doer} {place : Place} {op : Op} {from to : JobPlace} {whats : List What} → TurnOf s who place op from whats to → AreKnownWhats whats
 known_turn (refused op answer first refusal right passes) = (known_refusal op answer refusal, tt)
-known_turn (mapped page n rights first undenied) = (tt, (tt, tt))
-known_turn (protected page n rights first undenied) = (tt, (tt, tt))
-known_turn (loaded page word value first undenied) = (tt, (tt, tt))
-known_turn (stored page word value first undenied) = (tt, (tt, tt))
-known_turn (gave handle to first undenied) = (tt, (tt, tt))
-known_turn (took_over handle first) = (tt, (tt, tt))
-known_turn (took op page n event over more) = (tt, tt)
-known_turn (took_last op page n event over last) = (tt, (tt, tt))
-known_turn (passed op page n event over more none) = (tt, tt)
-known_turn (passed_last op page n event over last none) = (tt, tt)
-known_turn (took_lowest page none) = (tt, tt)
-known_turn (took_all none) = (tt, tt)
-known_turn (pinned_page handle page n want fast more undenied) = (tt, tt)
-known_turn (pinned_all handle page n want fast last undenied) = (tt, (tt, (tt, tt)))
 known_turn (pinned_short handle page n want fast cause some less end right) = (tt, (known_cause want cause end, tt))
-known_turn (unpinned_page handle undenied more) = (tt, tt)
-known_turn (unpinned_last handle none undenied last) = (tt, (tt, tt))
-known_turn (moved_word handle outward index slot n value more undenied) = (tt, tt)
-known_turn (moved_last handle outward index slot n value last undenied) = (tt, (tt, tt))
-known_turn (began child first) = (tt, tt)
-known_turn (passed_page child first page begun up) = (tt, tt)
-known_turn (counted_page child first page begun up) = (tt, tt)
-known_turn (shared_page child page begun) = (tt, tt)
-known_turn (ended child first begun) = (tt, (tt, tt))
-known_turn (counted_copy child first page begun up) = (tt, tt)
-known_turn (took_frame child page to begun) = (tt, tt)
-known_turn (copied_word child page word to begun less) = (tt, tt)
-known_turn (placed_copy child page to begun) = (tt, tt)
-known_turn (failed_fork child page begun) = (tt, (tt, tt))
+known_turn turn = search rules
 
-known_taken : {s : PlainState} {who : Doer} {place : Place} {op : Option Op} {waiting : Option Waiting} {from to : ForkPlace} {whats : List What} → TurnAt s who place op waiting from whats to → AreKnownWhats whats
-known_taken (idles waiting at) = (tt, tt)
-known_taken (waits op waiting at) = (tt, tt)
+known_taken : {s : PlainState} {who : Doer} {place : Place} {op : Option Op} {waiting : Option Waiting} {from to : JobPlace} {whats : List What} → TurnAt s who place op waiting from whats to → AreKnownWhats whats
 known_taken (goes op whats from to birth own turn) = known_turn turn
-known_taken (unborn_refused op birth first refusal) = (tt, tt)
-known_taken (unborn_fork child birth fails first) = (tt, (tt, tt))
+known_taken turn = search rules
 
 known_notes : (number actor op : ℕ) (whats : List What) (rest : List NoteValue) → AreKnownWhats whats → AreKnown rest → AreKnown (notes_of_turn number actor op whats ++ rest)
 known_notes number actor op [] rest known later = later
@@ -138,23 +95,17 @@ known_turns law script valid (turn ∷ turns) number r end h are =
 -- an actor's place counts its answers
 counts_answers : (place : Place) (whats : List What) → (place_behind place whats).answered ≡ place.answered + answers_in whats
 counts_answers place [] = omega arith
-counts_answers place (Silent ∷ whats) = counts_answers (place_after place Silent) whats
-counts_answers place (Idle ∷ whats) = counts_answers place whats
-counts_answers place (Wait waiting ∷ whats) = counts_answers place whats
-counts_answers place (Event event ∷ whats) = counts_answers (place_after place (Event event)) whats
 counts_answers place (Done answer ∷ whats) =
     let rest = counts_answers (place_after place (Done answer)) whats in
     omega (arith, rest)
+counts_answers place (what ∷ whats) = counts_answers (place_after place what) whats
 
 answers_behind : (number actor op : ℕ) (whats : List What) (rest : List NoteValue) → answered_in (notes_of_turn number actor op whats ++ rest) ≡ answers_in whats + answered_in rest
 answers_behind number actor op [] rest = omega arith
-answers_behind number actor op (Silent ∷ whats) rest = answers_behind number actor op whats rest
-answers_behind number actor op (Idle ∷ whats) rest = answers_behind number actor op whats rest
-answers_behind number actor op (Wait waiting ∷ whats) rest = answers_behind number actor op whats rest
-answers_behind number actor op (Event event ∷ whats) rest = answers_behind number actor op whats rest
 answers_behind number actor op (Done answer ∷ whats) rest =
     let later = answers_behind number actor op whats rest in
     omega (arith, later)
+answers_behind number actor op (what ∷ whats) rest = answers_behind number actor op whats rest
 
 -- what all actors have answered
 abbrev pub all_answered : ScriptValue → (ℕ → Place) → ℕ

@@ -1,8 +1,8 @@
 -- The turns of a run are in the script's order.
-use Rattle.std.proofs.Common.{◌≡◌, ℕ, ◌<◌, ◌⊎◌, inl, inr, ap₂, Bool, true, false, List, [], ◌∷◌, length, Option, Some, None, is_none, slice_get, nat_le, refl, sym, ap, ◌∙◌, subst, zero, suc, arith}
+use Rattle.std.proofs.Common.{◌≡◌, ℕ, ◌<◌, ◌⊎◌, inl, inr, ap₂, Bool, true, false, List, [], ◌∷◌, length, Option, Some, None, is_none, slice_get, nat_le, refl, sym, ap, ◌∙◌, subst, zero, suc, arith, rules}
 use Rattle.std.proofs.Math.Dec.{leb-zero, leb-suc-zero, leb-suc-suc}
 use Rattle.gup_script.specs.Valid.{IsScript}
-use Rattle.gup_plain.specs.State.{PlainState, Birth, unborn, growing, born, failed}
+use Rattle.gup_plain.specs.State.{PlainState, Birth, born}
 use Rattle.gup_plain.specs.declared.answer.Answer.TheVariants as answers
 use Rattle.gup_plain.specs.declared.event.PlainEvent.TheVariants as events
 use Rattle.gup_plain.specs.declared.note.What.{What}
@@ -11,11 +11,11 @@ use Rattle.gup_plain.specs.declared.note.Waiting.{Waiting}
 use Rattle.gup_plain.specs.declared.note.Waiting.TheVariants as waitings
 use Rattle.gup_script.specs.Script.{ScriptValue}
 use Rattle.gup_script.specs.declared.op.Op.{Op}
-use Rattle.gup_script.specs.declared.op.Op.TheVariants.{Map, Unmap, Protect, Discard, Load, Store, Pin, Unpin, Give, Take, Transfer, Fork, Exit}
+use Rattle.gup_script.specs.declared.op.Op.TheVariants.{Fork}
 use Rattle.gup_spec_events.specs.State.{plain_of}
 use Rattle.gup_spec_journal.specs.Order.{Turn, Ordered, Moves, IsWrittenTurn, IsOverAt, IsOver, IsPassed, MayHold, KeepsLock, MayNeedLock, IsPointedTurn, IsNextTurn, AreInOrder, behind_by, written_turn, waiting_at, waiting_of, finished_in, handle_waits}
 use Rattle.gup_spec_journal.specs.Place.{Place, Doer, doer, birth_for, process_of, ops_of}
-use Rattle.gup_spec_turns.specs.ForkPlace.{ForkPlace}
+use Rattle.gup_spec_turns.specs.JobPlace.{JobPlace}
 use Rattle.gup_spec_turns.proofs.TurnParts.{waits_at}
 use Rattle.gup_spec_turns.specs.Waits.{waits_born, first_waiting}
 use Rattle.gup_spec_turns.specs.Run.{RunState, Runs, next_actor, next_by, written_in, turn_in, run_after, op_in, waiting_with, waiting_in, core_turn_in, is_ready, can_go}
@@ -23,7 +23,7 @@ use Rattle.gup_law_journal.proofs.LockHolders.{IsInFork, locks_of, needs_lock, w
 use Rattle.gup_law_turns.proofs.ScriptLemmas.{has_ops_declared}
 use Rattle.gup_law_journal.proofs.Pointer.{PointerFits, IsFirstToGo, pointed_some, none_can_go, pointer_fits}
 use Rattle.gup_law_turns.proofs.Puts.{some_same}
-use Rattle.gup_law_turns.proofs.TurnShapes.{TurnOf, refused, mapped, protected, loaded, stored, gave, took_over, took, took_last, passed, passed_last, took_lowest, took_all, pinned_page, pinned_all, pinned_short, unpinned_page, unpinned_last, moved_word, moved_last, began, passed_page, counted_page, shared_page, ended, counted_copy, took_frame, copied_word, placed_copy, failed_fork, TurnAt, idles, waits, goes, unborn_refused, unborn_fork}
+use Rattle.gup_law_turns.proofs.TurnShapes.{TurnOf, refused, TurnAt, idles, waits, goes, unborn_refused, unborn_fork}
 use Rattle.gup_law_turns.proofs.StandingTurns.{stands_on, same_plain}
 use Rattle.gup_law_turns.proofs.StandingStates.{Stands}
 use Rattle.gup_law_turns.proofs.TurnSteps.{taken}
@@ -36,37 +36,9 @@ finished_is (op ∷ ops) zero = leb-suc-zero (length ops)
 finished_is (op ∷ ops) (suc k) = leb-suc-suc (length ops) k ∙ finished_is ops k
 
 -- a turn of an operation has one to three notes of it
-pub op_moves : {s : PlainState} {who : Doer} {place : Place} {op : Op} {from to : ForkPlace} {whats : List What} → TurnOf s who place op from whats to → Moves whats
+pub op_moves : {s : PlainState} {who : Doer} {place : Place} {op : Op} {from to : JobPlace} {whats : List What} → TurnOf s who place op from whats to → Moves whats
 op_moves (refused op answer first refusal right passes) = (omega arith, omega arith, (refl, tt))
-op_moves (mapped page n rights first free) = (omega arith, omega arith, (refl, (refl, tt)))
-op_moves (protected page n rights first free) = (omega arith, omega arith, (refl, (refl, tt)))
-op_moves (loaded page word value first free) = (omega arith, omega arith, (refl, (refl, tt)))
-op_moves (stored page word value first free) = (omega arith, omega arith, (refl, (refl, tt)))
-op_moves (gave handle to first free) = (omega arith, omega arith, (refl, (refl, tt)))
-op_moves (took_over handle first) = (omega arith, omega arith, (refl, (refl, tt)))
-op_moves (took op page n event over more) = (omega arith, omega arith, (refl, tt))
-op_moves (took_last op page n event over last) = (omega arith, omega arith, (refl, (refl, tt)))
-op_moves (passed op page n event over more none) = (omega arith, omega arith, (refl, tt))
-op_moves (passed_last op page n event over last none) = (omega arith, omega arith, (refl, tt))
-op_moves (took_lowest page none) = (omega arith, omega arith, (refl, tt))
-op_moves (took_all none) = (omega arith, omega arith, (refl, tt))
-op_moves (pinned_page handle page n want fast more free) = (omega arith, omega arith, (refl, tt))
-op_moves (pinned_all handle page n want fast last free) = (omega arith, omega arith, (refl, (refl, (refl, tt))))
-op_moves (pinned_short handle page n want fast cause some less end right) = (omega arith, omega arith, (refl, (refl, tt)))
-op_moves (unpinned_page handle free more) = (omega arith, omega arith, (refl, tt))
-op_moves (unpinned_last handle none free last) = (omega arith, omega arith, (refl, (refl, tt)))
-op_moves (moved_word handle outward index slot n value more free) = (omega arith, omega arith, (refl, tt))
-op_moves (moved_last handle outward index slot n value last free) = (omega arith, omega arith, (refl, (refl, tt)))
-op_moves (began child first) = (omega arith, omega arith, (refl, tt))
-op_moves (passed_page child from page begun up) = (omega arith, omega arith, (refl, tt))
-op_moves (counted_page child from page begun up) = (omega arith, omega arith, (refl, tt))
-op_moves (shared_page child page begun) = (omega arith, omega arith, (refl, tt))
-op_moves (ended child from begun) = (omega arith, omega arith, (refl, (refl, tt)))
-op_moves (counted_copy child from page begun up) = (omega arith, omega arith, (refl, tt))
-op_moves (took_frame child page to begun) = (omega arith, omega arith, (refl, tt))
-op_moves (copied_word child page word to begun less) = (omega arith, omega arith, (refl, tt))
-op_moves (placed_copy child page to begun) = (omega arith, omega arith, (refl, tt))
-op_moves (failed_fork child page begun) = (omega arith, omega arith, (refl, (refl, tt)))
+op_moves turn = (omega arith, omega arith, search rules)
 
 -- so has one of an operation whose process failed
 pub refusal_moves : Moves (Done answers.Unborn ∷ [])
@@ -94,7 +66,7 @@ free_written : (holder : ℕ → Type 0) (seen : Option Waiting) (whats : List W
 free_written holder seen whats (inl same) moves = rw same (inl moves)
 free_written holder seen whats (inr (none, b, holds, is)) moves = absurd (cc is)
 
-written_right : {s : PlainState} {who : Doer} {place : Place} {op : Option Op} {waiting : Option Waiting} {from to : ForkPlace} {whats : List What} {finished : Bool} {holder : ℕ → Type 0} {seen : Option Waiting} → TurnAt s who place op waiting from whats to → Sees finished holder seen op waiting → IsWrittenTurn finished seen holder whats
+written_right : {s : PlainState} {who : Doer} {place : Place} {op : Option Op} {waiting : Option Waiting} {from to : JobPlace} {whats : List What} {finished : Bool} {holder : ℕ → Type 0} {seen : Option Waiting} → TurnAt s who place op waiting from whats to → Sees finished holder seen op waiting → IsWrittenTurn finished seen holder whats
 written_right (idles waiting at) h = rw h.finishes refl
 written_right {holder = holder} {seen = seen} (waits op waiting at) h = rw h.finishes (wait_written holder seen waiting (h.waits_so op refl))
 written_right {holder = holder} {seen = seen} (goes op whats from to birth own turn) h = rw h.finishes (free_written holder seen whats (h.waits_so op refl) (op_moves turn))
@@ -104,7 +76,7 @@ written_right {holder = holder} {seen = seen} (unborn_fork child birth fails fir
     rw h.finishes (free_written holder seen (Event (events.ForkFail child) ∷ Done answers.Unborn ∷ []) (h.waits_so (Fork child) refl) (failure_moves child))
 
 -- the turn of an actor that can go moves it on
-goes_moves : {s : PlainState} {who : Doer} {place : Place} {op : Option Op} {waiting : Option Waiting} {from to : ForkPlace} {whats : List What} → TurnAt s who place op waiting from whats to → is_ready op waiting ≡ true → Moves whats
+goes_moves : {s : PlainState} {who : Doer} {place : Place} {op : Option Op} {waiting : Option Waiting} {from to : JobPlace} {whats : List What} → TurnAt s who place op waiting from whats to → is_ready op waiting ≡ true → Moves whats
 goes_moves (idles waiting at) is = absurd (cc is)
 goes_moves (waits op waiting at) is = absurd (cc is)
 goes_moves (goes op whats from to birth own turn) is = op_moves turn
@@ -141,20 +113,8 @@ keeps_lock op child is = subst KeepsLock (sym is) tt
 
 -- and only a fork does
 kept_fork : (op : Option Op) → KeepsLock op → (child : ℕ) × (op ≡ Some (Fork child))
-kept_fork None keeps = absurd keeps
 kept_fork (Some (Fork child)) keeps = (child, refl)
-kept_fork (Some (Map page n rights)) keeps = absurd keeps
-kept_fork (Some (Unmap page n)) keeps = absurd keeps
-kept_fork (Some (Protect page n rights)) keeps = absurd keeps
-kept_fork (Some (Discard page n)) keeps = absurd keeps
-kept_fork (Some (Load page word)) keeps = absurd keeps
-kept_fork (Some (Store page word value)) keeps = absurd keeps
-kept_fork (Some (Pin handle page n want fast)) keeps = absurd keeps
-kept_fork (Some (Unpin handle)) keeps = absurd keeps
-kept_fork (Some (Give handle to)) keeps = absurd keeps
-kept_fork (Some (Take handle)) keeps = absurd keeps
-kept_fork (Some (Transfer handle outward index slot n)) keeps = absurd keeps
-kept_fork (Some Exit) keeps = absurd keeps
+kept_fork op keeps = absurd keeps
 
 module _ (script : ScriptValue) (valid : IsScript script) (r : RunState) (h : Stands script r) where
   -- one that is in the middle of a fork of this actor's process may hold a lock of it
@@ -175,10 +135,8 @@ module _ (script : ScriptValue) (valid : IsScript script) (r : RunState) (h : St
   sees_born a op present None = sees_locks a op present (locks_of script r h a op) refl
 
   sees_waiting : (a : ℕ) (op : Op) → op_in script r a ≡ Some op → (b : Birth) → birth_for r.core.birth (doer script a) ≡ b → SeesWaiting (MayHold script (ordered_of r) a) (waiting_at (process_of script a) b (handle_waits r.core.handle a (Some op))) (waits_at b (process_of script a) (waits_born r.core a (process_of script a) op))
-  sees_waiting a op present unborn is = inl refl
-  sees_waiting a op present (growing parent) is = inl refl
   sees_waiting a op present born is = sees_born a op present (handle_waits r.core.handle a (Some op))
-  sees_waiting a op present failed is = inl refl
+  sees_waiting a op present birth is = inl refl
 
   pub sees : (a : ℕ) → Sees (finished_in script (ordered_of r) a) (MayHold script (ordered_of r) a) (waiting_of script (ordered_of r) a) (op_in script r a) (waiting_in script r a)
   sees a =

@@ -6,9 +6,9 @@ use Rattle.gup_plain.specs.declared.note.Waiting.{Waiting}
 use Rattle.gup_script.specs.declared.op.Op.{Op}
 use Rattle.gup_spec_events.specs.State.{CoreState}
 use Rattle.gup_spec_journal.specs.Place.{Place, Doer, place_behind}
-use Rattle.gup_spec_turns.specs.ForkPlace.{ForkPlace}
+use Rattle.gup_spec_turns.specs.JobPlace.{JobPlace}
 use Rattle.gup_law_turns.proofs.ScriptPlaces.{fresh_place}
-use Rattle.gup_law_turns.proofs.TurnShapes.{FitsAt, Rests, TurnOf, refused, mapped, protected, loaded, stored, gave, took_over, took, took_last, passed, passed_last, took_lowest, took_all, pinned_page, pinned_all, pinned_short, unpinned_page, unpinned_last, moved_word, moved_last, began, passed_page, counted_page, shared_page, ended, counted_copy, took_frame, copied_word, placed_copy, failed_fork, TurnAt, idles, waits, goes, unborn_refused, unborn_fork}
+use Rattle.gup_law_turns.proofs.TurnShapes.{FitsAt, Rests, TurnOf, took, passed, took_lowest, pinned_page, unpinned_page, moved_word, began, passed_page, counted_page, shared_page, counted_copy, took_frame, copied_word, placed_copy, TurnAt, idles, waits, goes, unborn_refused, unborn_fork}
 use Rattle.gup_law_turns.proofs.ShownTurns.{FitsNext}
 
 -- at the next turn of the same operation
@@ -25,39 +25,24 @@ pub data IsBehindTurn (t : CoreState) (who : Doer) (op : Option Op) (place : Pla
   stays_there : place_behind place whats ≡ place → (FitsNext t who op place whats → FitsAt t who op place) → IsBehindTurn t who op place whats
   goes_by : IsBehind t who op place whats → IsBehindTurn t who op place whats
 
-pub op_behind : (t : CoreState) (o : Option Op) {s : PlainState} {who : Doer} {place : Place} {op : Op} {whats : List What} {from to : ForkPlace} → TurnOf s who place op from whats to → IsBehind t who o place whats
-op_behind t o (refused op answer first refusal right passes) = is_over refl (λ next. next)
-op_behind t o (mapped page n rights first undenied) = is_over refl (λ next. next)
-op_behind t o (protected page n rights first undenied) = is_over refl (λ next. next)
-op_behind t o (loaded page word value first undenied) = is_over refl (λ next. next)
-op_behind t o (stored page word value first undenied) = is_over refl (λ next. next)
-op_behind t o (gave handle to first undenied) = is_over refl (λ next. next)
-op_behind t o (took_over handle first) = is_over refl (λ next. next)
+pub op_behind : (t : CoreState) (o : Option Op) {s : PlainState} {who : Doer} {place : Place} {op : Op} {whats : List What} {from to : JobPlace} → TurnOf s who place op from whats to → IsBehind t who o place whats
 op_behind t o (took op page n event over more) = goes_on true refl (λ next. next)
-op_behind t o (took_last op page n event over last) = is_over refl (λ next. next)
 op_behind t o {place = place} (passed op page n event over more none) = goes_on place.had refl (λ next. next)
-op_behind t o (passed_last op page n event over last none) = is_over refl (λ next. next)
 op_behind t o (took_lowest page none) = goes_on true refl (λ next. next)
-op_behind t o (took_all none) = is_over refl (λ next. next)
 op_behind t o (pinned_page handle page n want fast more undenied) = goes_on true refl (λ next. next)
-op_behind t o (pinned_all handle page n want fast last undenied) = is_over refl (λ next. next)
-op_behind t o (pinned_short handle page n want fast cause some more ends right) = is_over refl (λ next. next)
 op_behind t o {place = place} (unpinned_page handle undenied more) = goes_on place.had refl (λ next. next)
-op_behind t o (unpinned_last handle had undenied last) = is_over refl (λ next. next)
-op_behind t o (moved_word handle outward index slot n value more undenied) = goes_on true refl (λ next. next)
-op_behind t o (moved_last handle outward index slot n value last undenied) = is_over refl (λ next. next)
+op_behind t o (moved_word handle outward slot parts value more undenied) = goes_on true refl (λ next. next)
 op_behind t o (began child first) = goes_on true refl (λ next. next)
 op_behind t o (passed_page child from page begun least) = goes_on true refl (λ next. next)
 op_behind t o {place = place} (counted_page child from page begun least) = goes_on place.had refl (λ next. next)
 op_behind t o (shared_page child page begun) = goes_on true refl (λ next. next)
-op_behind t o (ended child from begun) = is_over refl (λ next. next)
 op_behind t o {place = place} (counted_copy child from page begun least) = goes_on place.had refl (λ next. next)
 op_behind t o {place = place} (took_frame child page to begun) = goes_on place.had refl (λ next. next)
 op_behind t o (copied_word child page word to begun more) = goes_on true refl (λ next. next)
 op_behind t o {place = place} (placed_copy child page to begun) = goes_on place.had refl (λ next. next)
-op_behind t o (failed_fork child page begun) = is_over refl (λ next. next)
+op_behind t o turn = is_over refl (λ next. next)
 
-pub turn_behind : (t : CoreState) {s : PlainState} {who : Doer} {place : Place} {op : Option Op} {waiting : Option Waiting} {whats : List What} {from to : ForkPlace} → TurnAt s who place op waiting from whats to → IsBehindTurn t who op place whats
+pub turn_behind : (t : CoreState) {s : PlainState} {who : Doer} {place : Place} {op : Option Op} {waiting : Option Waiting} {whats : List What} {from to : JobPlace} → TurnAt s who place op waiting from whats to → IsBehindTurn t who op place whats
 turn_behind t (idles waiting at) = stays_there refl (λ next. next)
 turn_behind t (waits op waiting at) = stays_there refl (λ next. next)
 turn_behind t (goes op whats from to birth own turn) = goes_by (op_behind t (Some op) turn)

@@ -4,7 +4,7 @@ use Rattle.gup_plain.specs.Event.{CanHappen, happened}
 use Rattle.gup_plain.specs.State.{PlainState}
 use Rattle.gup_plain.specs.declared.event.PlainEvent.{PlainEvent}
 use Rattle.gup_plain.specs.declared.note.What.{What}
-use Rattle.gup_plain.specs.declared.note.What.TheVariants.{Silent, Idle, Wait, Event, Done}
+use Rattle.gup_plain.specs.declared.note.What.TheVariants.{Event}
 use Rattle.gup_spec_events.specs.State.{CoreState, plain_of}
 use Rattle.gup_spec_events.specs.Event.{CoreEvent, Can, happens, told, after_told, run}
 use Rattle.gup_spec_events.specs.Invariant.{CanTell, AllCan}
@@ -20,10 +20,7 @@ Law = (s : CoreState) (e : CoreEvent) → IsSound s → Can s e → Simulates s 
 abbrev pub events_of : List What → List PlainEvent
 events_of [] = []
 events_of (Event e ∷ whats) = e ∷ events_of whats
-events_of (Silent ∷ whats) = events_of whats
-events_of (Idle ∷ whats) = events_of whats
-events_of (Wait waiting ∷ whats) = events_of whats
-events_of (Done answer ∷ whats) = events_of whats
+events_of (what ∷ whats) = events_of whats
 
 -- plain events one after another: that each can happen, and the state after them
 abbrev pub AllCanHappen : PlainState → List PlainEvent → Type 0
@@ -67,7 +64,4 @@ leads law s (e ∷ es) sound can =
 pub plain_behind-through : (s : PlainState) (whats : List What) → plain_behind s whats ≡ plain_through s (events_of whats)
 plain_behind-through s [] = refl
 plain_behind-through s (Event e ∷ whats) = plain_behind-through (happened s e) whats
-plain_behind-through s (Silent ∷ whats) = plain_behind-through s whats
-plain_behind-through s (Idle ∷ whats) = plain_behind-through s whats
-plain_behind-through s (Wait waiting ∷ whats) = plain_behind-through s whats
-plain_behind-through s (Done answer ∷ whats) = plain_behind-through s whats
+plain_behind-through s (what ∷ whats) = plain_behind-through s whats

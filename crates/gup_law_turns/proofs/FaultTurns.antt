@@ -1,5 +1,5 @@
 -- Faults: their events can happen between two turns, and the page gets an entry that allows the access.
-use Rattle.std.proofs.Common.{◌≡◌, ℕ, ◌==◌, Bool, true, false, if◌then◌else◌, IsSome, List, [], ◌∷◌, ◌++◌, Contains, Option, Some, None, Ok, Err, eqb-true, refl, ap, sym, subst, ◌∙◌, arith}
+use Rattle.std.proofs.Common.{◌≡◌, ℕ, ◌+◌, ◌<◌, ◌==◌, Bool, true, false, if◌then◌else◌, IsSome, List, [], ◌∷◌, ◌++◌, Contains, Option, Some, None, Ok, Err, eqb-true, refl, ap, sym, subst, ◌∙◌, arith}
 use Rattle.std.proofs.lemmas.Bool.Decides.{nat_tests}
 use Rattle.std.proofs.lemmas.List.Sums.{get_or-le-sum_by}
 use Rattle.gup_base.specs.declared.entry.Entry.{Entry}
@@ -17,11 +17,10 @@ use Rattle.gup_spec_events.specs.Invariant.{AllCan, entry_of_page, frame_of, wei
 use Rattle.gup_law_base.specs.Sound.{IsSound, held}
 use Rattle.gup_law_events.specs.Law.{all_told}
 use Rattle.gup_spec_journal.specs.Plain.{IsAnswerOf}
-use Rattle.gup_spec_turns.specs.CoreTurn.{free_frame, frame_in, allows_store}
+use Rattle.gup_spec_turns.specs.CoreTurn.{frame_in, allows_store}
 use Rattle.gup_spec_turns.specs.PinTurns.{pin_fault}
 use Rattle.gup_law_turns.proofs.CalmStates.{IsCalm, Strand, AreTurnEvents, taking, filling, counting_one, marking_it, upgrading, breaking, putting}
 use Rattle.gup_law_turns.proofs.Puts.{put_same, put_other, put2_same}
-use Rattle.gup_law_turns.proofs.PageSearches.{free_frame_free}
 use Rattle.gup_law_turns.proofs.TurnShapes.{AtRest, unprepared, at_rest}
 use Rattle.gup_law_turns.proofs.ShownTurns.{IsOpen}
 
@@ -95,6 +94,10 @@ abbrev pub LeadsTo : CoreState → (a p page : ℕ) → (write : Bool) → Optio
 LeadsTo s a p page write denied (Err answer) = RefusesPage answer × IsAnswerOf denied answer
 LeadsTo s a p page write denied (Ok es) = (denied ≡ None) × IsReady s a p es × Allows (run s es) p page write
 
+-- the frame that a turn takes, if it takes one, is a frame, and free
+abbrev pub IsFree : CoreState → Option ℕ → Type 0
+IsFree s frame = (f : ℕ) → frame ≡ Some f → (f < s.movable + s.normal) × (s.count f ≡ 0)
+
 -- a frame that is free isn't one that has a reference
 differ : (count : ℕ → ℕ) (f g : ℕ) → count f ≡ 0 → (count g ≡ 0 → ⊥) → (f == g) ≡ false
 differ count f g free counted = go (f == g) refl
@@ -121,12 +124,13 @@ module _ (s : CoreState) (a p : ℕ) (h : MayFault s a p) where
   pub needs_none : IsReady s a p []
   needs_none = record { kinds = λ strand. tt; can = tt; rest = h.rest; job = h.job; birth = h.birth; told = refl }
 
-  module _ (free : AreUnlocked s p) (page : ℕ) where
-    can_take : (f : ℕ) → free_frame s ≡ Some f → Can s (take_frame a f)
-    can_take f found = let at = free_frame_free s f found in (may_prepare, unprepared_here, at.0, at.1)
+  -- with the free frame that its turn takes, if there is one
+  module _ (free : AreUnlocked s p) (page : ℕ) (frame : Option ℕ) (is_free : IsFree s frame) where
+    can_take : (f : ℕ) → frame ≡ Some f → Can s (take_frame a f)
+    can_take f found = let at = is_free f found in (may_prepare, unprepared_here, at.0, at.1)
 
     -- the page gets a fresh frame
-    pub filled : (f : ℕ) → free_frame s ≡ Some f → IsSome (s.right p page) → s.entry p page ≡ None → IsReady s a p (take_frame a f ∷ fill a p page f ∷ [])
+    pub filled : (f : ℕ) → frame ≡ Some f → IsSome (s.right p page) → s.entry p page ≡ None → IsReady s a p (take_frame a f ∷ fill a p page f ∷ [])
     filled f found named none =
         record {
           kinds = λ strand. (taking f, (filling page f, tt));
@@ -137,7 +141,7 @@ module _ (s : CoreState) (a p : ℕ) (h : MayFault s a p) where
           told = refl;
         }
 
-    filled_writable : (f : ℕ) → free_frame s ≡ Some f → s.right p page ≡ Some RW → s.entry p page ≡ None → IsReady s a p (take_frame a f ∷ fill a p page f ∷ upgrade a p page f ∷ [])
+    filled_writable : (f : ℕ) → frame ≡ Some f → s.right p page ≡ Some RW → s.entry p page ≡ None → IsReady s a p (take_frame a f ∷ fill a p page f ∷ upgrade a p page f ∷ [])
     filled_writable f found right none =
         let fills = filled f found (rw right refl) none in
         record {
@@ -191,7 +195,7 @@ module _ (s : CoreState) (a p : ℕ) (h : MayFault s a p) where
         }
 
     -- one that may have others is copied, and its reference given back
-    broken : (e : Entry) (new : ℕ) (write : Bool) → free_frame s ≡ Some new → (write ≡ true → s.right p page ≡ Some RW) → s.entry p page ≡ Some e → s.mark e.frame ≡ false → IsReady s a p (take_frame a new ∷ break_entry a p page e.frame new e.writable write ∷ put_entry a e.frame ∷ [])
+    broken : (e : Entry) (new : ℕ) (write : Bool) → frame ≡ Some new → (write ≡ true → s.right p page ≡ Some RW) → s.entry p page ≡ Some e → s.mark e.frame ≡ false → IsReady s a p (take_frame a new ∷ break_entry a p page e.frame new e.writable write ∷ put_entry a e.frame ∷ [])
     broken e new write found right there unmarked =
         record {
           kinds = λ strand. (taking new, (breaking page e.frame new e.writable write, (putting e.frame, tt)));
@@ -211,11 +215,11 @@ module _ (s : CoreState) (a p : ℕ) (h : MayFault s a p) where
 
     -- what each fault comes to, of a page that is read or written
 
-    leads_breaks : (e : Entry) (write : Bool) (found : Option ℕ) → free_frame s ≡ found → (write ≡ true → s.right p page ≡ Some RW) → s.entry p page ≡ Some e → s.mark e.frame ≡ false → LeadsTo s a p page write None (breaks a p page e write found)
+    leads_breaks : (e : Entry) (write : Bool) (found : Option ℕ) → frame ≡ found → (write ≡ true → s.right p page ≡ Some RW) → s.entry p page ≡ Some e → s.mark e.frame ≡ false → LeadsTo s a p page write None (breaks a p page e write found)
     leads_breaks e write None found right there unmarked = (no_frame, refl)
     leads_breaks e write (Some f) found right there unmarked =
         let counted = h.counted page e there in
-        let unused : s.count f ≡ 0 = (free_frame_free s f found).1 in
+        let unused : s.count f ≡ 0 = (is_free f found).1 in
         let one : CoreState = happens s (take_frame a f) in
         let two : CoreState = happens one (break_entry a p page e.frame f e.writable write) in
         let old : Bool = if two.count e.frame == 1 then false else two.mark e.frame in (
@@ -230,7 +234,7 @@ module _ (s : CoreState) (a p : ℕ) (h : MayFault s a p) where
           },
         )
 
-    leads_writable : (e : Entry) (once : Bool) → s.right p page ≡ Some RW → s.entry p page ≡ Some e → e.writable ≡ false → s.mark e.frame ≡ false → (s.count e.frame == 1) ≡ once → LeadsTo s a p page true None (if once then Ok (marks a p page e ++ upgrade a p page e.frame ∷ []) else breaks a p page e true (free_frame s))
+    leads_writable : (e : Entry) (once : Bool) → s.right p page ≡ Some RW → s.entry p page ≡ Some e → e.writable ≡ false → s.mark e.frame ≡ false → (s.count e.frame == 1) ≡ once → LeadsTo s a p page true None (if once then Ok (marks a p page e ++ upgrade a p page e.frame ∷ []) else breaks a p page e true frame)
     leads_writable e true right there barred unmarked count = (
       refl,
       marked_upgraded e right there barred unmarked (grind (arith, nat_tests)),
@@ -243,9 +247,9 @@ module _ (s : CoreState) (a p : ℕ) (h : MayFault s a p) where
       },
     )
     leads_writable e false right there barred unmarked count =
-        leads_breaks e true (free_frame s) refl (λ is. right) there unmarked
+        leads_breaks e true frame refl (λ is. right) there unmarked
 
-    leads_marked : (e : Entry) (mark : Bool) → s.right p page ≡ Some RW → s.entry p page ≡ Some e → e.writable ≡ false → s.mark e.frame ≡ mark → LeadsTo s a p page true None (makes_writable a p page e mark (s.count e.frame) (free_frame s))
+    leads_marked : (e : Entry) (mark : Bool) → s.right p page ≡ Some RW → s.entry p page ≡ Some e → e.writable ≡ false → s.mark e.frame ≡ mark → LeadsTo s a p page true None (makes_writable a p page e mark (s.count e.frame) frame)
     leads_marked e true right there barred is = (
       refl,
       upgraded e right there barred is,
@@ -259,7 +263,7 @@ module _ (s : CoreState) (a p : ℕ) (h : MayFault s a p) where
     )
     leads_marked e false right there barred is = leads_writable e (s.count e.frame == 1) right there barred is refl
 
-    leads_entry : (e : Entry) (writable : Bool) → s.right p page ≡ Some RW → s.entry p page ≡ Some e → e.writable ≡ writable → LeadsTo s a p page true None (if writable then Ok [] else makes_writable a p page e (s.mark e.frame) (s.count e.frame) (free_frame s))
+    leads_entry : (e : Entry) (writable : Bool) → s.right p page ≡ Some RW → s.entry p page ≡ Some e → e.writable ≡ writable → LeadsTo s a p page true None (if writable then Ok [] else makes_writable a p page e (s.mark e.frame) (s.count e.frame) frame)
     leads_entry e true right there may = (
       refl,
       needs_none,
@@ -267,7 +271,7 @@ module _ (s : CoreState) (a p : ℕ) (h : MayFault s a p) where
     )
     leads_entry e false right there barred = leads_marked e (s.mark e.frame) right there barred refl
 
-    leads_fills_writable : (found : Option ℕ) → free_frame s ≡ found → s.right p page ≡ Some RW → s.entry p page ≡ None → LeadsTo s a p page true None (fills_writable a p page found)
+    leads_fills_writable : (found : Option ℕ) → frame ≡ found → s.right p page ≡ Some RW → s.entry p page ≡ None → LeadsTo s a p page true None (fills_writable a p page found)
     leads_fills_writable None found right none = (no_frame, refl)
     leads_fills_writable (Some f) found right none = (
       refl,
@@ -281,13 +285,13 @@ module _ (s : CoreState) (a p : ℕ) (h : MayFault s a p) where
       },
     )
 
-    pub write_leads : (rights : Option Rights) (entry : Option Entry) → s.right p page ≡ rights → s.entry p page ≡ entry → LeadsTo s a p page true (store_denial rights) (write_fault a p page rights entry s.mark s.count (free_frame s))
+    pub write_leads : (rights : Option Rights) (entry : Option Entry) → s.right p page ≡ rights → s.entry p page ≡ entry → LeadsTo s a p page true (store_denial rights) (write_fault a p page rights entry s.mark s.count frame)
     write_leads None entry is there = (missing, refl)
     write_leads (Some R) entry is there = (forbidden, refl)
-    write_leads (Some RW) None is there = leads_fills_writable (free_frame s) refl is there
+    write_leads (Some RW) None is there = leads_fills_writable frame refl is there
     write_leads (Some RW) (Some e) is there = leads_entry e e.writable is there refl
 
-    leads_fills : (found : Option ℕ) → free_frame s ≡ found → IsSome (s.right p page) → s.entry p page ≡ None → LeadsTo s a p page false None (fills a p page found)
+    leads_fills : (found : Option ℕ) → frame ≡ found → IsSome (s.right p page) → s.entry p page ≡ None → LeadsTo s a p page false None (fills a p page found)
     leads_fills None found named none = (no_frame, refl)
     leads_fills (Some f) found named none = (
       refl,
@@ -301,7 +305,7 @@ module _ (s : CoreState) (a p : ℕ) (h : MayFault s a p) where
       },
     )
 
-    leads_once : (e : Entry) (once : Bool) → s.entry p page ≡ Some e → s.mark e.frame ≡ false → (s.count e.frame == 1) ≡ once → LeadsTo s a p page false None (if once then Ok (marks a p page e) else breaks a p page e false (free_frame s))
+    leads_once : (e : Entry) (once : Bool) → s.entry p page ≡ Some e → s.mark e.frame ≡ false → (s.count e.frame == 1) ≡ once → LeadsTo s a p page false None (if once then Ok (marks a p page e) else breaks a p page e false frame)
     leads_once e true there unmarked count = (
       refl,
       marked_once e there unmarked (grind (arith, nat_tests)),
@@ -314,9 +318,9 @@ module _ (s : CoreState) (a p : ℕ) (h : MayFault s a p) where
       },
     )
     leads_once e false there unmarked count =
-        leads_breaks e false (free_frame s) refl (λ is. absurd (cc is)) there unmarked
+        leads_breaks e false frame refl (λ is. absurd (cc is)) there unmarked
 
-    leads_unshares : (e : Entry) (mark : Bool) → s.entry p page ≡ Some e → s.mark e.frame ≡ mark → LeadsTo s a p page false None (unshares a p page e mark (s.count e.frame) (free_frame s))
+    leads_unshares : (e : Entry) (mark : Bool) → s.entry p page ≡ Some e → s.mark e.frame ≡ mark → LeadsTo s a p page false None (unshares a p page e mark (s.count e.frame) frame)
     leads_unshares e true there is = (
       refl,
       needs_none,
@@ -324,12 +328,12 @@ module _ (s : CoreState) (a p : ℕ) (h : MayFault s a p) where
     )
     leads_unshares e false there is = leads_once e (s.count e.frame == 1) there is refl
 
-    read_leads : (rights : Option Rights) (entry : Option Entry) → s.right p page ≡ rights → s.entry p page ≡ entry → LeadsTo s a p page false (load_denial rights) (unshare_fault a p page rights entry s.mark s.count (free_frame s))
+    read_leads : (rights : Option Rights) (entry : Option Entry) → s.right p page ≡ rights → s.entry p page ≡ entry → LeadsTo s a p page false (load_denial rights) (unshare_fault a p page rights entry s.mark s.count frame)
     read_leads None entry is there = (missing, refl)
-    read_leads (Some rights) None is there = leads_fills (free_frame s) refl (rw is refl) there
+    read_leads (Some rights) None is there = leads_fills frame refl (rw is refl) there
     read_leads (Some rights) (Some e) is there = leads_unshares e (s.mark e.frame) there refl
 
     -- the page of a pin
-    pub pin_leads : (write : Bool) → LeadsTo s a p page write (pin_denial write (s.right p page)) (pin_fault s a p page write)
+    pub pin_leads : (write : Bool) → LeadsTo s a p page write (pin_denial write (s.right p page)) (pin_fault s a p page write frame)
     pin_leads true = write_leads (s.right p page) (s.entry p page) refl refl
     pin_leads false = read_leads (s.right p page) (s.entry p page) refl refl

@@ -6,12 +6,12 @@ use Rattle.gup_base.specs.declared.entry.Rights.{Rights}
 use Rattle.gup_plain.specs.Put.{put, put2, spread}
 use Rattle.gup_plain.specs.Event.{most_pages, page_numbers}
 use Rattle.gup_plain.specs.State.{Birth, unborn, growing, born, failed}
-use Rattle.gup_spec_events.specs.State.{CoreState, core_start, ForkStep, between, counted, lowered, cleared, copying, failing}
+use Rattle.gup_spec_events.specs.State.{CoreState, core_start, ForkStep, between, failing}
 use Rattle.gup_spec_events.specs.Event.{CoreEvent, Can, happens, MayFail, is_odd, map_pages, protect_pages, drop_entry, begin_fork, end_fork, fail_fork, fail_unborn, run}
 use Rattle.gup_spec_events.specs.Invariant.{AllCan}
 use Rattle.gup_law_base.specs.Sound.{IsSound, Forking, forking_of, is_failing}
-use Rattle.gup_spec_turns.specs.Pages.{mapped_pages}
-use Rattle.gup_law_turns.proofs.CalmStates.{Strand, AreTurnEvents, IsTurnEvent, taking, filling, counting_one, marking_it, upgrading, breaking, putting, mapping, lowering, protecting, dropping, discarding, loading, storing, raising, pinning, making, handling, IsHandleEvent, AreHandleEvents, unpinning, giving, taking_over, moving_out, moving_in, beginning, counting, sharing_entry, sharing_mark, sharing_child, passing, ending, copying_word, placing, failing_at, putting_child, failing_unborn}
+use Rattle.gup_plain.specs.Pages.{mapped_pages}
+use Rattle.gup_law_turns.proofs.CalmStates.{Strand, AreTurnEvents, IsTurnEvent, mapping, protecting, dropping, handling, IsHandleEvent, AreHandleEvents, unpinning, beginning, ending, failing_at, failing_unborn}
 use Rattle.gup_law_turns.proofs.MappedCounts.{mapped_spread, mapped_same, mapped_lost, mapped_none}
 use Rattle.gup_law_turns.proofs.Puts.{put_same, put_other}
 use Rattle.gup_law_turns.proofs.StandingStates.{brought, all_brought, IsFew}
@@ -22,9 +22,7 @@ use Rattle.gup_law_turns.proofs.EventLists.{Law}
 
 brought_most : (b : Birth) → brought b ≤ 1
 brought_most unborn = omega arith
-brought_most (growing parent) = omega arith
-brought_most born = omega arith
-brought_most failed = omega arith
+brought_most b = omega arith
 
 -- a process whose birth changes
 brought_change : (n : ℕ) (birth : ℕ → Birth) (c : ℕ) (b : Birth) → c < n → all_brought n (put c b birth) + brought (birth c) ≡ all_brought n birth + brought b
@@ -106,8 +104,8 @@ few_begin n s a p c below can h =
     let was : brought (s.birth c) ≡ 0 = ap brought can.1 in
     let more = brought_change n s.birth c (growing p) below in
     record {
-      mapped = at_put (λ (f : ℕ → Option Rights) (k : ℕ). mapped_pages f ≤ k) c (s.right p) (s.pages p) s.right s.pages (h.mapped p) h.mapped;
-      pages = at_put (λ (k j : ℕ). k ≤ most_pages) c (s.pages p) (s.pages p) s.pages s.pages (h.pages p) h.pages;
+      mapped = at_put (λ (f : ℕ → Option Rights) (k : ℕ). mapped_pages f ≤ k) c (s.right p) (mapped_pages (s.right p)) s.right s.pages (omega arith) h.mapped;
+      pages = at_put (λ (k j : ℕ). k ≤ most_pages) c (mapped_pages (s.right p)) (mapped_pages (s.right p)) s.pages s.pages (omega (arith, h.mapped p, h.pages p)) h.pages;
       forked = at_put (λ (k j : ℕ). k ≤ 2 * all_brought n (put c (growing p) s.birth)) p (s.sequence p + 1) (s.sequence p + 1) s.sequence s.sequence (omega (arith, was, more, h.forked p)) (λ q. omega (arith, was, more, h.forked q));
     }
 
@@ -128,12 +126,8 @@ few_end n s a p c done below sound can h =
 
 -- a fork that may fail has not failed
 unfailing : (step : ForkStep) → MayFail step → is_failing step ≡ false
-unfailing between may = refl
-unfailing (counted page) may = refl
-unfailing (lowered page) may = refl
-unfailing (cleared page) may = refl
-unfailing (copying page n) may = refl
 unfailing failing may = absurd may
+unfailing step may = refl
 
 -- the child of one that fails has no mappings, and the sequence was odd, as at an end
 few_fail : (n : ℕ) (s : CoreState) (a p c : ℕ) (done : List ℕ) (step : ForkStep) (ends : Bool) → c < n → IsSound s → Can s (fail_fork a p c done step ends) → IsFew n s → IsFew n (happens s (fail_fork a p c done step ends))
@@ -167,42 +161,18 @@ few_unborn n s a p c below can h =
 
 pub few_handle : (n : ℕ) (s : CoreState) (a handle : ℕ) (e : CoreEvent) → IsHandleEvent a handle e → IsFew n s → IsFew n (happens s e)
 few_handle n s a handle e (unpinning f left) h = few_same n s (happens s e) refl refl refl refl h
-few_handle n s a handle e (giving to) h = few_same n s (happens s e) refl refl refl refl h
-few_handle n s a handle e taking_over h = few_same n s (happens s e) refl refl refl refl h
-few_handle n s a handle e (moving_out index slot f value) h = few_same n s (happens s e) refl refl refl refl h
-few_handle n s a handle e (moving_in index slot f value) h = few_same n s (happens s e) refl refl refl refl h
+few_handle n s a handle e event h = few_same n s (happens s e) refl refl refl refl h
 
 few_event : (n : ℕ) (s : CoreState) (a p c : ℕ) (strand : Strand) (e : CoreEvent) → IsTurnEvent a p c strand e → c < n → IsSound s → Can s e → IsFew n s → IsFew n (happens s e)
-few_event n s a p c strand e (taking f) below sound can h = few_same n s (happens s e) refl refl refl refl h
-few_event n s a p c strand e (filling page f) below sound can h = few_same n s (happens s e) refl refl refl refl h
-few_event n s a p c strand e (counting_one page f writable) below sound can h = few_same n s (happens s e) refl refl refl refl h
-few_event n s a p c strand e (marking_it page f) below sound can h = few_same n s (happens s e) refl refl refl refl h
-few_event n s a p c strand e (upgrading page f) below sound can h = few_same n s (happens s e) refl refl refl refl h
-few_event n s a p c strand e (breaking page old new was writable) below sound can h = few_same n s (happens s e) refl refl refl refl h
-few_event n s a p c strand e (putting f) below sound can h = few_same n s (happens s e) refl refl refl refl h
 few_event n s a p c strand e (mapping page m rights) below sound can h = few_map n s a p page m rights can h
-few_event n s a p c strand e (lowering page f) below sound can h = few_same n s (happens s e) refl refl refl refl h
 few_event n s a p c strand e (protecting page m rights) below sound can h = few_protect n s a p page m rights can h
 few_event n s a p c strand e (dropping page was) below sound can h = few_drop n s a p page was sound can h
-few_event n s a p c strand e (discarding page was) below sound can h = few_same n s (happens s e) refl refl refl refl h
-few_event n s a p c strand e (loading page word f value) below sound can h = few_same n s (happens s e) refl refl refl refl h
-few_event n s a p c strand e (storing page word f value) below sound can h = few_same n s (happens s e) refl refl refl refl h
-few_event n s a p c strand e (raising handle is) below sound can h = few_same n s (happens s e) refl refl refl refl h
-few_event n s a p c strand e (pinning handle is page entry write long) below sound can h = few_same n s (happens s e) refl refl refl refl h
-few_event n s a p c strand e (making handle is) below sound can h = few_same n s (happens s e) refl refl refl refl h
 few_event n s a p c strand e (handling handle is event) below sound can h = few_handle n s a handle e event h
 few_event n s a p c strand e beginning below sound can h = few_begin n s a p c below can h
-few_event n s a p c strand e (counting done page entry copies) below sound can h = few_same n s (happens s e) refl refl refl refl h
-few_event n s a p c strand e (sharing_entry done page f writable) below sound can h = few_same n s (happens s e) refl refl refl refl h
-few_event n s a p c strand e (sharing_mark done page f writable) below sound can h = few_same n s (happens s e) refl refl refl refl h
-few_event n s a p c strand e (sharing_child done page f writable) below sound can h = few_same n s (happens s e) refl refl refl refl h
-few_event n s a p c strand e (passing done page) below sound can h = few_same n s (happens s e) refl refl refl refl h
 few_event n s a p c strand e (ending done) below sound can h = few_end n s a p c done below sound can h
-few_event n s a p c strand e (copying_word done page word to entry) below sound can h = few_same n s (happens s e) refl refl refl refl h
-few_event n s a p c strand e (placing done page to rights) below sound can h = few_same n s (happens s e) refl refl refl refl h
 few_event n s a p c strand e (failing_at done step ends) below sound can h = few_fail n s a p c done step ends below sound can h
-few_event n s a p c strand e (putting_child done page entry ends) below sound can h = few_same n s (happens s e) refl refl refl refl h
 few_event n s a p c strand e failing_unborn below sound can h = few_unborn n s a p c below can h
+few_event n s a p c strand e event below sound can h = few_same n s (happens s e) refl refl refl refl h
 
 -- events of a turn keep it
 pub few_kept : Law → (n : ℕ) (s : CoreState) (a p c : ℕ) (strand : Strand) (es : List CoreEvent) → AreTurnEvents a p c strand es → c < n → IsSound s → AllCan s es → IsFew n s → IsFew n (run s es)

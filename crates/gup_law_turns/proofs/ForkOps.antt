@@ -12,12 +12,12 @@ use Rattle.gup_plain.specs.declared.event.PlainEvent.TheVariants as events
 use Rattle.gup_plain.specs.declared.note.What.{What}
 use Rattle.gup_plain.specs.declared.note.What.TheVariants.{Silent, Event, Done}
 use Rattle.gup_script.specs.declared.op.Op.TheVariants.{Fork}
-use Rattle.gup_spec_events.specs.State.{CoreState, Taken, Job, idle, marking, moving, forking, walking, ForkStep, between, counted, lowered, cleared, copying, failing, plain_of}
+use Rattle.gup_spec_events.specs.State.{CoreState, Taken, Job, idle, forking, ForkStep, between, counted, lowered, cleared, copying, plain_of}
 use Rattle.gup_spec_events.specs.Event.{CoreEvent, MayPrepare, AreUnlocked, happens, entry_of, take_frame, begin_fork, count_page, share_entry, share_mark, share_child, copy_word, place_child, pass_page, end_fork, copies_page, run}
 use Rattle.gup_spec_events.specs.Failure.{fails}
 use Rattle.gup_law_base.specs.Sound.{keeps_table}
 use Rattle.gup_spec_journal.specs.Place.{Place, Doer}
-use Rattle.gup_spec_turns.specs.ForkPlace.{ForkPlace, fork_place, place_in, IsForking, HasCounted, HasCopied, StandsFork, KeepsFrame, unbegun, from_page, at_page, wants_frame, at_word}
+use Rattle.gup_spec_turns.specs.JobPlace.{JobPlace, job_place, place_in, IsForking, HasCounted, HasCopied, StandsFork, KeepsFrame, unbegun, from_page, at_page, wants_frame, at_word}
 use Rattle.gup_spec_turns.specs.CoreTurn.{frame_in, allows_store, entry_in, free_frame}
 use Rattle.gup_spec_turns.specs.ForkTurns.{first_behind, next_page, page_turn, next_turn, share_turn, frame_turn, copy_turn, copying_turn, rights_in, fork_turn}
 use Rattle.gup_spec_turns.specs.Waits.{fork_locks, held_by_other, waits_for_lock, waits_for_locks, locks_needed}
@@ -32,14 +32,14 @@ use Rattle.gup_law_turns.proofs.TurnShapes.{AtFirst, IsBegun, FitsFork, FitsOp, 
 use Rattle.gup_law_turns.proofs.ShownTurns.{IsOpen, IsTurned, both_free, table_free}
 
 -- a fork's shape, by the places where it stands before and after the turn
-shape_from : (s t : CoreState) (who : Doer) (child : ℕ) (place : Place) (whats : List What) (from to : ForkPlace) → place_in s who.actor ≡ from → place_in t who.actor ≡ to → TurnOf (plain_of s) who place (Fork child) from whats to → TurnOf (plain_of s) who place (Fork child) (place_in s who.actor) whats (place_in t who.actor)
+shape_from : (s t : CoreState) (who : Doer) (child : ℕ) (place : Place) (whats : List What) (from to : JobPlace) → place_in s who.actor ≡ from → place_in t who.actor ≡ to → TurnOf (plain_of s) who place (Fork child) from whats to → TurnOf (plain_of s) who place (Fork child) (place_in s who.actor) whats (place_in t who.actor)
 shape_from s t who child place whats from to before behind shape =
-    subst (λ (x : ForkPlace). TurnOf (plain_of s) who place (Fork child) x whats (place_in t who.actor)) (sym before)
-    (subst (λ (y : ForkPlace). TurnOf (plain_of s) who place (Fork child) from whats y) (sym behind) shape)
+    subst (λ (x : JobPlace). TurnOf (plain_of s) who place (Fork child) x whats (place_in t who.actor)) (sym before)
+    (subst (λ (y : JobPlace). TurnOf (plain_of s) who place (Fork child) from whats y) (sym behind) shape)
 
 -- where it stands, by its job and the frame that it has prepared
-stands_at : (s : CoreState) (a : ℕ) (job : Job) (prepared : Option ℕ) → s.job a ≡ job → s.prepared a ≡ prepared → place_in s a ≡ fork_place job prepared
-stands_at s a job prepared is has = ap (λ (j : Job). fork_place j (s.prepared a)) is ∙ ap (fork_place job) has
+stands_at : (s : CoreState) (a : ℕ) (job : Job) (prepared : Option ℕ) → s.job a ≡ job → s.prepared a ≡ prepared → place_in s a ≡ job_place job prepared
+stands_at s a job prepared is has = ap (λ (j : Job). job_place j (s.prepared a)) is ∙ ap (job_place job) has
 
 fits_fork : (s : CoreState) (a p child : ℕ) (place : Place) (job : Job) (prepared : Option ℕ) → s.job a ≡ job → s.prepared a ≡ prepared → FitsFork s a p child place job prepared → FitsFork s a p child place (s.job a) (s.prepared a)
 fits_fork s a p child place job prepared is has fits =
@@ -242,7 +242,7 @@ module _ (s : CoreState) (who : Doer) (child : ℕ) (place : Place) (h : IsOpen 
           has_counted = record { above = is_lowest.from; lowest = is_next; locked = put_same p (Some a) s.table; entry = rw there refl; mapped = is_lowest.passes }
 
           -- in these steps it goes on, to share the page or to copy it
-          counted_on : (step : ForkStep) (to : ForkPlace) → copies ≡ copies_page s p e.frame → after.job a ≡ forking p child done step → fork_place (forking p child done step) None ≡ to → StandsFork after a p child (forking p child done step) None → TurnOf (plain_of s) who place (Fork child) (from_page (first_behind done)) (Silent ∷ []) to → IsTurned s who place (Fork child) (record { events = count_page a p child done page e copies ∷ []; whats = Silent ∷ [] })
+          counted_on : (step : ForkStep) (to : JobPlace) → copies ≡ copies_page s p e.frame → after.job a ≡ forking p child done step → job_place (forking p child done step) None ≡ to → StandsFork after a p child (forking p child done step) None → TurnOf (plain_of s) who place (Fork child) (from_page (first_behind done)) (Silent ∷ []) to → IsTurned s who place (Fork child) (record { events = count_page a p child done page e copies ∷ []; whats = Silent ∷ [] })
           counted_on step to right behind is_there stands shape =
               record {
                 done = record {
@@ -442,14 +442,10 @@ module _ (s : CoreState) (who : Doer) (child : ℕ) (place : Place) (h : IsOpen 
       next_by done at job fits.0 (next_page (s.right child) done) refl
       (λ some. table_free s a p h.sound (ap keeps_table job) (table_needed (next_page (s.right child) done) free some))
   fork_by (forking q c done (counted page)) is fits free = shares done (own_fork q c done fits.1.0) page (own_job q c done (counted page) fits.1.0 is) fits.0 fits.1.1
-  fork_by (forking q c done (lowered page)) is fits free = absurd fits.1
-  fork_by (forking q c done (cleared page)) is fits free = absurd fits.1
   fork_by (forking q c done (copying page n)) is fits free =
       copies_by done (own_fork q c done fits.1.0) page fits.0 fits.1.1 n (s.prepared a) (own_job q c done (copying page n) fits.1.0 is) refl fits.1.2
-  fork_by (forking q c done failing) is fits free = absurd fits.1
-  fork_by (marking q page f) is fits free = absurd fits
-  fork_by (moving q page e allowed count) is fits free = absurd fits
-  fork_by (walking q write long sequence step) is fits free = absurd fits
+  fork_by (forking q c done step) is fits free = absurd fits.1
+  fork_by job is fits free = absurd fits
 
   -- the child after a turn: it has failed and has no entries, or it is none that failed
 
@@ -489,12 +485,8 @@ module _ (s : CoreState) (who : Doer) (child : ℕ) (place : Place) (h : IsOpen 
       grows (run s (fork_turn s a p child (forking q c done (counted page))).events) fits.1.0.birth
   emptied_by (forking q c done (copying page n)) is fits =
       emptied_copy done page n (s.prepared a) fits.1.0.birth (own_job q c done (copying page n) fits.1.0 is) refl
-  emptied_by (forking q c done (lowered page)) is fits = absurd fits.1
-  emptied_by (forking q c done (cleared page)) is fits = absurd fits.1
-  emptied_by (forking q c done failing) is fits = absurd fits.1
-  emptied_by (marking q page f) is fits = absurd fits
-  emptied_by (moving q page e allowed count) is fits = absurd fits
-  emptied_by (walking q write long sequence step) is fits = absurd fits
+  emptied_by (forking q c done step) is fits = absurd fits.1
+  emptied_by job is fits = absurd fits
 
 pub fork_turned : (s : CoreState) (who : Doer) (child : ℕ) (place : Place) → IsOpen s who.actor who.proc → FitsOp s who (Fork child) place → waits_for_locks (locks_needed s who.actor who.proc (Fork child)) who.actor (s.structure who.proc) (s.table who.proc) ≡ None → IsTurned s who place (Fork child) (op_turn s who.actor who.proc who.slots place.far (Fork child))
 fork_turned s who child place h fits free =

@@ -1,12 +1,15 @@
 -- The turns that give back, give, take and use a pin can be done, have their shapes, and lead where the next turn can go
 -- on. They are of no process.
 use Rattle.std.proofs.Common.{◌≡◌, ℕ, ◌+◌, ◌*◌, ◌-◌, ◌/◌, ◌<◌, ◌≤◌, ◌==◌, ◌&&◌, Bool, true, false, IsTrue, List, [], ◌∷◌, ◌++◌, length, take, Option, Some, None, inl, inr, eqb-true, refl, ap, sym, subst, ◌∙◌, zero, suc, length-take-le, arith}
+use Rattle.std.proofs.lemmas.Bool.{and_parts}
 use Rattle.std.proofs.lemmas.Bool.Decides.{nat_tests}
+use Rattle.std.proofs.lemmas.List.Sums.{sum_by-cons}
 use Rattle.std.proofs.lemmas.Option.{slice_get-get_or}
-use Rattle.std.specs.Prelude.{slice_index}
+use Rattle.std.specs.Prelude.{if◌then◌else◌, nat_lt, nat_le, slice_index}
+use Rattle.gup_base.specs.Parts.{Part, words_of, word_at}
 use Rattle.gup_plain.specs.Denial.{is_held_by, holder_denial, has_words, has_slots, transfer_denial_by, transfer_denial}
 use Rattle.gup_plain.specs.Event.{IsHeldBy, IsGivenTo, may_write, words, given_to, held_by}
-use Rattle.gup_plain.specs.State.{Handle, unmade, held, given, gone, objects_of}
+use Rattle.gup_plain.specs.State.{Handle, held, given, gone, objects_of}
 use Rattle.gup_plain.specs.declared.answer.Answer.{Answer}
 use Rattle.gup_plain.specs.declared.answer.Answer.TheVariants as answers
 use Rattle.gup_plain.specs.declared.event.PlainEvent.TheVariants as events
@@ -18,13 +21,13 @@ use Rattle.gup_script.specs.declared.op.Op.TheVariants.{Unpin, Give, Take, Trans
 use Rattle.gup_spec_events.specs.State.{CoreState, idle, plain_of}
 use Rattle.gup_spec_events.specs.Event.{CoreEvent, Can, CanMove, happens, unpin_page, give_handle, take_handle, move_out, move_in}
 use Rattle.gup_law_events.specs.Law.{all_told}
-use Rattle.gup_spec_journal.specs.Denial.{op_denial}
+use Rattle.gup_spec_journal.specs.Denial.{no_references, op_denial}
 use Rattle.gup_spec_journal.specs.Follows.{refuses}
 use Rattle.gup_spec_journal.specs.Order.{is_given_to, taking_waits, handle_waits}
 use Rattle.gup_spec_journal.specs.Place.{Place, Doer}
 use Rattle.gup_spec_journal.specs.Plain.{IsAnswerOf, pages_got}
 use Rattle.gup_spec_journal.specs.Thorough.{Passes}
-use Rattle.gup_spec_turns.specs.ForkPlace.{unbegun}
+use Rattle.gup_spec_turns.specs.JobPlace.{unbegun}
 use Rattle.gup_spec_turns.specs.CoreTurn.{answers_with}
 use Rattle.gup_spec_turns.specs.PinTurns.{last_of, but_last, unpinned, unpin_turn, give_turn, take_turn}
 use Rattle.gup_spec_turns.proofs.TurnParts.{unpin_turn_by, give_turn_by, transfer_turn_by}
@@ -39,15 +42,11 @@ use Rattle.gup_law_turns.proofs.ShownTurns.{IsQuiet, FitsNext, MakesPin, IsTurne
 
 holds : (h : Handle) (a : ℕ) → is_held_by h a ≡ true → IsHeldBy h a
 holds (held by objects write) a is = eqb-true by a is
-holds (given to objects write) a is = absurd (cc is)
-holds unmade a is = absurd (cc is)
-holds gone a is = absurd (cc is)
+holds h a is = absurd (cc is)
 
 is_given : (h : Handle) (a : ℕ) → is_given_to h a ≡ true → IsGivenTo h a
 is_given (given to objects write) a is = eqb-true to a is
-is_given (held by objects write) a is = absurd (cc is)
-is_given unmade a is = absurd (cc is)
-is_given gone a is = absurd (cc is)
+is_given h a is = absurd (cc is)
 
 -- a list and its last element
 ends_at : (xs : List ℕ) (k : ℕ) → length xs ≡ suc k → xs ≡ take k xs ++ slice_index xs k ∷ []
@@ -65,35 +64,48 @@ one_less xs some = let short = length-take-le (length xs - 1) xs (omega arith) i
 
 -- of a transfer that isn't denied: the actor holds the pin, and may write it, and all its words are in range
 undenied_by : (holding outward may fits : Bool) → transfer_denial_by holding outward may fits ≡ None → (holding ≡ true) × (outward ≡ false → may ≡ true) × (fits ≡ true)
-undenied_by false outward may fits is = absurd (cc is)
 undenied_by true true may true is = (refl, (λ inward. absurd (cc inward)), refl)
-undenied_by true true may false is = absurd (cc is)
 undenied_by true false true true is = (refl, (λ inward. refl), refl)
-undenied_by true false true false is = absurd (cc is)
-undenied_by true false false fits is = absurd (cc is)
+undenied_by holding outward may fits is = absurd (cc is)
 
-in_range : (pages slots index slot n : ℕ) → has_words pages ((index, n) ∷ []) && has_slots slots slot ((index, n) ∷ []) ≡ true → (index + n ≤ words * pages) × (slot + n ≤ slots)
-in_range pages slots index slot n is = (grind (arith, nat_tests), grind (arith, nat_tests))
+-- where the pin has all its parts each of its words is one of the pin's
+word_within : (pages : ℕ) (parts : List Part) (k : ℕ) → has_words pages parts ≡ true → k < words_of parts → word_at parts k < words * pages
+word_within pages [] k has less = absurd (omega (arith, less))
+word_within pages (part ∷ parts) k has less =
+    let both = and_parts _ _ has in
+    go (nat_lt k part.1) refl both.0 (word_within pages parts (k - part.1) both.1)
+  where
+    go : (here : Bool) → nat_lt k part.1 ≡ here → nat_le (part.0 + part.1) (words * pages) ≡ true → (k - part.1 < words_of parts → word_at parts (k - part.1) < words * pages) → (if here then part.0 + k else word_at parts (k - part.1)) < words * pages
+    go true is fits later = grind (arith, nat_tests)
+    go false is fits later =
+        let all = sum_by-cons (λ (p : Part). p.1) part parts in later (grind (arith, nat_tests, all))
+
+-- and each of its slots one of the store's
+in_range : (pages slots slot : ℕ) (parts : List Part) (k : ℕ) → has_words pages parts && has_slots slots slot parts ≡ true → k < words_of parts → (word_at parts k < words * pages) × (slot + k < slots)
+in_range pages slots slot parts k is less =
+    let both = and_parts _ _ is in
+    let fits = both.1 in
+    (word_within pages parts k both.0 less, grind (arith, nat_tests))
 
 -- what denies a transfer is a refusal of transfers
-denied_by : (handle : ℕ) (outward : Bool) (index slot n : ℕ) (holding may fits : Bool) (answer : Answer) → transfer_denial_by holding outward may fits ≡ Some answer → IsTrue (refuses (Transfer handle outward index slot n) answer)
-denied_by handle outward index slot n false may fits answer is =
-    subst (λ (x : Answer). IsTrue (refuses (Transfer handle outward index slot n) x)) (some_same is) refl
-denied_by handle true index slot n true may true answer is = absurd (cc is)
-denied_by handle true index slot n true may false answer is =
-    subst (λ (x : Answer). IsTrue (refuses (Transfer handle true index slot n) x)) (some_same is) refl
-denied_by handle false index slot n true false fits answer is =
-    subst (λ (x : Answer). IsTrue (refuses (Transfer handle false index slot n) x)) (some_same is) refl
-denied_by handle false index slot n true true true answer is = absurd (cc is)
-denied_by handle false index slot n true true false answer is =
-    subst (λ (x : Answer). IsTrue (refuses (Transfer handle false index slot n) x)) (some_same is) refl
+denied_by : (handle : ℕ) (outward : Bool) (slot : ℕ) (parts : List Part) (holding may fits : Bool) (answer : Answer) → transfer_denial_by holding outward may fits ≡ Some answer → IsTrue (refuses (Transfer handle outward slot parts) answer)
+denied_by handle outward slot parts false may fits answer is =
+    subst (λ (x : Answer). IsTrue (refuses (Transfer handle outward slot parts) x)) (some_same is) refl
+denied_by handle true slot parts true may true answer is = absurd (cc is)
+denied_by handle true slot parts true may false answer is =
+    subst (λ (x : Answer). IsTrue (refuses (Transfer handle true slot parts) x)) (some_same is) refl
+denied_by handle false slot parts true false fits answer is =
+    subst (λ (x : Answer). IsTrue (refuses (Transfer handle false slot parts) x)) (some_same is) refl
+denied_by handle false slot parts true true true answer is = absurd (cc is)
+denied_by handle false slot parts true true false answer is =
+    subst (λ (x : Answer). IsTrue (refuses (Transfer handle false slot parts) x)) (some_same is) refl
 
 module _ (s : CoreState) (who : Doer) (place : Place) (h : IsQuiet s who.actor) (still : Rests s who.actor) where
   abbrev a : ℕ
   a = who.actor
 
   -- an operation is refused
-  answered : (op : Op) (answer : Answer) → AtFirst place → IsTrue (refuses op answer) → IsAnswerOf (op_denial (plain_of s) who (pages_got (plain_of s) who.actor) op) answer → Passes (plain_of s) who.proc op place.far → MakesPin s s a op → IsTurned s who place op (answers_with answer)
+  answered : (op : Op) (answer : Answer) → AtFirst place → IsTrue (refuses op answer) → IsAnswerOf (op_denial (plain_of s) no_references who (pages_got (plain_of s) who.actor) op) answer → Passes (plain_of s) who.proc op place.far → MakesPin s s a op → IsTurned s who place op (answers_with answer)
   answered op answer first refusal right passes pin =
       record {
         done = record { kinds = tt; can = tt; rest = h.rest; told = refl };
@@ -183,18 +195,18 @@ module _ (s : CoreState) (who : Doer) (place : Place) (h : IsQuiet s who.actor) 
 
   -- transfer
 
-  module _ (handle index slot n : ℕ) (few : who.slots ≤ most_slots) where
+  module _ (handle slot : ℕ) (parts : List Part) (few : who.slots ≤ most_slots) where
     -- does the pin have all the words, and the store all the slots?
     abbrev has_all : Bool
     has_all =
-        has_words (length (objects_of (s.handle handle))) ((index, n) ∷ []) && has_slots who.slots slot ((index, n) ∷ [])
+        has_words (length (objects_of (s.handle handle))) parts && has_slots who.slots slot parts
 
     abbrev denied : Bool → Option Answer
-    denied outward = transfer_denial (s.handle handle) a outward who.slots slot ((index, n) ∷ [])
+    denied outward = transfer_denial (s.handle handle) a outward who.slots slot parts
 
     -- the word of this turn
     abbrev word_here : ℕ
-    word_here = index + place.far
+    word_here = word_at parts place.far
 
     abbrev slot_here : ℕ
     slot_here = slot + place.far
@@ -202,63 +214,62 @@ module _ (s : CoreState) (who : Doer) (place : Place) (h : IsQuiet s who.actor) 
     abbrev frame : ℕ
     frame = frame_at (s.pinned handle) word_here
 
-    module _ (outward : Bool) (fits : FitsOp s who (Transfer handle outward index slot n) place) (undenied : denied outward ≡ None) where
+    module _ (outward : Bool) (fits : FitsOp s who (Transfer handle outward slot parts) place) (undenied : denied outward ≡ None) where
       allowed : (is_held_by (s.handle handle) a ≡ true) × (outward ≡ false → may_write (s.handle handle) ≡ true) × (has_all ≡ true)
       allowed = undenied_by (is_held_by (s.handle handle) a) outward (may_write (s.handle handle)) has_all undenied
 
       can_move : CanMove s a handle word_here slot_here frame
       can_move =
-          let range = in_range (length (objects_of (s.handle handle))) who.slots index slot n allowed.2 in
+          let range = in_range (length (objects_of (s.handle handle))) who.slots slot parts place.far allowed.2 fits.2 in
           let words_there = range.0 in
           let slots_there = range.1 in
-          let within = fits.2 in
           let all = (fits.4 allowed.0).1 in
-          let page_there : word_here / words < length (s.pinned handle) = omega (arith, words_there, within, all) in
-          (holds (s.handle handle) a allowed.0, slice_get-get_or (s.pinned handle) (word_here / words) 0 page_there, omega (arith, slots_there, within, few))
+          let page_there : word_here / words < length (s.pinned handle) = omega (arith, words_there, all) in
+          (holds (s.handle handle) a allowed.0, slice_get-get_or (s.pinned handle) (word_here / words) 0 page_there, omega (arith, slots_there, few))
 
       -- where words are left the transfer goes on; a word that moves changes nothing of that
-      goes_on : place.far + 1 < n → FitsOp s who (Transfer handle outward index slot n) (record place { far = place.far + 1; had = true })
+      goes_on : place.far + 1 < words_of parts → FitsOp s who (Transfer handle outward slot parts) (record place { far = place.far + 1; had = true })
       goes_on more = (still, ((λ none. absurd (omega (arith, none))), λ some. refl), more, (λ begun. undenied), fits.4)
 
-    transfers : (outward last : Bool) → (place.far + 1 == n) ≡ last → FitsOp s who (Transfer handle outward index slot n) place → denied outward ≡ None → IsTurned s who place (Transfer handle outward index slot n) (transfer_turn_by None s a handle outward last word_here slot_here)
+    transfers : (outward last : Bool) → (place.far + 1 == words_of parts) ≡ last → FitsOp s who (Transfer handle outward slot parts) place → denied outward ≡ None → IsTurned s who place (Transfer handle outward slot parts) (transfer_turn_by None s a handle outward last word_here slot_here)
     transfers true true test fits undenied =
         let value : ℕ = moves_value s a true word_here slot_here frame in
-        one_event (Transfer handle true index slot n) handle (move_out a handle word_here slot_here frame value) (Event (events.MoveOut a handle word_here slot_here value) ∷ Done answers.Words ∷ []) refl
+        one_event (Transfer handle true slot parts) handle (move_out a handle word_here slot_here frame value) (Event (events.MoveOut a handle word_here slot_here value) ∷ Done answers.Words ∷ []) refl
         (moving_out word_here slot_here frame value) (can_move true fits undenied, refl) (record { prepared = h.rest.prepared; owed = h.rest.owed }) refl still.0
-        (moved_last handle true index slot n value (grind (arith, nat_tests)) undenied) still (refl, refl)
+        (moved_last handle true slot parts value (grind (arith, nat_tests)) undenied) still (refl, refl)
     transfers true false test fits undenied =
         let value : ℕ = moves_value s a true word_here slot_here frame in
         let within = fits.2 in
-        let more : place.far + 1 < n = grind (arith, nat_tests, within) in
-        one_event (Transfer handle true index slot n) handle (move_out a handle word_here slot_here frame value) (Event (events.MoveOut a handle word_here slot_here value) ∷ []) refl
+        let more : place.far + 1 < words_of parts = grind (arith, nat_tests, within) in
+        one_event (Transfer handle true slot parts) handle (move_out a handle word_here slot_here frame value) (Event (events.MoveOut a handle word_here slot_here value) ∷ []) refl
         (moving_out word_here slot_here frame value) (can_move true fits undenied, refl) (record { prepared = h.rest.prepared; owed = h.rest.owed }) refl still.0
-        (moved_word handle true index slot n value more undenied) (goes_on true fits undenied more) (refl, refl)
+        (moved_word handle true slot parts value more undenied) (goes_on true fits undenied more) (refl, refl)
     transfers false true test fits undenied =
         let value : ℕ = moves_value s a false word_here slot_here frame in
         let may = (allowed false fits undenied).1 refl in
-        one_event (Transfer handle false index slot n) handle (move_in a handle word_here slot_here frame value) (Event (events.MoveIn a handle word_here slot_here value) ∷ Done answers.Words ∷ []) refl
+        one_event (Transfer handle false slot parts) handle (move_in a handle word_here slot_here frame value) (Event (events.MoveIn a handle word_here slot_here value) ∷ Done answers.Words ∷ []) refl
         (moving_in word_here slot_here frame value) (can_move false fits undenied, may, refl) (record { prepared = h.rest.prepared; owed = h.rest.owed }) refl still.0
-        (moved_last handle false index slot n value (grind (arith, nat_tests)) undenied) still (refl, refl)
+        (moved_last handle false slot parts value (grind (arith, nat_tests)) undenied) still (refl, refl)
     transfers false false test fits undenied =
         let value : ℕ = moves_value s a false word_here slot_here frame in
         let may = (allowed false fits undenied).1 refl in
         let within = fits.2 in
-        let more : place.far + 1 < n = grind (arith, nat_tests, within) in
-        one_event (Transfer handle false index slot n) handle (move_in a handle word_here slot_here frame value) (Event (events.MoveIn a handle word_here slot_here value) ∷ []) refl
+        let more : place.far + 1 < words_of parts = grind (arith, nat_tests, within) in
+        one_event (Transfer handle false slot parts) handle (move_in a handle word_here slot_here frame value) (Event (events.MoveIn a handle word_here slot_here value) ∷ []) refl
         (moving_in word_here slot_here frame value) (can_move false fits undenied, may, refl) (record { prepared = h.rest.prepared; owed = h.rest.owed }) refl still.0
-        (moved_word handle false index slot n value more undenied) (goes_on false fits undenied more) (refl, refl)
+        (moved_word handle false slot parts value more undenied) (goes_on false fits undenied more) (refl, refl)
 
     -- a transfer that has begun isn't denied
-    denied_first : (outward : Bool) (answer : Answer) (far : ℕ) → place.far ≡ far → denied outward ≡ Some answer → FitsOp s who (Transfer handle outward index slot n) place → far ≡ 0
+    denied_first : (outward : Bool) (answer : Answer) (far : ℕ) → place.far ≡ far → denied outward ≡ Some answer → FitsOp s who (Transfer handle outward slot parts) place → far ≡ 0
     denied_first outward answer zero begun is fits = refl
     denied_first outward answer (suc far) begun is fits = absurd (let none = fits.3 (omega (arith, begun)) in cc)
 
-    transfer_by : (outward : Bool) (answer : Option Answer) → denied outward ≡ answer → FitsOp s who (Transfer handle outward index slot n) place → IsTurned s who place (Transfer handle outward index slot n) (transfer_turn_by answer s a handle outward (place.far + 1 == n) word_here slot_here)
-    transfer_by outward None is fits = transfers outward (place.far + 1 == n) refl fits is
+    transfer_by : (outward : Bool) (answer : Option Answer) → denied outward ≡ answer → FitsOp s who (Transfer handle outward slot parts) place → IsTurned s who place (Transfer handle outward slot parts) (transfer_turn_by answer s a handle outward (place.far + 1 == words_of parts) word_here slot_here)
+    transfer_by outward None is fits = transfers outward (place.far + 1 == words_of parts) refl fits is
     transfer_by outward (Some answer) is fits =
         let first = denied_first outward answer place.far refl is fits in
-        answered (Transfer handle outward index slot n) answer (first, fits.1.0 first)
-        (denied_by handle outward index slot n (is_held_by (s.handle handle) a) (may_write (s.handle handle)) has_all answer is) (rw is refl) tt (refl, refl)
+        answered (Transfer handle outward slot parts) answer (first, fits.1.0 first)
+        (denied_by handle outward slot parts (is_held_by (s.handle handle) a) (may_write (s.handle handle)) has_all answer is) (rw is refl) tt (refl, refl)
 
 pub unpin_turned : (s : CoreState) (who : Doer) (place : Place) → IsQuiet s who.actor → (handle : ℕ) → FitsOp s who (Unpin handle) place → IsTurned s who place (Unpin handle) (unpin_turn s who.actor handle)
 unpin_turned s who place h handle fits = unpin_by s who place h fits.0 handle (is_held_by (s.handle handle) who.actor) refl fits
@@ -271,6 +282,6 @@ pub take_turned : (s : CoreState) (who : Doer) (place : Place) → IsQuiet s who
 take_turned s who place h handle fits free =
     take_by s who place h fits.0 handle (is_given_to (s.handle handle) who.actor) refl free fits.1
 
-pub transfer_turned : (s : CoreState) (who : Doer) (place : Place) → IsQuiet s who.actor → (handle : ℕ) (outward : Bool) (index slot n : ℕ) → who.slots ≤ most_slots → FitsOp s who (Transfer handle outward index slot n) place → IsTurned s who place (Transfer handle outward index slot n) (transfer_turn s who.actor who.slots handle outward index slot n place.far)
-transfer_turned s who place h handle outward index slot n few fits =
-    transfer_by s who place h fits.0 handle index slot n few outward (transfer_denial (s.handle handle) who.actor outward who.slots slot ((index, n) ∷ [])) refl fits
+pub transfer_turned : (s : CoreState) (who : Doer) (place : Place) → IsQuiet s who.actor → (handle : ℕ) (outward : Bool) (slot : ℕ) (parts : List Part) → who.slots ≤ most_slots → FitsOp s who (Transfer handle outward slot parts) place → IsTurned s who place (Transfer handle outward slot parts) (transfer_turn s who.actor who.slots handle outward slot parts place.far)
+transfer_turned s who place h handle outward slot parts few fits =
+    transfer_by s who place h fits.0 handle slot parts few outward (transfer_denial (s.handle handle) who.actor outward who.slots slot parts) refl fits

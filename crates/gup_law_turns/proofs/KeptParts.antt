@@ -5,12 +5,12 @@ use Rattle.gup_base.specs.declared.entry.Entry.{Entry}
 use Rattle.gup_base.specs.declared.entry.Rights.{Rights}
 use Rattle.gup_plain.specs.Event.{IsHeldBy, IsGivenTo, given_to, held_by}
 use Rattle.gup_plain.specs.Put.{put}
-use Rattle.gup_plain.specs.State.{Birth, unborn, growing, born, failed, Handle, unmade, held, given, gone}
+use Rattle.gup_plain.specs.State.{Birth, unborn, growing, born, failed, Handle, unmade, held, gone}
 use Rattle.gup_spec_events.specs.State.{CoreState, Taken, idle}
 use Rattle.gup_spec_events.specs.Event.{CoreEvent, Can, happens, raise_flag, pin_page, make_handle, unpin_page, give_handle, take_handle, taken_frames, objects_taken, writes_taken, run}
 use Rattle.gup_spec_events.specs.Invariant.{AllCan}
 use Rattle.gup_law_base.specs.Sound.{IsSound, Forking, forking_of, birth_of_child, is_failing}
-use Rattle.gup_law_turns.proofs.CalmStates.{IsCalm, Strand, of_pin, of_handle, IsTurnEvent, AreTurnEvents, taking, filling, counting_one, marking_it, upgrading, breaking, putting, mapping, lowering, protecting, dropping, discarding, loading, storing, raising, pinning, making, handling, IsHandleEvent, AreHandleEvents, unpinning, giving, taking_over, moving_out, moving_in, beginning, counting, sharing_entry, sharing_mark, sharing_child, passing, ending, copying_word, placing, failing_at, putting_child, failing_unborn}
+use Rattle.gup_law_turns.proofs.CalmStates.{IsCalm, Strand, of_pin, of_handle, IsTurnEvent, AreTurnEvents, raising, pinning, making, handling, IsHandleEvent, AreHandleEvents, unpinning, giving, taking_over, beginning, ending, failing_at, putting_child, failing_unborn}
 use Rattle.gup_law_turns.proofs.Puts.{put_same, put_other}
 use Rattle.gup_law_turns.proofs.EventLists.{Law}
 
@@ -58,167 +58,45 @@ child_unborn p false e = cc e
 module _ (s : CoreState) (a p c : ℕ) (strand : Strand) where
   leaves_handle : {e : CoreEvent} (h : ℕ) → IsHandleEvent a h e → Leaves a p c s (happens s e)
   leaves_handle h (unpinning f left) = record { process = λ q other child. refl; birth = λ q child. refl; job = λ b other. refl; prepared = λ b other. refl; owed = λ b other. refl }
-  leaves_handle h (giving to) = record { process = λ q other child. refl; birth = λ q child. refl; job = λ b other. refl; prepared = λ b other. refl; owed = λ b other. refl }
-  leaves_handle h taking_over = record { process = λ q other child. refl; birth = λ q child. refl; job = λ b other. refl; prepared = λ b other. refl; owed = λ b other. refl }
-  leaves_handle h (moving_out index slot f value) = record { process = λ q other child. refl; birth = λ q child. refl; job = λ b other. refl; prepared = λ b other. refl; owed = λ b other. refl }
-  leaves_handle h (moving_in index slot f value) = record { process = λ q other child. refl; birth = λ q child. refl; job = λ b other. refl; prepared = λ b other. refl; owed = λ b other. refl }
+  leaves_handle h event = record { process = λ q other child. refl; birth = λ q child. refl; job = λ b other. refl; prepared = λ b other. refl; owed = λ b other. refl }
 
   leaves_event : {e : CoreEvent} → IsTurnEvent a p c strand e → Leaves a p c s (happens s e)
-  leaves_event (taking f) = record { process = λ q other child. refl; birth = λ q child. refl; job = λ b other. refl; prepared = λ b other. rw other refl; owed = λ b other. refl }
-  leaves_event (filling page f) = record { process = λ q other child. rw other refl; birth = λ q child. refl; job = λ b other. refl; prepared = λ b other. rw other refl; owed = λ b other. refl }
-  leaves_event (counting_one page f writable) = record { process = λ q other child. rw other refl; birth = λ q child. refl; job = λ b other. rw other refl; prepared = λ b other. refl; owed = λ b other. refl }
-  leaves_event (marking_it page f) = record { process = λ q other child. rw other refl; birth = λ q child. refl; job = λ b other. rw other refl; prepared = λ b other. refl; owed = λ b other. refl }
-  leaves_event (upgrading page f) = record { process = λ q other child. rw other refl; birth = λ q child. refl; job = λ b other. refl; prepared = λ b other. refl; owed = λ b other. refl }
-  leaves_event (breaking page old new was writable) = record { process = λ q other child. rw other refl; birth = λ q child. refl; job = λ b other. refl; prepared = λ b other. rw other refl; owed = λ b other. rw other refl }
-  leaves_event (putting f) = record { process = λ q other child. refl; birth = λ q child. refl; job = λ b other. refl; prepared = λ b other. refl; owed = λ b other. rw other refl }
-  leaves_event (mapping page n rights) = record { process = λ q other child. rw other refl; birth = λ q child. refl; job = λ b other. refl; prepared = λ b other. refl; owed = λ b other. refl }
-  leaves_event (lowering page f) = record { process = λ q other child. rw other refl; birth = λ q child. refl; job = λ b other. refl; prepared = λ b other. refl; owed = λ b other. refl }
-  leaves_event (protecting page n rights) = record { process = λ q other child. rw other refl; birth = λ q child. refl; job = λ b other. refl; prepared = λ b other. refl; owed = λ b other. refl }
-  leaves_event (dropping page was) = record { process = λ q other child. rw other refl; birth = λ q child. refl; job = λ b other. refl; prepared = λ b other. refl; owed = λ b other. rw other refl }
-  leaves_event (discarding page was) = record { process = λ q other child. rw other refl; birth = λ q child. refl; job = λ b other. refl; prepared = λ b other. refl; owed = λ b other. rw other refl }
-  leaves_event (loading page word f value) = record { process = λ q other child. refl; birth = λ q child. refl; job = λ b other. refl; prepared = λ b other. refl; owed = λ b other. refl }
-  leaves_event (storing page word f value) = record { process = λ q other child. refl; birth = λ q child. refl; job = λ b other. refl; prepared = λ b other. refl; owed = λ b other. refl }
-  leaves_event (raising h is) = record { process = λ q other child. refl; birth = λ q child. refl; job = λ b other. refl; prepared = λ b other. refl; owed = λ b other. refl }
-  leaves_event (pinning h is page e write long) = record { process = λ q other child. refl; birth = λ q child. refl; job = λ b other. refl; prepared = λ b other. refl; owed = λ b other. refl }
-  leaves_event (making h is) = record { process = λ q other child. refl; birth = λ q child. refl; job = λ b other. refl; prepared = λ b other. refl; owed = λ b other. refl }
   leaves_event (handling h is event) = leaves_handle h event
-  leaves_event beginning = record { process = λ q other child. rw (other, child) refl; birth = λ q child. rw child refl; job = λ b other. rw other refl; prepared = λ b other. refl; owed = λ b other. refl }
-  leaves_event (counting done page e copies) = record { process = λ q other child. rw other refl; birth = λ q child. refl; job = λ b other. rw other refl; prepared = λ b other. refl; owed = λ b other. refl }
-  leaves_event (sharing_entry done page f writable) = record { process = λ q other child. rw other refl; birth = λ q child. refl; job = λ b other. rw other refl; prepared = λ b other. refl; owed = λ b other. refl }
-  leaves_event (sharing_mark done page f writable) = record { process = λ q other child. refl; birth = λ q child. refl; job = λ b other. rw other refl; prepared = λ b other. refl; owed = λ b other. refl }
-  leaves_event (sharing_child done page f writable) = record { process = λ q other child. rw (other, child) refl; birth = λ q child. refl; job = λ b other. rw other refl; prepared = λ b other. refl; owed = λ b other. refl }
-  leaves_event (passing done page) = record { process = λ q other child. refl; birth = λ q child. refl; job = λ b other. rw other refl; prepared = λ b other. refl; owed = λ b other. refl }
-  leaves_event (ending done) = record { process = λ q other child. rw (other, child) refl; birth = λ q child. rw child refl; job = λ b other. rw other refl; prepared = λ b other. refl; owed = λ b other. refl }
-  leaves_event (copying_word done page word to e) = record { process = λ q other child. refl; birth = λ q child. refl; job = λ b other. rw other refl; prepared = λ b other. refl; owed = λ b other. refl }
-  leaves_event (placing done page to rights) = record { process = λ q other child. rw (other, child) refl; birth = λ q child. refl; job = λ b other. rw other refl; prepared = λ b other. rw other refl; owed = λ b other. refl }
-  leaves_event (failing_at done step true) = record { process = λ q other child. rw (other, child) refl; birth = λ q child. rw child refl; job = λ b other. rw other refl; prepared = λ b other. refl; owed = λ b other. refl }
-  leaves_event (failing_at done step false) = record { process = λ q other child. rw (other, child) refl; birth = λ q child. rw child refl; job = λ b other. rw other refl; prepared = λ b other. refl; owed = λ b other. refl }
-  leaves_event (putting_child done page e true) = record { process = λ q other child. rw (other, child) refl; birth = λ q child. refl; job = λ b other. rw other refl; prepared = λ b other. refl; owed = λ b other. refl }
-  leaves_event (putting_child done page e false) = record { process = λ q other child. rw child refl; birth = λ q child. refl; job = λ b other. refl; prepared = λ b other. refl; owed = λ b other. refl }
-  leaves_event failing_unborn = record { process = λ q other child. rw child refl; birth = λ q child. rw child refl; job = λ b other. refl; prepared = λ b other. refl; owed = λ b other. refl }
+  leaves_event (failing_at done step true) = record { process = λ q other child. simp (other, child); birth = λ q child. simp child; job = λ b other. simp other; prepared = λ b other. refl; owed = λ b other. refl }
+  leaves_event (putting_child done page e true) = record { process = λ q other child. simp (other, child); birth = λ q child. refl; job = λ b other. simp other; prepared = λ b other. refl; owed = λ b other. refl }
+  leaves_event event = record { process = λ q other child. first_of (simp other, simp child, simp (other, child), cc); birth = λ q child. first_of (simp child, cc); job = λ b other. first_of (simp other, cc); prepared = λ b other. first_of (simp other, cc); owed = λ b other. first_of (simp other, cc) }
 
   -- nothing of a turn gets or mirrors
 
   calm_handle : {e : CoreEvent} (h : ℕ) → IsHandleEvent a h e → IsCalm s → IsCalm (happens s e)
   calm_handle h (unpinning f left) calm = assumption
-  calm_handle h (giving to) calm = assumption
-  calm_handle h taking_over calm = assumption
-  calm_handle h (moving_out index slot f value) calm = assumption
-  calm_handle h (moving_in index slot f value) calm = assumption
+  calm_handle h event calm = assumption
 
   calm_event : {e : CoreEvent} → IsTurnEvent a p c strand e → IsCalm s → IsCalm (happens s e)
-  calm_event (taking f) h = assumption
-  calm_event (filling page f) h = assumption
-  calm_event (counting_one page f writable) h = assumption
-  calm_event (marking_it page f) h = assumption
-  calm_event (upgrading page f) h = assumption
-  calm_event (breaking page old new was writable) h = assumption
-  calm_event (putting f) h = assumption
-  calm_event (mapping page n rights) h = assumption
-  calm_event (lowering page f) h = assumption
-  calm_event (protecting page n rights) h = assumption
-  calm_event (dropping page was) h = assumption
-  calm_event (discarding page was) h = assumption
-  calm_event (loading page word f value) h = assumption
-  calm_event (storing page word f value) h = assumption
-  calm_event (raising handle is) h = assumption
-  calm_event (pinning handle is page e write long) h = assumption
-  calm_event (making handle is) h = assumption
   calm_event (handling handle is event) h = calm_handle handle event h
-  calm_event beginning h = assumption
-  calm_event (counting done page e copies) h = assumption
-  calm_event (sharing_entry done page f writable) h = assumption
-  calm_event (sharing_mark done page f writable) h = assumption
-  calm_event (sharing_child done page f writable) h = assumption
-  calm_event (passing done page) h = assumption
-  calm_event (ending done) h = assumption
-  calm_event (copying_word done page word to e) h = assumption
-  calm_event (placing done page to rights) h = assumption
-  calm_event (failing_at done step ends) h = assumption
-  calm_event (putting_child done page e ends) h = assumption
-  calm_event failing_unborn h = assumption
+  calm_event event h = assumption
 
   -- a born process stays born: the child of a fork that fails was growing, and that of a failed process was unborn
   births_event : {e : CoreEvent} → IsTurnEvent a p c strand e → IsSound s → Can s e → (q : ℕ) → s.birth q ≡ born → (happens s e).birth q ≡ born
-  births_event (taking f) sound can q lives = lives
-  births_event (filling page f) sound can q lives = lives
-  births_event (counting_one page f writable) sound can q lives = lives
-  births_event (marking_it page f) sound can q lives = lives
-  births_event (upgrading page f) sound can q lives = lives
-  births_event (breaking page old new was writable) sound can q lives = lives
-  births_event (putting f) sound can q lives = lives
-  births_event (mapping page n rights) sound can q lives = lives
-  births_event (lowering page f) sound can q lives = lives
-  births_event (protecting page n rights) sound can q lives = lives
-  births_event (dropping page was) sound can q lives = lives
-  births_event (discarding page was) sound can q lives = lives
-  births_event (loading page word f value) sound can q lives = lives
-  births_event (storing page word f value) sound can q lives = lives
-  births_event (raising h is) sound can q lives = lives
-  births_event (pinning h is page e write long) sound can q lives = lives
-  births_event (making h is) sound can q lives = lives
-  births_event (handling h is (unpinning f left)) sound can q lives = lives
   births_event (handling h is (giving to)) sound can q lives = lives
-  births_event (handling h is taking_over) sound can q lives = lives
-  births_event (handling h is (moving_out index slot f value)) sound can q lives = lives
-  births_event (handling h is (moving_in index slot f value)) sound can q lives = lives
   births_event beginning sound can q lives = let child : s.birth c ≡ unborn = can.1 in put_kept c q (growing p) s.birth born (λ same. cc) lives
-  births_event (counting done page e copies) sound can q lives = lives
-  births_event (sharing_entry done page f writable) sound can q lives = lives
-  births_event (sharing_mark done page f writable) sound can q lives = lives
-  births_event (sharing_child done page f writable) sound can q lives = lives
-  births_event (passing done page) sound can q lives = lives
   births_event (ending done) sound can q lives = go (q == c)
     where
       go : (t : Bool) → (if t then born else s.birth q) ≡ born
       go true = refl
       go false = lives
-  births_event (copying_word done page word to e) sound can q lives = lives
-  births_event (placing done page to rights) sound can q lives = lives
   births_event (failing_at done step ends) sound can q lives =
       let k : Forking = record { proc = p; child = c; done = done; step = step } in
       let forks : sound.0.forks a ≡ Some k = sound.1.forks_are a ∙ ap forking_of can.0 in
       let birth : s.birth c ≡ birth_of_child k = sound.1.fork_birth a k forks in
       put_kept c q failed s.birth born (λ same. child_unborn p (is_failing step) (sym birth ∙ (ap s.birth (sym same) ∙ lives))) lives
-  births_event (putting_child done page e ends) sound can q lives = lives
   births_event failing_unborn sound can q lives = let child : s.birth c ≡ unborn = can.1 in put_kept c q failed s.birth born (λ same. cc) lives
+  births_event event sound can q lives = lives
 
   -- Where the structure is locked, and the actor is in the middle of nothing, it changes neither entries nor locks.
   barred_event : {e : CoreEvent} (b : ℕ) → IsTurnEvent a p c strand e → s.structure p ≡ Some b → s.job a ≡ idle → Can s e → IsBarred a p s (happens s e)
-  barred_event b (taking f) locked job can = record { entry = refl; structure = refl; table = refl; job = refl }
-  barred_event b (filling page f) locked job can = absurd (let free = can.1.0 in cc)
-  barred_event b (counting_one page f writable) locked job can = absurd (let free = can.1.0 in cc)
-  barred_event b (marking_it page f) locked job can = absurd (cc)
-  barred_event b (upgrading page f) locked job can = absurd (let free = can.1.0 in cc)
-  barred_event b (breaking page old new was writable) locked job can = absurd (let free = can.1.0 in cc)
-  barred_event b (putting f) locked job can = record { entry = refl; structure = refl; table = refl; job = refl }
-  barred_event b (mapping page n rights) locked job can = absurd (let free = can.1.0 in cc)
-  barred_event b (lowering page f) locked job can = absurd (let free = can.1.0 in cc)
-  barred_event b (protecting page n rights) locked job can = absurd (let free = can.1.0 in cc)
-  barred_event b (dropping page was) locked job can = absurd (let free = can.1.0 in cc)
-  barred_event b (discarding page was) locked job can = absurd (let free = can.1.0 in cc)
-  barred_event b (loading page word f value) locked job can = record { entry = refl; structure = refl; table = refl; job = refl }
-  barred_event b (storing page word f value) locked job can = record { entry = refl; structure = refl; table = refl; job = refl }
-  barred_event b (raising h is) locked job can = record { entry = refl; structure = refl; table = refl; job = refl }
-  barred_event b (pinning h is page e write long) locked job can = absurd (let free = can.1.0 in cc)
-  barred_event b (making h is) locked job can = record { entry = refl; structure = refl; table = refl; job = refl }
-  barred_event b (handling h is (unpinning f left)) locked job can = record { entry = refl; structure = refl; table = refl; job = refl }
   barred_event b (handling h is (giving to)) locked job can = record { entry = refl; structure = refl; table = refl; job = refl }
-  barred_event b (handling h is taking_over) locked job can = record { entry = refl; structure = refl; table = refl; job = refl }
-  barred_event b (handling h is (moving_out index slot f value)) locked job can = record { entry = refl; structure = refl; table = refl; job = refl }
-  barred_event b (handling h is (moving_in index slot f value)) locked job can = record { entry = refl; structure = refl; table = refl; job = refl }
-  barred_event b beginning locked job can = absurd (let free = can.2.0 in cc)
-  barred_event b (counting done page e copies) locked job can = absurd (let other = can.0 in cc)
-  barred_event b (sharing_entry done page f writable) locked job can = absurd (let other = can.0 in cc)
-  barred_event b (sharing_mark done page f writable) locked job can = absurd (let other = can.0 in cc)
-  barred_event b (sharing_child done page f writable) locked job can = absurd (let other = can.0 in cc)
-  barred_event b (passing done page) locked job can = absurd (let other = can.0 in cc)
-  barred_event b (ending done) locked job can = absurd (let other = can.0 in cc)
-  barred_event b (copying_word done page word to e) locked job can = absurd (let other = can.0 in cc)
-  barred_event b (placing done page to rights) locked job can = absurd (let other = can.0 in cc)
-  barred_event b (failing_at done step ends) locked job can = absurd (let other = can.0 in cc)
-  barred_event b (putting_child done page e ends) locked job can = absurd (let other = can.0 in cc)
-  barred_event b failing_unborn locked job can = record { entry = refl; structure = refl; table = refl; job = refl }
+  barred_event b event locked job can = record { entry = cc; structure = cc; table = cc; job = cc }
 
 -- numbers that aren't equal are found so
 pub apart : (b a : ℕ) → (b ≡ a → ⊥) → (b == a) ≡ false
@@ -284,21 +162,15 @@ put_apart k j x f other = put_other k j x f (apart j k other)
 -- a handle has one holder, and whoever holds it isn't one to whom it is given
 pub one_holder : (h : Handle) (a b : ℕ) → IsHeldBy h a → IsHeldBy h b → a ≡ b
 one_holder (held by objects write) a b here there = sym here ∙ there
-one_holder (given to objects write) a b here there = absurd here
-one_holder unmade a b here there = absurd here
-one_holder gone a b here there = absurd here
+one_holder h a b here there = absurd here
 
 pub held_ungiven : (h : Handle) (a b : ℕ) → IsHeldBy h a → IsGivenTo h b → ⊥
 held_ungiven (held by objects write) a b here there = there
-held_ungiven (given to objects write) a b here there = here
-held_ungiven unmade a b here there = here
-held_ungiven gone a b here there = here
+held_ungiven h a b here there = here
 
 pub held_made : (h : Handle) (a : ℕ) → IsHeldBy h a → h ≡ unmade → ⊥
 held_made (held by objects write) a here yet = cc yet
-held_made (given to objects write) a here yet = here
-held_made unmade a here yet = here
-held_made gone a here yet = here
+held_made h a here yet = here
 
 -- a handle and its pages are as they were
 pub record KeepsPin (h : ℕ) (s t : CoreState) : Type 0 where
@@ -418,40 +290,13 @@ module _ (s : CoreState) (a : ℕ) (strand : Strand) where
       }
 
   pins_event : (p c : ℕ) (e : CoreEvent) → IsTurnEvent a p c strand e → Can s e → LeavesPinsOf a strand s (happens s e)
-  pins_event p c e (taking f) can = same_pins a strand s (happens s e) refl refl refl refl
-  pins_event p c e (filling page f) can = same_pins a strand s (happens s e) refl refl refl refl
-  pins_event p c e (counting_one page f writable) can = same_pins a strand s (happens s e) refl refl refl refl
-  pins_event p c e (marking_it page f) can = same_pins a strand s (happens s e) refl refl refl refl
-  pins_event p c e (upgrading page f) can = same_pins a strand s (happens s e) refl refl refl refl
-  pins_event p c e (breaking page old new was writable) can = same_pins a strand s (happens s e) refl refl refl refl
-  pins_event p c e (putting f) can = same_pins a strand s (happens s e) refl refl refl refl
-  pins_event p c e (mapping page n rights) can = same_pins a strand s (happens s e) refl refl refl refl
-  pins_event p c e (lowering page f) can = same_pins a strand s (happens s e) refl refl refl refl
-  pins_event p c e (protecting page n rights) can = same_pins a strand s (happens s e) refl refl refl refl
-  pins_event p c e (dropping page was) can = same_pins a strand s (happens s e) refl refl refl refl
-  pins_event p c e (discarding page was) can = same_pins a strand s (happens s e) refl refl refl refl
-  pins_event p c e (loading page word f value) can = same_pins a strand s (happens s e) refl refl refl refl
-  pins_event p c e (storing page word f value) can = same_pins a strand s (happens s e) refl refl refl refl
   pins_event p c e (raising h is) can = pins_raising h p is
   pins_event p c e (pinning h is page entry write long) can = pins_pinning p page entry write long
   pins_event p c e (making h is) can = pins_making h is can
   pins_event p c e (handling h is (unpinning f left)) can = pins_unpinning h f left is can
   pins_event p c e (handling h is (giving to)) can = pins_giving h to is can
   pins_event p c e (handling h is taking_over) can = pins_taking h is can
-  pins_event p c e (handling h is (moving_out index slot f value)) can = same_pins a strand s (happens s e) refl refl refl refl
-  pins_event p c e (handling h is (moving_in index slot f value)) can = same_pins a strand s (happens s e) refl refl refl refl
-  pins_event p c e beginning can = same_pins a strand s (happens s e) refl refl refl refl
-  pins_event p c e (counting done page entry copies) can = same_pins a strand s (happens s e) refl refl refl refl
-  pins_event p c e (sharing_entry done page f writable) can = same_pins a strand s (happens s e) refl refl refl refl
-  pins_event p c e (sharing_mark done page f writable) can = same_pins a strand s (happens s e) refl refl refl refl
-  pins_event p c e (sharing_child done page f writable) can = same_pins a strand s (happens s e) refl refl refl refl
-  pins_event p c e (passing done page) can = same_pins a strand s (happens s e) refl refl refl refl
-  pins_event p c e (ending done) can = same_pins a strand s (happens s e) refl refl refl refl
-  pins_event p c e (copying_word done page word to entry) can = same_pins a strand s (happens s e) refl refl refl refl
-  pins_event p c e (placing done page to rights) can = same_pins a strand s (happens s e) refl refl refl refl
-  pins_event p c e (failing_at done step ends) can = same_pins a strand s (happens s e) refl refl refl refl
-  pins_event p c e (putting_child done page entry ends) can = same_pins a strand s (happens s e) refl refl refl refl
-  pins_event p c e failing_unborn can = same_pins a strand s (happens s e) refl refl refl refl
+  pins_event p c e event can = same_pins a strand s (happens s e) refl refl refl refl
 
 pins_on : (a : ℕ) (strand : Strand) (s t u : CoreState) → LeavesPinsOf a strand s t → LeavesPinsOf a strand t u → LeavesPinsOf a strand s u
 pins_on a strand s t u first later =
@@ -483,10 +328,7 @@ pub record LeavesAll (s t : CoreState) : Type 0 where
 
 handle_leaves : (s : CoreState) (a h : ℕ) {e : CoreEvent} → IsHandleEvent a h e → LeavesAll s (happens s e)
 handle_leaves s a h (unpinning f left) = record { process = λ q. refl; job = refl; taken = refl }
-handle_leaves s a h (giving to) = record { process = λ q. refl; job = refl; taken = refl }
-handle_leaves s a h taking_over = record { process = λ q. refl; job = refl; taken = refl }
-handle_leaves s a h (moving_out index slot f value) = record { process = λ q. refl; job = refl; taken = refl }
-handle_leaves s a h (moving_in index slot f value) = record { process = λ q. refl; job = refl; taken = refl }
+handle_leaves s a h event = record { process = λ q. refl; job = refl; taken = refl }
 
 pub handles_leave : (s : CoreState) (a h : ℕ) (es : List CoreEvent) → AreHandleEvents a h es → LeavesAll s (run s es)
 handles_leave s a h [] kinds = record { process = λ q. refl; job = refl; taken = refl }

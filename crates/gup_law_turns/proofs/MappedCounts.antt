@@ -5,7 +5,8 @@ use Rattle.gup_base.specs.declared.entry.Rights.{Rights}
 use Rattle.gup_plain.specs.Put.{put, spread, within}
 use Rattle.gup_plain.specs.Event.{page_numbers}
 use Rattle.gup_spec_turns.specs.Cost.{LosesPage}
-use Rattle.gup_spec_turns.specs.Pages.{mapped_pages, pages_from}
+use Rattle.gup_plain.specs.Pages.{mapped_pages}
+use Rattle.gup_spec_turns.specs.Pages.{pages_from}
 use Rattle.gup_law_turns.proofs.Puts.{put_same, within_offset}
 use Rattle.gup_law_turns.proofs.Sums.{sum_le, sum_less, sum_spread, sum_zero}
 

@@ -22,12 +22,12 @@ use Rattle.gup_spec_events.specs.Event.{CoreEvent, AreUnlocked, happens, entry_o
 use Rattle.gup_spec_events.specs.Fault.{Fault, read_fault, write_fault, gives_back}
 use Rattle.gup_spec_events.specs.Invariant.{AllCan}
 use Rattle.gup_law_events.specs.Law.{all_told}
-use Rattle.gup_spec_journal.specs.Denial.{op_denial}
+use Rattle.gup_spec_journal.specs.Denial.{no_references, op_denial}
 use Rattle.gup_spec_journal.specs.Place.{Place, Doer}
 use Rattle.gup_spec_journal.specs.Follows.{refuses}
 use Rattle.gup_spec_journal.specs.Plain.{IsAnswerOf, pages_got}
 use Rattle.gup_spec_journal.specs.Thorough.{Passes}
-use Rattle.gup_spec_turns.specs.ForkPlace.{unbegun}
+use Rattle.gup_spec_turns.specs.JobPlace.{unbegun}
 use Rattle.gup_spec_turns.specs.CoreTurn.{CoreTurn, answers_with, free_frame, allows_store, frame_in, done_if, silent_or_done}
 use Rattle.gup_spec_turns.specs.PageTurns.{loads, load_turn, stores, lowers_entry, lowers, lowers_for, lowest_page, exit_turn_by}
 use Rattle.gup_spec_turns.proofs.TurnParts.{loads_after, stores_after, store_fault_by, map_turn_by, unmap_turn_by, protect_turn_by, discard_turn_by}
@@ -37,7 +37,7 @@ use Rattle.gup_law_turns.proofs.CalmStates.{Strand, of_pages, AreTurnEvents, put
 use Rattle.gup_law_turns.proofs.FaultTurns.{IsReady, MayFault, may_fault, RefusesPage, missing, forbidden, no_frame, LeadsTo, write_leads, entry_there, writable_there, no_mirror, needs_none, filled}
 use Rattle.gup_law_turns.proofs.KeptPages.{pages_leave}
 use Rattle.gup_law_turns.proofs.Puts.{put_same, put2_same, some_same, none_of}
-use Rattle.gup_law_turns.proofs.PageSearches.{lowest_some, lowest_none, none_below, undenied_map, denied_map, undenied_protect, denied_protect}
+use Rattle.gup_law_turns.proofs.PageSearches.{free_frame_free, lowest_some, lowest_none, none_below, undenied_map, denied_map, undenied_protect, denied_protect}
 use Rattle.gup_law_turns.proofs.TurnShapes.{AtFirst, FitsOp, TurnOf, refused, mapped, protected, loaded, stored, took, took_last, passed, passed_last, took_lowest, took_all, GoesOver, unmaps, discards, AtRest, unprepared, at_rest, IsDone, Rests, child_of, strand_of}
 use Rattle.gup_law_turns.proofs.EventLists.{events_of}
 use Rattle.gup_law_turns.proofs.ShownTurns.{IsOpen, FitsNext, MakesPin, IsTurned, shape_idle, both_free, kinds_behind, run_behind, can_behind, told_behind}
@@ -76,7 +76,7 @@ module _ (s : CoreState) (who : Doer) (place : Place) (h : IsOpen s who.actor wh
       }
 
   -- an operation is answered without an event
-  answered : (op : Op) (answer : Answer) → IsOfPages op s → AtFirst place → IsTrue (refuses op answer) → IsAnswerOf (op_denial (plain_of s) who (pages_got (plain_of s) who.actor) op) answer → Passes (plain_of s) p op place.far → IsTurned s who place op (answers_with answer)
+  answered : (op : Op) (answer : Answer) → IsOfPages op s → AtFirst place → IsTrue (refuses op answer) → IsAnswerOf (op_denial (plain_of s) no_references who (pages_got (plain_of s) who.actor) op) answer → Passes (plain_of s) p op place.far → IsTurned s who place op (answers_with answer)
   answered op answer alone first refusal right passes =
       done_turn op (answers_with answer) (record { kinds = tt; can = tt; rest = h.rest; told = refl }) alone job
       (refused op answer first refusal right passes) (λ still. still)
@@ -98,7 +98,7 @@ module _ (s : CoreState) (who : Doer) (place : Place) (h : IsOpen s who.actor wh
 
   -- load, after the events of a fault
 
-  load_ready : (page word : ℕ) (before : List CoreEvent) → word < words → AtFirst place → op_denial (plain_of s) who (pages_got (plain_of s) who.actor) (Load page word) ≡ None → IsReady s a p before → IsSome ((run s before).entry p page) → IsTurned s who place (Load page word) (loads s before a p page word)
+  load_ready : (page word : ℕ) (before : List CoreEvent) → word < words → AtFirst place → op_denial (plain_of s) no_references who (pages_got (plain_of s) who.actor) (Load page word) ≡ None → IsReady s a p before → IsSome ((run s before).entry p page) → IsTurned s who place (Load page word) (loads s before a p page word)
   load_ready page word before within first undenied ready there =
       let t : CoreState = run s before in
       let f : ℕ = frame_in (t.entry p page) in
@@ -120,7 +120,7 @@ module _ (s : CoreState) (who : Doer) (place : Place) (h : IsOpen s who.actor wh
   load_fills page word (Some rights) None unlocked within first is found none = answered (Load page word) answers.NoFrame (refl, refl, tt) first refl (rw is refl) tt
   load_fills page word (Some rights) (Some f) unlocked within first is found none =
       let before = take_frame a f ∷ fill a p page f ∷ [] in
-      load_ready page word before within first (rw is refl) (filled s a p may unlocked page f found (rw is refl) none)
+      load_ready page word before within first (rw is refl) (filled s a p may unlocked page (free_frame s) (free_frame_free s) f found (rw is refl) none)
       (rw (put2_same p page (Some (entry_of f false)) s.entry) refl)
 
   load_by : (page word : ℕ) (entry : Option Entry) → waits_for_locks (both_if (is_none entry)) a (s.structure p) (s.table p) ≡ None → word < words → AtFirst place → s.entry p page ≡ entry → IsTurned s who place (Load page word) (load_turn s a p page word entry)
@@ -131,7 +131,7 @@ module _ (s : CoreState) (who : Doer) (place : Place) (h : IsOpen s who.actor wh
 
   -- store, after the events of a fault
 
-  store_ready : (page word value : ℕ) (before : List CoreEvent) → word < words → AtFirst place → op_denial (plain_of s) who (pages_got (plain_of s) who.actor) (Store page word value) ≡ None → IsReady s a p before → allows_store ((run s before).entry p page) ≡ true → IsTurned s who place (Store page word value) (stores s before a p page word value)
+  store_ready : (page word value : ℕ) (before : List CoreEvent) → word < words → AtFirst place → op_denial (plain_of s) no_references who (pages_got (plain_of s) who.actor) (Store page word value) ≡ None → IsReady s a p before → allows_store ((run s before).entry p page) ≡ true → IsTurned s who place (Store page word value) (stores s before a p page word value)
   store_ready page word value before within first undenied ready may =
       let t : CoreState = run s before in
       let f : ℕ = frame_in (t.entry p page) in
@@ -167,7 +167,7 @@ module _ (s : CoreState) (who : Doer) (place : Place) (h : IsOpen s who.actor wh
       (rw here allowed)
   store_by page word value entry false free within first here barred =
       store_leads page word value (write_fault a p page (s.right p page) entry s.mark s.count (free_frame s)) within first
-      (write_leads s a p may (both_free s a p h.sound job free) page (s.right p page) entry refl here)
+      (write_leads s a p may (both_free s a p h.sound job free) page (free_frame s) (free_frame_free s) (s.right p page) entry refl here)
 
   -- The other operations need both locks, which are free.
   module _ (unlocked : AreUnlocked s p) where

@@ -1,16 +1,20 @@
 -- What the searches of the turn table find: the free frame, the lowest page, and what denies a mapping or a protection.
 use Rattle.std.proofs.Common.{◌≡◌, ℕ, ◌+◌, ◌<◌, ◌≤◌, ◌==◌, ◌||◌, nat_lt, Bool, true, false, IsTrue, IsSome, is_some, not, cond, Option, Some, None, refl, sym, ap, subst, ◌∙◌, inl, inr, eq-or-lt_of_le, zero, suc, arith}
 use Rattle.std.proofs.lemmas.Bool.Decides.{nat_tests}
+use Rattle.gup_base.specs.declared.entry.Allowed.{Allowed}
+use Rattle.gup_base.specs.declared.entry.Allowed.TheVariants.{Any, Only}
 use Rattle.gup_base.specs.declared.entry.Rights.{Rights}
+use Rattle.gup_base.specs.declared.entry.Zone.TheVariants.{Movable, Normal}
 use Rattle.gup_plain.specs.Event.{most_pages}
 use Rattle.gup_plain.specs.Put.{lowest}
 use Rattle.gup_plain.specs.declared.answer.Answer.{Answer}
 use Rattle.gup_plain.specs.declared.answer.Answer.TheVariants as answers
 use Rattle.gup_script.specs.declared.op.Op.TheVariants.{Map, Protect}
 use Rattle.gup_spec_events.specs.State.{CoreState}
+use Rattle.gup_spec_events.specs.Event.{IsAllowed}
 use Rattle.gup_plain.specs.Denial.{any_below, any_unmapped, map_denial, protect_denial}
 use Rattle.gup_spec_journal.specs.Follows.{refuses}
-use Rattle.gup_spec_turns.specs.CoreTurn.{free_frame}
+use Rattle.gup_spec_turns.specs.CoreTurn.{free_from, free_in, free_frame}
 use Rattle.gup_law_turns.proofs.Puts.{some_same}
 
 -- the lowest number that passes a test: it is in range and passes, and none before it does
@@ -57,19 +61,43 @@ lowest_none first (suc n) test is k least below = go (test first) refl is (λ e 
     go true e now later = absurd (cc now)
     go false e now later = fails_from test first k least e (later now)
 
--- the free frame is a frame, and free
-pub free_frame_free : (s : CoreState) (f : ℕ) → free_frame s ≡ Some f → (f < s.movable + s.normal) × (s.count f ≡ 0)
-free_frame_free s f is =
-    let found = lowest_some 0 (s.movable + s.normal) f (λ g. s.count g == 0) is in
-    let below : f < 0 + (s.movable + s.normal) = found.below in
+-- a free frame of n from the first on is one of them, and free
+free_from_free : (s : CoreState) (first n f : ℕ) → free_from s first n ≡ Some f → (first ≤ f) × (f < first + n) × (s.count f ≡ 0)
+free_from_free s first n f is =
+    let found = lowest_some first n f (λ g. s.count g == 0) is in
     let free : (s.count f == 0) ≡ true = found.passes in
-    (omega arith, grind (arith, nat_tests))
+    (found.from, found.below, grind (arith, nat_tests))
 
--- where there is none, each frame has a reference
-pub no_frame_free : (s : CoreState) → free_frame s ≡ None → (f : ℕ) → f < s.movable + s.normal → s.count f ≡ 0 → ⊥
-no_frame_free s is f below none =
-    let taken : (s.count f == 0) ≡ false = lowest_none 0 (s.movable + s.normal) (λ g. s.count g == 0) is f (omega arith) (omega arith) in
+-- where there is none, each of them has a reference
+none_free_from : (s : CoreState) (first n : ℕ) → free_from s first n ≡ None → (f : ℕ) → first ≤ f → f < first + n → s.count f ≡ 0 → ⊥
+none_free_from s first n is f from below none =
+    let taken : (s.count f == 0) ≡ false = lowest_none first n (λ g. s.count g == 0) is f from below in
     grind (arith, nat_tests)
+
+-- the free frame of these zones is a frame, and free
+pub free_in_free : (s : CoreState) (allowed : Allowed) (f : ℕ) → free_in s allowed ≡ Some f → (f < s.movable + s.normal) × (s.count f ≡ 0)
+free_in_free s Any f is =
+    let found = free_from_free s 0 (s.movable + s.normal) f is in (let below = found.1 in omega (arith, below), found.2)
+free_in_free s (Only Movable) f is =
+    let found = free_from_free s 0 s.movable f is in (let below = found.1 in omega (arith, below), found.2)
+free_in_free s (Only Normal) f is = let found = free_from_free s s.movable s.normal f is in (found.1, found.2)
+
+-- and of these zones
+pub free_in_allowed : (s : CoreState) (allowed : Allowed) (f : ℕ) → free_in s allowed ≡ Some f → IsAllowed s allowed f
+free_in_allowed s Any f is = tt
+free_in_allowed s (Only Movable) f is =
+    let found = free_from_free s 0 s.movable f is in let below = found.1 in omega (arith, below)
+free_in_allowed s (Only Normal) f is = (free_from_free s s.movable s.normal f is).0
+
+-- where there is none, each frame of these zones has a reference
+pub none_free_in : (s : CoreState) (allowed : Allowed) → free_in s allowed ≡ None → (f : ℕ) → f < s.movable + s.normal → IsAllowed s allowed f → s.count f ≡ 0 → ⊥
+none_free_in s Any is f below there none = none_free_from s 0 (s.movable + s.normal) is f (omega arith) (omega arith) none
+none_free_in s (Only Movable) is f below there none = none_free_from s 0 s.movable is f (omega arith) (omega arith) none
+none_free_in s (Only Normal) is f below there none = none_free_from s s.movable s.normal is f there below none
+
+-- the same of both zones
+pub free_frame_free : (s : CoreState) (f : ℕ) → free_frame s ≡ Some f → (f < s.movable + s.normal) × (s.count f ≡ 0)
+free_frame_free s f is = free_in_free s Any f is
 
 -- no number below n passes
 pub none_below : (n : ℕ) (test : ℕ → Bool) → any_below n test ≡ false → (k : ℕ) → k < n → test k ≡ false

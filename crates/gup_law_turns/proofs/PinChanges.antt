@@ -3,21 +3,22 @@ use Rattle.std.proofs.Common.{◌≡◌, ℕ, ◌+◌, ◌<◌, inl, inr, ◌==�
 use Rattle.std.proofs.Math.Path.{subst₂}
 use Rattle.std.proofs.lemmas.Bool.Decides.{nat_tests}
 use Rattle.std.proofs.lemmas.List.{length-append}
+use Rattle.gup_base.specs.Parts.{Part}
 use Rattle.gup_base.specs.declared.entry.Want.{Want}
 use Rattle.gup_plain.specs.Denial.{is_held_by}
 use Rattle.gup_plain.specs.Event.{IsHeldBy, IsGivenTo, given_to, held_by}
 use Rattle.gup_plain.specs.Put.{put}
-use Rattle.gup_plain.specs.State.{Birth, Handle, unmade, held, given, gone, born, failed}
+use Rattle.gup_plain.specs.State.{Birth, Handle, held, given, gone, born, failed}
 use Rattle.gup_plain.specs.declared.note.What.{What}
 use Rattle.gup_plain.specs.declared.note.Waiting.{Waiting}
 use Rattle.gup_script.specs.Script.{ScriptValue}
 use Rattle.gup_script.specs.declared.op.Op.{Op}
-use Rattle.gup_script.specs.declared.op.Op.TheVariants.{Map, Unmap, Protect, Discard, Load, Store, Pin, Unpin, Give, Take, Transfer, Fork, Exit}
+use Rattle.gup_script.specs.declared.op.Op.TheVariants.{Pin, Unpin, Give, Take, Transfer, Fork}
 use Rattle.gup_spec_events.specs.State.{CoreState, plain_of}
 use Rattle.gup_spec_events.specs.Event.{unpin_page, run}
 use Rattle.gup_spec_events.specs.Invariant.{AllCan}
 use Rattle.gup_spec_journal.specs.Place.{Place, Doer, birth_for, place_behind, present_op}
-use Rattle.gup_spec_turns.specs.ForkPlace.{ForkPlace}
+use Rattle.gup_spec_turns.specs.JobPlace.{JobPlace}
 use Rattle.gup_law_turns.specs.Standing.{StandsHandle, given_back}
 use Rattle.gup_spec_turns.specs.Run.{core_turn_by}
 use Rattle.gup_spec_turns.specs.CoreTurn.{CoreTurn}
@@ -54,9 +55,6 @@ same_handle e = cc
 
 module _ (backs behinds : ℕ → ℕ) (a : ℕ) (others : (b : ℕ) → (b ≡ a → ⊥) → behinds b ≡ backs b) where
   kept_stands : (pinned : List ℕ) (handle : Handle) → (is_held_by handle a ≡ true → behinds a ≡ backs a) → StandsHandle backs pinned handle → StandsHandle behinds pinned handle
-  kept_stands pinned unmade own stands = stands
-  kept_stands pinned gone own stands = stands
-  kept_stands pinned (given to objects write) own stands = stands
   kept_stands pinned (held by objects write) own stands =
       elim (same_or_apart by a) [
         | inl same ↦ holds (ap behinds same ∙ own (held_found by a same) ∙ ap backs (sym same))
@@ -65,40 +63,33 @@ module _ (backs behinds : ℕ → ℕ) (a : ℕ) (others : (b : ℕ) → (b ≡ 
     where
       holds : behinds by ≡ backs by → StandsHandle behinds pinned (held by objects write)
       holds is = (stands.0, stands.1, ap (λ (k : ℕ). length pinned + k) is ∙ stands.2)
+  kept_stands pinned handle own stands = stands
 
   made_stands : (pinned : List ℕ) (handle : Handle) → IsHeldBy handle a → behinds a ≡ 0 → StandsHandle (λ b. 0) pinned handle → StandsHandle behinds pinned handle
-  made_stands pinned unmade holds none stands = absurd holds
-  made_stands pinned gone holds none stands = absurd holds
-  made_stands pinned (given to objects write) holds none stands = absurd holds
   made_stands pinned (held by objects write) holds none stands =
       (stands.0, stands.1, ap (λ (k : ℕ). length pinned + k) (ap behinds holds ∙ none) ∙ stands.2)
+  made_stands pinned handle holds none stands = absurd holds
 
   given_stands : (pinned : List ℕ) (handle : Handle) (to : ℕ) → IsHeldBy handle a → backs a ≡ 0 → StandsHandle backs pinned handle → StandsHandle behinds pinned (given_to handle to)
-  given_stands pinned unmade to holds none stands = absurd holds
-  given_stands pinned gone to holds none stands = absurd holds
-  given_stands pinned (given by objects write) to holds none stands = absurd holds
   given_stands pinned (held by objects write) to holds none stands =
       let back : backs by ≡ 0 = ap backs holds ∙ none in
       let all = stands.2 in
       (stands.0, stands.1, omega (arith, back, all))
+  given_stands pinned handle to holds none stands = absurd holds
 
   taken_stands : (pinned : List ℕ) (handle : Handle) → IsGivenTo handle a → behinds a ≡ 0 → StandsHandle backs pinned handle → StandsHandle behinds pinned (held_by handle a)
-  taken_stands pinned unmade is none stands = absurd is
-  taken_stands pinned gone is none stands = absurd is
-  taken_stands pinned (held by objects write) is none stands = absurd is
   taken_stands pinned (given to objects write) is none stands =
       let all = stands.2 in
       (stands.0, stands.1, omega (arith, none, all))
+  taken_stands pinned handle is none stands = absurd is
 
   fewer_stand : (pinned after : List ℕ) (handle : Handle) → IsHeldBy handle a → 0 < length after → length after + 1 ≡ length pinned → behinds a ≡ backs a + 1 → StandsHandle backs pinned handle → StandsHandle behinds after handle
-  fewer_stand pinned after unmade holds some one more stands = absurd holds
-  fewer_stand pinned after gone holds some one more stands = absurd holds
-  fewer_stand pinned after (given to objects write) holds some one more stands = absurd holds
   fewer_stand pinned after (held by objects write) holds some one more stands =
       let back : backs by ≡ backs a = ap backs holds in
       let behind : behinds by ≡ behinds a = ap behinds holds in
       let all = stands.2 in
       (some, stands.1, omega (arith, one, more, back, behind, all))
+  fewer_stand pinned after handle holds some one more stands = absurd holds
 
   -- whatever comes of it, the pin stands as before
   pub changed_stands : {pinned after : List ℕ} {handle new : Handle} → Change a (backs a) (behinds a) pinned after handle new → StandsHandle backs pinned handle → StandsHandle behinds after new
@@ -117,14 +108,6 @@ module _ (backs behinds : ℕ → ℕ) (a : ℕ) (others : (b : ℕ) → (b ≡ 
 
 -- the first turn of an operation finds nothing given back
 pub first_back : (op : Option Op) (h : ℕ) → given_back op h 0 ≡ 0
-first_back None h = refl
-first_back (Some (Map page n rights)) h = refl
-first_back (Some (Unmap page n)) h = refl
-first_back (Some (Protect page n rights)) h = refl
-first_back (Some (Discard page n)) h = refl
-first_back (Some (Load page word)) h = refl
-first_back (Some (Store page word value)) h = refl
-first_back (Some (Pin handle page n want fast)) h = refl
 first_back (Some (Unpin handle)) h = go (handle == h)
   where
     none : ℕ
@@ -133,11 +116,7 @@ first_back (Some (Unpin handle)) h = go (handle == h)
     go : (b : Bool) → (if b then none else none) ≡ none
     go true = refl
     go false = refl
-first_back (Some (Give handle to)) h = refl
-first_back (Some (Take handle)) h = refl
-first_back (Some (Transfer handle outward index slot n)) h = refl
-first_back (Some (Fork child)) h = refl
-first_back (Some Exit) h = refl
+first_back op h = refl
 
 -- an unpin gives back a page a turn, and of no other pin
 own_back : (h far : ℕ) → given_back (Some (Unpin h)) h far ≡ far
@@ -200,10 +179,10 @@ module _ (script : ScriptValue) (s : CoreState) (who : Doer) (place : Place) whe
       let pin = turns.pin (Take handle) refl refl birth in
       is_taken pin.1 pin.2 pin.0 behind
 
-  transfer_change : (handle : ℕ) (outward : Bool) (index slot n : ℕ) (turn : CoreTurn) → birth_for s.birth who ≡ born → present_op script who.actor place ≡ Some (Transfer handle outward index slot n) → IsTaken s who place (Some (Transfer handle outward index slot n)) None turn → ChangeBy handle (Some (Transfer handle outward index slot n)) turn
-  transfer_change handle outward index slot n turn birth is turns =
-      let behind = none_behind (run s turn.events) handle (Some (Transfer handle outward index slot n)) turn.whats is (λ far. refl) (turn_behind (run s turn.events) turns.shape) in
-      let pin = turns.pin (Transfer handle outward index slot n) refl refl birth in
+  transfer_change : (handle : ℕ) (outward : Bool) (slot : ℕ) (parts : List Part) (turn : CoreTurn) → birth_for s.birth who ≡ born → present_op script who.actor place ≡ Some (Transfer handle outward slot parts) → IsTaken s who place (Some (Transfer handle outward slot parts)) None turn → ChangeBy handle (Some (Transfer handle outward slot parts)) turn
+  transfer_change handle outward slot parts turn birth is turns =
+      let behind = none_behind (run s turn.events) handle (Some (Transfer handle outward slot parts)) turn.whats is (λ far. refl) (turn_behind (run s turn.events) turns.shape) in
+      let pin = turns.pin (Transfer handle outward slot parts) refl refl birth in
       is_kept (ap (λ (f : ℕ → Handle). f handle) pin.0) (ap (λ (f : ℕ → List ℕ). f handle) pin.1) (λ holds. behind)
 
   -- the pin that it gives back
@@ -258,12 +237,6 @@ module _ (script : ScriptValue) (s : CoreState) (who : Doer) (place : Place) whe
 
   -- so what comes of it depends on the operation
   op_changes : (h : ℕ) (op : Op) → birth_for s.birth who ≡ born → present_op script who.actor place ≡ Some op → IsGoing op → ChangeBy h (Some op) (going op)
-  op_changes h (Map page n rights) birth is turns = pages_change h (Map page n rights) (λ far. refl) refl is turns
-  op_changes h (Unmap page n) birth is turns = pages_change h (Unmap page n) (λ far. refl) refl is turns
-  op_changes h (Protect page n rights) birth is turns = pages_change h (Protect page n rights) (λ far. refl) refl is turns
-  op_changes h (Discard page n) birth is turns = pages_change h (Discard page n) (λ far. refl) refl is turns
-  op_changes h (Load page word) birth is turns = pages_change h (Load page word) (λ far. refl) refl is turns
-  op_changes h (Store page word value) birth is turns = pages_change h (Store page word value) (λ far. refl) refl is turns
   op_changes h (Pin handle page n want fast) birth is turns = pin_or_other h handle page n want fast birth is turns
   op_changes h (Unpin handle) birth is turns =
       about_change h handle (Unpin handle) refl (λ other far. other_back handle h far other) (unpin_change handle birth is turns) is turns
@@ -271,27 +244,15 @@ module _ (script : ScriptValue) (s : CoreState) (who : Doer) (place : Place) whe
       about_change h handle (Give handle to) refl (λ other far. refl) (give_change handle to (going (Give handle to)) birth is turns) is turns
   op_changes h (Take handle) birth is turns =
       about_change h handle (Take handle) refl (λ other far. refl) (take_change handle (going (Take handle)) birth is turns) is turns
-  op_changes h (Transfer handle outward index slot n) birth is turns =
-      about_change h handle (Transfer handle outward index slot n) refl (λ other far. refl)
-      (transfer_change handle outward index slot n (going (Transfer handle outward index slot n)) birth is turns) is turns
-  op_changes h (Fork child) birth is turns = pages_change h (Fork child) (λ far. refl) refl is turns
-  op_changes h Exit birth is turns = pages_change h Exit (λ far. refl) refl is turns
+  op_changes h (Transfer handle outward slot parts) birth is turns =
+      about_change h handle (Transfer handle outward slot parts) refl (λ other far. refl)
+      (transfer_change handle outward slot parts (going (Transfer handle outward slot parts)) birth is turns) is turns
+  op_changes h op birth is turns = pages_change h op (λ far. refl) refl is turns
 
   -- the turn of a failed process changes no pin
   failed_keeps : (h : ℕ) (op : Op) → KeepsPin h s (run s (failed_turn who.actor who.proc op).events)
-  failed_keeps h (Map page n rights) = record { handle = refl; pinned = refl }
-  failed_keeps h (Unmap page n) = record { handle = refl; pinned = refl }
-  failed_keeps h (Protect page n rights) = record { handle = refl; pinned = refl }
-  failed_keeps h (Discard page n) = record { handle = refl; pinned = refl }
-  failed_keeps h (Load page word) = record { handle = refl; pinned = refl }
-  failed_keeps h (Store page word value) = record { handle = refl; pinned = refl }
-  failed_keeps h (Pin handle page n want fast) = record { handle = refl; pinned = refl }
-  failed_keeps h (Unpin handle) = record { handle = refl; pinned = refl }
-  failed_keeps h (Give handle to) = record { handle = refl; pinned = refl }
-  failed_keeps h (Take handle) = record { handle = refl; pinned = refl }
-  failed_keeps h (Transfer handle outward index slot n) = record { handle = refl; pinned = refl }
   failed_keeps h (Fork child) = record { handle = refl; pinned = refl }
-  failed_keeps h Exit = record { handle = refl; pinned = refl }
+  failed_keeps h op = record { handle = refl; pinned = refl }
 
   -- and it answers its operation, of which nothing was given back
   failed_changes : (h : ℕ) (op : Op) → birth_for s.birth who ≡ failed → place.far ≡ 0 → place_behind place (going op).whats ≡ fresh_place (place.answered + 1) → ChangeBy h (Some op) (going op)
@@ -302,7 +263,7 @@ module _ (script : ScriptValue) (s : CoreState) (who : Doer) (place : Place) whe
       let behind : back_behind h (going op).whats ≡ 0 = ap (λ (q : Place). given_back (present_op script who.actor q) h q.far) over ∙ first_back (present_op script who.actor (fresh_place (place.answered + 1))) h in
       is_kept kept.handle kept.pinned (λ holds. behind ∙ sym before)
 
-  shape_changes : {from to : ForkPlace} {whats : List What} (h : ℕ) (op : Op) → (going op).whats ≡ whats → present_op script who.actor place ≡ Some op → IsGoing op → TurnAt (plain_of s) who place (Some op) None from whats to → ChangeBy h (Some op) (going op)
+  shape_changes : {from to : JobPlace} {whats : List What} (h : ℕ) (op : Op) → (going op).whats ≡ whats → present_op script who.actor place ≡ Some op → IsGoing op → TurnAt (plain_of s) who place (Some op) None from whats to → ChangeBy h (Some op) (going op)
   shape_changes h op same is turns (goes o whats from to birth own turn) = op_changes h op birth is turns
   shape_changes h op same is turns (unborn_refused o birth first refusal) = failed_changes h op birth first.0 (ap (place_behind place) same)
   shape_changes h op same is turns (unborn_fork child birth own first) = failed_changes h op birth first.0 (ap (place_behind place) same)

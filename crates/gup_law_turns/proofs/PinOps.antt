@@ -1,5 +1,5 @@
 -- The turns of a pin can be done, have their shapes, and lead where the next turn can go on.
-use Rattle.std.proofs.Common.{◌≡◌, ℕ, ◌+◌, ◌<◌, ◌≤◌, ◌==◌, Bool, true, false, IsTrue, List, [], ◌∷◌, ◌++◌, length, get_or, slice_get, All, Some, None, Ok, Err, ◌⊎◌, inl, inr, refl, ap, sym, subst, ◌∙◌, zero, suc, arith, length-append}
+use Rattle.std.proofs.Common.{◌≡◌, ℕ, ◌+◌, ◌<◌, ◌≤◌, ◌==◌, Bool, true, false, IsTrue, List, [], ◌∷◌, ◌++◌, length, get_or, slice_get, All, Option, Some, None, Ok, Err, ◌⊎◌, inl, inr, refl, ap, sym, subst, ◌∙◌, zero, suc, arith, length-append}
 use Rattle.std.proofs.lemmas.Bool.Decides.{nat_tests}
 use Rattle.std.proofs.lemmas.List.{length-map}
 use Rattle.std.proofs.lemmas.Option.{slice_get_within, slice_get-get_or}
@@ -22,17 +22,18 @@ use Rattle.gup_spec_events.specs.Invariant.{AllCan}
 use Rattle.gup_law_events.specs.Law.{all_told}
 use Rattle.gup_spec_journal.specs.Follows.{refuses, EndsPin}
 use Rattle.gup_spec_journal.specs.Place.{Place, Doer}
-use Rattle.gup_spec_journal.specs.Denial.{op_denial}
+use Rattle.gup_spec_journal.specs.Denial.{no_references, op_denial}
 use Rattle.gup_spec_journal.specs.Plain.{IsAnswerOf, pages_got, refusal_by_cause}
-use Rattle.gup_spec_turns.specs.ForkPlace.{unbegun}
+use Rattle.gup_spec_turns.specs.JobPlace.{unbegun}
 use Rattle.gup_spec_turns.specs.PinPlace.{HasTaken, IsTakenPage, StandsPin}
 use Rattle.gup_law_turns.specs.Standing.{StandsHandle}
-use Rattle.gup_spec_turns.specs.CoreTurn.{entry_in}
+use Rattle.gup_spec_turns.specs.CoreTurn.{free_in, zones_of, entry_in}
 use Rattle.gup_spec_turns.specs.PinTurns.{cause_of, pin_fault, pins, pins_behind, ends_pin, pin_turn_by, pin_turn_at, pin_turn}
 use Rattle.gup_spec_turns.specs.Waits.{waits_for_locks, locks_needed}
 use Rattle.gup_law_turns.proofs.CalmStates.{of_pages, of_pin, AreTurnEvents, raising, pinning, making}
-use Rattle.gup_law_turns.proofs.FaultTurns.{IsReady, Allows, MayFault, may_fault, RefusesPage, missing, forbidden, no_frame, LeadsTo, pin_leads}
+use Rattle.gup_law_turns.proofs.FaultTurns.{IsReady, Allows, MayFault, may_fault, IsFree, RefusesPage, missing, forbidden, no_frame, LeadsTo, pin_leads}
 use Rattle.gup_law_turns.proofs.KeptPages.{pages_leave}
+use Rattle.gup_law_turns.proofs.PageSearches.{free_in_free}
 use Rattle.gup_law_turns.proofs.Puts.{put_same}
 use Rattle.gup_law_turns.proofs.TurnShapes.{FitsOp, TurnOf, refused, pinned_page, pinned_all, pinned_short, AtRest, unprepared, Rests}
 use Rattle.gup_law_turns.proofs.ShownTurns.{IsOpen, MakesPin, IsTurned, shape_idle, both_free, kinds_behind, run_behind, can_behind, told_behind}
@@ -148,10 +149,10 @@ module _ (s : CoreState) (who : Doer) (place : Place) (h : IsOpen s who.actor wh
   got_here : pages_got (plain_of s) a ≡ place.far
   got_here = length-map (s.taken a) pending_of ∙ stands.taken.many
 
-  denied_here : pin_denial want.write (s.right p here) ≡ None → op_denial (plain_of s) who (pages_got (plain_of s) a) (Pin handle page n want fast) ≡ None
+  denied_here : pin_denial want.write (s.right p here) ≡ None → op_denial (plain_of s) no_references who (pages_got (plain_of s) a) (Pin handle page n want fast) ≡ None
   denied_here undenied = subst (λ (k : ℕ). pin_denial want.write (s.right p (page + k)) ≡ None) (sym got_here) undenied
 
-  answered_here : (answer : Answer) → IsAnswerOf (pin_denial want.write (s.right p here)) answer → IsAnswerOf (op_denial (plain_of s) who (pages_got (plain_of s) a) (Pin handle page n want fast)) answer
+  answered_here : (answer : Answer) → IsAnswerOf (pin_denial want.write (s.right p here)) answer → IsAnswerOf (op_denial (plain_of s) no_references who (pages_got (plain_of s) a) (Pin handle page n want fast)) answer
   answered_here answer right = subst (λ (k : ℕ). IsAnswerOf (pin_denial want.write (s.right p (page + k))) answer) (sym got_here) right
 
   -- After these events the page is pinned.
@@ -356,9 +357,16 @@ module _ (s : CoreState) (who : Doer) (place : Place) (h : IsOpen s who.actor wh
   later_by got (Ok es) later to =
       pins_here es (ready_later got es later to.1 to.2) (suc got + 1 == n) (ap (λ (k : ℕ). k + 1 == n) later) to.0
 
-  pin_by : (far : ℕ) → place.far ≡ far → waits_for_locks (locks_needed s a p (Pin handle page n want fast)) a (s.structure p) (s.table p) ≡ None → IsTurned s who place (Pin handle page n want fast) (pin_turn_by (pin_fault s a p here want.write) s a p handle here n far want)
-  pin_by zero is free = first_by (pin_fault s a p here want.write) is (pin_leads raised a p raised_may (both_free s a p h.sound job free) here want.write)
-  pin_by (suc got) is free = later_by got (pin_fault s a p here want.write) is (pin_leads s a p (may_fault s a p h job) (both_free s a p h.sound job free) here want.write)
+  -- the free frame that its turn takes, of the zones that the pin may have
+  abbrev frame : Option ℕ
+  frame = free_in s (zones_of want)
+
+  is_free : IsFree s frame
+  is_free = free_in_free s (zones_of want)
+
+  pin_by : (far : ℕ) → place.far ≡ far → waits_for_locks (locks_needed s a p (Pin handle page n want fast)) a (s.structure p) (s.table p) ≡ None → IsTurned s who place (Pin handle page n want fast) (pin_turn_by (pin_fault s a p here want.write frame) s a p handle here n far want)
+  pin_by zero is free = first_by (pin_fault s a p here want.write frame) is (pin_leads raised a p raised_may (both_free s a p h.sound job free) here frame is_free want.write)
+  pin_by (suc got) is free = later_by got (pin_fault s a p here want.write frame) is (pin_leads s a p (may_fault s a p h job) (both_free s a p h.sound job free) here frame is_free want.write)
 
 pub pin_turned : (s : CoreState) (who : Doer) (place : Place) → IsOpen s who.actor who.proc → (handle page n : ℕ) (want : Want) (fast : Bool) → IsOp (Pin handle page n want fast) → FitsOp s who (Pin handle page n want fast) place → waits_for_locks (locks_needed s who.actor who.proc (Pin handle page n want fast)) who.actor (s.structure who.proc) (s.table who.proc) ≡ None → IsTurned s who place (Pin handle page n want fast) (pin_turn s who.actor who.proc handle page n want)
 pin_turned s who place h handle page n want fast range fits free =

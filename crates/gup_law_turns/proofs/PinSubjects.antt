@@ -2,11 +2,11 @@
 use Rattle.std.proofs.Common.{◌≡◌, ℕ, ◌+◌, ◌<◌, Bool, true, false, List, length, Option, Some, None, ◌⊎◌, inl, inr, refl, ap, ◌∙◌, subst, eqb-true, arith}
 use Rattle.gup_plain.specs.Denial.{is_held_by, transfer_denial_by}
 use Rattle.gup_plain.specs.Event.{IsHeldBy}
-use Rattle.gup_plain.specs.State.{Handle, unmade, held, given, gone, objects_of}
+use Rattle.gup_plain.specs.State.{Handle, held, objects_of}
 use Rattle.gup_script.specs.Script.{ScriptValue, actor_at}
 use Rattle.gup_script.specs.Valid.{IsScript, AreDeclared, PinsAt}
 use Rattle.gup_script.specs.declared.op.Op.{Op}
-use Rattle.gup_script.specs.declared.op.Op.TheVariants.{Map, Unmap, Protect, Discard, Load, Store, Pin, Unpin, Give, Take, Transfer, Fork, Exit}
+use Rattle.gup_script.specs.declared.op.Op.TheVariants.{Pin, Unpin, Give, Take, Transfer}
 use Rattle.gup_spec_journal.specs.Place.{present_op}
 use Rattle.gup_law_turns.specs.Standing.{StandsHandle}
 use Rattle.gup_law_turns.proofs.ScriptLemmas.{ops_at}
@@ -18,20 +18,8 @@ use Rattle.gup_law_turns.proofs.TurnShapes.{strand_of}
 
 -- an operation that makes a pin is the actor's present one
 pub pins_here : (script : ScriptValue) (a k : ℕ) (op : Option Op) → present_op script a (fresh_place k) ≡ op → (h : ℕ) → strand_of op ≡ of_pin h → PinsAt script a k h
-pins_here script a k None is h e = absurd (cc e)
-pins_here script a k (Some (Map page n rights)) is h e = absurd (cc e)
-pins_here script a k (Some (Unmap page n)) is h e = absurd (cc e)
-pins_here script a k (Some (Protect page n rights)) is h e = absurd (cc e)
-pins_here script a k (Some (Discard page n)) is h e = absurd (cc e)
-pins_here script a k (Some (Load page word)) is h e = absurd (cc e)
-pins_here script a k (Some (Store page word value)) is h e = absurd (cc e)
 pins_here script a k (Some (Pin handle page n want fast)) is h e = subst (PinsAt script a k) (same_pin e) (page, n, want, fast, is)
-pins_here script a k (Some (Unpin handle)) is h e = absurd (cc e)
-pins_here script a k (Some (Give handle to)) is h e = absurd (cc e)
-pins_here script a k (Some (Take handle)) is h e = absurd (cc e)
-pins_here script a k (Some (Transfer handle outward index slot n)) is h e = absurd (cc e)
-pins_here script a k (Some (Fork child)) is h e = absurd (cc e)
-pins_here script a k (Some Exit) is h e = absurd (cc e)
+pins_here script a k op is h e = absurd (cc e)
 
 -- whether an operation is about this handle
 abbrev pub IsAbout : Strand → (h : ℕ) → Type 0
@@ -52,19 +40,12 @@ about_or_not (of_handle k) h =
 
 -- that is declared
 about_declared : (script : ScriptValue) (op : Op) (h : ℕ) → AreDeclared script op → IsAbout (strand_of (Some op)) h → h < length script.handles
-about_declared script (Map page n rights) h there about = absurd (elim about [ inl e ↦ cc e | inr e ↦ cc e ])
-about_declared script (Unmap page n) h there about = absurd (elim about [ inl e ↦ cc e | inr e ↦ cc e ])
-about_declared script (Protect page n rights) h there about = absurd (elim about [ inl e ↦ cc e | inr e ↦ cc e ])
-about_declared script (Discard page n) h there about = absurd (elim about [ inl e ↦ cc e | inr e ↦ cc e ])
-about_declared script (Load page word) h there about = absurd (elim about [ inl e ↦ cc e | inr e ↦ cc e ])
-about_declared script (Store page word value) h there about = absurd (elim about [ inl e ↦ cc e | inr e ↦ cc e ])
 about_declared script (Pin handle page n want fast) h there about = elim about [ inl e ↦ subst (λ (k : ℕ). k < length script.handles) (same_pin e) there | inr e ↦ absurd (cc e) ]
 about_declared script (Unpin handle) h there about = elim about [ inl e ↦ absurd (cc e) | inr e ↦ subst (λ (k : ℕ). k < length script.handles) (same_handle e) there ]
 about_declared script (Give handle to) h there about = elim about [ inl e ↦ absurd (cc e) | inr e ↦ subst (λ (k : ℕ). k < length script.handles) (same_handle e) there.0 ]
 about_declared script (Take handle) h there about = elim about [ inl e ↦ absurd (cc e) | inr e ↦ subst (λ (k : ℕ). k < length script.handles) (same_handle e) there ]
-about_declared script (Transfer handle outward index slot n) h there about = elim about [ inl e ↦ absurd (cc e) | inr e ↦ subst (λ (k : ℕ). k < length script.handles) (same_handle e) there ]
-about_declared script (Fork child) h there about = absurd (elim about [ inl e ↦ cc e | inr e ↦ cc e ])
-about_declared script Exit h there about = absurd (elim about [ inl e ↦ cc e | inr e ↦ cc e ])
+about_declared script (Transfer handle outward slot parts) h there about = elim about [ inl e ↦ absurd (cc e) | inr e ↦ subst (λ (k : ℕ). k < length script.handles) (same_handle e) there ]
+about_declared script op h there about = absurd (elim about [ inl e ↦ cc e | inr e ↦ cc e ])
 
 pub handle_declared : (script : ScriptValue) → IsScript script → (a k : ℕ) (op : Option Op) → present_op script a (fresh_place k) ≡ op → (h : ℕ) → IsAbout (strand_of op) h → h < length script.handles
 handle_declared script valid a k None is h about = absurd (elim about [ inl e ↦ cc e | inr e ↦ cc e ])
@@ -74,9 +55,7 @@ handle_declared script valid a k (Some op) is h about =
 -- whoever is found to hold a handle holds it
 pub is_holder : (h : Handle) (a : ℕ) → is_held_by h a ≡ true → IsHeldBy h a
 is_holder (held by objects write) a is = eqb-true by a is
-is_holder (given to objects write) a is = absurd (cc is)
-is_holder unmade a is = absurd (cc is)
-is_holder gone a is = absurd (cc is)
+is_holder h a is = absurd (cc is)
 
 -- an actor that has given back nothing of a handle that it holds finds all its pages
 pub all_left : (backs : ℕ → ℕ) (pinned : List ℕ) (h : Handle) (a : ℕ) → StandsHandle backs pinned h → backs a ≡ 0 → is_held_by h a ≡ true → (0 < length pinned) × (length pinned + 0 ≡ length (objects_of h))
@@ -84,9 +63,7 @@ all_left backs pinned (held by objects write) a stands none is =
     let back : backs by ≡ 0 = ap backs (eqb-true by a is) ∙ none in
     let all = stands.2 in
     (stands.0, omega (arith, back, all))
-all_left backs pinned (given to objects write) a stands none is = absurd (cc is)
-all_left backs pinned unmade a stands none is = absurd (cc is)
-all_left backs pinned gone a stands none is = absurd (cc is)
+all_left backs pinned h a stands none is = absurd (cc is)
 
 -- a transfer that isn't denied is one of its holder
 pub transfer_held : (holds outward may fits : Bool) → transfer_denial_by holds outward may fits ≡ None → holds ≡ true

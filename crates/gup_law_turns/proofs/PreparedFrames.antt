@@ -5,11 +5,11 @@ use Rattle.std.proofs.lemmas.List.Sums.{sum_by-cons}
 use Rattle.gup_base.specs.declared.entry.Entry.{Entry}
 use Rattle.gup_spec_events.specs.State.{CoreState}
 use Rattle.gup_spec_events.specs.Event.{CoreEvent, Can, happens, run}
-use Rattle.gup_spec_events.specs.Invariant.{AllCan, Holder, entry_of_page, cleared_by, prepared_by, owed_by, got_as, page_of_pin, page_taken, grabbed_by, frame_of, weight}
+use Rattle.gup_spec_events.specs.Invariant.{AllCan, Holder, entry_of_page, prepared_by, page_of_pin, frame_of, weight}
 use Rattle.gup_law_base.specs.Sound.{IsSound}
 use Rattle.gup_law_base.specs.Sound as sounds
-use Rattle.gup_spec_turns.specs.ForkPlace.{IsPrepared}
-use Rattle.gup_law_turns.proofs.CalmStates.{Strand, AreTurnEvents, IsTurnEvent, taking, filling, counting_one, marking_it, upgrading, breaking, putting, mapping, lowering, protecting, dropping, discarding, loading, storing, raising, pinning, making, handling, unpinning, giving, taking_over, moving_out, moving_in, beginning, counting, sharing_entry, sharing_mark, sharing_child, passing, ending, copying_word, placing, failing_at, putting_child, failing_unborn}
+use Rattle.gup_spec_turns.specs.JobPlace.{IsPrepared}
+use Rattle.gup_law_turns.proofs.CalmStates.{Strand, AreTurnEvents, IsTurnEvent, taking, filling, breaking, handling, giving, placing}
 use Rattle.gup_law_turns.proofs.Puts.{some_same}
 
 -- frames that actors have prepared are of the machine
@@ -36,38 +36,10 @@ module _ (s : CoreState) (a p c : ℕ) (strand : Strand) (h : ArePreparedThere s
   there_event : {e : CoreEvent} → IsTurnEvent a p c strand e → Can s e → ArePreparedThere (happens s e)
   there_event (taking f) can = λ b g is. there_with f b g can.2 is
   there_event (filling page f) can = λ b g is. there_without b g is
-  there_event (counting_one page f writable) can = h
-  there_event (marking_it page f) can = h
-  there_event (upgrading page f) can = h
   there_event (breaking page old new was writable) can = λ b g is. there_without b g is
-  there_event (putting f) can = h
-  there_event (mapping page n rights) can = h
-  there_event (lowering page f) can = h
-  there_event (protecting page n rights) can = h
-  there_event (dropping page was) can = h
-  there_event (discarding page was) can = h
-  there_event (loading page word f value) can = h
-  there_event (storing page word f value) can = h
-  there_event (raising handle is) can = h
-  there_event (pinning handle is page e write long) can = h
-  there_event (making handle is) can = h
-  there_event (handling handle is (unpinning f left)) can = h
   there_event (handling handle is (giving to)) can = h
-  there_event (handling handle is taking_over) can = h
-  there_event (handling handle is (moving_out index slot f value)) can = h
-  there_event (handling handle is (moving_in index slot f value)) can = h
-  there_event beginning can = h
-  there_event (counting done page e copies) can = h
-  there_event (sharing_entry done page f writable) can = h
-  there_event (sharing_mark done page f writable) can = h
-  there_event (sharing_child done page f writable) can = h
-  there_event (passing done page) can = h
-  there_event (ending done) can = h
-  there_event (copying_word done page word to e) can = h
   there_event (placing done page to rights) can = λ b g is. there_without b g is
-  there_event (failing_at done step ends) can = h
-  there_event (putting_child done page e ends) can = h
-  there_event failing_unborn can = h
+  there_event event can = h
 
 -- events of a turn keep it
 pub there_on : (s : CoreState) (a p c : ℕ) (strand : Strand) (es : List CoreEvent) → AreTurnEvents a p c strand es → AllCan s es → ArePreparedThere s → ArePreparedThere (run s es)
@@ -78,14 +50,8 @@ there_on s a p c strand (e ∷ es) kinds can h =
 -- the only holder of a frame of one reference
 
 holds_some : (x : Holder) → 1 ≤ weight x
-holds_some (entry_of_page p page) = omega arith
-holds_some (cleared_by a) = omega arith
-holds_some (prepared_by a) = omega arith
-holds_some (owed_by a) = omega arith
-holds_some (got_as k) = omega arith
 holds_some (page_of_pin h k) = omega arith
-holds_some (page_taken a k) = omega arith
-holds_some (grabbed_by a) = omega arith
+holds_some x = omega arith
 
 weigh_least : (xs : List Holder) → length xs ≤ sum_by weight xs
 weigh_least [] = omega arith

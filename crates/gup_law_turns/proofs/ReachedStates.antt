@@ -5,23 +5,23 @@ use Rattle.std.proofs.lemmas.Option.{slice_get_within}
 use Rattle.gup_base.specs.declared.entry.Entry.{Entry}
 use Rattle.gup_base.specs.declared.entry.Rights.{Rights}
 use Rattle.gup_base.specs.declared.entry.Want.{Want}
-use Rattle.gup_plain.specs.State.{PlainState, unborn, failed, Handle, unmade, held, given, gone, objects_of}
+use Rattle.gup_plain.specs.State.{PlainState, unborn, failed, Handle, unmade, held, given, objects_of}
 use Rattle.gup_plain.specs.Event.{most_pages}
 use Rattle.gup_plain.specs.declared.note.What.{What}
 use Rattle.gup_plain.specs.declared.note.Waiting.{Waiting}
 use Rattle.gup_script.specs.declared.op.Op.{Op}
-use Rattle.gup_script.specs.declared.op.Op.TheVariants.{Map, Unmap, Protect, Discard, Load, Store, Pin, Unpin, Give, Take, Transfer, Fork, Exit}
+use Rattle.gup_script.specs.declared.op.Op.TheVariants.{Unmap, Discard, Pin, Unpin, Transfer, Fork, Exit}
 use Rattle.gup_script.specs.Script.{ScriptValue}
 use Rattle.gup_script.specs.Valid.{IsScript, IsOp}
-use Rattle.gup_spec_events.specs.State.{CoreState, Taken, Job, idle, marking, moving, forking, walking, between, counted, lowered, cleared, copying, failing}
+use Rattle.gup_spec_events.specs.State.{CoreState, Taken, Job, idle, forking, between, counted, copying}
 use Rattle.gup_spec_events.specs.Event.{bias}
 use Rattle.gup_spec_events.specs.Invariant.{Holds, entry_of_page, page_of_pin, weight, frame_of}
 use Rattle.gup_law_base.specs.Sound.{IsSound}
 use Rattle.gup_law_base.specs.Sound as sounds
 use Rattle.gup_spec_journal.specs.Place.{Place, Doer, doer, place_behind, ops_of, present_op, process_of}
-use Rattle.gup_spec_turns.specs.Pages.{mapped_pages}
+use Rattle.gup_plain.specs.Pages.{mapped_pages}
 use Rattle.gup_spec_turns.specs.PinPlace.{HasTaken, IsNoPin}
-use Rattle.gup_spec_turns.specs.ForkPlace.{ForkPlace, StandsFork, IsNoFork}
+use Rattle.gup_spec_turns.specs.JobPlace.{JobPlace, StandsFork, IsNoFork}
 use Rattle.gup_law_turns.specs.Standing.{StandsHandle, back_in, IsStanding}
 use Rattle.gup_spec_turns.specs.Run.{turned, RunState, run_start, run_after, op_in, core_turn_in}
 use Rattle.gup_law_turns.proofs.ScriptLemmas.{op_is_op, has_ops_declared}
@@ -81,88 +81,40 @@ fork_stands : (s : CoreState) (a p child : ℕ) (place : Place) (job : Job) (pre
 fork_stands s a p child place idle prepared fits = (fits.1, (refl, refl))
 fork_stands s a p child place (forking q c done between) prepared fits = (fits.1, (refl, refl))
 fork_stands s a p child place (forking q c done (counted page)) prepared fits = (fits.1, (refl, refl))
-fork_stands s a p child place (forking q c done (lowered page)) prepared fits = absurd fits.1
-fork_stands s a p child place (forking q c done (cleared page)) prepared fits = absurd fits.1
 fork_stands s a p child place (forking q c done (copying page n)) prepared fits = (fits.1, (refl, refl))
-fork_stands s a p child place (forking q c done failing) prepared fits = absurd fits.1
-fork_stands s a p child place (marking q page f) prepared fits = absurd fits
-fork_stands s a p child place (moving q page e allowed count) prepared fits = absurd fits
-fork_stands s a p child place (walking q write long sequence step) prepared fits = absurd fits
+fork_stands s a p child place (forking q c done step) prepared fits = absurd fits.1
+fork_stands s a p child place job prepared fits = absurd fits
 
 idle_stands : (job : Job) → job ≡ idle → HoldsNoFrame job
 idle_stands job is = rw is (refl, refl)
 
 no_frame : (s : CoreState) (who : Doer) (op : Option Op) (place : Place) → FitsAt s who op place → HoldsNoFrame (s.job who.actor)
-no_frame s who None place fits = idle_stands (s.job who.actor) fits.0.0
-no_frame s who (Some (Map page n rights)) place fits = idle_stands (s.job who.actor) fits.0.0
-no_frame s who (Some (Unmap page n)) place fits = idle_stands (s.job who.actor) fits.0.0
-no_frame s who (Some (Protect page n rights)) place fits = idle_stands (s.job who.actor) fits.0.0
-no_frame s who (Some (Discard page n)) place fits = idle_stands (s.job who.actor) fits.0.0
-no_frame s who (Some (Load page word)) place fits = idle_stands (s.job who.actor) fits.0.0
-no_frame s who (Some (Store page word value)) place fits = idle_stands (s.job who.actor) fits.0.0
 no_frame s who (Some (Pin handle page n want fast)) place fits = idle_stands (s.job who.actor) fits.0
-no_frame s who (Some (Unpin handle)) place fits = idle_stands (s.job who.actor) fits.0.0
-no_frame s who (Some (Give handle to)) place fits = idle_stands (s.job who.actor) fits.0.0
-no_frame s who (Some (Take handle)) place fits = idle_stands (s.job who.actor) fits.0.0
-no_frame s who (Some (Transfer handle outward index slot n)) place fits = idle_stands (s.job who.actor) fits.0.0
 no_frame s who (Some (Fork child)) place fits = (fork_stands s who.actor who.proc child place (s.job who.actor) (s.prepared who.actor) fits.1).1
 no_frame s who (Some Exit) place fits = idle_stands (s.job who.actor) fits.0
+no_frame s who op place fits = idle_stands (s.job who.actor) fits.0.0
 
 idle_job : (s : CoreState) (who : Doer) (op : Option Op) (place : Place) → IsNoFork op → FitsAt s who op place → s.job who.actor ≡ idle
-idle_job s who None place no_fork fits = fits.0.0
-idle_job s who (Some (Map page n rights)) place no_fork fits = fits.0.0
-idle_job s who (Some (Unmap page n)) place no_fork fits = fits.0.0
-idle_job s who (Some (Protect page n rights)) place no_fork fits = fits.0.0
-idle_job s who (Some (Discard page n)) place no_fork fits = fits.0.0
-idle_job s who (Some (Load page word)) place no_fork fits = fits.0.0
-idle_job s who (Some (Store page word value)) place no_fork fits = fits.0.0
 idle_job s who (Some (Pin handle page n want fast)) place no_fork fits = fits.0
-idle_job s who (Some (Unpin handle)) place no_fork fits = fits.0.0
-idle_job s who (Some (Give handle to)) place no_fork fits = fits.0.0
-idle_job s who (Some (Take handle)) place no_fork fits = fits.0.0
-idle_job s who (Some (Transfer handle outward index slot n)) place no_fork fits = fits.0.0
 idle_job s who (Some (Fork child)) place no_fork fits = absurd no_fork
 idle_job s who (Some Exit) place no_fork fits = fits.0
+idle_job s who op place no_fork fits = fits.0.0
 
 -- pins
 
 untaken : (s : CoreState) (who : Doer) (op : Option Op) (place : Place) → IsNoPin op → FitsAt s who op place → s.taken who.actor ≡ []
-untaken s who None place no_pin fits = fits.0.1
-untaken s who (Some (Map page n rights)) place no_pin fits = fits.0.1
-untaken s who (Some (Unmap page n)) place no_pin fits = fits.0.1
-untaken s who (Some (Protect page n rights)) place no_pin fits = fits.0.1
-untaken s who (Some (Discard page n)) place no_pin fits = fits.0.1
-untaken s who (Some (Load page word)) place no_pin fits = fits.0.1
-untaken s who (Some (Store page word value)) place no_pin fits = fits.0.1
 untaken s who (Some (Pin handle page n want fast)) place no_pin fits = absurd no_pin
-untaken s who (Some (Unpin handle)) place no_pin fits = fits.0.1
-untaken s who (Some (Give handle to)) place no_pin fits = fits.0.1
-untaken s who (Some (Take handle)) place no_pin fits = fits.0.1
-untaken s who (Some (Transfer handle outward index slot n)) place no_pin fits = fits.0.1
 untaken s who (Some (Fork child)) place no_pin fits = fits.0
 untaken s who (Some Exit) place no_pin fits = fits.1
+untaken s who op place no_pin fits = fits.0.1
 
 -- an operation whose actor may have taken pages is a pin
 no_pin_or_pin : (op : Option Op) → IsNoPin op ⊎ ((handle page n : ℕ) × (want : Want) × (fast : Bool) × (op ≡ Some (Pin handle page n want fast)))
-no_pin_or_pin None = inl tt
-no_pin_or_pin (Some (Map page n rights)) = inl tt
-no_pin_or_pin (Some (Unmap page n)) = inl tt
-no_pin_or_pin (Some (Protect page n rights)) = inl tt
-no_pin_or_pin (Some (Discard page n)) = inl tt
-no_pin_or_pin (Some (Load page word)) = inl tt
-no_pin_or_pin (Some (Store page word value)) = inl tt
 no_pin_or_pin (Some (Pin handle page n want fast)) = inr (handle, page, n, want, fast, refl)
-no_pin_or_pin (Some (Unpin handle)) = inl tt
-no_pin_or_pin (Some (Give handle to)) = inl tt
-no_pin_or_pin (Some (Take handle)) = inl tt
-no_pin_or_pin (Some (Transfer handle outward index slot n)) = inl tt
-no_pin_or_pin (Some (Fork child)) = inl tt
-no_pin_or_pin (Some Exit) = inl tt
+no_pin_or_pin op = inl tt
 
 -- the page of a pin that is made is one of 16
 few_made : (backs : ℕ → ℕ) (pinned : List ℕ) (h : Handle) (k f : ℕ) → StandsHandle backs pinned h → slice_get pinned k ≡ Some f → (h ≡ unmade → ⊥) × (k < 16)
-few_made backs pinned unmade k f stands there = absurd (let none : slice_get pinned k ≡ None = ap (λ (xs : List ℕ). slice_get xs k) stands in cc)
-few_made backs pinned gone k f stands there = absurd (let none : slice_get pinned k ≡ None = ap (λ (xs : List ℕ). slice_get xs k) stands in cc)
 few_made backs pinned (held by objects write) k f stands there =
     let within = slice_get_within pinned k f there in
     let most = stands.1 in
@@ -173,6 +125,7 @@ few_made backs pinned (given to objects write) k f stands there =
     let most = stands.1 in
     let all = stands.2 in
     ((λ e. cc e), omega (arith, within, most, all))
+few_made backs pinned h k f stands there = absurd (let none : slice_get pinned k ≡ None = ap (λ (xs : List ℕ). slice_get xs k) stands in cc)
 
 few_pins : (script : ScriptValue) → IsScript script → (r : RunState) → Stands script r → ArePinsFew r.core
 few_pins script valid r h =
@@ -237,9 +190,7 @@ unpin_short back pinned (held by objects write) a (suc far) stands holds left =
     let has = left (holds (omega arith)) in
     let few = stands.1 in
     omega (arith, has.0, has.1, few)
-unpin_short back pinned (given to objects write) a (suc far) stands holds left = absurd (let is = holds (omega arith) in cc is)
-unpin_short back pinned unmade a (suc far) stands holds left = absurd (let is = holds (omega arith) in cc is)
-unpin_short back pinned gone a (suc far) stands holds left = absurd (let is = holds (omega arith) in cc is)
+unpin_short back pinned x a (suc far) stands holds left = absurd (let is = holds (omega arith) in cc is)
 
 pub is_standing : Published → (script : ScriptValue) → IsScript script → (r : RunState) → IsReached script r → IsStanding script r
 is_standing published script valid r h =
@@ -272,11 +223,11 @@ is_standing published script valid r h =
       ungot = k.calm.no_gets;
       unmaps = λ a page n is. (at a (Unmap page n) is).1;
       discards = λ a page n is. (at a (Discard page n) is).1;
-      transfers = λ a handle outward index slot n is. (at a (Transfer handle outward index slot n) is).2;
+      transfers = λ a handle outward slot parts is. (at a (Transfer handle outward slot parts) is).2;
       answered = h.answered;
     }
 
-answered_on : (script : ScriptValue) (t : CoreState) {s : PlainState} {who : Doer} {place : Place} {op : Option Op} {waiting : Option Waiting} {whats : List What} {from to : ForkPlace} → TurnAt s who place op waiting from whats to → present_op script who.actor place ≡ op → HasAnswered script who.actor place → HasAnswered script who.actor (place_behind place whats)
+answered_on : (script : ScriptValue) (t : CoreState) {s : PlainState} {who : Doer} {place : Place} {op : Option Op} {waiting : Option Waiting} {whats : List What} {from to : JobPlace} → TurnAt s who place op waiting from whats to → present_op script who.actor place ≡ op → HasAnswered script who.actor place → HasAnswered script who.actor (place_behind place whats)
 answered_on script t (idles waiting at) is within = within
 answered_on script t (waits op waiting at) is within = within
 answered_on script t {who = who} {place = place} (goes op whats from to birth own turn) is within =

@@ -1,11 +1,12 @@
 -- Where an actor stands before an operation.
 use Rattle.std.proofs.Common.{◌≡◌, ℕ, ◌≤◌, false, [], Bool, Option, Some, None, slice_get, refl, ap, arith}
+use Rattle.gup_base.specs.Parts.{words_of}
 use Rattle.gup_base.specs.declared.entry.Want.{Want}
 use Rattle.gup_plain.specs.State.{unborn, unmade}
 use Rattle.gup_script.specs.Script.{ScriptValue}
 use Rattle.gup_script.specs.Valid.{IsScript, IsOp, ForksAt, PinsAt}
 use Rattle.gup_script.specs.declared.op.Op.{Op}
-use Rattle.gup_script.specs.declared.op.Op.TheVariants.{Map, Unmap, Protect, Discard, Load, Store, Pin, Unpin, Give, Take, Transfer, Fork, Exit}
+use Rattle.gup_script.specs.declared.op.Op.TheVariants.{Unmap, Discard, Pin, Unpin, Transfer, Fork, Exit}
 use Rattle.gup_spec_events.specs.State.{CoreState}
 use Rattle.gup_spec_journal.specs.Place.{Place, Doer, ops_of}
 use Rattle.gup_spec_turns.specs.PinPlace.{HasTaken}
@@ -23,11 +24,7 @@ none_taken p page want = record { many = refl; each = λ k t is. absurd (cc is) 
 -- It stands where that can, if it is in the middle of nothing, a fork's child is unborn, a pin's handle is unmade, and the
 -- handles that it holds have all their pages.
 fresh_op : (t : CoreState) (who : Doer) (k : ℕ) (op : Op) → Rests t who.actor → IsOp op → ((child : ℕ) → op ≡ Fork child → t.birth child ≡ unborn) → ((h page n : ℕ) (want : Want) (fast : Bool) → op ≡ Pin h page n want fast → t.handle h ≡ unmade) → ((h : ℕ) → HasLeft t who.actor h 0) → FitsOp t who op (fresh_place k)
-fresh_op t who k (Map page n rights) rests range births yet left = (rests, (refl, refl))
 fresh_op t who k (Unmap page n) rests range births yet left = (rests, (let some : 1 ≤ n = range.0 in omega arith))
-fresh_op t who k (Load page word) rests range births yet left = (rests, (refl, refl))
-fresh_op t who k (Store page word value) rests range births yet left = (rests, (refl, refl))
-fresh_op t who k (Protect page n rights) rests range births yet left = (rests, (refl, refl))
 fresh_op t who k (Discard page n) rests range births yet left = (rests, (let some : 1 ≤ n = range.0 in omega arith))
 fresh_op t who k (Pin handle page n want fast) rests range births yet left = (
   rests.0,
@@ -39,12 +36,11 @@ fresh_op t who k (Pin handle page n want fast) rests range births yet left = (
   },
 )
 fresh_op t who k (Unpin handle) rests range births yet left = (rests, refl, (λ far. absurd (omega arith)), left handle)
-fresh_op t who k (Give handle to) rests range births yet left = (rests, (refl, refl))
-fresh_op t who k (Take handle) rests range births yet left = (rests, (refl, refl))
-fresh_op t who k (Transfer handle outward index slot n) rests range births yet left =
-    (rests, ((λ far. refl), (λ far. absurd (omega arith))), (let some : 1 ≤ n = range.0 in omega arith), (λ far. absurd (omega arith)), left handle)
+fresh_op t who k (Transfer handle outward slot parts) rests range births yet left =
+    (rests, ((λ far. refl), (λ far. absurd (omega arith))), (let some : 1 ≤ words_of parts = range.0.1 in omega arith), (λ far. absurd (omega arith)), left handle)
 fresh_op t who k (Fork child) rests range births yet left = (rests.1, rw rests.0 ((refl, refl), births child refl))
 fresh_op t who k Exit rests range births yet left = rests
+fresh_op t who k op rests range births yet left = (rests, (refl, refl))
 
 fresh_at : (script : ScriptValue) → IsScript script → (t : CoreState) (who : Doer) (a k : ℕ) (op : Option Op) → slice_get (ops_of script a) k ≡ op → Rests t who.actor → ((child : ℕ) → op ≡ Some (Fork child) → t.birth child ≡ unborn) → ((h page n : ℕ) (want : Want) (fast : Bool) → op ≡ Some (Pin h page n want fast) → t.handle h ≡ unmade) → ((h : ℕ) → HasLeft t who.actor h 0) → FitsAt t who op (fresh_place k)
 fresh_at script valid t who a k None there rests births yet left = (rests, (refl, refl))

@@ -2,10 +2,10 @@
 use Rattle.std.proofs.Common.{◌≡◌, ℕ, ◌+◌, ◌<◌, ◌⊎◌, length, ◌==◌, if◌then◌else◌, eqb-true, Bool, true, false, List, [], ◌∷◌, ◌++◌, Option, Some, None, refl, ap, sym, subst, inl, inr}
 use Rattle.gup_plain.specs.Denial.{is_held_by}
 use Rattle.gup_plain.specs.Event.{IsHeldBy, IsGivenTo, given_to, held_by}
-use Rattle.gup_plain.specs.State.{born, gone, Birth, unborn, growing, failed}
+use Rattle.gup_plain.specs.State.{born, gone, Birth, failed}
 use Rattle.gup_plain.specs.declared.event.PlainEvent.{PlainEvent}
 use Rattle.gup_plain.specs.declared.note.What.{What}
-use Rattle.gup_plain.specs.declared.note.What.TheVariants.{Silent, Idle, Wait, Event, Done}
+use Rattle.gup_plain.specs.declared.note.What.TheVariants.{Done}
 use Rattle.gup_plain.specs.declared.note.Waiting.{Waiting}
 use Rattle.gup_plain.specs.declared.note.Waiting.TheVariants as waitings
 use Rattle.gup_script.specs.declared.op.Op.{Op}
@@ -16,7 +16,7 @@ use Rattle.gup_spec_events.specs.Invariant.{AllCan}
 use Rattle.gup_law_base.specs.Sound.{IsSound, keeps_table, keeps_structure}
 use Rattle.gup_law_events.specs.Law.{with_told, all_told}
 use Rattle.gup_spec_journal.specs.Place.{Place, Doer, place_after}
-use Rattle.gup_spec_turns.specs.ForkPlace.{ForkPlace, fork_place, place_in, unbegun}
+use Rattle.gup_spec_turns.specs.JobPlace.{JobPlace, job_place, place_in, unbegun}
 use Rattle.gup_law_turns.specs.Standing.{StandsHandle}
 use Rattle.gup_spec_turns.specs.CoreTurn.{CoreTurn}
 use Rattle.gup_spec_turns.specs.Waits.{held_by_other, waits_for_locks, first_waiting, both_locks}
@@ -42,10 +42,7 @@ pub record IsQuiet (s : CoreState) (a : ℕ) : Type 0 where
 abbrev pub FitsNext : CoreState → Doer → Option Op → Place → List What → Type 0
 FitsNext t who op place [] = FitsAt t who op place
 FitsNext t who op place (Done answer ∷ whats) = Rests t who.actor
-FitsNext t who op place (Event e ∷ whats) = FitsNext t who op (place_after place (Event e)) whats
-FitsNext t who op place (Silent ∷ whats) = FitsNext t who op (place_after place Silent) whats
-FitsNext t who op place (Idle ∷ whats) = FitsNext t who op place whats
-FitsNext t who op place (Wait waiting ∷ whats) = FitsNext t who op place whats
+FitsNext t who op place (what ∷ whats) = FitsNext t who op (place_after place what) whats
 
 -- What a turn makes of the pin that its operation names. A pin makes it with all its pages, or leaves it unmade; an unpin
 -- gives back one page, with the last of which it is gone; a give and a take leave its pages.
@@ -65,7 +62,7 @@ MakesPin s t a (Give handle to) =
 MakesPin s t a (Take handle) =
     (t.pinned handle ≡ s.pinned handle) × IsGivenTo (s.handle handle) a
     × (t.handle handle ≡ held_by (s.handle handle) a)
-MakesPin s t a (Transfer handle outward index slot n) = (t.handle ≡ s.handle) × (t.pinned ≡ s.pinned)
+MakesPin s t a (Transfer handle outward slot parts) = (t.handle ≡ s.handle) × (t.pinned ≡ s.pinned)
 MakesPin s t a op = Unit {0}
 
 -- the turn can be done, it has its shape, and the actor stands right after it
@@ -77,13 +74,13 @@ pub record IsTurned (s : CoreState) (who : Doer) (place : Place) (op : Op) (turn
 
 -- an actor that is in the middle of nothing has begun no fork
 pub idle_place : (s : CoreState) (a : ℕ) → s.job a ≡ idle → place_in s a ≡ unbegun
-idle_place s a job = ap (λ (j : Job). fork_place j (s.prepared a)) job
+idle_place s a job = ap (λ (j : Job). job_place j (s.prepared a)) job
 
 -- where the actor is in the middle of nothing before and after, the turn is none of a fork that has begun
 pub shape_idle : (s t : CoreState) (who : Doer) (place : Place) (op : Op) (whats : List What) → s.job who.actor ≡ idle → t.job who.actor ≡ idle → TurnOf (plain_of s) who place op unbegun whats unbegun → TurnOf (plain_of s) who place op (place_in s who.actor) whats (place_in t who.actor)
 shape_idle s t who place op whats before behind shape =
-    subst (λ (from : ForkPlace). TurnOf (plain_of s) who place op from whats (place_in t who.actor)) (sym (idle_place s who.actor before))
-    (subst (λ (to : ForkPlace). TurnOf (plain_of s) who place op unbegun whats to) (sym (idle_place t who.actor behind)) shape)
+    subst (λ (from : JobPlace). TurnOf (plain_of s) who place op from whats (place_in t who.actor)) (sym (idle_place s who.actor before))
+    (subst (λ (to : JobPlace). TurnOf (plain_of s) who place op unbegun whats to) (sym (idle_place t who.actor behind)) shape)
 
 -- locks
 
@@ -139,7 +136,6 @@ told_behind (e ∷ before) es none = go (told e) refl none (told_behind before e
 
 -- an actor goes on only once it waits for no birth: its process is born, or failed
 pub waits_no_birth : (b : Birth) (p : ℕ) (others : Option Waiting) → waits_at b p others ≡ None → (b ≡ born) ⊎ (b ≡ failed)
-waits_no_birth unborn p others free = absurd (cc free)
-waits_no_birth (growing parent) p others free = absurd (cc free)
 waits_no_birth born p others free = inl refl
 waits_no_birth failed p others free = inr refl
+waits_no_birth b p others free = absurd (cc free)

@@ -10,11 +10,11 @@ use Rattle.gup_base.specs.declared.entry.Entry.{Entry}
 use Rattle.gup_base.specs.declared.entry.Rights.{Rights}
 use Rattle.gup_plain.specs.Event.{page_numbers}
 use Rattle.gup_plain.specs.State.{failed}
-use Rattle.gup_spec_events.specs.State.{CoreState, Taken, Job, idle, marking, moving, forking, walking}
+use Rattle.gup_spec_events.specs.State.{CoreState, Taken, Job, moving, walking}
 use Rattle.gup_spec_events.specs.Event.{bias}
 use Rattle.gup_spec_events.specs.Invariant.{Holder, entry_of_page, cleared_by, prepared_by, owed_by, got_as, page_of_pin, page_taken, grabbed_by, frame_of, cleared_frame, got_frame, taken_frame, grabbed_frame, weight, HasNoRepetition}
 use Rattle.gup_law_base.specs.Sound.{IsSound, moving_of, walking_of, moved_frame, walk_frame, held, held_by_walk}
-use Rattle.gup_spec_turns.specs.Pages.{sum_below}
+use Rattle.gup_plain.specs.Pages.{sum_below}
 use Rattle.gup_law_turns.proofs.CalmStates.{IsCalm}
 use Rattle.gup_law_turns.proofs.Puts.{some_same}
 use Rattle.gup_law_turns.proofs.TurnShapes.{AtRest}
@@ -47,24 +47,13 @@ ArePlaces (x ∷ xs) = IsPlace x × ArePlaces xs
 -- an entry's number among the pages of those
 abbrev entry_number : Holder → Option ℕ
 entry_number (entry_of_page p page) = Some (page * 16 + p)
-entry_number (cleared_by a) = None
-entry_number (prepared_by a) = None
-entry_number (owed_by a) = None
-entry_number (got_as k) = None
-entry_number (page_of_pin h k) = None
-entry_number (page_taken a k) = None
-entry_number (grabbed_by a) = None
+entry_number x = None
 
 -- and a pinned page's among those of handles and those taken
 abbrev pin_number : Holder → Option ℕ
-pin_number (entry_of_page p page) = None
-pin_number (cleared_by a) = None
-pin_number (prepared_by a) = None
-pin_number (owed_by a) = None
-pin_number (got_as k) = None
 pin_number (page_of_pin h k) = Some (h * 16 + k)
 pin_number (page_taken a k) = Some (16384 + (a * 16 + k))
-pin_number (grabbed_by a) = None
+pin_number x = None
 
 one_entry : (x y : Holder) (j : ℕ) → IsPlace x → IsPlace y → entry_number x ≡ Some j → entry_number y ≡ Some j → x ≡ y
 one_entry x y j (of_entry p page low below) (of_entry q other also under) here there =
@@ -73,10 +62,8 @@ one_entry x y j (of_entry p page low below) (of_entry q other also under) here t
     let procs : p ≡ q = omega (arith, this, that, low, also) in
     let pages : page ≡ other = omega (arith, this, that, low, also) in
     ap (λ (k : ℕ). entry_of_page k page) procs ∙ ap (entry_of_page q) pages
-one_entry x y j (of_entry p page low below) (of_made h k less few) here there = absurd (cc there)
-one_entry x y j (of_entry p page low below) (of_taken a k less few) here there = absurd (cc there)
-one_entry x y j (of_made h k less few) is here there = absurd (cc here)
-one_entry x y j (of_taken a k less few) is here there = absurd (cc here)
+one_entry x y j (of_entry p page low below) other here there = absurd (cc there)
+one_entry x y j place is here there = absurd (cc here)
 
 one_pin : (x y : Holder) (j : ℕ) → IsPlace x → IsPlace y → pin_number x ≡ Some j → pin_number y ≡ Some j → x ≡ y
 one_pin x y j (of_entry p page low below) is here there = absurd (cc here)
@@ -105,8 +92,7 @@ one_pin x y j (of_taken a k less few) (of_taken b l under low) here there =
 
 entry_below : (x : Holder) (j : ℕ) → IsPlace x → entry_number x ≡ Some j → j < 16 * page_numbers
 entry_below x j (of_entry p page low below) is = let this : page * 16 + p ≡ j = some_same is in omega (arith, this, low, below)
-entry_below x j (of_made h k less few) is = absurd (cc is)
-entry_below x j (of_taken a k less few) is = absurd (cc is)
+entry_below x j place is = absurd (cc is)
 
 pin_below : (x : Holder) (j : ℕ) → IsPlace x → pin_number x ≡ Some j → j < 17680
 pin_below x j (of_entry p page low below) is = absurd (cc is)
@@ -216,18 +202,12 @@ places_weigh xs places alone =
 -- the holders of a frame
 
 moved_same : (job : Job) → moved_frame (moving_of job) ≡ cleared_frame job
-moved_same idle = refl
-moved_same (marking p page f) = refl
 moved_same (moving p page e allowed count) = refl
-moved_same (forking p c done step) = refl
-moved_same (walking p write long sequence step) = refl
+moved_same job = refl
 
 walk_same : (job : Job) → walk_frame (walking_of job) ≡ grabbed_frame job
-walk_same idle = refl
-walk_same (marking p page f) = refl
-walk_same (moving p page e allowed count) = refl
-walk_same (forking p c done step) = refl
 walk_same (walking p write long sequence step) = refl
+walk_same job = refl
 
 -- where pins stand: the pages of handles, and those taken
 pub record ArePinsFew (s : CoreState) : Type 0 where
@@ -280,13 +260,7 @@ module _ (s : CoreState) (sound : IsSound s) (calm : IsCalm s) (rest : (a : ℕ)
   no_grab (grabbed_by a) f is =
       let none : walk_frame (sound.0.walks a) ≡ None = ap walk_frame (sound.1.walks_are a) ∙ walk_same (s.job a) ∙ (free a).1 in
       absurd (cc)
-  no_grab (entry_of_page p page) f is = absurd (cc)
-  no_grab (cleared_by a) f is = absurd (cc)
-  no_grab (prepared_by a) f is = absurd (cc)
-  no_grab (owed_by a) f is = absurd (cc)
-  no_grab (got_as k) f is = absurd (cc)
-  no_grab (page_of_pin h k) f is = absurd (cc)
-  no_grab (page_taken a k) f is = absurd (cc)
+  no_grab x f is = absurd (cc)
 
   each_place : (f : ℕ) (xs : List Holder) → ((x : Holder) → Contains xs x → holding x ≡ Some f) → ArePlaces xs ⊎ IsOnce f
   each_place f [] hold = inl tt

@@ -2,7 +2,7 @@
 use Rattle.std.proofs.Common.{◌≡◌, ℕ, ◌*◌, ◌≤◌, ◌<◌, false, length, Option, Some, None}
 use Rattle.std.specs.Prelude.{◌⊎◌}
 use Rattle.gup_plain.specs.Event.{most_pages}
-use Rattle.gup_plain.specs.State.{Birth, unborn, growing, born, failed, unmade}
+use Rattle.gup_plain.specs.State.{Birth, unborn, born, failed, unmade}
 use Rattle.gup_plain.specs.declared.note.Waiting.{Waiting}
 use Rattle.gup_script.specs.Script.{ScriptValue}
 use Rattle.gup_script.specs.Valid.{ForksAt, PinsAt}
@@ -12,8 +12,8 @@ use Rattle.gup_spec_events.specs.State.{CoreState, plain_of}
 use Rattle.gup_spec_events.specs.Event.{run}
 use Rattle.gup_law_base.specs.Sound.{IsSound}
 use Rattle.gup_spec_journal.specs.Place.{Place, Doer, doer, birth_for}
-use Rattle.gup_spec_turns.specs.Pages.{sum_below, mapped_pages}
-use Rattle.gup_spec_turns.specs.ForkPlace.{place_in}
+use Rattle.gup_plain.specs.Pages.{sum_below, mapped_pages}
+use Rattle.gup_spec_turns.specs.JobPlace.{place_in}
 use Rattle.gup_law_turns.specs.Standing.{StandsHandle, back_in}
 use Rattle.gup_spec_turns.specs.Run.{RunState, op_in}
 use Rattle.gup_spec_turns.specs.CoreTurn.{CoreTurn}
@@ -24,9 +24,7 @@ use Rattle.gup_law_turns.proofs.ShownTurns.{FitsNext, MakesPin}
 -- one of a process that is not unborn any more, and how many of the first n processes are so
 abbrev pub brought : Birth → ℕ
 brought unborn = 0
-brought (growing parent) = 1
-brought born = 1
-brought failed = 1
+brought b = 1
 
 abbrev pub all_brought : (n : ℕ) → (ℕ → Birth) → ℕ
 all_brought n birth = sum_below n (λ p. brought (birth p))

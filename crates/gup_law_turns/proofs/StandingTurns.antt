@@ -1,5 +1,5 @@
 -- What stands between two turns of a run stands at its start, and each turn keeps it.
-use Rattle.std.proofs.Common.{◌≡◌, ℕ, ◌+◌, ◌<◌, ◌≤◌, ◌==◌, ◌&&◌, Bool, true, false, List, [], ◌∷◌, length, slice_get, Option, Some, None, IsSome, ◌⊎◌, inl, inr, refl, sym, ap, ◌∙◌, subst, eqb-true, if◌then◌else◌, arith}
+use Rattle.std.proofs.Common.{◌≡◌, ℕ, ◌+◌, ◌<◌, ◌≤◌, ◌==◌, ◌&&◌, Bool, true, false, List, length, slice_get, Option, Some, None, IsSome, ◌⊎◌, inl, inr, refl, sym, ap, ◌∙◌, subst, eqb-true, if◌then◌else◌, arith}
 use Rattle.std.proofs.Math.Path.{subst₂}
 use Rattle.std.proofs.lemmas.Bool.Decides.{nat_tests}
 use Rattle.std.proofs.lemmas.Option.{slice_get_within}
@@ -14,13 +14,13 @@ use Rattle.gup_plain.specs.declared.event.PlainEvent.{PlainEvent}
 use Rattle.gup_plain.specs.declared.note.What.{What}
 use Rattle.gup_script.specs.Script.{ScriptValue, Process, process_at}
 use Rattle.gup_script.specs.declared.op.Op.{Op}
-use Rattle.gup_script.specs.declared.op.Op.TheVariants.{Map, Unmap, Protect, Discard, Load, Store, Pin, Unpin, Give, Take, Transfer, Fork, Exit}
-use Rattle.gup_spec_events.specs.State.{CoreState, Job, idle, marking, moving, forking, walking, between, counted, lowered, cleared, copying, failing, plain_of, core_start}
+use Rattle.gup_script.specs.declared.op.Op.TheVariants.{Pin, Unpin, Transfer, Fork, Exit}
+use Rattle.gup_spec_events.specs.State.{CoreState, Job, idle, forking, between, counted, copying, plain_of, core_start}
 use Rattle.gup_spec_events.specs.Event.{run}
 use Rattle.gup_law_base.specs.Sound.{IsSound}
 use Rattle.gup_spec_journal.specs.Order.{plain_behind}
 use Rattle.gup_spec_journal.specs.Place.{Place, Doer, doer, place_behind, process_of, ops_of, present_op, birth_by, birth_for, is_born, starts_born}
-use Rattle.gup_spec_turns.specs.ForkPlace.{fork_place, place_in, IsForking, HasCounted, KeepsFrame}
+use Rattle.gup_spec_turns.specs.JobPlace.{job_place, place_in, IsForking, HasCounted, KeepsFrame}
 use Rattle.gup_spec_turns.specs.PinPlace.{HasTaken, StandsPin}
 use Rattle.gup_law_turns.specs.Standing.{StandsHandle, given_back, back_in}
 use Rattle.gup_spec_turns.specs.Run.{RunState, run_start, run_after, op_in, waiting_in, core_turn_in}
@@ -75,112 +75,46 @@ fork_held : (s : CoreState) (a p child : ℕ) (place : Place) (job : Job) (prepa
 fork_held s a p child place idle prepared is fits = inl is
 fork_held s a p child place (forking q c done between) prepared is fits = inr fits.1.locked
 fork_held s a p child place (forking q c done (counted page)) prepared is fits = inr fits.1.0.locked
-fork_held s a p child place (forking q c done (lowered page)) prepared is fits = absurd fits.1
-fork_held s a p child place (forking q c done (cleared page)) prepared is fits = absurd fits.1
 fork_held s a p child place (forking q c done (copying page n)) prepared is fits = inr fits.1.0.locked
-fork_held s a p child place (forking q c done failing) prepared is fits = absurd fits.1
-fork_held s a p child place (marking q page f) prepared is fits = absurd fits
-fork_held s a p child place (moving q page e allowed count) prepared is fits = absurd fits
-fork_held s a p child place (walking q write long sequence step) prepared is fits = absurd fits
+fork_held s a p child place (forking q c done step) prepared is fits = absurd fits.1
+fork_held s a p child place job prepared is fits = absurd fits
 
 idle_or_holds : (s : CoreState) (who : Doer) (op : Option Op) (place : Place) → FitsAt s who op place → (s.job who.actor ≡ idle) ⊎ (s.structure who.proc ≡ Some who.actor)
-idle_or_holds s who None place fits = inl fits.0.0
-idle_or_holds s who (Some (Map page n rights)) place fits = inl fits.0.0
-idle_or_holds s who (Some (Unmap page n)) place fits = inl fits.0.0
-idle_or_holds s who (Some (Protect page n rights)) place fits = inl fits.0.0
-idle_or_holds s who (Some (Discard page n)) place fits = inl fits.0.0
-idle_or_holds s who (Some (Load page word)) place fits = inl fits.0.0
-idle_or_holds s who (Some (Store page word value)) place fits = inl fits.0.0
 idle_or_holds s who (Some (Pin handle page n want fast)) place fits = inl fits.0
-idle_or_holds s who (Some (Unpin handle)) place fits = inl fits.0.0
-idle_or_holds s who (Some (Give handle to)) place fits = inl fits.0.0
-idle_or_holds s who (Some (Take handle)) place fits = inl fits.0.0
-idle_or_holds s who (Some (Transfer handle outward index slot n)) place fits = inl fits.0.0
 idle_or_holds s who (Some (Fork child)) place fits = fork_held s who.actor who.proc child place (s.job who.actor) (s.prepared who.actor) refl fits.1
 idle_or_holds s who (Some Exit) place fits = inl fits.0
+idle_or_holds s who op place fits = inl fits.0.0
 
 -- the child of a fork, begun or not, is not born
 fork_unborn : (s : CoreState) (a p child : ℕ) (place : Place) (job : Job) (prepared : Option ℕ) → FitsFork s a p child place job prepared → s.birth child ≡ born → ⊥
 fork_unborn s a p child place idle prepared fits is = let yet : s.birth child ≡ unborn = fits.1 in cc
 fork_unborn s a p child place (forking q c done between) prepared fits is = let grows : s.birth child ≡ growing p = fits.1.birth in cc
 fork_unborn s a p child place (forking q c done (counted page)) prepared fits is = let grows : s.birth child ≡ growing p = fits.1.0.birth in cc
-fork_unborn s a p child place (forking q c done (lowered page)) prepared fits is = fits.1
-fork_unborn s a p child place (forking q c done (cleared page)) prepared fits is = fits.1
 fork_unborn s a p child place (forking q c done (copying page n)) prepared fits is = let grows : s.birth child ≡ growing p = fits.1.0.birth in cc
-fork_unborn s a p child place (forking q c done failing) prepared fits is = fits.1
-fork_unborn s a p child place (marking q page f) prepared fits is = fits
-fork_unborn s a p child place (moving q page e allowed count) prepared fits is = fits
-fork_unborn s a p child place (walking q write long sequence step) prepared fits is = fits
+fork_unborn s a p child place (forking q c done step) prepared fits is = fits.1
+fork_unborn s a p child place job prepared fits is = fits
 
 -- a born process is no child of the operation, unless it is the operation's own
 born_apart : (s : CoreState) (who : Doer) (q : ℕ) (op : Option Op) (place : Place) → FitsAt s who op place → s.birth q ≡ born → (q ≡ who.proc → ⊥) → q ≡ child_of who.proc op → ⊥
-born_apart s who q None place fits is other same = other same
-born_apart s who q (Some (Map page n rights)) place fits is other same = other same
-born_apart s who q (Some (Unmap page n)) place fits is other same = other same
-born_apart s who q (Some (Protect page n rights)) place fits is other same = other same
-born_apart s who q (Some (Discard page n)) place fits is other same = other same
-born_apart s who q (Some (Load page word)) place fits is other same = other same
-born_apart s who q (Some (Store page word value)) place fits is other same = other same
-born_apart s who q (Some (Pin handle page n want fast)) place fits is other same = other same
-born_apart s who q (Some (Unpin handle)) place fits is other same = other same
-born_apart s who q (Some (Give handle to)) place fits is other same = other same
-born_apart s who q (Some (Take handle)) place fits is other same = other same
-born_apart s who q (Some (Transfer handle outward index slot n)) place fits is other same = other same
 born_apart s who q (Some (Fork child)) place fits is other same = fork_unborn s who.actor who.proc child place (s.job who.actor) (s.prepared who.actor) fits.1 (ap s.birth (sym same) ∙ is)
-born_apart s who q (Some Exit) place fits is other same = other same
+born_apart s who q op place fits is other same = other same
 
 -- what an operation brings, where that isn't its own process, is the child of a fork; if that failed, it has no entries
 child_emptied : (t : CoreState) (p q page : ℕ) (op : Option Op) → ((child : ℕ) → op ≡ Some (Fork child) → t.birth child ≡ failed → t.entry child page ≡ None) → (q ≡ p → ⊥) → q ≡ child_of p op → t.birth q ≡ failed → t.entry q page ≡ None
-child_emptied t p q page None none other same is = absurd (other same)
-child_emptied t p q page (Some (Map g n rights)) none other same is = absurd (other same)
-child_emptied t p q page (Some (Unmap g n)) none other same is = absurd (other same)
-child_emptied t p q page (Some (Protect g n rights)) none other same is = absurd (other same)
-child_emptied t p q page (Some (Discard g n)) none other same is = absurd (other same)
-child_emptied t p q page (Some (Load g word)) none other same is = absurd (other same)
-child_emptied t p q page (Some (Store g word value)) none other same is = absurd (other same)
-child_emptied t p q page (Some (Pin handle g n want fast)) none other same is = absurd (other same)
-child_emptied t p q page (Some (Unpin handle)) none other same is = absurd (other same)
-child_emptied t p q page (Some (Give handle to)) none other same is = absurd (other same)
-child_emptied t p q page (Some (Take handle)) none other same is = absurd (other same)
-child_emptied t p q page (Some (Transfer handle outward index slot n)) none other same is = absurd (other same)
 child_emptied t p q page (Some (Fork child)) none other same is = none q (ap (λ (k : ℕ). Some (Fork k)) (sym same)) is
-child_emptied t p q page (Some Exit) none other same is = absurd (other same)
+child_emptied t p q page op none other same is = absurd (other same)
 
 -- the child that an operation brings is declared
 child_below : (script : ScriptValue) → IsScript script → (a p k : ℕ) (op : Option Op) → present_op script a (fresh_place k) ≡ op → p < length script.processes → child_of p op < length script.processes
-child_below script valid a p k None is below = below
-child_below script valid a p k (Some (Map page n rights)) is below = below
-child_below script valid a p k (Some (Unmap page n)) is below = below
-child_below script valid a p k (Some (Protect page n rights)) is below = below
-child_below script valid a p k (Some (Discard page n)) is below = below
-child_below script valid a p k (Some (Load page word)) is below = below
-child_below script valid a p k (Some (Store page word value)) is below = below
-child_below script valid a p k (Some (Pin handle page n want fast)) is below = below
-child_below script valid a p k (Some (Unpin handle)) is below = below
-child_below script valid a p k (Some (Give handle to)) is below = below
-child_below script valid a p k (Some (Take handle)) is below = below
-child_below script valid a p k (Some (Transfer handle outward index slot n)) is below = below
 child_below script valid a p k (Some (Fork child)) is below = child_declared script valid a k child is
-child_below script valid a p k (Some Exit) is below = below
+child_below script valid a p k op is below = below
 
 -- the child of another fork is no child of this operation: it is not born, and two forks bring two children
 other_child : (script : ScriptValue) → IsScript script → (a p k : ℕ) (op : Option Op) → present_op script a (fresh_place k) ≡ op → (b j child : ℕ) → ForksAt script b j child → (child ≡ p → ⊥) → (b ≡ a → j ≡ k → ⊥) → child ≡ child_of p op → ⊥
-other_child script valid a p k None is b j child forks other twice same = other same
-other_child script valid a p k (Some (Map page n rights)) is b j child forks other twice same = other same
-other_child script valid a p k (Some (Unmap page n)) is b j child forks other twice same = other same
-other_child script valid a p k (Some (Protect page n rights)) is b j child forks other twice same = other same
-other_child script valid a p k (Some (Discard page n)) is b j child forks other twice same = other same
-other_child script valid a p k (Some (Load page word)) is b j child forks other twice same = other same
-other_child script valid a p k (Some (Store page word value)) is b j child forks other twice same = other same
-other_child script valid a p k (Some (Pin handle page n want fast)) is b j child forks other twice same = other same
-other_child script valid a p k (Some (Unpin handle)) is b j child forks other twice same = other same
-other_child script valid a p k (Some (Give handle to)) is b j child forks other twice same = other same
-other_child script valid a p k (Some (Take handle)) is b j child forks other twice same = other same
-other_child script valid a p k (Some (Transfer handle outward index slot n)) is b j child forks other twice same = other same
 other_child script valid a p k (Some (Fork brought)) is b j child forks other twice same =
     let once = valid.forks_once b a j k child forks (subst (ForksAt script a k) (sym same) is) in
     twice once.0 once.1
-other_child script valid a p k (Some Exit) is b j child forks other twice same = other same
+other_child script valid a p k op is b j child forks other twice same = other same
 
 -- whoever waits for no birth waits for none later
 waits_no_more : (thread : Bool) (before behind : Birth) → (before ≡ born → behind ≡ born) → birth_by thread before ≡ born → birth_by thread behind ≡ born
@@ -444,14 +378,9 @@ module _ (script : ScriptValue) (valid : IsScript script) (r : RunState) (h : St
     fork_kept k child its (forking u v done between) prepared forks begun yet fits = (fits.0, forking_kept k child u v done forks (begun fits.0.0) fits.1)
     fork_kept k child its (forking u v done (counted page)) prepared forks begun yet fits =
         (fits.0, (forking_kept k child u v done forks (begun fits.0.0) fits.1.0, counted_kept k child done page u v forks (begun fits.0.0) fits.1.0 fits.1.1))
-    fork_kept k child its (forking u v done (lowered page)) prepared forks begun yet fits = fits
-    fork_kept k child its (forking u v done (cleared page)) prepared forks begun yet fits = fits
     fork_kept k child its (forking u v done (copying page n)) prepared forks begun yet fits =
         (fits.0, (forking_kept k child u v done forks (begun fits.0.0) fits.1.0, counted_kept k child done page u v forks (begun fits.0.0) fits.1.0 fits.1.1, fits.1.2))
-    fork_kept k child its (forking u v done failing) prepared forks begun yet fits = fits
-    fork_kept k child its (marking u page f) prepared forks begun yet fits = fits
-    fork_kept k child its (moving u page e allowed count) prepared forks begun yet fits = fits
-    fork_kept k child its (walking u write long sequence step) prepared forks begun yet fits = fits
+    fork_kept k child its job prepared forks begun yet fits = fits
 
     job_kept : t.job b ≡ s.job b
     job_kept = left.job b (apart b a other)
@@ -491,13 +420,6 @@ module _ (script : ScriptValue) (valid : IsScript script) (r : RunState) (h : St
         record { within = at.within; yet = yet; taken = subst (HasTaken q page want far) (sym taken_kept) at.taken }
 
     op_kept : (its : Place) (o : Option Op) → present_op script b its ≡ o → (0 < its.far → birth_for s.birth (doer script b) ≡ born) → ((child : ℕ) → ForksAt script b its.answered child → its.far ≡ 0 → t.birth child ≡ unborn) → ((handle : ℕ) → PinsAt script b its.answered handle → t.handle handle ≡ unmade) → FitsAt s (doer script b) o its → FitsAt t (doer script b) o its
-    op_kept its None is begun unforked yet fits = (rests_kept fits.0, fits.1)
-    op_kept its (Some (Map page n rights)) is begun unforked yet fits = (rests_kept fits.0, fits.1)
-    op_kept its (Some (Unmap page n)) is begun unforked yet fits = (rests_kept fits.0, fits.1)
-    op_kept its (Some (Protect page n rights)) is begun unforked yet fits = (rests_kept fits.0, fits.1)
-    op_kept its (Some (Discard page n)) is begun unforked yet fits = (rests_kept fits.0, fits.1)
-    op_kept its (Some (Load page word)) is begun unforked yet fits = (rests_kept fits.0, fits.1)
-    op_kept its (Some (Store page word value)) is begun unforked yet fits = (rests_kept fits.0, fits.1)
     op_kept its (Some (Pin handle page n want fast)) is begun unforked yet fits =
         (job_kept ∙ fits.0, fits.1, pin_kept handle page n its.far want (yet handle (page, n, want, fast, is)) fits.2)
     op_kept its (Some (Unpin handle)) is begun unforked yet fits = (
@@ -506,20 +428,19 @@ module _ (script : ScriptValue) (valid : IsScript script) (r : RunState) (h : St
       (λ far. subst (λ (x : Handle). is_held_by x b ≡ true) (sym (held_kept handle (fits.2 far))) (fits.2 far)),
       left_kept handle its.far fits.3,
     )
-    op_kept its (Some (Give handle to)) is begun unforked yet fits = (rests_kept fits.0, fits.1)
-    op_kept its (Some (Take handle)) is begun unforked yet fits = (rests_kept fits.0, fits.1)
-    op_kept its (Some (Transfer handle outward index slot n)) is begun unforked yet fits =
+    op_kept its (Some (Transfer handle outward slot parts)) is begun unforked yet fits =
         (rests_kept fits.0, fits.1, fits.2, (λ far. transfers (fits.3 far)), left_kept handle 0 fits.4)
       where
-        transfers : transfer_denial (s.handle handle) b outward (doer script b).slots slot ((index, n) ∷ []) ≡ None → transfer_denial (t.handle handle) b outward (doer script b).slots slot ((index, n) ∷ []) ≡ None
+        transfers : transfer_denial (s.handle handle) b outward (doer script b).slots slot parts ≡ None → transfer_denial (t.handle handle) b outward (doer script b).slots slot parts ≡ None
         transfers none =
-            let holds = transfer_held (is_held_by (s.handle handle) b) outward (may_write (s.handle handle)) (has_words (length (objects_of (s.handle handle))) ((index, n) ∷ []) && has_slots (doer script b).slots slot ((index, n) ∷ [])) none in
-            subst (λ (x : Handle). transfer_denial x b outward (doer script b).slots slot ((index, n) ∷ []) ≡ None) (sym (held_kept handle holds)) none
+            let holds = transfer_held (is_held_by (s.handle handle) b) outward (may_write (s.handle handle)) (has_words (length (objects_of (s.handle handle))) parts && has_slots (doer script b).slots slot parts) none in
+            subst (λ (x : Handle). transfer_denial x b outward (doer script b).slots slot parts ≡ None) (sym (held_kept handle holds)) none
     op_kept its (Some (Fork child)) is begun unforked yet fits =
         let thread = is_of_thread script valid b its.answered (Fork child) is (λ none. none) in
         let lives : 0 < its.far → s.birth q ≡ born = λ far. sym (thread_birth (doer script b) s.birth thread) ∙ begun far in
         (taken_kept ∙ fits.0, subst₂ (FitsFork t b q child its) (sym job_kept) (sym prepared_kept) (fork_kept its.answered child its (s.job b) (s.prepared b) is lives (unforked child is) fits.1))
     op_kept its (Some Exit) is begun unforked yet fits = rests_kept fits
+    op_kept its o is begun unforked yet fits = (rests_kept fits.0, fits.1)
 
   fits_other : (b : ℕ) → (b ≡ a → ⊥) → FitsAt t (doer script b) (present_op script b (r.places b)) (r.places b)
   fits_other b other =
@@ -601,8 +522,8 @@ places_stay script valid r h a b other =
     let op : Option Op = op_in script r a in
     let p : ℕ = (doer script a).proc in
     let left = leaves r.core a p (child_of p op) (strand_of op) (core_turn_in script r a).events turn.done.kinds in
-    ap (λ (j : Job). fork_place j ((run_after script r a).core.prepared b)) (left.job b (apart b a other))
-    ∙ ap (fork_place (r.core.job b)) (left.prepared b (apart b a other))
+    ap (λ (j : Job). job_place j ((run_after script r a).core.prepared b)) (left.job b (apart b a other))
+    ∙ ap (job_place (r.core.job b)) (left.prepared b (apart b a other))
 
 -- the plain state after a turn is the one that its notes lead to
 pub same_plain : Law → (script : ScriptValue) → IsScript script → (r : RunState) → Stands script r → (a : ℕ) → plain_of (run_after script r a).core ≡ plain_behind (plain_of r.core) (core_turn_in script r a).whats

@@ -1,27 +1,17 @@
 -- Sums over the numbers below a bound.
-use Rattle.std.proofs.Common.{◌≡◌, ℕ, ◌+◌, ◌<◌, ◌≤◌, ◌==◌, false, if◌then◌else◌, refl, ap, zero, suc, arith, List, [], ◌∷◌, length, Option, Some}
+use Rattle.std.proofs.Common.{◌≡◌, ℕ, ◌+◌, ◌<◌, ◌≤◌, ◌==◌, false, if◌then◌else◌, refl, zero, suc, arith, List, [], ◌∷◌, length, Option, Some}
 use Rattle.std.specs.Prelude.{slice_get, sum_by}
 use Rattle.std.proofs.lemmas.Bool.Decides.{nat_tests}
 use Rattle.std.proofs.lemmas.List.Sums.{sum_by-cons}
 use Rattle.gup_plain.specs.Put.{within}
-use Rattle.gup_spec_turns.specs.Pages.{sum_below}
+use Rattle.gup_plain.specs.Pages.{sum_below}
+pub use Rattle.gup_plain.proofs.Sums.{sum_at, sum_zero, sum_same}
 
 pub sum_le : (n : ℕ) (f g : ℕ → ℕ) → ((k : ℕ) → f k ≤ g k) → sum_below n f ≤ sum_below n g
 sum_le zero f g le = omega arith
 sum_le (suc n) f g le =
     let rest = sum_le n (λ k. f (suc k)) (λ k. g (suc k)) (λ k. le (suc k)) in
     omega (arith, le 0, rest)
-
--- the sums of two functions that differ at one number
-pub sum_at : (n : ℕ) (f g : ℕ → ℕ) (k : ℕ) → k < n → ((j : ℕ) → (j == k) ≡ false → f j ≡ g j) → sum_below n f + g k ≡ sum_below n g + f k
-sum_at zero f g k less same = absurd (omega arith)
-sum_at (suc n) f g zero less same =
-    let rest : sum_below n (λ j. f (suc j)) ≡ sum_below n (λ j. g (suc j)) = ap (sum_below n) (λ i j. same (suc j) (grind (arith, nat_tests)) i) in
-    omega (arith, rest)
-sum_at (suc n) f g (suc k) less same =
-    let first : f 0 ≡ g 0 = same 0 (grind (arith, nat_tests)) in
-    let rest = sum_at n (λ j. f (suc j)) (λ j. g (suc j)) k (omega arith) (λ j other. same (suc j) (grind (arith, nat_tests))) in
-    omega (arith, first, rest)
 
 pub sum_less : (n : ℕ) (f g : ℕ → ℕ) (k : ℕ) → k < n → ((j : ℕ) → f j ≤ g j) → f k < g k → sum_below n f < sum_below n g
 sum_less zero f g k less le here = absurd (omega arith)
@@ -54,13 +44,6 @@ sum_spread n first (suc m) f g outside most =
     let last = sum_more n f h (first + m) (λ j other. grind (arith, nat_tests)) (grind (arith, nat_tests, most (first + m))) in
     omega (arith, fewer, last)
 
--- where each is 0
-pub sum_zero : (n : ℕ) (f : ℕ → ℕ) → ((k : ℕ) → f k ≡ 0) → sum_below n f ≡ 0
-sum_zero zero f none = refl
-sum_zero (suc n) f none =
-    let rest = sum_zero n (λ k. f (suc k)) (λ k. none (suc k)) in
-    omega (arith, none 0, rest)
-
 -- the sum over the elements of a list
 pub sum_of_list : {X : Type 0} (xs : List X) (g : Option X → ℕ) → sum_below (length xs) (λ k. g (slice_get xs k)) ≡ sum_by (λ (x : X). g (Some x)) xs
 sum_of_list [] g = refl
@@ -68,13 +51,6 @@ sum_of_list {X = X} (x ∷ xs) g =
     let rest = sum_of_list xs g in
     let all = sum_by-cons (λ (y : X). g (Some y)) x xs in
     omega (arith, rest, all)
-
--- the sums of two functions that are equal below the bound
-pub sum_same : (n : ℕ) (f g : ℕ → ℕ) → ((k : ℕ) → k < n → f k ≡ g k) → sum_below n f ≡ sum_below n g
-sum_same zero f g same = refl
-sum_same (suc n) f g same =
-    let rest = sum_same n (λ k. f (suc k)) (λ k. g (suc k)) (λ k less. same (suc k) (omega arith)) in
-    omega (arith, same 0 (omega arith), rest)
 
 -- one at most at each number
 pub sum_ones : (n : ℕ) (f : ℕ → ℕ) → ((k : ℕ) → f k ≤ 1) → sum_below n f ≤ n

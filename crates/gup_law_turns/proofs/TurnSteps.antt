@@ -1,6 +1,6 @@
 -- A run's turns: each can be done and has one of the shapes.
 use Rattle.std.proofs.Common.{◌≡◌, ℕ, ◌≤◌, ◌<◌, Bool, true, false, IsTrue, [], ◌∷◌, Option, Some, None, refl, ap, sym, subst, ◌∙◌, zero, suc, arith}
-use Rattle.gup_plain.specs.State.{Birth, unborn, growing, born, failed}
+use Rattle.gup_plain.specs.State.{Birth, unborn, born, failed}
 use Rattle.gup_plain.specs.declared.answer.Answer.TheVariants as answers
 use Rattle.gup_plain.specs.declared.event.PlainEvent.TheVariants as events
 use Rattle.gup_plain.specs.declared.note.What.TheVariants.{Event, Done}
@@ -12,12 +12,12 @@ use Rattle.gup_script.specs.declared.op.Kind.{Kind}
 use Rattle.gup_script.specs.declared.op.Kind.TheVariants.{Thread, Device, Mover}
 use Rattle.gup_script.specs.declared.op.Op.{Op}
 use Rattle.gup_script.specs.declared.op.Op.TheVariants.{Map, Unmap, Protect, Discard, Load, Store, Pin, Unpin, Give, Take, Transfer, Fork, Exit}
-use Rattle.gup_spec_events.specs.State.{CoreState, Job, idle, marking, moving, forking, walking, plain_of}
+use Rattle.gup_spec_events.specs.State.{CoreState, Job, idle, forking, plain_of}
 use Rattle.gup_spec_events.specs.Event.{run}
 use Rattle.gup_spec_journal.specs.Follows.{refuses}
 use Rattle.gup_spec_journal.specs.Order.{handle_waits}
 use Rattle.gup_spec_journal.specs.Place.{Place, Doer, doer, thread_in, birth_by, birth_for}
-use Rattle.gup_spec_turns.specs.ForkPlace.{ForkPlace, place_in}
+use Rattle.gup_spec_turns.specs.JobPlace.{JobPlace, place_in}
 use Rattle.gup_spec_turns.specs.Run.{RunState, op_in, waiting_with, waiting_in, core_turn_by, core_turn_in}
 use Rattle.gup_spec_turns.specs.CoreTurn.{CoreTurn, answers_with}
 use Rattle.gup_spec_turns.proofs.TurnParts.{waits_at}
@@ -42,19 +42,11 @@ first_of_both (Some waiting) second free = absurd (cc free)
 
 -- an operation of a process is none of a device
 of_no_device : (op : Op) → IsOfProcess op → IsOfDevice op → ⊥
-of_no_device (Map page n rights) own device = device
-of_no_device (Unmap page n) own device = device
-of_no_device (Protect page n rights) own device = device
-of_no_device (Discard page n) own device = device
-of_no_device (Load page word) own device = device
-of_no_device (Store page word value) own device = device
-of_no_device (Pin handle page n want fast) own device = device
 of_no_device (Unpin handle) own device = own
 of_no_device (Give handle to) own device = own
 of_no_device (Take handle) own device = own
-of_no_device (Transfer handle outward index slot n) own device = own
-of_no_device (Fork child) own device = device
-of_no_device Exit own device = device
+of_no_device (Transfer handle outward slot parts) own device = own
+of_no_device op own device = device
 
 -- an operation of a thread is one of threads
 of_kind : (kind : Kind) (op : Op) → FitsKind kind op → is_thread kind ≡ true → IsOfThread op
@@ -104,33 +96,23 @@ module _ (s : CoreState) (who : Doer) (place : Place) (quiet : IsQuiet s who.act
   op_turned (Take handle) h =
       take_turned s who place quiet handle h.fits
       (first_of_both (handle_waits s.handle who.actor (Some (Take handle))) (waits_for_locks no_lock who.actor (s.structure who.proc) (s.table who.proc)) h.free)
-  op_turned (Transfer handle outward index slot n) h = transfer_turned s who place quiet handle outward index slot n h.slots h.fits
+  op_turned (Transfer handle outward slot parts) h = transfer_turned s who place quiet handle outward slot parts h.slots h.fits
   op_turned (Fork child) h = fork_turned s who child place (opened (h.birth tt)) h.fits h.free
   op_turned Exit h = exit_turned s who place (opened (h.birth tt)) h.fits h.free
+  op_turned op h = absurd h.range
 
 -- an operation at its first turn is in the middle of nothing, and has taken no page
 module _ (s : CoreState) (who : Doer) (place : Place) (first : place.far ≡ 0) where
   idle_fork : (child : ℕ) (job : Job) → s.job who.actor ≡ job → FitsFork s who.actor who.proc child place job (s.prepared who.actor) → (s.job who.actor ≡ idle) × (s.birth child ≡ unborn)
   idle_fork child idle is fits = (is, fits.1)
   idle_fork child (forking q c done step) is fits = absurd (let more = fits.0.0 in omega (arith, more, first))
-  idle_fork child (marking q page f) is fits = absurd fits
-  idle_fork child (moving q page e allowed count) is fits = absurd fits
-  idle_fork child (walking q write long sequence step) is fits = absurd fits
+  idle_fork child job is fits = absurd fits
 
   rests_first : (op : Op) → FitsOp s who op place → Rests s who.actor
-  rests_first (Map page n rights) fits = fits.0
-  rests_first (Unmap page n) fits = fits.0
-  rests_first (Load page word) fits = fits.0
-  rests_first (Store page word value) fits = fits.0
-  rests_first (Protect page n rights) fits = fits.0
-  rests_first (Discard page n) fits = fits.0
   rests_first (Pin handle page n want fast) fits = (fits.0, none_taken (s.taken who.actor) (fits.2.taken.many ∙ first))
-  rests_first (Unpin handle) fits = fits.0
-  rests_first (Give handle to) fits = fits.0
-  rests_first (Take handle) fits = fits.0
-  rests_first (Transfer handle outward index slot n) fits = fits.0
   rests_first (Fork child) fits = ((idle_fork child (s.job who.actor) refl fits.1).0, fits.0)
   rests_first Exit fits = fits
+  rests_first op fits = fits.0
 
 -- a thread of a failed process, at the first turn of an operation
 module _ (s : CoreState) (who : Doer) (place : Place) (quiet : IsQuiet s who.actor) (lost : birth_for s.birth who ≡ failed) (first : AtFirst place) where
@@ -140,7 +122,7 @@ module _ (s : CoreState) (who : Doer) (place : Place) (quiet : IsQuiet s who.act
       let still = rests_first s who place first.0 op fits in
       record {
         done = record { kinds = tt; can = tt; rest = quiet.rest; told = refl };
-        shape = subst (λ (at : ForkPlace). TurnAt (plain_of s) who place (Some op) None at (Done answers.Unborn ∷ []) at) (sym (idle_place s who.actor still.0)) (unborn_refused op lost first refusal);
+        shape = subst (λ (at : JobPlace). TurnAt (plain_of s) who place (Some op) None at (Done answers.Unborn ∷ []) at) (sym (idle_place s who.actor still.0)) (unborn_refused op lost first refusal);
         next = still;
         pin = λ o same free birth. absurd (not_failed birth lost);
         emptied = λ child page same gone. absurd (no_fork child same);
@@ -158,26 +140,16 @@ module _ (s : CoreState) (who : Doer) (place : Place) (quiet : IsQuiet s who.act
           rest = record { prepared = quiet.rest.prepared; owed = quiet.rest.owed };
           told = refl;
         };
-        shape = subst (λ (at : ForkPlace). TurnAt (plain_of s) who place (Some (Fork child)) None at (Event (events.ForkFail child) ∷ Done answers.Unborn ∷ []) at) (sym (idle_place s who.actor still.0)) (unborn_fork child lost proc first);
+        shape = subst (λ (at : JobPlace). TurnAt (plain_of s) who place (Some (Fork child)) None at (Event (events.ForkFail child) ∷ Done answers.Unborn ∷ []) at) (sym (idle_place s who.actor still.0)) (unborn_fork child lost proc first);
         next = (still.0, fits.0);
         pin = λ o same free birth. absurd (not_failed birth lost);
         emptied = λ c page same gone. ap (λ (k : ℕ). s.entry k page) (same_child same) ∙ unborn_empty s child page quiet.sound still.1;
       }
 
   failed_step : (op : Op) → IsOfThread op → FitsOp s who op place → IsTaken s who place (Some op) None (failed_turn who.actor who.proc op)
-  failed_step (Map page n rights) own fits = refuses_op (Map page n rights) refl (λ child same. cc same) fits
-  failed_step (Unmap page n) own fits = refuses_op (Unmap page n) refl (λ child same. cc same) fits
-  failed_step (Load page word) own fits = refuses_op (Load page word) refl (λ child same. cc same) fits
-  failed_step (Store page word value) own fits = refuses_op (Store page word value) refl (λ child same. cc same) fits
-  failed_step (Protect page n rights) own fits = refuses_op (Protect page n rights) refl (λ child same. cc same) fits
-  failed_step (Discard page n) own fits = refuses_op (Discard page n) refl (λ child same. cc same) fits
-  failed_step (Pin handle page n want fast) own fits = refuses_op (Pin handle page n want fast) refl (λ child same. cc same) fits
-  failed_step (Unpin handle) own fits = refuses_op (Unpin handle) refl (λ child same. cc same) fits
-  failed_step (Give handle to) own fits = refuses_op (Give handle to) refl (λ child same. cc same) fits
-  failed_step (Take handle) own fits = refuses_op (Take handle) refl (λ child same. cc same) fits
-  failed_step (Transfer handle outward index slot n) own fits = absurd own
+  failed_step (Transfer handle outward slot parts) own fits = absurd own
   failed_step (Fork child) own fits = fails_child child fits
-  failed_step Exit own fits = refuses_op Exit refl (λ child same. cc same) fits
+  failed_step op own fits = refuses_op op refl (λ child same. cc same) fits
 
 -- What is known of whoever has this operation, or none.
 record IsKnown (s : CoreState) (who : Doer) (place : Place) (op : Option Op) : Type 0 where
@@ -221,11 +193,10 @@ module _ (s : CoreState) (who : Doer) (place : Place) (quiet : IsQuiet s who.act
 
   -- by the birth that it waits for
   step_by : (birth : Birth) → birth_for s.birth who ≡ birth → waits_at birth who.proc (waits_born s who.actor who.proc op) ≡ None → IsTaken s who place (Some op) None (turn_at birth (failed_turn who.actor who.proc op) (op_turn s who.actor who.proc who.slots place.far op))
-  step_by unborn is free = absurd (cc free)
-  step_by (growing parent) is free = absurd (cc free)
   step_by born is free = born_step is free
   step_by failed is free =
       failed_step s who place quiet is (at_first is) op (h.of_thread op refl (failed_proc who.thread (s.birth who.proc) is).0) h.fits
+  step_by birth is free = absurd (cc free)
 
 take : (s : CoreState) (who : Doer) (place : Place) (op : Option Op) (waiting : Option Waiting) → IsQuiet s who.actor → IsKnown s who place op → waiting_with s who op ≡ waiting → IsTaken s who place op waiting (core_turn_by s who place.far op waiting)
 take s who place None waiting quiet h is =

@@ -1,18 +1,19 @@
 -- What a turn is about: a process, or a handle, or nothing; and how far the actor is after it.
-use Rattle.std.proofs.Common.{◌≡◌, ℕ, ◌+◌, ◌<◌, ◌≤◌, ◌==◌, Bool, true, false, IsTrue, List, [], ◌∷◌, Option, Some, None, ◌⊎◌, inl, inr, refl, sym, ap, ◌∙◌, subst, arith}
+use Rattle.std.proofs.Common.{◌≡◌, ℕ, ◌+◌, ◌<◌, ◌≤◌, ◌==◌, Bool, true, false, IsTrue, List, [], Option, Some, None, ◌⊎◌, inl, inr, refl, sym, ap, ◌∙◌, subst, arith}
+use Rattle.gup_base.specs.Parts.{words_of, word_at}
 use Rattle.gup_plain.specs.Denial.{is_held_by, transfer_denial}
-use Rattle.gup_plain.specs.State.{PlainState, Birth, unborn, growing, born, failed}
+use Rattle.gup_plain.specs.State.{PlainState, Birth, born, failed}
 use Rattle.gup_plain.specs.declared.answer.Answer.{Answer}
 use Rattle.gup_plain.specs.declared.answer.Answer.TheVariants as answers
 use Rattle.gup_plain.specs.declared.note.What.{What}
 use Rattle.gup_plain.specs.declared.note.Waiting.{Waiting}
 use Rattle.gup_script.specs.declared.op.Op.{Op}
-use Rattle.gup_script.specs.declared.op.Op.TheVariants.{Map, Unmap, Protect, Discard, Load, Store, Pin, Unpin, Give, Take, Transfer, Fork, Exit}
+use Rattle.gup_script.specs.declared.op.Op.TheVariants.{Unpin, Give, Take, Transfer, Fork}
 use Rattle.gup_spec_events.specs.State.{CoreState, plain_of}
 use Rattle.gup_spec_events.specs.Event.{CoreEvent, run}
 use Rattle.gup_spec_journal.specs.Follows.{refuses}
 use Rattle.gup_spec_journal.specs.Place.{Place, Doer, place_behind, birth_for}
-use Rattle.gup_spec_turns.specs.ForkPlace.{ForkPlace}
+use Rattle.gup_spec_turns.specs.JobPlace.{JobPlace}
 use Rattle.gup_spec_turns.specs.Run.{core_turn_by}
 use Rattle.gup_spec_turns.specs.CoreTurn.{CoreTurn}
 use Rattle.gup_spec_turns.specs.Turn.{turn_at, failed_turn, op_turn}
@@ -78,23 +79,14 @@ about_transfer None s a h outward last index slot =
 
 -- a process that failed refuses it without an event
 about_by : (a h : ℕ) (birth : Birth) (refused turn : CoreTurn) → refused.events ≡ [] → AreHandleEvents a h turn.events → AreHandleEvents a h (turn_at birth refused turn).events
-about_by a h unborn refused turn none about = about
-about_by a h (growing parent) refused turn none about = about
-about_by a h born refused turn none about = about
 about_by a h failed refused turn none about = subst (AreHandleEvents a h) (sym none) tt
+about_by a h birth refused turn none about = about
 
 abbrev IsTurnGoing : CoreState → Doer → Place → CoreTurn → List What → Type 0
 IsTurnGoing s who place turn whats =
     IsAboutHandle who.actor turn.events ⊎ IsGoing place who.proc s (run s turn.events) whats
 
 going_by : {place : Place} {whats : List What} (s : CoreState) (who : Doer) (far : ℕ) (op : Op) → (IsOfProcess op → s.birth who.proc ≡ born) → ((k : ℕ) → IsAhead (place_behind place whats) k → place.answered < k) → IsTurnGoing s who place (core_turn_by s who far (Some op) None) whats
-going_by s who far (Map page n rights) own later = inr (record { birth = inl (own tt); later = later })
-going_by s who far (Unmap page n) own later = inr (record { birth = inl (own tt); later = later })
-going_by s who far (Protect page n rights) own later = inr (record { birth = inl (own tt); later = later })
-going_by s who far (Discard page n) own later = inr (record { birth = inl (own tt); later = later })
-going_by s who far (Load page word) own later = inr (record { birth = inl (own tt); later = later })
-going_by s who far (Store page word value) own later = inr (record { birth = inl (own tt); later = later })
-going_by s who far (Pin handle page n want fast) own later = inr (record { birth = inl (own tt); later = later })
 going_by s who far (Unpin handle) own later =
     inl (
       handle,
@@ -113,36 +105,24 @@ going_by s who far (Take handle) own later =
       about_by who.actor handle (birth_for s.birth who) (failed_turn who.actor who.proc (Take handle)) (take_turn who.actor handle) refl
           (taking_over, tt),
     )
-going_by s who far (Transfer handle outward index slot n) own later =
+going_by s who far (Transfer handle outward slot parts) own later =
     inl (
       handle,
-      about_by who.actor handle (birth_for s.birth who) (failed_turn who.actor who.proc (Transfer handle outward index slot n)) (transfer_turn s who.actor who.slots handle outward index slot n far) refl
-          (about_transfer (transfer_denial (s.handle handle) who.actor outward who.slots slot ((index, n) ∷ [])) s who.actor handle outward (far + 1 == n) (index + far) (slot + far)),
+      about_by who.actor handle (birth_for s.birth who) (failed_turn who.actor who.proc (Transfer handle outward slot parts)) (transfer_turn s who.actor who.slots handle outward slot parts far) refl
+          (about_transfer (transfer_denial (s.handle handle) who.actor outward who.slots slot parts) s who.actor handle outward (far + 1 == words_of parts) (word_at parts far) (slot + far)),
     )
-going_by s who far (Fork child) own later = inr (record { birth = inl (own tt); later = later })
-going_by s who far Exit own later = inr (record { birth = inl (own tt); later = later })
+going_by s who far op own later = inr (record { birth = inl (own tt); later = later })
 
 -- a thread of a failed process refuses its operation without an event, but a fork
 unborn_silent : (a p : ℕ) (op : Op) → IsTrue (refuses op answers.Unborn) → (failed_turn a p op).events ≡ []
-unborn_silent a p (Map page n rights) refusal = refl
-unborn_silent a p (Unmap page n) refusal = refl
-unborn_silent a p (Protect page n rights) refusal = refl
-unborn_silent a p (Discard page n) refusal = refl
-unborn_silent a p (Load page word) refusal = refl
-unborn_silent a p (Store page word value) refusal = refl
-unborn_silent a p (Pin handle page n want fast) refusal = refl
-unborn_silent a p (Unpin handle) refusal = refl
-unborn_silent a p (Give handle to) refusal = refl
-unborn_silent a p (Take handle) refusal = refl
-unborn_silent a p (Transfer handle outward index slot n) refusal = refl
 unborn_silent a p (Fork child) refusal = absurd (cc refusal)
-unborn_silent a p Exit refusal = refl
+unborn_silent a p op refusal = refl
 
 failed_taken : (s : CoreState) (who : Doer) (far : ℕ) (op : Op) → birth_for s.birth who ≡ failed → failed_turn who.actor who.proc op ≡ core_turn_by s who far (Some op) None
 failed_taken s who far op birth =
     ap (λ (b : Birth). turn_at b (failed_turn who.actor who.proc op) (op_turn s who.actor who.proc who.slots far op)) (sym birth)
 
-pub still_or_going : {place : Place} {from to : ForkPlace} {whats : List What} {op : Option Op} {waiting : Option Waiting} (s : CoreState) (who : Doer) (far : ℕ) → TurnAt (plain_of s) who place op waiting from whats to → IsTurnGoing s who place (core_turn_by s who far op waiting) whats
+pub still_or_going : {place : Place} {from to : JobPlace} {whats : List What} {op : Option Op} {waiting : Option Waiting} (s : CoreState) (who : Doer) (far : ℕ) → TurnAt (plain_of s) who place op waiting from whats to → IsTurnGoing s who place (core_turn_by s who far op waiting) whats
 still_or_going s who far (idles waiting at) = inl (0, tt)
 still_or_going s who far (waits op waiting at) = inl (0, tt)
 still_or_going s who far (goes op whats from to birth own turn) = going_by s who far op own (ahead_on (op_behind s (Some op) turn))
@@ -154,7 +134,7 @@ still_or_going {place = place} s who far (unborn_fork child birth own first) =
     inr (record { birth = inr (own, kept); later = λ k ahead. ahead_next place.answered k ahead })
 
 -- only an actor that waits for no birth comes into the middle of an operation
-pub keeps_begun : {s : PlainState} {who : Doer} {place : Place} {op : Option Op} {waiting : Option Waiting} {whats : List What} {from to : ForkPlace} → TurnAt s who place op waiting from whats to → (0 < place.far → birth_for s.birth who ≡ born) → 0 < (place_behind place whats).far → birth_for s.birth who ≡ born
+pub keeps_begun : {s : PlainState} {who : Doer} {place : Place} {op : Option Op} {waiting : Option Waiting} {whats : List What} {from to : JobPlace} → TurnAt s who place op waiting from whats to → (0 < place.far → birth_for s.birth who ≡ born) → 0 < (place_behind place whats).far → birth_for s.birth who ≡ born
 keeps_begun (idles waiting at) begun = begun
 keeps_begun (waits op waiting at) begun = begun
 keeps_begun (goes op whats from to birth own turn) begun = λ _. birth

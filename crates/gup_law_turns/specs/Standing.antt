@@ -1,5 +1,6 @@
 -- What is known of each state that turns lead to, whoever takes them.
 use Rattle.std.specs.Prelude.{◌≡◌, ℕ, ◌+◌, ◌*◌, ◌≤◌, ◌<◌, ◌==◌, Bool, true, if◌then◌else◌, List, [], length, slice_get, Option, Some, None, IsSome}
+use Rattle.gup_base.specs.Parts.{Part, words_of}
 use Rattle.gup_base.specs.declared.entry.Entry.{Entry}
 use Rattle.gup_base.specs.declared.entry.Want.{Want}
 use Rattle.gup_plain.specs.Event.{page_numbers}
@@ -13,9 +14,9 @@ use Rattle.gup_spec_events.specs.Event.{bias}
 use Rattle.gup_spec_events.specs.Invariant.{Holds}
 use Rattle.gup_law_base.specs.Sound.{IsSound}
 use Rattle.gup_spec_journal.specs.Place.{ops_of, present_op, process_of}
-use Rattle.gup_spec_turns.specs.Pages.{mapped_pages}
+use Rattle.gup_plain.specs.Pages.{mapped_pages}
 use Rattle.gup_spec_turns.specs.Run.{RunState}
-use Rattle.gup_spec_turns.specs.ForkPlace.{StandsFork, KeepsFrame, IsPrepared, IsNoFork}
+use Rattle.gup_spec_turns.specs.JobPlace.{StandsFork, KeepsFrame, IsPrepared, IsNoFork}
 use Rattle.gup_spec_turns.specs.PinPlace.{IsNoPin, StandsPin}
 
 -- how many pages of a pin its holder has given back: those of the unpin that it is in the middle of
@@ -64,5 +65,5 @@ pub record IsStanding (script : ScriptValue) (r : RunState) : Type 0 where
   pub unmaps : (a page n : ℕ) → present_op script a (r.places a) ≡ Some (Unmap page n) → (r.places a).far < n
   pub discards : (a page n : ℕ) → present_op script a (r.places a) ≡ Some (Discard page n) → (r.places a).far < n
   pub unpins : (a handle : ℕ) → present_op script a (r.places a) ≡ Some (Unpin handle) → (r.places a).far < most_pinned
-  pub transfers : (a handle : ℕ) (outward : Bool) (index slot n : ℕ) → present_op script a (r.places a) ≡ Some (Transfer handle outward index slot n) → (r.places a).far < n
+  pub transfers : (a handle : ℕ) (outward : Bool) (slot : ℕ) (parts : List Part) → present_op script a (r.places a) ≡ Some (Transfer handle outward slot parts) → (r.places a).far < words_of parts
   pub answered : (a : ℕ) → (r.places a).answered ≤ length (ops_of script a)

@@ -1,4 +1,5 @@
 pub mod Switches
+pub mod Walkers
 pub mod Steps
 pub mod TallyTaken
 pub mod WalkBegins

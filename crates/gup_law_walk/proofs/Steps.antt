@@ -2,11 +2,13 @@
 use Rattle.std.proofs.Common.{◌≡◌, ℕ, ◌+◌, ◌<◌, ◌≤◌, Bool, true, false, List, [], length, refl, ap, sym, ◌∙◌, subst}
 use Rattle.std.specs.Prelude.{Some, None, slice_get}
 use Rattle.gup_base.specs.declared.entry.Entry.{Entry}
+use Rattle.gup_plain.specs.Put.{put}
 use Rattle.gup_spec_events.specs.State.{CoreState, Taken, Job, idle, walking, WalkStep, entered}
 use Rattle.gup_spec_events.specs.Invariant.{is_inside, step_frame}
-use Rattle.gup_law_base.specs.Sound.{View, Walking, walking_of, walk_frame, is_open, tried_page, tried_entry, rechecked_entry, unkept, IsSoundBy}
+use Rattle.gup_law_base.specs.Sound.{View, Walking, walking_of, walk_frame, walk_process, is_open, tried_page, tried_entry, rechecked_entry, unkept, AreWalkers, IsSoundBy}
 use Rattle.gup_law_base.proofs.Tally.{tally_step}
 use Rattle.gup_law_walk.proofs.Switches.{IsLight, ArePages, AreSettled, IsWalk, IsActor, actor_is, switched, switched_view, switches}
+use Rattle.gup_law_walk.proofs.Walkers.{walkers_same}
 
 pub idle_light : IsLight idle
 idle_light = record { marking = refl; moving = refl; forking = refl; table = refl; structure = refl }
@@ -96,10 +98,10 @@ module _ (v : View) (s : CoreState) (ts : List Taken) (w : Walking) where
         }
 
 module _ (v : View) (s : CoreState) (h : IsSoundBy v s) (a : ℕ) where
-  -- the actor's job changes, and nothing else: the walk has grabbed what it had grabbed
-  pub changes_job : (job : Job) → IsLight (s.job a) → IsLight job → walk_frame (v.walks a) ≡ walk_frame (walking_of job) → IsActor v s (s.taken a) (walking_of job) → IsSoundBy (switched_view v s h a job s.count v.references v.grabs s.taken) (switched v s h a job s.count v.references v.grabs s.taken)
-  changes_job job was is same new =
-      switches v s h a job s.count v.references v.grabs s.taken was is (λ b apart. refl) h.references (tally_step v.grabs v.walks a (walking_of job) same h.grabs) h.count_is h.prepared_once h.moving_once new
+  -- the actor's job changes, and nothing else but the number of walks: the walk has grabbed what it had grabbed
+  pub changes_job : (job : Job) (walks : ℕ → ℕ) → IsLight (s.job a) → IsLight job → walk_frame (v.walks a) ≡ walk_frame (walking_of job) → ((q : ℕ) → AreWalkers (put a (walking_of job) v.walks) q (walks q)) → IsActor v s (s.taken a) (walking_of job) → IsSoundBy (switched_view v s h a job walks s.count v.references v.grabs s.taken) (switched v s h a job walks s.count v.references v.grabs s.taken)
+  changes_job job walks was is same number new =
+      switches v s h a job walks s.count v.references v.grabs s.taken was is (λ b apart. refl) h.references (tally_step v.grabs v.walks a (walking_of job) same h.grabs) h.count_is h.prepared_once h.moving_once number new
 
   module _ (p : ℕ) (write long : Bool) (sequence : ℕ) (step : WalkStep) (in-walk : s.job a ≡ walking p write long sequence step) where
     -- the actor's walk in the view
@@ -112,7 +114,12 @@ module _ (v : View) (s : CoreState) (h : IsSoundBy v s) (a : ℕ) where
     pub walk_light : IsLight (s.job a)
     walk_light = subst IsLight (sym in-walk) (walking_light p write long sequence step)
 
+    -- it stays a walk of its process
+    pub number_stays : (read : ℕ) (to : WalkStep) (q : ℕ) → AreWalkers (put a (Some (walk_of p write long read to)) v.walks) q (s.walks q)
+    number_stays read to =
+        walkers_same v.walks a (Some (walk_of p write long read to)) (ap walk_process walk_seen) s.walks h.walks_number
+
     -- its next step, which grabs and drops nothing
-    pub next_step : (read : ℕ) (to : WalkStep) → step_frame step ≡ step_frame to → (is_open (Some (walk_of p write long read to)) ≡ false → AreSettled v s (s.taken a)) → IsWalk v s (s.taken a) (walk_of p write long read to) → IsSoundBy (switched_view v s h a (walking p write long read to) s.count v.references v.grabs s.taken) (switched v s h a (walking p write long read to) s.count v.references v.grabs s.taken)
+    pub next_step : (read : ℕ) (to : WalkStep) → step_frame step ≡ step_frame to → (is_open (Some (walk_of p write long read to)) ≡ false → AreSettled v s (s.taken a)) → IsWalk v s (s.taken a) (walk_of p write long read to) → IsSoundBy (switched_view v s h a (walking p write long read to) s.walks s.count v.references v.grabs s.taken) (switched v s h a (walking p write long read to) s.walks s.count v.references v.grabs s.taken)
     next_step read to same settled walk =
-        changes_job (walking p write long read to) walk_light (walking_light p write long read to) (ap walk_frame walk_seen ∙ same) (in_walk v s (s.taken a) (walk_of p write long read to) (actor_is v s h a).pages settled walk)
+        changes_job (walking p write long read to) s.walks walk_light (walking_light p write long read to) (ap walk_frame walk_seen ∙ same) (number_stays read to) (in_walk v s (s.taken a) (walk_of p write long read to) (actor_is v s h a).pages settled walk)

@@ -1,6 +1,6 @@
 -- An actor's walk begins, takes a step, or ends: what has to be right of the walk and of the pages that the actor has
 -- taken, so that the state stays sound.
-use Rattle.std.proofs.Common.{◌≡◌, ℕ, ◌+◌, ◌<◌, ◌≤◌, ◌==◌, Bool, true, false, List, length, refl, sym, subst, arith}
+use Rattle.std.proofs.Common.{◌≡◌, ℕ, ◌+◌, ◌<◌, ◌≤◌, true, false, List, length, sym, subst, arith}
 use Rattle.std.specs.Prelude.{Option, Some, None, slice_get}
 use Rattle.std.proofs.lemmas.Bool.Decides.{nat_tests}
 use Rattle.gup_base.specs.declared.entry.Entry.{Entry}
@@ -9,8 +9,9 @@ use Rattle.gup_spec_events.specs.State.{CoreState, Taken, Job, entered}
 use Rattle.gup_spec_events.specs.Event.{writes_taken, long_taken, is_odd}
 use Rattle.gup_spec_events.specs.Invariant.{is_inside}
 use Rattle.gup_law_base.specs.Sound.{View, Forking, Walking, marking_of, moving_of, forking_of, walking_of, keeps_table, keeps_structure, shared_page, is_open, tried_page, tried_entry, rechecked_entry, unkept, IsSoundBy}
+use Rattle.gup_law_base.proofs.Numbers.{by_number}
 use Rattle.gup_law_base.proofs.Tally.{number_here}
-use Rattle.gup_law_base.proofs.Clauses.{References, Grabs, CountIs, MarksAre, MovesAre, ForksAre, WalksAre, TableHeld, StructureHeld, TakenMarked, TakenOwn, TakenMade, TakenFlag, TakenNames, TakenNormal, TakenWrite, TakenLong, TakenApart, WalkFlag, WalkEmpty, WalkEven, WalkBelow, WalkProc, WalkWrite, WalkLong, WalkUntaken, WalkWrites, WalkNormal, WalkOwn, WalkUnowned, WalkKept, WalkLast, WalkWritable, PreparedOnce, MovingOnce, ShareTaken}
+use Rattle.gup_law_base.proofs.Clauses.{References, Grabs, CountIs, MarksAre, MovesAre, ForksAre, WalksAre, TableHeld, StructureHeld, TakenMarked, TakenOwn, TakenMade, TakenFlag, TakenNames, TakenNormal, TakenWrite, TakenLong, TakenApart, WalksNumber, WalkFlag, WalkEmpty, WalkEven, WalkBelow, WalkProc, WalkWrite, WalkLong, WalkUntaken, WalkWrites, WalkNormal, WalkOwn, WalkUnowned, WalkKept, WalkLast, WalkWritable, PreparedOnce, MovingOnce, ShareTaken}
 
 -- the job of an actor that marks, moves and forks nothing, and so keeps no lock
 pub record IsLight (job : Job) : Type 0 where
@@ -61,13 +62,6 @@ module _ (v : View) (s : CoreState) (ts : List Taken) where
     pub settled : is_open o ≡ false → AreSettled
     pub walk : (w : Walking) → o ≡ Some w → IsWalk w
 
-pub by_number : {P : Type 0} (b a : ℕ) → (b ≡ a → P) → ((b ≡ a → ⊥) → P) → P
-by_number {P} b a same apart = go (b == a) refl
-  where
-    go : (t : Bool) → (b == a) ≡ t → P
-    go true is = same (grind (arith, nat_tests))
-    go false other = apart (λ e. let no : ⊥ = grind (arith, nat_tests) in no)
-
 pub put_there : {X : Type 0} (a : ℕ) (x : X) (f : ℕ → X) (b : ℕ) → (b ≡ a → ⊥) → put a x f b ≡ f b
 put_there a x f b apart = grind (arith, nat_tests)
 
@@ -111,9 +105,9 @@ module _ (v : View) (s : CoreState) (h : IsSoundBy v s) where
             };
       }
 
-  module _ (a : ℕ) (job : Job) (count references grabs : ℕ → ℕ) (taken : ℕ → List Taken) where
+  module _ (a : ℕ) (job : Job) (walks count references grabs : ℕ → ℕ) (taken : ℕ → List Taken) where
     abbrev pub switched : CoreState
-    switched = record s { count = count; job = put a job s.job; taken = taken }
+    switched = record s { count = count; walks = walks; job = put a job s.job; taken = taken }
 
     abbrev pub switched_view : View
     switched_view = record v { walks = put a (walking_of job) v.walks; references = references; grabs = grabs }
@@ -125,8 +119,8 @@ module _ (v : View) (s : CoreState) (h : IsSoundBy v s) where
         (λ apart. subst (λ ts. IsActor v s ts (put a (walking_of job) v.walks b)) (sym (there b apart)) (subst (IsActor v s (s.taken b)) (sym (put_there a (walking_of job) v.walks b apart)) (actor_is b)))
 
     -- The state is sound after the change of an actor's job, and of the pages that it has taken.
-    pub switches : IsLight (s.job a) → IsLight job → ((b : ℕ) → (b ≡ a → ⊥) → taken b ≡ s.taken b) → References switched_view switched → Grabs switched_view switched → CountIs switched_view switched → PreparedOnce switched_view switched → MovingOnce switched_view switched → IsActor v s (taken a) (walking_of job) → IsSoundBy switched_view switched
-    switches was is there references-are grabs-are count_is prepared_once moving_once new =
+    pub switches : IsLight (s.job a) → IsLight job → ((b : ℕ) → (b ≡ a → ⊥) → taken b ≡ s.taken b) → References switched_view switched → Grabs switched_view switched → CountIs switched_view switched → PreparedOnce switched_view switched → MovingOnce switched_view switched → WalksNumber switched_view switched → IsActor v s (taken a) (walking_of job) → IsSoundBy switched_view switched
+    switches was is there references-are grabs-are count_is prepared_once moving_once walks_number new =
         let V : View = switched_view in
         let S : CoreState = switched in
         let all = actors_are there new in

@@ -1,12 +1,13 @@
 -- A walk begins, reads the sequence of its process, and ends.
-use Rattle.std.proofs.Common.{◌≡◌, ℕ, Bool, true, false, [], refl, ap, sym, ◌∙◌, subst, arith}
+use Rattle.std.proofs.Common.{◌≡◌, ℕ, ◌+◌, ◌-◌, Bool, true, false, [], refl, ap, sym, ◌∙◌, subst, arith}
 use Rattle.std.specs.Prelude.{Some, None, slice_get, if◌then◌else◌}
 use Rattle.gup_plain.specs.Put.{put}
 use Rattle.gup_spec_events.specs.State.{CoreState, Taken, Job, idle, walking, entered, ready, over}
 use Rattle.gup_spec_events.specs.Event.{Can, happens, is_odd, enter_walk, read_sequence, leave_walk}
-use Rattle.gup_law_base.specs.Sound.{View, Walking, walking_of, walk_frame, is_open, IsSoundBy, IsSound, Simulates}
+use Rattle.gup_law_base.specs.Sound.{View, Walking, walking_of, walk_frame, walk_process, is_open, IsSoundBy, IsSound, Simulates}
 use Rattle.gup_law_walk.proofs.Switches.{IsLight, AreSettled, IsWalk, actor_is, switched, switched_view}
 use Rattle.gup_law_walk.proofs.Steps.{idle_light, walking_light, walk_of, none_taken, in_walk, outside, changes_job, walk_seen, walk_known, walk_light, next_step}
+use Rattle.gup_law_walk.proofs.Walkers.{walkers_more, walkers_less}
 
 -- nothing is taken yet, and the process has pinned
 pub simulates-enter_walk : (s : CoreState) (a p : ℕ) (write long : Bool) → IsSound s → Can s (enter_walk a p write long) → Simulates s (enter_walk a p write long)
@@ -37,8 +38,8 @@ simulates-enter_walk s a p write long (v, h) c =
       last = λ k t e last. absurd (cc);
       writable = λ k t e last. absurd (cc);
     } in
-    let V : View = switched_view v s h a job s.count v.references v.grabs s.taken in
-    let g : IsSoundBy V (switched v s h a job s.count v.references v.grabs s.taken) = changes_job v s h a job was (walking_light p write long 0 entered) unseen (in_walk v s (s.taken a) w (actor_is v s h a).pages (λ closed. absurd (cc)) walk) in
+    let V : View = switched_view v s h a job (put p (s.walks p + 1) s.walks) s.count v.references v.grabs s.taken in
+    let g : IsSoundBy V (switched v s h a job (put p (s.walks p + 1) s.walks) s.count v.references v.grabs s.taken) = changes_job v s h a job (put p (s.walks p + 1) s.walks) was (walking_light p write long 0 entered) unseen (walkers_more v.walks a (Some w) p s.walks (ap walk_process (h.walks_are a ∙ ap walking_of idles)) refl h.walks_number) (in_walk v s (s.taken a) w (actor_is v s h a).pages (λ closed. absurd (cc)) walk) in
     let sound : IsSoundBy V S = assumption in
     record { sound = (V, sound); can = tt; same = refl }
 
@@ -87,7 +88,7 @@ pub simulates-leave_walk : (s : CoreState) (a p : ℕ) (write long : Bool) (sequ
 simulates-leave_walk s a p write long sequence (v, h) c =
     let S : CoreState = happens s (leave_walk a p write long sequence) in
     let seen : v.walks a ≡ Some (walk_of p write long sequence over) = walk_seen v s h a p write long sequence over c in
-    let V : View = switched_view v s h a idle s.count v.references v.grabs s.taken in
-    let g : IsSoundBy V (switched v s h a idle s.count v.references v.grabs s.taken) = changes_job v s h a idle (walk_light v s h a p write long sequence over c) idle_light (ap walk_frame seen) (record { pages = (actor_is v s h a).pages; settled = λ closed. (actor_is v s h a).settled (ap is_open seen); walk = λ w is. absurd (cc) }) in
+    let V : View = switched_view v s h a idle (put p (s.walks p - 1) s.walks) s.count v.references v.grabs s.taken in
+    let g : IsSoundBy V (switched v s h a idle (put p (s.walks p - 1) s.walks) s.count v.references v.grabs s.taken) = changes_job v s h a idle (put p (s.walks p - 1) s.walks) (walk_light v s h a p write long sequence over c) idle_light (ap walk_frame seen) (walkers_less v.walks a None p s.walks (ap walk_process seen) refl h.walks_number) (record { pages = (actor_is v s h a).pages; settled = λ closed. (actor_is v s h a).settled (ap is_open seen); walk = λ w is. absurd (cc) }) in
     let sound : IsSoundBy V S = assumption in
     record { sound = (V, sound); can = tt; same = refl }

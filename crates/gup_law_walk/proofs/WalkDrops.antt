@@ -12,7 +12,7 @@ use Rattle.gup_law_base.proofs.Rows.{at_end, at_longer, at_within}
 use Rattle.gup_law_base.proofs.Tally.{changed, tally_is, tally_step, tally_drop, number_here}
 use Rattle.gup_law_base.proofs.Lonely.{taken_counts, taken_alone, grab_counts, grab_alone}
 use Rattle.gup_law_walk.proofs.Switches.{ArePages, AreSettled, IsWalk, IsActor, actor_is, switched, switched_view, switches, put_there}
-use Rattle.gup_law_walk.proofs.Steps.{walking_light, walk_of, in_walk, rests, walk_seen, walk_known, walk_light}
+use Rattle.gup_law_walk.proofs.Steps.{walking_light, walk_of, in_walk, rests, walk_seen, walk_known, walk_light, number_stays}
 use Rattle.gup_law_walk.proofs.TallyTaken.{tally_last, tally_first}
 use Rattle.gup_law_walk.proofs.FreedFrames.{freed}
 use Rattle.gup_law_walk.proofs.PlainPending.{told_contains, told_last, told_first, told_less}
@@ -28,12 +28,12 @@ simulates-drop_grab s a p write long sequence f (v, h) c =
     let walk : IsWalk v s (s.taken a) new = rests v s (s.taken a) old was refl stopped (λ e. absurd (cc)) refl refl refl (λ k t. was.kept k t refl) in
     let count : ℕ → ℕ = put f (s.count f - bias) s.count in
     let fewer : ℕ → ℕ = put f (v.grabs f - bias) v.grabs in
-    let S : CoreState = switched v s h a job count v.references fewer s.taken in
-    let V : View = switched_view v s h a job count v.references fewer s.taken in
+    let S : CoreState = switched v s h a job s.walks count v.references fewer s.taken in
+    let V : View = switched_view v s h a job s.walks count v.references fewer s.taken in
     let weighs : bias ≤ v.grabs f = grab_counts v s h a f seen in
     let grabs : Grabs V S = tally_drop v.grabs v.walks a f (Some new) seen refl h.grabs in
     let count_is : CountIs V S = λ u. grind (arith, nat_tests, h.count_is u) in
-    let dropped : IsSoundBy V S = switches v s h a job count v.references fewer s.taken (walk_light v s h a p write long sequence (differed f) c) (walking_light p write long sequence stopped) (λ b apart. refl) h.references grabs count_is h.prepared_once h.moving_once (in_walk v s (s.taken a) new (actor_is v s h a).pages (λ closed. absurd (cc)) walk) in
+    let dropped : IsSoundBy V S = switches v s h a job s.walks count v.references fewer s.taken (walk_light v s h a p write long sequence (differed f) c) (walking_light p write long sequence stopped) (λ b apart. refl) h.references grabs count_is h.prepared_once h.moving_once (number_stays v s h a p write long sequence (differed f) c sequence stopped) (in_walk v s (s.taken a) new (actor_is v s h a).pages (λ closed. absurd (cc)) walk) in
     let none : (s.count f == bias) ≡ true → v.references f ≡ 0 = λ free. (grab_alone v s h a f seen (grind (arith, nat_tests))).0 in
     let sound : IsSoundBy V (happens s (drop_grab a p write long sequence f)) = freed V S dropped f (s.count f == bias) none in
     record { sound = (V, sound); can = tt; same = refl }
@@ -98,8 +98,8 @@ module _ (v : View) (s : CoreState) (h : IsSoundBy v s) (a p : ℕ) (write long 
       let count : ℕ → ℕ = put f (s.count f - bias) s.count in
       let less : ℕ → ℕ = put f (v.references f - bias) v.references in
       let taken : ℕ → List Taken = put a left s.taken in
-      let S : CoreState = switched v s h a job count less v.grabs taken in
-      let V : View = switched_view v s h a job count less v.grabs taken in
+      let S : CoreState = switched v s h a job s.walks count less v.grabs taken in
+      let V : View = switched_view v s h a job s.walks count less v.grabs taken in
       let weighs : bias ≤ v.references f = taken_counts v s h a at t is in
       let references : References V S = tally_is _ _ _ tally (λ d. grind (arith, nat_tests)) in
       let grabs : Grabs V S = tally_step v.grabs v.walks a (Some new) (ap walk_frame (walk_seen v s h a p write long sequence from c) ∙ same) h.grabs in
@@ -107,7 +107,7 @@ module _ (v : View) (s : CoreState) (h : IsSoundBy v s) (a p : ℕ) (write long 
       let prepared_once : PreparedOnce V S = λ b u. grind (arith, nat_tests, h.prepared_once b u) in
       let moving_once : MovingOnce V S = λ b m. grind (arith, nat_tests, h.moving_once b m) in
       let actor : IsActor v s (taken a) (Some new) = subst (λ xs. IsActor v s xs (Some new)) (sym (number_here a left s.taken)) (in_walk v s left new pages settled walk) in
-      let dropped : IsSoundBy V S = switches v s h a job count less v.grabs taken (walk_light v s h a p write long sequence from c) (walking_light p write long sequence to) (λ b apart. put_there a left s.taken b apart) references grabs count_is prepared_once moving_once actor in
+      let dropped : IsSoundBy V S = switches v s h a job s.walks count less v.grabs taken (walk_light v s h a p write long sequence from c) (walking_light p write long sequence to) (λ b apart. put_there a left s.taken b apart) references grabs count_is prepared_once moving_once (number_stays v s h a p write long sequence from c sequence to) actor in
       let none : (s.count f == bias) ≡ true → less f ≡ 0 = λ free. grind (arith, nat_tests, taken_alone v s h a at t is) in
       (V, freed V S dropped f (s.count f == bias) none)
 

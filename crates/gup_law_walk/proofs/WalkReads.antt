@@ -11,7 +11,7 @@ use Rattle.gup_law_base.proofs.Clauses.{Grabs, CountIs}
 use Rattle.gup_law_base.proofs.Tally.{tally_grab}
 use Rattle.gup_law_base.proofs.PinLists.{all_untaken}
 use Rattle.gup_law_walk.proofs.Switches.{IsWalk, actor_is, switched, switched_view, switches}
-use Rattle.gup_law_walk.proofs.Steps.{walking_light, walk_of, in_walk, rests, tries, walk_seen, walk_known, walk_light, next_step}
+use Rattle.gup_law_walk.proofs.Steps.{walking_light, walk_of, in_walk, rests, tries, walk_seen, walk_known, walk_light, number_stays, next_step}
 
 -- an entry that isn't wrong is writable where the pages are to be written, and normal where they are kept for long
 right_writes : (write writable rest : Bool) → ((write && not writable) || rest) ≡ false → write ≡ true → writable ≡ true
@@ -57,13 +57,13 @@ simulates-grab_frame s a p write long sequence page entry (v, h) c =
     let new : Walking = walk_of p write long sequence (grabbed page entry) in
     let count : ℕ → ℕ = put f (s.count f + bias) s.count in
     let more : ℕ → ℕ = put f (v.grabs f + bias) v.grabs in
-    let S : CoreState = switched v s h a job count v.references more s.taken in
-    let V : View = switched_view v s h a job count v.references more s.taken in
+    let S : CoreState = switched v s h a job s.walks count v.references more s.taken in
+    let V : View = switched_view v s h a job s.walks count v.references more s.taken in
     let was : IsWalk v s (s.taken a) old = walk_known v s h a p write long sequence (read page entry) c.0 in
     let walk : IsWalk v s (s.taken a) new = tries v s (s.taken a) old was refl (grabbed page entry) (λ e. absurd (cc)) refl page entry refl refl refl (λ k t. was.untaken k page t refl) (was.writes entry refl) (was.normal entry refl) in
     let grabs : Grabs V S = tally_grab v.grabs v.walks a f (Some new) (ap (λ o. walk_frame o) (walk_seen v s h a p write long sequence (read page entry) c.0)) refl h.grabs in
     let count_is : CountIs V S = λ u. grind (arith, nat_tests, h.count_is u) in
-    let sound : IsSoundBy V S = switches v s h a job count v.references more s.taken (walk_light v s h a p write long sequence (read page entry) c.0) (walking_light p write long sequence (grabbed page entry)) (λ b apart. refl) h.references grabs count_is h.prepared_once h.moving_once (in_walk v s (s.taken a) new (actor_is v s h a).pages (λ closed. absurd (cc)) walk) in
+    let sound : IsSoundBy V S = switches v s h a job s.walks count v.references more s.taken (walk_light v s h a p write long sequence (read page entry) c.0) (walking_light p write long sequence (grabbed page entry)) (λ b apart. refl) h.references grabs count_is h.prepared_once h.moving_once (number_stays v s h a p write long sequence (read page entry) c.0 sequence (grabbed page entry)) (in_walk v s (s.taken a) new (actor_is v s h a).pages (λ closed. absurd (cc)) walk) in
     record { sound = (V, sound); can = tt; same = refl }
 
 -- the frame was free, or its count too high

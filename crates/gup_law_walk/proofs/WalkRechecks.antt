@@ -7,7 +7,8 @@ use Rattle.gup_plain.specs.Put.{put}
 use Rattle.gup_spec_events.specs.State.{CoreState, Taken, walking, ready, grabbed, rechecked, differed, refused}
 use Rattle.gup_spec_events.specs.Event.{Can, recheck_other, read_mark}
 use Rattle.gup_law_base.specs.Sound.{Walking, IsSound, Simulates}
-use Rattle.gup_law_walk.proofs.Switches.{IsWalk, by_number}
+use Rattle.gup_law_base.proofs.Numbers.{by_number}
+use Rattle.gup_law_walk.proofs.Switches.{IsWalk}
 use Rattle.gup_law_walk.proofs.Steps.{walk_of, rests, walk_known, next_step}
 
 -- the grab is still there

@@ -14,7 +14,7 @@ use Rattle.gup_law_base.proofs.Tally.{tally_is, tally_taken, tally_drop, number_
 use Rattle.gup_law_base.proofs.Lonely.{once_wholes, prepared_whole, born_mapped, grab_counts}
 use Rattle.gup_law_base.proofs.PinLists.{all_alike, all_untaken, write_more, long_more, untold, told_more, allows}
 use Rattle.gup_law_walk.proofs.Switches.{ArePages, IsWalk, IsActor, actor_is, switched, switched_view, switches, put_there}
-use Rattle.gup_law_walk.proofs.Steps.{walking_light, walk_of, in_walk, walk_seen, walk_known, walk_light}
+use Rattle.gup_law_walk.proofs.Steps.{walking_light, walk_of, in_walk, walk_seen, walk_known, walk_light, number_stays}
 
 longer_by_one : (ts : List Taken) (t : Taken) → length (ts ++ t ∷ []) ≡ length ts + 1
 longer_by_one [] t = refl
@@ -61,8 +61,8 @@ simulates-recheck_same s a p write long sequence page e (v, h) c =
     let more : ℕ → ℕ = put f (v.references f + bias) v.references in
     let fewer : ℕ → ℕ = put f (v.grabs f - bias) v.grabs in
     let taken : ℕ → List Taken = put a us s.taken in
-    let S : CoreState = switched v s h a job s.count more fewer taken in
-    let V : View = switched_view v s h a job s.count more fewer taken in
+    let S : CoreState = switched v s h a job s.walks s.count more fewer taken in
+    let V : View = switched_view v s h a job s.walks s.count more fewer taken in
     let there : v.whole p page ≡ Some e = h.whole_entry p page e c.1 in
     let named : v.names p page ≡ Some (s.object p page) = h.whole_names p page e there in
     let is_born : s.birth p ≡ born = h.flag_born p was.flag in
@@ -97,5 +97,5 @@ simulates-recheck_same s a p write long sequence page e (v, h) c =
       writable = λ k t d checked writable same. each_more (λ k t. k + 1 ≡ length us → s.mark t.frame ≡ true) ts new (λ k t at end. absurd (omega (arith, longer, end, at_within ts k t at))) (λ end. h.entry_marked p page e there (let is : e ≡ d = cc in ap (λ (x : Entry). x.writable) is ∙ writable)) k t;
     } in
     let actor : IsActor v s (taken a) (Some now) = subst (λ xs. IsActor v s xs (Some now)) (sym (number_here a us s.taken)) (in_walk v s us now pages (λ closed. absurd (cc)) walk) in
-    let sound : IsSoundBy V S = switches v s h a job s.count more fewer taken (walk_light v s h a p write long sequence (grabbed page e) c.0) (walking_light p write long sequence (rechecked page e)) (λ b apart. put_there a us s.taken b apart) references grabs count_is prepared_once moving_once actor in
+    let sound : IsSoundBy V S = switches v s h a job s.walks s.count more fewer taken (walk_light v s h a p write long sequence (grabbed page e) c.0) (walking_light p write long sequence (rechecked page e)) (λ b apart. put_there a us s.taken b apart) references grabs count_is prepared_once moving_once (number_stays v s h a p write long sequence (grabbed page e) c.0 sequence (rechecked page e)) actor in
     record { sound = (V, sound); can = (is_born, allows v s h p page e write is_born there (was.writes e refl), untold ts page untaken); same = ap (λ (x : ℕ → List Pending). record (plain_of s) { pending = x }) (told_more s a p page new (born_mapped v s h p page e is_born there)) }

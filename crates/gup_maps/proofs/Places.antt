@@ -1,11 +1,12 @@
 -- Ordered pages, and the place of a page among them.
-use Rattle.std.proofs.Common.{◌≡◌, ℕ, zero, suc, ◌+◌, ◌-◌, ◌<◌, ◌≤◌, ltb, cond, List, ◌++◌, take, drop, length, get_or, refl, ◌∙◌, ⊎_elim, arith, length-append, length-take, length-drop}
+use Rattle.std.proofs.Common.{◌≡◌, ℕ, zero, suc, ◌+◌, ◌-◌, ◌^◌, ◌<◌, ◌≤◌, ltb, cond, List, ◌++◌, take, drop, length, get_or, refl, ◌∙◌, ⊎_elim, arith, length-append, length-take, length-drop}
 use Rattle.std.specs.List.{remove}
 use Rattle.std.proofs.lemmas.List.{length-take-le, get_or_append_left, get_or-append_right, get_or-take, get_or-drop}
 use Rattle.std.proofs.lemmas.List.Edits.{length-remove, get_or-remove_below, get_or-remove_above}
 use Rattle.std.proofs.lemmas.Bool.{cases_lt}
 use Rattle.std.proofs.lemmas.Bool.Decides.{nat_tests}
-use Rattle.gup_maps.specs.Table.{IsOrdered, IsPlace, IsThere, IsGap, IsRun}
+use Rattle.gup_plain.specs.Pages.{page_numbers}
+use Rattle.gup_maps.specs.Table.{IsOrdered, AreNumbered, IsPlace, IsThere, IsGap, IsRun}
 
 module _ (pages : List ℕ) (ordered : IsOrdered pages) where
   -- a page is not below those before it
@@ -71,7 +72,20 @@ module _ (pages : List ℕ) (ordered : IsOrdered pages) where
       let small : cond (ltb k i) k (k + 1) < length pages = grind (arith, nat_tests) in
       rw (removed_at i j within, removed_at i k within) (ordered (cond (ltb j i) j (j + 1)) (cond (ltb k i) k (k + 1)) after small)
 
+-- each stays a page's number
+pub numbered-remove : (pages : List ℕ) (i : ℕ) → i < length pages → AreNumbered pages → AreNumbered (remove pages i)
+numbered-remove pages i within numbered j inside =
+    let len : length (remove pages i) + 1 ≡ length pages = length-remove pages i within in
+    ⊎_elim
+    (λ less. rw (get_or-remove_below pages i 0 j less within) (numbered j (omega arith)))
+    (λ above. rw (get_or-remove_above pages i 0 j above within) (numbered (j + 1) (omega arith)))
+    (cases_lt j i)
+
 -- ---- pages are put in
+
+below_numbers : (page n : ℕ) → page + n ≤ 2 ^ 35 → page + n ≤ page_numbers
+unfolding page_numbers
+below_numbers page n below = below
 
 module _ (pages new : List ℕ) (i : ℕ) (within : i ≤ length pages) where
   inserted_below : (j : ℕ) → j < i → get_or (take i pages ++ (new ++ drop i pages)) j 0 ≡ get_or pages j 0
@@ -124,3 +138,16 @@ ordered-insert pages new page n i ordered gap len each j k less inside =
     (cases_lt j i))
     (cases_lt k (i + length new)))
     (cases_lt k i)
+
+pub numbered-insert : (pages new : List ℕ) (page n i : ℕ) → i ≤ length pages → AreNumbered pages → length new ≡ n → ((k : ℕ) → k < n → get_or new k 0 ≡ page + k) → page + n ≤ 2 ^ 35 → AreNumbered (take i pages ++ (new ++ drop i pages))
+numbered-insert pages new page n i within numbered len each below j inside =
+    let all : length (take i pages ++ (new ++ drop i pages)) ≡ length pages + length new = inserted_length pages new i within in
+    let last : page + n ≤ page_numbers = below_numbers page n below in
+    ⊎_elim
+    (λ j_below. rw (inserted_below pages new i within j j_below) (numbered j (omega arith)))
+    (λ j_behind.
+    ⊎_elim
+    (λ j_new. rw (inserted_new pages new i within j j_behind j_new ∙ each (j - i) (omega arith)) (omega arith))
+    (λ j_above. rw (inserted_above pages new i within j j_above) (numbered (j - length new) (omega arith)))
+    (cases_lt j (i + length new)))
+    (cases_lt j i)

@@ -1,11 +1,11 @@
 -- Whether pages next to each other have values.
-use Rattle.std.proofs.Common.{add-zero, take, drop, ◌++◌, length-append, length-take, length-drop, ◌≡◌, ℕ, zero, suc, ◌+◌, ◌-◌, ◌<◌, ◌≤◌, eqb, Bool, true, false, not, MatchBool, List, length, get_or, None, is_some, refl, ap, sym, ◌∙◌, inl, inr, ◌⊎◌, ⊎_elim, arith}
+use Rattle.std.proofs.Common.{add-zero, take, drop, ◌++◌, length-append, length-take, length-drop, ◌≡◌, ℕ, zero, suc, ◌+◌, ◌-◌, ◌^◌, ◌<◌, ◌≤◌, eqb, Bool, true, false, not, MatchBool, List, length, get_or, None, is_some, refl, ap, sym, ◌∙◌, inl, inr, ◌⊎◌, ⊎_elim, arith}
 use Rattle.std.specs.List.{remove}
 use Rattle.std.proofs.lemmas.List.Edits.{length-remove}
 use Rattle.std.proofs.lemmas.Bool.{cases_lt, cases_eq, cases_Bool, false≢true, or_parts, or_from, or_left, or_right, eqb-true, eqb-false}
 use Rattle.gup_plain.specs.Denial.{any_below}
-use Rattle.gup_maps.specs.Table.{at, pages_of, any_present, any_absent, IsOrdered, IsPlace, IsThere, IsGap, IsRun, IsNextPage, IsKept, run}
-use Rattle.gup_maps.proofs.Places.{rises, place_more, run_from_last, ordered-remove, ordered-insert}
+use Rattle.gup_maps.specs.Table.{at, pages_of, any_present, any_absent, IsOrdered, AreNumbered, IsPlace, IsThere, IsGap, IsRun, IsNextPage, IsKept, run}
+use Rattle.gup_maps.proofs.Places.{rises, place_more, run_from_last, ordered-remove, ordered-insert, numbered-remove, numbered-insert}
 use Rattle.gup_maps.proofs.Values.{length-pages, at_none, nowhere, is_somewhere, pages-remove, pages-insert, length-run, page-run}
 
 pub any_below_none : (n : ℕ) (test : ℕ → Bool) → ((k : ℕ) → k < n → test k ≡ false) → any_below n test ≡ false
@@ -150,11 +150,12 @@ module _ {V : Type 0} (rows : List (ℕ × V)) (ordered : IsOrdered (pages_of ro
       let inside : i < length (pages_of rows) = there.0 in
       record {
         ordered = rw (pages-remove rows i) (ordered-remove (pages_of rows) ordered i inside);
+        numbered = rw (pages-remove rows i) (numbered-remove (pages_of rows) i inside kept.numbered);
         few = let less : length (remove rows i) + 1 ≡ length rows = length-remove rows i (omega arith) in let few : length rows ≤ 1024 = kept.few in omega arith;
       }
 
-  pub kept-insert : (page n i : ℕ) (value : V) → IsGap (pages_of rows) page n i → length rows + n ≤ 1024 → IsKept (take i rows ++ (run page n value ++ drop i rows))
-  kept-insert page n i value gap few =
+  pub kept-insert : (page n i : ℕ) (value : V) → IsGap (pages_of rows) page n i → AreNumbered (pages_of rows) → page + n ≤ 2 ^ 35 → length rows + n ≤ 1024 → IsKept (take i rows ++ (run page n value ++ drop i rows))
+  kept-insert page n i value gap numbered below few =
       let len : length (pages_of rows) ≡ length rows = length-pages rows in
       let len_run : length (run page n value) ≡ n = length-run page n value in
       let inside : i ≤ length (pages_of rows) = gap.stands.within in
@@ -162,6 +163,9 @@ module _ {V : Type 0} (rows : List (ℕ × V)) (ordered : IsOrdered (pages_of ro
         ordered =
             rw (pages-insert rows (run page n value) i)
             (ordered-insert (pages_of rows) (pages_of (run page n value)) page n i ordered gap (length-pages (run page n value) ∙ len_run) (page-run page n value));
+        numbered =
+            rw (pages-insert rows (run page n value) i)
+            (numbered-insert (pages_of rows) (pages_of (run page n value)) page n i inside numbered (length-pages (run page n value) ∙ len_run) (page-run page n value) below);
         few = simp (length-append, length-take, length-drop) (omega arith);
       }
 

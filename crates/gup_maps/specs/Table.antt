@@ -1,6 +1,7 @@
 -- Tables: values at some of the pages, kept as rows of a page and its value.
 use Rattle.std.specs.Prelude.{◌≡◌, ℕ, ◌+◌, ◌==◌, ◌<◌, ◌≤◌, Bool, not, is_some, if◌then◌else◌, List, [], ◌∷◌, ◌++◌, map, length, slice_index, Option, None, Some, IsSome, zero, suc}
 use Rattle.gup_plain.specs.Denial.{any_below}
+use Rattle.gup_plain.specs.Pages.{page_numbers}
 
 -- the value at a page, where there is one
 abbrev pub at : {V : Type 0} → List (ℕ × V) → ℕ → Option V
@@ -32,6 +33,10 @@ pages_of rows = map (λ row. row.0) rows
 abbrev pub IsOrdered : List ℕ → Type 0
 IsOrdered pages = (i j : ℕ) → i < j → j < length pages → slice_index pages i < slice_index pages j
 
+-- each has a number that a page may have
+abbrev pub AreNumbered : List ℕ → Type 0
+AreNumbered pages = (i : ℕ) → i < length pages → slice_index pages i < page_numbers
+
 -- the pages before this place, and no others, are below the page
 pub record IsPlace (pages : List ℕ) (page place : ℕ) : Type 0 where
   pub within : place ≤ length pages
@@ -52,9 +57,10 @@ pub record IsRun (pages : List ℕ) (page n place : ℕ) : Type 0 where
   pub within : place + n ≤ length pages
   pub each : (k : ℕ) → k < n → slice_index pages (place + k) ≡ page + k
 
--- what a table keeps of its rows: their order, and that they are few
+-- what a table keeps of its rows: their order, that their pages are numbers of pages, and that they are few
 pub record IsKept {V : Type 0} (rows : List (ℕ × V)) : Type 0 where
   pub ordered : IsOrdered (pages_of rows)
+  pub numbered : AreNumbered (pages_of rows)
   pub few : length rows ≤ 1024
 
 -- the first row is among the items or after all, and there is room for 1,024 items and no need of more

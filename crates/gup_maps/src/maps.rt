@@ -1,6 +1,7 @@
 //! The mappings of a process.
 ghost use Rattle.std.specs.Prelude.{◌≡◌, ℕ, ◌+◌, ◌<◌, ◌≤◌, ◌^◌, ◌↔◌, if◌then◌else◌, true, false, is_some, is_err, None, Some, Err, IfOk, OnOk, OnErr, IsTrue, MatchOption, MatchResult};
 ghost use Rattle.gup_plain.specs.Denial.{any_mapped, any_unmapped};
+ghost use Rattle.gup_plain.specs.Pages.{mapped_pages};
 ghost use Rattle.gup_plain.specs.Put.{put, spread};
 ghost use Rattle.gup_maps.specs.Maps.{no_maps, maps_of, IsNextPage, IsLastPage};
 
@@ -84,6 +85,13 @@ impl Maps {
         ensures within { result ≤ 1024 }
     {
         self.rights.len()
+    }
+
+    /// A law: as many pages are mapped as have rights.
+    pub fn is_counted(&self)
+        ensures { mapped_pages (maps_of self.now).right ≡ (maps_of self.now).pages }
+    {
+        self.rights.is_counted();
     }
 
     /// The rights of the page, where it is mapped.

@@ -1,6 +1,7 @@
 //! Values at pages.
 ghost use Rattle.std.specs.Prelude.{◌≡◌, ℕ, ◌+◌, ◌<◌, ◌≤◌, ◌^◌, ◌↔◌, nat_lt, if◌then◌else◌, true, false, not, is_some, length, None, Some, IfOk, IsSome, MatchOption};
 ghost use Rattle.std.specs.Bool.{MatchBool, OnTrue, OnFalse};
+ghost use Rattle.gup_plain.specs.Pages.{page_numbers, sum_below};
 ghost use Rattle.gup_plain.specs.Put.{put, spread};
 ghost use Rattle.gup_maps.specs.Table.{at, pages_of, any_present, any_absent, IsNextPage, IsLastPage, IsOrdered, IsPlace, IsThere, IsGap, IsRun};
 
@@ -103,6 +104,13 @@ impl<V: Copy> Table<V> {
     /// A law: the rows stand in the order of their pages, so no page has two.
     pub fn is_ordered(&self)
         ensures { IsOrdered (pages_of self.now) }
+    {
+        let _rows = &self.rows;
+    }
+
+    /// A law: there are as many values as numbers of pages that have one.
+    pub fn is_counted(&self)
+        ensures { sum_below page_numbers (λ page. if is_some (at self.now page) then 1 else 0) ≡ length self.now }
     {
         let _rows = &self.rows;
     }

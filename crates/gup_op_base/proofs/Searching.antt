@@ -1,12 +1,14 @@
 -- What a search finds depends on its test's answers alone.
 use Rattle.std.proofs.Common.{◌≡◌, ℕ, ◌+◌, ◌==◌, ◌||◌, Bool, cond, true, false, Some, refl, sym, ap, ◌∙◌, zero, suc}
-use Rattle.gup_base.specs.declared.entry.Allowed.TheVariants.{Any}
+use Rattle.gup_base.specs.declared.entry.Allowed.{Allowed}
+use Rattle.gup_base.specs.declared.entry.Allowed.TheVariants.{Any, Only}
+use Rattle.gup_base.specs.declared.entry.Zone.TheVariants.{Movable, Normal}
 use Rattle.gup_plain.specs.Put.{lowest}
 use Rattle.gup_plain.specs.Denial.{any_below}
-use Rattle.gup_frames.specs.Frames.{FramesValue, free_frame}
+use Rattle.gup_frames.specs.Frames.{FramesValue, frames_in, free_from, free_frame}
 use Rattle.gup_space.specs.Shows.{ShowsFrames}
 use Rattle.gup_spec_events.specs.State.{CoreState}
-use Rattle.gup_spec_turns.specs.CoreTurn.{free_frame as free_in_state}
+use Rattle.gup_spec_turns.specs.CoreTurn.{free_in, free_from as free_from_in}
 
 pub lowest_same : (first n : ℕ) (test other : ℕ → Bool) → ((k : ℕ) → test k ≡ other k) → lowest first n test ≡ lowest first n other
 lowest_same first zero test other same = refl
@@ -23,11 +25,27 @@ lowest_passes first (suc n) f test found = go (test first) refl found (λ later.
     go true is same later = let at : first ≡ f = cc in ap test (sym at) ∙ is
     go false is found later = later found
 
--- the free frame of a state is that of the frames that it shows
-pub free_agrees : (frames : FramesValue) (s : CoreState) → ShowsFrames frames s → free_in_state s ≡ free_frame frames Any
-free_agrees frames s h =
-    lowest_same 0 (s.movable + s.normal) (λ f. s.count f == 0) (λ f. frames.count f == 0) (λ f. ap (λ n. n == 0) (h.count f))
-    ∙ ap (λ n. lowest 0 n (λ f. frames.count f == 0)) (ap (λ m. m + s.normal) h.movable ∙ ap (λ m. frames.movable + m) h.normal)
+-- a free frame has no reference
+pub free_passes : (frames : FramesValue) (allowed : Allowed) (f : ℕ) → free_frame frames allowed ≡ Some f → (frames.count f == 0) ≡ true
+free_passes frames Any f found = lowest_passes 0 (frames_in frames) f (λ g. frames.count g == 0) found
+free_passes frames (Only Movable) f found = lowest_passes 0 frames.movable f (λ g. frames.count g == 0) found
+free_passes frames (Only Normal) f found = lowest_passes frames.movable frames.normal f (λ g. frames.count g == 0) found
+
+free_from_agrees : (frames : FramesValue) (first n : ℕ) (s : CoreState) → ShowsFrames frames s → free_from_in s first n ≡ free_from frames first n
+free_from_agrees frames first n s h =
+    lowest_same first n (λ f. s.count f == 0) (λ f. frames.count f == 0) (λ f. ap (λ m. m == 0) (h.count f))
+
+-- the free frame of a state is that of the frames that it shows, whichever zones are allowed
+pub free_agrees : (frames : FramesValue) (allowed : Allowed) (s : CoreState) → ShowsFrames frames s → free_in s allowed ≡ free_frame frames allowed
+free_agrees frames Any s h =
+    free_from_agrees frames 0 (s.movable + s.normal) s h
+    ∙ ap (λ n. free_from frames 0 n) (ap (λ m. m + s.normal) h.movable ∙ ap (λ m. frames.movable + m) h.normal)
+free_agrees frames (Only Movable) s h =
+    free_from_agrees frames 0 s.movable s h ∙ ap (λ n. free_from frames 0 n) h.movable
+free_agrees frames (Only Normal) s h =
+    free_from_agrees frames s.movable s.normal s h
+    ∙ ap (λ m. free_from frames m s.normal) h.movable
+    ∙ ap (λ n. free_from frames frames.movable n) h.normal
 
 pub any_same : (n : ℕ) (test other : ℕ → Bool) → ((k : ℕ) → test k ≡ other k) → any_below n test ≡ any_below n other
 any_same zero test other same = refl

@@ -1,5 +1,6 @@
 -- How far an operation that goes over pages or words is.
 use Rattle.std.specs.Prelude.{ℕ, ◌<◌, Option, Some}
+use Rattle.gup_base.specs.Parts.{words_of}
 use Rattle.gup_script.specs.declared.op.Op.{Op}
 use Rattle.gup_script.specs.declared.op.Op.TheVariants.{Unmap, Discard, Pin, Transfer}
 
@@ -8,7 +9,7 @@ abbrev pub far_in : Option Op → (far : ℕ) → ℕ
 far_in (Some (Unmap page n)) far = far
 far_in (Some (Discard page n)) far = far
 far_in (Some (Pin handle page n want fast)) far = far
-far_in (Some (Transfer handle outward index slot n)) far = far
+far_in (Some (Transfer handle outward slot parts)) far = far
 far_in op far = 0
 
 -- an operation that goes over n pages or words stands at one of them
@@ -16,5 +17,5 @@ abbrev pub HasFar : Op → (far : ℕ) → Type 0
 HasFar (Unmap page n) far = far < n
 HasFar (Discard page n) far = far < n
 HasFar (Pin handle page n want fast) far = far < n
-HasFar (Transfer handle outward index slot n) far = far < n
+HasFar (Transfer handle outward slot parts) far = far < words_of parts
 HasFar op far = Unit {0}

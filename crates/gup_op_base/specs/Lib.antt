@@ -2,3 +2,4 @@ pub mod Said
 pub mod Turns
 pub mod Tidy
 pub mod Far
+pub mod Jobs

@@ -1,8 +1,10 @@
 //! What the turn of an operation says, and what is true of a process between two turns.
 #![tactic(auto)]
 
+mod jobs;
 mod page;
 mod said;
 
+pub use jobs::JobPlace;
 pub use page::page_behind;
 pub use said::{Said, done, happened, is_last, refused, silent};

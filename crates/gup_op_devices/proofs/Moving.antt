@@ -1,8 +1,11 @@
 -- What a word of a transfer makes of frames and a store is the turn's.
-use Rattle.std.proofs.Common.{◌≡◌, ℕ, ◌+◌, ◌/◌, ◌%◌, ◌<◌, ◌≤◌, ◌==◌, Bool, true, false, cond, List, [], ◌∷◌, length, slice_get, slice_index, Option, Some, None, refl, sym, ap, ◌∙◌, subst, arith}
+use Rattle.std.proofs.Common.{◌≡◌, ℕ, ◌+◌, ◌*◌, ◌/◌, ◌%◌, ◌<◌, ◌≤◌, ◌==◌, Bool, true, false, cond, List, [], ◌∷◌, length, slice_get, slice_index, Option, Some, None, refl, sym, ap, ◌∙◌, subst, arith}
+use Rattle.std.specs.Prelude.{◌-◌, ◌&&◌, nat_lt, nat_le}
+use Rattle.std.proofs.lemmas.List.Sums.{sum_by-cons}
 use Rattle.std.proofs.lemmas.Option.{get_or_from_slice_get}
 use Rattle.std.proofs.lemmas.Bool.Decides.{nat_tests}
-use Rattle.gup_plain.specs.Denial.{is_held_by, transfer_denial, transfer_denial_by}
+use Rattle.gup_base.specs.Parts.{Part, words_of, word_at}
+use Rattle.gup_plain.specs.Denial.{is_held_by, has_words, has_slots, transfer_denial, transfer_denial_by}
 use Rattle.gup_plain.specs.Put.{put}
 use Rattle.gup_plain.specs.State as plain
 use Rattle.gup_plain.specs.declared.answer.Answer.{Answer}
@@ -27,7 +30,7 @@ use Rattle.gup_op_base.specs.Turns.{Leads, IsTurnOf}
 use Rattle.gup_op_base.proofs.Leading.{leads_alike}
 use Rattle.gup_op_pins.specs.Pins.{IsPin, ShowsPins, IsWeighed, frames_in}
 use Rattle.gup_op_pins.specs.Held.{ShowsStore, HeldView, ShowsHeld, slots_in}
-use Rattle.gup_op_devices.specs.Transfers.{IsWhole, HasMoved, IsMoved, words_in, is_pin_of, writes_in, fits_in, refusal_in}
+use Rattle.gup_op_devices.specs.Transfers.{IsWhole, HasMoved, is_pin_of, writes_in, fits_in, refusal_in}
 
 abbrev pub view : FramesValue → HandlesValue → Option (List ℕ) → HeldView
 view F H W = record { frames = F; pins = H; store = W }
@@ -35,14 +38,14 @@ view F H W = record { frames = F; pins = H; store = W }
 -- ---- what refuses it
 
 -- a state refuses a transfer as the pin that is kept does
-denial_same : (v : HandleValue) (handle : plain.Handle) (pinned : List ℕ) (a : ℕ) (outward : Bool) (slots index slot n : ℕ) → IsPin v handle pinned
-    → (is_held_by handle a ≡ true → length pinned ≡ length (plain.objects_of handle)) → transfer_denial handle a outward slots slot ((index, n) ∷ []) ≡ refusal_in v a outward slots index slot n
-denial_same unmade handle pinned a outward slots index slot n pin whole = ap (λ h. transfer_denial h a outward slots slot ((index, n) ∷ [])) pin
-denial_same gone handle pinned a outward slots index slot n pin whole = ap (λ h. transfer_denial h a outward slots slot ((index, n) ∷ [])) pin
-denial_same (got by frame) handle pinned a outward slots index slot n none whole = absurd none
-denial_same (given to frames write) handle pinned a outward slots index slot n pin whole = ap (λ h. transfer_denial h a outward slots slot ((index, n) ∷ [])) pin.0.1
-denial_same (held by frames write) handle pinned a outward slots index slot n pin whole =
-    ap (λ h. transfer_denial h a outward slots slot ((index, n) ∷ [])) pin.0.1 ∙ go (by == a) refl
+denial_same : (v : HandleValue) (handle : plain.Handle) (pinned : List ℕ) (a : ℕ) (outward : Bool) (slots slot : ℕ) (parts : List Part) → IsPin v handle pinned
+    → (is_held_by handle a ≡ true → length pinned ≡ length (plain.objects_of handle)) → transfer_denial handle a outward slots slot parts ≡ refusal_in v a outward slots slot parts
+denial_same unmade handle pinned a outward slots slot parts pin whole = ap (λ h. transfer_denial h a outward slots slot parts) pin
+denial_same gone handle pinned a outward slots slot parts pin whole = ap (λ h. transfer_denial h a outward slots slot parts) pin
+denial_same (got by frame) handle pinned a outward slots slot parts none whole = absurd none
+denial_same (given to frames write) handle pinned a outward slots slot parts pin whole = ap (λ h. transfer_denial h a outward slots slot parts) pin.0.1
+denial_same (held by frames write) handle pinned a outward slots slot parts pin whole =
+    ap (λ h. transfer_denial h a outward slots slot parts) pin.0.1 ∙ go (by == a) refl
   where
     objects : List ℕ
     objects = pin.0.0
@@ -50,23 +53,23 @@ denial_same (held by frames write) handle pinned a outward slots index slot n pi
     many : is_held_by handle a ≡ true → length objects ≡ length frames
     many is = sym (ap (λ h. length (plain.objects_of h)) pin.0.1) ∙ sym (whole is) ∙ ap length pin.1
 
-    go : (mine : Bool) → (by == a) ≡ mine → transfer_denial_by mine outward write (fits_in (length objects) slots index slot n) ≡ transfer_denial_by mine outward write (fits_in (length frames) slots index slot n)
+    go : (mine : Bool) → (by == a) ≡ mine → transfer_denial_by mine outward write (fits_in (length objects) slots slot parts) ≡ transfer_denial_by mine outward write (fits_in (length frames) slots slot parts)
     go false is = refl
     go true is =
-        ap (λ k. transfer_denial_by true outward write (fits_in k slots index slot n))
+        ap (λ k. transfer_denial_by true outward write (fits_in k slots slot parts))
         (many (ap (λ h. is_held_by h a) pin.0.1 ∙ is))
 
 -- the turn by what refuses it
-turn_by : (W : Option (List ℕ)) (H : HandlesValue) (a h : ℕ) (outward : Bool) (index slot n far : ℕ) (denied : Option Answer) (s : CoreState) → refusal_in (H h) a outward (slots_in W) index slot n ≡ denied
-    → ShowsPins H s → IsWhole s a h → transfer_turn s a (slots_in W) h outward index slot n far ≡ transfer_turn_by denied s a h outward (far + 1 == n) (index + far) (slot + far)
-turn_by W H a h outward index slot n far denied s is shown whole =
-    ap (λ d. transfer_turn_by d s a h outward (far + 1 == n) (index + far) (slot + far))
-    (denial_same (H h) (s.handle h) (s.pinned h) a outward (slots_in W) index slot n (shown h) whole ∙ is)
+turn_by : (W : Option (List ℕ)) (H : HandlesValue) (a h : ℕ) (outward : Bool) (slot : ℕ) (parts : List Part) (far : ℕ) (denied : Option Answer) (s : CoreState) → refusal_in (H h) a outward (slots_in W) slot parts ≡ denied
+    → ShowsPins H s → IsWhole s a h → transfer_turn s a (slots_in W) h outward slot parts far ≡ transfer_turn_by denied s a h outward (far + 1 == words_of parts) (word_at parts far) (slot + far)
+turn_by W H a h outward slot parts far denied s is shown whole =
+    ap (λ d. transfer_turn_by d s a h outward (far + 1 == words_of parts) (word_at parts far) (slot + far))
+    (denial_same (H h) (s.handle h) (s.pinned h) a outward (slots_in W) slot parts (shown h) whole ∙ is)
 
-pub transfer_refused : (F : FramesValue) (H : HandlesValue) (W : Option (List ℕ)) (a h : ℕ) (outward : Bool) (index slot n far : ℕ) (denied : Answer) → refusal_in (H h) a outward (slots_in W) index slot n ≡ Some denied
-    → IsTurnOf (ShowsHeld a) (λ s. IsWhole s a h) (view F H W) (view F H W) (λ s. transfer_turn s a (slots_in W) h outward index slot n far) (Done denied ∷ [])
-transfer_refused F H W a h outward index slot n far denied is s shown whole =
-    leads_alike (turn_by W H a h outward index slot n far (Some denied) s is shown.pins whole) (record { says = refl; shown = shown })
+pub transfer_refused : (F : FramesValue) (H : HandlesValue) (W : Option (List ℕ)) (a h : ℕ) (outward : Bool) (slot : ℕ) (parts : List Part) (far : ℕ) (denied : Answer) → refusal_in (H h) a outward (slots_in W) slot parts ≡ Some denied
+    → IsTurnOf (ShowsHeld a) (λ s. IsWhole s a h) (view F H W) (view F H W) (λ s. transfer_turn s a (slots_in W) h outward slot parts far) (Done denied ∷ [])
+transfer_refused F H W a h outward slot parts far denied is s shown whole =
+    leads_alike (turn_by W H a h outward slot parts far (Some denied) s is shown.pins whole) (record { says = refl; shown = shown })
 
 -- ---- a word moves
 
@@ -125,18 +128,19 @@ leads_word F F' H W W' a h f index slot value false last s moved shown =
 pages_same : (v : HandleValue) (handle : plain.Handle) (pinned pages : List ℕ) (by : ℕ) (write : Bool) → v ≡ held by pages write → IsPin v handle pinned → pinned ≡ pages
 pages_same v handle pinned pages by write is pin = (subst (λ (x : HandleValue). IsPin x handle pinned) is pin).1
 
-pub word_moved : (F F' : FramesValue) (H : HandlesValue) (W W' pages : List ℕ) (a h f index slot n far value : ℕ) (outward write last : Bool) → (far + 1 == n) ≡ last
-    → refusal_in (H h) a outward (length W) index slot n ≡ None → H h ≡ held a pages write → slice_get pages ((index + far) / 512) ≡ Some f → slot + far < length W
-    → HasMoved outward F F' W W' f ((index + far) % 512) (slot + far) value
-    → IsTurnOf (ShowsHeld a) (λ s. IsWhole s a h) (view F H (Some W)) (view F' H (Some W')) (λ s. transfer_turn s a (length W) h outward index slot n far) (moved_whats a h outward last (index + far) (slot + far) value)
-word_moved F F' H W W' pages a h f index slot n far value outward write last is unrefused pin at within moved s shown whole =
-    let i : ℕ = index + far in
+pub word_moved : (F F' : FramesValue) (H : HandlesValue) (W W' pages : List ℕ) (a h f slot : ℕ) (parts : List Part) (far value : ℕ) (outward write : Bool)
+    → refusal_in (H h) a outward (length W) slot parts ≡ None → H h ≡ held a pages write → slice_get pages (word_at parts far / 512) ≡ Some f → slot + far < length W
+    → HasMoved outward F F' W W' f (word_at parts far % 512) (slot + far) value
+    → IsTurnOf (ShowsHeld a) (λ s. IsWhole s a h) (view F H (Some W)) (view F' H (Some W')) (λ s. transfer_turn s a (length W) h outward slot parts far)
+    (moved_whats a h outward (far + 1 == words_of parts) (word_at parts far) (slot + far) value)
+word_moved F F' H W W' pages a h f slot parts far value outward write unrefused pin at within moved s shown whole =
+    let i : ℕ = word_at parts far in
     let j : ℕ = slot + far in
+    let last : Bool = far + 1 == words_of parts in
     let pages_is : s.pinned h ≡ pages = pages_same (H h) (s.handle h) (s.pinned h) pages a write pin (shown.pins h) in
     let f_is : frame_at (s.pinned h) i ≡ f = ap (λ ps. frame_at ps i) pages_is ∙ get_or_from_slice_get pages (i / 512) f 0 at in
     leads_alike
-    (turn_by (Some W) H a h outward index slot n far None s unrefused shown.pins whole
-    ∙ ap (λ b. transfer_turn_by None s a h outward b i j) is
+    (turn_by (Some W) H a h outward slot parts far None s unrefused shown.pins whole
     ∙ ap (λ g. moves_from s a h outward last i j g) f_is
     ∙ ap (λ v. word_turn a h outward last i j f v) (value_same F F' W W' a f i j value outward s within shown.frames shown.store moved))
     (leads_word F F' H W W' a h f i j value outward last s moved shown)
@@ -151,13 +155,47 @@ unrefused_fits true false true true unrefused = refl
 unrefused_fits true false true false refused = absurd (cc)
 unrefused_fits true false false fits refused = absurd (cc)
 
-slots_fit : (pages slots index slot n : ℕ) → fits_in pages slots index slot n ≡ true → slot + n ≤ slots
-slots_fit pages slots index slot n fits = grind (arith, nat_tests)
+both_fit : (words slots : Bool) → (words && slots) ≡ true → (words ≡ true) × (slots ≡ true)
+both_fit true true fit = (refl, refl)
+both_fit true false fit = absurd (cc)
+both_fit false slots fit = absurd (cc)
 
-pub slot_within : (v : HandleValue) (a : ℕ) (outward : Bool) (slots index slot n far : ℕ) → refusal_in v a outward slots index slot n ≡ None → far < n → slot + far < slots
-slot_within v a outward slots index slot n far unrefused within =
-    let fits : slot + n ≤ slots = slots_fit (length (frames_in v)) slots index slot n (unrefused_fits (is_pin_of v a) outward (writes_in v) (fits_in (length (frames_in v)) slots index slot n) unrefused) in
+-- what isn't refused fits
+parts_fit : (v : HandleValue) (a : ℕ) (outward : Bool) (slots slot : ℕ) (parts : List Part) → refusal_in v a outward slots slot parts ≡ None
+    → (has_words (length (frames_in v)) parts ≡ true) × (has_slots slots slot parts ≡ true)
+parts_fit v a outward slots slot parts unrefused =
+    both_fit (has_words (length (frames_in v)) parts) (has_slots slots slot parts)
+    (unrefused_fits (is_pin_of v a) outward (writes_in v) (fits_in (length (frames_in v)) slots slot parts) unrefused)
+
+slots_fit : (slots slot n : ℕ) → nat_le (slot + n) slots ≡ true → slot + n ≤ slots
+slots_fit slots slot n fits = grind (arith, nat_tests)
+
+pub slot_within : (v : HandleValue) (a : ℕ) (outward : Bool) (slots slot : ℕ) (parts : List Part) (far : ℕ) → refusal_in v a outward slots slot parts ≡ None → far < words_of parts → slot + far < slots
+slot_within v a outward slots slot parts far unrefused within =
+    let fits : slot + words_of parts ≤ slots = slots_fit slots slot (words_of parts) (parts_fit v a outward slots slot parts unrefused).1 in
     omega arith
+
+-- a word of the first part, or one of the others
+at_part : (pages : ℕ) (part : Part) (parts : List Part) (far : ℕ) → part.0 + part.1 ≤ 512 * pages → (part.1 ≤ far → word_at parts (far - part.1) < 512 * pages) → word_at (part ∷ parts) far < 512 * pages
+at_part pages part parts far here rest = go (nat_lt far part.1) refl
+  where
+    go : (is_here : Bool) → nat_lt far part.1 ≡ is_here → cond is_here (part.0 + far) (word_at parts (far - part.1)) < 512 * pages
+    go true is = let less : far < part.1 = grind (arith, nat_tests) in omega arith
+    go false is = let behind : part.1 ≤ far = grind (arith, nat_tests) in rest behind
+
+-- a word of parts that fit is one of the pages
+word_fits : (pages : ℕ) (parts : List Part) (far : ℕ) → has_words pages parts ≡ true → far < words_of parts → word_at parts far < 512 * pages
+word_fits pages [] far fit within = absurd (omega arith)
+word_fits pages (part ∷ parts) far fit within =
+    let both : (nat_le (part.0 + part.1) (512 * pages) ≡ true) × (has_words pages parts ≡ true) = both_fit (nat_le (part.0 + part.1) (512 * pages)) (has_words pages parts) fit in
+    let here : part.0 + part.1 ≤ 512 * pages = slots_fit (512 * pages) part.0 part.1 both.0 in
+    let rest : part.1 ≤ far → far - part.1 < words_of parts = λ behind. omega (arith, sum_by-cons (λ (x : Part). x.1) part parts) in
+    at_part pages part parts far here (λ behind. word_fits pages parts (far - part.1) both.1 (rest behind))
+
+pub word_within : (v : HandleValue) (pages : List ℕ) (a : ℕ) (outward write : Bool) (slots slot : ℕ) (parts : List Part) (far : ℕ) → v ≡ held a pages write → refusal_in v a outward slots slot parts ≡ None → far < words_of parts → word_at parts far < 512 * length pages
+word_within v pages a outward write slots slot parts far is unrefused within =
+    word_fits (length pages) parts far
+    (ap (λ (x : HandleValue). has_words (length (frames_in x)) parts) (sym is) ∙ (parts_fit v a outward slots slot parts unrefused).0) within
 
 -- ---- a frame of the pin is there
 
@@ -165,27 +203,7 @@ pub page_there : (F : FramesValue) (v : HandleValue) (pages : List ℕ) (by k f 
 page_there F v pages by k f write is weighed at =
     (weighed k f (ap (λ (x : HandleValue). slice_get (frames_in x) k) is ∙ at)).0
 
--- a word that moved leaves the store its slots
-pub moved_slots : (outward : Bool) (old new : FramesValue) (W W1 : List ℕ) (f word slot value : ℕ) → HasMoved outward old new W W1 f word slot value → length W1 ≡ length W
-moved_slots true old new W W1 f word slot value moved = ap (λ (x : StoreValue). x.words) moved.2
-moved_slots false old new W W1 f word slot value moved = ap (λ (x : StoreValue). x.words) moved.2
-
 -- ---- whatever the other handles are
-
-pub same_denial : (refusal : Option Answer) (was denied : Answer) → refusal ≡ Some was → refusal ≡ Some denied → was ≡ denied
-same_denial refusal was denied is other = cc
 
 pub refused_so : {P : Type 0} (refusal : Option Answer) (denied : Answer) → refusal ≡ Some denied → refusal ≡ None → P
 refused_so refusal denied is none = absurd (cc)
-
--- a word that moved, by the pages of the pin
-pub moved_so : (F F' : FramesValue) (H : HandlesValue) (store : Option (List ℕ)) (W W' pages : List ℕ) (a h f index slot value : ℕ) (outward write last : Bool) (said : Said) → H h ≡ held a pages write → slice_get pages (index / 512) ≡ Some f
-    → store ≡ Some W → HasMoved outward F F' W W' f (index % 512) slot value → said ≡ said_of (moves_word a h outward index slot value) last
-    → IsMoved (view F H store) (view F' H (Some W')) a h outward index slot last said
-moved_so F F' H store W W' pages a h f index slot value outward write last said pin page there moved says = (
-  f,
-  value,
-  ap (λ (v : HandleValue). slice_get (frames_in v) (index / 512)) pin ∙ page,
-  subst (λ o. HasMoved outward F F' (words_in o) W' f (index % 512) slot value) (sym there) moved,
-  says,
-)

@@ -1,5 +1,6 @@
 -- What a word of a transfer does to a pin's frames and to the store of its device, and what refuses it.
-use Rattle.std.specs.Prelude.{◌≡◌, ℕ, ◌/◌, ◌%◌, ◌==◌, ◌&&◌, Bool, true, false, if◌then◌else◌, List, [], ◌∷◌, length, slice_get, slice_index, Option, Some, None}
+use Rattle.std.specs.Prelude.{◌≡◌, ℕ, ◌/◌, ◌%◌, ◌==◌, ◌&&◌, Bool, true, false, if◌then◌else◌, List, [], length, slice_get, slice_index, Option, Some, None}
+use Rattle.gup_base.specs.Parts.{Part}
 use Rattle.gup_plain.specs.Denial.{is_held_by, has_words, has_slots, transfer_denial_by}
 use Rattle.gup_plain.specs.Event.{words}
 use Rattle.gup_plain.specs.Put.{put}
@@ -30,16 +31,15 @@ writes_in unmade = false
 writes_in (got by frame) = false
 writes_in gone = false
 
--- n words from this index on are words of so many pages, and n slots from this one on are of a store of so many
-abbrev pub fits_in : (pages slots index slot n : ℕ) → Bool
-fits_in pages slots index slot n =
-    has_words pages ((index, n) ∷ []) && has_slots slots slot ((index, n) ∷ [])
+-- the words of these parts are words of so many pages, and as many slots from this one on are of a store of so many
+abbrev pub fits_in : (pages slots slot : ℕ) → List Part → Bool
+fits_in pages slots slot parts = has_words pages parts && has_slots slots slot parts
 
 -- what refuses a transfer, by the pin as it is kept
-abbrev pub refusal_in : HandleValue → (a : ℕ) → (outward : Bool) → (slots index slot n : ℕ) → Option Answer
-refusal_in handle a outward slots index slot n =
+abbrev pub refusal_in : HandleValue → (a : ℕ) → (outward : Bool) → (slots slot : ℕ) → List Part → Option Answer
+refusal_in handle a outward slots slot parts =
     transfer_denial_by (is_pin_of handle a) outward (writes_in handle)
-    (fits_in (length (frames_in handle)) slots index slot n)
+    (fits_in (length (frames_in handle)) slots slot parts)
 
 -- Frames and a store after a word that moved, by its value: outward into the slot, or inward into the frame.
 abbrev pub HasMoved : (outward : Bool) → (old new : FramesValue) → (old_words new_words : List ℕ) → (f word slot value : ℕ) → Type 0

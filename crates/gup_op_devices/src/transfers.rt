@@ -1,5 +1,7 @@
 //! Transfers of words between the pages of a pin and the store of a device.
-ghost use Rattle.std.specs.Prelude.{◌≡◌, ℕ, ◌+◌, ◌==◌, ◌*◌, ◌/◌, ◌%◌, ◌≤◌, ◌<◌, length, slice_get, Some, None, if◌then◌else◌};
+ghost use Rattle.std.specs.Prelude.{◌≡◌, ℕ, ◌+◌, ◌==◌, ◌*◌, ◌/◌, ◌%◌, ◌^◌, ◌≤◌, ◌<◌, length, slice_get, Some, None, if◌then◌else◌};
+ghost use Rattle.gup_base.specs.Parts.{words_of, word_at};
+ghost use Rattle.gup_plain.specs.Denial.{has_words};
 ghost use Rattle.gup_plain.specs.declared.answer.Answer.{Answer as AnswerValue};
 ghost use Rattle.gup_plain.specs.declared.answer.Answer.TheVariants as answers;
 ghost use Rattle.gup_frames.specs.Frames.{frames_of, IsFrame};
@@ -13,7 +15,7 @@ ghost use Rattle.gup_op_pins.specs.Pins.{IsWeighed};
 ghost use Rattle.gup_op_devices.specs.Transfers.{IsWhole, HasMoved, IsMoved, fits_in, refusal_in};
 ghost use Rattle.gup_op_pins.specs.Held.{ShowsHeld, IsRefused, held_view, slots_in};
 
-use gup_base::{ActorNo, FrameNo, HandleNo, WordNo};
+use gup_base::{ActorNo, FrameNo, HandleNo, Parts, WordNo};
 use gup_device::Store;
 use gup_frames::Frames;
 use gup_handles::Handles;
@@ -23,13 +25,13 @@ use gup_plain::{Answer, PlainEvent};
 // The words of a page.
 const WORDS: u32 = 512;
 
-/// One word of a transfer of `n` words, of which `far` are moved: word `index` + `far` of the pin's pages, out into slot
+/// One word of a transfer of words in parts, of which `far` are moved: the next word of the parts, out into slot
 /// `slot` + `far` of the actor's store, or in from there. A device reads and writes frames and no pages: no fault comes,
 /// and no page table is read.
 ///
 /// The transfer is refused as a whole, before its first word moves: `NotHeld` where the actor doesn't hold the pin, then
-/// `Forbidden` where it would write the pages of a pin to read, then `Range` where a word lies past the pin's pages or a
-/// slot past the store.
+/// `Forbidden` where it would write the pages of a pin to read, then `Range` where a word of a part lies past the pin's
+/// pages or a slot past the store.
 pub fn transfer(
     frames: &mut Frames,
     handles: &Handles,
@@ -37,27 +39,27 @@ pub fn transfer(
     actor: ActorNo,
     handle: HandleNo,
     outward: bool,
-    index: u32,
     slot: u32,
-    n: u8,
+    parts: &Parts,
     far: u16,
 ) -> Said
     requires weighed { IsWeighed (frames_of frames.old) (handles_of handles.now handle) }
-    requires within { far < n }
-    requires most { n ≤ 64 }
+    requires within { far < words_of parts.now }
+    requires most { words_of parts.now ≤ 64 }
     ensures slots { slots_in store.new ≡ slots_in store.old }
     ensures turn { IsTurnOf (ShowsHeld actor) (λ s. IsWhole s actor handle)
         (held_view frames.old handles.now store.old) (held_view frames.new handles.now store.new)
-        (λ s. transfer_turn s actor (slots_in store.old) handle outward index slot n far) (whats_of result) }
-    ensures moved { refusal_in (handles_of handles.now handle) actor outward (slots_in store.old) index slot n ≡ None
+        (λ s. transfer_turn s actor (slots_in store.old) handle outward slot parts.now far) (whats_of result) }
+    ensures moved { refusal_in (handles_of handles.now handle) actor outward (slots_in store.old) slot parts.now ≡ None
         → IsMoved (held_view frames.old handles.now store.old) (held_view frames.new handles.now store.new)
-        actor handle outward (index + far) (slot + far) (far + 1 == n) result }
+        actor handle outward (word_at parts.now far) (slot + far) (far + 1 == words_of parts.now) result }
     ensures refused { (denied : AnswerValue)
-        → refusal_in (handles_of handles.now handle) actor outward (slots_in store.old) index slot n ≡ Some denied
+        → refusal_in (handles_of handles.now handle) actor outward (slots_in store.old) slot parts.now ≡ Some denied
         → IsRefused (held_view frames.old handles.now store.old) (held_view frames.new handles.now store.new) denied result }
 {
+    let parts = parts.as_slice();
     let slots = slots_of(store);
-    if let Some(denied) = refusal(handles, actor, handle, outward, slots, index, slot, n) {
+    if let Some(denied) = refusal(handles, actor, handle, outward, slots, slot, parts) {
         return refused(denied);
     }
     // What isn't refused has a store, and is of a pin that the actor holds.
@@ -67,18 +69,18 @@ pub fn transfer(
     let Ok((pages, _)) = handles.pages(handle, actor) else {
         return refused(Answer::NotHeld);
     };
-    let at = index + u32::from(far);
+    let index = find_word(parts, far);
     let place = slot + u32::from(far);
     let value = move_word(
         frames,
         store,
-        frame_at(pages, at),
-        word_at(at),
+        frame_at(pages, index),
+        word_of(index),
         place as u16,
         outward,
     );
-    let event = moved(actor, handle, outward, at, place, value);
-    moved_said(event, far + 1 == u16::from(n))
+    let event = moved(actor, handle, outward, index, place, value);
+    moved_said(event, far + 1 == count_words(parts))
 }
 
 // How many words the store has, if there is one.
@@ -92,18 +94,18 @@ fn slots_of(store: &Option<Store>) -> u16
     }
 }
 
-// What refuses a transfer of n words, if something does.
+// What refuses a transfer of these parts, if something does.
 fn refusal(
     handles: &Handles,
     actor: ActorNo,
     handle: HandleNo,
     outward: bool,
     slots: u16,
-    index: u32,
     slot: u32,
-    n: u8,
+    parts: &[(u32, u8)],
 ) -> Option<Answer>
-    ensures { result ≡ refusal_in (handles_of handles.now handle) actor outward slots index slot n }
+    requires { words_of parts.now ≤ 64 }
+    ensures { result ≡ refusal_in (handles_of handles.now handle) actor outward slots slot parts.now }
 {
     let Ok((pages, may_write)) = handles.pages(handle, actor) else {
         return Some(Answer::NotHeld);
@@ -111,23 +113,61 @@ fn refusal(
     if !outward && !may_write {
         return Some(Answer::Forbidden);
     }
-    if !fits(pages.len(), slots, index, slot, n) {
+    if !fits(pages.len(), slots, slot, parts) {
         return Some(Answer::Range);
     }
     None
 }
 
-// Whether n words from this index on are words of so many pages, and n slots from this one on are of a store of so many.
-fn fits(pages: usize, slots: u16, index: u32, slot: u32, n: u8) -> bool
-    requires { pages ≤ 16 }
-    ensures { result ≡ fits_in pages slots index slot n }
+// Whether the words of the parts are words of so many pages, and as many slots from this one on are of a store of so many.
+fn fits(pages: usize, slots: u16, slot: u32, parts: &[(u32, u8)]) -> bool
+    requires pages { pages ≤ 16 }
+    requires most { words_of parts.now ≤ 64 }
+    ensures { result ≡ fits_in pages slots slot parts.now }
 {
-    let words = u64::from(n);
-    u64::from(index) + words <= u64::from(WORDS) * pages as u64
-        && u64::from(slot) + words <= u64::from(slots)
+    are_within(pages, parts) && u64::from(slot) + u64::from(count_words(parts)) <= u64::from(slots)
 }
 
-// The frame that has the word with this index, and the word's place in it.
+// Whether the words of each part are words of so many pages.
+fn are_within(pages: usize, parts: &[(u32, u8)]) -> bool
+    requires { pages ≤ 16 }
+    ensures { result ≡ has_words pages parts.now }
+{
+    let words = u64::from(WORDS) * pages as u64;
+    parts
+        .iter()
+        .all(|part| u64::from(part.0) + u64::from(part.1) <= words)
+}
+
+// How many words the parts have.
+fn count_words(parts: &[(u32, u8)]) -> u16
+    requires { words_of parts.now ≤ 64 }
+    ensures { result ≡ words_of parts.now }
+{
+    let mut words = 0;
+    for part in parts {
+        words += u16::from(part.1);
+    }
+    words
+}
+
+// Which word of the pin is the one with this number, from 0, of the parts.
+fn find_word(parts: &[(u32, u8)], number: u16) -> u32
+    requires { word_at parts.now number < 2 ^ 32 }
+    ensures { result ≡ word_at parts.now number }
+{
+    let mut left = number;
+    for part in parts {
+        let words = u16::from(part.1);
+        if left < words {
+            return part.0 + u32::from(left);
+        }
+        left -= words;
+    }
+    0
+}
+
+// The frame that has the word with this index.
 fn frame_at(pages: &[FrameNo], index: u32) -> FrameNo
     requires { index < 512 * length pages.now }
     ensures { slice_get pages.now (index / 512) ≡ Some result }
@@ -135,7 +175,8 @@ fn frame_at(pages: &[FrameNo], index: u32) -> FrameNo
     pages[(index / WORDS) as usize]
 }
 
-fn word_at(index: u32) -> WordNo
+// The place of the word with this index in its frame.
+fn word_of(index: u32) -> WordNo
     ensures { result ≡ index % 512 }
 {
     WordNo::new(u64::from(index % WORDS)).unwrap()

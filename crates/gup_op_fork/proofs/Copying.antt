@@ -23,7 +23,7 @@ use Rattle.gup_spec_events.specs.Failure.{are_gone, fails, puts_entry, puts_entr
 use Rattle.gup_spec_events.proofs.Gone.{no_puts}
 use Rattle.gup_spec_turns.specs.ForkTurns.{fork_turn, frame_turn, copy_turn, copying_turn, rights_in}
 use Rattle.gup_spec_turns.specs.CoreTurn.{entry_in}
-use Rattle.gup_spec_turns.specs.ForkPlace.{unbegun, from_page, wants_frame, at_word, copying_place, fork_place, StandsFork}
+use Rattle.gup_spec_turns.specs.JobPlace.{unbegun, from_page, wants_frame, at_word, copying_place, job_place, StandsFork}
 use Rattle.gup_op_base.proofs.Leading.{leads_alike, run_behind}
 use Rattle.gup_op_base.proofs.Searching.{free_agrees}
 use Rattle.gup_op_fork.proofs.Forking.{IsForking, change, leads_there, put_here, notes_alike}
@@ -39,7 +39,7 @@ record IsCopying (s : CoreState) (p c page word : ℕ) (job : Job) : Type 0 wher
   birth : s.birth c ≡ growing p
 
 -- where it wants a frame none is prepared, and no word is copied
-wants_one : (s : CoreState) (a p c page : ℕ) (job : Job) (prepared : Option ℕ) → StandsFork s a p c job prepared → fork_place job prepared ≡ wants_frame page → (prepared ≡ None) × IsCopying s p c page 0 job
+wants_one : (s : CoreState) (a p c page : ℕ) (job : Job) (prepared : Option ℕ) → StandsFork s a p c job prepared → job_place job prepared ≡ wants_frame page → (prepared ≡ None) × IsCopying s p c page 0 job
 wants_one s a p c page idle prepared stands place = absurd (cc)
 wants_one s a p c page (forking q d done between) prepared stands place = absurd (cc)
 wants_one s a p c page (forking q d done (counted g)) prepared stands place = absurd (cc)
@@ -63,7 +63,7 @@ wants_one s a p c page (moving q g e allowed count) prepared stands place = absu
 wants_one s a p c page (walking q write long sequence step) prepared stands place = absurd stands
 
 -- where it copies words the frame is prepared
-copies_one : (s : CoreState) (a p c page word to : ℕ) (job : Job) (prepared : Option ℕ) → StandsFork s a p c job prepared → fork_place job prepared ≡ at_word page word to → (prepared ≡ Some to) × IsCopying s p c page word job
+copies_one : (s : CoreState) (a p c page word to : ℕ) (job : Job) (prepared : Option ℕ) → StandsFork s a p c job prepared → job_place job prepared ≡ at_word page word to → (prepared ≡ Some to) × IsCopying s p c page word job
 copies_one s a p c page word to idle prepared stands place = absurd (cc)
 copies_one s a p c page word to (forking q d done between) prepared stands place = absurd (cc)
 copies_one s a p c page word to (forking q d done (counted g)) prepared stands place = absurd (cc)
@@ -102,7 +102,7 @@ frame_taken F F' P C a p c page to free is birth s shown fork =
     let behind : CoreState = happens s (take_frame a to) in
     leads_alike {turn = record { events = take_frame a to ∷ []; whats = Silent ∷ [] }}
     (copies_on s a p c page 0 (s.job a) None both.0 here
-    ∙ ap (λ o. frame_turn s a p c here.done page 0 o) (free_agrees F s shown.frames ∙ free))
+    ∙ ap (λ o. frame_turn s a p c here.done page 0 o) (free_agrees F Any s shown.frames ∙ free))
     (record {
       says = refl;
       shown = record {
@@ -110,7 +110,7 @@ frame_taken F F' P C a p c page to free is birth s shown fork =
         parent = shows_space p P s (taking a to) shown.parent;
         child = shows_space c C s (taking a to) shown.child;
         place =
-            ap (λ j. fork_place j (put a (Some to) s.prepared a)) here.is
+            ap (λ j. job_place j (put a (Some to) s.prepared a)) here.is
             ∙ ap (copying_place page 0) (put_here a (Some to) s.prepared);
         birth = here.birth;
       };
@@ -128,7 +128,7 @@ word_copied k a p c page word to e more entry made birth s shown fork =
     ∙ ap (λ b. copy_turn s a p c here.done page word to b) more
     ∙ ap (λ o. record { events = copy_word a p c here.done page word to (entry_in o) ∷ []; whats = Event (events.ForkWord p c page word) ∷ [] }) (shown.parent.entry page ∙ entry))
     (leads_there k refl behind
-    (ap (λ j. fork_place j (s.prepared a)) (put_here a (forking p c here.done (copying page (word + 1))) s.job)
+    (ap (λ j. job_place j (s.prepared a)) (put_here a (forking p c here.done (copying page (word + 1))) s.job)
     ∙ ap (copying_place page (word + 1)) both.0)
     here.birth)
 
@@ -155,7 +155,7 @@ copy_placed k a p c page word to rights all mapped made birth s shown fork =
     ∙ ap (λ b. copy_turn s a p c here.done page word to b) all
     ∙ ap (λ o. record { events = place_child a p c here.done page to (rights_in o) ∷ []; whats = Silent ∷ [] }) (shown.child.right page ∙ mapped))
     (leads_there k refl behind
-    (ap (λ j. fork_place j (put a None s.prepared a)) (put_here a (forking p c (page ∷ here.done) between) s.job))
+    (ap (λ j. job_place j (put a None s.prepared a)) (put_here a (forking p c (page ∷ here.done) between) s.job))
     here.birth)
 
 pub copy_turned : (k : ForkChange) (a p c page word to : ℕ) → words ≤ word → IsSome (k.old_child.right page) → ((done : List ℕ) (rights : Rights) → k.old_child.right page ≡ Some rights → AreForkEvents k (λ q d. place_child a q d done page to rights ∷ [])) → IsForking k a p c (at_word page word to) (from_page (page + 1)) (Silent ∷ [])
@@ -236,9 +236,9 @@ failed_job a p c done step entry n s true gone =
 failed_job a p c done step entry n s false gone =
     puts_end a p c done entry 0 n (happens s (fail_fork a p c done step false)) gone
 
-failed_place : (a p c : ℕ) (done : List ℕ) (step : ForkStep) (entry : ℕ → Option Entry) (s : CoreState) → fork_place ((run s (fails a p c done step entry)).job a) ((run s (fails a p c done step entry)).prepared a) ≡ unbegun
+failed_place : (a p c : ℕ) (done : List ℕ) (step : ForkStep) (entry : ℕ → Option Entry) (s : CoreState) → job_place ((run s (fails a p c done step entry)).job a) ((run s (fails a p c done step entry)).prepared a) ≡ unbegun
 failed_place a p c done step entry s =
-    ap (λ j. fork_place j ((run s (fails a p c done step entry)).prepared a))
+    ap (λ j. job_place j ((run s (fails a p c done step entry)).prepared a))
     (failed_job a p c done step entry page_numbers s (are_gone entry 0 page_numbers) refl)
 
 pub fork_failed : (k : ForkChange) (a p c page : ℕ) → free_frame k.old_frames Any ≡ None → ((done : List ℕ) → AreForkEvents k (λ q d. fails a q d done (copying page 0) k.old_child.entry)) → IsForking k a p c (wants_frame page) unbegun (Event (events.ForkFail c) ∷ Done answers.NoFrame ∷ [])
@@ -249,7 +249,7 @@ fork_failed k a p c page none made birth s shown fork =
     let behind = made here.done s p c fork.apart shown.frames shown.parent shown.child in
     leads_alike {turn = record { events = fails a p c here.done (copying page 0) entry; whats = Event (events.ForkFail c) ∷ Done answers.NoFrame ∷ [] }}
     (copies_on s a p c page 0 (s.job a) None both.0 here
-    ∙ ap (λ o. frame_turn s a p c here.done page 0 o) (free_agrees k.old_frames s shown.frames ∙ none)
+    ∙ ap (λ o. frame_turn s a p c here.done page 0 o) (free_agrees k.old_frames Any s shown.frames ∙ none)
     ∙ ap (λ es. record { events = es; whats = Event (events.ForkFail c) ∷ Done answers.NoFrame ∷ [] }) (fails_alike a p c here.done (copying page 0) (s.entry c) entry shown.child.entry))
     (leads_there k refl behind
     (failed_place a p c here.done (copying page 0) entry s)

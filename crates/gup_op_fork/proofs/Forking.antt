@@ -22,7 +22,7 @@ use Rattle.gup_spec_events.specs.State.{CoreState, Job, idle, marking, moving, f
 use Rattle.gup_spec_events.specs.Event.{CoreEvent, bias, begin_fork, count_page, pass_page, end_fork, copies_page, run}
 use Rattle.gup_spec_turns.specs.CoreTurn.{CoreTurn}
 use Rattle.gup_spec_turns.specs.ForkTurns.{first_behind, next_page, next_turn, page_turn, share_turn, fork_turn}
-use Rattle.gup_spec_turns.specs.ForkPlace.{ForkPlace, copying_place, fork_place, place_in, KeepsFrame, StandsFork, unbegun, from_page, at_page, wants_frame, at_word}
+use Rattle.gup_spec_turns.specs.JobPlace.{JobPlace, copying_place, job_place, place_in, KeepsFrame, StandsFork, unbegun, from_page, at_page, wants_frame, at_word}
 use Rattle.gup_op_fork.specs.Forked.{birth_behind, ForkingView, ShowsForking, StandsAsFork}
 use Rattle.gup_op_base.specs.Turns.{Leads, IsTurnOf}
 use Rattle.gup_op_base.proofs.Leading.{leads_alike}
@@ -38,36 +38,36 @@ pub put_here : {X : Type 0} (k : ℕ) (x : X) (f : ℕ → X) → put k x f k �
 put_here k x f = grind (arith, nat_tests)
 
 -- what there is before such a change and after it
-abbrev pub before : ForkChange → ForkPlace → Birth → ForkingView
+abbrev pub before : ForkChange → JobPlace → Birth → ForkingView
 before k place birth = record { frames = k.old_frames; parent = k.old_parent; child = k.old_child; place = place; birth = birth }
 
-abbrev pub behind : ForkChange → ForkPlace → Birth → ForkingView
+abbrev pub behind : ForkChange → JobPlace → Birth → ForkingView
 behind k place birth = record { frames = k.new_frames; parent = k.new_parent; child = k.new_child; place = place; birth = birth }
 
 -- a turn of a fork that makes it, from one place to the next, whatever the child was
-abbrev pub IsForking : ForkChange → (a p c : ℕ) → (old new : ForkPlace) → List What → Type 0
+abbrev pub IsForking : ForkChange → (a p c : ℕ) → (old new : JobPlace) → List What → Type 0
 IsForking k a p c old new whats =
     (birth : Birth) → IsTurnOf (ShowsForking a p c) (StandsAsFork a p c) (before k old birth) (behind k new (birth_behind p whats)) (λ s. fork_turn s a p c (s.job a)) whats
 
 -- and its end from one state
-abbrev pub LeadsOn : ForkChange → (a p c : ℕ) → CoreState → CoreTurn → (new : ForkPlace) → List What → Type 0
+abbrev pub LeadsOn : ForkChange → (a p c : ℕ) → CoreState → CoreTurn → (new : JobPlace) → List What → Type 0
 LeadsOn k a p c s turn new whats = Leads (ShowsForking a p c) (behind k new (birth_behind p whats)) s turn whats
 
-pub leads_there : (k : ForkChange) {a p c : ℕ} {s : CoreState} {turn : CoreTurn} {new : ForkPlace} {whats : List What} → turn.whats ≡ whats
+pub leads_there : (k : ForkChange) {a p c : ℕ} {s : CoreState} {turn : CoreTurn} {new : JobPlace} {whats : List What} → turn.whats ≡ whats
     → ShowsFrames k.new_frames (run s turn.events) × ShowsSpace p k.new_parent (run s turn.events) × ShowsSpace c k.new_child (run s turn.events)
     → place_in (run s turn.events) a ≡ new → (run s turn.events).birth c ≡ birth_behind p whats → LeadsOn k a p c s turn new whats
 leads_there k says led place birth =
     record { says = says; shown = record { frames = led.0; parent = led.1; child = led.2; place = place; birth = birth } }
 
 -- a fork that copies a page stands at none of the other places
-abbrev is_copying : ForkPlace → Bool
+abbrev is_copying : JobPlace → Bool
 is_copying unbegun = false
 is_copying (from_page page) = false
 is_copying (at_page page) = false
 is_copying (wants_frame page) = true
 is_copying (at_word page word to) = true
 
-not_copying : (page word : ℕ) (prepared : Option ℕ) (place : ForkPlace) → is_copying place ≡ false → copying_place page word prepared ≡ place → ⊥
+not_copying : (page word : ℕ) (prepared : Option ℕ) (place : JobPlace) → is_copying place ≡ false → copying_place page word prepared ≡ place → ⊥
 not_copying page word None place other is = false≢true (sym other ∙ ap is_copying (sym is))
 not_copying page word (Some to) place other is = false≢true (sym other ∙ ap is_copying (sym is))
 
@@ -76,11 +76,11 @@ not_copying page word (Some to) place other is = false≢true (sym other ∙ ap 
 pub begun : (k : ForkChange) (a p c : ℕ) → AreForkEvents k (λ q d. begin_fork a q d ∷ []) → IsForking k a p c unbegun (from_page 0) (Event (events.ForkBegin p c) ∷ [])
 begun k a p c made birth s shown fork = go (s.job a) fork.at shown.place
   where
-    go : (job : Job) → StandsFork s a p c job (s.prepared a) → fork_place job (s.prepared a) ≡ unbegun → LeadsOn k a p c s (fork_turn s a p c job) (from_page 0) (Event (events.ForkBegin p c) ∷ [])
+    go : (job : Job) → StandsFork s a p c job (s.prepared a) → job_place job (s.prepared a) ≡ unbegun → LeadsOn k a p c s (fork_turn s a p c job) (from_page 0) (Event (events.ForkBegin p c) ∷ [])
     go idle stands place =
         let behind = made s p c fork.apart shown.frames shown.parent shown.child in
         leads_there k refl behind
-        (ap (λ j. fork_place j (s.prepared a)) (put_here a (forking p c [] between) s.job))
+        (ap (λ j. job_place j (s.prepared a)) (put_here a (forking p c [] between) s.job))
         (put_here c (growing p) s.birth)
     go (forking q d done between) stands place = absurd (cc)
     go (forking q d done (counted page)) stands place = absurd (cc)
@@ -108,13 +108,13 @@ looks_on C c s done from found child place is =
 pub ended : (k : ForkChange) (a p c from : ℕ) → ((done : List ℕ) → AreForkEvents k (λ q d. end_fork a q d done ∷ [])) → lowest from (page_numbers - from) (λ page. is_some (k.old_child.right page)) ≡ None → IsForking k a p c (from_page from) unbegun (Event (events.ForkEnd p c) ∷ Done answers.Plain ∷ [])
 ended k a p c from made none birth s shown fork = go (s.job a) fork.at shown.place
   where
-    go : (job : Job) → StandsFork s a p c job (s.prepared a) → fork_place job (s.prepared a) ≡ from_page from → LeadsOn k a p c s (fork_turn s a p c job) unbegun (Event (events.ForkEnd p c) ∷ Done answers.Plain ∷ [])
+    go : (job : Job) → StandsFork s a p c job (s.prepared a) → job_place job (s.prepared a) ≡ from_page from → LeadsOn k a p c s (fork_turn s a p c job) unbegun (Event (events.ForkEnd p c) ∷ Done answers.Plain ∷ [])
     go (forking q d done between) stands place =
         let behind = made done s p c fork.apart shown.frames shown.parent shown.child in
         leads_alike
         (ap (λ o. next_turn s a p c done o) (looks_on k.old_child c s done from None shown.child place none))
         (leads_there k refl behind
-        (ap (λ j. fork_place j (s.prepared a)) (put_here a idle s.job))
+        (ap (λ j. job_place j (s.prepared a)) (put_here a idle s.job))
         (put_here c born s.birth))
     go idle stands place = absurd (cc)
     go (forking q d done (counted page)) stands place = absurd (cc)
@@ -135,14 +135,14 @@ pass_events F P C a page done =
 pub passed : (F : FramesValue) (P C : SpaceValue) (a p c from page : ℕ) → lowest from (page_numbers - from) (λ g. is_some (C.right g)) ≡ Some page → P.entry page ≡ None → IsForking (change F F P P C C) a p c (from_page from) (from_page (page + 1)) (Event (events.ForkPage p c page) ∷ [])
 passed F P C a p c from page found empty birth s shown fork = go (s.job a) fork.at shown.place
   where
-    go : (job : Job) → StandsFork s a p c job (s.prepared a) → fork_place job (s.prepared a) ≡ from_page from → LeadsOn (change F F P P C C) a p c s (fork_turn s a p c job) (from_page (page + 1)) (Event (events.ForkPage p c page) ∷ [])
+    go : (job : Job) → StandsFork s a p c job (s.prepared a) → job_place job (s.prepared a) ≡ from_page from → LeadsOn (change F F P P C C) a p c s (fork_turn s a p c job) (from_page (page + 1)) (Event (events.ForkPage p c page) ∷ [])
     go (forking q d done between) stands place =
         let behind = pass_events F P C a page done s p c fork.apart shown.frames shown.parent shown.child in
         leads_alike
         (ap (λ o. next_turn s a p c done o) (looks_on C c s done from (Some page) shown.child place found)
         ∙ ap (λ e. page_turn s a p c done page e) (shown.parent.entry page ∙ empty))
         (leads_there (change F F P P C C) refl behind
-        (ap (λ j. fork_place j (s.prepared a)) (put_here a (forking p c (page ∷ done) between) s.job))
+        (ap (λ j. job_place j (s.prepared a)) (put_here a (forking p c (page ∷ done) between) s.job))
         stands.birth)
     go idle stands place = absurd (cc)
     go (forking q d done (counted g)) stands place = absurd (cc)
@@ -168,18 +168,18 @@ copies_alike F P p f s frames parent =
     ∙ ap (λ (n : ℕ). F.mark f && (P.has_pinned && nat_le bias n)) (frames.count f)
 
 -- a page that was counted is to be copied, or shared
-abbrev pub counted_place : (copied : Bool) → (page : ℕ) → ForkPlace
+abbrev pub counted_place : (copied : Bool) → (page : ℕ) → JobPlace
 counted_place true page = wants_frame page
 counted_place false page = at_page page
 
-counted_at : (p c page : ℕ) (done : List ℕ) (copied : Bool) (prepared : Option ℕ) → prepared ≡ None → fork_place (forking p c done (if copied then copying page 0 else counted page)) prepared ≡ counted_place copied page
+counted_at : (p c page : ℕ) (done : List ℕ) (copied : Bool) (prepared : Option ℕ) → prepared ≡ None → job_place (forking p c done (if copied then copying page 0 else counted page)) prepared ≡ counted_place copied page
 counted_at p c page done true prepared none = ap (copying_place page 0) none
 counted_at p c page done false prepared none = refl
 
 page_counted : (F : FramesValue) (P P' C : SpaceValue) (a p c from page : ℕ) (e : Entry) (copied : Bool) → lowest from (page_numbers - from) (λ g. is_some (C.right g)) ≡ Some page → P.entry page ≡ Some e → copied ≡ copies_frame F P e.frame → P' ≡ record P { table = Some a } → IsForking (change F F P P' C C) a p c (from_page from) (counted_place copied page) (Silent ∷ [])
 page_counted F P P' C a p c from page e copied found entry is locked birth s shown fork = go (s.job a) fork.keeps fork.at shown.place
   where
-    go : (job : Job) → KeepsFrame job (s.prepared a) → StandsFork s a p c job (s.prepared a) → fork_place job (s.prepared a) ≡ from_page from → LeadsOn (change F F P P' C C) a p c s (fork_turn s a p c job) (counted_place copied page) (Silent ∷ [])
+    go : (job : Job) → KeepsFrame job (s.prepared a) → StandsFork s a p c job (s.prepared a) → job_place job (s.prepared a) ≡ from_page from → LeadsOn (change F F P P' C C) a p c s (fork_turn s a p c job) (counted_place copied page) (Silent ∷ [])
     go (forking q d done between) none stands place =
         let behind = count_events F P P' C a page e copied done locked s p c fork.apart shown.frames shown.parent shown.child in
         leads_alike {turn = record { events = count_page a p c done page e copied ∷ []; whats = Silent ∷ [] }}
@@ -187,7 +187,7 @@ page_counted F P P' C a p c from page e copied found entry is locked birth s sho
         ∙ ap (λ o. page_turn s a p c done page o) (shown.parent.entry page ∙ entry)
         ∙ ap (λ (b : Bool). record { events = count_page a p c done page e b ∷ []; whats = Silent ∷ [] }) (copies_alike F P p e.frame s shown.frames shown.parent ∙ sym is))
         (leads_there (change F F P P' C C) refl behind
-        (ap (λ j. fork_place j (s.prepared a)) (put_here a (forking p c done (if copied then copying page 0 else counted page)) s.job)
+        (ap (λ j. job_place j (s.prepared a)) (put_here a (forking p c done (if copied then copying page 0 else counted page)) s.job)
         ∙ counted_at p c page done copied (s.prepared a) none)
         stands.birth)
     go idle keeps stands place = absurd (cc)
@@ -208,14 +208,14 @@ page_shared k a p c page e entry made birth s shown fork = go (s.job a) fork.at 
     same_page : (m n : ℕ) → at_page m ≡ at_page n → m ≡ n
     same_page m n same = cc
 
-    go : (job : Job) → StandsFork s a p c job (s.prepared a) → fork_place job (s.prepared a) ≡ at_page page → LeadsOn k a p c s (fork_turn s a p c job) (from_page (page + 1)) (Event (events.ForkPage p c page) ∷ [])
+    go : (job : Job) → StandsFork s a p c job (s.prepared a) → job_place job (s.prepared a) ≡ at_page page → LeadsOn k a p c s (fork_turn s a p c job) (from_page (page + 1)) (Event (events.ForkPage p c page) ∷ [])
     go (forking q d done (counted g)) stands place =
         let behind = made done s p c fork.apart shown.frames shown.parent shown.child in
         leads_alike
         (ap (λ h. share_turn a p c done h (s.entry p h)) (same_page g page place)
         ∙ ap (λ o. share_turn a p c done page o) (shown.parent.entry page ∙ entry))
         (leads_there k refl behind
-        (ap (λ j. fork_place j (s.prepared a)) (put_here a (forking p c (page ∷ done) between) (put a (forking p c done (cleared page)) (put a (forking p c done (lowered page)) s.job))))
+        (ap (λ j. job_place j (s.prepared a)) (put_here a (forking p c (page ∷ done) between) (put a (forking p c done (cleared page)) (put a (forking p c done (lowered page)) s.job))))
         stands.0.birth)
     go idle stands place = absurd (cc)
     go (forking q d done between) stands place = absurd (cc)
@@ -245,7 +245,7 @@ none_past from test past = let none : 2 ^ 35 - from ≡ 0 = omega arith in rw no
 -- ---- what the code has at hand
 
 -- the same turn with other notes
-pub notes_alike : (k : ForkChange) (a p c : ℕ) (old new : ForkPlace) (whats other : List What) → other ≡ whats → IsForking k a p c old new whats → IsForking k a p c old new other
+pub notes_alike : (k : ForkChange) (a p c : ℕ) (old new : JobPlace) (whats other : List What) → other ≡ whats → IsForking k a p c old new whats → IsForking k a p c old new other
 notes_alike k a p c old new whats other same h = subst (λ (ws : List What). IsForking k a p c old new ws) (sym same) h
 
 -- the same events, with the parent in other words

@@ -1,4 +1,4 @@
--- Where a fork stands between two turns, as the machine keeps it, and what a turn of one is over.
+-- What a turn of a fork is over, and what it finds where the fork stands.
 use Rattle.std.specs.Prelude.{◌≡◌, ℕ, ◌≤◌, List, ◌∷◌, Some, None, IsSome}
 use Rattle.gup_plain.specs.Event.{words}
 use Rattle.gup_plain.specs.State.{Birth, growing, born, failed}
@@ -10,16 +10,7 @@ use Rattle.gup_frames.specs.Frames.{FramesValue, FrameLists, frames_of, IsFrame}
 use Rattle.gup_space.specs.Space.{SpaceValue, SpaceParts, space_of}
 use Rattle.gup_space.specs.Shows.{ShowsFrames, ShowsSpace}
 use Rattle.gup_spec_events.specs.State.{CoreState}
-use Rattle.gup_spec_turns.specs.ForkPlace.{ForkPlace, place_in, KeepsFrame, StandsFork, unbegun, from_page, at_page, wants_frame, at_word}
-use Rattle.gup_op_fork.specs.declared.forks.ForkPlace.{ForkPlace as KeptPlace}
-use Rattle.gup_op_fork.specs.declared.forks.ForkPlace.TheVariants.{Unbegun, From, At, Wanting, Copying}
-
-abbrev pub place_of : KeptPlace → ForkPlace
-place_of Unbegun = unbegun
-place_of (From page) = from_page page
-place_of (At page) = at_page page
-place_of (Wanting page) = wants_frame page
-place_of (Copying page word to) = at_word page word to
+use Rattle.gup_spec_turns.specs.JobPlace.{JobPlace, place_in, KeepsFrame, StandsFork, unbegun, from_page, at_page, wants_frame, at_word}
 
 -- a page that was counted has an entry of the parent, and none yet of the child, which has it mapped
 abbrev pub IsCountedIn : (page : ℕ) → (parent child : SpaceValue) → Type 0
@@ -31,7 +22,7 @@ IsCopyOf frames page to parent =
     IsFrame frames to × (frames.count to ≡ 0 → ⊥) × ((e : Entry) → parent.entry page ≡ Some e → to ≡ e.frame → ⊥)
 
 -- What a fork of actor a finds where it stands. From its first turn on the actor has the parent's structure lock.
-abbrev pub IsReadyAt : FramesValue → (a : ℕ) → ForkPlace → (parent child : SpaceValue) → Type 0
+abbrev pub IsReadyAt : FramesValue → (a : ℕ) → JobPlace → (parent child : SpaceValue) → Type 0
 IsReadyAt frames a unbegun parent child = Unit {0}
 IsReadyAt frames a (from_page page) parent child = parent.structure ≡ Some a
 IsReadyAt frames a (at_page page) parent child = (parent.structure ≡ Some a) × IsCountedIn page parent child
@@ -50,10 +41,10 @@ pub record ForkingView : Type 0 where
   pub frames : FramesValue
   pub parent : SpaceValue
   pub child : SpaceValue
-  pub place : ForkPlace
+  pub place : JobPlace
   pub birth : Birth
 
-abbrev pub forking_view : FrameLists → (parent child : SpaceParts) → ForkPlace → Birth → ForkingView
+abbrev pub forking_view : FrameLists → (parent child : SpaceParts) → JobPlace → Birth → ForkingView
 forking_view frames parent child place birth =
     record { frames = frames_of frames; parent = space_of parent; child = space_of child; place = place; birth = birth }
 

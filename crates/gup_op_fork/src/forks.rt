@@ -9,37 +9,19 @@ ghost use Rattle.gup_frames.specs.Frames.{FrameLists, frames_of, free_frame};
 ghost use Rattle.gup_space.specs.Space.{SpaceParts, space_of, AreMapped};
 ghost use Rattle.gup_space.specs.Counted.{AreCounted};
 ghost use Rattle.gup_spec_turns.specs.ForkTurns.{fork_turn};
-ghost use Rattle.gup_spec_turns.specs.ForkPlace.{unbegun, from_page, at_page, wants_frame, at_word};
+ghost use Rattle.gup_spec_turns.specs.JobPlace.{unbegun, from_page, at_page, wants_frame, at_word};
 ghost use Rattle.gup_op_base.specs.Tidy.{IsTidy};
 ghost use Rattle.gup_op_base.specs.Said.{whats_of};
 ghost use Rattle.gup_op_base.specs.Turns.{IsTurnOf};
-ghost use Rattle.gup_op_fork.specs.Forked.{place_of, IsCountedIn, IsCopyOf, IsReadyAt, birth_behind, ShowsForking, StandsAsFork, forking_view};
+ghost use Rattle.gup_op_base.specs.Jobs.{place_of};
+ghost use Rattle.gup_op_fork.specs.Forked.{IsCountedIn, IsCopyOf, IsReadyAt, birth_behind, ShowsForking, StandsAsFork, forking_view};
 
 use gup_base::{ActorNo, Allowed, FrameNo, PageNo, ProcNo, WordNo};
 use gup_fork::{begin, copies, copy_word, end, fail, place_child, share};
 use gup_frames::Frames;
-use gup_op_base::{Said, done, happened, silent};
+use gup_op_base::{JobPlace, Said, done, happened, silent};
 use gup_plain::{Answer, PlainEvent};
 use gup_space::Space;
-
-/// Where a fork stands between two turns.
-#[derive(Clone, Copy, Debug, PartialEq, Eq)]
-pub enum ForkPlace {
-    /// It has not begun.
-    Unbegun,
-    /// It looks for its next page from this number on, which is at most 2^35.
-    From(u64),
-    /// It has counted this page, and is about to share it.
-    At(PageNo),
-    /// It has counted this page, and is about to take a frame for a copy of it.
-    Wanting(PageNo),
-    /// It has copied so many words of this page, of 512, into that frame.
-    Copying {
-        page: PageNo,
-        word: u16,
-        to: FrameNo,
-    },
-}
 
 /// Takes a turn of a fork of process `proc` into `child_no`, and answers what it says and where the fork stands then.
 ///
@@ -61,8 +43,8 @@ pub fn fork(
     actor: ActorNo,
     proc: ProcNo,
     child_no: ProcNo,
-    place: ForkPlace,
-) -> (Said, ForkPlace)
+    place: JobPlace,
+) -> (Said, JobPlace)
     requires parent { IsTidy (frames_of frames.old) (space_of parent.old) }
     requires child { IsTidy (frames_of frames.old) (space_of child.old) }
     requires sequence { (space_of parent.old).sequence < 2 ^ 40 }
@@ -75,11 +57,11 @@ pub fn fork(
         (λ s. fork_turn s actor proc child_no (s.job actor)) (whats_of result.0) }
 {
     match place {
-        ForkPlace::Unbegun => first_turn(parent, child, actor, proc, child_no),
-        ForkPlace::From(from) => next_turn(parent, child, frames, actor, proc, child_no, from),
-        ForkPlace::At(page) => share_turn(parent, child, frames, proc, child_no, page),
-        ForkPlace::Wanting(page) => frame_turn(parent, child, frames, proc, child_no, page),
-        ForkPlace::Copying { page, word, to } => {
+        JobPlace::Unbegun => first_turn(parent, child, actor, proc, child_no),
+        JobPlace::From(from) => next_turn(parent, child, frames, actor, proc, child_no, from),
+        JobPlace::At(page) => share_turn(parent, child, frames, proc, child_no, page),
+        JobPlace::Wanting(page) => frame_turn(parent, child, frames, proc, child_no, page),
+        JobPlace::Copying { page, word, to } => {
             copy_turn(parent, child, frames, proc, child_no, page, word, to)
         }
     }
@@ -92,7 +74,7 @@ fn first_turn(
     actor: ActorNo,
     proc: ProcNo,
     child_no: ProcNo,
-) -> (Said, ForkPlace)
+) -> (Said, JobPlace)
     requires { (space_of parent.old).sequence < 2 ^ 40 }
     ensures { (frames : FrameLists) (birth : Birth)
         → IsTurnOf (ShowsForking actor proc child_no) (StandsAsFork actor proc child_no)
@@ -106,7 +88,7 @@ fn first_turn(
         parent: proc,
         child: child_no,
     };
-    (happened(event), ForkPlace::From(0))
+    (happened(event), JobPlace::From(0))
 }
 
 // The next page from this one on is passed or counted; where there is none, the fork ends.
@@ -118,7 +100,7 @@ fn next_turn(
     proc: ProcNo,
     child_no: ProcNo,
     from: u64,
-) -> (Said, ForkPlace)
+) -> (Said, JobPlace)
     requires parent { IsTidy (frames_of frames.now) (space_of parent.old) }
     requires child { IsTidy (frames_of frames.now) (space_of child.now) }
     requires sequence { (space_of parent.old).sequence < 2 ^ 40 }
@@ -134,19 +116,14 @@ fn next_turn(
     if parent.entry(page).is_none() {
         return (
             page_done(proc, child_no, page),
-            ForkPlace::From(page.get() + 1),
+            JobPlace::From(page.get() + 1),
         );
     }
     count_turn(parent, frames, actor, page)
 }
 
 // The page's count is read, and the table lock taken: the page is to be copied, or to be shared.
-fn count_turn(
-    parent: &mut Space,
-    frames: &Frames,
-    actor: ActorNo,
-    page: PageNo,
-) -> (Said, ForkPlace)
+fn count_turn(parent: &mut Space, frames: &Frames, actor: ActorNo, page: PageNo) -> (Said, JobPlace)
     requires parent { IsTidy (frames_of frames.now) (space_of parent.old) }
     requires entry { IsSome ((space_of parent.old).entry page) }
     ensures { (p c from : ℕ) (child : SpaceParts)
@@ -159,9 +136,9 @@ fn count_turn(
     let copied = copies(parent, frames, page);
     parent.set_table(Some(actor));
     if copied {
-        (silent(), ForkPlace::Wanting(page))
+        (silent(), JobPlace::Wanting(page))
     } else {
-        (silent(), ForkPlace::At(page))
+        (silent(), JobPlace::At(page))
     }
 }
 
@@ -177,7 +154,7 @@ pub fn next_page(child: &Space, from: u64) -> Option<PageNo>
 }
 
 // The end, which frees the parent's structure lock.
-fn last_turn(parent: &mut Space, proc: ProcNo, child_no: ProcNo) -> (Said, ForkPlace)
+fn last_turn(parent: &mut Space, proc: ProcNo, child_no: ProcNo) -> (Said, JobPlace)
     requires { (space_of parent.old).sequence < 2 ^ 40 }
     ensures { (a from : ℕ) (frames : FrameLists) (child : SpaceParts)
         → lowest from (page_numbers - from) (λ page. is_some ((space_of child).right page)) ≡ None
@@ -192,7 +169,7 @@ fn last_turn(parent: &mut Space, proc: ProcNo, child_no: ProcNo) -> (Said, ForkP
         parent: proc,
         child: child_no,
     };
-    (done(event, Answer::Plain), ForkPlace::Unbegun)
+    (done(event, Answer::Plain), JobPlace::Unbegun)
 }
 
 // The counted page is shared, and the table lock is free again.
@@ -203,7 +180,7 @@ fn share_turn(
     proc: ProcNo,
     child_no: ProcNo,
     page: PageNo,
-) -> (Said, ForkPlace)
+) -> (Said, JobPlace)
     requires parent { IsTidy (frames_of frames.old) (space_of parent.old) }
     requires child { IsTidy (frames_of frames.old) (space_of child.old) }
     requires few { (f : ℕ) → (frames_of frames.old).count f < 2 ^ 40 }
@@ -219,7 +196,7 @@ fn share_turn(
     parent.set_table(None);
     (
         page_done(proc, child_no, page),
-        ForkPlace::From(page.get() + 1),
+        JobPlace::From(page.get() + 1),
     )
 }
 
@@ -231,7 +208,7 @@ fn frame_turn(
     proc: ProcNo,
     child_no: ProcNo,
     page: PageNo,
-) -> (Said, ForkPlace)
+) -> (Said, JobPlace)
     requires child { IsTidy (frames_of frames.old) (space_of child.old) }
     requires sequence { (space_of parent.old).sequence < 2 ^ 40 }
     ensures { (a : ℕ) (birth : Birth)
@@ -243,7 +220,7 @@ fn frame_turn(
     let Some(to) = frames.take(Allowed::Any) else {
         return fail_turn(parent, child, frames, proc, child_no);
     };
-    (silent(), ForkPlace::Copying { page, word: 0, to })
+    (silent(), JobPlace::Copying { page, word: 0, to })
 }
 
 // The failure, which frees both locks of the parent.
@@ -253,7 +230,7 @@ fn fail_turn(
     frames: &mut Frames,
     proc: ProcNo,
     child_no: ProcNo,
-) -> (Said, ForkPlace)
+) -> (Said, JobPlace)
     requires child { AreCounted (frames_of frames.old) (space_of child.old) }
     requires mapped { AreMapped (space_of child.old) }
     requires sequence { (space_of parent.old).sequence < 2 ^ 40 }
@@ -267,7 +244,7 @@ fn fail_turn(
     parent.set_table(None);
     parent.set_structure(None);
     let event = PlainEvent::ForkFail { child: child_no };
-    (done(event, Answer::NoFrame), ForkPlace::Unbegun)
+    (done(event, Answer::NoFrame), JobPlace::Unbegun)
 }
 
 // The next word of the page is copied, or, where all are, the child gets the copy.
@@ -280,7 +257,7 @@ fn copy_turn(
     page: PageNo,
     word: u16,
     to: FrameNo,
-) -> (Said, ForkPlace)
+) -> (Said, JobPlace)
     requires parent { IsTidy (frames_of frames.old) (space_of parent.old) }
     requires child { IsTidy (frames_of frames.old) (space_of child.old) }
     requires ready { IsCountedIn page (space_of parent.old) (space_of child.old) }
@@ -303,7 +280,7 @@ fn copy_turn(
         word: next,
     };
     let word = word + 1;
-    (happened(event), ForkPlace::Copying { page, word, to })
+    (happened(event), JobPlace::Copying { page, word, to })
 }
 
 // All words are copied: the child gets the copy, and the table lock is free again.
@@ -313,7 +290,7 @@ fn place_turn(
     frames: &mut Frames,
     page: PageNo,
     to: FrameNo,
-) -> (Said, ForkPlace)
+) -> (Said, JobPlace)
     requires child { IsTidy (frames_of frames.old) (space_of child.old) }
     requires ready { IsCountedIn page (space_of parent.old) (space_of child.old) }
     requires copy { IsCopyOf (frames_of frames.old) page to (space_of parent.old) }
@@ -326,7 +303,7 @@ fn place_turn(
     child.has_room(page);
     place_child(parent, child, frames, page, to);
     parent.set_table(None);
-    (silent(), ForkPlace::From(page.get() + 1))
+    (silent(), JobPlace::From(page.get() + 1))
 }
 
 // The page is done: the child has what the parent has there.

@@ -3,4 +3,4 @@
 
 mod forks;
 
-pub use forks::{ForkPlace, fork, next_page};
+pub use forks::{fork, next_page};

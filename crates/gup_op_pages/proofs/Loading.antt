@@ -1,13 +1,14 @@
 -- What a load or a store makes of frames and a process is the turn's.
 use Rattle.std.proofs.Common.{◌≡◌, ℕ, ◌==◌, Bool, true, false, is_some, List, [], ◌∷◌, ◌++◌, Option, Some, None, IsSome, Ok, Err, cond, refl, sym, ap, ◌∙◌, subst, eqb-true, arith}
 use Rattle.std.proofs.lemmas.Bool.Decides.{nat_tests}
+use Rattle.gup_base.specs.declared.entry.Allowed.{Allowed}
 use Rattle.gup_base.specs.declared.entry.Allowed.TheVariants.{Any}
 use Rattle.gup_base.specs.declared.entry.Entry.{Entry}
 use Rattle.gup_base.specs.declared.entry.Rights.{Rights}
 use Rattle.gup_base.specs.declared.entry.Rights.TheVariants.{R, RW}
 use Rattle.gup_plain.specs.declared.answer.Answer.{Answer}
 use Rattle.gup_plain.specs.declared.note.What.TheVariants.{Done}
-use Rattle.gup_frames.specs.Frames.{FramesValue, IsFrame, free_frame, frames_in, with_word}
+use Rattle.gup_frames.specs.Frames.{FramesValue, IsFrame, free_frame, with_word}
 use Rattle.gup_space.specs.Space.{SpaceValue}
 use Rattle.gup_space.proofs.After.{storing}
 use Rattle.gup_space.specs.Counted.{IsCounted}
@@ -24,7 +25,7 @@ use Rattle.gup_op_base.specs.Said.{whats_of, loaded_said, stored_said}
 use Rattle.gup_op_base.specs.Turns.{Leads, IsTurnOf, Anywhere}
 use Rattle.gup_op_base.specs.Tidy.{IsTidy}
 use Rattle.gup_op_base.proofs.Leading.{ch, leads_alike, run_behind, state_of, has_frames, has_space}
-use Rattle.gup_op_base.proofs.Searching.{free_agrees, lowest_passes}
+use Rattle.gup_op_base.proofs.Searching.{free_agrees, free_passes}
 use Rattle.gup_op_pages.specs.Alone.{AloneView, ShowsAlone}
 use Rattle.gup_op_pages.proofs.Viewing.{view, before, behind, events_show}
 
@@ -36,18 +37,16 @@ read_fault_same : (F : FramesValue) (S : SpaceValue) (a p page : ℕ) (s : CoreS
 read_fault_same F S a p page s none frames space =
     ap (λ o. load_fault s a p page o) (space.entry page ∙ none)
     ∙ ap (λ r. read_fault a p page r None (free_in_state s)) (space.right page)
-    ∙ ap (λ o. read_fault a p page (S.right page) None o) (free_agrees F s frames)
+    ∙ ap (λ o. read_fault a p page (S.right page) None o) (free_agrees F Any s frames)
     ∙ ap (λ o. read_fault a p page (S.right page) o (free_frame F Any)) (sym none)
 
 -- what a write fault reads of the frame of its entry
 pub write_fault_reads : (F : FramesValue) (a p page : ℕ) (rights : Option Rights) (entry : Option Entry) (free : Option ℕ) (s : CoreState) → ShowsFrames F s
     → write_fault a p page rights entry s.mark s.count free ≡ write_fault a p page rights entry F.mark F.count free
-write_fault_reads F a p page None entry free s frames = refl
-write_fault_reads F a p page (Some R) entry free s frames = refl
-write_fault_reads F a p page (Some RW) None free s frames = refl
 write_fault_reads F a p page (Some RW) (Some e) free s frames =
     ap (λ m. cond e.writable (Ok []) (makes_writable a p page e m (s.count e.frame) free)) (frames.mark e.frame)
     ∙ ap (λ n. cond e.writable (Ok []) (makes_writable a p page e (F.mark e.frame) n free)) (frames.count e.frame)
+write_fault_reads F a p page rights entry free s frames = refl
 
 write_fault_same : (F : FramesValue) (S : SpaceValue) (a p page : ℕ) (s : CoreState) → allows_store (S.entry page) ≡ false → ShowsFrames F s → ShowsSpace p S s
     → store_fault s a p page (s.entry p page) ≡ write_fault a p page (S.right page) (S.entry page) F.mark F.count (free_frame F Any)
@@ -55,7 +54,7 @@ write_fault_same F S a p page s unallowed frames space =
     ap (λ o. store_fault s a p page o) (space.entry page)
     ∙ ap (λ b. store_fault_by b s a p page (S.entry page)) unallowed
     ∙ ap (λ r. write_fault a p page r (S.entry page) s.mark s.count (free_in_state s)) (space.right page)
-    ∙ ap (λ o. write_fault a p page (S.right page) (S.entry page) s.mark s.count o) (free_agrees F s frames)
+    ∙ ap (λ o. write_fault a p page (S.right page) (S.entry page) s.mark s.count o) (free_agrees F Any s frames)
     ∙ write_fault_reads F a p page (S.right page) (S.entry page) (free_frame F Any) s frames
 
 -- ---- loads
@@ -252,9 +251,9 @@ read_there c page none unlocked fault there some =
     behind.0 behind.1 (marked (fault.refused 0 0)) there some
 
 -- the free frame is no entry's
-pub free_apart : (F : FramesValue) (S : SpaceValue) (page f : ℕ) (d : Entry) → IsTidy F S → free_frame F Any ≡ Some f → S.entry page ≡ Some d → f ≡ d.frame → ⊥
-free_apart F S page f d tidy free found same =
-    let none : (F.count f == 0) ≡ true = lowest_passes 0 (frames_in F) f (λ g. F.count g == 0) free in
+pub free_apart : (F : FramesValue) (S : SpaceValue) (allowed : Allowed) (page f : ℕ) (d : Entry) → IsTidy F S → free_frame F allowed ≡ Some f → S.entry page ≡ Some d → f ≡ d.frame → ⊥
+free_apart F S allowed page f d tidy free found same =
+    let none : (F.count f == 0) ≡ true = free_passes F allowed f free in
     tidy.counted page d found (ap F.count (sym same) ∙ eqb-true (F.count f) 0 none)
 
 pub write_there : (c : Change) (page : ℕ) → IsTidy c.old_frames c.old_space → allows_store (c.old_space.entry page) ≡ false → c.old_space.table ≡ None → StoreFault c page None
@@ -268,7 +267,7 @@ write_there c page tidy unallowed unlocked fault there some =
     (run s (events_of (write_fault 0 0 page (c.old_space.right page) (c.old_space.entry page) c.old_frames.mark c.old_frames.count free)))
     behind.0 behind.1
     (write_marks 0 0 page (c.old_space.right page) (c.old_space.entry page) c.old_frames.mark c.old_frames.count free s (λ f. refl) (fault.refused 0 0) unallowed
-    (λ f d free_is found. free_apart c.old_frames c.old_space page f d tidy free_is found)) there some
+    (λ f d free_is found. free_apart c.old_frames c.old_space Any page f d tidy free_is found)) there some
 
 -- ---- entries
 

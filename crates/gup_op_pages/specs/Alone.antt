@@ -12,7 +12,7 @@ IsAlone (Pin handle page n want fast) = ⊥
 IsAlone (Unpin handle) = ⊥
 IsAlone (Give handle to) = ⊥
 IsAlone (Take handle) = ⊥
-IsAlone (Transfer handle outward index slot n) = ⊥
+IsAlone (Transfer handle outward slot parts) = ⊥
 IsAlone (Fork child) = ⊥
 IsAlone op = Unit {0}
 

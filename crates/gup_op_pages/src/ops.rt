@@ -39,30 +39,32 @@ pub fn take(
         → IsTurnOf (ShowsAlone proc) Anywhere (alone_view frames.old space.old) (alone_view frames.new space.new)
         (λ s. op_turn s actor proc slots k op.now) (whats_of result) }
 {
-    match *op {
-        Op::Map { page, n, rights } => map(space, frames, actor, proc, page, n, rights),
+    match op {
+        Op::Map { page, n, rights } => map(space, frames, actor, proc, *page, *n, *rights),
         Op::Unmap { page, n } => unmap(
             space,
             frames,
             actor,
             proc,
-            page_behind(page, far),
-            far + 1 == n,
+            page_behind(*page, far),
+            far + 1 == *n,
         ),
-        Op::Protect { page, n, rights } => protect(space, frames, actor, proc, page, n, rights),
+        Op::Protect { page, n, rights } => protect(space, frames, actor, proc, *page, *n, *rights),
         Op::Discard { page, n } => discard(
             space,
             frames,
             actor,
             proc,
-            page_behind(page, far),
-            far + 1 == n,
+            page_behind(*page, far),
+            far + 1 == *n,
         ),
-        Op::Load { page, word } => load(space, frames, actor, proc, page, word),
-        Op::Store { page, word, value } => store(space, frames, actor, proc, page, word, value),
+        Op::Load { page, word } => load(space, frames, actor, proc, *page, *word),
+        Op::Store { page, word, value } => store(space, frames, actor, proc, *page, *word, *value),
+        Op::Exit => exit(space, frames, actor, proc),
         Op::Pin { .. } | Op::Unpin { .. } | Op::Give { .. } => refused(Answer::Unborn),
         Op::Take { .. } | Op::Transfer { .. } | Op::Fork { .. } => refused(Answer::Unborn),
-        Op::Exit => exit(space, frames, actor, proc),
+        Op::Get { .. } | Op::Put { .. } | Op::Mirror { .. } => refused(Answer::Unborn),
+        Op::Look { .. } | Op::Move { .. } => refused(Answer::Unborn),
     }
 }
 
@@ -71,11 +73,13 @@ pub fn take(
 pub fn needs_table(space: &Space, op: &Op) -> bool
     ensures { result ≡ table_needed (space_of space.now) op.now }
 {
-    match *op {
-        Op::Load { page, .. } => space.entry(page).is_none(),
-        Op::Store { page, .. } => !allows_store(space.entry(page)),
+    match op {
+        Op::Load { page, .. } => space.entry(*page).is_none(),
+        Op::Store { page, .. } => !allows_store(space.entry(*page)),
         Op::Map { .. } | Op::Unmap { .. } | Op::Protect { .. } | Op::Discard { .. } => true,
         Op::Pin { .. } | Op::Fork { .. } | Op::Exit => true,
         Op::Unpin { .. } | Op::Give { .. } | Op::Take { .. } | Op::Transfer { .. } => false,
+        Op::Get { .. } | Op::Put { .. } | Op::Mirror { .. } => false,
+        Op::Look { .. } | Op::Move { .. } => false,
     }
 }

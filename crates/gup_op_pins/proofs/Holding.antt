@@ -14,7 +14,7 @@ use Rattle.gup_frames.specs.Frames.{FramesValue, IsFrame, without_references}
 use Rattle.gup_space.proofs.After.{unpinning, giving, taking_over}
 use Rattle.gup_space.specs.Shows.{ShowsFrames}
 use Rattle.gup_space.proofs.ShowsLemmas.{shows_frames}
-use Rattle.gup_handles.specs.Handles.{HandleValue, HandlesValue, unmade, held, given, got, gone, IsPinOf, IsGivenTo, given_to, taken_by, but_last, held_or_gone, without_last, HasLast}
+use Rattle.gup_handles.specs.Handles.{HandleValue, HandlesValue, held, given, gone, IsPinOf, IsGivenTo, given_to, taken_by, but_last, held_or_gone, without_last, HasLast}
 use Rattle.gup_spec_events.specs.State.{CoreState}
 use Rattle.gup_spec_events.specs.Event.{happens, unpin_page, give_handle, take_handle}
 use Rattle.gup_spec_turns.specs.PinTurns.{last_of, unpinned, unpin_turn, give_turn, take_turn}
@@ -54,19 +54,13 @@ pins_changed H h v handle pages s pin others shown k = go (k == h) refl
 held_there : (v : HandleValue) (handle : plain.Handle) (pinned : List ℕ) (a : ℕ) → IsPinOf v a → IsPin v handle pinned → is_held_by handle a ≡ true
 held_there (held by frames write) handle pinned a is pin =
     let same : (by == a) ≡ true = grind (arith, nat_tests) in ap (λ h. is_held_by h a) pin.0.1 ∙ same
-held_there unmade handle pinned a none pin = absurd none
-held_there (given to frames write) handle pinned a none pin = absurd none
-held_there (got by frame) handle pinned a none pin = absurd none
-held_there gone handle pinned a none pin = absurd none
+held_there v handle pinned a none pin = absurd none
 
 -- ---- give
 
 given_shown : (v : HandleValue) (handle : plain.Handle) (pinned : List ℕ) (a to : ℕ) → IsPinOf v a → IsPin v handle pinned → IsPin (given_to to v) (given_in_state handle to) pinned
 given_shown (held by frames write) handle pinned a to is pin = ((pin.0.0, ap (λ h. given_in_state h to) pin.0.1), pin.1)
-given_shown unmade handle pinned a to none pin = absurd none
-given_shown (given by frames write) handle pinned a to none pin = absurd none
-given_shown (got by frame) handle pinned a to none pin = absurd none
-given_shown gone handle pinned a to none pin = absurd none
+given_shown v handle pinned a to none pin = absurd none
 
 abbrev pub given_whats : (a handle to : ℕ) → List What
 given_whats a handle to = Event (events.Give a handle to) ∷ Done answers.Plain ∷ []
@@ -91,10 +85,7 @@ pin_given F H H' a h to is new_pins s shown stands =
 
 taken_shown : (v : HandleValue) (handle : plain.Handle) (pinned : List ℕ) (a : ℕ) → IsGivenTo v a → IsPin v handle pinned → IsPin (taken_by a v) (held_in_state handle a) pinned
 taken_shown (given to frames write) handle pinned a is pin = ((pin.0.0, ap (λ h. held_in_state h a) pin.0.1), pin.1)
-taken_shown unmade handle pinned a none pin = absurd none
-taken_shown (held by frames write) handle pinned a none pin = absurd none
-taken_shown (got by frame) handle pinned a none pin = absurd none
-taken_shown gone handle pinned a none pin = absurd none
+taken_shown v handle pinned a none pin = absurd none
 
 abbrev pub taken_whats : (a handle : ℕ) → List What
 taken_whats a handle = Event (events.Take a handle) ∷ Done answers.Plain ∷ []
@@ -130,10 +121,7 @@ last_is front f =
 pub last_weighed : (F : FramesValue) (v : HandleValue) (a frame : ℕ) → IsWeighed F v → IsPinOf v a → HasLast v frame → IsFrame F frame × (1024 ≤ F.count frame)
 last_weighed F (held by frames write) a frame weighed is last =
     weighed (length (but_last frames)) frame (ap (λ (l : List ℕ). slice_get l (length (but_last frames))) last ∙ last_there (but_last frames) frame)
-last_weighed F unmade a frame weighed none last = absurd none
-last_weighed F (given to frames write) a frame weighed none last = absurd none
-last_weighed F (got by f) a frame weighed none last = absurd none
-last_weighed F gone a frame weighed none last = absurd none
+last_weighed F v a frame weighed none last = absurd none
 
 -- what an unpin says that leaves pages, and one that leaves none
 abbrev pub unpinned_whats : (left : Bool) → (a handle : ℕ) → List What
@@ -203,20 +191,14 @@ page_unpinned F F' H H' a h frame still mine last new_frames new_pins some none 
         unpin_by F F' H H' by a h frame frames write still is mine_so last_so new_frames new
         (λ so. subst (λ (x : HandleValue). IsPinOf x a) (now v new) (some so))
         (λ so holds. none so (subst (λ (x : HandleValue). IsPinOf x a) (sym (now v new)) holds))
-    go unmade is none_so last_so new = absurd none_so
-    go (given to frames write) is none_so last_so new = absurd none_so
-    go (got by f) is none_so last_so new = absurd none_so
-    go gone is none_so last_so new = absurd none_so
+    go v is none_so last_so new = absurd none_so
 
 -- ---- what is said, whatever the other handles are
 
 -- an unpin is silent that leaves a pin
 pub still_says : (v : HandleValue) (a h : ℕ) → IsPinOf v a → unpin_said v a h ≡ record { event = None; next = None; answer = None }
 still_says (held by frames write) a h is = refl
-still_says unmade a h none = absurd none
-still_says (given to frames write) a h none = absurd none
-still_says (got by frame) a h none = absurd none
-still_says gone a h none = absurd none
+still_says v a h none = absurd none
 
 none_left : (by : ℕ) (left : List ℕ) (write : Bool) (a : ℕ) → by ≡ a → (IsPinOf (held_or_gone by left write) a → ⊥) → held_or_gone by left write ≡ gone
 none_left by [] write a is none = refl
@@ -224,10 +206,7 @@ none_left by (f ∷ left) write a is none = absurd (none is)
 
 pin_gone : (v : HandleValue) (a : ℕ) → IsPinOf v a → (IsPinOf (without_last v) a → ⊥) → without_last v ≡ gone
 pin_gone (held by frames write) a is none = none_left by (but_last frames) write a is none
-pin_gone unmade a none left = absurd none
-pin_gone (given to frames write) a none left = absurd none
-pin_gone (got by frame) a none left = absurd none
-pin_gone gone a none left = absurd none
+pin_gone v a none left = absurd none
 
 -- and one that leaves none ends
 pub gone_says : (H H' : HandlesValue) (a h : ℕ) → IsPinOf (H h) a → H' ≡ put h (without_last (H h)) H → (IsPinOf (H' h) a → ⊥) → unpin_said (H' h) a h ≡ done_said (events.Unpin a h)

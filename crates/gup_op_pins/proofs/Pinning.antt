@@ -22,7 +22,7 @@ use Rattle.gup_spec_events.specs.Event.{CoreEvent, happens, pin_page, make_handl
 use Rattle.gup_spec_events.specs.Invariant.{frame_of}
 use Rattle.gup_spec_events.specs.Fault.{Fault, events_of, refusal_of}
 use Rattle.gup_fault.specs.Faults.{IsFault}
-use Rattle.gup_spec_turns.specs.CoreTurn.{entry_in}
+use Rattle.gup_spec_turns.specs.CoreTurn.{zones_of, entry_in}
 use Rattle.gup_spec_turns.specs.PinTurns.{raises, makes_if, pinned_if, pins, cause_of, ends_pin, pin_turn, pin_turn_at, pin_turn_by}
 use Rattle.gup_op_pins.specs.Pins.{IsPin, ShowsPins, PinningView, ShowsPinning, StandsAtPage, raised, fault_to_pin}
 use Rattle.gup_op_base.specs.Tidy.{IsTidy}
@@ -197,33 +197,33 @@ pin_after new (Ok before) a p handle page n far want last s is unrefused behind 
     (behind (run (run s (raises a p far)) before) refl))
 
 -- a fault of a page of a pin that stands at this one
-abbrev pub PinFault : (F F1 : FramesValue) (S S2 : SpaceValue) (page far : ℕ) → (write : Bool) → Option Answer → Type 0
-PinFault F F1 S S2 page far write denied =
-    IsFault (ch F F1 (raised far S) S2) denied (λ b q. fault_to_pin F (raised far S) b q page write)
+abbrev pub PinFault : (F F1 : FramesValue) (S S2 : SpaceValue) (page far : ℕ) → Want → Option Answer → Type 0
+PinFault F F1 S S2 page far want denied =
+    IsFault (ch F F1 (raised far S) S2) denied (λ b q. fault_to_pin F (raised far S) b q page want.write (zones_of want))
 
 -- as the code names the process and the page
-pub fault_at : (F F1 : FramesValue) (S S1 S2 : SpaceValue) (page far at : ℕ) (write : Bool) (denied : Option Answer) → S1 ≡ raised far S → at ≡ page + far
-    → IsFault (ch F F1 S1 S2) denied (λ b q. fault_to_pin F S1 b q at write) → PinFault F F1 S S2 (page + far) far write denied
-fault_at F F1 S S1 S2 page far at write denied space is h =
-    subst (λ (x : SpaceValue). IsFault (ch F F1 x S2) denied (λ b q. fault_to_pin F x b q (page + far) write)) space
-    (subst (λ g. IsFault (ch F F1 S1 S2) denied (λ b q. fault_to_pin F S1 b q g write)) is h)
+pub fault_at : (F F1 : FramesValue) (S S1 S2 : SpaceValue) (page far at : ℕ) (want : Want) (denied : Option Answer) → S1 ≡ raised far S → at ≡ page + far
+    → IsFault (ch F F1 S1 S2) denied (λ b q. fault_to_pin F S1 b q at want.write (zones_of want)) → PinFault F F1 S S2 (page + far) far want denied
+fault_at F F1 S S1 S2 page far at want denied space is h =
+    subst (λ (x : SpaceValue). IsFault (ch F F1 x S2) denied (λ b q. fault_to_pin F x b q (page + far) want.write (zones_of want))) space
+    (subst (λ g. IsFault (ch F F1 S1 S2) denied (λ b q. fault_to_pin F S1 b q g want.write (zones_of want))) is h)
 
 -- the pin stands at the page after those that it has taken
 turn_is : (F : FramesValue) (S : SpaceValue) (a p handle page n far : ℕ) (want : Want) (s : CoreState) → length (s.taken a) ≡ far → ShowsFrames F s → ShowsSpace p S s
-    → pin_turn s a p handle page n want ≡ pin_turn_by (fault_to_pin F (raised far S) a p (page + far) want.write) s a p handle (page + far) n far want
+    → pin_turn s a p handle page n want ≡ pin_turn_by (fault_to_pin F (raised far S) a p (page + far) want.write (zones_of want)) s a p handle (page + far) n far want
 turn_is F S a p handle page n far want s many frames space =
     ap (λ (got : ℕ). pin_turn_at s a p handle page n got want) many
     ∙ ap (λ (x : Fault). pin_turn_by x s a p handle (page + far) n far want)
-    (pin_fault_same F S a p (page + far) want.write s frames space ∙ sym (fault_raised F S a p (page + far) far want.write))
+    (pin_fault_same F S a p (page + far) want.write (zones_of want) s frames space ∙ sym (fault_raised F S a p (page + far) far want.write (zones_of want)))
 
 -- the page is pinned
 pub pinned_page : (old new : PinningView) (F1 : FramesValue) (S2 : SpaceValue) (a p handle page n far frame : ℕ) (want : Want) (last : Bool) → (far + 1 == n) ≡ last → old.space.table ≡ None
-    → PinFault old.frames F1 old.space S2 (page + far) far want.write None → frame_of (S2.entry (page + far)) ≡ Some frame
+    → PinFault old.frames F1 old.space S2 (page + far) far want None → frame_of (S2.entry (page + far)) ≡ Some frame
     → new.frames ≡ with_references frame 1024 F1 → new.space ≡ record S2 { has_pinned = true } → IsMade last old new a handle frame want.write
     → IsTurnOf (ShowsPinning a p) (StandsAtPage a p handle page n want far) old new (λ s. pin_turn s a p handle page n want) (tried_whats last a p handle (page + far) n want.write)
 pinned_page old new F1 S2 a p handle page n far frame want last is unlocked fault at new_frames new_space made s shown stands =
     leads_alike (turn_is old.frames old.space a p handle page n far want s stands.at.taken.many shown.frames shown.space)
-    (pin_after new (fault_to_pin F (raised far S) a p (page + far) want.write) a p handle (page + far) n far want last s is (fault.refused a p) (λ t here. behind t here))
+    (pin_after new (fault_to_pin F (raised far S) a p (page + far) want.write (zones_of want)) a p handle (page + far) n far want last s is (fault.refused a p) (λ t here. behind t here))
   where
     F : FramesValue
     F = old.frames
@@ -235,7 +235,7 @@ pinned_page old new F1 S2 a p handle page n far frame want last is unlocked faul
     t0 = run s (raises a p far)
 
     t1 : CoreState
-    t1 = run t0 (events_of (fault_to_pin F (raised far S) a p (page + far) want.write))
+    t1 = run t0 (events_of (fault_to_pin F (raised far S) a p (page + far) want.write (zones_of want)))
 
     shows : ShowsFrames F1 t1 × ShowsSpace p S2 t1
     shows =
@@ -243,7 +243,7 @@ pinned_page old new F1 S2 a p handle page n far frame want last is unlocked faul
         ((raise_space S a p far s shown.space).table ∙ raised_unlocked S far unlocked)
 
     same : IsLeft t0 t1
-    same = pin_fault_leaves F (raised far S) a p (page + far) want.write t0
+    same = pin_fault_leaves F (raised far S) a p (page + far) want.write (zones_of want) t0
 
     taken_same : t1.taken a ≡ s.taken a
     taken_same = ap (λ (f : ℕ → List TakenPage). f a) (same.taken ∙ raise_taken a p far s)
@@ -270,11 +270,11 @@ refused_after new (Err denied) a p handle page n far want answer s whats refused
 
 -- without a page the pin is refused
 pub pin_refused : (old new : PinningView) (F1 : FramesValue) (S2 : SpaceValue) (a p handle page n far : ℕ) (want : Want) (answer : Answer) → far ≡ 0
-    → PinFault old.frames F1 old.space S2 (page + far) far want.write (Some answer) → new.frames ≡ F1 → new.space ≡ S2 → new.pins ≡ old.pins → new.taken ≡ old.taken
+    → PinFault old.frames F1 old.space S2 (page + far) far want (Some answer) → new.frames ≡ F1 → new.space ≡ S2 → new.pins ≡ old.pins → new.taken ≡ old.taken
     → IsTurnOf (ShowsPinning a p) (StandsAtPage a p handle page n want far) old new (λ s. pin_turn s a p handle page n want) (Done answer ∷ [])
 pin_refused old new F1 S2 a p handle page n zero want answer first fault new_frames new_space new_pins new_taken s shown stands =
     leads_alike (turn_is old.frames old.space a p handle page n 0 want s stands.at.taken.many shown.frames shown.space)
-    (refused_after new (fault_to_pin old.frames (raised 0 old.space) a p (page + 0) want.write) a p handle (page + 0) n 0 want answer s (Done answer ∷ []) (fault.refused a p)
+    (refused_after new (fault_to_pin old.frames (raised 0 old.space) a p (page + 0) want.write (zones_of want)) a p handle (page + 0) n 0 want answer s (Done answer ∷ []) (fault.refused a p)
     (record {
       says = refl;
       shown = record {
@@ -293,7 +293,7 @@ short_whats a handle n far answer =
 
 -- after others the pin has those
 pub pin_short : (old new : PinningView) (F1 : FramesValue) (S2 : SpaceValue) (a p handle page n far : ℕ) (want : Want) (answer : Answer) → (far ≡ 0 → ⊥)
-    → PinFault old.frames F1 old.space S2 (page + far) far want.write (Some answer) → new.frames ≡ F1 → new.space ≡ S2
+    → PinFault old.frames F1 old.space S2 (page + far) far want (Some answer) → new.frames ≡ F1 → new.space ≡ S2
     → new.pins ≡ put handle (held a old.taken want.write) old.pins → new.taken ≡ []
     → IsTurnOf (ShowsPinning a p) (StandsAtPage a p handle page n want far) old new (λ s. pin_turn s a p handle page n want) (short_whats a handle n far answer)
 pin_short old new F1 S2 a p handle page n zero want answer some fault new_frames new_space new_pins new_taken s shown stands = absurd (some refl)
@@ -301,7 +301,7 @@ pin_short old new F1 S2 a p handle page n (suc far) want answer some fault new_f
     let t : CoreState = happens s (make_handle a handle) in
     let writes : writes_taken (s.taken a) ≡ want.write = writes_some (s.taken a) want.write (omega (arith, stands.at.taken.many)) (λ k x found. (stands.at.taken.each k x found).2) in
     leads_alike (turn_is old.frames old.space a p handle page n (suc far) want s stands.at.taken.many shown.frames shown.space)
-    (refused_after new (fault_to_pin old.frames old.space a p (page + suc far) want.write) a p handle (page + suc far) n (suc far) want answer s (short_whats a handle n (suc far) answer) (fault.refused a p)
+    (refused_after new (fault_to_pin old.frames old.space a p (page + suc far) want.write (zones_of want)) a p handle (page + suc far) n (suc far) want answer s (short_whats a handle n (suc far) answer) (fault.refused a p)
     (record {
       says = refl;
       shown = record {

@@ -1,7 +1,7 @@
 -- What a pin's fault reads, what it leaves, and that the page is ready after it.
 use Rattle.std.proofs.Common.{◌≡◌, ℕ, ◌<◌, ◌^◌, ◌==◌, Bool, true, false, cond, [], ◌∷◌, ◌++◌, Option, Some, None, IsSome, Result, Ok, Err, OnOk, zero, suc, refl, sym, ap, ◌∙◌, subst, arith}
 use Rattle.std.proofs.lemmas.Bool.Decides.{nat_tests}
-use Rattle.gup_base.specs.declared.entry.Allowed.TheVariants.{Any}
+use Rattle.gup_base.specs.declared.entry.Allowed.{Allowed}
 use Rattle.gup_base.specs.declared.entry.Entry.{Entry}
 use Rattle.gup_base.specs.declared.entry.Rights.{Rights}
 use Rattle.gup_base.specs.declared.entry.Rights.TheVariants.{R, RW}
@@ -18,7 +18,7 @@ use Rattle.gup_fault.specs.Refused.{denial_of}
 use Rattle.gup_fault.specs.Faults.{HasEntry, IsMarked, IsWritable, IsFault}
 use Rattle.gup_slow.specs.Pins.{IsReady}
 use Rattle.gup_spec_turns.specs.PinTurns.{pin_fault}
-use Rattle.gup_spec_turns.specs.CoreTurn.{free_frame as free_in_state}
+use Rattle.gup_spec_turns.specs.CoreTurn.{free_in}
 use Rattle.gup_op_pins.specs.Pins.{raised, fault_to_pin, want_of}
 use Rattle.gup_op_base.specs.Tidy.{IsTidy}
 use Rattle.gup_op_base.proofs.Leading.{state_of, has_frames, has_space}
@@ -37,24 +37,23 @@ unshare_fault_reads F a p page (Some rights) (Some e) free s frames =
     ∙ ap (λ n. unshares a p page e (F.mark e.frame) n free) (frames.count e.frame)
 
 -- a state's fault is the one that was read of frames and a process
-pub pin_fault_same : (F : FramesValue) (S : SpaceValue) (a p page : ℕ) (write : Bool) (s : CoreState) → ShowsFrames F s → ShowsSpace p S s
-    → pin_fault s a p page write ≡ fault_to_pin F S a p page write
-pin_fault_same F S a p page true s frames space =
-    ap (λ r. write_fault a p page r (s.entry p page) s.mark s.count (free_in_state s)) (space.right page)
-    ∙ ap (λ o. write_fault a p page (S.right page) o s.mark s.count (free_in_state s)) (space.entry page)
-    ∙ ap (λ o. write_fault a p page (S.right page) (S.entry page) s.mark s.count o) (free_agrees F s frames)
-    ∙ write_fault_reads F a p page (S.right page) (S.entry page) (free_frame F Any) s frames
-pin_fault_same F S a p page false s frames space =
-    ap (λ r. unshare_fault a p page r (s.entry p page) s.mark s.count (free_in_state s)) (space.right page)
-    ∙ ap (λ o. unshare_fault a p page (S.right page) o s.mark s.count (free_in_state s)) (space.entry page)
-    ∙ ap (λ o. unshare_fault a p page (S.right page) (S.entry page) s.mark s.count o) (free_agrees F s frames)
-    ∙ unshare_fault_reads F a p page (S.right page) (S.entry page) (free_frame F Any) s frames
+pub pin_fault_same : (F : FramesValue) (S : SpaceValue) (a p page : ℕ) (write : Bool) (allowed : Allowed) (s : CoreState) → ShowsFrames F s → ShowsSpace p S s
+    → pin_fault s a p page write (free_in s allowed) ≡ fault_to_pin F S a p page write allowed
+pin_fault_same F S a p page true allowed s frames space =
+    ap (λ r. write_fault a p page r (s.entry p page) s.mark s.count (free_in s allowed)) (space.right page)
+    ∙ ap (λ o. write_fault a p page (S.right page) o s.mark s.count (free_in s allowed)) (space.entry page)
+    ∙ ap (λ o. write_fault a p page (S.right page) (S.entry page) s.mark s.count o) (free_agrees F allowed s frames)
+    ∙ write_fault_reads F a p page (S.right page) (S.entry page) (free_frame F allowed) s frames
+pin_fault_same F S a p page false allowed s frames space =
+    ap (λ r. unshare_fault a p page r (s.entry p page) s.mark s.count (free_in s allowed)) (space.right page)
+    ∙ ap (λ o. unshare_fault a p page (S.right page) o s.mark s.count (free_in s allowed)) (space.entry page)
+    ∙ ap (λ o. unshare_fault a p page (S.right page) (S.entry page) s.mark s.count o) (free_agrees F allowed s frames)
+    ∙ unshare_fault_reads F a p page (S.right page) (S.entry page) (free_frame F allowed) s frames
 
 -- the flag is not read
-pub fault_raised : (F : FramesValue) (S : SpaceValue) (a p page far : ℕ) (write : Bool) → fault_to_pin F (raised far S) a p page write ≡ fault_to_pin F S a p page write
-fault_raised F S a p page zero true = refl
-fault_raised F S a p page zero false = refl
-fault_raised F S a p page (suc far) write = refl
+pub fault_raised : (F : FramesValue) (S : SpaceValue) (a p page far : ℕ) (write : Bool) (allowed : Allowed) → fault_to_pin F (raised far S) a p page write allowed ≡ fault_to_pin F S a p page write allowed
+fault_raised F S a p page zero true allowed = refl
+fault_raised F S a p page far write allowed = refl
 
 -- ---- what a fault leaves
 
@@ -113,9 +112,9 @@ write_fault_leaves a p page (Some RW) (Some d) mark count free s = by_entry d.wr
     by_entry true = left_alone s
     by_entry false = makes_writable_leaves a p page d (mark d.frame) (count d.frame) free s
 
-pub pin_fault_leaves : (F : FramesValue) (S : SpaceValue) (a p page : ℕ) (write : Bool) (s : CoreState) → IsLeft s (run s (events_of (fault_to_pin F S a p page write)))
-pin_fault_leaves F S a p page true s = write_fault_leaves a p page (S.right page) (S.entry page) F.mark F.count (free_frame F Any) s
-pin_fault_leaves F S a p page false s = unshare_fault_leaves a p page (S.right page) (S.entry page) F.mark F.count (free_frame F Any) s
+pub pin_fault_leaves : (F : FramesValue) (S : SpaceValue) (a p page : ℕ) (write : Bool) (allowed : Allowed) (s : CoreState) → IsLeft s (run s (events_of (fault_to_pin F S a p page write allowed)))
+pin_fault_leaves F S a p page true allowed s = write_fault_leaves a p page (S.right page) (S.entry page) F.mark F.count (free_frame F allowed) s
+pin_fault_leaves F S a p page false allowed s = unshare_fault_leaves a p page (S.right page) (S.entry page) F.mark F.count (free_frame F allowed) s
 
 -- ---- the count that a fault leaves
 
@@ -195,12 +194,12 @@ write_fault_counts a p page many (Some RW) (Some d) mark count free s more other
     by_entry true ok g at = before g at
     by_entry false ok g at = writable_counts a p page many d (mark d.frame) (count d.frame) free s more other had before ok g at
 
-pin_fault_counts : (F : FramesValue) (S : SpaceValue) (page many : ℕ) (write : Bool) → 1 < many → IsApart (free_frame F Any) (S.entry page) → IsCountedAt (state_of F S) 0 page many
-    → refusal_of (fault_to_pin F S 0 0 page write) ≡ None → IsCountedAt (run (state_of F S) (events_of (fault_to_pin F S 0 0 page write))) 0 page many
-pin_fault_counts F S page many true more other before done =
-    write_fault_counts 0 0 page many (S.right page) (S.entry page) F.mark F.count (free_frame F Any) (state_of F S) more other refl before done
-pin_fault_counts F S page many false more other before done =
-    unshare_fault_counts 0 0 page many (S.right page) (S.entry page) F.mark F.count (free_frame F Any) (state_of F S) more other before done
+pin_fault_counts : (F : FramesValue) (S : SpaceValue) (page many : ℕ) (write : Bool) (allowed : Allowed) → 1 < many → IsApart (free_frame F allowed) (S.entry page) → IsCountedAt (state_of F S) 0 page many
+    → refusal_of (fault_to_pin F S 0 0 page write allowed) ≡ None → IsCountedAt (run (state_of F S) (events_of (fault_to_pin F S 0 0 page write allowed))) 0 page many
+pin_fault_counts F S page many true allowed more other before done =
+    write_fault_counts 0 0 page many (S.right page) (S.entry page) F.mark F.count (free_frame F allowed) (state_of F S) more other refl before done
+pin_fault_counts F S page many false allowed more other before done =
+    unshare_fault_counts 0 0 page many (S.right page) (S.entry page) F.mark F.count (free_frame F allowed) (state_of F S) more other before done
 
 -- ---- a page that is ready
 
@@ -212,16 +211,16 @@ not_zero : (n : ℕ) → 0 < n → n ≡ 0 → ⊥
 not_zero n some none = omega arith
 
 -- by the fault's events the frame's count is right
-counts_behind : (c : Change) (page many : ℕ) (write : Bool) → 1 < many → IsTidy c.old_frames c.old_space → ((f : ℕ) → c.old_frames.count f < many) → c.old_space.table ≡ None
-    → IsFault c None (λ a p. fault_to_pin c.old_frames c.old_space a p page write) → (e : Entry) → c.new_space.entry page ≡ Some e
+counts_behind : (c : Change) (page many : ℕ) (write : Bool) (allowed : Allowed) → 1 < many → IsTidy c.old_frames c.old_space → ((f : ℕ) → c.old_frames.count f < many) → c.old_space.table ≡ None
+    → IsFault c None (λ a p. fault_to_pin c.old_frames c.old_space a p page write allowed) → (e : Entry) → c.new_space.entry page ≡ Some e
     → (0 < c.new_frames.count e.frame) × (c.new_frames.count e.frame < many)
-counts_behind c page many write more tidy few unlocked fault e found =
+counts_behind c page many write allowed more tidy few unlocked fault e found =
     let F : FramesValue = c.old_frames in
     let S : SpaceValue = c.old_space in
-    let t : CoreState = run (state_of F S) (events_of (fault_to_pin F S 0 0 page write)) in
+    let t : CoreState = run (state_of F S) (events_of (fault_to_pin F S 0 0 page write allowed)) in
     let behind = events_lead fault.events (state_of F S) 0 0 (has_frames F S) (has_space F S 0) unlocked in
     let before : IsCountedAt (state_of F S) 0 page many = λ d at. (some_positive (F.count d.frame) (tidy.counted page d at), few d.frame) in
-    let counted = pin_fault_counts F S page many write more (λ f d free had. free_apart F S page f d tidy free had) before (fault.refused 0 0) e (behind.1.entry page ∙ found) in
+    let counted = pin_fault_counts F S page many write allowed more (λ f d free had. free_apart F S allowed page f d tidy free had) before (fault.refused 0 0) e (behind.1.entry page ∙ found) in
     subst (λ n. (0 < n) × (n < many)) (behind.0.count e.frame) counted
 
 has_some : (entry : Option Entry) (P : Entry → Type 0) → HasEntry entry P → (e : Entry) → entry ≡ Some e → P e
@@ -241,14 +240,14 @@ writable_for : (write : Bool) (entry : Option Entry) → IsWritableFor write ent
 writable_for true entry holds e found wanted = has_some entry (λ d. d.writable ≡ true) holds e found
 writable_for false entry holds e found wanted = absurd (cc)
 
-pub ready_behind : (c : Change) (page : ℕ) (write : Bool) (r : Result (Unit {0}) Denied) → IsTidy c.old_frames c.old_space → ((f : ℕ) → c.old_frames.count f < 2 ^ 40) → c.old_space.table ≡ None
-    → IsFault c (denial_of r) (λ a p. fault_to_pin c.old_frames c.old_space a p page write)
+pub ready_behind : (c : Change) (page : ℕ) (write : Bool) (allowed : Allowed) (r : Result (Unit {0}) Denied) → IsTidy c.old_frames c.old_space → ((f : ℕ) → c.old_frames.count f < 2 ^ 40) → c.old_space.table ≡ None
+    → IsFault c (denial_of r) (λ a p. fault_to_pin c.old_frames c.old_space a p page write allowed)
     → ((f : ℕ) → (c.new_frames.count f ≡ 0 → ⊥) → IsFrame c.new_frames f)
     → OnOk r (IsMarked c.new_frames (c.new_space.entry page)) → OnOk r (IsWritableFor write (c.new_space.entry page))
     → OnOk r (IsReady c.new_frames c.new_space page (want_of write))
-ready_behind c page write (Err denied) tidy few unlocked fault there marked writable = tt
-ready_behind c page write (Ok ok) tidy few unlocked fault there marked writable =
-    let counts = counts_behind c page (2 ^ 40) write (omega arith) tidy few unlocked fault in
+ready_behind c page write allowed (Err denied) tidy few unlocked fault there marked writable = tt
+ready_behind c page write allowed (Ok ok) tidy few unlocked fault there marked writable =
+    let counts = counts_behind c page (2 ^ 40) write allowed (omega arith) tidy few unlocked fault in
     record {
       entry = has_one (c.new_space.entry page) (λ e. c.new_frames.mark e.frame ≡ true) marked;
       pinnable = λ e found. record {

@@ -1,6 +1,6 @@
 -- What pins are to a state of the core machine, and what a turn of a pin is over.
 use Rattle.std.specs.Prelude.{◌≡◌, ℕ, ◌<◌, ◌≤◌, Bool, true, false, List, [], slice_get, Some, zero, suc}
-use Rattle.gup_base.specs.declared.entry.Allowed.TheVariants.{Any}
+use Rattle.gup_base.specs.declared.entry.Allowed.{Allowed}
 use Rattle.gup_base.specs.declared.entry.Want.{Want}
 use Rattle.gup_plain.specs.State as plain
 use Rattle.gup_frames.specs.Frames.{FramesValue, FrameLists, frames_of, IsFrame, free_frame}
@@ -45,11 +45,11 @@ raised zero space = record space { has_pinned = true }
 raised (suc far) space = space
 
 -- the fault of a page of a pin, by what it finds of frames and the process
-abbrev pub fault_to_pin : FramesValue → SpaceValue → (a p page : ℕ) → (write : Bool) → Fault
-fault_to_pin frames space a p page true =
-    write_fault a p page (space.right page) (space.entry page) frames.mark frames.count (free_frame frames Any)
-fault_to_pin frames space a p page false =
-    unshare_fault a p page (space.right page) (space.entry page) frames.mark frames.count (free_frame frames Any)
+abbrev pub fault_to_pin : FramesValue → SpaceValue → (a p page : ℕ) → (write : Bool) → Allowed → Fault
+fault_to_pin frames space a p page true allowed =
+    write_fault a p page (space.right page) (space.entry page) frames.mark frames.count (free_frame frames allowed)
+fault_to_pin frames space a p page false allowed =
+    unshare_fault a p page (space.right page) (space.entry page) frames.mark frames.count (free_frame frames allowed)
 
 -- what a pin of this kind asks for, that isn't long-term
 abbrev pub want_of : (write : Bool) → Want

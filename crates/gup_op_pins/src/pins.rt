@@ -9,6 +9,7 @@ ghost use Rattle.gup_fault.specs.Refused.{answer_of as answered, denial_of};
 ghost use Rattle.gup_fault.specs.Faults.{IsFault};
 ghost use Rattle.gup_slow.specs.Pins.{IsReady};
 ghost use Rattle.gup_handles.specs.Handles.{handles_of, unmade, held};
+ghost use Rattle.gup_spec_turns.specs.CoreTurn.{zones_of as zones};
 ghost use Rattle.gup_spec_turns.specs.PinTurns.{cause_of as cause, pin_turn};
 ghost use Rattle.gup_op_base.specs.Tidy.{IsTidy};
 ghost use Rattle.gup_op_base.specs.Said.{whats_of};
@@ -16,7 +17,7 @@ ghost use Rattle.gup_op_base.specs.Turns.{IsTurnOf};
 ghost use Rattle.gup_op_pins.specs.Pins.{ShowsPinning, StandsAtPage, pinning_view, raised, fault_to_pin, want_of};
 
 use arrayvec::ArrayVec;
-use gup_base::{ActorNo, Allowed, FrameNo, HandleNo, PageNo, ProcNo, Want};
+use gup_base::{ActorNo, Allowed, FrameNo, HandleNo, PageNo, ProcNo, Want, Zone};
 use gup_fault::{Denied, answer_of, ready_write, unshare};
 use gup_frames::Frames;
 use gup_handles::Handles;
@@ -107,41 +108,63 @@ fn ready(space: &mut Space, frames: &mut Frames, page: PageNo, want: Want) -> Re
     requires few { (f : ℕ) → (frames_of frames.old).count f < 2 ^ 40 }
     requires short { want.long ≡ false }
     ensures fault { IsFault (change_of frames.old frames.new space.old space.new) (denial_of result)
-        (λ a p. fault_to_pin (frames_of frames.old) (space_of space.old) a p page want.write) }
+        (λ a p. fault_to_pin (frames_of frames.old) (space_of space.old) a p page want.write (zones want)) }
     ensures ready { OnOk result (IsReady (frames_of frames.new) (space_of space.new) page want) }
 {
+    let allowed = zones_of(want);
     if want.write {
-        ready_to_write(space, frames, page)
+        ready_to_write(space, frames, page, allowed)
     } else {
-        ready_to_read(space, frames, page)
+        ready_to_read(space, frames, page, allowed)
+    }
+}
+
+// The zones from which the pages of such a pin take frames.
+fn zones_of(want: Want) -> Allowed
+    ensures { result ≡ zones want }
+{
+    if want.long {
+        Allowed::Only(Zone::Normal)
+    } else {
+        Allowed::Any
     }
 }
 
 // The same of a pin to write, and of one to read.
-fn ready_to_write(space: &mut Space, frames: &mut Frames, page: PageNo) -> Result<(), Denied>
+fn ready_to_write(
+    space: &mut Space,
+    frames: &mut Frames,
+    page: PageNo,
+    allowed: Allowed,
+) -> Result<(), Denied>
     requires tidy { IsTidy (frames_of frames.old) (space_of space.old) }
     requires table { (space_of space.old).table ≡ None }
     requires few { (f : ℕ) → (frames_of frames.old).count f < 2 ^ 40 }
     ensures fault { IsFault (change_of frames.old frames.new space.old space.new) (denial_of result)
-        (λ a p. fault_to_pin (frames_of frames.old) (space_of space.old) a p page true) }
+        (λ a p. fault_to_pin (frames_of frames.old) (space_of space.old) a p page true allowed) }
     ensures ready { OnOk result (IsReady (frames_of frames.new) (space_of space.new) page (want_of true)) }
 {
     space.has_room(page);
-    let ready = ready_write(space, frames, page, Allowed::Any);
+    let ready = ready_write(space, frames, page, allowed);
     frames.are_there();
     ready
 }
 
-fn ready_to_read(space: &mut Space, frames: &mut Frames, page: PageNo) -> Result<(), Denied>
+fn ready_to_read(
+    space: &mut Space,
+    frames: &mut Frames,
+    page: PageNo,
+    allowed: Allowed,
+) -> Result<(), Denied>
     requires tidy { IsTidy (frames_of frames.old) (space_of space.old) }
     requires table { (space_of space.old).table ≡ None }
     requires few { (f : ℕ) → (frames_of frames.old).count f < 2 ^ 40 }
     ensures fault { IsFault (change_of frames.old frames.new space.old space.new) (denial_of result)
-        (λ a p. fault_to_pin (frames_of frames.old) (space_of space.old) a p page false) }
+        (λ a p. fault_to_pin (frames_of frames.old) (space_of space.old) a p page false allowed) }
     ensures ready { OnOk result (IsReady (frames_of frames.new) (space_of space.new) page (want_of false)) }
 {
     space.has_room(page);
-    let ready = unshare(space, frames, page, Allowed::Any);
+    let ready = unshare(space, frames, page, allowed);
     frames.are_there();
     ready
 }

@@ -6,15 +6,15 @@ use Rattle.gup_plain.specs.State.{Birth, Handle, unborn, growing, born, failed}
 use Rattle.gup_plain.specs.declared.note.Waiting.{Waiting}
 use Rattle.gup_plain.specs.declared.note.Waiting.TheVariants as waitings
 use Rattle.gup_script.specs.declared.op.Op.{Op}
-use Rattle.gup_script.specs.declared.op.Op.TheVariants.{Map, Unmap, Protect, Discard, Load, Store, Pin, Unpin, Give, Take, Transfer, Fork, Exit}
+use Rattle.gup_script.specs.declared.op.Op.TheVariants.{Load, Store, Take, Fork}
 use Rattle.gup_space.specs.Space.{SpaceValue}
 use Rattle.gup_space.specs.Shows.{ShowsSpace}
-use Rattle.gup_spec_events.specs.State.{CoreState, Job, idle, marking, moving, forking, walking, between, counted, lowered, cleared, copying, failing}
+use Rattle.gup_spec_events.specs.State.{CoreState, Job, idle, forking, between, counted, copying}
 use Rattle.gup_spec_turns.specs.Waits.{both_if, fork_locks, locks_needed, held_by_other, first_waiting, waits_for_locks, waits_born, waiting_for}
 use Rattle.gup_spec_turns.proofs.TurnParts.{waits_at}
 use Rattle.gup_spec_turns.specs.ForkTurns.{first_behind}
 use Rattle.gup_spec_turns.specs.CoreTurn.{allows_store}
-use Rattle.gup_spec_turns.specs.ForkPlace.{ForkPlace, fork_place, place_in, IsNoFork, StandsFork}
+use Rattle.gup_spec_turns.specs.JobPlace.{JobPlace, job_place, place_in, IsNoFork, StandsFork}
 use Rattle.gup_handles.specs.Handles.{HandleValue, IsGivenTo as IsKeptFor}
 use Rattle.gup_handles.specs.Handles as kept
 use Rattle.gup_spec_journal.specs.Order.{is_given_to, taking_waits, handle_waits}
@@ -27,34 +27,12 @@ use Rattle.gup_op_waits.specs.Stands.{StandsAt}
 -- ---- which operations are forks
 
 pub single : (op : Op) → child_in op ≡ None → IsNoFork (Some op)
-single (Map page n rights) none = tt
-single (Unmap page n) none = tt
-single (Protect page n rights) none = tt
-single (Discard page n) none = tt
-single (Load page word) none = tt
-single (Store page word value) none = tt
-single (Pin handle page n want fast) none = tt
-single (Unpin handle) none = tt
-single (Give handle to) none = tt
-single (Take handle) none = tt
-single (Transfer handle outward index slot n) none = tt
 single (Fork child) none = absurd (cc)
-single Exit none = tt
+single op none = tt
 
 pub forks_into : (op : Op) (child : ℕ) → child_in op ≡ Some child → op ≡ Fork child
-forks_into (Map page n rights) child is = absurd (cc)
-forks_into (Unmap page n) child is = absurd (cc)
-forks_into (Protect page n rights) child is = absurd (cc)
-forks_into (Discard page n) child is = absurd (cc)
-forks_into (Load page word) child is = absurd (cc)
-forks_into (Store page word value) child is = absurd (cc)
-forks_into (Pin handle page n want fast) child is = absurd (cc)
-forks_into (Unpin handle) child is = absurd (cc)
-forks_into (Give handle to) child is = absurd (cc)
-forks_into (Take handle) child is = absurd (cc)
-forks_into (Transfer handle outward index slot n) child is = absurd (cc)
 forks_into (Fork c) child is = cc
-forks_into Exit child is = absurd (cc)
+forks_into op child is = absurd (cc)
 
 -- ---- the locks that are needed
 
@@ -65,39 +43,26 @@ lowest_same first (suc n) test other same =
     ∙ ap (λ rest. cond (other first) (Some first) rest) (lowest_same (first + 1) n test other same)
 
 pub single_needs : (S : SpaceValue) (s : CoreState) (a p : ℕ) (op : Op) → ShowsSpace p S s → IsNoFork (Some op) → both_if (needs_table S op) ≡ locks_needed s a p op
-single_needs S s a p (Map page n rights) space none = refl
-single_needs S s a p (Unmap page n) space none = refl
-single_needs S s a p (Protect page n rights) space none = refl
-single_needs S s a p (Discard page n) space none = refl
 single_needs S s a p (Load page word) space none = ap (λ o. both_if (is_none o)) (sym (space.entry page))
 single_needs S s a p (Store page word value) space none = ap (λ o. both_if (not (allows_store o))) (sym (space.entry page))
-single_needs S s a p (Pin handle page n want fast) space none = refl
-single_needs S s a p (Unpin handle) space none = refl
-single_needs S s a p (Give handle to) space none = refl
-single_needs S s a p (Take handle) space none = refl
-single_needs S s a p (Transfer handle outward index slot n) space none = refl
 single_needs S s a p (Fork child) space none = absurd none
-single_needs S s a p Exit space none = refl
+single_needs S s a p op space none = refl
 
-pub fork_needs_by : (S : SpaceValue) (s : CoreState) (a p child : ℕ) (place : ForkPlace) → ShowsSpace child S s → place ≡ place_in s a → StandsFork s a p child (s.job a) (s.prepared a)
+pub fork_needs_by : (S : SpaceValue) (s : CoreState) (a p child : ℕ) (place : JobPlace) → ShowsSpace child S s → place ≡ place_in s a → StandsFork s a p child (s.job a) (s.prepared a)
     → fork_needs S.right place ≡ fork_locks (s.right child) (s.job a)
 fork_needs_by S s a p child place space is stands = ap (λ k. fork_needs S.right k) is ∙ go (s.job a) (s.prepared a) stands
   where
     found : (from : ℕ) → is_some (lowest from (page_numbers - from) (λ g. is_some (S.right g))) ≡ is_some (lowest from (page_numbers - from) (λ g. is_some (s.right child g)))
     found from = ap is_some (lowest_same from (page_numbers - from) (λ g. is_some (S.right g)) (λ g. is_some (s.right child g)) (λ g. ap is_some (sym (space.right g))))
 
-    go : (job : Job) (prepared : Option ℕ) → StandsFork s a p child job prepared → fork_needs S.right (fork_place job prepared) ≡ fork_locks (s.right child) job
+    go : (job : Job) (prepared : Option ℕ) → StandsFork s a p child job prepared → fork_needs S.right (job_place job prepared) ≡ fork_locks (s.right child) job
     go idle prepared h = refl
     go (forking q c done between) prepared h = ap (λ (b : Bool). record { structure = false; table = b }) (found (first_behind done))
     go (forking q c done (counted page)) prepared h = refl
-    go (forking q c done (lowered page)) prepared h = absurd h
-    go (forking q c done (cleared page)) prepared h = absurd h
     go (forking q c done (copying page word)) None h = refl
     go (forking q c done (copying page word)) (Some to) h = refl
-    go (forking q c done failing) prepared h = absurd h
-    go (marking q page f) prepared h = absurd h
-    go (moving q page e allowed count) prepared h = absurd h
-    go (walking q write long sequence step) prepared h = absurd h
+    go (forking q c done step) prepared h = absurd h
+    go job prepared h = absurd h
 
 -- ---- who doesn't wait
 
@@ -136,7 +101,7 @@ pub table_free : (needed : Bool) (a : ℕ) (structure table : Option ℕ) → (t
 table_free true a structure table other none is = unheld a table other (second_free (held_by_other a structure) (held_by_other a table) none)
 table_free false a structure table other none is = absurd (cc)
 
-pub forked_needs : (S : SpaceValue) (s : CoreState) (a p child far : ℕ) (place : ForkPlace) (op : Op) → op ≡ Fork child → ShowsSpace child S s → place ≡ place_in s a → StandsAt s a p far op
+pub forked_needs : (S : SpaceValue) (s : CoreState) (a p child far : ℕ) (place : JobPlace) (op : Op) → op ≡ Fork child → ShowsSpace child S s → place ≡ place_in s a → StandsAt s a p far op
     → fork_needs S.right place ≡ locks_needed s a p op
 forked_needs S s a p child far place op same space is at =
     fork_needs_by S s a p child place space is (at.fork child same) ∙ ap (λ (x : Op). locks_needed s a p x) (sym same)
@@ -182,19 +147,8 @@ take_waits s a p h op is = sym (ap (λ (x : Op). waits_born s a p x) is ∙ none
 
 -- and no other operation for one
 no_pin : (handle : ℕ → Handle) (a : ℕ) (op : Op) → ((h : ℕ) → op ≡ Take h → ⊥) → None ≡ handle_waits handle a (Some op)
-no_pin handle a (Map page n rights) other = refl
-no_pin handle a (Unmap page n) other = refl
-no_pin handle a (Protect page n rights) other = refl
-no_pin handle a (Discard page n) other = refl
-no_pin handle a (Load page word) other = refl
-no_pin handle a (Store page word value) other = refl
-no_pin handle a (Pin h page n want fast) other = refl
-no_pin handle a (Unpin h) other = refl
-no_pin handle a (Give h to) other = refl
 no_pin handle a (Take h) other = absurd (other h refl)
-no_pin handle a (Transfer h outward index slot n) other = refl
-no_pin handle a (Fork child) other = refl
-no_pin handle a Exit other = refl
+no_pin handle a op other = refl
 
 pub lock_waits : (s : CoreState) (a p : ℕ) (op : Op) → ((h : ℕ) → op ≡ Take h → ⊥) → waits_for_locks (locks_needed s a p op) a (s.structure p) (s.table p) ≡ waits_born s a p op
 lock_waits s a p op other =

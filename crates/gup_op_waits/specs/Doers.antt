@@ -8,7 +8,7 @@ abbrev pub HasProcess : Op → Type 0
 HasProcess (Unpin handle) = ⊥
 HasProcess (Give handle to) = ⊥
 HasProcess (Take handle) = ⊥
-HasProcess (Transfer handle outward index slot n) = ⊥
+HasProcess (Transfer handle outward slot parts) = ⊥
 HasProcess op = Unit {0}
 
 -- the process of whoever is a thread

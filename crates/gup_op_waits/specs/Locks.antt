@@ -6,14 +6,14 @@ use Rattle.gup_plain.specs.Put.{lowest}
 use Rattle.gup_script.specs.declared.op.Op.{Op}
 use Rattle.gup_script.specs.declared.op.Op.TheVariants.{Fork}
 use Rattle.gup_spec_turns.specs.Waits.{Locks, both_locks, no_lock}
-use Rattle.gup_spec_turns.specs.ForkPlace.{ForkPlace, unbegun, from_page}
+use Rattle.gup_spec_turns.specs.JobPlace.{JobPlace, unbegun, from_page}
 use Rattle.gup_op_waits.specs.declared.locks.Locks.{Locks as KeptLocks}
 
 abbrev pub locks_of : KeptLocks → Locks
 locks_of locks = record { structure = locks.structure; table = locks.table }
 
 -- those of a fork, by the rights of its child and by where it stands
-abbrev pub fork_needs : (right : ℕ → Option Rights) → ForkPlace → Locks
+abbrev pub fork_needs : (right : ℕ → Option Rights) → JobPlace → Locks
 fork_needs right unbegun = both_locks
 fork_needs right (from_page page) =
     record { structure = false; table = is_some (lowest page (page_numbers - page) (λ g. is_some (right g))) }

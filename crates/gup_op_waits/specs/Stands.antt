@@ -1,10 +1,11 @@
 -- Where an actor stands before a turn of its operation.
-use Rattle.std.specs.Prelude.{◌≡◌, ℕ, ◌<◌, Bool, true, Some}
+use Rattle.std.specs.Prelude.{◌≡◌, ℕ, ◌<◌, Bool, true, List, Some}
+use Rattle.gup_base.specs.Parts.{Part}
 use Rattle.gup_base.specs.declared.entry.Want.{Want}
 use Rattle.gup_script.specs.declared.op.Op.{Op}
 use Rattle.gup_script.specs.declared.op.Op.TheVariants.{Pin, Transfer, Fork}
 use Rattle.gup_spec_events.specs.State.{CoreState, idle}
-use Rattle.gup_spec_turns.specs.ForkPlace.{IsNoFork, KeepsFrame, StandsFork}
+use Rattle.gup_spec_turns.specs.JobPlace.{IsNoFork, KeepsFrame, StandsFork}
 use Rattle.gup_spec_turns.specs.PinPlace.{StandsPin}
 use Rattle.gup_op_devices.specs.Transfers.{IsWhole}
 
@@ -17,4 +18,4 @@ pub record StandsAt (s : CoreState) (a p far : ℕ) (op : Op) : Type 0 where
   pub fork : (child : ℕ) → op ≡ Fork child → StandsFork s a p child (s.job a) (s.prepared a)
   pub pin : (handle page n : ℕ) (want : Want) (fast : Bool) → op ≡ Pin handle page n want fast → StandsPin s a p handle page n want far
   pub pinned : (handle page n : ℕ) (want : Want) (fast : Bool) → op ≡ Pin handle page n want fast → 0 < far → s.has_pinned p ≡ true
-  pub whole : (handle index slot n : ℕ) (outward : Bool) → op ≡ Transfer handle outward index slot n → IsWhole s a handle
+  pub whole : (handle slot : ℕ) (outward : Bool) (parts : List Part) → op ≡ Transfer handle outward slot parts → IsWhole s a handle

@@ -6,8 +6,8 @@ ghost use Rattle.gup_space.specs.Space.{space_of};
 ghost use Rattle.gup_handles.specs.Handles.{handles_of};
 ghost use Rattle.gup_spec_turns.specs.Waits.{waits_for_lock as lock_waited, waits_for_locks as locks_waited};
 ghost use Rattle.gup_spec_turns.specs.Waits.{both_if, held_by_other as other_holding, locks_needed as needed, waiting_for};
-ghost use Rattle.gup_spec_turns.specs.ForkPlace.{place_in};
-ghost use Rattle.gup_op_fork.specs.Forked.{place_of};
+ghost use Rattle.gup_spec_turns.specs.JobPlace.{place_in};
+ghost use Rattle.gup_op_base.specs.Jobs.{place_of};
 ghost use Rattle.gup_op_pins.specs.Pins.{ShowsPins};
 ghost use Rattle.gup_op_base.specs.Tidy.{AreNumbered};
 ghost use Rattle.gup_op_waits.specs.Locks.{locks_of, fork_needs, child_in};
@@ -21,7 +21,8 @@ use crate::births::{Birth, birth_of};
 use crate::parts::Parts;
 use gup_base::{ActorNo, HandleNo, ProcNo};
 use gup_handles::Handles;
-use gup_op_fork::{ForkPlace, next_page};
+use gup_op_base::JobPlace;
+use gup_op_fork::next_page;
 use gup_op_pages::needs_table;
 use gup_plain::Waiting;
 use gup_script::Op;
@@ -41,7 +42,7 @@ pub fn waits_for(
     parts: &Parts,
     actor: ActorNo,
     proc: Option<ProcNo>,
-    place: ForkPlace,
+    place: JobPlace,
     op: &Op,
 ) -> Option<Waiting>
     requires there { HasProcess op.now → IsSome proc }
@@ -60,8 +61,8 @@ pub fn waits_for(
             Birth::Failed => return None,
         }
     }
-    match (*op, proc) {
-        (Op::Take { handle }, _) => waits_for_pin(&parts.handles, actor, handle),
+    match (op, proc) {
+        (Op::Take { handle }, _) => waits_for_pin(&parts.handles, actor, *handle),
         (_, Some(proc)) => waits_for_holders(&parts.spaces, actor, proc, place, op),
         (_, None) => None,
     }
@@ -84,7 +85,7 @@ fn waits_for_holders(
     spaces: &Vec<Space>,
     actor: ActorNo,
     proc: ProcNo,
-    place: ForkPlace,
+    place: JobPlace,
     op: &Op,
 ) -> Option<Waiting>
     requires there { proc < length spaces.now.items }
@@ -115,17 +116,18 @@ fn space_at(spaces: &Vec<Space>, proc: ProcNo) -> &Space
 pub fn child_of(op: &Op) -> Option<ProcNo>
     ensures { result ≡ child_in op.now }
 {
-    match *op {
-        Op::Fork { child } => Some(child),
+    match op {
+        Op::Fork { child } => Some(*child),
         Op::Map { .. } | Op::Unmap { .. } | Op::Protect { .. } | Op::Discard { .. } => None,
         Op::Load { .. } | Op::Store { .. } | Op::Exit => None,
-        Op::Pin { .. } | Op::Unpin { .. } | Op::Give { .. } => None,
-        Op::Take { .. } | Op::Transfer { .. } => None,
+        Op::Pin { .. } | Op::Unpin { .. } | Op::Give { .. } | Op::Take { .. } => None,
+        Op::Get { .. } | Op::Put { .. } | Op::Transfer { .. } => None,
+        Op::Mirror { .. } | Op::Look { .. } | Op::Move { .. } => None,
     }
 }
 
 // Which locks of its process the operation's next turn needs.
-fn locks_needed(spaces: &Vec<Space>, proc: ProcNo, place: ForkPlace, op: &Op) -> Locks
+fn locks_needed(spaces: &Vec<Space>, proc: ProcNo, place: JobPlace, op: &Op) -> Locks
     requires there { proc < length spaces.now.items }
     requires child { (child : ℕ) → op.now ≡ Fork child → child < length spaces.now.items }
     requires numbered { EachSpace AreNumbered spaces.now.items }
@@ -139,17 +141,17 @@ fn locks_needed(spaces: &Vec<Space>, proc: ProcNo, place: ForkPlace, op: &Op) ->
 }
 
 // A fork needs both locks at its beginning, and the table lock for the first turn of each page. Its end needs none.
-fn fork_locks(child: &Space, place: ForkPlace) -> Locks
+fn fork_locks(child: &Space, place: JobPlace) -> Locks
     requires numbered { AreNumbered (space_of child.now) }
     ensures { locks_of result ≡ fork_needs (space_of child.now).right (place_of place) }
 {
     match place {
-        ForkPlace::Unbegun => both(true),
-        ForkPlace::From(from) => Locks {
+        JobPlace::Unbegun => both(true),
+        JobPlace::From(from) => Locks {
             structure: false,
             table: next_page(child, from).is_some(),
         },
-        ForkPlace::At(_) | ForkPlace::Wanting(_) | ForkPlace::Copying { .. } => both(false),
+        JobPlace::At(_) | JobPlace::Wanting(_) | JobPlace::Copying { .. } => both(false),
     }
 }
 

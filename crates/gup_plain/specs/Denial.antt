@@ -1,7 +1,8 @@
 -- The answers by which the plain state denies an operation, by what the operation asks for: each is the first that
 -- applies, and none where the operation is not denied.
-use Rattle.std.specs.Prelude.{ℕ, ◌+◌, ◌*◌, ◌==◌, Bool, true, false, not, ◌||◌, ◌&&◌, nat_lt, nat_le, is_some, if◌then◌else◌, List, length, sum_by, Option, Some, None, zero, suc}
+use Rattle.std.specs.Prelude.{ℕ, ◌+◌, ◌*◌, ◌==◌, Bool, true, false, not, ◌||◌, ◌&&◌, nat_lt, nat_le, is_some, if◌then◌else◌, List, length, Option, Some, None, zero, suc}
 use Rattle.std.specs.List.{list_all}
+use Rattle.gup_base.specs.Parts.{Part, words_of}
 use Rattle.gup_base.specs.declared.entry.Rights.{Rights}
 use Rattle.gup_base.specs.declared.entry.Rights.TheVariants.{R, RW}
 use Rattle.gup_plain.specs.State.{Birth, failed, Handle, held, objects_of}
@@ -59,16 +60,13 @@ abbrev pub holder_denial : (holds : Bool) → Option Answer
 holder_denial true = None
 holder_denial false = Some NotHeld
 
--- A transfer of words, in parts: first indices and how many words each. The words of a handle's pages are one row;
--- the slots of the store go on from the first without a gap.
-abbrev pub Part : Type 0
-Part = ℕ × ℕ
-
+-- A transfer of words, in parts. The words of a handle's pages are one row; the slots of the store go on from the first
+-- without a gap.
 abbrev pub has_words : (pages : ℕ) → List Part → Bool
 has_words pages parts = list_all (λ (part : Part). nat_le (part.0 + part.1) (words * pages)) parts
 
 abbrev pub has_slots : (slots first : ℕ) → List Part → Bool
-has_slots slots first parts = nat_le (first + sum_by (λ (part : Part). part.1) parts) slots
+has_slots slots first parts = nat_le (first + words_of parts) slots
 
 abbrev pub range_denial : (fits : Bool) → Option Answer
 range_denial true = None

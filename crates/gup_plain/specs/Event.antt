@@ -1,5 +1,5 @@
 -- The plain events: when each can happen, and what it changes.
-use Rattle.std.specs.Prelude.{◌≡◌, ℕ, ◌+◌, ◌-◌, ◌*◌, ◌/◌, ◌%◌, ◌^◌, ◌<◌, ◌≤◌, ◌==◌, not, Bool, true, false, List, [], ◌∷◌, ◌++◌, map, length, slice_index, All, Contains, Some, None, IsSome}
+use Rattle.std.specs.Prelude.{◌≡◌, ℕ, ◌+◌, ◌-◌, ◌*◌, ◌/◌, ◌%◌, ◌<◌, ◌≤◌, ◌==◌, not, Bool, true, false, List, [], ◌∷◌, ◌++◌, map, length, slice_index, All, Contains, Some, None, IsSome}
 use Rattle.std.specs.List.{filter}
 use Rattle.gup_base.specs.declared.entry.Rights.TheVariants.{RW}
 use Rattle.gup_plain.specs.declared.event.PlainEvent.{PlainEvent}
@@ -7,6 +7,8 @@ use Rattle.gup_plain.specs.declared.event.PlainEvent.TheVariants.{Map, Unmap, Di
 use Rattle.gup_plain.specs.Put.{put, put2, spread}
 use Rattle.gup_plain.specs.State.{PlainState, Birth, unborn, growing, born, failed, Handle, unmade, held, given, gone, Pending, Noted, IsNamed, objects_of, named_or_zero}
 use Rattle.gup_base.specs.Counts.{most_slots}
+use Rattle.gup_plain.specs.Pages.{mapped_pages}
+unfoldable pub use Rattle.gup_plain.specs.Pages.{page_numbers}
 
 -- the most pages that a process may have mapped
 abbrev pub most_pages : ℕ
@@ -15,10 +17,6 @@ most_pages = 1024
 -- the words of a page, and the words of a store
 abbrev pub words : ℕ
 words = 512
-
--- how many page numbers there are
-unfoldable pub page_numbers : ℕ
-page_numbers = 2 ^ 35
 
 -- a born process has the page mapped to be written, or this is not asked
 abbrev pub MayPin : PlainState → (p page : ℕ) → (write : Bool) → Type 0
@@ -184,7 +182,7 @@ happened s (ForkBegin parent child) =
       birth = put child (growing parent) s.birth;
       right = put child (s.right parent) s.right;
       object = put child (λ page. named_or_zero (s.right parent page) (s.made + page)) s.object;
-      pages = put child (s.pages parent) s.pages;
+      pages = put child (mapped_pages (s.right parent)) s.pages;
       copied = put child (λ _ _. false) s.copied;
     }
 -- all words of the page at once

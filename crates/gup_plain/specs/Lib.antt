@@ -1,5 +1,6 @@
 pub mod Put
 pub mod State
+pub mod Pages
 pub mod Event
 pub mod Denial
 pub mod Note

@@ -118,7 +118,7 @@ transfer_told st a outward (handle ∷ index ∷ slot ∷ count ∷ []) =
       transfers outward handle index slot count,
       refl,
       goes tt (all_three (index_step index _ (λ i hi. index_step slot _ (λ s hs. count_step 1 most_words count _ (lit< tt) (λ n hn.
-          pin_step st handle _ (λ h is. goes tt (goes tt (built (ops.Transfer h outward i s n) refl tt (h, i, s, n, is, hi, hs, hn, refl))))))))),
+          pin_step st handle _ (λ h is. goes tt (goes tt (built (ops.Transfer h outward s ((i, n) ∷ [])) refl tt (h, i, s, n, is, hi, hs, hn, refl))))))))),
     )
 transfer_told st a true _ = inr (refl, refl)
 transfer_told st a false _ = inr (refl, refl)

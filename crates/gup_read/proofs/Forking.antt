@@ -6,7 +6,7 @@ use Rattle.std.proofs.lemmas.Bool.{not-true}
 use Rattle.std.proofs.lemmas.Bool.Decides.{Decides-eqb}
 use Rattle.gup_base.specs.declared.entry.Want.{Want}
 use Rattle.gup_script.specs.declared.op.Op.{Op}
-use Rattle.gup_script.specs.declared.op.Op.TheVariants.{Map, Unmap, Protect, Discard, Load, Store, Pin, Unpin, Give, Take, Transfer, Fork, Exit}
+use Rattle.gup_script.specs.declared.op.Op.TheVariants.{Map, Unmap, Protect, Discard, Load, Store, Pin, Unpin, Give, Take, Get, Put, Transfer, Mirror, Look, Move, Fork, Exit}
 use Rattle.gup_script.specs.Script.{ScriptValue, Process, Actor, ops_in}
 use Rattle.gup_script.specs.Valid.{IsChild, AreDeclared}
 use Rattle.gup_spec_grammar.specs.Outline.{with_op, is_child_at, forks_child}
@@ -31,7 +31,7 @@ still_declared s t more e handles actors (Pin handle page n want fast) h = omega
 still_declared s t more e handles actors (Unpin handle) h = omega arith
 still_declared s t more e handles actors (Give handle to) h = (omega (arith, h.0), omega (arith, h.1))
 still_declared s t more e handles actors (Take handle) h = omega arith
-still_declared s t more e handles actors (Transfer handle outward index slot n) h = omega arith
+still_declared s t more e handles actors (Transfer handle outward slot parts) h = omega arith
 still_declared s t more e handles actors (Map page n rights) h = tt
 still_declared s t more e handles actors (Unmap page n) h = tt
 still_declared s t more e handles actors (Protect page n rights) h = tt
@@ -39,6 +39,11 @@ still_declared s t more e handles actors (Discard page n) h = tt
 still_declared s t more e handles actors (Load page word) h = tt
 still_declared s t more e handles actors (Store page word value) h = tt
 still_declared s t more e handles actors Exit h = tt
+still_declared s t more e handles actors (Get handle page) h = tt
+still_declared s t more e handles actors (Put handle) h = tt
+still_declared s t more e handles actors (Mirror mirror proc page) h = tt
+still_declared s t more e handles actors (Look mirror word) h = tt
+still_declared s t more e handles actors (Move proc page zone) h = tt
 
 pub declared_stay : (s t : ScriptValue) (more : List Process) → t.processes ≡ s.processes ++ more → length s.handles ≤ length t.handles → length s.actors ≤ length t.actors → (all : List Actor) → AllByRecursion (λ (a : Actor). All (AreDeclared s) a.ops) all → AllByRecursion (λ (a : Actor). All (AreDeclared t) a.ops) all
 declared_stay s t more e handles actors all h =

@@ -1,23 +1,31 @@
 -- The operation that an action means: its numbers are in range, what it names is declared, it brings no child and makes
 -- no handle that another does, and it is one of its actor's kind.
-use Rattle.std.proofs.Common.{◌≡◌, ℕ, Bool, true, false, List, length, slice_get, Contains, refl, sym, subst, Option, Some, None, arith}
+use Rattle.std.proofs.Common.{◌≡◌, ℕ, ◌^◌, ◌<◌, ◌≤◌, Bool, true, false, List, [], ◌∷◌, length, slice_get, Contains, refl, sym, subst, Option, Some, None, arith}
 use Rattle.std.specs.Prelude.{codes}
 use Rattle.std.proofs.lemmas.List.{length_push}
+use Rattle.std.proofs.lemmas.List.Elements.{All-push, All-nil}
+use Rattle.gup_base.specs.Parts.{Part}
 use Rattle.gup_base.specs.declared.entry.Want.{Want}
 use Rattle.gup_script.specs.declared.op.Kind.{Kind}
 use Rattle.gup_script.specs.declared.op.Kind.TheVariants.{Thread, Device, Mover}
 use Rattle.gup_script.specs.declared.op.Op.{Op}
 use Rattle.gup_script.specs.declared.op.Op.TheVariants.{Pin, Fork}
+use Rattle.gup_script.specs.Limits.{most_words}
 use Rattle.gup_script.specs.Script.{Actor, process_at}
 use Rattle.gup_spec_grammar.specs.Outline.{Outline, with_handle, is_child, is_forked}
 use Rattle.gup_spec_grammar.specs.Said.{Word, Action, maps, unmaps, protects, discards, loads, stores, exits, pins, forks, unpins, takes, gives, transfers, action_words, op_words, op_words_of}
 use Rattle.gup_spec_grammar.specs.Grammar.{NamesProcess, ActionNames, ActionOnce, want_of, Means, with_declared, first_word}
-use Rattle.gup_script.specs.Valid.{IsOp, FitsKind, IsOfThread, IsOfDevice, AreDeclared}
+use Rattle.gup_script.specs.Valid.{IsOp, AreParts, FitsKind, IsOfThread, IsOfDevice, AreDeclared}
 use Rattle.gup_read.proofs.Following.{none_among}
 use Rattle.gup_read.proofs.Forking.{IsForkOf, IsPinOf, IsFresh, child_is, fork_no_pin, pin_declared, unforked}
 use Rattle.gup_read.proofs.Standing.{Stands}
 
 -- ---- what is true of the operation
+
+-- one part of a transfer
+one_part : (i n : ℕ) → i < 2 ^ 32 → 1 ≤ n → n ≤ most_words → AreParts ((i, n) ∷ [])
+one_part i n fits some few =
+    (All-push (λ (part : Part). (part.0 < 2 ^ 32) × (1 ≤ part.1)) [] (i, n) (All-nil (λ (part : Part). (part.0 < 2 ^ 32) × (1 ≤ part.1))) (fits, some), omega arith, omega arith)
 
 pub is_op : (st : Outline) (action : Action) (op : Op) → Means st action op → IsOp op
 is_op st (maps first count rights) op m = subst IsOp (sym m.3) (m.2.2, m.2.3, m.2.4)
@@ -32,7 +40,7 @@ is_op st (forks child) op m = subst IsOp (sym m.2) tt
 is_op st (unpins handle) op m = subst IsOp (sym m.2) tt
 is_op st (takes handle) op m = subst IsOp (sym m.2) tt
 is_op st (gives handle to) op m = subst IsOp (sym m.4) tt
-is_op st (transfers outward handle index slot count) op m = subst IsOp (sym m.8) (m.7.1, m.7.2, m.5.1, m.6.1)
+is_op st (transfers outward handle index slot count) op m = subst IsOp (sym m.8) (one_part m.1 m.3 m.5.1 m.7.1 m.7.2, m.6.1)
 is_op st _ op m = absurd m
 
 -- what it names is declared

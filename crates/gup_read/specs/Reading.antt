@@ -167,7 +167,7 @@ transfer_in outward st (handle ∷ index ∷ slot ∷ count ∷ []) = do
   s ← need reasons.Number (index_in slot)
   n ← need reasons.Number (count_in 1 most_words count)
   h ← need reasons.Name (pin_of (find st.names handle))
-  Ok (Some (ops.Transfer h outward i s n))
+  Ok (Some (ops.Transfer h outward s ((i, n) ∷ [])))
 transfer_in outward st _ = Err reasons.Shape
 
 -- how many words the parts of a transfer have together

@@ -7,7 +7,7 @@ ghost use Rattle.gup_script.specs.Script.{Actor, actor_at};
 ghost use Rattle.gup_read.specs.Reading.{rights_in, map_in, unmap_in, protect_in, discard_in, load_in, store_in, exit_in, way_in, pinned_in, pin_in, get_in, put_in, fork_in, unpin_in, take_in, give_in, transfer_in, segments_in, at_most_64, parts_in, mirror_in, look_in, move_in, thread_op_in, device_op_in, mover_op_in, op_of_kind, op_of_actor};
 
 use crate::refusal::check;
-use gup_base::{ActorNo, PageNo, Rights, Want};
+use gup_base::{ActorNo, PageNo, Parts, Rights, Want};
 use gup_read_outline::Reader;
 use gup_read_words::{address, count, index, is_name, number, page, range, segment, word_no};
 use gup_script::{Kind, Op};
@@ -265,12 +265,13 @@ fn transfer_op(reader: &Reader, outward: bool, fields: &[&str]) -> Result<Option
     let slot = index(slot).ok_or(Reason::Number)?;
     let n = count(1, MAX_TRANSFER, words).ok_or(Reason::Number)?;
     let handle = reader.pin(handle).ok_or(Reason::Name)?;
+    let mut parts = Parts::new();
+    parts.push(first, n as u8);
     Ok(Some(Op::Transfer {
         handle,
         outward,
-        index: first,
         slot,
-        n: n as u8,
+        parts,
     }))
 }
 

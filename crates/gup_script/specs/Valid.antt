@@ -1,10 +1,11 @@
 -- What is true of every script that is read.
-use Rattle.std.specs.Prelude.{◌≡◌, ℕ, ◌+◌, ◌^◌, ◌<◌, ◌≤◌, Bool, false, length, slice_get, sum_by, All, Option, None, Some}
+use Rattle.std.specs.Prelude.{◌≡◌, ℕ, ◌+◌, ◌^◌, ◌<◌, ◌≤◌, Bool, false, List, length, slice_get, sum_by, All, Option, None, Some}
+use Rattle.gup_base.specs.Parts.{Part, words_of}
 use Rattle.gup_base.specs.declared.entry.Want.{Want}
 use Rattle.gup_script.specs.declared.op.Kind.{Kind}
 use Rattle.gup_script.specs.declared.op.Kind.TheVariants.{Thread, Device, Mover}
 use Rattle.gup_script.specs.declared.op.Op.{Op}
-use Rattle.gup_script.specs.declared.op.Op.TheVariants.{Map, Unmap, Protect, Discard, Load, Store, Pin, Unpin, Give, Take, Transfer, Fork}
+use Rattle.gup_script.specs.declared.op.Op.TheVariants.{Map, Unmap, Protect, Discard, Load, Store, Pin, Unpin, Give, Take, Get, Put, Transfer, Mirror, Look, Move, Fork}
 use Rattle.gup_script.specs.Script.{ScriptValue, Process, Actor, process_at, ops_of}
 use Rattle.gup_script.specs.Limits.{most_handles, most_operations, most_pinned, most_turns, most_words}
 use Rattle.gup_base.specs.Counts.{most_slots}
@@ -19,6 +20,11 @@ pub record IsBuiltPin (want : Want) (fast : Bool) : Type 0 where
   pub short : want.long ≡ false
   pub slow : fast ≡ false
 
+-- the parts of a transfer: each has at least one word
+abbrev pub AreParts : List Part → Type 0
+AreParts parts =
+    All (λ (part : Part). (part.0 < 2 ^ 32) × (1 ≤ part.1)) parts × (1 ≤ words_of parts) × (words_of parts ≤ most_words)
+
 abbrev pub IsOp : Op → Type 0
 IsOp (Map page n rights) = IsPages page n
 IsOp (Unmap page n) = IsPages page n
@@ -27,7 +33,13 @@ IsOp (Discard page n) = IsPages page n
 IsOp (Load page word) = (page < 2 ^ 35) × (word < 512)
 IsOp (Store page word value) = (page < 2 ^ 35) × (word < 512) × (value < 2 ^ 64)
 IsOp (Pin handle page n want fast) = (1 ≤ n) × (n ≤ most_pinned) × (page + n ≤ 2 ^ 35) × IsBuiltPin want fast
-IsOp (Transfer handle outward index slot n) = (1 ≤ n) × (n ≤ most_words) × (index < 2 ^ 32) × (slot < 2 ^ 32)
+IsOp (Transfer handle outward slot parts) = AreParts parts × (slot < 2 ^ 32)
+-- references, mirrors and moves aren't built
+IsOp (Get handle page) = ⊥
+IsOp (Put handle) = ⊥
+IsOp (Mirror mirror proc page) = ⊥
+IsOp (Look mirror word) = ⊥
+IsOp (Move proc page zone) = ⊥
 IsOp op = Unit {0}
 
 -- a process that is declared, and not born at the start
@@ -43,7 +55,7 @@ AreDeclared s (Pin handle page n want fast) = handle < length s.handles
 AreDeclared s (Unpin handle) = handle < length s.handles
 AreDeclared s (Give handle to) = (handle < length s.handles) × (to < length s.actors)
 AreDeclared s (Take handle) = handle < length s.handles
-AreDeclared s (Transfer handle outward index slot n) = handle < length s.handles
+AreDeclared s (Transfer handle outward slot parts) = handle < length s.handles
 AreDeclared s op = Unit {0}
 
 -- the actor's operation at this place is a fork that brings the child
@@ -63,7 +75,7 @@ KindFits s Mover = Unit {0}
 
 -- only a device moves words
 abbrev pub IsOfThread : Op → Type 0
-IsOfThread (Transfer handle outward index slot n) = ⊥
+IsOfThread (Transfer handle outward slot parts) = ⊥
 IsOfThread op = Unit {0}
 
 -- and beside that it gives, takes and unpins
@@ -71,7 +83,7 @@ abbrev pub IsOfDevice : Op → Type 0
 IsOfDevice (Unpin handle) = Unit {0}
 IsOfDevice (Give handle to) = Unit {0}
 IsOfDevice (Take handle) = Unit {0}
-IsOfDevice (Transfer handle outward index slot n) = Unit {0}
+IsOfDevice (Transfer handle outward slot parts) = Unit {0}
 IsOfDevice op = ⊥
 
 -- the operation is one of this kind of actor (the mover has none so far)

@@ -1,7 +1,8 @@
-use gup_base::{ActorNo, HandleNo, PageNo, ProcNo, Rights, Want, WordNo};
+use gup_base::{ActorNo, HandleNo, MirrorNo, PageNo, Parts, ProcNo, Rights, Want, WordNo, Zone};
 
-/// An operation of an actor.
-#[derive(Clone, Copy, Debug, PartialEq, Eq)]
+/// An operation of an actor. Long and fast pins, references, transfers in several parts, mirrors and moves are not built
+/// yet: no script has them.
+#[derive(Clone, Debug, Drop)]
 pub enum Op {
     /// `map p n r` or `map p n rw`: n pages from p on get these rights (`mmap`).
     Map {
@@ -60,14 +61,42 @@ pub enum Op {
     Take {
         handle: HandleNo,
     },
-    /// `out H i s n` or `in H i s n`: moves n words between the pages of a pin, from their word i on, and the store of
-    /// the device, from its slot s on: out of the pages, or into them.
+    /// `get G p`: makes a page present, as a load does, and takes a plain reference of its frame (`get_user_pages`), under
+    /// this handle.
+    Get {
+        handle: HandleNo,
+        page: PageNo,
+    },
+    /// `put G`: gives a reference back (`put_page`).
+    Put {
+        handle: HandleNo,
+    },
+    /// `out H i s n` or `in H i s n`, and in several parts `outv H s i:n ..` or `inv H s i:n ..`: moves words between the
+    /// pages of a pin and the store of the device, from its slot s on: out of the pages, or into them. Each part is so many
+    /// words from the pin's word i on; the parts follow each other in the store without a gap.
     Transfer {
         handle: HandleNo,
         outward: bool,
-        index: u32,
         slot: u32,
-        n: u8,
+        parts: Parts,
+    },
+    /// `mirror M P p`: makes a page of process P present, as a load does, and fills the device's slot with its frame, without
+    /// a reference (HMM: `hmm_range_fault`).
+    Mirror {
+        mirror: MirrorNo,
+        proc: ProcNo,
+        page: PageNo,
+    },
+    /// `look M w`: reads a word through the device's slot.
+    Look {
+        mirror: MirrorNo,
+        word: WordNo,
+    },
+    /// `move P p normal` or `move P p movable`: moves a page of process P to a frame of that zone (`migrate_pages`).
+    Move {
+        proc: ProcNo,
+        page: PageNo,
+        zone: Zone,
     },
     /// `fork C`: brings a child process, which gets the mappings and shares the frames of this one (`fork`).
     Fork {

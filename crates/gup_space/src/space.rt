@@ -1,6 +1,7 @@
 //! One process of the machine.
 ghost use Rattle.std.specs.Prelude.{◌≡◌, ℕ, ◌+◌, ◌<◌, ◌≤◌, ◌^◌, ◌↔◌, true, false, is_some, is_err, None, Some, Err, IfOk, OnOk, OnErr, IsSome, MatchOption};
 ghost use Rattle.gup_plain.specs.Denial.{any_mapped, any_unmapped};
+ghost use Rattle.gup_plain.specs.Pages.{mapped_pages};
 ghost use Rattle.gup_maps.specs.Maps.{IsNextPage, IsLastPage};
 ghost use Rattle.gup_space.specs.Space.{no_space, space_of, with_entry, with_rights, with_pages, without_page, AreMapped, HasRoom};
 
@@ -97,6 +98,13 @@ impl Space {
         ensures within { result ≤ 1024 }
     {
         self.maps.len()
+    }
+
+    /// A law: as many pages are mapped as have rights.
+    pub fn is_counted(&self)
+        ensures { mapped_pages (space_of self.now).right ≡ (space_of self.now).pages }
+    {
+        self.maps.is_counted();
     }
 
     /// The rights of the page, where it is mapped.

@@ -12,6 +12,7 @@ use Rattle.gup_plain.specs.declared.event.PlainEvent.{PlainEvent}
 use Rattle.gup_plain.specs.declared.event.PlainEvent.TheVariants as events
 use Rattle.gup_plain.specs.Event.{happened, most_pages, page_numbers, words, IsHeldBy, IsGivenTo, may_write, given_to, held_by, object_at}
 use Rattle.gup_base.specs.Counts.{most_slots}
+use Rattle.gup_plain.specs.Pages.{mapped_pages}
 use Rattle.gup_plain.specs.Put.{put, put2, spread}
 use Rattle.gup_plain.specs.State.{PlainState, Noted, unborn, growing, born, failed, unmade, held, gone, named_or_zero}
 use Rattle.gup_spec_events.specs.State.{CoreState, Taken, Job, idle, marking, moving, forking, walking, Counted, unread, one, more, ForkStep, between, counted, lowered, cleared, copying, failing, WalkStep, entered, ready, read, grabbed, rechecked, differed, refused, stopped, dropping, over}
@@ -183,9 +184,17 @@ abbrev pub long_taken : List Taken → Bool
 long_taken [] = false
 long_taken (t ∷ taken) = t.long
 
+-- what a pin weighs in the count of its frame
+abbrev pub bias_of : CoreState → ℕ
+bias_of s = bias
+
+-- may the frame be pinned, by its count?
+abbrev pub maybe_pinned : CoreState → (f : ℕ) → Bool
+maybe_pinned s f = nat_le (bias_of s) (s.count f)
+
 -- a page that is to be copied: its frame is exclusive, the process has pinned, and the frame may be pinned
 abbrev pub copies_page : CoreState → (p f : ℕ) → Bool
-copies_page s p f = s.mark f && (s.has_pinned p && nat_le bias (s.count f))
+copies_page s p f = s.mark f && (s.has_pinned p && maybe_pinned s f)
 
 abbrev pub is_done : List ℕ → ℕ → Type 0
 is_done done page = Contains done page
@@ -407,7 +416,7 @@ happens s (put_entry a f) = record (without_references f 1 s) { owed = put a Non
 happens s (raise_flag a p) = record s { has_pinned = put p true s.has_pinned }
 happens s (pin_page a p page e write long) =
     record s {
-      count = put e.frame (s.count e.frame + bias) s.count;
+      count = put e.frame (s.count e.frame + bias_of s) s.count;
       taken =
           put a
           (s.taken a ++ record { proc = p; page = page; frame = e.frame; object = s.object p page; write = write; long = long } ∷ [])
@@ -421,7 +430,7 @@ happens s (make_handle a h) =
       taken = put a [] s.taken;
     }
 happens s (unpin_page a h f left) =
-    record (without_references f bias s) {
+    record (without_references f (bias_of s) s) {
       pinned = put h left s.pinned;
       handle = put h (elim left [ [] ↦ gone | g ∷ gs ↦ s.handle h ]) s.handle;
     }
@@ -460,7 +469,7 @@ happens s (begin_fork a p c) =
       birth = put c (growing p) s.birth;
       right = put c (s.right p) s.right;
       object = put c (λ page. named_or_zero (s.right p page) (s.made + page)) s.object;
-      pages = put c (s.pages p) s.pages;
+      pages = put c (mapped_pages (s.right p)) s.pages;
       copied = put c (λ _ _. false) s.copied;
       sequence = put p (s.sequence p + 1) s.sequence;
       structure = put p (Some a) s.structure;
@@ -604,7 +613,7 @@ happens s (read_entry a p write long sequence page was) =
     record s { job = put a (walking p write long sequence (step_read s write long page was)) s.job }
 happens s (grab_frame a p write long sequence page e) =
     record s {
-      count = put e.frame (s.count e.frame + bias) s.count;
+      count = put e.frame (s.count e.frame + bias_of s) s.count;
       job = put a (walking p write long sequence (grabbed page e)) s.job;
     }
 happens s (miss_frame a p write long sequence page e) =
@@ -626,14 +635,14 @@ happens s (read_again a p write long sequence step now) =
       job = put a (walking p write long sequence (if now == sequence then over else step_left (s.taken a))) s.job;
     }
 happens s (drop_grab a p write long sequence f) =
-    record (without_references f bias s) { job = put a (walking p write long sequence stopped) s.job }
+    record (without_references f (bias_of s) s) { job = put a (walking p write long sequence stopped) s.job }
 happens s (drop_last a p write long sequence left last) =
-    record (without_references last.frame bias s) {
+    record (without_references last.frame (bias_of s) s) {
       taken = put a left s.taken;
       job = put a (walking p write long sequence stopped) s.job;
     }
 happens s (drop_first a p write long sequence first left) =
-    record (without_references first.frame bias s) {
+    record (without_references first.frame (bias_of s) s) {
       taken = put a left s.taken;
       job = put a (walking p write long sequence (step_left left)) s.job;
     }

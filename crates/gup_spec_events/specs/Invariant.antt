@@ -1,7 +1,7 @@
 -- What is true of every state that the core machine reaches: the count of a frame is that of its references, an
 -- exclusive frame belongs to one page or to the pins that outlived it, what a fork shares and a mover moves is under no
--- pin, what a walk has taken is as good as pinned while no fork has begun, frames have the bytes that the plain model
--- says, and what is pinned for long is of the normal zone.
+-- pin, what a walk has taken is as good as pinned while no fork has begun, a process has as many walks as actors walk
+-- it, frames have the bytes that the plain model says, and what is pinned for long is of the normal zone.
 use Rattle.std.specs.Prelude.{◌≡◌, ℕ, ◌+◌, ◌<◌, ◌≤◌, ◌⊎◌, Bool, true, false, not, List, [], ◌∷◌, length, slice_get, Contains, sum_by, Option, Some, None, IsSome, suc}
 use Rattle.gup_base.specs.declared.entry.Allowed.{Allowed}
 use Rattle.gup_base.specs.declared.entry.Entry.{Entry}
@@ -10,7 +10,7 @@ use Rattle.gup_plain.specs.Event.{CanHappen, words}
 use Rattle.gup_plain.specs.State.{PlainState, Noted, failed, born, objects_of}
 use Rattle.gup_plain.specs.declared.event.PlainEvent.{PlainEvent}
 use Rattle.gup_spec_events.specs.State.{CoreState, Taken, Job, moving, forking, walking, Counted, one, ForkStep, counted, lowered, cleared, copying, failing, WalkStep, entered, grabbed, rechecked, differed, refused, dropping, over}
-use Rattle.gup_spec_events.specs.Event.{CoreEvent, Can, happens, bias, IsNormal}
+use Rattle.gup_spec_events.specs.Event.{CoreEvent, Can, happens, bias, bias_of, IsNormal}
 
 -- 1. References: whatever may hold a frame
 
@@ -64,13 +64,18 @@ holds s (page_of_pin h k) = slice_get (s.pinned h) k
 holds s (page_taken a k) = taken_frame (slice_get (s.taken a) k)
 holds s (grabbed_by a) = grabbed_frame (s.job a)
 
-abbrev pub weight : Holder → ℕ
-weight (page_of_pin h k) = bias
-weight (page_taken a k) = bias
-weight (grabbed_by a) = bias
-weight holder = 1
+-- what it weighs in the frame's count, where a pin weighs so much
+abbrev pub weight_by : (pin : ℕ) → Holder → ℕ
+weight_by pin (page_of_pin h k) = pin
+weight_by pin (page_taken a k) = pin
+weight_by pin (grabbed_by a) = pin
+weight_by pin holder = 1
 
-abbrev pub HasNoRepetition : List Holder → Type 0
+-- where it weighs 1,024
+abbrev pub weight : Holder → ℕ
+weight = weight_by bias
+
+abbrev pub HasNoRepetition : {X : Type 0} → List X → Type 0
 HasNoRepetition [] = Unit {0}
 HasNoRepetition (x ∷ xs) = (Contains xs x → ⊥) × HasNoRepetition xs
 
@@ -80,7 +85,7 @@ CountsReferences s =
     (f : ℕ) → (holders : List Holder)
     × HasNoRepetition holders
     × ((x : Holder) → (holds s x ≡ Some f → Contains holders x) × (Contains holders x → holds s x ≡ Some f))
-    × (sum_by weight holders ≡ s.count f)
+    × (sum_by (weight_by (bias_of s)) holders ≡ s.count f)
 
 -- 2. Entries, those that a mover has cleared counted
 
@@ -231,6 +236,19 @@ pub record IsWalked (s : CoreState) : Type 0 where
   -- one object
   pub pair : (a b p q : ℕ) (step next : WalkStep) (t u : Taken) → IsUndisturbed s a p step → IsUndisturbed s b q next → Contains (s.taken a) t → Contains (s.taken b) u → s.mark t.frame ≡ true → s.mark u.frame ≡ true → (t.frame ≡ u.frame → t.object ≡ u.object) × (t.object ≡ u.object → t.frame ≡ u.frame)
 
+-- the process that a job walks
+abbrev pub walked_process : Job → Option ℕ
+walked_process (walking p write long sequence step) = Some p
+walked_process job = None
+
+-- The actors in a walk of a process are the elements of a list without repetition, and as many as its number of walks.
+abbrev pub CountsWalks : CoreState → Type 0
+CountsWalks s =
+    (p : ℕ) → (walkers : List ℕ)
+    × HasNoRepetition walkers
+    × ((a : ℕ) → (walked_process (s.job a) ≡ Some p → Contains walkers a) × (Contains walkers a → walked_process (s.job a) ≡ Some p))
+    × (length walkers ≡ s.walks p)
+
 -- 8. Zones: what is pinned for long is out of the movable zone
 
 pub record AreNormal (s : CoreState) : Type 0 where
@@ -246,6 +264,7 @@ pub record Holds (s : CoreState) : Type 0 where
   pub parted : IsParted s
   pub stands : StandsFor s
   pub walked : IsWalked s
+  pub walks : CountsWalks s
   pub normal : AreNormal s
 
 -- The plain event that stands at a core event, if one does, can happen in the plain state that the core state

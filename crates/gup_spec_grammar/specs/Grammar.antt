@@ -181,7 +181,7 @@ Means st (takes handle) op = (h : ℕ) × NamesPin st handle h × (op ≡ ops.Ta
 Means st (gives handle to) op = (h b : ℕ) × NamesPin st handle h × NamesActor st to b × (op ≡ ops.Give h b)
 Means st (transfers outward handle index slot count) op =
     (h i s n : ℕ) × NamesPin st handle h × IsIndex index i × IsIndex slot s × IsCount 1 most_words count n
-    × (op ≡ ops.Transfer h outward i s n)
+    × (op ≡ ops.Transfer h outward s ((i, n) ∷ []))
 Means st action op = ⊥
 
 -- The action is an operation that is built: all are but lockless and long-term pins, references, moves, mirrors, and

@@ -6,7 +6,7 @@ use Rattle.gup_spec_grammar.specs.declared.named.Named.TheVariants as named
 use Rattle.gup_script.specs.declared.op.Kind.{Kind}
 use Rattle.gup_script.specs.declared.op.Kind.TheVariants.{Thread, Device, Mover}
 use Rattle.gup_script.specs.declared.op.Op.{Op}
-use Rattle.gup_script.specs.declared.op.Op.TheVariants.{Pin, Fork}
+use Rattle.gup_script.specs.declared.op.Op.TheVariants.{Fork}
 use Rattle.gup_script.specs.Script.{ScriptValue, Process, Actor, FrameCounts}
 use Rattle.gup_script.specs.Limits.{most_handles}
 

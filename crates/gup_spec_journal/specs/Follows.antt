@@ -1,6 +1,7 @@
 -- A journal follows its script where each actor's notes are those of its operations in order, and the notes of one
 -- operation have one of the shapes of its kind. Each turn of an actor is later than the one before it.
 use Rattle.std.specs.Prelude.{◌≡◌, ℕ, ◌+◌, ◌≤◌, ◌<◌, ◌==◌, ◌&&◌, ◌⊎◌, Bool, true, false, not, IsTrue, List, [], ◌∷◌, ◌++◌, map, filter, zero, suc}
+use Rattle.gup_base.specs.Parts.{Part, words_of, word_at}
 use Rattle.gup_base.specs.declared.entry.Want.{Want}
 use Rattle.gup_plain.specs.Event.{words}
 use Rattle.gup_plain.specs.Note.{NoteValue}
@@ -63,10 +64,10 @@ refuses (Pin handle page n want fast) answers.Forbidden = true
 refuses (Pin handle page n want fast) answers.NoFrame = true
 refuses (Unpin handle) answers.NotHeld = true
 refuses (Give handle to) answers.NotHeld = true
-refuses (Transfer handle outward index slot n) answers.NotHeld = true
-refuses (Transfer handle outward index slot n) answers.Forbidden = not outward
-refuses (Transfer handle outward index slot n) answers.Range = true
-refuses (Transfer handle outward index slot n) answers.Unborn = false
+refuses (Transfer handle outward slot parts) answers.NotHeld = true
+refuses (Transfer handle outward slot parts) answers.Forbidden = not outward
+refuses (Transfer handle outward slot parts) answers.Range = true
+refuses (Transfer handle outward slot parts) answers.Unborn = false
 -- a fork of a failed process has a shape of its own
 refuses (Fork child) answers.Unborn = false
 refuses op answers.Unborn = true
@@ -186,16 +187,17 @@ abbrev pub moves_word : (actor handle : ℕ) → (outward : Bool) → (index slo
 moves_word actor handle true index slot value = events.MoveOut actor handle index slot value
 moves_word actor handle false index slot value = events.MoveIn actor handle index slot value
 
--- n words from these on, one a turn, in rising order
-abbrev pub MovesWords : Who → (handle : ℕ) → (outward : Bool) → (index slot n : ℕ) → List NoteValue → Type 0
-MovesWords who handle outward index slot zero notes = ⊥
-MovesWords who handle outward index slot (suc zero) notes =
+-- the words of a transfer from the k-th on, of which so many are left, one a turn, in their order
+abbrev pub MovesWords : Who → (handle : ℕ) → (outward : Bool) → (slot : ℕ) → List Part → (k left : ℕ) → List NoteValue → Type 0
+MovesWords who handle outward slot parts k zero notes = ⊥
+MovesWords who handle outward slot parts k (suc zero) notes =
     (value : ℕ)
-    × IsTurn who (Event (moves_word who.actor handle outward index slot value) ∷ Done answers.Words ∷ []) notes
-MovesWords who handle outward index slot (suc (suc n)) notes =
+    × IsTurn who (Event (moves_word who.actor handle outward (word_at parts k) (slot + k) value) ∷ Done answers.Words ∷ [])
+    notes
+MovesWords who handle outward slot parts k (suc (suc left)) notes =
     (value : ℕ)
-    × Then (IsTurn who (Event (moves_word who.actor handle outward index slot value) ∷ []))
-    (MovesWords who handle outward (index + 1) (slot + 1) (suc n)) notes
+    × Then (IsTurn who (Event (moves_word who.actor handle outward (word_at parts k) (slot + k) value) ∷ []))
+    (MovesWords who handle outward slot parts (k + 1) (suc left)) notes
 
 -- the notes of an operation that is done; a fork of a failed process makes its child failed
 abbrev pub Completes : Who → Op → List NoteValue → Type 0
@@ -213,10 +215,12 @@ Completes who (Pin handle page n want fast) notes = PinsPages who handle page n 
 Completes who (Unpin handle) notes = (more : ℕ) × Unpins who handle more notes
 Completes who (Give handle to) notes = IsTurn who (Event (events.Give who.actor handle to) ∷ Done answers.Plain ∷ []) notes
 Completes who (Take handle) notes = IsTurn who (Event (events.Take who.actor handle) ∷ Done answers.Plain ∷ []) notes
-Completes who (Transfer handle outward index slot n) notes = MovesWords who handle outward index slot n notes
+Completes who (Transfer handle outward slot parts) notes = MovesWords who handle outward slot parts 0 (words_of parts) notes
 Completes who (Fork child) notes =
     Forks who child notes ⊎ IsTurn who (Event (events.ForkFail child) ∷ Done answers.Unborn ∷ []) notes
 Completes who Exit notes = (pages : ℕ) × TakesDownWhole who pages notes
+-- nothing else is built
+Completes who op notes = ⊥
 
 -- the shapes of an operation's notes
 abbrev pub Shape : Who → Op → List NoteValue → Type 0

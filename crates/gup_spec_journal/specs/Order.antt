@@ -9,7 +9,7 @@ use Rattle.gup_plain.specs.declared.note.What.TheVariants.{Idle, Wait}
 use Rattle.gup_plain.specs.declared.note.Waiting.{Waiting}
 use Rattle.gup_plain.specs.declared.note.Waiting.TheVariants as waitings
 use Rattle.gup_script.specs.declared.op.Op.{Op}
-use Rattle.gup_script.specs.declared.op.Op.TheVariants.{Unpin, Give, Take, Transfer, Fork}
+use Rattle.gup_script.specs.declared.op.Op.TheVariants.{Map, Unmap, Protect, Discard, Load, Store, Pin, Take, Fork, Exit}
 use Rattle.gup_script.specs.Script.{ScriptValue}
 use Rattle.gup_spec_journal.specs.Place.{Place, first_place, place_behind, doer_of, birth_for, present_op, has_finished, starts_born}
 use Rattle.gup_spec_journal.specs.Plain.{plain_after}
@@ -73,12 +73,16 @@ KeepsLock op = ⊥
 
 -- the operations of which a turn may need a lock: what is done with a pin that is there needs none
 abbrev pub MayNeedLock : Option Op → Type 0
-MayNeedLock None = ⊥
-MayNeedLock (Some (Unpin handle)) = ⊥
-MayNeedLock (Some (Give handle to)) = ⊥
-MayNeedLock (Some (Take handle)) = ⊥
-MayNeedLock (Some (Transfer handle outward index slot n)) = ⊥
-MayNeedLock (Some op) = Unit {0}
+MayNeedLock (Some (Map page n rights)) = Unit {0}
+MayNeedLock (Some (Unmap page n)) = Unit {0}
+MayNeedLock (Some (Protect page n rights)) = Unit {0}
+MayNeedLock (Some (Discard page n)) = Unit {0}
+MayNeedLock (Some (Load page word)) = Unit {0}
+MayNeedLock (Some (Store page word value)) = Unit {0}
+MayNeedLock (Some (Pin handle page n want fast)) = Unit {0}
+MayNeedLock (Some (Fork child)) = Unit {0}
+MayNeedLock (Some Exit) = Unit {0}
+MayNeedLock op = ⊥
 
 -- Another actor b is in the middle of an operation that keeps a lock, of the same process as a's operation, which may need it:
 -- so a may wait for b.

@@ -14,11 +14,11 @@ use Rattle.gup_plain.specs.declared.event.PlainEvent.TheVariants as events
 use Rattle.gup_plain.specs.declared.note.What.{What}
 use Rattle.gup_plain.specs.declared.note.What.TheVariants.{Idle, Wait, Event, Done}
 use Rattle.gup_script.specs.declared.op.Op.{Op}
-use Rattle.gup_script.specs.declared.op.Op.TheVariants.{Pin, Fork}
+use Rattle.gup_script.specs.declared.op.Op.TheVariants.{Pin, Get, Put, Fork}
 use Rattle.gup_script.specs.Script.{ScriptValue}
 use Rattle.gup_spec_journal.specs.Place.{Place, first_place, place_after, Doer, doer_of, birth_for, present_op, starts_born}
 use Rattle.gup_plain.specs.Denial.{is_denial}
-use Rattle.gup_spec_journal.specs.Denial.{denial}
+use Rattle.gup_spec_journal.specs.Denial.{References, no_references, denial}
 
 -- No operation ends while its process is yet to be born.
 abbrev pub IsBornOrFailed : Birth → Type 0
@@ -81,13 +81,13 @@ abbrev pub MayStand : (had : Bool) → Option Answer → Op → PlainEvent → T
 MayStand had denied op e = IsUndeniedAt had denied ⊎ ((denied ≡ Some answers.Unborn) × FailsChild op e)
 
 -- the note of whoever does the operation, at this place of it, is right in the plain state
-abbrev pub IsRightOf : PlainState → Doer → Place → Op → What → Type 0
-IsRightOf s who place op (Event e) =
-    CanHappen s e × MayStand place.had (denial s who (pages_got s who.actor) op) op e
-IsRightOf s who place op (Done answer) =
+abbrev pub IsRightOf : PlainState → References → Doer → Place → Op → What → Type 0
+IsRightOf s references who place op (Event e) =
+    CanHappen s e × MayStand place.had (denial s references who (pages_got s who.actor) op) op e
+IsRightOf s references who place op (Done answer) =
     IsBornOrFailed (birth_for s.birth who)
-    × IsAnswerAfter (judged_before op place.had answer) (denial s who (got_at s who.actor answer) op) (refusal_in answer)
-IsRightOf s who place op what = Unit {0}
+    × IsAnswerAfter (judged_before op place.had answer) (denial s references who (got_at s who.actor answer) op) (refusal_in answer)
+IsRightOf s references who place op what = Unit {0}
 
 -- after its last operation an actor has neither events nor answers
 abbrev pub IsRightBehind : What → Type 0
@@ -95,44 +95,57 @@ IsRightBehind Idle = Unit {0}
 IsRightBehind (Wait waiting) = Unit {0}
 IsRightBehind what = ⊥
 
-abbrev pub IsRightAt : PlainState → Doer → Place → Option Op → What → Type 0
-IsRightAt s who place (Some op) what = IsRightOf s who place op what
-IsRightAt s who place None what = IsRightBehind what
+abbrev pub IsRightAt : PlainState → References → Doer → Place → Option Op → What → Type 0
+IsRightAt s references who place (Some op) what = IsRightOf s references who place op what
+IsRightAt s references who place None what = IsRightBehind what
 
 -- what the notes so far have led to
 pub record Judged : Type 0 where
   pub plain : PlainState
+  pub references : References
   pub places : ℕ → Place
 
 abbrev pub plain_after : PlainState → What → PlainState
 plain_after s (Event e) = happened s e
 plain_after s what = s
 
-abbrev pub judged_after : Judged → NoteValue → Judged
-judged_after j note =
+-- a reference is got, or put back, where its operation is answered so
+abbrev pub references_after : References → (a : ℕ) → Option Op → What → References
+references_after references a (Some (Get handle page)) (Done answers.Plain) = put handle (Some a) references
+references_after references a (Some (Put handle)) (Done answers.Plain) = put handle None references
+references_after references a op what = references
+
+-- what a note of this actor leads to
+abbrev pub judged_by : ScriptValue → Judged → (a : ℕ) → What → Judged
+judged_by script j a what =
     record {
-      plain = plain_after j.plain note.what;
-      places = put note.actor (place_after (j.places note.actor) note.what) j.places;
+      plain = plain_after j.plain what;
+      references = references_after j.references a (present_op script a (j.places a)) what;
+      places = put a (place_after (j.places a) what) j.places;
     }
 
--- what is said of a note, by the plain state, who does the operation, and the place in it
+abbrev pub judged_after : ScriptValue → Judged → NoteValue → Judged
+judged_after script j note = judged_by script j note.actor note.what
+
+-- what is said of a note, by the plain state, who has got references, who does the operation, and the place in it
 abbrev pub Judgement : Type 1
-Judgement = PlainState → Doer → Place → Option Op → What → Type 0
+Judgement = PlainState → References → Doer → Place → Option Op → What → Type 0
 
 abbrev pub IsSo : Judgement → ScriptValue → Judged → NoteValue → Type 0
 IsSo judgement script j note =
     let place = j.places note.actor in
     let op = present_op script note.actor place in
-    judgement j.plain (doer_of script note.actor op) place op note.what
+    judgement j.plain j.references (doer_of script note.actor op) place op note.what
 
 -- it is so of each note, in what the notes before it have led to
 abbrev pub AreSo : Judgement → ScriptValue → Judged → List NoteValue → Type 0
 AreSo judgement script j [] = Unit {0}
 AreSo judgement script j (note ∷ notes) =
-    IsSo judgement script j note × AreSo judgement script (judged_after j note) notes
+    IsSo judgement script j note × AreSo judgement script (judged_after script j note) notes
 
 abbrev pub judged_first : ScriptValue → Judged
-judged_first script = record { plain = plain_start (starts_born script); places = λ _. first_place }
+judged_first script =
+    record { plain = plain_start (starts_born script); references = no_references; places = λ _. first_place }
 
 abbrev pub IsPlain : ScriptValue → List NoteValue → Type 0
 IsPlain script notes = AreSo IsRightAt script (judged_first script) notes

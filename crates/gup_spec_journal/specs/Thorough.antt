@@ -11,6 +11,7 @@ use Rattle.gup_plain.specs.declared.note.What.TheVariants.{Silent, Event, Done}
 use Rattle.gup_script.specs.declared.op.Op.{Op}
 use Rattle.gup_script.specs.declared.op.Op.TheVariants.{Unmap, Discard, Unpin, Exit}
 use Rattle.gup_script.specs.Script.{ScriptValue}
+use Rattle.gup_spec_journal.specs.Denial.{References}
 use Rattle.gup_spec_journal.specs.Place.{Place, Doer}
 use Rattle.gup_spec_journal.specs.Plain.{AreSo, judged_first}
 
@@ -41,9 +42,9 @@ IsThoroughOf s who place op (Event e) = IsDue s who.proc op place.far e
 IsThoroughOf s who place op (Done answer) = Passes s who.proc op place.far
 IsThoroughOf s who place op what = Unit {0}
 
-abbrev pub IsThoroughAt : PlainState → Doer → Place → Option Op → What → Type 0
-IsThoroughAt s who place (Some op) what = IsThoroughOf s who place op what
-IsThoroughAt s who place None what = Unit {0}
+abbrev pub IsThoroughAt : PlainState → References → Doer → Place → Option Op → What → Type 0
+IsThoroughAt s references who place (Some op) what = IsThoroughOf s who place op what
+IsThoroughAt s references who place None what = Unit {0}
 
 abbrev pub IsThorough : ScriptValue → List NoteValue → Type 0
 IsThorough script notes = AreSo IsThoroughAt script (judged_first script) notes

@@ -16,7 +16,7 @@ use Rattle.gup_spec_events.specs.Fault.{Fault, write_fault, gives_back}
 use Rattle.gup_spec_turns.specs.CoreTurn.{CoreTurn, ends_with, denied_or, after_fault, free_frame}
 use Rattle.gup_spec_turns.specs.PageTurns.{loads, stores, mapped_turn, lowers_for}
 use Rattle.gup_spec_turns.specs.PinTurns.{last_of, but_last, unpinned}
-use Rattle.gup_spec_turns.specs.DeviceTurns.{moves_from, frame_at}
+use Rattle.gup_spec_turns.specs.DeviceTurns.{moves_at}
 
 abbrev pub loads_after : CoreState → Fault → (a p page word : ℕ) → CoreTurn
 loads_after s fault a p page word = after_fault fault (λ before. loads s before a p page word)
@@ -56,8 +56,7 @@ give_turn_by held a handle to =
     denied_or (holder_denial held) (ends_with (give_handle a handle to ∷ []) (events.Give a handle to) answers.Plain)
 
 abbrev pub transfer_turn_by : Option Answer → CoreState → (a handle : ℕ) → (outward last : Bool) → (index slot : ℕ) → CoreTurn
-transfer_turn_by denied s a handle outward last index slot =
-    denied_or denied (moves_from s a handle outward last index slot (frame_at (s.pinned handle) index))
+transfer_turn_by denied s a handle outward last index slot = denied_or denied (moves_at s a handle outward last index slot)
 
 abbrev pub waits_at : Birth → (p : ℕ) → Option Waiting → Option Waiting
 waits_at birth p others = waiting_at p birth others

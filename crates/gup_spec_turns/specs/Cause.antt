@@ -22,7 +22,8 @@ use Rattle.gup_spec_events.specs.State.{CoreState}
 use Rattle.gup_spec_events.specs.Event.{IsAllowed}
 use Rattle.gup_spec_journal.specs.Order.{Turn}
 use Rattle.gup_spec_journal.specs.Place.{doer_of, birth_for, has_finished}
-use Rattle.gup_spec_turns.specs.ForkPlace.{wants_frame, place_in}
+use Rattle.gup_spec_turns.specs.CoreTurn.{zones_of}
+use Rattle.gup_spec_turns.specs.JobPlace.{wants_frame, place_in}
 use Rattle.gup_spec_turns.specs.Run.{RunState, op_in, waiting_in}
 
 -- each frame of these zones has a reference
@@ -31,6 +32,7 @@ AreHeld s allowed = (f : ℕ) → f < s.movable + s.normal → IsAllowed s allow
 
 -- the zones from which the turns of an operation take frames
 abbrev pub allowed_of : Op → Allowed
+allowed_of (Pin handle page n want fast) = zones_of want
 allowed_of op = Any
 
 -- others may have the frame of a page's entry too: it is unmarked, and its count isn't 1

@@ -1,6 +1,10 @@
 -- What a turn is: core events and notes, and what turns of several operations have in common.
 use Rattle.std.specs.Prelude.{if◌then◌else◌, ℕ, ◌+◌, ◌==◌, Bool, false, List, [], ◌∷◌, Option, Some, None, Ok, Err}
+use Rattle.gup_base.specs.declared.entry.Allowed.{Allowed}
+use Rattle.gup_base.specs.declared.entry.Allowed.TheVariants.{Any, Only}
 use Rattle.gup_base.specs.declared.entry.Entry.{Entry}
+use Rattle.gup_base.specs.declared.entry.Want.{Want}
+use Rattle.gup_base.specs.declared.entry.Zone.TheVariants.{Movable, Normal}
 use Rattle.gup_plain.specs.Put.{lowest}
 use Rattle.gup_plain.specs.declared.answer.Answer.{Answer}
 use Rattle.gup_plain.specs.declared.answer.Answer.TheVariants as answers
@@ -34,10 +38,28 @@ abbrev pub after_fault : Fault → (List CoreEvent → CoreTurn) → CoreTurn
 after_fault (Err answer) turn = answers_with answer
 after_fault (Ok before) turn = turn before
 
--- The frame that a fault takes: the lowest free one of the movable zone, else the lowest free one of the normal
--- zone. The movable frames have the lower numbers.
+-- a turn of an operation that isn't built
+abbrev pub unbuilt_turn : CoreTurn
+unbuilt_turn = record { events = []; whats = Silent ∷ [] }
+
+-- the lowest free frame of n from the first on
+abbrev pub free_from : CoreState → (first n : ℕ) → Option ℕ
+free_from s first n = lowest first n (λ f. s.count f == 0)
+
+-- The frame that a turn takes from these zones: the lowest free one of the movable zone, else the lowest free one of the
+-- normal zone. The movable frames have the lower numbers.
+abbrev pub free_in : CoreState → Allowed → Option ℕ
+free_in s Any = free_from s 0 (s.movable + s.normal)
+free_in s (Only Movable) = free_from s 0 s.movable
+free_in s (Only Normal) = free_from s s.movable s.normal
+
+-- of both zones
 abbrev pub free_frame : CoreState → Option ℕ
-free_frame s = lowest 0 (s.movable + s.normal) (λ f. s.count f == 0)
+free_frame s = free_in s Any
+
+-- the zones from which the pages of a pin take frames: a pin that is kept for long has none of the movable zone
+abbrev pub zones_of : Want → Allowed
+zones_of want = if want.long then Only Normal else Any
 
 -- the frame of an entry
 abbrev pub frame_in : Option Entry → ℕ

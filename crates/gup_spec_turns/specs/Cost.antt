@@ -1,5 +1,6 @@
 -- How many turns a run has at most still to take, those aside that wait or are idle.
 use Rattle.std.specs.Prelude.{◌≡◌, ℕ, ◌+◌, ◌-◌, ◌*◌, ◌<◌, ◌⊎◌, false, IsSome, List, [], ◌∷◌, length, sum_by, Option, None, zero, suc}
+use Rattle.gup_base.specs.Parts.{words_of}
 use Rattle.gup_base.specs.declared.entry.Rights.{Rights}
 use Rattle.gup_plain.specs.Event.{most_pages, page_numbers, words}
 use Rattle.gup_plain.specs.Put.{put}
@@ -10,12 +11,13 @@ use Rattle.gup_script.specs.Limits.{most_pinned}
 use Rattle.gup_script.specs.Script.{ScriptValue, Actor}
 use Rattle.gup_spec_journal.specs.Place.{Place, ops_of, process_of}
 use Rattle.gup_spec_events.specs.State.{CoreState}
-use Rattle.gup_spec_turns.specs.Pages.{sum_below, mapped_pages, pages_from}
+use Rattle.gup_plain.specs.Pages.{sum_below, mapped_pages}
+use Rattle.gup_spec_turns.specs.Pages.{pages_from}
 use Rattle.gup_spec_turns.specs.Run.{RunState, run_after}
-use Rattle.gup_spec_turns.specs.ForkPlace.{ForkPlace, place_in, unbegun, from_page, at_page, wants_frame, at_word}
+use Rattle.gup_spec_turns.specs.JobPlace.{JobPlace, place_in, unbegun, from_page, at_page, wants_frame, at_word}
 
 -- the turns that a fork has at most still to take: 515 a page of the child that is copied, and its end
-abbrev pub fork_turns : (right : ℕ → Option Rights) → ForkPlace → ℕ
+abbrev pub fork_turns : (right : ℕ → Option Rights) → JobPlace → ℕ
 fork_turns right unbegun = 515 * most_pages + 2
 fork_turns right (from_page page) = 515 * pages_from right page + 1
 fork_turns right (at_page page) = 515 * pages_from right (page + 1) + 2
@@ -23,7 +25,7 @@ fork_turns right (wants_frame page) = 515 * pages_from right (page + 1) + 515
 fork_turns right (at_word page word to) = 515 * pages_from right (page + 1) + (words - word) + 2
 
 -- those, with what the child's pages may cost an exit
-abbrev pub fork_left : (right : ℕ → Option Rights) → ForkPlace → ℕ
+abbrev pub fork_left : (right : ℕ → Option Rights) → JobPlace → ℕ
 fork_left right unbegun = fork_turns right unbegun + most_pages
 fork_left right (from_page page) = fork_turns right (from_page page)
 fork_left right (at_page page) = fork_turns right (at_page page)
@@ -37,7 +39,7 @@ op_cost (Unmap page n) = n
 op_cost (Discard page n) = n
 op_cost (Pin handle page n want fast) = n
 op_cost (Unpin handle) = most_pinned
-op_cost (Transfer handle outward index slot n) = n
+op_cost (Transfer handle outward slot parts) = words_of parts
 op_cost (Fork child) = 516 * most_pages + 2
 op_cost op = 1
 
@@ -48,7 +50,7 @@ op_left s a (Unmap page n) far = n - far
 op_left s a (Discard page n) far = n - far
 op_left s a (Pin handle page n want fast) far = n - far
 op_left s a (Unpin handle) far = most_pinned - far
-op_left s a (Transfer handle outward index slot n) far = n - far
+op_left s a (Transfer handle outward slot parts) far = words_of parts - far
 op_left s a (Fork child) far = fork_left (s.right child) (place_in s a)
 op_left s a op far = 1
 
@@ -96,7 +98,7 @@ most_turns_of script (Unmap page n) = n
 most_turns_of script (Discard page n) = n
 most_turns_of script (Pin handle page n want fast) = n
 most_turns_of script (Unpin handle) = most_pinned
-most_turns_of script (Transfer handle outward index slot n) = n
+most_turns_of script (Transfer handle outward slot parts) = words_of parts
 most_turns_of script (Fork child) = 515 * most_pages + 2
 most_turns_of script Exit = map_pages script + most_pages + 1
 most_turns_of script op = 1
@@ -127,8 +129,8 @@ IsWithinBound (Pin handle page n want fast) a p place next before after =
     IsAnswered place next ⊎ (GoesOn place next × (next.far < n))
 IsWithinBound (Unpin handle) a p place next before after =
     IsAnswered place next ⊎ (GoesOn place next × (next.far < length (objects_of (before.handle handle))))
-IsWithinBound (Transfer handle outward index slot n) a p place next before after =
-    IsAnswered place next ⊎ (GoesOn place next × (next.far < n))
+IsWithinBound (Transfer handle outward slot parts) a p place next before after =
+    IsAnswered place next ⊎ (GoesOn place next × (next.far < words_of parts))
 IsWithinBound (Fork child) a p place next before after =
     IsAnswered place next
     ⊎ (GoesOn place next

@@ -1,5 +1,6 @@
 -- The turns of a device's transfer: one word a turn.
 use Rattle.std.specs.Prelude.{if◌then◌else◌, ℕ, ◌+◌, ◌/◌, ◌%◌, ◌==◌, Bool, true, false, List, [], ◌∷◌, slice_index}
+use Rattle.gup_base.specs.Parts.{Part, words_of, word_at}
 use Rattle.gup_plain.specs.Event.{words}
 use Rattle.gup_plain.specs.declared.answer.Answer.TheVariants as answers
 use Rattle.gup_plain.specs.declared.note.What.{What}
@@ -36,8 +37,13 @@ abbrev pub moves_from : CoreState → (a handle : ℕ) → (outward last : Bool)
 moves_from s a handle outward last index slot f =
     word_turn a handle outward last index slot f (moves_value s a outward index slot f)
 
+-- the turn that moves this word to or from this slot
+abbrev pub moves_at : CoreState → (a handle : ℕ) → (outward last : Bool) → (index slot : ℕ) → CoreTurn
+moves_at s a handle outward last index slot =
+    moves_from s a handle outward last index slot (frame_at (s.pinned handle) index)
+
 -- it is refused as a whole, before its first word moves; nothing that refuses it comes later
-abbrev pub transfer_turn : CoreState → (a slots handle : ℕ) → (outward : Bool) → (index slot n far : ℕ) → CoreTurn
-transfer_turn s a slots handle outward index slot n far =
-    denied_or (transfer_denial (s.handle handle) a outward slots slot ((index, n) ∷ []))
-    (moves_from s a handle outward (far + 1 == n) (index + far) (slot + far) (frame_at (s.pinned handle) (index + far)))
+abbrev pub transfer_turn : CoreState → (a slots handle : ℕ) → (outward : Bool) → (slot : ℕ) → List Part → (far : ℕ) → CoreTurn
+transfer_turn s a slots handle outward slot parts far =
+    denied_or (transfer_denial (s.handle handle) a outward slots slot parts)
+    (moves_at s a handle outward (far + 1 == words_of parts) (word_at parts far) (slot + far))

@@ -3,7 +3,7 @@ pub mod Run
 pub mod Cause
 pub mod Pages
 pub mod Cost
-pub mod ForkPlace
+pub mod JobPlace
 pub mod PinPlace
 pub mod PageTurns
 pub mod PinTurns

@@ -1,5 +1,5 @@
 -- The turns of operations on pins: pin, unpin, give, take.
-use Rattle.std.specs.Prelude.{if◌then◌else◌, ℕ, ◌+◌, ◌-◌, ◌==◌, Bool, true, false, List, [], ◌∷◌, ◌++◌, length, take, slice_index, Ok, Err, zero, suc}
+use Rattle.std.specs.Prelude.{if◌then◌else◌, ℕ, ◌+◌, ◌-◌, ◌==◌, Bool, true, false, List, [], ◌∷◌, ◌++◌, length, take, slice_index, Option, Ok, Err, zero, suc}
 use Rattle.gup_base.specs.declared.entry.Entry.{Entry}
 use Rattle.gup_base.specs.declared.entry.Want.{Want}
 use Rattle.gup_plain.specs.declared.answer.Answer.{Answer}
@@ -13,7 +13,7 @@ use Rattle.gup_spec_events.specs.State.{CoreState}
 use Rattle.gup_spec_events.specs.Event.{CoreEvent, raise_flag, pin_page, make_handle, unpin_page, give_handle, take_handle, run}
 use Rattle.gup_spec_events.specs.Fault.{Fault, write_fault, unshare_fault}
 use Rattle.gup_plain.specs.Denial.{is_held_by, holder_denial}
-use Rattle.gup_spec_turns.specs.CoreTurn.{CoreTurn, free_frame, entry_in, ends_with, denied_or}
+use Rattle.gup_spec_turns.specs.CoreTurn.{CoreTurn, free_in, zones_of, entry_in, ends_with, denied_or}
 
 -- pin: one page a turn
 
@@ -23,9 +23,9 @@ raises a p zero = raise_flag a p ∷ []
 raises a p (suc got) = []
 
 -- a page of a write pin needs a writable entry, one of a read pin an exclusive frame
-abbrev pub pin_fault : CoreState → (a p page : ℕ) → (write : Bool) → Fault
-pin_fault s a p page true = write_fault a p page (s.right p page) (s.entry p page) s.mark s.count (free_frame s)
-pin_fault s a p page false = unshare_fault a p page (s.right p page) (s.entry p page) s.mark s.count (free_frame s)
+abbrev pub pin_fault : CoreState → (a p page : ℕ) → (write : Bool) → (free : Option ℕ) → Fault
+pin_fault s a p page true free = write_fault a p page (s.right p page) (s.entry p page) s.mark s.count free
+pin_fault s a p page false free = unshare_fault a p page (s.right p page) (s.entry p page) s.mark s.count free
 
 -- the last page's turn makes the handle, and has the answer
 abbrev pub makes_if : (last : Bool) → (a handle : ℕ) → List CoreEvent
@@ -67,7 +67,7 @@ pin_turn_by (Ok before) s a p handle page n got want =
 -- the turn of a pin that has got so many pages
 abbrev pub pin_turn_at : CoreState → (a p handle page n got : ℕ) → Want → CoreTurn
 pin_turn_at s a p handle page n got want =
-    pin_turn_by (pin_fault s a p (page + got) want.write) s a p handle (page + got) n got want
+    pin_turn_by (pin_fault s a p (page + got) want.write (free_in s (zones_of want))) s a p handle (page + got) n got want
 
 -- it has got those that it has taken
 abbrev pub pin_turn : CoreState → (a p handle page n : ℕ) → Want → CoreTurn

@@ -8,7 +8,7 @@ use Rattle.gup_script.specs.declared.op.Op.TheVariants.{Map, Unmap, Protect, Dis
 use Rattle.gup_spec_events.specs.State.{CoreState}
 use Rattle.gup_spec_events.specs.Event.{fail_unborn}
 use Rattle.gup_spec_journal.specs.Place.{Doer, birth_for}
-use Rattle.gup_spec_turns.specs.CoreTurn.{CoreTurn, answers_with, ends_with}
+use Rattle.gup_spec_turns.specs.CoreTurn.{CoreTurn, answers_with, ends_with, unbuilt_turn}
 use Rattle.gup_spec_turns.specs.PageTurns.{load_turn, store_turn, map_turn, unmap_turn, protect_turn, discard_turn, exit_turn}
 use Rattle.gup_spec_turns.specs.PinTurns.{pin_turn, unpin_turn, give_turn, take_turn}
 use Rattle.gup_spec_turns.specs.DeviceTurns.{transfer_turn}
@@ -26,10 +26,12 @@ op_turn s a p slots far (Pin handle page n want fast) = pin_turn s a p handle pa
 op_turn s a p slots far (Unpin handle) = unpin_turn s a handle
 op_turn s a p slots far (Give handle to) = give_turn s a handle to
 op_turn s a p slots far (Take handle) = take_turn a handle
-op_turn s a p slots far (Transfer handle outward index slot n) =
-    transfer_turn s a slots handle outward index slot n far
+op_turn s a p slots far (Transfer handle outward slot parts) =
+    transfer_turn s a slots handle outward slot parts far
 op_turn s a p slots far (Fork child) = fork_turn s a p child (s.job a)
 op_turn s a p slots far Exit = exit_turn s a p
+-- no script has any other so far
+op_turn s a p slots far op = unbuilt_turn
 
 -- an operation of a failed process is refused; a fork makes its child failed too
 abbrev pub failed_turn : (a p : ℕ) → Op → CoreTurn
@@ -40,7 +42,19 @@ abbrev pub turn_at : Birth → (refused turn : CoreTurn) → CoreTurn
 turn_at failed refused turn = refused
 turn_at birth refused turn = turn
 
+-- Before an event that changes a page's entry the mirror slots of that page are emptied, in rising order: in this one place, for
+-- all turns. No slot is filled so far.
+abbrev pub emptying : CoreState → CoreTurn → CoreTurn
+emptying s turn = turn
+
+-- Before an entry is set the tables that its page lacks are added, after a page is unmapped the empty ones are taken out, and
+-- those that no walk may be inside of are freed: in this one place. Entries are in no tables so far.
+abbrev pub with_tables : CoreState → CoreTurn → CoreTurn
+with_tables s turn = turn
+
 abbrev pub turn_of : CoreState → Doer → (far : ℕ) → Op → CoreTurn
 turn_of s who far op =
-    turn_at (birth_for s.birth who) (failed_turn who.actor who.proc op)
-    (op_turn s who.actor who.proc who.slots far op)
+    with_tables s
+    (emptying s
+    (turn_at (birth_for s.birth who) (failed_turn who.actor who.proc op)
+    (op_turn s who.actor who.proc who.slots far op)))

@@ -4,7 +4,7 @@ use Rattle.gup_base.specs.declared.entry.Rights.{Rights}
 use Rattle.gup_plain.specs.declared.note.Waiting.{Waiting}
 use Rattle.gup_plain.specs.declared.note.Waiting.TheVariants as waitings
 use Rattle.gup_script.specs.declared.op.Op.{Op}
-use Rattle.gup_script.specs.declared.op.Op.TheVariants.{Load, Store, Unpin, Give, Take, Transfer, Fork}
+use Rattle.gup_script.specs.declared.op.Op.TheVariants.{Map, Unmap, Protect, Discard, Load, Store, Pin, Fork, Exit}
 use Rattle.gup_spec_events.specs.State.{CoreState, Job, idle, forking, between}
 use Rattle.gup_spec_journal.specs.Order.{handle_waits, waiting_at}
 use Rattle.gup_spec_journal.specs.Place.{Doer, birth_for}
@@ -34,16 +34,18 @@ fork_locks right idle = both_locks
 fork_locks right (forking p c done between) = record { structure = false; table = is_some (next_page right done) }
 fork_locks right job = no_lock
 
--- A load or a store needs both where its entry doesn't allow it.
+-- A load or a store needs both where its entry doesn't allow it, and what is done with a pin that is there needs none.
 abbrev pub locks_needed : CoreState → (a p : ℕ) → Op → Locks
 locks_needed s a p (Load page word) = both_if (is_none (s.entry p page))
 locks_needed s a p (Store page word value) = both_if (not (allows_store (s.entry p page)))
 locks_needed s a p (Fork child) = fork_locks (s.right child) (s.job a)
-locks_needed s a p (Unpin handle) = no_lock
-locks_needed s a p (Give handle to) = no_lock
-locks_needed s a p (Take handle) = no_lock
-locks_needed s a p (Transfer handle outward index slot n) = no_lock
-locks_needed s a p op = both_locks
+locks_needed s a p (Map page n rights) = both_locks
+locks_needed s a p (Unmap page n) = both_locks
+locks_needed s a p (Protect page n rights) = both_locks
+locks_needed s a p (Discard page n) = both_locks
+locks_needed s a p (Pin handle page n want fast) = both_locks
+locks_needed s a p Exit = both_locks
+locks_needed s a p op = no_lock
 
 -- a needed lock that another actor holds
 abbrev pub held_by_other : ℕ → Option ℕ → Option Waiting

@@ -1,7 +1,7 @@
 ghost use Rattle.std.specs.Prelude.{◌↔◌, IsTrue};
 ghost use Rattle.gup_frames.specs.Frames.{frames_of, IsFrame};
 
-use gup_base::{Allowed, FrameNo, WordNo, Zone};
+use gup_base::{Allowed, FrameNo, Zone};
 use gup_frames::Frames;
 use std::alloc::Global;
 use std::process::Abort;
@@ -144,48 +144,5 @@ fn references_and_marks(rt: HostRuntime) -> Result<(), Fail> {
         stepped(&rt, &mut frames, number, step, after, left)?;
     }
     take_all(&rt, &mut frames, Allowed::Any, 1, 3);
-    Ok(())
-}
-
-// Writes the word of the frame, where it is there.
-fn write(frames: &mut Frames, frame: FrameNo, number: u64, v: u64) -> Option<()> {
-    let word = WordNo::new(number)?;
-    if has(frames, frame) {
-        frames.set_word(frame, word, v);
-    }
-    Some(())
-}
-
-// The word of the frame, where it is there.
-fn read(frames: &Frames, frame: FrameNo, number: u64) -> Option<u64> {
-    let word = WordNo::new(number)?;
-    if has(frames, frame) {
-        Some(frames.word(frame, word))
-    } else {
-        None
-    }
-}
-
-#[test]
-fn words_are_written_copied_and_lost(rt: HostRuntime) -> Result<(), Fail> {
-    let mut frames = Frames::new(rt.alloc(), 2, 2).or(Err("memory"))?;
-    take_all(&rt, &mut frames, Allowed::Any, 0, 4);
-    let one = FrameNo::new(1).ok_or("a frame")?;
-    let last = FrameNo::new(3).ok_or("a frame")?;
-    let words = [(0, 7), (1, 8), (510, u64::MAX), (511, 9)];
-    for (number, v) in words {
-        write(&mut frames, one, number, v).ok_or("a word")?;
-    }
-    assert!(rt; has(&frames, one) && has(&frames, last));
-    frames.copy(one, last);
-    follow(&mut frames, one, Step::Put(1)).ok_or("a reference")?;
-    take_all(&rt, &mut frames, MOVABLE, 1, 2);
-    for (number, v) in words {
-        assert_eq!(rt;
-            (read(&frames, one, number), read(&frames, last, number)),
-            (Some(0), Some(v)),
-            "word {number}"
-        );
-    }
     Ok(())
 }

@@ -1,5 +1,5 @@
-use gup_base::{ActorNo, Entry, FrameNo, PageNo, Rights};
-use gup_maps::{Hole, MapRefusal};
+use gup_base::{Entry, FrameNo, PageNo, Rights};
+use gup_maps::MapRefusal;
 use gup_space::Space;
 use std::process::Abort;
 use std::test::Fail;
@@ -32,64 +32,6 @@ fn pages_are_mapped_or_refused(rt: HostRuntime) -> Result<(), Fail> {
             "{n} pages from {first}"
         );
     }
-    Ok(())
-}
-
-// Unmaps the page: whether it was mapped, and how many pages are then.
-fn unmap(space: &mut Space, page: PageNo) -> (bool, u16) {
-    let was = space.unmap_page(page);
-    (was, space.len())
-}
-
-// The rights of the page, and the next mapped page from it on.
-fn mapping(space: &Space, page: PageNo) -> (Option<Rights>, Option<u64>) {
-    (
-        space.rights_at(page),
-        space.next_page(page).map(|next| next.get()),
-    )
-}
-
-#[test]
-fn pages_are_protected_and_unmapped(rt: HostRuntime) -> Result<(), Fail> {
-    let mut space = Space::new(rt.alloc()).or(Err("memory"))?;
-    assert_eq!(rt; map(&rt, &mut space, 10, 3), Some((Ok(()), 3)));
-    for (first, n, want) in [(11, 3, Err(Hole)), (11, 1, Ok(())), (20, 0, Ok(()))] {
-        let page = PageNo::new(first).ok_or("a page")?;
-        assert_eq!(rt;
-            space.protect(page, n, Rights::RW),
-            want,
-            "{n} pages from {first}"
-        );
-    }
-    for (number, rights, next, was, left) in [
-        (9, None, Some(10), false, 3),
-        (10, Some(Rights::R), Some(10), true, 2),
-        (11, Some(Rights::RW), Some(11), true, 1),
-        (13, None, None, false, 1),
-    ] {
-        let page = PageNo::new(number).ok_or("a page")?;
-        assert_eq!(rt;
-            (mapping(&space, page), unmap(&mut space, page)),
-            ((rights, next), (was, left)),
-            "page {number}"
-        );
-    }
-    Ok(())
-}
-
-#[test]
-fn mappings_are_a_parents(rt: HostRuntime) -> Result<(), Fail> {
-    let mut parent = Space::new(rt.alloc()).or(Err("memory"))?;
-    let mut child = Space::new(rt.alloc()).or(Err("memory"))?;
-    let page = PageNo::new(10).ok_or("a page")?;
-    let mapped = (map(&rt, &mut parent, 10, 2), map(&rt, &mut child, 3, 5));
-    assert_eq!(rt; mapped, (Some((Ok(()), 2)), Some((Ok(()), 5))));
-    child.copy_maps(&parent);
-    let unmapped = unmap(&mut child, page);
-    assert_eq!(rt;
-        (unmapped, mapping(&child, page), mapping(&parent, page)),
-        ((true, 1), (None, Some(11)), (Some(Rights::R), Some(10)))
-    );
     Ok(())
 }
 
@@ -135,43 +77,5 @@ fn entries_are_set_and_taken_away(rt: HostRuntime) -> Result<(), Fail> {
             "page {number}"
         );
     }
-    Ok(())
-}
-
-// Raises the number, and answers what it is then.
-fn raise(rt: &impl Abort, space: &mut Space) -> u64 {
-    assert!(rt; space.sequence() < 1_099_511_627_776);
-    space.raise();
-    space.sequence()
-}
-
-fn actor(number: Option<u64>) -> Option<ActorNo> {
-    ActorNo::new(number?)
-}
-
-// Gives both locks to these actors, or frees them, and answers who holds them then.
-fn hold(
-    space: &mut Space,
-    structure: Option<u64>,
-    table: Option<u64>,
-) -> (Option<u64>, Option<u64>) {
-    space.set_structure(actor(structure));
-    space.set_table(actor(table));
-    (
-        space.structure().map(|a| a.get()),
-        space.table().map(|a| a.get()),
-    )
-}
-
-#[test]
-fn locks_and_the_rest_are_kept(rt: HostRuntime) -> Result<(), Fail> {
-    let mut space = Space::new(rt.alloc()).or(Err("memory"))?;
-    assert_eq!(rt; raise(&rt, &mut space), 1);
-    for (structure, table) in [(Some(80), None), (None, Some(7)), (None, None)] {
-        assert_eq!(rt; hold(&mut space, structure, table), (structure, table));
-    }
-    let before = space.has_pinned();
-    space.set_pinned();
-    assert!(rt; !before && space.has_pinned());
     Ok(())
 }

@@ -2,7 +2,7 @@ ghost use Rattle.std.specs.Prelude.{◌↔◌, IsTrue};
 ghost use Rattle.gup_frames.specs.Frames.{frames_of, IsFrame};
 ghost use Rattle.gup_device.specs.Store.{store_of, IsSlot};
 
-use gup_base::{Allowed, FrameNo, NoMemory, WordNo};
+use gup_base::{Allowed, FrameNo, WordNo};
 use gup_device::Store;
 use gup_frames::Frames;
 use std::process::Abort;
@@ -51,23 +51,6 @@ fn moved(
     } else {
         store.word_in(frames, place.0, word, slot)
     })
-}
-
-#[test]
-fn new_stores_have_zeros(rt: HostRuntime) -> Result<(), NoMemory> {
-    for words in [1, 512, 4_096] {
-        let store = Store::new(rt.alloc(), words)?;
-        assert_eq!(rt;
-            (
-                store.words(),
-                kept(&store, 0),
-                kept(&store, words - 1),
-                kept(&store, words)
-            ),
-            (words, Some(0), Some(0), None)
-        );
-    }
-    Ok(())
 }
 
 #[test]

@@ -1,6 +1,6 @@
-use gup_base::{ActorNo, HandleNo, PageNo, ProcNo, Rights, Want, WordNo};
+use gup_base::{ActorNo, HandleNo, ProcNo};
 use gup_read::read_script;
-use gup_script::{Kind, Op, Script};
+use gup_script::Script;
 use gup_spec_grammar::{ReadRefusal, Reason, ScriptFault};
 use std::alloc::Global;
 use std::process::Abort;
@@ -363,142 +363,56 @@ fn long_texts(rt: HostRuntime) -> Result<(), Fail> {
     Ok(())
 }
 
-/// What the readers say of the whole script.
-fn expect_whole(rt: &impl Abort, script: &Script) -> Result<(), Fail> {
-    assert_eq!(rt; script.frames(), (512, 512, 8_192));
-    assert_eq!(rt; script.processes(), 2);
-    assert_eq!(rt; script.actors(), 4);
-    assert_eq!(rt; script.seed(), u64::MAX);
-    let [p, c] = [0, 1].map(|v| ProcNo::new(v));
-    let p = p.ok_or("a process")?;
-    let c = c.ok_or("a process")?;
-    for (process, name, born) in [(p, "p", true), (c, "c", false)] {
-        assert_eq!(rt; script.process_name(process), name);
-        assert_eq!(rt; script.starts_born(process), born);
+/// All that the readers say of the script, a line for each thing that it declares.
+fn told(alloc: Global, script: &Script) -> Result<String, Fail> {
+    let mut text = format!(in alloc; "{:?} {}\n", script.frames(), script.seed())?;
+    for p in 0..script.processes() {
+        let process = ProcNo::new(u64::from(p)).ok_or("a process")?;
+        let name = script.process_name(process);
+        write!(text, "{name} {}\n", script.starts_born(process))?;
     }
-    let actors = [
-        (0, "t", Kind::Thread(p), 5),
-        (1, "d", Kind::Device(4_096), 0),
-        (2, "u", Kind::Thread(c), 1),
-        (3, "m", Kind::Mover, 0),
-    ];
-    for (number, name, kind, operations) in actors {
-        let actor = ActorNo::new(number).ok_or("an actor")?;
-        assert_eq!(rt; script.name_of(actor), name);
-        assert_eq!(rt; script.kind(actor), kind);
-        assert_eq!(rt; script.ops(actor).len(), operations);
+    for a in 0..script.actors() {
+        let actor = ActorNo::new(u64::from(a)).ok_or("an actor")?;
+        let name = script.name_of(actor);
+        write!(text, "{name} {:?}\n", script.kind(actor))?;
+        for op in script.ops(actor) {
+            write!(text, "{op:?}\n")?;
+        }
     }
-    let first = ActorNo::new(0).ok_or("an actor")?;
-    let page = PageNo::new(5).ok_or("a page")?;
-    let last = PageNo::new(34_359_738_367).ok_or("a page")?;
-    let word = WordNo::new(511).ok_or("a word")?;
-    let operations = [
-        Op::Map {
-            page,
-            n: 1_024,
-            rights: Rights::R,
-        },
-        Op::Protect {
-            page: last,
-            n: 1,
-            rights: Rights::RW,
-        },
-        Op::Fork { child: c },
-        Op::Store {
-            page,
-            word,
-            value: 7,
-        },
-        Op::Exit,
-    ];
-    assert_eq!(rt; script.ops(first), operations.as_slice());
-    let turns = [0, 2, 2, 2, 1, 3, 3, 2, 3, 1, 1, 1, 3, 1];
-    assert_eq!(rt; script.turns().len(), turns.len());
-    for (turn, number) in script.turns().iter().zip(turns) {
-        assert_eq!(rt; turn.get(), number);
+    for h in 0..script.handles() {
+        let handle = HandleNo::new(u64::from(h)).ok_or("a handle")?;
+        write!(text, "{}\n", script.handle_name(handle))?;
+    }
+    for turn in script.turns() {
+        write!(text, "{} ", turn.get())?;
+    }
+    Ok(text)
+}
+
+/// The text is a script of which the readers say this, and so is its copy.
+fn expect_script(rt: &impl Abort, alloc: Global, text: &str, expected: &str) -> Result<(), Fail> {
+    let script = read_script(alloc, text.as_bytes())
+        .ok()
+        .ok_or("the text is a script")?;
+    let copy = script.copy()?;
+    for script in [&script, &copy] {
+        assert_eq!(rt; told(alloc, script)?.as_str(), expected);
     }
     Ok(())
 }
+
+const WHOLE_TOLD: &str =
+    "(512, 512, 8192) 18446744073709551615\np true\nc false\nt Thread(ProcNo { number: 0 })\nMap { page: PageNo { number: 5 }, n: 1024, rights: R }\nProtect { page: PageNo { number: 34359738367 }, n: 1, rights: RW }\nFork { child: ProcNo { number: 1 } }\nStore { page: PageNo { number: 5 }, word: WordNo { number: 511 }, value: 7 }\nExit\nd Device(4096)\nu Thread(ProcNo { number: 1 })\nDiscard { page: PageNo { number: 0 }, n: 3 }\nm Mover\n0 2 2 2 1 3 3 2 3 1 1 1 3 1 ";
 
 #[test]
 fn whole_script(rt: HostRuntime) -> Result<(), Fail> {
-    let script = read_script(rt.alloc(), WHOLE.as_bytes())
-        .ok()
-        .ok_or("the text is a script")?;
-    expect_whole(&rt, &script)?;
-    let copy = script.copy()?;
-    expect_whole(&rt, &copy)
+    expect_script(&rt, rt.alloc(), WHOLE, WHOLE_TOLD)
 }
 
-/// What the readers say of the script with handles.
-fn expect_held(rt: &impl Abort, script: &Script) -> Result<(), Fail> {
-    let [h, g] = [0, 1].map(|v| HandleNo::new(v));
-    let h = h.ok_or("a handle")?;
-    let g = g.ok_or("a handle")?;
-    assert_eq!(rt; script.actors(), 3);
-    assert_eq!(rt; script.handles(), 2);
-    assert_eq!(rt; script.handle_name(h), "h");
-    assert_eq!(rt; script.handle_name(g), "g");
-    let [t, d] = [0, 1].map(|v| ActorNo::new(v));
-    let t = t.ok_or("an actor")?;
-    let d = d.ok_or("an actor")?;
-    let page = PageNo::new(5).ok_or("a page")?;
-    let last = PageNo::new(34_359_738_367).ok_or("a page")?;
-    let of_thread = [
-        Op::Pin {
-            handle: h,
-            page,
-            n: 16,
-            want: Want {
-                write: true,
-                long: false,
-            },
-            fast: false,
-        },
-        Op::Pin {
-            handle: g,
-            page: last,
-            n: 1,
-            want: Want {
-                write: false,
-                long: false,
-            },
-            fast: false,
-        },
-        Op::Give { handle: h, to: d },
-        Op::Take { handle: g },
-        Op::Unpin { handle: h },
-    ];
-    assert_eq!(rt; script.ops(t), of_thread.as_slice());
-    let of_device = [
-        Op::Take { handle: h },
-        Op::Transfer {
-            handle: h,
-            outward: true,
-            index: u32::MAX,
-            slot: 0,
-            n: 64,
-        },
-        Op::Transfer {
-            handle: g,
-            outward: false,
-            index: 0,
-            slot: u32::MAX,
-            n: 1,
-        },
-        Op::Give { handle: g, to: t },
-        Op::Unpin { handle: g },
-    ];
-    assert_eq!(rt; script.ops(d), of_device.as_slice());
-    Ok(())
-}
+const HELD_TOLD: &str =
+    "(8, 8, 64) 0\np true\nt Thread(ProcNo { number: 0 })\nPin { handle: HandleNo { number: 0 }, page: PageNo { number: 5 }, n: 16, want: Want { write: true, long: false }, fast: false }\nPin { handle: HandleNo { number: 1 }, page: PageNo { number: 34359738367 }, n: 1, want: Want { write: false, long: false }, fast: false }\nGive { handle: HandleNo { number: 0 }, to: ActorNo { number: 1 } }\nTake { handle: HandleNo { number: 1 } }\nUnpin { handle: HandleNo { number: 0 } }\nd Device(64)\nTake { handle: HandleNo { number: 0 } }\nTransfer { handle: HandleNo { number: 0 }, outward: true, slot: 0, parts: Parts { parts: [(4294967295, 64)] } }\nTransfer { handle: HandleNo { number: 1 }, outward: false, slot: 4294967295, parts: Parts { parts: [(0, 1)] } }\nGive { handle: HandleNo { number: 1 }, to: ActorNo { number: 0 } }\nUnpin { handle: HandleNo { number: 1 } }\nm Mover\nh\ng\n";
 
 #[test]
 fn script_with_handles(rt: HostRuntime) -> Result<(), Fail> {
-    let script = read_script(rt.alloc(), HELD.as_bytes())
-        .ok()
-        .ok_or("the text is a script")?;
-    expect_held(&rt, &script)?;
-    let copy = script.copy()?;
-    expect_held(&rt, &copy)
+    expect_script(&rt, rt.alloc(), HELD, HELD_TOLD)
 }

@@ -153,8 +153,11 @@ fn turns(rt: HostRuntime) {
         ("*2", "", Some(2)),
         ("", "", Some(1)),
     ] {
-        assert_eq!(rt; turn_name(word), name, "{word}");
-        assert_eq!(rt; turn_times(word), times, "{word}");
+        assert_eq!(rt;
+            (turn_name(word), turn_times(word)),
+            (name, times),
+            "{word}"
+        );
     }
 }
 
@@ -191,10 +194,10 @@ fn lines(rt: HostRuntime) {
         ("\u{7f}", false, false),
         ("# \u{e9}", false, true),
     ] {
-        assert_eq!(rt; is_printable(line.as_bytes()), printable, "{line}");
-        assert_eq!(rt; is_passed(line.as_bytes()), passed, "{line}");
+        let bytes = line.as_bytes();
         let text = if printable { Some(line) } else { None };
-        assert_eq!(rt; line_text(line.as_bytes()), text, "{line}");
+        let found = (is_printable(bytes), is_passed(bytes), line_text(bytes));
+        assert_eq!(rt; found, (printable, passed, text), "{line}");
     }
     assert_eq!(rt; line_text(&[255]), None);
 }
@@ -210,8 +213,11 @@ fn words_of_lines(rt: HostRuntime) -> Result<(), Fail> {
         ("a  b", 3, false),
     ] {
         let parts = words(rt.alloc(), line)?;
-        assert_eq!(rt; parts.len(), count, "{line}");
-        assert_eq!(rt; are_spaced(&parts), spaced, "{line}");
+        assert_eq!(rt;
+            (parts.len(), are_spaced(&parts)),
+            (count, spaced),
+            "{line}"
+        );
     }
     let parts = words(rt.alloc(), "gup 1")?;
     assert_eq!(rt; parts.as_slice(), ["gup", "1"].as_slice());

@@ -144,7 +144,7 @@ returns-in-Err-Failed-clause-complete g c command read_well wrote_well =
     absurd (read_well (has_cause _ _ _ (subst P c.in-Err-Failed.field-0-is c.in-Err-Failed.ensures.unread)))
 
 pub returns-in-Err-Fault-clause-refused : goal.returns-in-Err-Fault-clause-refused
-returns-in-Err-Fault-clause-refused g c three =
+returns-in-Err-Fault-clause-refused g c command three =
     let P : Unread → Type 0 = λ why. IsUnreadFor (g.S.Source.remaining c.args.source.now) (g.S.Source.faults c.args.source.now) (g.S.Source.faults c.read.new.source) (g.S.Source.faulted c.read.new.source) why in
     refused_none (g.S.Source.remaining c.args.source.now) c.in-Err-Fault.fault c.scripts_have_no_fault.ensures (subst P c.in-Err-Fault.field-0-is c.in-Err-Fault.ensures.unread)
 

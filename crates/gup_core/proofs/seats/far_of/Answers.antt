@@ -18,7 +18,7 @@ overflow_add-result c =
             | inr later ↦
                 elim later [
                   | inl pin ↦ let few = fits _ pin.5 refl in omega arith
-                  | inr transfer ↦ let few = fits _ transfer.5 refl in omega arith
+                  | inr transfer ↦ let few = fits _ transfer.4 refl in omega arith
                 ]
           ]
     ]

@@ -2,7 +2,8 @@ use Rattle.std.proofs.Common.{◌<◌, length, slice_get, slice_set, ◌++◌, s
 use Rattle.gup_space.specs.Space.{SpaceParts}
 use Rattle.gup_plain.specs.State.{Birth}
 use Rattle.gup_spec_turns.specs.ForkTurns.{fork_turn}
-use Rattle.gup_op_fork.specs.Forked.{place_of, birth_behind, ShowsForking, StandsAsFork, forking_view}
+use Rattle.gup_op_base.specs.Jobs.{place_of}
+use Rattle.gup_op_fork.specs.Forked.{birth_behind, ShowsForking, StandsAsFork, forking_view}
 use Rattle.gup_op_base.specs.Said.{whats_of}
 use Rattle.gup_op_base.specs.Turns.{IsTurnOf}
 use Rattle.gup_core.proofs.Parting.{front_there, back_there, front_now, back_now, others_now, below_other, four}

@@ -160,7 +160,7 @@ take_transfer-requires-clause-within c =
 pub take_transfer-requires-clause-most : goal.take_transfer-requires-clause-most
 take_transfer-requires-clause-most c =
     let any = any_process c.args.proc in
-    (subst (λ (op : Op). IsOp op) c.in-Transfer.is (c.requires.ready any.0 any.1).1.in_range).1
+    (subst (λ (op : Op). IsOp op) c.in-Transfer.is (c.requires.ready any.0 any.1).1.in_range).0.2
 
 pub returns-in-Transfer-clause-turn : goal.returns-in-Transfer-clause-turn
 returns-in-Transfer-clause-turn c p slots place of_p has =
@@ -172,16 +172,16 @@ returns-in-Transfer-clause-turn c p slots place of_p has =
     let ready = (c.requires.ready p of_p).1 in
     let was = there old.stores.items a.actor ready.actor_store in
     let now = there new.stores.items a.actor (omega (arith, ready.actor_store, t.ensures.stores)) in
-    let op : Op = Transfer x.handle x.outward x.index x.slot x.n in
+    let op : Op = Transfer x.handle x.outward x.slot x.moved in
     let led = λ (s : CoreState) (k : ℕ) (shown : ShowsParts old s) (stands : StandsAt s a.actor p k op) (far_is : a.far ≡ k).
     leads_store old new a.actor s (op_turn s a.actor p slots k op) (whats_of t.result) now.0 now.1 t.ensures.others
-    (transfer_is_handling s a.actor slots x.handle x.outward x.index x.slot x.n k) shown
+    (transfer_is_handling s a.actor slots x.handle x.outward x.slot x.moved k) shown
     (subst (λ (n : ℕ). Leads (ShowsHeld a.actor) (held_view new.frames new.handles now.0) s (op_turn s a.actor p n k op) (whats_of t.result)) (has was.0 was.1)
     (subst (λ (q : ℕ). Leads (ShowsHeld a.actor) (held_view new.frames new.handles now.0) s (op_turn s a.actor p (slots_in was.0) q op) (whats_of t.result)) far_is
-    (t.ensures.turn was.0 now.0 was.1 now.1 s (record { frames = shown.frames; pins = shown.pins; store = shown.stores a.actor was.0 was.1 }) (stands.whole x.handle x.index x.slot x.n x.outward refl)))) in
+    (t.ensures.turn was.0 now.0 was.1 now.1 s (record { frames = shown.frames; pins = shown.pins; store = shown.stores a.actor was.0 was.1 }) (stands.whole x.handle x.slot x.outward x.moved refl)))) in
     let turn =
     handled old new a.actor p slots a.far op place (whats_of t.result) tt t.ensures.spaces t.ensures.births t.ensures.taken
-    (λ s k. transfer_is_handling s a.actor slots x.handle x.outward x.index x.slot x.n k) led in
+    (λ s k. transfer_is_handling s a.actor slots x.handle x.outward x.slot x.moved k) led in
     subst (λ (o : Op). IsTurnAmong old new a.actor p slots a.far o place (whats_of t.result) place) (sym x.is) turn
 
 -- ---- an operation of one process

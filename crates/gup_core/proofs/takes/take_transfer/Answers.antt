@@ -22,7 +22,7 @@ returns-clause-turn c old new was_is is =
     let stores = a.parts.now.stores in
     two
     (λ (x y : Option (List ℕ)). IsTurnOf (ShowsHeld a.actor) (λ s. IsWhole s a.actor a.handle) (held_view a.parts.now.frames a.parts.now.handles x) (held_view c.transfer.new.frames a.parts.now.handles y)
-    (λ s. transfer_turn s a.actor (slots_in x) a.handle a.outward a.index a.slot a.n a.far) (whats_of c.transfer.result))
+    (λ s. transfer_turn s a.actor (slots_in x) a.handle a.outward a.slot a.moved.now a.far) (whats_of c.transfer.result))
     _ _ old new
     (sym (was_there stores.items c.get.result a.actor c.index_mut.result.now c.index_mut.ensures.value c.get.ensures.value c.requires.actor) ∙ was_is)
     (sym (now_there stores.items c.get.result a.actor c.transfer.new.store c.get.ensures.value c.requires.actor) ∙ is)

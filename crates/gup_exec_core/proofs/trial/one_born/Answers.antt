@@ -2,7 +2,6 @@ use Rattle.std.proofs.Common.{ℕ, Bool, false, refl, ◌∙◌, ap}
 use Rattle.gup_exec_parts.proofs.TableLemmas.{put_same}
 use Rattle.gup_plain.specs.Put.{put}
 use Rattle.gup_plain.specs.State.{Birth, born}
-use Rattle.gup_exec_rows.specs.Procs.{births, copies}
 use Rattle.gup_exec_core.proofs.trial.one_born.Goals as goal
 
 pub returns-clause-births : goal.returns-clause-births

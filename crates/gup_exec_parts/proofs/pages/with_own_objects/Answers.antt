@@ -1,11 +1,12 @@
-use Rattle.std.proofs.Common.{ℕ, List, map, rules}
+use Rattle.std.proofs.Common.{ℕ, List, map, rules, ◌∙◌}
 use Rattle.std.proofs.lemmas.Iterator.{YieldsList-from_map}
 use Rattle.std.proofs.lemmas.Iterator.Adapters.{fact_from_collect}
 use Rattle.std.proofs.lemmas.Iterator.Consumers.{YieldsList-at, YieldsList-from_rest}
 use Rattle.std.proofs.lemmas.Result.{IfOk-at_ok}
-use Rattle.std.specs.BTreeMap.{IsFromIterResult}
+use Rattle.std.specs.BTreeMap.{BTreeMap, IsFromIterResult}
 use Rattle.std.specs.Ordering.{nat_cmp}
 use Rattle.gup_exec_parts.specs.declared.pages.Page.{Page}
+use Rattle.gup_exec_parts.proofs.CountedPages.{mapped-len}
 use Rattle.gup_exec_parts.proofs.OwnObjects.{own_entry, get-own, len-own}
 use Rattle.gup_exec_parts.proofs.pages.with_own_objects.Goals as goal
 
@@ -26,3 +27,10 @@ pub returns-clause-len : goal.returns-clause-len
 returns-clause-len c =
     len-own c.args.objects c.args.pages.now c.in_ok-own.own c.iter.ensures.ordered (made c).1
     (get-own c.args.objects c.args.pages.now c.in_ok-own.own c.iter.ensures.ordered (made c))
+
+pub returns-clause-counted : goal.returns-clause-counted
+returns-clause-counted c = λ numbered.
+    let pages : BTreeMap ℕ Page = c.args.pages.now in
+    len-own c.args.objects pages c.in_ok-own.own c.iter.ensures.ordered (made c).1
+    (get-own c.args.objects pages c.in_ok-own.own c.iter.ensures.ordered (made c))
+    ∙ mapped-len pages c.iter.ensures.ordered numbered

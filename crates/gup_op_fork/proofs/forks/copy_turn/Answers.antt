@@ -1,6 +1,6 @@
 use Rattle.std.proofs.Common.{◌≡◌, ◌+◌, ◌<◌, ◌≤◌, ap, ◌∙◌, arith}
 use Rattle.gup_fork.specs.Forks.{fork_change_of}
-use Rattle.gup_spec_turns.specs.ForkPlace.{at_word}
+use Rattle.gup_spec_turns.specs.JobPlace.{at_word}
 use Rattle.gup_op_base.specs.Said.{whats_of}
 use Rattle.gup_op_fork.proofs.Forking.{notes_alike}
 use Rattle.gup_op_fork.proofs.Copying.{word_turned}

@@ -4,7 +4,7 @@ use Rattle.gup_space.specs.Space.{SpaceValue, space_of}
 use Rattle.gup_fork.specs.Forks.{fork_change_of}
 use Rattle.gup_spec_events.specs.State.{copying}
 use Rattle.gup_spec_events.specs.Failure.{fails}
-use Rattle.gup_spec_turns.specs.ForkPlace.{unbegun, wants_frame}
+use Rattle.gup_spec_turns.specs.JobPlace.{unbegun, wants_frame}
 use Rattle.gup_op_base.specs.Said.{whats_of}
 use Rattle.gup_op_fork.proofs.Forking.{notes_alike, other_parent}
 use Rattle.gup_op_fork.proofs.Copying.{fork_failed}

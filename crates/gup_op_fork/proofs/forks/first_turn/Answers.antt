@@ -3,7 +3,7 @@ use Rattle.gup_frames.specs.Frames.{frames_of}
 use Rattle.gup_space.specs.Space.{space_of}
 use Rattle.gup_fork.specs.Forks.{fork_change_of}
 use Rattle.gup_spec_events.specs.Event.{begin_fork}
-use Rattle.gup_spec_turns.specs.ForkPlace.{unbegun, from_page}
+use Rattle.gup_spec_turns.specs.JobPlace.{unbegun, from_page}
 use Rattle.gup_op_base.specs.Said.{whats_of}
 use Rattle.gup_op_fork.proofs.Forking.{begun, notes_alike, other_parent}
 use Rattle.gup_op_fork.proofs.forks.first_turn.Goals as goal

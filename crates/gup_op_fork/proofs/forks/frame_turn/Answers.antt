@@ -3,9 +3,9 @@ use Rattle.gup_base.specs.declared.entry.Allowed.TheVariants.{Any}
 use Rattle.gup_frames.specs.Frames.{FramesValue, frames_of, free_frame}
 use Rattle.gup_space.specs.Space.{space_of}
 use Rattle.gup_fork.specs.Forks.{fork_change_of}
-use Rattle.gup_spec_turns.specs.ForkPlace.{wants_frame, at_word}
+use Rattle.gup_spec_turns.specs.JobPlace.{wants_frame, at_word}
 use Rattle.gup_op_base.specs.Said.{whats_of}
-use Rattle.gup_op_fork.specs.Forked.{place_of}
+use Rattle.gup_op_base.specs.Jobs.{place_of}
 use Rattle.gup_op_fork.proofs.Forking.{IsForking, change, notes_alike}
 use Rattle.gup_op_fork.proofs.Copying.{frame_taken}
 use Rattle.gup_op_fork.proofs.forks.frame_turn.Goals as goal

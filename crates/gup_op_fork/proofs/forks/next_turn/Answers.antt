@@ -2,7 +2,7 @@ use Rattle.std.proofs.Common.{◌≡◌, ◌+◌, None, sym, ap}
 use Rattle.gup_frames.specs.Frames.{frames_of}
 use Rattle.gup_space.specs.Space.{space_of}
 use Rattle.gup_fork.specs.Forks.{fork_change_of}
-use Rattle.gup_spec_turns.specs.ForkPlace.{from_page}
+use Rattle.gup_spec_turns.specs.JobPlace.{from_page}
 use Rattle.gup_op_base.specs.Said.{whats_of}
 use Rattle.gup_op_fork.proofs.Forking.{passed, no_entry, notes_alike}
 use Rattle.gup_op_fork.proofs.forks.next_turn.Goals as goal

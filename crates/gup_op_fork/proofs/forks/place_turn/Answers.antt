@@ -3,7 +3,7 @@ use Rattle.gup_frames.specs.Frames.{frames_of}
 use Rattle.gup_space.specs.Space.{space_of}
 use Rattle.gup_fork.specs.Forks.{fork_change_of}
 use Rattle.gup_spec_events.specs.Event.{place_child}
-use Rattle.gup_spec_turns.specs.ForkPlace.{from_page, at_word}
+use Rattle.gup_spec_turns.specs.JobPlace.{from_page, at_word}
 use Rattle.gup_op_base.specs.Said.{whats_of}
 use Rattle.gup_op_fork.proofs.Forking.{notes_alike, other_parent}
 use Rattle.gup_op_fork.proofs.Copying.{copy_turned}

@@ -40,7 +40,7 @@ returns-then-far-from c =
     (ap whats_of c.happened.ensures ∙ ap (λ g. Event (events.PinTry a.actor a.proc g a.want.write) ∷ []) at)
     (pinned_page old new F1 S2 a.actor a.proc a.handle a.page a.n a.far c.pin_page.result a.want false
     (not_last a.far a.n (omega (arith, c.if-far-from.true, c.from.ensures))) c.requires.table
-    (fault_at F F1 S S1 S2 a.page a.far c.page_behind-page.result a.want.write None c.raise_flag.ensures at c.in-Ok.ensures.fault)
+    (fault_at F F1 S S1 S2 a.page a.far c.page_behind-page.result a.want None c.raise_flag.ensures at c.in-Ok.ensures.fault)
     (ap (λ g. frame_of (S2.entry g)) (sym at) ∙ c.pin_page.ensures.frame) c.pin_page.ensures.frames c.pin_page.ensures.space
     (refl, c.push.ensures.items))
 
@@ -59,7 +59,7 @@ returns-else-far-from c =
     (ap (λ g. tried_whats true a.actor a.proc a.handle g a.n a.want.write) at)
     (pinned_page old new F1 S2 a.actor a.proc a.handle a.page a.n a.far c.pin_page.result a.want true
     (last a.far a.n c.requires.within (omega (arith, c.if-far-from.false, c.from.ensures))) c.requires.table
-    (fault_at F F1 S S1 S2 a.page a.far c.page_behind-page.result a.want.write None c.raise_flag.ensures at c.in-Ok.ensures.fault)
+    (fault_at F F1 S S1 S2 a.page a.far c.page_behind-page.result a.want None c.raise_flag.ensures at c.in-Ok.ensures.fault)
     (ap (λ g. frame_of (S2.entry g)) (sym at) ∙ c.pin_page.ensures.frame) c.pin_page.ensures.frames c.pin_page.ensures.space
     (rw (sym c.push.ensures.items) c.hold.ensures.held, c.hold.ensures.empty))
 
@@ -78,7 +78,7 @@ returns-in-Err c =
     notes_alike
     (ap whats_of c.refused.ensures ∙ ap (λ (x : Answer). Done x ∷ []) c.answer_of.ensures)
     (pin_refused old new F1 S2 a.actor a.proc a.handle a.page a.n a.far a.want answer c.if-far-eq0.true
-    (fault_at F F1 S S1 S2 a.page a.far c.page_behind-page.result a.want.write (Some answer) c.raise_flag.ensures at c.in-Err.ensures.fault) refl refl refl refl)
+    (fault_at F F1 S S1 S2 a.page a.far c.page_behind-page.result a.want (Some answer) c.raise_flag.ensures at c.in-Err.ensures.fault) refl refl refl refl)
 
 pub returns-in-Err-2 : goal.returns-in-Err-2
 returns-in-Err-2 c =
@@ -95,5 +95,5 @@ returns-in-Err-2 c =
     notes_alike
     (ap whats_of c.done.ensures ∙ ap (λ (x : Cause). Event (events.PinOk a.actor a.handle) ∷ Done (answers.Short a.far a.n x) ∷ []) c.cause_of.ensures)
     (pin_short old new F1 S2 a.actor a.proc a.handle a.page a.n a.far a.want answer c.if-far-eq0.false
-    (fault_at F F1 S S1 S2 a.page a.far c.page_behind-page.result a.want.write (Some answer) c.raise_flag.ensures at c.in-Err.ensures.fault) refl refl
+    (fault_at F F1 S S1 S2 a.page a.far c.page_behind-page.result a.want (Some answer) c.raise_flag.ensures at c.in-Err.ensures.fault) refl refl
     c.hold-in-Err-2.ensures.held c.hold-in-Err-2.ensures.empty)

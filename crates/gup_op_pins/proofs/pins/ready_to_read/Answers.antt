@@ -11,5 +11,5 @@ nothing (Err denied) = tt
 pub returns-clause-ready : goal.returns-clause-ready
 returns-clause-ready c =
     let a = c.args in
-    ready_behind (change_of a.frames.now c.unshare-ready.new.frames a.space.now c.unshare-ready.new.space) a.page false c.unshare-ready.result
+    ready_behind (change_of a.frames.now c.unshare-ready.new.frames a.space.now c.unshare-ready.new.space) a.page false a.allowed c.unshare-ready.result
     c.requires.tidy c.requires.few c.requires.table c.unshare-ready.ensures.fault c.are_there.ensures.held c.unshare-ready.ensures.marked (nothing c.unshare-ready.result)

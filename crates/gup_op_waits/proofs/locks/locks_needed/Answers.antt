@@ -1,7 +1,7 @@
 use Rattle.std.proofs.Common.{sym, ap, ◌∙◌}
 use Rattle.gup_space.specs.Space.{space_of}
 use Rattle.gup_spec_turns.specs.Waits.{both_if}
-use Rattle.gup_op_fork.specs.Forked.{place_of}
+use Rattle.gup_op_base.specs.Jobs.{place_of}
 use Rattle.gup_op_waits.proofs.Waits.{single, forks_into, single_needs, forked_needs}
 use Rattle.gup_op_waits.proofs.locks.locks_needed.Goals as goal
 

@@ -3,7 +3,7 @@ use Rattle.gup_base.specs.declared.entry.Want.{Want}
 use Rattle.gup_script.specs.declared.op.Kind.{Kind}
 use Rattle.gup_script.specs.declared.op.Kind.TheVariants.{Thread}
 use Rattle.gup_script.specs.declared.op.Op.{Op}
-use Rattle.gup_script.specs.declared.op.Op.TheVariants.{Map, Unmap, Protect, Discard, Load, Store, Pin, Unpin, Give, Take, Transfer, Fork, Exit}
+use Rattle.gup_script.specs.declared.op.Op.TheVariants.{Map, Unmap, Protect, Discard, Load, Store, Pin, Unpin, Give, Take, Get, Put, Transfer, Mirror, Look, Move, Fork, Exit}
 use Rattle.std.specs.Prelude.{string_bytes}
 use Rattle.gup_script.specs.Script.{ScriptValue, Process, Actor}
 use Rattle.gup_script.specs.declared.script.Process.{Process as DeclaredProcess}
@@ -61,7 +61,12 @@ single_declares s (Pin handle page n want fast) alone = absurd alone
 single_declares s (Unpin handle) alone = absurd alone
 single_declares s (Give handle to) alone = absurd alone
 single_declares s (Take handle) alone = absurd alone
-single_declares s (Transfer handle outward index slot n) alone = absurd alone
+single_declares s (Transfer handle outward slot parts) alone = absurd alone
+single_declares s (Get handle page) alone = tt
+single_declares s (Put handle) alone = tt
+single_declares s (Mirror mirror proc page) alone = tt
+single_declares s (Look mirror word) alone = tt
+single_declares s (Move proc page zone) alone = tt
 single_declares s (Fork child) alone = absurd alone
 single_declares s Exit alone = tt
 
@@ -76,7 +81,12 @@ of_thread (Pin handle page n want fast) alone = absurd alone
 of_thread (Unpin handle) alone = absurd alone
 of_thread (Give handle to) alone = absurd alone
 of_thread (Take handle) alone = absurd alone
-of_thread (Transfer handle outward index slot n) alone = absurd alone
+of_thread (Transfer handle outward slot parts) alone = absurd alone
+of_thread (Get handle page) alone = tt
+of_thread (Put handle) alone = tt
+of_thread (Mirror mirror proc page) alone = tt
+of_thread (Look mirror word) alone = tt
+of_thread (Move proc page zone) alone = tt
 of_thread (Fork child) alone = absurd alone
 of_thread Exit alone = tt
 

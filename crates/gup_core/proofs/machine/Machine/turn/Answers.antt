@@ -25,7 +25,7 @@ taken-idle c =
     let m = machine_of i.script i.parts i.seats.items i.turns in
     let here = subst (λ (x : MachineValue). slice_get x.seats a ≡ Some c.seat-seat.result) (sym c.self.view_is) c.seat-seat.ensures in
     notes_taken m (machine_of i.script i.parts i.seats.items c.next_turn-number.result) a _ _ c.one.ensures
-    (idles m a c.seat-seat.result c.next_turn-number.result here (sym (c.in_default.ensures ∙ ap (λ ops. slice_get ops c.seat-seat.result.answered) c.ops.ensures)) c.next_turn-number.ensures)
+    (idles m a c.seat-seat.result c.next_turn-number.result here (sym (ap (λ ops. slice_get ops c.seat-seat.result.answered) c.ops.ensures) ∙ c.in_default.ensures) c.next_turn-number.ensures)
 
 pub invariant_of-self : goal.invariant_of-self
 invariant_of-self c =
@@ -45,8 +45,8 @@ waits_for-requires-clause-there c =
     let a = c.args.actor in
     let m = machine_of i.script i.parts i.seats.items i.turns in
     let rest = subst (λ (x : MachineValue). IsAtRest x) (sym c.self.view_is) c.rests.ensures in
-    let op = sym (c.in-Some.ensures ∙ ap (λ ops. slice_get ops c.seat-seat.result.answered) c.ops.ensures) in
-    process_found_so m a c.process.result c.seat-seat.result c.in-Some.op rest c.process.ensures op
+    let op = sym (ap (λ ops. slice_get ops c.seat-seat.result.answered) c.ops.ensures) ∙ c.in-Some.ensures in
+    process_found_so m a c.process.result c.seat-seat.result c.in-Some.op.now rest c.process.ensures op
 
 pub waits_for-requires-clause-space : goal.waits_for-requires-clause-space
 waits_for-requires-clause-space c =
@@ -70,8 +70,8 @@ waits_for-requires-clause-child c child same =
     let a = c.args.actor in
     let m = machine_of i.script i.parts i.seats.items i.turns in
     let rest = subst (λ (x : MachineValue). IsAtRest x) (sym c.self.view_is) c.rests.ensures in
-    let op = sym (c.in-Some.ensures ∙ ap (λ ops. slice_get ops c.seat-seat.result.answered) c.ops.ensures) in
-    (child_within m a child c.seat-seat.result c.in-Some.op rest op same).0
+    let op = sym (ap (λ ops. slice_get ops c.seat-seat.result.answered) c.ops.ensures) ∙ c.in-Some.ensures in
+    (child_within m a child c.seat-seat.result c.in-Some.op.now rest op same).0
 
 taken-waiting : (c : goal.After-one-in-Some-waits_for) → TakesTurns (machine_of c.self.inside.script c.self.inside.parts c.self.inside.seats.items c.self.inside.turns)
     (machine_of c.self.inside.script c.self.inside.parts c.self.inside.seats.items c.next_turn-number.result) c.args.actor c.one-in-Some-waits_for.result
@@ -81,13 +81,13 @@ taken-waiting c =
     let m = machine_of i.script i.parts i.seats.items i.turns in
     let rest = subst (λ (x : MachineValue). IsAtRest x) (sym c.self.view_is) c.rests.ensures in
     let here = subst (λ (x : MachineValue). slice_get x.seats a ≡ Some c.seat-seat.result) (sym c.self.view_is) c.seat-seat.ensures in
-    let op = sym (c.in-Some.ensures ∙ ap (λ ops. slice_get ops c.seat-seat.result.answered) c.ops.ensures) in
+    let op = sym (ap (λ ops. slice_get ops c.seat-seat.result.answered) c.ops.ensures) ∙ c.in-Some.ensures in
     let waiting = c.in-Some-waits_for.waiting in
-    let known : IsWaiting m a c.process.result c.seat-seat.result c.in-Some.op (Some waiting) =
+    let known : IsWaiting m a c.process.result c.seat-seat.result c.in-Some.op.now (Some waiting) =
     λ s who far shown actor of_who place at. sym c.in-Some-waits_for.is ∙ c.waits_for.ensures s who far shown actor of_who place at in
     notes_taken m (machine_of i.script i.parts i.seats.items c.next_turn-number.result) a _ _ c.one-in-Some-waits_for.ensures
-    (waits m a c.seat-seat.result c.in-Some.op c.next_turn-number.result waiting here op c.next_turn-number.ensures
-    (waiting_is m a c.process.result c.seat-seat.result c.in-Some.op (Some waiting) c.reached_states_stand.ensures rest c.process.ensures here op known))
+    (waits m a c.seat-seat.result c.in-Some.op.now c.next_turn-number.result waiting here op c.next_turn-number.ensures
+    (waiting_is m a c.process.result c.seat-seat.result c.in-Some.op.now (Some waiting) c.reached_states_stand.ensures rest c.process.ensures here op known))
 
 pub invariant_of-self-in-Some-waits_for : goal.invariant_of-self-in-Some-waits_for
 invariant_of-self-in-Some-waits_for c =
@@ -107,8 +107,8 @@ take_op-requires-clause-process c =
     let a = c.args.actor in
     let m = machine_of i.script i.parts i.seats.items i.turns in
     let rest = subst (λ (x : MachineValue). IsAtRest x) (sym c.self.view_is) c.rests.ensures in
-    let op = sym (c.in-Some.ensures ∙ ap (λ ops. slice_get ops c.seat-seat.result.answered) c.ops.ensures) in
-    process_found_so m a c.process-proc.result c.seat-seat.result c.in-Some.op rest c.process-proc.ensures op
+    let op = sym (ap (λ ops. slice_get ops c.seat-seat.result.answered) c.ops.ensures) ∙ c.in-Some.ensures in
+    process_found_so m a c.process-proc.result c.seat-seat.result c.in-Some.op.now rest c.process-proc.ensures op
 
 pub take_op-requires-clause-birth : goal.take_op-requires-clause-birth
 take_op-requires-clause-birth c =
@@ -124,8 +124,8 @@ take_op-requires-clause-child c child same =
     let a = c.args.actor in
     let m = machine_of i.script i.parts i.seats.items i.turns in
     let rest = subst (λ (x : MachineValue). IsAtRest x) (sym c.self.view_is) c.rests.ensures in
-    let op = sym (c.in-Some.ensures ∙ ap (λ ops. slice_get ops c.seat-seat.result.answered) c.ops.ensures) in
-    (child_within m a child c.seat-seat.result c.in-Some.op rest op same).1
+    let op = sym (ap (λ ops. slice_get ops c.seat-seat.result.answered) c.ops.ensures) ∙ c.in-Some.ensures in
+    (child_within m a child c.seat-seat.result c.in-Some.op.now rest op same).1
 
 pub take_op-requires-clause-ready : goal.take_op-requires-clause-ready
 take_op-requires-clause-ready c p unfailed of_p =
@@ -134,10 +134,10 @@ take_op-requires-clause-ready c p unfailed of_p =
     let m = machine_of i.script i.parts i.seats.items i.turns in
     let rest = subst (λ (x : MachineValue). IsAtRest x) (sym c.self.view_is) c.rests.ensures in
     let here = subst (λ (x : MachineValue). slice_get x.seats a ≡ Some c.seat-seat.result) (sym c.self.view_is) c.seat-seat.ensures in
-    let op = sym (c.in-Some.ensures ∙ ap (λ ops. slice_get ops c.seat-seat.result.answered) c.ops.ensures) in
-    let known : IsWaiting m a c.process.result c.seat-seat.result c.in-Some.op None =
+    let op = sym (ap (λ ops. slice_get ops c.seat-seat.result.answered) c.ops.ensures) ∙ c.in-Some.ensures in
+    let known : IsWaiting m a c.process.result c.seat-seat.result c.in-Some.op.now None =
     λ s who far shown actor of_who place at. sym c.in_default-waits_for.is ∙ c.waits_for.ensures s who far shown actor of_who place at in
-    is_ready m a c.process.result c.process-proc.result c.seat-seat.result c.in-Some.op c.reached_states_stand.ensures c.self.invariant rest c.process.ensures c.process-proc.ensures here op known unfailed p of_p
+    is_ready m a c.process.result c.process-proc.result c.seat-seat.result c.in-Some.op.now c.reached_states_stand.ensures c.self.invariant rest c.process.ensures c.process-proc.ensures here op known unfailed p of_p
 
 pub behind-next-requires-clause-few : goal.behind-next-requires-clause-few
 behind-next-requires-clause-few c =
@@ -154,8 +154,8 @@ behind-next-requires-clause-op c =
     let a = c.args.actor in
     let m = machine_of i.script i.parts i.seats.items i.turns in
     let rest = subst (λ (x : MachineValue). IsAtRest x) (sym c.self.view_is) c.rests.ensures in
-    let op = sym (c.in-Some.ensures ∙ ap (λ ops. slice_get ops c.seat-seat.result.answered) c.ops.ensures) in
-    op_is_op i.script rest.valid a c.seat-seat.result.answered c.in-Some.op op
+    let op = sym (ap (λ ops. slice_get ops c.seat-seat.result.answered) c.ops.ensures) ∙ c.in-Some.ensures in
+    op_is_op i.script rest.valid a c.seat-seat.result.answered c.in-Some.op.now op
 
 taken-gone : (c : goal.After-notes) → TakesTurns (machine_of c.self.inside.script c.self.inside.parts c.self.inside.seats.items c.self.inside.turns)
     (machine_of c.self.inside.script c.take_op.new.parts c.set_seat.new.seats.items c.next_turn-number.result) c.args.actor c.notes.result
@@ -165,14 +165,14 @@ taken-gone c =
     let m = machine_of i.script i.parts i.seats.items i.turns in
     let rest = subst (λ (x : MachineValue). IsAtRest x) (sym c.self.view_is) c.rests.ensures in
     let here = subst (λ (x : MachineValue). slice_get x.seats a ≡ Some c.seat-seat.result) (sym c.self.view_is) c.seat-seat.ensures in
-    let op = sym (c.in-Some.ensures ∙ ap (λ ops. slice_get ops c.seat-seat.result.answered) c.ops.ensures) in
-    let known : IsWaiting m a c.process.result c.seat-seat.result c.in-Some.op None =
+    let op = sym (ap (λ ops. slice_get ops c.seat-seat.result.answered) c.ops.ensures) ∙ c.in-Some.ensures in
+    let known : IsWaiting m a c.process.result c.seat-seat.result c.in-Some.op.now None =
     λ s who far shown actor of_who place at. sym c.in_default-waits_for.is ∙ c.waits_for.ensures s who far shown actor of_who place at in
     notes_taken m (machine_of i.script c.take_op.new.parts c.set_seat.new.seats.items c.next_turn-number.result) a _ _ c.notes.ensures
-    (goes m a c.process-proc.result c.seat-seat.result c.behind-next.result c.in-Some.op c.take_op.new.parts c.set_seat.new.seats.items c.next_turn-number.result c.take_op.result.0 c.take_op.result.1
+    (goes m a c.process-proc.result c.seat-seat.result c.behind-next.result c.in-Some.op.now c.take_op.new.parts c.set_seat.new.seats.items c.next_turn-number.result c.take_op.result.0 c.take_op.result.1
     c.reached_states_stand.ensures rest c.process-proc.ensures here op c.next_turn-number.ensures
-    (waiting_is m a c.process.result c.seat-seat.result c.in-Some.op None c.reached_states_stand.ensures rest c.process.ensures here op known)
-    (c.behind-next.ensures ∙ ap (λ b. seat_behind c.seat-seat.result c.in-Some.op b c.take_op.result.1) c.is_last.ensures)
+    (waiting_is m a c.process.result c.seat-seat.result c.in-Some.op.now None c.reached_states_stand.ensures rest c.process.ensures here op known)
+    (c.behind-next.ensures ∙ ap (λ b. seat_behind c.seat-seat.result c.in-Some.op.now b c.take_op.result.1) c.is_last.ensures)
     c.set_seat.ensures.here c.set_seat.ensures.others c.take_op.ensures.turn)
 
 pub invariant_of-self-2 : goal.invariant_of-self-2

@@ -12,6 +12,6 @@ returns c =
     let m = machine_of i.script i.parts i.seats.items i.turns in
     let rest = subst (λ (x : MachineValue). IsAtRest x) (sym c.self.view_is) c.rests.ensures in
     let here = subst (λ (x : MachineValue). slice_get x.seats a ≡ Some c.seat-seat.result) (sym c.self.view_is) c.seat-seat.ensures in
-    let op = sym (sym c.in-Some.is ∙ c.op_at.ensures ∙ ap (λ ops. slice_get ops c.seat-seat.result.answered) c.ops.ensures) in
+    let op = sym (ap (λ ops. slice_get ops c.seat-seat.result.answered) c.ops.ensures) ∙ c.in-Some.ensures in
     subst (λ (x : MachineValue). (r : RunState) → Shows x r → c.waits_for.result ≡ waiting_in x.script r a) c.self.view_is
-    (waiting_is m a c.process-proc.result c.seat-seat.result c.in-Some.op c.waits_for.result c.reached_states_stand.ensures rest c.process-proc.ensures here op c.waits_for.ensures)
+    (waiting_is m a c.process-proc.result c.seat-seat.result c.in-Some.op.now c.waits_for.result c.reached_states_stand.ensures rest c.process-proc.ensures here op c.waits_for.ensures)

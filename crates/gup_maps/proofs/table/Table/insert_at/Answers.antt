@@ -8,7 +8,7 @@ invariant_of-self g c =
     let gap = rw (← c.self.view_is) at c.requires.gap in
     let few = rw (← c.self.view_is) at c.requires.room in
     rw c.insert_run.ensures.rows
-    (kept-insert rows c.self.invariant.ordered c.args.page c.args.n c.args.place c.args.value gap few)
+    (kept-insert rows c.self.invariant.ordered c.args.page c.args.n c.args.place c.args.value gap c.self.invariant.numbered c.requires.below few)
 
 pub returns-clause-at : goal.returns-clause-at
 returns-clause-at g c =

@@ -13,7 +13,7 @@ invariant_of-self-else-has_row g c =
     let room : length rows < 1024 = few none in
     let gap = gap_one rows c.self.invariant.ordered c.args.page c.place_of-place.result place none in
     rw c.insert_run.ensures.rows
-    (kept-insert rows c.self.invariant.ordered c.args.page 1 c.place_of-place.result c.args.value gap (omega arith))
+    (kept-insert rows c.self.invariant.ordered c.args.page 1 c.place_of-place.result c.args.value gap c.self.invariant.numbered (omega arith) (omega arith))
 
 pub returns-then-has_row-clause-at : goal.returns-then-has_row-clause-at
 returns-then-has_row-clause-at g c =

@@ -1,4 +1,4 @@
--- Where a fork stands between two turns.
+-- Where an actor's job stands between two turns.
 use Rattle.std.specs.Prelude.{◌≡◌, ℕ, ◌+◌, ◌≤◌, ◌<◌, List, Contains, Option, Some, None, IsSome}
 use Rattle.gup_base.specs.declared.entry.Entry.{Entry}
 use Rattle.gup_plain.specs.Event.{words}
@@ -8,29 +8,29 @@ use Rattle.gup_script.specs.declared.op.Op.TheVariants.{Fork}
 use Rattle.gup_spec_events.specs.State.{CoreState, Job, idle, forking, between, counted, copying}
 use Rattle.gup_spec_turns.specs.ForkTurns.{first_behind}
 
--- Where a fork stands between two turns: it has not begun; it looks for its next page from this one on; it has counted this
--- page, and is to share it, or to copy it and wants a frame for that; or it has copied so many words of this page into that
--- frame.
-pub data ForkPlace : Type 0 where
-  unbegun : ForkPlace
-  from_page : (page : ℕ) → ForkPlace
-  at_page : (page : ℕ) → ForkPlace
-  wants_frame : (page : ℕ) → ForkPlace
-  at_word : (page word to : ℕ) → ForkPlace
+-- Where an actor's operation stands between two turns. It has not begun, or keeps nothing. A fork looks for its next page
+-- from this one on; or it has counted this page, and is to share it, or to copy it and wants a frame for that; or it has
+-- copied so many words of this page into that frame.
+pub data JobPlace : Type 0 where
+  unbegun : JobPlace
+  from_page : (page : ℕ) → JobPlace
+  at_page : (page : ℕ) → JobPlace
+  wants_frame : (page : ℕ) → JobPlace
+  at_word : (page word to : ℕ) → JobPlace
 
-abbrev pub copying_place : (page word : ℕ) → (prepared : Option ℕ) → ForkPlace
+abbrev pub copying_place : (page word : ℕ) → (prepared : Option ℕ) → JobPlace
 copying_place page word None = wants_frame page
 copying_place page word (Some to) = at_word page word to
 
-abbrev pub fork_place : Job → (prepared : Option ℕ) → ForkPlace
-fork_place (forking p c done between) prepared = from_page (first_behind done)
-fork_place (forking p c done (counted page)) prepared = at_page page
-fork_place (forking p c done (copying page word)) prepared = copying_place page word prepared
-fork_place job prepared = unbegun
+abbrev pub job_place : Job → (prepared : Option ℕ) → JobPlace
+job_place (forking p c done between) prepared = from_page (first_behind done)
+job_place (forking p c done (counted page)) prepared = at_page page
+job_place (forking p c done (copying page word)) prepared = copying_place page word prepared
+job_place job prepared = unbegun
 
--- where the fork of this actor stands, if it does one
-abbrev pub place_in : CoreState → ℕ → ForkPlace
-place_in s a = fork_place (s.job a) (s.prepared a)
+-- where the operation of this actor stands
+abbrev pub place_in : CoreState → ℕ → JobPlace
+place_in s a = job_place (s.job a) (s.prepared a)
 
 -- Actor a is in the middle of a fork of process p into this child: it holds the structure lock; the child's pages below
 -- the place where it looks for the next one are done, and those from there on have no entry.
