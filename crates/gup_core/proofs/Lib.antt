@@ -12,3 +12,4 @@ pub mod Taking
 pub mod Ready
 pub mod Starting
 pub mod FreeFrames
+pub mod Advancing

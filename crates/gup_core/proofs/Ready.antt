@@ -1,5 +1,5 @@
 -- What is true before a turn of an operation.
-use Rattle.std.proofs.Common.{◌≡◌, ℕ, ◌+◌, ◌*◌, ◌^◌, ◌<◌, ◌≤◌, true, length, slice_get, Option, Some, None, IsSome, IfSome, refl, sym, ap, ◌∙◌, subst, arith}
+use Rattle.std.proofs.Common.{◌≡◌, ℕ, ◌+◌, ◌*◌, ◌^◌, ◌<◌, ◌≤◌, true, length, slice_get, Option, Some, None, IsSome, IfSome, sym, ap, ◌∙◌, subst, arith}
 use Rattle.std.proofs.lemmas.Option.{slice_get_within}
 use Rattle.gup_plain.specs.Event.{page_numbers}
 use Rattle.gup_plain.specs.State.{born}
@@ -15,7 +15,7 @@ use Rattle.gup_handles.specs.Handles.{handles_of}
 use Rattle.gup_spec_events.specs.Event.{bias}
 use Rattle.gup_spec_events.specs.State.{CoreState, Job, idle, forking, between, counted as counted_page, copying}
 use Rattle.gup_spec_turns.specs.Waits.{waits_for_locks, locks_needed, waits_born, waiting_for, both_if}
-use Rattle.gup_spec_turns.specs.Run.{RunState, op_in}
+use Rattle.gup_spec_turns.specs.Run.{RunState, op_in, waiting_in, waiting_with}
 use Rattle.gup_law_turns.specs.Standing.{IsStanding}
 use Rattle.gup_spec_turns.specs.JobPlace.{IsNoFork, StandsFork}
 use Rattle.gup_law_turns.proofs.ScriptLemmas.{op_is_op, child_declared, thread_birth, has_ops_declared}
@@ -34,7 +34,6 @@ use Rattle.gup_core.proofs.Resting.{Stand, standing, op_there, stands_at}
 use Rattle.gup_core.proofs.Scripts.{thread_there, process_there, own_process, found_there, has_process, few_answered}
 use Rattle.gup_core.proofs.Singles.{table_process}
 use Rattle.gup_core.proofs.Refusing.{birth_unfailed}
-use Rattle.gup_core.proofs.Taking.{IsWaiting}
 use Rattle.gup_core.proofs.Turning.{there}
 use Rattle.gup_op_waits.proofs.Waits.{single_needs, born_and_free, locks_free, given_free, keeps_given, table_free}
 
@@ -64,9 +63,9 @@ fork_ready m r a p child seat stands h rest own here present is_born =
       stands = λ parent kid parent_is kid_is. rest.forks a child seat parent kid here present (ap (λ k. slice_get m.parts.spaces.items k) own ∙ parent_is) kid_is;
     }
 
-pub is_ready : (m : MachineValue) (a : ℕ) (asked proc : Option ℕ) (seat : Seat) (op : Op) → Stand → IsMachine m → IsAtRest m → IsProcessOf (doer m.script a) asked → IsProcessOf (doer m.script a) proc → slice_get m.seats a ≡ Some seat → op_of_seat m a seat ≡ Some op → IsWaiting m a asked seat op None
+pub is_ready : (m : MachineValue) (a : ℕ) (proc : Option ℕ) (seat : Seat) (op : Op) → Stand → IsMachine m → IsAtRest m → IsProcessOf (doer m.script a) proc → slice_get m.seats a ≡ Some seat → op_of_seat m a seat ≡ Some op → ((r : RunState) → Shows m r → None ≡ waiting_in m.script r a)
     → (HasFailed m.parts.births.items proc → ⊥) → (p : ℕ) → IfSome proc (λ q. q ≡ p) → IsReady m.parts a p op seat.far seat.job
-is_ready m a asked proc seat op stand machine rest of_asked of_a here present waiting unfailed p of_p =
+is_ready m a proc seat op stand machine rest of_a here present ready unfailed p of_p =
     let who : Doer = doer m.script a in
     let own : ℕ = process_of m.script a in
     let r : RunState = machine.shown.0 in
@@ -74,7 +73,7 @@ is_ready m a asked proc seat op stand machine rest of_asked of_a here present wa
     let stands : IsStanding m.script r = standing m r stand rest.valid h in
     let now : op_in m.script r a ≡ Some op = op_there m r a seat (Some op) h here present in
     let at : StandsAt r.core a own (r.places a).far op = stands_at m.script r a op stands now in
-    let free : waiting_for r.core who op ≡ None = sym (waiting r.core who (r.places a).far h.parts refl of_asked (h.jobs a seat here) at) in
+    let free : waiting_for r.core who op ≡ None = ap (λ o. waiting_with r.core who o) (sym now) ∙ sym (ready r h) in
     let locks : Option Waiting = waits_for_locks (locks_needed r.core a own op) a (r.core.structure own) (r.core.table own) in
     let born_free : (birth_for r.core.birth who ≡ born) × (waits_born r.core a own op ≡ None) =
     born_and_free (birth_for r.core.birth who) own (waits_born r.core a own op) (birth_unfailed m.parts.births.items proc who r.core unfailed (found_there m.script rest.valid a (length m.parts.births.items) proc rest.parts.births of_a) of_a h.parts.births) free in

@@ -110,7 +110,7 @@ still_machine m n a notes was parts seats turns =
 -- ---- idle, or waiting
 
 -- a turn without an event leaves all but its number
-stays : (m : MachineValue) (r : RunState) (a : ℕ) (seat : Seat) (turns : ℕ) (what : What) → Shows m r → slice_get m.seats a ≡ Some seat → turns ≡ counted m.turns
+pub stays : (m : MachineValue) (r : RunState) (a : ℕ) (seat : Seat) (turns : ℕ) (what : What) → Shows m r → slice_get m.seats a ≡ Some seat → turns ≡ counted m.turns
     → core_turn_in m.script r a ≡ record { events = []; whats = what ∷ [] } → place_behind (r.places a) (what ∷ []) ≡ r.places a
     → Shows (machine_of m.script m.parts m.seats turns) (run_after m.script r a)
 stays m r a seat turns what h here count is same =
@@ -119,7 +119,7 @@ stays m r a seat turns what h here count is same =
     (subst (λ (x : Place). IsSeat (present_op m.script a x) x seat) (sym same) (h.seats a seat here)))
     h.jobs
 
-says_so : (m : MachineValue) (r : RunState) (a : ℕ) (seat : Seat) (turns : ℕ) (t : CoreTurn) (whats : List What) → Shows m r → slice_get m.seats a ≡ Some seat → turns ≡ counted m.turns → core_turn_in m.script r a ≡ t → t.whats ≡ whats
+pub says_so : (m : MachineValue) (r : RunState) (a : ℕ) (seat : Seat) (turns : ℕ) (t : CoreTurn) (whats : List What) → Shows m r → slice_get m.seats a ≡ Some seat → turns ≡ counted m.turns → core_turn_in m.script r a ≡ t → t.whats ≡ whats
     → notes_of_turn turns a (seat.answered + 1) whats ≡ notes_of_turn (counted m.turns) a ((r.places a).answered + 1) (core_turn_in m.script r a).whats
 says_so m r a seat turns t whats h here count is says =
     ap (λ k. notes_of_turn k a (seat.answered + 1) whats) count

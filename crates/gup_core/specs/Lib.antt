@@ -2,3 +2,4 @@ pub mod Seats
 pub mod Machine
 pub mod Goes
 pub mod Rest
+pub mod Going

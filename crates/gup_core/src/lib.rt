@@ -3,10 +3,12 @@
 #![tactic(auto)]
 
 mod machine;
+mod outcome;
 mod seats;
 mod takes;
 mod turn;
 mod turns;
 
 pub use machine::Machine;
+pub use outcome::Advanced;
 pub use turn::Turn;

@@ -1,19 +1,21 @@
 //! The machine for many processes and actors.
-ghost use Rattle.std.specs.Prelude.{◌≡◌, ℕ, ◌<◌, length, slice_get, Some, IfOk};
+ghost use Rattle.std.specs.Prelude.{◌≡◌, ℕ, ◌+◌, ◌<◌, [], ◌∷◌, length, slice_get, Some, IfOk, OnOk, OnErr};
 ghost use Rattle.gup_spec_journal.specs.Place.{has_finished};
 ghost use Rattle.gup_spec_turns.specs.Run.{RunState, waiting_in};
-ghost use Rattle.gup_core.specs.Machine.{Shows, TakesTurns, IsNew, free_frames_in};
+ghost use Rattle.gup_core.specs.Machine.{Shows, TakesTurns, IsNew, counted, free_frames_in};
+ghost use Rattle.gup_core.specs.Going.{Advances, WritesTurn, SaysTurn, Goes, IsStill};
 ghost use Rattle.gup_core.specs.Rest.{IsAtRest};
 
+use crate::outcome::{Advanced, Gone};
 use crate::seats::{self, Seat, seat_of, set_seat};
 use crate::takes::take_op;
-use crate::turn::{Head, Turn};
+use crate::turn::{Head, Turn, put_notes};
 use crate::turns::{next_turn, notes, op_at, ops, process};
 use gup_base::{ActorNo, NoMemory, Zone};
 use gup_op_base::is_last;
 use gup_op_waits::parts::{self, Parts};
 use gup_op_waits::waits_for;
-use gup_plain::{Waiting, What};
+use gup_plain::{Journal, Waiting, What};
 use gup_script::Script;
 use std::alloc::Global;
 use std::marker::Model;
@@ -73,33 +75,48 @@ impl Machine {
         ensures turn { TakesTurns self.old self.new actor result }
         ensures script { self.new.script ≡ self.old.script }
     {
-        self.rests();
-        gup_law_turns::reached_states_stand();
-        let seat = self.seat(actor);
-        let number = next_turn(self.turns);
-        self.turns = number;
-        let head = Head {
-            turn: number,
-            actor,
-            op: seat.answered + 1,
-        };
-        let Some(op) = op_at(ops(&self.script, actor), seat.answered) else {
-            return Turn::one(&head, What::Idle);
-        };
-        if let Some(waiting) = waits_for(
-            &self.parts,
-            actor,
-            process(&self.script, actor),
-            seat.job,
-            op,
-        ) {
-            return Turn::one(&head, What::Wait(waiting));
+        let head = self.head(actor);
+        match self.go(actor) {
+            Gone::Took(said) => notes(&head, &said),
+            Gone::Waits(waiting) => self.still_turn(actor, What::Wait(waiting)),
+            Gone::Finished => self.still_turn(actor, What::Idle),
         }
-        let proc = process(&self.script, actor);
-        let (said, job) = take_op(&mut self.parts, actor, proc, seat.far, seat.job, op);
-        let next = seats::behind(&seat, op, is_last(&said), job);
-        set_seat(&mut self.seats, actor, &next);
-        notes(&head, &said)
+    }
+
+    /// Takes the actor's turn if it can go, and puts its one to three notes on at the journal's end. Where the actor waits
+    /// or has finished, this says so, and nothing changes. Room for three notes is made first: if there is no memory for
+    /// it, the machine and the notes stay as they were.
+    pub fn advance(&mut self, actor: ActorNo, journal: &mut Journal) -> Result<Advanced, NoMemory>
+        requires { actor < length self.old.script.actors }
+        ensures advances { IfOk result (Advances self.old self.new journal.old journal.new actor) }
+        ensures script { self.new.script ≡ self.old.script }
+        ensures err { OnErr result ((self.new ≡ self.old) × (journal.new.notes ≡ journal.old.notes) × (journal.old.room < 3)) }
+    {
+        journal.reserve(3)?;
+        let head = self.head(actor);
+        match self.go(actor) {
+            Gone::Took(said) => {
+                put_notes(journal, &head, &said);
+                Ok(Advanced::Moved)
+            }
+            Gone::Waits(waiting) => Ok(Advanced::Waits(waiting)),
+            Gone::Finished => Ok(Advanced::Finished),
+        }
+    }
+
+    /// Takes the actor's turn also where it waits or has finished, as `turn` does, and puts its notes on at the journal's
+    /// end. If there is no memory for them, the machine and the notes stay as they were.
+    pub fn write_turn(&mut self, actor: ActorNo, journal: &mut Journal) -> Result<(), NoMemory>
+        requires { actor < length self.old.script.actors }
+        ensures turn { OnOk result (WritesTurn self.old self.new journal.old journal.new actor) }
+        ensures script { self.new.script ≡ self.old.script }
+        ensures err { OnErr result ((self.new ≡ self.old) × (journal.new.notes ≡ journal.old.notes) × (journal.old.room < 3)) }
+    {
+        match self.advance(actor, journal)? {
+            Advanced::Moved => Ok(()),
+            Advanced::Waits(waiting) => self.write_still(actor, What::Wait(waiting), journal),
+            Advanced::Finished => self.write_still(actor, What::Idle, journal),
+        }
     }
 
     /// What the actor waits for before its next turn, if it waits: that its process is born, or else that the pin is given
@@ -132,6 +149,95 @@ impl Machine {
         ensures { (r : RunState) → Shows self.now r → result ≡ free_frames_in r.core zone }
     {
         self.parts.frames.free(zone)
+    }
+
+    // Takes the actor's turn if it can go. Where it waits or has finished, nothing changes.
+    fn go(&mut self, actor: ActorNo) -> Gone
+        requires { actor < length self.old.script.actors }
+        ensures goes { Goes self.old self.new actor result }
+        ensures script { self.new.script ≡ self.old.script }
+    {
+        self.rests();
+        gup_law_turns::reached_states_stand();
+        let seat = self.seat(actor);
+        let Some(op) = op_at(ops(&self.script, actor), seat.answered) else {
+            return Gone::Finished;
+        };
+        if let Some(waiting) = waits_for(
+            &self.parts,
+            actor,
+            process(&self.script, actor),
+            seat.job,
+            op,
+        ) {
+            return Gone::Waits(waiting);
+        }
+        let proc = process(&self.script, actor);
+        let (said, job) = take_op(&mut self.parts, actor, proc, seat.far, seat.job, op);
+        let next = seats::behind(&seat, op, is_last(&said), job);
+        set_seat(&mut self.seats, actor, &next);
+        let number = next_turn(self.turns);
+        self.turns = number;
+        Gone::Took(said)
+    }
+
+    // A turn that changes nothing.
+    fn still_turn(&mut self, actor: ActorNo, what: What) -> Turn
+        requires actor { actor < length self.old.script.actors }
+        requires still { IsStill self.old actor what }
+        ensures turn { TakesTurns self.old self.new actor result }
+        ensures script { self.new.script ≡ self.old.script }
+    {
+        let head = self.head(actor);
+        self.pass(actor, &what);
+        Turn::one(&head, what)
+    }
+
+    // Writes the note of a turn that changes nothing.
+    fn write_still(
+        &mut self,
+        actor: ActorNo,
+        what: What,
+        journal: &mut Journal,
+    ) -> Result<(), NoMemory>
+        requires actor { actor < length self.old.script.actors }
+        requires still { IsStill self.old actor what }
+        ensures turn { OnOk result (WritesTurn self.old self.new journal.old journal.new actor) }
+        ensures script { self.new.script ≡ self.old.script }
+        ensures err { OnErr result ((self.new ≡ self.old) × (journal.new.notes ≡ journal.old.notes) × (journal.old.room ≡ 0)) }
+    {
+        let head = self.head(actor);
+        journal.push(head.note(what))?;
+        self.pass(actor, &what);
+        Ok(())
+    }
+
+    // A turn that changes nothing is over.
+    fn pass(&mut self, actor: ActorNo, what: &What)
+        requires actor { actor < length self.old.script.actors }
+        requires still { IsStill self.old actor what.now }
+        ensures says { SaysTurn self.old self.new actor (what.now ∷ []) }
+        ensures script { self.new.script ≡ self.old.script }
+    {
+        let _seat = self.seat(actor);
+        let _what = *what;
+        self.turns = next_turn(self.turns);
+    }
+
+    // What the notes of the actor's next turn have in common.
+    fn head(&self, actor: ActorNo) -> Head
+        requires { actor < length self.now.script.actors }
+        ensures turn { result.turn ≡ counted self.now.turns }
+        ensures actor { result.actor ≡ actor }
+        ensures op { (r : RunState) → Shows self.now r → result.op ≡ (r.places actor).answered + 1 }
+    {
+        self.rests();
+        let seat = self.seat(actor);
+        Head {
+            turn: next_turn(self.turns),
+            actor,
+            op: seat.answered + 1,
+        }
     }
 
     // Where the actor stands.

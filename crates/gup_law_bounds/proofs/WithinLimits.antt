@@ -7,7 +7,7 @@ use Rattle.gup_base.specs.declared.entry.Entry.{Entry}
 use Rattle.gup_base.specs.declared.entry.Rights.{Rights}
 use Rattle.gup_plain.specs.Put.{put, put2}
 use Rattle.gup_spec_events.specs.State.{CoreState, Taken, idle, Counted, ForkStep, WalkStep}
-use Rattle.gup_spec_events.specs.Event.{take_frame, fill, count_one, set_mark, upgrade, break_entry, put_entry, raise_flag, pin_page, make_handle, unpin_page, give_handle, take_handle, get_reference, put_reference, clear_entry, count_moved, place_frame, restore_entry, begin_fork, count_page, share_entry, share_mark, share_child, copy_word, place_child, pass_page, end_fork, fail_fork, put_child, fail_unborn, map_pages, lower_entry, protect_pages, drop_entry, discard_entry, load, store, move_out, move_in, empty_mirror, fill_mirror, look, enter_walk, read_sequence, read_entry, grab_frame, miss_frame, recheck_same, recheck_other, read_mark, read_again, drop_grab, drop_last, drop_first, leave_walk}
+use Rattle.gup_spec_events.specs.Event.{take_frame, fill, count_one, set_mark, upgrade, break_entry, put_entry, raise_flag, pin_page, make_handle, unpin_page, give_handle, take_handle, get_reference, put_reference, clear_entry, count_moved, place_frame, restore_entry, begin_fork, count_page, share_entry, share_mark, share_child, copy_word, pass_page, end_fork, fail_fork, put_child, fail_unborn, map_pages, lower_entry, protect_pages, drop_entry, discard_entry, load, store, move_out, move_in, empty_mirror, fill_mirror, look, enter_walk, read_sequence, read_entry, grab_frame, miss_frame, recheck_same, recheck_other, read_mark, read_again, drop_grab, drop_last, drop_first, leave_walk}
 use Rattle.gup_law_bounds.specs.Limits.{IsWithin}
 
 far : {X : Type 0} (n a b : ℕ) (x : X) (f : ℕ → X) → a < n → n ≤ b → put a x f b ≡ f b
@@ -119,10 +119,6 @@ within-share_child a p c done page f writable low-a low-c =
 pub within-copy_word : (a p c : ℕ) (done : List ℕ) (page word to : ℕ) (entry : Entry) → a < 81 → IsWithin (copy_word a p c done page word to entry)
 within-copy_word a p c done page word to entry low-a =
     record { actor = λ s b away. (far 81 a b _ s.job low-a away, refl, refl, refl); process = λ s q away. (refl, λ g. refl); name = λ s i away. (refl, refl) }
-
-pub within-place_child : (a p c : ℕ) (done : List ℕ) (page to : ℕ) (rights : Rights) → a < 81 → c < 16 → IsWithin (place_child a p c done page to rights)
-within-place_child a p c done page to rights low-a low-c =
-    record { actor = λ s b away. (far 81 a b _ s.job low-a away, far 81 a b _ s.prepared low-a away, refl, refl); process = λ s q away. (refl, λ g. far2 16 c q page g _ s.entry low-c away); name = λ s i away. (refl, refl) }
 
 pub within-pass_page : (a p c : ℕ) (done : List ℕ) (page : ℕ) → a < 81 → IsWithin (pass_page a p c done page)
 within-pass_page a p c done page low-a =

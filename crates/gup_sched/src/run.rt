@@ -1,14 +1,13 @@
 //! The run of a machine.
-ghost use Rattle.std.specs.Prelude.{◌≡◌, ℕ, ◌+◌, ◌*◌, ◌<◌, ◌≤◌, ◌++◌, List, length, IfOk, OnOk, OnErr};
-ghost use Rattle.gup_plain.specs.Note.{NoteValue};
+ghost use Rattle.std.specs.Prelude.{◌≡◌, ◌+◌, ◌*◌, ◌≤◌, length, IfOk};
 ghost use Rattle.gup_spec_turns.specs.Cost.{operations, forks};
 ghost use Rattle.gup_spec_turns.specs.Run.{RunState, IsCoreRun};
-ghost use Rattle.gup_core.specs.Machine.{Shows, TakesTurn, IsNew};
+ghost use Rattle.gup_core.specs.Machine.{Shows, IsNew};
 ghost use Rattle.gup_sched.specs.Ran.{SaysStuck};
 
 use crate::order::{actor_no, behind, is_stuck, next_to_go};
 use gup_base::{ActorNo, NoMemory};
-use gup_core::{Machine, Turn};
+use gup_core::Machine;
 use gup_law_costs::{costs_are_few, turns_are_spent};
 use gup_law_turns::reached_states_stand;
 use gup_plain::Journal;
@@ -42,11 +41,10 @@ pub fn run_all(alloc: Global, machine: Machine, script: &Script) -> Result<Run, 
     let mut journal = Journal::new(alloc);
     let actors = script.actors();
     for actor in script.turns() {
-        take_turn(&mut machine, &mut journal, *actor)?;
+        machine.write_turn(*actor, &mut journal)?;
     }
     let mut pointer = actor_no(0);
-    while let Some(actor) = next_to_go(&machine, actors, pointer) {
-        take_turn(&mut machine, &mut journal, actor)?;
+    while let Some(actor) = next_to_go(&mut machine, &mut journal, actors, pointer)? {
         pointer = behind(actors, actor);
     }
     Ok(Run {
@@ -54,27 +52,4 @@ pub fn run_all(alloc: Global, machine: Machine, script: &Script) -> Result<Run, 
         stuck: is_stuck(&machine, actors),
         machine,
     })
-}
-
-// Takes the actor's turn, and puts its notes on at the end. Memory is wanted only where there is no room for three.
-fn take_turn(machine: &mut Machine, journal: &mut Journal, actor: ActorNo) -> Result<(), NoMemory>
-    requires { actor < length machine.old.script.actors }
-    ensures turn { OnOk result ((r : RunState) → Shows machine.old r → (told : List NoteValue)
-        × (journal.new.notes ≡ journal.old.notes ++ told) × TakesTurn machine.old machine.new actor r told) }
-    ensures script { OnOk result (machine.new.script ≡ machine.old.script) }
-    ensures err { OnErr result (journal.old.room < 3) }
-{
-    let turn = machine.turn(actor);
-    push_turn(journal, &turn)
-}
-
-// Puts the notes of a turn on at the end. Memory is wanted only where there is no room for three.
-fn push_turn(journal: &mut Journal, turn: &Turn) -> Result<(), NoMemory>
-    ensures ok { OnOk result (journal.new.notes ≡ journal.old.notes ++ turn.now) }
-    ensures err { OnErr result (journal.old.room < 3) }
-{
-    for note in turn.notes() {
-        journal.push(*note)?;
-    }
-    Ok(())
 }

@@ -1,10 +1,12 @@
 use Rattle.std.proofs.Common.{◌≡◌, ℕ, ◌+◌, ◌-◌, ◌<◌, ◌≤◌, Bool, List, Option, Some, None, slice_get, length, refl, sym, ap, subst, ◌∙◌, arith}
 use Rattle.std.proofs.lemmas.Option.{slice_get_read}
-use Rattle.gup_plain.specs.Note.{NoteValue}
+use Rattle.gup_plain.specs.Note.{NoteValue, JournalValue}
 use Rattle.gup_script.specs.Script.{ScriptValue}
 use Rattle.gup_spec_journal.specs.Order.{behind}
-use Rattle.gup_spec_turns.specs.Run.{RunState, run_start, run_after, pointed}
-use Rattle.gup_sched.specs.Ran.{SaysStuck}
+use Rattle.gup_spec_turns.specs.Run.{RunState, run_start, run_after, pointed, IsCoreRun}
+use Rattle.gup_core.specs.Machine.{MachineValue, Shows}
+use Rattle.gup_core.specs.Going.{WritesTurn, Stays}
+use Rattle.gup_sched.specs.Ran.{SaysStuck, FoundTakes}
 use Rattle.gup_sched.proofs.Underway.{has_costs, IsWritten, written_first, written_turn, IsPointed, pointed_first, pointed_turn, pointed_end, few_turns, most}
 use Rattle.gup_sched.proofs.run.run_all.Goals as goal
 
@@ -31,9 +33,9 @@ loop-actor-preserved c =
     let k = c.loop-actor.actor-index in
     let a = c.actor-item.result in
     let there = is_written items script.turns k a c.turns-actor-items.ensures c.loop-actor-test.true (slice_get_read items (length items) k a refl c.loop-actor-test.true c.actor-item.is) in
-    let taken = c.in_ok-take_turn.ensures.turn r w.underway.shown in
-    let after = written_turn script valid costs c.loop-actor.machine c.take_turn.new.machine c.loop-actor.journal.notes taken.0 k r a there.0 there.1 c.in_ok-take_turn.ensures.script taken.2 w in
-    (run_after script r a, subst (λ (ns : List NoteValue). IsWritten script c.take_turn.new.machine ns (k + 1) (run_after script r a)) (sym taken.1) after)
+    let taken = c.in_ok-write_turn.ensures.turn r w.underway.shown in
+    let after = written_turn script valid costs c.loop-actor.machine c.write_turn.new.self c.loop-actor.journal.notes taken.0 k r a there.0 there.1 c.in_ok-write_turn.ensures.script taken.2 w in
+    (run_after script r a, subst (λ (ns : List NoteValue). IsWritten script c.write_turn.new.self ns (k + 1) (run_after script r a)) (sym taken.1) after)
 
 -- after them
 
@@ -41,8 +43,8 @@ loop-actor-preserved c =
 all_over : (items turns : List ℕ) (k : ℕ) → items ≡ turns → length items ≤ k → k ≤ length items → k ≡ length turns
 all_over items turns k same least most = let lengths = ap (λ (xs : List ℕ). length xs) same in omega (arith, lengths, least, most)
 
-pub loop-actor-2-init : goal.loop-actor-2-init
-loop-actor-2-init c =
+pub loop-journal-init : goal.loop-journal-init
+loop-journal-init c =
     let script = c.args.script.now in
     let m = c.loop-actor.machine in
     let notes = c.loop-actor.journal.notes in
@@ -60,51 +62,65 @@ is_pointed script other r actors from found o same all is was =
 fewer : (most before after : ℕ) → before < after → after ≤ most → most - after < most - before
 fewer most before after less within = omega arith
 
-pub loop-actor-2-preserved : goal.loop-actor-2-preserved
-loop-actor-2-preserved c =
+pub loop-journal-preserved : goal.loop-journal-preserved
+loop-journal-preserved c =
     let script = c.args.script.now in
     let valid = c.actors-actors.ensures.valid in
     let costs = has_costs script valid c.turns_are_spent.ensures.spent c.turns_are_spent.ensures.kept c.turns_are_spent.ensures.start c.costs_are_few.ensures c.reached_states_stand.ensures in
-    let r : RunState = c.loop-actor-2.invariant.1.0 in
-    let h = c.loop-actor-2.invariant.1.1 in
+    let r : RunState = c.loop-journal.invariant.1.0 in
+    let h = c.loop-journal.invariant.1.1 in
     let a = c.in-Some.actor in
-    let n = c.take_turn-in-Some.new.machine in
-    let found = is_pointed script c.loop-actor-2.machine.script r c.actors-actors.result c.loop-actor-2.pointer c.next_to_go.result (Some a) h.underway.same c.actors-actors.ensures.count (c.next_to_go.ensures.next r h.underway.shown) c.in-Some.is in
-    let taken = c.in_ok-take_turn-2.ensures.turn r h.underway.shown in
-    let after = pointed_turn script costs c.loop-actor-2.machine n c.loop-actor-2.journal.notes taken.0 c.loop-actor-2.pointer r a found c.in_ok-take_turn-2.ensures.script taken.2 h in
+    let n = c.next_to_go.new.machine in
+    let found = is_pointed script c.loop-journal.machine.script r c.actors-actors.result c.loop-journal.pointer c.in_ok-actor.field-0 (Some a) h.underway.same c.actors-actors.ensures.count (c.in_ok-actor.ensures.next r h.underway.shown) c.in-Some.is in
+    let writes : WritesTurn c.loop-journal.machine n c.loop-journal.journal c.next_to_go.new.journal a =
+    subst (λ (o : Option ℕ). FoundTakes c.loop-journal.machine n c.loop-journal.journal c.next_to_go.new.journal o) c.in-Some.is c.in_ok-actor.ensures.turn in
+    let taken = writes r h.underway.shown in
+    let after = pointed_turn script costs c.loop-journal.machine n c.loop-journal.journal.notes taken.0 c.loop-journal.pointer r a found c.in_ok-actor.ensures.script taken.2 h in
     let notes = subst (λ (ns : List NoteValue). IsPointed script n ns (behind (length script.actors) a) (run_after script r a)) (sym taken.1) after.0 in
     let next : behind (length script.actors) a ≡ c.behind-pointer.result = ap (λ (k : ℕ). behind k a) (sym c.actors-actors.ensures.count) ∙ sym c.behind-pointer.ensures.next in
-    ((λ some. c.behind-pointer.ensures.below), (run_after script r a, subst (λ (k : ℕ). IsPointed script n c.take_turn-in-Some.new.journal.notes k (run_after script r a)) next notes))
+    ((λ some. c.behind-pointer.ensures.below), (run_after script r a, subst (λ (k : ℕ). IsPointed script n c.next_to_go.new.journal.notes k (run_after script r a)) next notes))
 
-pub loop-actor-2-smaller : goal.loop-actor-2-smaller
-loop-actor-2-smaller c =
+pub loop-journal-smaller : goal.loop-journal-smaller
+loop-journal-smaller c =
     let script = c.args.script.now in
     let valid = c.actors-actors.ensures.valid in
     let costs = has_costs script valid c.turns_are_spent.ensures.spent c.turns_are_spent.ensures.kept c.turns_are_spent.ensures.start c.costs_are_few.ensures c.reached_states_stand.ensures in
-    let r : RunState = c.loop-actor-2.invariant.1.0 in
-    let h = c.loop-actor-2.invariant.1.1 in
+    let r : RunState = c.loop-journal.invariant.1.0 in
+    let h = c.loop-journal.invariant.1.1 in
     let a = c.in-Some.actor in
-    let n = c.take_turn-in-Some.new.machine in
-    let found = is_pointed script c.loop-actor-2.machine.script r c.actors-actors.result c.loop-actor-2.pointer c.next_to_go.result (Some a) h.underway.same c.actors-actors.ensures.count (c.next_to_go.ensures.next r h.underway.shown) c.in-Some.is in
-    let taken = c.in_ok-take_turn-2.ensures.turn r h.underway.shown in
-    let after = pointed_turn script costs c.loop-actor-2.machine n c.loop-actor-2.journal.notes taken.0 c.loop-actor-2.pointer r a found c.in_ok-take_turn-2.ensures.script taken.2 h in
-    fewer (most script) c.loop-actor-2.machine.turns n.turns after.1 after.2
+    let n = c.next_to_go.new.machine in
+    let found = is_pointed script c.loop-journal.machine.script r c.actors-actors.result c.loop-journal.pointer c.in_ok-actor.field-0 (Some a) h.underway.same c.actors-actors.ensures.count (c.in_ok-actor.ensures.next r h.underway.shown) c.in-Some.is in
+    let writes : WritesTurn c.loop-journal.machine n c.loop-journal.journal c.next_to_go.new.journal a =
+    subst (λ (o : Option ℕ). FoundTakes c.loop-journal.machine n c.loop-journal.journal c.next_to_go.new.journal o) c.in-Some.is c.in_ok-actor.ensures.turn in
+    let taken = writes r h.underway.shown in
+    let after = pointed_turn script costs c.loop-journal.machine n c.loop-journal.journal.notes taken.0 c.loop-journal.pointer r a found c.in_ok-actor.ensures.script taken.2 h in
+    fewer (most script) c.loop-journal.machine.turns n.turns after.1 after.2
 
 -- the end
 
 stuck_at : (stuck : Bool) (m script : ScriptValue) (r : RunState) → m ≡ script → SaysStuck stuck m r → SaysStuck stuck script r
 stuck_at stuck m script r same says = subst (λ (s : ScriptValue). SaysStuck stuck s r) same says
 
+-- nothing has changed since the last turn
+no_more : (m n : MachineValue) (j k : JournalValue) (found : Option ℕ) → found ≡ None → FoundTakes m n j k found → Stays m n j k
+no_more m n j k found none h = subst (λ (o : Option ℕ). FoundTakes m n j k o) none h
+
 pub returns-clause-script : goal.returns-clause-script
-returns-clause-script c = c.loop-actor-2.invariant.1.1.underway.same
+returns-clause-script c =
+    let stays = no_more c.loop-journal.machine c.next_to_go.new.machine c.loop-journal.journal c.next_to_go.new.journal c.in_ok-actor.field-0 c.in_default.is c.in_ok-actor.ensures.turn in
+    ap (λ (m : MachineValue). m.script) stays.machine ∙ c.loop-journal.invariant.1.1.underway.same
 
 pub returns-clause-core : goal.returns-clause-core
 returns-clause-core c =
     let script = c.args.script.now in
-    let m = c.loop-actor-2.machine in
-    let r : RunState = c.loop-actor-2.invariant.1.0 in
-    let h = c.loop-actor-2.invariant.1.1 in
+    let m = c.loop-journal.machine in
+    let n = c.next_to_go.new.machine in
+    let r : RunState = c.loop-journal.invariant.1.0 in
+    let h = c.loop-journal.invariant.1.1 in
     let costs = has_costs script c.actors-actors.ensures.valid c.turns_are_spent.ensures.spent c.turns_are_spent.ensures.kept c.turns_are_spent.ensures.start c.costs_are_few.ensures c.reached_states_stand.ensures in
-    let turns = few_turns script m c.loop-actor-2.journal.notes c.loop-actor-2.pointer r costs h in
-    let none = is_pointed script m.script r c.actors-actors.result c.loop-actor-2.pointer c.next_to_go.result None h.underway.same c.actors-actors.ensures.count (c.next_to_go.ensures.next r h.underway.shown) c.in_default.is in
-    (r, pointed_end script m c.loop-actor-2.journal.notes c.loop-actor-2.pointer r none h, h.underway.shown, stuck_at c.is_stuck.result m.script script r h.underway.same (c.is_stuck.ensures r h.underway.shown), turns)
+    let turns = few_turns script m c.loop-journal.journal.notes c.loop-journal.pointer r costs h in
+    let none = is_pointed script m.script r c.actors-actors.result c.loop-journal.pointer c.in_ok-actor.field-0 None h.underway.same c.actors-actors.ensures.count (c.in_ok-actor.ensures.next r h.underway.shown) c.in_default.is in
+    let stays = no_more m n c.loop-journal.journal c.next_to_go.new.journal c.in_ok-actor.field-0 c.in_default.is c.in_ok-actor.ensures.turn in
+    let shown : Shows n r = subst (λ (x : MachineValue). Shows x r) (sym stays.machine) h.underway.shown in
+    let same : n.script ≡ script = ap (λ (x : MachineValue). x.script) stays.machine ∙ h.underway.same in
+    (r, subst (λ (ns : List NoteValue). IsCoreRun script ns r) (sym stays.notes) (pointed_end script m c.loop-journal.journal.notes c.loop-journal.pointer r none h), shown, stuck_at c.is_stuck.result n.script script r same (c.is_stuck.ensures r shown), turns)

@@ -8,10 +8,10 @@ abbrev pub invariant-loop-actor : goal.invariant-loop-actor
 invariant-loop-actor l = (r : RunState) × IsWritten l.script l.machine l.journal.notes l.actor-index r
 
 -- the written turns are over, and the pointer is at an actor, if there is one
-abbrev pub invariant-loop-actor-2 : goal.invariant-loop-actor-2
-invariant-loop-actor-2 l =
+abbrev pub invariant-loop-journal : goal.invariant-loop-journal
+invariant-loop-journal l =
     (0 < l.actors → l.pointer < l.actors) × ((r : RunState) × IsPointed l.script l.machine l.journal.notes l.pointer r)
 
 -- the turns that are left at most
-abbrev pub decreases-loop-actor-2 : goal.decreases-loop-actor-2
-decreases-loop-actor-2 l = most l.script - l.machine.turns
+abbrev pub decreases-loop-journal : goal.decreases-loop-journal
+decreases-loop-journal l = most l.script - l.machine.turns
