@@ -52,7 +52,7 @@ impl Model for Machine {
 
 impl Machine {
     /// A machine at the start of the script: all frames are free, and nothing is mapped. It has the memory for all that
-    /// comes: no other call takes any.
+    /// comes: later calls take none but for the notes of a journal.
     pub fn new(alloc: Global, script: &Script) -> Result<Machine, NoMemory>
         ensures { IfOk result (IsNew script.now) }
     {
