@@ -40,6 +40,7 @@ impl Journal {
 
     /// Puts a note on at the end, and leaves at most one less room. Memory is wanted only where no room is left;
     /// where there is none to be had, the notes stay as they were.
+    #[inline(always)]
     pub fn push(&mut self, note: Note) -> Result<(), NoMemory>
         ensures ok { OnOk result (self.new.notes ≡ self.old.notes ++ note ∷ []) }
         ensures room { self.old.room ≤ self.new.room + 1 }
@@ -50,6 +51,7 @@ impl Journal {
     }
 
     /// Makes room for `n` more notes, at least. The notes stay, also if allocation fails and there is none.
+    #[inline(always)]
     pub fn reserve(&mut self, n: u32) -> Result<(), NoMemory>
         ensures notes { self.new.notes ≡ self.old.notes }
         ensures ok { OnOk result (n ≤ self.new.room) }

@@ -60,6 +60,7 @@ impl Model for Note {
 
 impl Note {
     /// The note that says this. Nothing is judged here: whoever writes a journal counts its turns and operations.
+    #[inline(always)]
     pub fn new(turn: u32, actor: ActorNo, op: u32, what: What) -> Self
         ensures { result ≡ record { turn = turn; actor = actor; op = op; what = what } }
     {
@@ -72,6 +73,7 @@ impl Note {
     }
 
     /// The number of the note's turn, from 1. The one to three notes of a turn have the same.
+    #[inline(always)]
     pub fn turn(&self) -> u32
         ensures { result ≡ self.now.turn }
     {
@@ -79,6 +81,7 @@ impl Note {
     }
 
     /// The actor whose turn it is.
+    #[inline(always)]
     pub fn actor(&self) -> ActorNo
         ensures { result ≡ self.now.actor }
     {
@@ -86,6 +89,7 @@ impl Note {
     }
 
     /// The number of the operation among those of its actor, from 1.
+    #[inline(always)]
     pub fn op(&self) -> u32
         ensures { result ≡ self.now.op }
     {
@@ -93,6 +97,7 @@ impl Note {
     }
 
     /// What happened.
+    #[inline(always)]
     pub fn what(&self) -> What
         ensures { result ≡ self.now.what }
     {
@@ -246,6 +251,7 @@ enum Kind {
 const _: () = prove!(size_of::<Note>() <= 40);
 
 impl Kind {
+    #[inline(always)]
     fn of(what: What) -> Self
         ensures { result ≡ kind_of what }
     {
@@ -258,6 +264,7 @@ impl Kind {
         }
     }
 
+    #[inline(always)]
     fn of_waiting(waiting: Waiting) -> Self
         ensures { result ≡ kind_of_waiting waiting }
     {
@@ -268,6 +275,7 @@ impl Kind {
         }
     }
 
+    #[inline(always)]
     fn of_event(event: PlainEvent) -> Self
         ensures { result ≡ kind_of_event event }
     {
@@ -416,6 +424,7 @@ impl Kind {
         }
     }
 
+    #[inline(always)]
     fn of_answer(answer: Answer) -> Self
         ensures { result ≡ kind_of_answer answer }
     {
@@ -440,6 +449,7 @@ impl Kind {
         }
     }
 
+    #[inline(always)]
     fn of_short(got: u8, wanted: u8, cause: Cause) -> Self
         ensures { result ≡ kind_of_short got wanted cause }
     {
@@ -451,6 +461,7 @@ impl Kind {
         }
     }
 
+    #[inline(always)]
     fn what(self) -> What
         ensures { result ≡ what_of self }
     {
