@@ -1,12 +1,21 @@
--- What a turn says: its notes by an event, if one stands at it, and by an answer, if the turn ends the operation.
-use Rattle.std.specs.Prelude.{ℕ, Bool, if◌then◌else◌, List, [], ◌∷◌, Option, Some, None}
+-- What a turn says, and the notes that say it.
+use Rattle.std.specs.Prelude.{◌≡◌, ℕ, Bool, if◌then◌else◌, List, [], ◌∷◌, ◌++◌, Option, Some, None, is_some}
+use Rattle.gup_plain.specs.Note.{JournalValue}
 use Rattle.gup_plain.specs.declared.answer.Answer.{Answer}
 use Rattle.gup_plain.specs.declared.answer.Answer.TheVariants as answers
 use Rattle.gup_plain.specs.declared.event.PlainEvent.{PlainEvent}
 use Rattle.gup_plain.specs.declared.event.PlainEvent.TheVariants as events
 use Rattle.gup_plain.specs.declared.note.What.{What}
 use Rattle.gup_plain.specs.declared.note.What.TheVariants.{Silent, Event, Done}
-use Rattle.gup_op_base.specs.declared.said.Said.{Said}
+use Rattle.gup_spec_journal.specs.Follows.{notes_of_turn}
+use Rattle.gup_op_base.specs.declared.said.Head.{Head}
+
+-- What a turn of an operation says: the event that stands at it, if one does, a second one after that, and the answer, if the
+-- turn ends the operation.
+pub record Said : Type 0 where
+  pub event : Option PlainEvent
+  pub next : Option PlainEvent
+  pub answer : Option Answer
 
 -- a turn without an event that answers nothing is silent; a pin is made at an event of its own, after that of its page
 abbrev pub answer_what : Option Answer → List What
@@ -24,6 +33,18 @@ whats_by event next answer = event_what event (event_what next (answer_what answ
 abbrev pub whats_of : Said → List What
 whats_of said = whats_by said.event said.next said.answer
 
+abbrev pub silent_said : Said
+silent_said = record { event = None; next = None; answer = None }
+
+abbrev pub happened_said : PlainEvent → Said
+happened_said event = record { event = Some event; next = None; answer = None }
+
+abbrev pub done_said : PlainEvent → Answer → Said
+done_said event answer = record { event = Some event; next = None; answer = Some answer }
+
+abbrev pub answered_said : Answer → Said
+answered_said answer = record { event = None; next = None; answer = Some answer }
+
 -- what the turn of one of several pages says: its event where it was mapped, and the answer at the last page
 abbrev pub passed_said : (mapped : Bool) → PlainEvent → (last : Bool) → Said
 passed_said mapped event last =
@@ -37,3 +58,14 @@ loaded_said a p page word value =
 abbrev pub stored_said : (a p page word value : ℕ) → Said
 stored_said a p page word value =
     record { event = Some (events.Store a p page word value); next = None; answer = Some answers.Plain }
+
+-- the notes that say this are put on at the journal's end
+abbrev pub Tells : Head → (was now : JournalValue) → Said → Type 0
+Tells head was now said = now.notes ≡ was.notes ++ notes_of_turn head.turn head.actor head.op (whats_of said)
+
+-- Notes are put on that say what a turn does of which this is so; the turn ends its operation, or doesn't.
+pub record TellsTurn (head : Head) (was now : JournalValue) (ended : Bool) (IsSo : Said → Type 0) : Type 0 where
+  pub said : Said
+  pub tells : Tells head was now said
+  pub ends : ended ≡ is_some said.answer
+  pub is_so : IsSo said

@@ -7,4 +7,4 @@ mod said;
 
 pub use jobs::JobPlace;
 pub use page::page_behind;
-pub use said::{Said, done, happened, is_last, refused, silent};
+pub use said::Head;
