@@ -1,4 +1,4 @@
-ghost use Rattle.std.specs.Prelude.{◌≡◌, ◌+◌, ◌<◌, ◌≤◌, [], ◌∷◌, ◌++◌, OnOk, OnErr};
+ghost use Rattle.std.specs.Prelude.{◌≡◌, ◌+◌, ◌<◌, ◌≤◌, [], ◌∷◌, ◌++◌, length, OnOk, OnErr};
 
 use crate::note::Note;
 use gup_base::NoMemory;
@@ -60,5 +60,13 @@ impl Journal {
     {
         self.notes.reserve(n as usize)?;
         Ok(())
+    }
+
+    /// Lets all notes go. The room that they had is left.
+    pub fn clear(&mut self)
+        ensures notes { self.new.notes ≡ [] }
+        ensures room { length self.old.notes + self.old.room ≤ self.new.room }
+    {
+        self.notes.clear();
     }
 }
