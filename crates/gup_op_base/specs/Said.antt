@@ -1,5 +1,5 @@
 -- What a turn says, and the notes that say it.
-use Rattle.std.specs.Prelude.{◌≡◌, ℕ, Bool, if◌then◌else◌, List, [], ◌∷◌, ◌++◌, Option, Some, None, is_some}
+use Rattle.std.specs.Prelude.{◌≡◌, ℕ, ◌+◌, ◌≤◌, Bool, if◌then◌else◌, List, [], ◌∷◌, ◌++◌, length, Option, Some, None, is_some}
 use Rattle.gup_plain.specs.Note.{JournalValue}
 use Rattle.gup_plain.specs.declared.answer.Answer.{Answer}
 use Rattle.gup_plain.specs.declared.answer.Answer.TheVariants as answers
@@ -59,9 +59,10 @@ abbrev pub stored_said : (a p page word value : ℕ) → Said
 stored_said a p page word value =
     record { event = Some (events.Store a p page word value); next = None; answer = Some answers.Plain }
 
--- the notes that say this are put on at the journal's end
-abbrev pub Tells : Head → (was now : JournalValue) → Said → Type 0
-Tells head was now said = now.notes ≡ was.notes ++ notes_of_turn head.turn head.actor head.op (whats_of said)
+-- The notes that say this are put on at the journal's end, and what room there was is left or used by them.
+pub record Tells (head : Head) (was now : JournalValue) (said : Said) : Type 0 where
+  pub notes : now.notes ≡ was.notes ++ notes_of_turn head.turn head.actor head.op (whats_of said)
+  pub kept : length was.notes + was.room ≤ length now.notes + now.room
 
 -- Notes are put on that say what a turn does of which this is so; the turn ends its operation, or doesn't.
 pub record TellsTurn (head : Head) (was now : JournalValue) (ended : Bool) (IsSo : Said → Type 0) : Type 0 where

@@ -1,5 +1,5 @@
 //! What a turn of an operation says: its notes, which are put on at a journal's end where they are made.
-ghost use Rattle.std.specs.Prelude.{◌≡◌, ◌≤◌, ◌+◌, ◌++◌, [], ◌∷◌};
+ghost use Rattle.std.specs.Prelude.{◌≡◌, ◌≤◌, ◌+◌, ◌++◌, [], ◌∷◌, length};
 ghost use Rattle.gup_plain.specs.declared.note.What.TheVariants.{Event};
 ghost use Rattle.gup_spec_journal.specs.Follows.{note_of, notes_of_turn};
 ghost use Rattle.gup_op_base.specs.Said.{Tells, silent_said, happened_said, done_said, answered_said};
@@ -32,6 +32,7 @@ impl Head {
         ensures notes { journal.new.notes
             ≡ journal.old.notes ++ notes_of_turn self.now.turn self.now.actor self.now.op (what ∷ []) }
         ensures room { journal.old.room ≤ journal.new.room + 1 }
+        ensures kept { length journal.old.notes + journal.old.room ≤ length journal.new.notes + journal.new.room }
     {
         journal.push(self.note(what)).unwrap();
     }
