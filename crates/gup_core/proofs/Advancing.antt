@@ -10,11 +10,14 @@ use Rattle.gup_script.specs.declared.op.Op.{Op}
 use Rattle.gup_script.specs.Script.{ScriptValue}
 use Rattle.gup_spec_events.specs.State.{CoreState}
 use Rattle.gup_spec_journal.specs.Place.{Doer, Place, doer, has_finished, ops_of}
-use Rattle.gup_spec_journal.specs.Follows.{notes_of_turn}
+use Rattle.gup_spec_journal.specs.Follows.{note_of, notes_of_turn}
 use Rattle.gup_spec_turns.specs.Run.{RunState, is_ready, op_in, waiting_in, waiting_with, core_turn_by}
 use Rattle.gup_core.specs.declared.seats.Seat.{Seat}
 use Rattle.gup_core.specs.Machine.{MachineValue, machine_of, counted, Shows, TakesTurn, TakesTurns}
-use Rattle.gup_core.specs.Going.{CanGo, WaitsFor, HasFinished, WritesTurn, SaysTurn, IsStill}
+use Rattle.gup_core.specs.Going.{CanGo, WaitsFor, HasFinished, HasMore, IsStill}
+use Rattle.gup_op_base.specs.Said.{Said, whats_by, whats_of}
+use Rattle.gup_plain.specs.declared.answer.Answer.{Answer}
+use Rattle.gup_plain.specs.declared.event.PlainEvent.{PlainEvent}
 use Rattle.gup_core.specs.Rest.{op_of_seat}
 use Rattle.gup_core.proofs.Resting.{op_there}
 use Rattle.gup_core.proofs.Taking.{stays, says_so}
@@ -23,13 +26,6 @@ use Rattle.gup_core.proofs.Taking.{stays, says_so}
 pub goes_so : (m : MachineValue) (a : ℕ) (seat : Seat) (op : Op) → slice_get m.seats a ≡ Some seat → op_of_seat m a seat ≡ Some op → ((r : RunState) → Shows m r → None ≡ waiting_in m.script r a) → CanGo m a
 goes_so m a seat op here present ready r h =
     ap (λ o. is_ready o (waiting_in m.script r a)) (op_there m r a seat (Some op) h here present) ∙ ap (λ w. is_ready (Some op) w) (sym (ready r h))
-
--- the same turn, with the operation's number by the place
-pub says_turn : (m n : MachineValue) (a : ℕ) (seat : Seat) (turns : ℕ) (whats : List What) → slice_get m.seats a ≡ Some seat → turns ≡ counted m.turns → TakesTurns m n a (notes_of_turn turns a (seat.answered + 1) whats) → SaysTurn m n a whats
-says_turn m n a seat turns whats here count taken r h =
-    subst (λ (ns : List NoteValue). TakesTurn m n a r ns)
-    (ap (λ k. notes_of_turn k a (seat.answered + 1) whats) count ∙ ap (λ k. notes_of_turn (counted m.turns) a (k + 1) whats) (h.seats a seat here).0)
-    (taken r h)
 
 -- a turn that changes nothing
 pub still_taken : (m : MachineValue) (a : ℕ) (seat : Seat) (turns : ℕ) (what : What) → slice_get m.seats a ≡ Some seat → turns ≡ counted m.turns → IsStill m a what
@@ -58,23 +54,27 @@ finished_still m a finished r h =
     let none : op_in m.script r a ≡ None = slice_get_past (ops_of m.script a) (r.places a).answered (finished_at m.script a (r.places a) (finished r h)) in
     (ap (λ o. core_turn_by r.core (doer m.script a) (r.places a).far o (waiting_in m.script r a)) none, refl)
 
--- the notes of a head are those of the turn
-pub headed : (m n : MachineValue) (a turn actor number : ℕ) (whats : List What) (was now : JournalValue) → turn ≡ counted m.turns → actor ≡ a → ((r : RunState) → Shows m r → number ≡ (r.places a).answered + 1)
-    → now.notes ≡ was.notes ++ notes_of_turn turn actor number whats → SaysTurn m n a whats → WritesTurn m n was now a
-headed m n a turn actor number whats was now count same numbered put says r h =
-    let notes : notes_of_turn turn actor number whats ≡ notes_of_turn (counted m.turns) a ((r.places a).answered + 1) whats =
-    ap (λ k. notes_of_turn k actor number whats) count
-    ∙ ap (λ k. notes_of_turn (counted m.turns) k number whats) same
-    ∙ ap (λ k. notes_of_turn (counted m.turns) a k whats) (numbered r h) in
-    (notes_of_turn (counted m.turns) a ((r.places a).answered + 1) whats, put ∙ ap (λ (ns : List NoteValue). was.notes ++ ns) notes, says r h)
+-- ---- how many notes there are
 
-pub told_so : (m n : MachineValue) (a turn actor number : ℕ) (whats : List What) (notes : List NoteValue) → turn ≡ counted m.turns → actor ≡ a → ((r : RunState) → Shows m r → number ≡ (r.places a).answered + 1)
-    → notes ≡ notes_of_turn turn actor number whats → SaysTurn m n a whats → TakesTurns m n a notes
-told_so m n a turn actor number whats notes count same numbered is says r h =
-    subst (λ (ns : List NoteValue). TakesTurn m n a r ns)
-    (sym
-    (is
-    ∙ ap (λ k. notes_of_turn k actor number whats) count
-    ∙ ap (λ k. notes_of_turn (counted m.turns) k number whats) same
-    ∙ ap (λ k. notes_of_turn (counted m.turns) a k whats) (numbered r h)))
-    (says r h)
+whats_few : (event next : Option PlainEvent) (answer : Option Answer) → (1 ≤ length (whats_by event next answer)) × (length (whats_by event next answer) ≤ 3)
+whats_few None None None = (omega arith, omega arith)
+whats_few None None (Some answer) = (omega arith, omega arith)
+whats_few None (Some next) None = (omega arith, omega arith)
+whats_few None (Some next) (Some answer) = (omega arith, omega arith)
+whats_few (Some event) None None = (omega arith, omega arith)
+whats_few (Some event) None (Some answer) = (omega arith, omega arith)
+whats_few (Some event) (Some next) None = (omega arith, omega arith)
+whats_few (Some event) (Some next) (Some answer) = (omega arith, omega arith)
+
+more_by : (was now : JournalValue) (turn actor number : ℕ) (whats : List What) → (1 ≤ length whats) × (length whats ≤ 3)
+    → now.notes ≡ was.notes ++ notes_of_turn turn actor number whats → HasMore was now
+more_by was now turn actor number whats few put =
+    let many : length now.notes ≡ length was.notes + length whats =
+    ap length put ∙ length-append was.notes (notes_of_turn turn actor number whats) ∙ ap (λ n. length was.notes + n) (length-map (note_of turn actor number) whats) in
+    (omega (arith, many, few.0), omega (arith, many, few.1))
+
+pub few_more : (was now : JournalValue) (turn actor number : ℕ) (said : Said) → now.notes ≡ was.notes ++ notes_of_turn turn actor number (whats_of said) → HasMore was now
+few_more was now turn actor number said put = more_by was now turn actor number (whats_of said) (whats_few said.event said.next said.answer) put
+
+pub one_more : (was now : JournalValue) (turn actor number : ℕ) (what : What) → now.notes ≡ was.notes ++ notes_of_turn turn actor number (what ∷ []) → HasMore was now
+one_more was now turn actor number what put = more_by was now turn actor number (what ∷ []) (omega arith, omega arith) put

@@ -22,10 +22,9 @@ use Rattle.gup_spec_turns.specs.Run.{RunState, op_in, waiting_with, waiting_in, 
 use Rattle.gup_law_turns.specs.Standing.{IsStanding}
 use Rattle.gup_spec_turns.specs.JobPlace.{place_in}
 use Rattle.gup_op_base.specs.declared.jobs.JobPlace.{JobPlace}
-use Rattle.gup_op_base.specs.declared.said.Said.{Said}
 use Rattle.gup_op_base.specs.Far.{far_in}
 use Rattle.gup_op_base.specs.Jobs.{place_of}
-use Rattle.gup_op_base.specs.Said.{whats_by, whats_of}
+use Rattle.gup_op_base.specs.Said.{Said, whats_by, whats_of}
 use Rattle.gup_op_base.specs.Turns.{Leads}
 use Rattle.gup_op_waits.specs.declared.parts.Parts.{Parts}
 use Rattle.gup_core.specs.declared.seats.Seat.{Seat}
@@ -97,10 +96,6 @@ forks_behind : (s t : CoreState) (seats others : List Seat) (a : ℕ) (seat : Se
 forks_behind s t seats others a seat old same here new stay =
     replaced (λ b (x : Seat). place_of x.job ≡ place_in t b) seats others a seat here same new
     (λ b x apart found. old b x found ∙ sym (stay b apart))
-
--- the same notes
-pub notes_taken : (m n : MachineValue) (a : ℕ) (notes other : List NoteValue) → other ≡ notes → TakesTurns m n a notes → TakesTurns m n a other
-notes_taken m n a notes other same h = subst (λ (ns : List NoteValue). TakesTurns m n a ns) (sym same) h
 
 -- a turn leaves a machine
 pub still_machine : (m n : MachineValue) (a : ℕ) (notes : List NoteValue) → IsMachine m → AreParts n.script n.parts → length n.seats ≡ length n.script.actors → TakesTurns m n a notes → IsMachine n

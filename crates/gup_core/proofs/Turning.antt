@@ -1,6 +1,5 @@
 -- A turn of an operation among all parts: of one process, of a pin, of an operation on a pin, and of a fork.
 use Rattle.std.proofs.Common.{◌≡◌, ℕ, ◌+◌, ◌<◌, ◌==◌, Bool, true, false, List, ◌∷◌, length, slice_get, Option, Some, None, refl, sym, ap, ◌∙◌, subst, inl, inr, eqb-true, arith}
-use Rattle.std.specs.Option.{option_or}
 use Rattle.std.proofs.lemmas.Bool.Decides.{nat_tests}
 use Rattle.std.proofs.lemmas.Option.{slice_get_cases}
 use Rattle.arrayvec.specs.ArrayVec.{ArrayVec}
@@ -27,18 +26,19 @@ use Rattle.gup_spec_turns.specs.ForkTurns.{fork_turn}
 use Rattle.gup_spec_turns.specs.PinTurns.{pin_turn}
 use Rattle.gup_spec_turns.specs.JobPlace.{JobPlace as Place, IsNoFork, job_place}
 use Rattle.gup_op_base.specs.declared.jobs.JobPlace.{JobPlace}
-use Rattle.gup_op_base.specs.declared.said.Said.{Said}
 use Rattle.gup_op_pages.specs.Alone.{IsAlone, ShowsAlone, alone_view}
 use Rattle.gup_op_base.specs.Far.{far_in}
 use Rattle.gup_op_base.specs.Jobs.{place_of}
-use Rattle.gup_op_fork.specs.Forked.{birth_behind, ShowsForking, StandsAsFork, forking_view}
+use Rattle.gup_op_fork.specs.declared.forks.Forked.{Forked}
+use Rattle.gup_op_fork.specs.declared.forks.Forked.TheVariants.{Goes, Born, Failed}
+use Rattle.gup_op_fork.specs.Forked.{place_after, birth_after, ShowsForking, StandsAsFork, forking_view}
 use Rattle.gup_op_pins.specs.Pins.{IsPin, ShowsPins, ShowsPinning, StandsAtPage, pinning_view}
 use Rattle.gup_op_pins.specs.Held.{ShowsStore, ShowsHeld, held_view}
 use Rattle.gup_op_base.specs.Said.{answer_what, event_what, whats_by, whats_of}
 use Rattle.gup_op_base.specs.Turns.{Leads, IsTurnOf, Anywhere}
 use Rattle.gup_spec_journal.specs.Place.{Doer}
 use Rattle.gup_op_waits.specs.declared.births.Birth.{Birth}
-use Rattle.gup_op_waits.specs.Births.{birth_said}
+use Rattle.gup_op_waits.specs.Births.{birth_by}
 use Rattle.gup_op_waits.specs.declared.parts.Parts.{Parts}
 use Rattle.gup_op_waits.specs.Stands.{StandsAt}
 use Rattle.gup_core.specs.Goes.{ShowsAll, StandsFree, all_view, HasSlots}
@@ -297,16 +297,10 @@ others_behind s a p c es before behind new_parent new_child own old parent paren
         fork_leaves_others a p c q (space_of space) s es (λ is. differ q p e (sym is)) (λ is. differ q c f (sym is)) own (old q space (sym (others q (differ q p e) (differ q c f)) ∙ found))
 
 -- the child's birth after it
-birth_of_event : (p : ℕ) (event : PlainEvent) (whats : List What) (b : CoreBirth) → b ≡ birth_behind p (Event event ∷ whats) → IsBirth (birth_said (Some event)) b
-birth_of_event p (events.ForkEnd parent child) whats b is = is
-birth_of_event p (events.ForkFail child) whats b is = is
-birth_of_event p event whats b is = (p, is)
-
-birth_now : (p : ℕ) (event next : Option PlainEvent) (answer : Option Answer) (b : CoreBirth) → b ≡ birth_behind p (whats_by event next answer) → IsBirth (birth_said (option_or event next)) b
-birth_now p (Some event) next answer b is = birth_of_event p event (event_what next (answer_what answer)) b is
-birth_now p None (Some next) answer b is = birth_of_event p next (answer_what answer) b is
-birth_now p None None (Some answer) b is = (p, is)
-birth_now p None None None b is = (p, is)
+birth_now : (p : ℕ) (f : Forked) (b : CoreBirth) → b ≡ birth_after p f → IsBirth (birth_by f) b
+birth_now p (Goes place) b is = (p, is)
+birth_now p Born b is = is
+birth_now p Failed b is = is
 
 births_behind : (s : CoreState) (a p c : ℕ) (es : List CoreEvent) (before behind : List Birth) (new : Birth) → AreForking a p c es → ShowsBirths before s
     → slice_get behind c ≡ Some new → ((q : ℕ) → (q ≡ c → ⊥) → slice_get behind q ≡ slice_get before q) → IsBirth new ((run s es).birth c) → ShowsBirths behind (run s es)
@@ -315,22 +309,22 @@ births_behind s a p c es before behind new own old now others shown =
     (λ q birth apart found. subst (λ (x : CoreBirth). IsBirth birth x) (sym (fork_births_stay a p c q s es (λ is. apart (sym is)) own)) (old q birth found))
 
 -- so it is from each two processes that stand in these places
-abbrev pub IsForkTurns : (old_frames new_frames : FrameLists) → (before behind : List SpaceParts) → (a p c : ℕ) → (place next : JobPlace) → List What → Type 0
-IsForkTurns old_frames new_frames before behind a p c place next whats =
+abbrev pub IsForkTurns : (old_frames new_frames : FrameLists) → (before behind : List SpaceParts) → (a p c : ℕ) → (place : JobPlace) → Forked → List What → Type 0
+IsForkTurns old_frames new_frames before behind a p c place f whats =
     (old_parent new_parent old_child new_child : SpaceParts)
     → slice_get before p ≡ Some old_parent → slice_get behind p ≡ Some new_parent → slice_get before c ≡ Some old_child → slice_get behind c ≡ Some new_child
     → (birth : CoreBirth) → IsTurnOf (ShowsForking a p c) (StandsAsFork a p c)
-    (forking_view old_frames old_parent old_child (place_of place) birth) (forking_view new_frames new_parent new_child (place_of next) (birth_behind p whats))
+    (forking_view old_frames old_parent old_child (place_of place) birth) (forking_view new_frames new_parent new_child (place_of (place_after f)) (birth_after p f))
     (λ s. fork_turn s a p c (s.job a)) whats
 
-pub forked : (old new : Parts) (a p c slots far : ℕ) (place next : JobPlace) (said : Said)
+pub forked : (old new : Parts) (a p c slots far : ℕ) (place : JobPlace) (f : Forked) (whats : List What)
     → (p ≡ c → ⊥) → p < length old.spaces.items → c < length old.spaces.items → length new.spaces.items ≡ length old.spaces.items
     → new.handles ≡ old.handles → new.taken ≡ old.taken → new.stores ≡ old.stores
     → ((q : ℕ) → (q ≡ p → ⊥) → (q ≡ c → ⊥) → slice_get new.spaces.items q ≡ slice_get old.spaces.items q)
-    → IsForkTurns old.frames new.frames old.spaces.items new.spaces.items a p c place next (whats_of said)
-    → slice_get new.births.items c ≡ Some (birth_said (option_or said.event said.next)) → ((q : ℕ) → (q ≡ c → ⊥) → slice_get new.births.items q ≡ slice_get old.births.items q)
-    → IsTurnAmong old new a p slots far (Fork c) place (whats_of said) next
-forked old new a p c slots far place next said apart p_in c_in many handles taken stores others turn born_now unborn_others k rest far_is s shown stands =
+    → IsForkTurns old.frames new.frames old.spaces.items new.spaces.items a p c place f whats
+    → slice_get new.births.items c ≡ Some (birth_by f) → ((q : ℕ) → (q ≡ c → ⊥) → slice_get new.births.items q ≡ slice_get old.births.items q)
+    → IsTurnAmong old new a p slots far (Fork c) place whats (place_after f)
+forked old new a p c slots far place f whats apart p_in c_in many handles taken stores others turn born_now unborn_others k rest far_is s shown stands =
     let old_parent = there old.spaces.items p p_in in
     let old_child = there old.spaces.items c c_in in
     let new_parent = there new.spaces.items p (omega (arith, p_in, many)) in
@@ -338,7 +332,7 @@ forked old new a p c slots far place next said apart p_in c_in many handles take
     let t : CoreTurn = fork_turn s a p c (s.job a) in
     let own : AreForking a p c t.events = fork_is_own s a p c (s.job a) in
     let stay : pins_of (run s t.events) ≡ pins_of s = fork_leave_pins a p c s t.events own in
-    let led : Leads (ShowsForking a p c) (forking_view new.frames new_parent.0 new_child.0 (place_of next) (birth_behind p (whats_of said))) s t (whats_of said) =
+    let led : Leads (ShowsForking a p c) (forking_view new.frames new_parent.0 new_child.0 (place_of (place_after f)) (birth_after p f)) s t whats =
     turn old_parent.0 new_parent.0 old_child.0 new_child.0 old_parent.1 new_parent.1 old_child.1 new_child.1 (s.birth c) s
     (record { frames = shown.parts.frames; parent = shown.parts.spaces p old_parent.0 old_parent.1; child = shown.parts.spaces c old_child.0 old_child.1; place = sym shown.job; birth = refl })
     (record { apart = apart; keeps = stands.keeps; at = stands.fork c refl }) in
@@ -347,7 +341,7 @@ forked old new a p c slots far place next said apart p_in c_in many handles take
       frames = led.shown.frames;
       spaces = others_behind s a p c t.events old.spaces.items new.spaces.items new_parent.0 new_child.0 own shown.parts.spaces led.shown.parent new_parent.1 led.shown.child new_child.1 others;
       births =
-          births_behind s a p c t.events old.births.items new.births.items (birth_said (option_or said.event said.next)) own shown.parts.births born_now unborn_others (birth_now p said.event said.next said.answer ((run s t.events).birth c) led.shown.birth);
+          births_behind s a p c t.events old.births.items new.births.items (birth_by f) own shown.parts.births born_now unborn_others (birth_now p f ((run s t.events).birth c) led.shown.birth);
       pins = pins_shown old new s (run s t.events) handles stay shown.parts.pins;
       taken = taken_shown old new s (run s t.events) taken (ap (λ (k : Pins). k.2) stay) shown.parts.taken;
       stores = stores_shown old new s (run s t.events) stores (ap (λ (k : Pins). k.3) stay) shown.parts.stores;

@@ -1,21 +1,15 @@
-//! The machine for many processes and actors.
-ghost use Rattle.std.specs.Prelude.{◌≡◌, ℕ, ◌+◌, ◌<◌, [], ◌∷◌, length, slice_get, Some, IfOk, OnOk, OnErr};
+//! The machine of a script, for many processes and actors.
+ghost use Rattle.std.specs.Prelude.{◌≡◌, ℕ, ◌<◌, [], length, IfOk, OnOk, OnErr};
 ghost use Rattle.gup_spec_journal.specs.Place.{has_finished};
 ghost use Rattle.gup_spec_turns.specs.Run.{RunState, waiting_in};
-ghost use Rattle.gup_core.specs.Machine.{Shows, TakesTurns, IsNew, counted, free_frames_in};
-ghost use Rattle.gup_core.specs.Going.{Advances, WritesTurn, SaysTurn, Goes, IsStill};
-ghost use Rattle.gup_core.specs.Rest.{IsAtRest};
+ghost use Rattle.gup_core.specs.Machine.{Shows, TakesTurns, IsNew, free_frames_in};
+ghost use Rattle.gup_core.specs.Going.{Advances, WritesTurn};
 
-use crate::outcome::{Advanced, Gone};
-use crate::seats::{self, Seat, seat_of, set_seat};
-use crate::takes::take_op;
-use crate::turn::{Head, Turn, put_notes};
-use crate::turns::{next_turn, notes, op_at, ops, process};
+use crate::inner::Inner;
+use crate::outcome::Advanced;
+use crate::turn::Turn;
 use gup_base::{ActorNo, NoMemory, Zone};
-use gup_op_base::is_last;
-use gup_op_waits::parts::{self, Parts};
-use gup_op_waits::waits_for;
-use gup_plain::{Journal, Waiting, What};
+use gup_plain::{Journal, Waiting};
 use gup_script::Script;
 use std::alloc::Global;
 use std::marker::Model;
@@ -24,47 +18,47 @@ use std::marker::Model;
 /// the core run.
 #[derive(Drop)]
 pub struct Machine {
-    script: Script,
-    parts: Parts,
-    seats: Vec<Seat>,
-    turns: u32,
+    inner: Inner,
+    // The notes of the turn that `turn` answered last, and room for those of one.
+    told: Journal,
 }
 
 impl Model for Machine {
-    ghost use Rattle.gup_core.specs.Machine.{MachineValue, IsMachine};
+    ghost use Rattle.std.specs.Prelude.{◌≤◌, ◌+◌, length};
+    ghost use Rattle.gup_core.specs.Machine.{MachineValue};
 
     ghost Value = { MachineValue };
 
-    ghost view = { λ m. record {
-      script = m.script;
-      parts = m.parts;
-      seats = m.seats.items;
-      turns = m.turns;
-    } };
+    ghost view = { λ m. m.inner };
 
-    ghost invariant = { λ m. IsMachine (record {
-      script = m.script;
-      parts = m.parts;
-      seats = m.seats.items;
-      turns = m.turns;
-    }) };
+    ghost invariant = { λ m. 3 ≤ length m.told.notes + m.told.room };
 }
 
 impl Machine {
     /// A machine at the start of the script: all frames are free, and nothing is mapped. It has the memory for all that
-    /// comes: later calls take none but for the notes of a journal.
+    /// comes, and a copy of the script: later calls take no memory but for the notes of a journal.
     pub fn new(alloc: Global, script: &Script) -> Result<Machine, NoMemory>
         ensures { IfOk result (IsNew script.now) }
     {
-        let parts = parts::first(alloc, script)?;
-        let seats = seats::first(alloc, script.actors())?;
         let script = script.copy()?;
-        Ok(Machine {
-            script,
-            parts,
-            seats,
-            turns: 0,
-        })
+        Machine::of(alloc, script)
+    }
+
+    /// The same machine of a script that it keeps.
+    pub fn of(alloc: Global, script: Script) -> Result<Machine, NoMemory>
+        ensures { IfOk result (IsNew script) }
+    {
+        let inner = Inner::of(alloc, script)?;
+        let mut told = Journal::new(alloc);
+        told.reserve(3)?;
+        Ok(Machine { inner, told })
+    }
+
+    /// The script.
+    pub fn script(&self) -> &Script
+        ensures { result.now ≡ self.now.script }
+    {
+        self.inner.script()
     }
 
     /// Takes the actor's turn, and answers its notes: one to three. The turn of an actor that has finished is idle, and
@@ -75,12 +69,9 @@ impl Machine {
         ensures turn { TakesTurns self.old self.new actor result }
         ensures script { self.new.script ≡ self.old.script }
     {
-        let head = self.head(actor);
-        match self.go(actor) {
-            Gone::Took(said) => notes(&head, &said),
-            Gone::Waits(waiting) => self.still_turn(actor, What::Wait(waiting)),
-            Gone::Finished => self.still_turn(actor, What::Idle),
-        }
+        self.told.clear();
+        self.inner.take_turn(actor, &mut self.told);
+        Turn::of(self.told.notes())
     }
 
     /// Takes the actor's turn if it can go, and puts its one to three notes on at the journal's end. Where the actor waits
@@ -93,15 +84,7 @@ impl Machine {
         ensures err { OnErr result ((self.new ≡ self.old) × (journal.new.notes ≡ journal.old.notes) × (journal.old.room < 3)) }
     {
         journal.reserve(3)?;
-        let head = self.head(actor);
-        match self.go(actor) {
-            Gone::Took(said) => {
-                put_notes(journal, &head, &said);
-                Ok(Advanced::Moved)
-            }
-            Gone::Waits(waiting) => Ok(Advanced::Waits(waiting)),
-            Gone::Finished => Ok(Advanced::Finished),
-        }
+        Ok(self.inner.go(actor, journal))
     }
 
     /// Takes the actor's turn also where it waits or has finished, as `turn` does, and puts its notes on at the journal's
@@ -112,11 +95,9 @@ impl Machine {
         ensures script { self.new.script ≡ self.old.script }
         ensures err { OnErr result ((self.new ≡ self.old) × (journal.new.notes ≡ journal.old.notes) × (journal.old.room < 3)) }
     {
-        match self.advance(actor, journal)? {
-            Advanced::Moved => Ok(()),
-            Advanced::Waits(waiting) => self.write_still(actor, What::Wait(waiting), journal),
-            Advanced::Finished => self.write_still(actor, What::Idle, journal),
-        }
+        journal.reserve(3)?;
+        self.inner.take_turn(actor, journal);
+        Ok(())
     }
 
     /// What the actor waits for before its next turn, if it waits: that its process is born, or else that the pin is given
@@ -126,14 +107,7 @@ impl Machine {
         requires { actor < length self.now.script.actors }
         ensures { (r : RunState) → Shows self.now r → result ≡ waiting_in self.now.script r actor }
     {
-        self.rests();
-        gup_law_turns::reached_states_stand();
-        let seat = self.seat(actor);
-        let Some(op) = op_at(ops(&self.script, actor), seat.answered) else {
-            return None;
-        };
-        let proc = process(&self.script, actor);
-        waits_for(&self.parts, actor, proc, seat.job, op)
+        self.inner.waits(actor)
     }
 
     /// Whether the actor has answered all its operations.
@@ -141,119 +115,13 @@ impl Machine {
         requires { actor < length self.now.script.actors }
         ensures { (r : RunState) → Shows self.now r → result ≡ has_finished self.now.script actor (r.places actor) }
     {
-        ops(&self.script, actor).len() <= self.seat(actor).answered as usize
+        self.inner.finished(actor)
     }
 
     /// How many frames of the zone are free.
     pub fn free_frames(&self, zone: Zone) -> u32
         ensures { (r : RunState) → Shows self.now r → result ≡ free_frames_in r.core zone }
     {
-        self.parts.frames.free(zone)
-    }
-
-    // Takes the actor's turn if it can go. Where it waits or has finished, nothing changes.
-    fn go(&mut self, actor: ActorNo) -> Gone
-        requires { actor < length self.old.script.actors }
-        ensures goes { Goes self.old self.new actor result }
-        ensures script { self.new.script ≡ self.old.script }
-    {
-        self.rests();
-        gup_law_turns::reached_states_stand();
-        let seat = self.seat(actor);
-        let Some(op) = op_at(ops(&self.script, actor), seat.answered) else {
-            return Gone::Finished;
-        };
-        if let Some(waiting) = waits_for(
-            &self.parts,
-            actor,
-            process(&self.script, actor),
-            seat.job,
-            op,
-        ) {
-            return Gone::Waits(waiting);
-        }
-        let proc = process(&self.script, actor);
-        let (said, job) = take_op(&mut self.parts, actor, proc, seat.far, seat.job, op);
-        let next = seats::behind(&seat, op, is_last(&said), job);
-        set_seat(&mut self.seats, actor, &next);
-        let number = next_turn(self.turns);
-        self.turns = number;
-        Gone::Took(said)
-    }
-
-    // A turn that changes nothing.
-    fn still_turn(&mut self, actor: ActorNo, what: What) -> Turn
-        requires actor { actor < length self.old.script.actors }
-        requires still { IsStill self.old actor what }
-        ensures turn { TakesTurns self.old self.new actor result }
-        ensures script { self.new.script ≡ self.old.script }
-    {
-        let head = self.head(actor);
-        self.pass(actor, &what);
-        Turn::one(&head, what)
-    }
-
-    // Writes the note of a turn that changes nothing.
-    fn write_still(
-        &mut self,
-        actor: ActorNo,
-        what: What,
-        journal: &mut Journal,
-    ) -> Result<(), NoMemory>
-        requires actor { actor < length self.old.script.actors }
-        requires still { IsStill self.old actor what }
-        ensures turn { OnOk result (WritesTurn self.old self.new journal.old journal.new actor) }
-        ensures script { self.new.script ≡ self.old.script }
-        ensures err { OnErr result ((self.new ≡ self.old) × (journal.new.notes ≡ journal.old.notes) × (journal.old.room ≡ 0)) }
-    {
-        let head = self.head(actor);
-        journal.push(head.note(what))?;
-        self.pass(actor, &what);
-        Ok(())
-    }
-
-    // A turn that changes nothing is over.
-    fn pass(&mut self, actor: ActorNo, what: &What)
-        requires actor { actor < length self.old.script.actors }
-        requires still { IsStill self.old actor what.now }
-        ensures says { SaysTurn self.old self.new actor (what.now ∷ []) }
-        ensures script { self.new.script ≡ self.old.script }
-    {
-        let _seat = self.seat(actor);
-        let _what = *what;
-        self.turns = next_turn(self.turns);
-    }
-
-    // What the notes of the actor's next turn have in common.
-    fn head(&self, actor: ActorNo) -> Head
-        requires { actor < length self.now.script.actors }
-        ensures turn { result.turn ≡ counted self.now.turns }
-        ensures actor { result.actor ≡ actor }
-        ensures op { (r : RunState) → Shows self.now r → result.op ≡ (r.places actor).answered + 1 }
-    {
-        self.rests();
-        let seat = self.seat(actor);
-        Head {
-            turn: next_turn(self.turns),
-            actor,
-            op: seat.answered + 1,
-        }
-    }
-
-    // Where the actor stands.
-    fn seat(&self, actor: ActorNo) -> Seat
-        requires { actor < length self.now.script.actors }
-        ensures { slice_get self.now.seats actor ≡ Some result }
-    {
-        seat_of(&self.seats, actor)
-    }
-
-    // What is true of a machine between two turns.
-    fn rests(&self)
-        ensures { IsAtRest self.now }
-    {
-        let _actors = self.script.actors();
-        self.parts.frames.are_there();
-        gup_law_turns::reached_states_stand();
+        self.inner.free_frames(zone)
     }
 }

@@ -1,6 +1,5 @@
 //! A turn of an operation among all processes.
 ghost use Rattle.std.specs.Prelude.{◌≡◌, ℕ, ◌+◌, ◌<◌, ◌≤◌, ◌^◌, true, false, length, slice_get, List, Option, Some, None, IsSome, IfSome};
-ghost use Rattle.std.specs.Option.{option_or};
 ghost use Rattle.arrayvec.specs.ArrayVec.{ArrayVec as ArrayVecValue};
 ghost use Rattle.gup_base.specs.Parts.{words_of};
 ghost use Rattle.gup_plain.specs.State.{Birth as CoreBirth};
@@ -18,96 +17,114 @@ ghost use Rattle.gup_spec_turns.specs.JobPlace.{JobPlace as Place};
 ghost use Rattle.gup_op_pages.specs.Alone.{IsAlone, ShowsAlone, alone_view};
 ghost use Rattle.gup_op_base.specs.Far.{HasFar, far_in};
 ghost use Rattle.gup_op_base.specs.Jobs.{place_of};
-ghost use Rattle.gup_op_fork.specs.Forked.{birth_behind as birth_after, IsReadyAt, ShowsForking, StandsAsFork, forking_view};
+ghost use Rattle.gup_op_fork.specs.Forked.{is_over, place_after, birth_after, IsReadyAt, ShowsForking, StandsAsFork, forking_view};
 ghost use Rattle.gup_op_pins.specs.Pins.{IsWeighed, ShowsPinning, StandsAtPage, pinning_view};
 ghost use Rattle.gup_op_pins.specs.Held.{ShowsHeld, held_view, slots_in};
 ghost use Rattle.gup_op_devices.specs.Transfers.{IsWhole};
-ghost use Rattle.gup_op_base.specs.Said.{whats_of};
+ghost use Rattle.gup_op_base.specs.Said.{TellsTurn, whats_of};
 ghost use Rattle.gup_op_base.specs.Turns.{IsTurnOf, Anywhere};
 ghost use Rattle.gup_op_base.specs.Tidy.{IsTidy, needs_table};
-ghost use Rattle.gup_op_waits.specs.Births.{HasFailed, birth_said};
+ghost use Rattle.gup_op_waits.specs.Births.{HasFailed, birth_by};
 ghost use Rattle.gup_op_waits.specs.Doers.{HasProcess, IsProcessOf};
 ghost use Rattle.gup_op_waits.specs.Parts.{EachSpace, ShowsBirths};
 ghost use Rattle.gup_op_waits.specs.Stands.{StandsAt};
 ghost use Rattle.gup_core.specs.Goes.{ShowsAll, StandsFree, all_view, IsReady, IsForkReady, HasSlots, KeepsSlots};
 ghost use Rattle.gup_op_waits.specs.Locks.{child_in};
 
-use gup_base::{ActorNo, HandleNo, PageNo, Parts as Moved, ProcNo, Want};
+use gup_base::{HandleNo, PageNo, Parts as Moved, ProcNo, Want};
 use gup_frames::Frames;
-use gup_op_base::{JobPlace, Said, done, refused};
+use gup_op_base::{Head, JobPlace};
 use gup_op_devices::transfer;
-use gup_op_fork::fork;
+use gup_op_fork::{Forked, fork};
 use gup_op_pages::take;
 use gup_op_pins::{give, pin, take_over, unpin};
 use gup_op_waits::{Birth, Parts, child_of, has_failed, set_birth};
-use gup_plain::{Answer, PlainEvent};
+use gup_plain::{Answer, Journal, PlainEvent};
 use gup_script::Op;
 use gup_space::Space;
 
-/// Takes a turn of the operation, which is of this process if it is of one, and answers what it says and where the actor's
-/// job stands then. Where the process has failed, the operation is refused.
+/// Takes a turn of the operation, which is of this process if it is of one, puts its notes on at the journal's end, and answers
+/// whether the operation is over and where the actor's job stands then. Where the process has failed, the operation is refused.
 pub fn take_op(
     parts: &mut Parts,
-    actor: ActorNo,
+    journal: &mut Journal,
+    head: &Head,
     proc: Option<ProcNo>,
     far: u16,
     place: JobPlace,
     op: &Op,
-) -> (Said, JobPlace)
+) -> (bool, JobPlace)
     requires process { HasProcess op.now → IsSome proc }
     requires birth { IfSome proc (λ p. p < length parts.old.births.items) }
     requires child { (child : ℕ) → op.now ≡ Fork child → child < length parts.old.births.items }
     requires ready { (p : ℕ) → (HasFailed parts.old.births.items proc → ⊥) → IfSome proc (λ q. q ≡ p)
-        → IsReady parts.old actor p op.now far place }
+        → IsReady parts.old head.now.actor p op.now far place }
+    requires room { 3 ≤ journal.old.room }
     ensures spaces { length parts.new.spaces.items ≡ length parts.old.spaces.items }
     ensures births { length parts.new.births.items ≡ length parts.old.births.items }
     ensures taken { length parts.new.taken.items ≡ length parts.old.taken.items }
     ensures stores { length parts.new.stores.items ≡ length parts.old.stores.items }
     ensures slots { KeepsSlots parts.old.stores.items parts.new.stores.items }
-    ensures turn { (who : Doer) (k : ℕ) (others : ℕ → Place) → who.actor ≡ actor → IsProcessOf who proc
-        → HasSlots parts.old actor who.slots → far ≡ far_in (Some op.now) k
-        → IsTurnOf (ShowsAll actor) (StandsFree actor who k op.now)
+    ensures turn { TellsTurn head.now journal.old journal.new result.0
+        (λ said. (who : Doer) (k : ℕ) (others : ℕ → Place) → who.actor ≡ head.now.actor → IsProcessOf who proc
+        → HasSlots parts.old head.now.actor who.slots → far ≡ far_in (Some op.now) k
+        → IsTurnOf (ShowsAll head.now.actor) (StandsFree head.now.actor who k op.now)
         (all_view parts.old place others) (all_view parts.new result.1 others)
-        (λ s. turn_of s who k op.now) (whats_of result.0) }
+        (λ s. turn_of s who k op.now) (whats_of said)) }
 {
     if has_failed(&parts.births, &proc) {
-        return (refuse(&mut parts.births, op), place);
+        refuse(&mut parts.births, journal, head, op);
+        return (true, place);
     }
     if let Some(child) = child_of(op) {
-        return take_fork(parts, actor, proc.unwrap(), child, place);
+        return take_fork(parts, journal, head, proc.unwrap(), child, place);
     }
-    (take_single(parts, actor, proc, far, op), place)
+    let over = take_single(parts, journal, head, proc, far, op);
+    (over, place)
 }
 
 // Refuses an operation of a failed process. The child of a fork fails too.
-fn refuse(births: &mut Vec<Birth>, op: &Op) -> Said
-    requires { (child : ℕ) → op.now ≡ Fork child → child < length births.old.items }
+fn refuse(births: &mut Vec<Birth>, journal: &mut Journal, head: &Head, op: &Op)
+    requires child { (child : ℕ) → op.now ≡ Fork child → child < length births.old.items }
+    requires room { 3 ≤ journal.old.room }
     ensures births { length births.new.items ≡ length births.old.items }
-    ensures turn { (a p : ℕ) → IsTurnOf ShowsBirths Anywhere births.old.items births.new.items
-        (λ s. failed_turn a p op.now) (whats_of result) }
+    ensures turn { TellsTurn head.now journal.old journal.new true
+        (λ said. (a p : ℕ) → IsTurnOf ShowsBirths Anywhere births.old.items births.new.items
+        (λ s. failed_turn a p op.now) (whats_of said)) }
 {
     let Some(child) = child_of(op) else {
-        return refused(Answer::Unborn);
+        head.answered(journal, Answer::Unborn);
+        return;
     };
     set_birth(births, child, Birth::Failed);
-    done(PlainEvent::ForkFail { child }, Answer::Unborn)
+    head.done(journal, PlainEvent::ForkFail { child }, Answer::Unborn);
 }
 
 // Takes a turn of an operation that is no fork.
-fn take_single(parts: &mut Parts, actor: ActorNo, proc: Option<ProcNo>, far: u16, op: &Op) -> Said
+fn take_single(
+    parts: &mut Parts,
+    journal: &mut Journal,
+    head: &Head,
+    proc: Option<ProcNo>,
+    far: u16,
+    op: &Op,
+) -> bool
     requires process { HasProcess op.now → IsSome proc }
-    requires ready { (p : ℕ) → IfSome proc (λ q. q ≡ p) → (place : JobPlace) × IsReady parts.old actor p op.now far place }
+    requires ready { (p : ℕ) → IfSome proc (λ q. q ≡ p)
+        → (place : JobPlace) × IsReady parts.old head.now.actor p op.now far place }
     requires single { child_in op.now ≡ None }
+    requires room { 3 ≤ journal.old.room }
     ensures spaces { length parts.new.spaces.items ≡ length parts.old.spaces.items }
     ensures births { length parts.new.births.items ≡ length parts.old.births.items }
     ensures taken { length parts.new.taken.items ≡ length parts.old.taken.items }
     ensures stores { length parts.new.stores.items ≡ length parts.old.stores.items }
     ensures slots { KeepsSlots parts.old.stores.items parts.new.stores.items }
-    ensures turn { (p slots : ℕ) (place : JobPlace) → IfSome proc (λ q. q ≡ p) → HasSlots parts.old actor slots
+    ensures turn { TellsTurn head.now journal.old journal.new result
+        (λ said. (p slots : ℕ) (place : JobPlace) → IfSome proc (λ q. q ≡ p) → HasSlots parts.old head.now.actor slots
         → (k : ℕ) (others : ℕ → Place) → far ≡ far_in (Some op.now) k
-        → IsTurnOf (ShowsAll actor) (λ s. StandsAt s actor p k op.now)
+        → IsTurnOf (ShowsAll head.now.actor) (λ s. StandsAt s head.now.actor p k op.now)
         (all_view parts.old place others) (all_view parts.new place others)
-        (λ s. op_turn s actor p slots k op.now) (whats_of result) }
+        (λ s. op_turn s head.now.actor p slots k op.now) (whats_of said)) }
 {
     match op {
         Op::Pin {
@@ -116,20 +133,43 @@ fn take_single(parts: &mut Parts, actor: ActorNo, proc: Option<ProcNo>, far: u16
             n,
             want,
             fast: _,
-        } => take_pin(parts, actor, proc.unwrap(), *handle, *page, *n, *want, far),
-        Op::Unpin { handle } => unpin(&mut parts.frames, &mut parts.handles, actor, *handle),
-        Op::Give { handle, to } => give(&mut parts.handles, actor, *handle, *to),
-        Op::Take { handle } => take_over(&mut parts.handles, actor, *handle),
+        } => take_pin(
+            parts,
+            journal,
+            head,
+            proc.unwrap(),
+            *handle,
+            *page,
+            *n,
+            *want,
+            far,
+        ),
+        Op::Unpin { handle } => unpin(
+            &mut parts.frames,
+            &mut parts.handles,
+            journal,
+            head,
+            *handle,
+        ),
+        Op::Give { handle, to } => {
+            give(&mut parts.handles, journal, head, *handle, *to);
+            true
+        }
+        Op::Take { handle } => {
+            take_over(&mut parts.handles, journal, head, *handle);
+            true
+        }
         Op::Transfer {
             handle,
             outward,
             slot,
             parts: moved,
-        } => take_transfer(parts, actor, *handle, *outward, *slot, moved, far),
+        } => take_transfer(parts, journal, head, *handle, *outward, *slot, moved, far),
         _ => take_alone(
             &mut parts.spaces,
             &mut parts.frames,
-            actor,
+            journal,
+            head,
             proc.unwrap(),
             far,
             op,
@@ -140,22 +180,23 @@ fn take_single(parts: &mut Parts, actor: ActorNo, proc: Option<ProcNo>, far: u16
 // Takes a turn of a pin.
 fn take_pin(
     parts: &mut Parts,
-    actor: ActorNo,
+    journal: &mut Journal,
+    head: &Head,
     proc: ProcNo,
     handle: HandleNo,
     page: PageNo,
     n: u8,
     want: Want,
     far: u16,
-) -> Said
+) -> bool
     requires there { proc < length parts.old.spaces.items }
-    requires actor { actor < length parts.old.taken.items }
+    requires actor { head.now.actor < length parts.old.taken.items }
     requires tidy { EachSpace (IsTidy (frames_of parts.old.frames)) parts.old.spaces.items }
     requires table { (space : SpaceParts) → slice_get parts.old.spaces.items proc ≡ Some space
         → (space_of space).table ≡ None }
     requires few { (f : ℕ) → (frames_of parts.old.frames).count f < 2 ^ 40 }
     requires unmade { handles_of parts.old.handles handle ≡ unmade }
-    requires taken { (pages : ArrayVecValue ℕ) → slice_get parts.old.taken.items actor ≡ Some pages
+    requires taken { (pages : ArrayVecValue ℕ) → slice_get parts.old.taken.items head.now.actor ≡ Some pages
         → length pages.items ≡ far }
     requires pinned { (space : SpaceParts) → slice_get parts.old.spaces.items proc ≡ Some space → 0 < far
         → (space_of space).has_pinned ≡ true }
@@ -163,28 +204,32 @@ fn take_pin(
     requires most { n ≤ 16 }
     requires range { page + n ≤ 2 ^ 35 }
     requires short { want.long ≡ false }
+    requires room { 3 ≤ journal.old.room }
     ensures spaces { length parts.new.spaces.items ≡ length parts.old.spaces.items }
     ensures taken { length parts.new.taken.items ≡ length parts.old.taken.items }
     ensures births { parts.new.births ≡ parts.old.births }
     ensures stores { parts.new.stores ≡ parts.old.stores }
     ensures other_spaces { (q : ℕ) → (q ≡ proc → ⊥)
         → slice_get parts.new.spaces.items q ≡ slice_get parts.old.spaces.items q }
-    ensures others_taken { (b : ℕ) → (b ≡ actor → ⊥)
+    ensures others_taken { (b : ℕ) → (b ≡ head.now.actor → ⊥)
         → slice_get parts.new.taken.items b ≡ slice_get parts.old.taken.items b }
-    ensures turn { (old new : SpaceParts) (was now : ArrayVecValue ℕ)
+    ensures turn { TellsTurn head.now journal.old journal.new result
+        (λ said. (old new : SpaceParts) (was now : ArrayVecValue ℕ)
         → slice_get parts.old.spaces.items proc ≡ Some old → slice_get parts.new.spaces.items proc ≡ Some new
-        → slice_get parts.old.taken.items actor ≡ Some was → slice_get parts.new.taken.items actor ≡ Some now
-        → IsTurnOf (ShowsPinning actor proc) (StandsAtPage actor proc handle page n want far)
+        → slice_get parts.old.taken.items head.now.actor ≡ Some was
+        → slice_get parts.new.taken.items head.now.actor ≡ Some now
+        → IsTurnOf (ShowsPinning head.now.actor proc) (StandsAtPage head.now.actor proc handle page n want far)
         (pinning_view parts.old.frames old parts.old.handles was.items)
         (pinning_view parts.new.frames new parts.new.handles now.items)
-        (λ s. pin_turn s actor proc handle page n want) (whats_of result) }
+        (λ s. pin_turn s head.now.actor proc handle page n want) (whats_of said)) }
 {
     pin(
         &mut parts.spaces[proc.get() as usize],
         &mut parts.frames,
         &mut parts.handles,
-        &mut parts.taken[actor.get() as usize],
-        actor,
+        &mut parts.taken[head.actor.get() as usize],
+        journal,
+        head,
         proc,
         handle,
         page,
@@ -197,35 +242,40 @@ fn take_pin(
 // Takes a turn of a transfer.
 fn take_transfer(
     parts: &mut Parts,
-    actor: ActorNo,
+    journal: &mut Journal,
+    head: &Head,
     handle: HandleNo,
     outward: bool,
     slot: u32,
     moved: &Moved,
     far: u16,
-) -> Said
-    requires actor { actor < length parts.old.stores.items }
+) -> bool
+    requires actor { head.now.actor < length parts.old.stores.items }
     requires weighed { IsWeighed (frames_of parts.old.frames) (handles_of parts.old.handles handle) }
     requires within { far < words_of moved.now }
     requires most { words_of moved.now ≤ 64 }
+    requires room { 3 ≤ journal.old.room }
     ensures stores { length parts.new.stores.items ≡ length parts.old.stores.items }
     ensures slots { KeepsSlots parts.old.stores.items parts.new.stores.items }
     ensures spaces { parts.new.spaces ≡ parts.old.spaces }
     ensures births { parts.new.births ≡ parts.old.births }
     ensures taken { parts.new.taken ≡ parts.old.taken }
-    ensures others { (b : ℕ) → (b ≡ actor → ⊥)
+    ensures others { (b : ℕ) → (b ≡ head.now.actor → ⊥)
         → slice_get parts.new.stores.items b ≡ slice_get parts.old.stores.items b }
-    ensures turn { (old new : Option (List ℕ))
-        → slice_get parts.old.stores.items actor ≡ Some old → slice_get parts.new.stores.items actor ≡ Some new
-        → IsTurnOf (ShowsHeld actor) (λ s. IsWhole s actor handle)
+    ensures turn { TellsTurn head.now journal.old journal.new result
+        (λ said. (old new : Option (List ℕ))
+        → slice_get parts.old.stores.items head.now.actor ≡ Some old
+        → slice_get parts.new.stores.items head.now.actor ≡ Some new
+        → IsTurnOf (ShowsHeld head.now.actor) (λ s. IsWhole s head.now.actor handle)
         (held_view parts.old.frames parts.old.handles old) (held_view parts.new.frames parts.new.handles new)
-        (λ s. transfer_turn s actor (slots_in old) handle outward slot moved.now far) (whats_of result) }
+        (λ s. transfer_turn s head.now.actor (slots_in old) handle outward slot moved.now far) (whats_of said)) }
 {
     transfer(
         &mut parts.frames,
         &parts.handles,
-        &mut parts.stores[actor.get() as usize],
-        actor,
+        &mut parts.stores[head.actor.get() as usize],
+        journal,
+        head,
         handle,
         outward,
         slot,
@@ -238,11 +288,12 @@ fn take_transfer(
 fn take_alone(
     spaces: &mut Vec<Space>,
     frames: &mut Frames,
-    actor: ActorNo,
+    journal: &mut Journal,
+    head: &Head,
     proc: ProcNo,
     far: u16,
     op: &Op,
-) -> Said
+) -> bool
     requires there { proc < length spaces.old.items }
     requires tidy { EachSpace (IsTidy (frames_of frames.old)) spaces.old.items }
     requires table { (space : SpaceParts) → slice_get spaces.old.items proc ≡ Some space
@@ -250,18 +301,21 @@ fn take_alone(
     requires op { IsOp op.now }
     requires far { HasFar op.now far }
     requires alone { IsAlone op.now }
+    requires room { 3 ≤ journal.old.room }
     ensures many { length spaces.new.items ≡ length spaces.old.items }
     ensures others { (q : ℕ) → (q ≡ proc → ⊥) → slice_get spaces.new.items q ≡ slice_get spaces.old.items q }
-    ensures turn { (old new : SpaceParts) (slots k : ℕ)
+    ensures turn { TellsTurn head.now journal.old journal.new result
+        (λ said. (old new : SpaceParts) (slots k : ℕ)
         → slice_get spaces.old.items proc ≡ Some old → slice_get spaces.new.items proc ≡ Some new
         → far ≡ far_in (Some op.now) k
         → IsTurnOf (ShowsAlone proc) Anywhere (alone_view frames.old old) (alone_view frames.new new)
-        (λ s. op_turn s actor proc slots k op.now) (whats_of result) }
+        (λ s. op_turn s head.now.actor proc slots k op.now) (whats_of said)) }
 {
     take(
         &mut spaces[proc.get() as usize],
         frames,
-        actor,
+        journal,
+        head,
         proc,
         far,
         op,
@@ -272,45 +326,60 @@ fn take_alone(
 // fails with it.
 fn take_fork(
     parts: &mut Parts,
-    actor: ActorNo,
+    journal: &mut Journal,
+    head: &Head,
     proc: ProcNo,
     child: ProcNo,
     place: JobPlace,
-) -> (Said, JobPlace)
+) -> (bool, JobPlace)
     requires there { proc < length parts.old.spaces.items }
     requires tidy { EachSpace (IsTidy (frames_of parts.old.frames)) parts.old.spaces.items }
     requires few_counts { (f : ℕ) → (frames_of parts.old.frames).count f < 2 ^ 40 }
     requires fork { IsForkReady (frames_of parts.old.frames) parts.old.spaces.items parts.old.births.items
-        actor proc child place }
+        head.now.actor proc child place }
+    requires room { 3 ≤ journal.old.room }
     ensures spaces { length parts.new.spaces.items ≡ length parts.old.spaces.items }
     ensures births { length parts.new.births.items ≡ length parts.old.births.items }
     ensures taken { parts.new.taken ≡ parts.old.taken }
     ensures stores { parts.new.stores ≡ parts.old.stores }
-    ensures turn { (slots k : ℕ) (others : ℕ → Place)
-        → IsTurnOf (ShowsAll actor) (λ s. StandsAt s actor proc k (Fork child))
+    ensures turn { TellsTurn head.now journal.old journal.new result.0
+        (λ said. (slots k : ℕ) (others : ℕ → Place)
+        → IsTurnOf (ShowsAll head.now.actor) (λ s. StandsAt s head.now.actor proc k (Fork child))
         (all_view parts.old place others) (all_view parts.new result.1 others)
-        (λ s. op_turn s actor proc slots k (Fork child)) (whats_of result.0) }
+        (λ s. op_turn s head.now.actor proc slots k (Fork child)) (whats_of said)) }
 {
-    let (said, next) = fork_two(
+    let forked = fork_two(
         &mut parts.frames,
         &mut parts.spaces,
-        actor,
+        journal,
+        head,
         proc,
         child,
         place,
     );
-    set_birth(&mut parts.births, child, birth_behind(&said));
-    (said, next)
+    set_birth(&mut parts.births, child, birth_of(forked));
+    goes_on(forked)
 }
 
-// What the child of a fork is after a turn that says this: it grows until the fork ends or fails.
-fn birth_behind(said: &Said) -> Birth
-    ensures { result ≡ birth_said (option_or said.now.event said.now.next) }
+// What the child of a fork is after a turn that comes to this: it grows until the fork ends or fails.
+fn birth_of(forked: Forked) -> Birth
+    ensures { result ≡ birth_by forked }
 {
-    match said.event.or(said.next) {
-        Some(PlainEvent::ForkEnd { .. }) => Birth::Born,
-        Some(PlainEvent::ForkFail { .. }) => Birth::Failed,
-        _ => Birth::Growing,
+    match forked {
+        Forked::Goes(_) => Birth::Growing,
+        Forked::Born => Birth::Born,
+        Forked::Failed => Birth::Failed,
+    }
+}
+
+// Whether a fork is over after a turn that comes to this, and where it stands then.
+fn goes_on(forked: Forked) -> (bool, JobPlace)
+    ensures over { result.0 ≡ is_over forked }
+    ensures place { result.1 ≡ place_after forked }
+{
+    match forked {
+        Forked::Goes(place) => (false, place),
+        Forked::Born | Forked::Failed => (true, JobPlace::Unbegun),
     }
 }
 
@@ -318,11 +387,12 @@ fn birth_behind(said: &Said) -> Birth
 fn fork_two(
     frames: &mut Frames,
     spaces: &mut [Space],
-    actor: ActorNo,
+    journal: &mut Journal,
+    head: &Head,
     proc: ProcNo,
     child: ProcNo,
     place: JobPlace,
-) -> (Said, JobPlace)
+) -> Forked
     requires apart { proc ≡ child → ⊥ }
     requires parent { proc < length spaces.old }
     requires child { child < length spaces.old }
@@ -331,16 +401,19 @@ fn fork_two(
     requires few_counts { (f : ℕ) → (frames_of frames.old).count f < 2 ^ 40 }
     requires place { (parent kid : SpaceParts)
         → slice_get spaces.old proc ≡ Some parent → slice_get spaces.old child ≡ Some kid
-        → IsReadyAt (frames_of frames.old) actor (place_of place) (space_of parent) (space_of kid) }
+        → IsReadyAt (frames_of frames.old) head.now.actor (place_of place) (space_of parent) (space_of kid) }
+    requires room { 3 ≤ journal.old.room }
     ensures many { length spaces.new ≡ length spaces.old }
     ensures others { (q : ℕ) → (q ≡ proc → ⊥) → (q ≡ child → ⊥) → slice_get spaces.new q ≡ slice_get spaces.old q }
-    ensures turn { (old_parent new_parent old_child new_child : SpaceParts)
+    ensures turn { TellsTurn head.now journal.old journal.new (is_over result)
+        (λ said. (old_parent new_parent old_child new_child : SpaceParts)
         → slice_get spaces.old proc ≡ Some old_parent → slice_get spaces.new proc ≡ Some new_parent
         → slice_get spaces.old child ≡ Some old_child → slice_get spaces.new child ≡ Some new_child
-        → (birth : CoreBirth) → IsTurnOf (ShowsForking actor proc child) (StandsAsFork actor proc child)
+        → (birth : CoreBirth)
+        → IsTurnOf (ShowsForking head.now.actor proc child) (StandsAsFork head.now.actor proc child)
         (forking_view frames.old old_parent old_child (place_of place) birth)
-        (forking_view frames.new new_parent new_child (place_of result.1) (birth_after proc (whats_of result.0)))
-        (λ s. fork_turn s actor proc child (s.job actor)) (whats_of result.0) }
+        (forking_view frames.new new_parent new_child (place_of (place_after result)) (birth_after proc result))
+        (λ s. fork_turn s head.now.actor proc child (s.job head.now.actor)) (whats_of said)) }
 {
     let parent_at = proc.get() as usize;
     let child_at = child.get() as usize;
@@ -350,7 +423,8 @@ fn fork_two(
             &mut low[parent_at],
             &mut high[0],
             frames,
-            actor,
+            journal,
+            head,
             proc,
             child,
             place,
@@ -361,7 +435,8 @@ fn fork_two(
             &mut high[0],
             &mut low[child_at],
             frames,
-            actor,
+            journal,
+            head,
             proc,
             child,
             place,

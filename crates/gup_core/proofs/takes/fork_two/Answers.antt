@@ -3,7 +3,7 @@ use Rattle.gup_space.specs.Space.{SpaceParts}
 use Rattle.gup_plain.specs.State.{Birth}
 use Rattle.gup_spec_turns.specs.ForkTurns.{fork_turn}
 use Rattle.gup_op_base.specs.Jobs.{place_of}
-use Rattle.gup_op_fork.specs.Forked.{birth_behind, ShowsForking, StandsAsFork, forking_view}
+use Rattle.gup_op_fork.specs.Forked.{place_after, birth_after, ShowsForking, StandsAsFork, forking_view}
 use Rattle.gup_op_base.specs.Said.{whats_of}
 use Rattle.gup_op_base.specs.Turns.{IsTurnOf}
 use Rattle.gup_core.proofs.Parting.{front_there, back_there, front_now, back_now, others_now, below_other, four}
@@ -60,8 +60,10 @@ returns-then-parent_at-child_at-clause-others c q not_parent not_child =
     (λ is. not_parent (is ∙ c.get-parent_at.ensures.value)) (λ is. not_child (is ∙ c.get-child_at.ensures.value)) ∙ ap (λ xs. slice_get xs q) (sym s.ensures.value)
 
 pub returns-then-parent_at-child_at-clause-turn : goal.returns-then-parent_at-child_at-clause-turn
-returns-then-parent_at-child_at-clause-turn c old_parent new_parent old_child new_child was_parent is_parent was_child is_child =
+returns-then-parent_at-child_at-clause-turn c =
     let a = c.args in
+    let actor = a.head.now.actor in
+    let told = c.fork.ensures in
     let s = c.split_at_mut-low in
     let i = c.get-parent_at.result in
     let n = c.get-child_at.result in
@@ -73,11 +75,17 @@ returns-then-parent_at-child_at-clause-turn c old_parent new_parent old_child ne
     let behind = slice_set s.result.0.now i c.fork.new.parent ++ slice_set s.result.1.now 0 c.fork.new.child in
     let low_now = ap (λ k. slice_get behind k) (sym c.get-parent_at.ensures.value) ∙ front_now s.result.0.now (slice_set s.result.1.now 0 c.fork.new.child) i c.fork.new.parent within in
     let high_now = ap (λ k. slice_get behind k) (sym c.get-child_at.ensures.value) ∙ back_now s.result.0.now s.result.1.now n i c.fork.new.parent c.fork.new.child s.ensures.front_len some in
-    four
-    (λ (p p' k k' : SpaceParts). (birth : Birth) → IsTurnOf (ShowsForking a.actor a.proc a.child) (StandsAsFork a.actor a.proc a.child)
-    (forking_view a.frames.now p k (place_of a.place) birth) (forking_view c.fork.new.frames p' k' (place_of c.fork.result.1) (birth_behind a.proc (whats_of c.fork.result.0)))
-    (λ s. fork_turn s a.actor a.proc a.child (s.job a.actor)) (whats_of c.fork.result.0))
-    _ _ _ _ old_parent new_parent old_child new_child (sym low_is ∙ was_parent) (sym low_now ∙ is_parent) (sym high_is ∙ was_child) (sym high_now ∙ is_child) c.fork.ensures
+    record {
+      said = told.said;
+      tells = told.tells;
+      ends = told.ends;
+      is_so = λ old_parent new_parent old_child new_child was_parent is_parent was_child is_child.
+          four
+          (λ (p p' k k' : SpaceParts). (birth : Birth) → IsTurnOf (ShowsForking actor a.proc a.child) (StandsAsFork actor a.proc a.child)
+          (forking_view a.frames.now p k (place_of a.place) birth) (forking_view c.fork.new.frames p' k' (place_of (place_after c.fork.result)) (birth_after a.proc c.fork.result))
+          (λ s. fork_turn s actor a.proc a.child (s.job actor)) (whats_of told.said))
+          _ _ _ _ old_parent new_parent old_child new_child (sym low_is ∙ was_parent) (sym low_now ∙ is_parent) (sym high_is ∙ was_child) (sym high_now ∙ is_child) told.is_so;
+    }
 
 -- the child is in the front part, and the parent first in the other
 pub fork-requires-else-parent_at-child_at-clause-parent : goal.fork-requires-else-parent_at-child_at-clause-parent
@@ -127,8 +135,10 @@ returns-else-parent_at-child_at-clause-others c q not_parent not_child =
     (λ is. not_child (is ∙ c.get-child_at.ensures.value)) (λ is. not_parent (is ∙ c.get-parent_at.ensures.value)) ∙ ap (λ xs. slice_get xs q) (sym s.ensures.value)
 
 pub returns-else-parent_at-child_at-clause-turn : goal.returns-else-parent_at-child_at-clause-turn
-returns-else-parent_at-child_at-clause-turn c old_parent new_parent old_child new_child was_parent is_parent was_child is_child =
+returns-else-parent_at-child_at-clause-turn c =
     let a = c.args in
+    let actor = a.head.now.actor in
+    let told = c.fork-else-parent_at-child_at.ensures in
     let s = c.split_at_mut-low-else-parent_at-child_at in
     let i = c.get-child_at.result in
     let n = c.get-parent_at.result in
@@ -140,8 +150,14 @@ returns-else-parent_at-child_at-clause-turn c old_parent new_parent old_child ne
     let behind = slice_set s.result.0.now i c.fork-else-parent_at-child_at.new.child ++ slice_set s.result.1.now 0 c.fork-else-parent_at-child_at.new.parent in
     let low_now = ap (λ k. slice_get behind k) (sym c.get-child_at.ensures.value) ∙ front_now s.result.0.now (slice_set s.result.1.now 0 c.fork-else-parent_at-child_at.new.parent) i c.fork-else-parent_at-child_at.new.child within in
     let high_now = ap (λ k. slice_get behind k) (sym c.get-parent_at.ensures.value) ∙ back_now s.result.0.now s.result.1.now n i c.fork-else-parent_at-child_at.new.child c.fork-else-parent_at-child_at.new.parent s.ensures.front_len some in
-    four
-    (λ (p p' k k' : SpaceParts). (birth : Birth) → IsTurnOf (ShowsForking a.actor a.proc a.child) (StandsAsFork a.actor a.proc a.child)
-    (forking_view a.frames.now p k (place_of a.place) birth) (forking_view c.fork-else-parent_at-child_at.new.frames p' k' (place_of c.fork-else-parent_at-child_at.result.1) (birth_behind a.proc (whats_of c.fork-else-parent_at-child_at.result.0)))
-    (λ s. fork_turn s a.actor a.proc a.child (s.job a.actor)) (whats_of c.fork-else-parent_at-child_at.result.0))
-    _ _ _ _ old_parent new_parent old_child new_child (sym high_is ∙ was_parent) (sym high_now ∙ is_parent) (sym low_is ∙ was_child) (sym low_now ∙ is_child) c.fork-else-parent_at-child_at.ensures
+    record {
+      said = told.said;
+      tells = told.tells;
+      ends = told.ends;
+      is_so = λ old_parent new_parent old_child new_child was_parent is_parent was_child is_child.
+          four
+          (λ (p p' k k' : SpaceParts). (birth : Birth) → IsTurnOf (ShowsForking actor a.proc a.child) (StandsAsFork actor a.proc a.child)
+          (forking_view a.frames.now p k (place_of a.place) birth) (forking_view c.fork-else-parent_at-child_at.new.frames p' k' (place_of (place_after c.fork-else-parent_at-child_at.result)) (birth_after a.proc c.fork-else-parent_at-child_at.result))
+          (λ s. fork_turn s actor a.proc a.child (s.job actor)) (whats_of told.said))
+          _ _ _ _ old_parent new_parent old_child new_child (sym high_is ∙ was_parent) (sym high_now ∙ is_parent) (sym low_is ∙ was_child) (sym low_now ∙ is_child) told.is_so;
+    }

@@ -17,8 +17,13 @@ returns-then-has_failed-clause-turn c =
     let a = c.args in
     let old = a.parts.now in
     let new : Parts = record old { births = c.refuse.new.births } in
-    refused old new a.actor a.proc a.far a.op.now a.place (whats_of c.refuse.result) (c.has_failed.ensures.failed c.if-has_failed.true) refl refl refl refl refl
-    c.refuse.ensures.turn
+    let told = c.refuse.ensures.turn in
+    record {
+      said = told.said;
+      tells = told.tells;
+      ends = told.ends;
+      is_so = refused old new a.head.now.actor a.proc a.far a.op.now a.place (whats_of told.said) (c.has_failed.ensures.failed c.if-has_failed.true) refl refl refl refl refl told.is_so;
+    }
 
 -- ---- a fork
 
@@ -43,13 +48,21 @@ take_fork-requires-clause-fork c =
 pub returns-in-Some-clause-turn : goal.returns-in-Some-clause-turn
 returns-in-Some-clause-turn c =
     let a = c.args in
+    let actor = a.head.now.actor in
     let t = c.take_fork in
+    let told = t.ensures.turn in
     let is = forks_into a.op.now c.in-Some.child (sym c.child_of.ensures ∙ c.in-Some.is) in
-    of_born a.parts.now t.new.parts a.actor a.proc a.far a.op.now a.place t.result.1 (whats_of t.result.0)
-    (λ has. absurd (cc (c.has_failed.ensures.other has))) c.requires.birth
-    (λ p slots of_p has.
-    subst (λ (q : ℕ). IsTurnAmong a.parts.now t.new.parts a.actor q slots a.far a.op.now a.place (whats_of t.result.0) t.result.1) (some_is a.proc c.unwrap.result p c.unwrap.ensures of_p)
-    (subst (λ (op : Op). IsTurnAmong a.parts.now t.new.parts a.actor c.unwrap.result slots a.far op a.place (whats_of t.result.0) t.result.1) (sym is) (λ k rest far_is. t.ensures.turn slots k rest)))
+    record {
+      said = told.said;
+      tells = told.tells;
+      ends = told.ends;
+      is_so =
+          of_born a.parts.now t.new.parts actor a.proc a.far a.op.now a.place t.result.1 (whats_of told.said)
+          (λ has. absurd (cc (c.has_failed.ensures.other has))) c.requires.birth
+          (λ p slots of_p has.
+          subst (λ (q : ℕ). IsTurnAmong a.parts.now t.new.parts actor q slots a.far a.op.now a.place (whats_of told.said) t.result.1) (some_is a.proc c.unwrap.result p c.unwrap.ensures of_p)
+          (subst (λ (op : Op). IsTurnAmong a.parts.now t.new.parts actor c.unwrap.result slots a.far op a.place (whats_of told.said) t.result.1) (sym is) (λ k rest far_is. told.is_so slots k rest)));
+    }
 
 -- ---- another operation
 
@@ -59,5 +72,12 @@ take_single-requires-clause-ready c p of_p = (c.args.place, c.requires.ready p (
 pub returns-clause-turn : goal.returns-clause-turn
 returns-clause-turn c =
     let a = c.args in
-    of_born a.parts.now c.take_single.new.parts a.actor a.proc a.far a.op.now a.place a.place (whats_of c.take_single.result)
-    (λ has. absurd (cc (c.has_failed.ensures.other has))) c.requires.birth (λ p slots of_p has. c.take_single.ensures.turn p slots a.place of_p has)
+    let told = c.take_single-over.ensures.turn in
+    record {
+      said = told.said;
+      tells = told.tells;
+      ends = told.ends;
+      is_so =
+          of_born a.parts.now c.take_single-over.new.parts a.head.now.actor a.proc a.far a.op.now a.place a.place (whats_of told.said)
+          (λ has. absurd (cc (c.has_failed.ensures.other has))) c.requires.birth (λ p slots of_p has. told.is_so p slots a.place of_p has);
+    }

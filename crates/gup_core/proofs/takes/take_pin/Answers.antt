@@ -9,8 +9,10 @@ use Rattle.gup_core.proofs.Turning.{IsPinTurn}
 use Rattle.gup_core.proofs.takes.take_pin.Goals as goal
 
 pub returns-clause-turn : goal.returns-clause-turn
-returns-clause-turn c old new was now was_space is_space was_taken is_taken =
+returns-clause-turn c =
     let a = c.args in
+    let actor = a.head.now.actor in
+    let told = c.pin.ensures in
     let spaces = a.parts.now.spaces in
     let taken = a.parts.now.taken in
     let behind : Parts =
@@ -22,11 +24,17 @@ returns-clause-turn c old new was now was_space is_space was_taken is_taken =
       taken = with_item taken c.get-2.result c.pin.new.taken;
       stores = a.parts.now.stores;
     } in
-    four
-    (λ (x y : SpaceParts) (before after : ArrayVec ℕ). IsPinTurn a.parts.now behind x y before after a.actor a.proc a.handle a.page a.n a.want a.far (whats_of c.pin.result))
-    _ _ _ _ old new was now
-    (sym (was_there spaces.items c.get.result a.proc c.index_mut.result.now c.index_mut.ensures.value c.get.ensures.value c.requires.there) ∙ was_space)
-    (sym (now_there spaces.items c.get.result a.proc c.pin.new.space c.get.ensures.value c.requires.there) ∙ is_space)
-    (sym (was_there taken.items c.get-2.result a.actor c.index_mut-2.result.now c.index_mut-2.ensures.value c.get-2.ensures.value c.requires.actor) ∙ was_taken)
-    (sym (now_there taken.items c.get-2.result a.actor c.pin.new.taken c.get-2.ensures.value c.requires.actor) ∙ is_taken)
-    c.pin.ensures
+    record {
+      said = told.said;
+      tells = told.tells;
+      ends = told.ends;
+      is_so = λ old new was now was_space is_space was_taken is_taken.
+          four
+          (λ (x y : SpaceParts) (before after : ArrayVec ℕ). IsPinTurn a.parts.now behind x y before after actor a.proc a.handle a.page a.n a.want a.far (whats_of told.said))
+          _ _ _ _ old new was now
+          (sym (was_there spaces.items c.get.result a.proc c.index_mut.result.now c.index_mut.ensures.value c.get.ensures.value c.requires.there) ∙ was_space)
+          (sym (now_there spaces.items c.get.result a.proc c.pin.new.space c.get.ensures.value c.requires.there) ∙ is_space)
+          (sym (was_there taken.items c.get-2.result actor c.index_mut-2.result.now c.index_mut-2.ensures.value c.get-2.ensures.value c.requires.actor) ∙ was_taken)
+          (sym (now_there taken.items c.get-2.result actor c.pin.new.taken c.get-2.ensures.value c.requires.actor) ∙ is_taken)
+          told.is_so;
+    }

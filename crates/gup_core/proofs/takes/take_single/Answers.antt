@@ -78,18 +78,26 @@ take_pin-requires-clause-short c =
     (subst (λ (op : Op). IsOp op) c.in-Pin.is ready.in_range).3.short
 
 pub returns-in-Pin-clause-turn : goal.returns-in-Pin-clause-turn
-returns-in-Pin-clause-turn c p slots place of_p has =
+returns-in-Pin-clause-turn c =
     let a = c.args in
+    let actor = a.head.now.actor in
     let t = c.take_pin in
+    let told = t.ensures.turn in
     let pin = c.in-Pin in
-    let ready = (c.requires.ready p of_p).1 in
-    let same : c.unwrap.result ≡ p = some_is a.proc c.unwrap.result p c.unwrap.ensures of_p in
     let within = (c.requires.ready c.unwrap.result (process_is a.proc c.unwrap.result c.unwrap.ensures)).1.there (subst HasProcess (sym pin.is) tt) in
-    let turn =
-    pinned a.parts.now t.new.parts a.actor c.unwrap.result slots a.far pin.handle pin.page pin.n pin.want pin.fast place (whats_of t.result)
-    within t.ensures.spaces ready.actor_taken t.ensures.taken t.ensures.births t.ensures.stores t.ensures.other_spaces t.ensures.others_taken t.ensures.turn in
-    subst (λ (op : Op). IsTurnAmong a.parts.now t.new.parts a.actor p slots a.far op place (whats_of t.result) place) (sym pin.is)
-    (subst (λ (q : ℕ). IsTurnAmong a.parts.now t.new.parts a.actor q slots a.far (Pin pin.handle pin.page pin.n pin.want pin.fast) place (whats_of t.result) place) same turn)
+    record {
+      said = told.said;
+      tells = told.tells;
+      ends = told.ends;
+      is_so = λ p slots place of_p has.
+          let ready = (c.requires.ready p of_p).1 in
+          let same : c.unwrap.result ≡ p = some_is a.proc c.unwrap.result p c.unwrap.ensures of_p in
+          let turn =
+          pinned a.parts.now t.new.parts actor c.unwrap.result slots a.far pin.handle pin.page pin.n pin.want pin.fast place (whats_of told.said)
+          within t.ensures.spaces ready.actor_taken t.ensures.taken t.ensures.births t.ensures.stores t.ensures.other_spaces t.ensures.others_taken told.is_so in
+          subst (λ (op : Op). IsTurnAmong a.parts.now t.new.parts actor p slots a.far op place (whats_of told.said) place) (sym pin.is)
+          (subst (λ (q : ℕ). IsTurnAmong a.parts.now t.new.parts actor q slots a.far (Pin pin.handle pin.page pin.n pin.want pin.fast) place (whats_of told.said) place) same turn);
+    }
 
 -- ---- operations on a pin
 
@@ -99,29 +107,45 @@ unpin-requires c =
     (c.requires.ready any.0 any.1).1.weighed c.in-Unpin.handle
 
 pub returns-in-Unpin-clause-turn : goal.returns-in-Unpin-clause-turn
-returns-in-Unpin-clause-turn c p slots place of_p has =
+returns-in-Unpin-clause-turn c =
     let a = c.args in
+    let actor = a.head.now.actor in
     let old = a.parts.now in
     let new = record old { frames = c.unpin.new.frames; handles = c.unpin.new.handles } in
+    let told = c.unpin.ensures.turn in
     let h = c.in-Unpin.handle in
-    let turn =
-    handled old new a.actor p slots a.far (Unpin h) place (whats_of c.unpin.result) tt refl refl refl
-    (λ s k. unpin_is_handling s a.actor h)
-    (λ s k shown stands far_is. leads_part old new a.actor s (op_turn s a.actor p slots k (Unpin h)) (whats_of c.unpin.result) refl (unpin_leaves_stores s a.actor h) shown (c.unpin.ensures.turn s (record { frames = shown.frames; pins = shown.pins; store = tt }) tt)) in
-    subst (λ (op : Op). IsTurnAmong old new a.actor p slots a.far op place (whats_of c.unpin.result) place) (sym c.in-Unpin.is) turn
+    record {
+      said = told.said;
+      tells = told.tells;
+      ends = told.ends;
+      is_so = λ p slots place of_p has.
+          let turn =
+          handled old new actor p slots a.far (Unpin h) place (whats_of told.said) tt refl refl refl
+          (λ s k. unpin_is_handling s actor h)
+          (λ s k shown stands far_is. leads_part old new actor s (op_turn s actor p slots k (Unpin h)) (whats_of told.said) refl (unpin_leaves_stores s actor h) shown (told.is_so s (record { frames = shown.frames; pins = shown.pins; store = tt }) tt)) in
+          subst (λ (op : Op). IsTurnAmong old new actor p slots a.far op place (whats_of told.said) place) (sym c.in-Unpin.is) turn;
+    }
 
 pub returns-in-Give-clause-turn : goal.returns-in-Give-clause-turn
-returns-in-Give-clause-turn c p slots place of_p has =
+returns-in-Give-clause-turn c =
     let a = c.args in
+    let actor = a.head.now.actor in
     let old = a.parts.now in
     let new = record old { handles = c.give.new.handles } in
+    let told = c.give.ensures.turn in
     let h = c.in-Give.handle in
     let to = c.in-Give.to in
-    let turn =
-    handled old new a.actor p slots a.far (Give h to) place (whats_of c.give.result) tt refl refl refl
-    (λ s k. give_is_handling s a.actor h to)
-    (λ s k shown stands far_is. leads_part old new a.actor s (op_turn s a.actor p slots k (Give h to)) (whats_of c.give.result) refl (give_leaves_stores s a.actor h to) shown (c.give.ensures.turn old.frames s (record { frames = shown.frames; pins = shown.pins; store = tt }) tt)) in
-    subst (λ (op : Op). IsTurnAmong old new a.actor p slots a.far op place (whats_of c.give.result) place) (sym c.in-Give.is) turn
+    record {
+      said = told.said;
+      tells = told.tells;
+      ends = told.ends;
+      is_so = λ p slots place of_p has.
+          let turn =
+          handled old new actor p slots a.far (Give h to) place (whats_of told.said) tt refl refl refl
+          (λ s k. give_is_handling s actor h to)
+          (λ s k shown stands far_is. leads_part old new actor s (op_turn s actor p slots k (Give h to)) (whats_of told.said) refl (give_leaves_stores s actor h to) shown (told.is_so old.frames s (record { frames = shown.frames; pins = shown.pins; store = tt }) tt)) in
+          subst (λ (op : Op). IsTurnAmong old new actor p slots a.far op place (whats_of told.said) place) (sym c.in-Give.is) turn;
+    }
 
 pub take_over-requires : goal.take_over-requires
 take_over-requires c =
@@ -129,16 +153,24 @@ take_over-requires c =
     (c.requires.ready any.0 any.1).1.given c.in-Take.handle c.in-Take.is
 
 pub returns-in-Take-clause-turn : goal.returns-in-Take-clause-turn
-returns-in-Take-clause-turn c p slots place of_p has =
+returns-in-Take-clause-turn c =
     let a = c.args in
+    let actor = a.head.now.actor in
     let old = a.parts.now in
     let new = record old { handles = c.take_over.new.handles } in
+    let told = c.take_over.ensures.turn in
     let h = c.in-Take.handle in
-    let turn =
-    handled old new a.actor p slots a.far (Take h) place (whats_of c.take_over.result) tt refl refl refl
-    (λ s k. take_is_handling a.actor h)
-    (λ s k shown stands far_is. leads_part old new a.actor s (op_turn s a.actor p slots k (Take h)) (whats_of c.take_over.result) refl (take_leaves_stores s a.actor h) shown (c.take_over.ensures.turn old.frames s (record { frames = shown.frames; pins = shown.pins; store = tt }) tt)) in
-    subst (λ (op : Op). IsTurnAmong old new a.actor p slots a.far op place (whats_of c.take_over.result) place) (sym c.in-Take.is) turn
+    record {
+      said = told.said;
+      tells = told.tells;
+      ends = told.ends;
+      is_so = λ p slots place of_p has.
+          let turn =
+          handled old new actor p slots a.far (Take h) place (whats_of told.said) tt refl refl refl
+          (λ s k. take_is_handling actor h)
+          (λ s k shown stands far_is. leads_part old new actor s (op_turn s actor p slots k (Take h)) (whats_of told.said) refl (take_leaves_stores s actor h) shown (told.is_so old.frames s (record { frames = shown.frames; pins = shown.pins; store = tt }) tt)) in
+          subst (λ (op : Op). IsTurnAmong old new actor p slots a.far op place (whats_of told.said) place) (sym c.in-Take.is) turn;
+    }
 
 -- ---- a transfer
 
@@ -163,26 +195,34 @@ take_transfer-requires-clause-most c =
     (subst (λ (op : Op). IsOp op) c.in-Transfer.is (c.requires.ready any.0 any.1).1.in_range).0.2
 
 pub returns-in-Transfer-clause-turn : goal.returns-in-Transfer-clause-turn
-returns-in-Transfer-clause-turn c p slots place of_p has =
+returns-in-Transfer-clause-turn c =
     let a = c.args in
+    let actor = a.head.now.actor in
     let old = a.parts.now in
     let t = c.take_transfer in
+    let told = t.ensures.turn in
     let new = t.new.parts in
     let x = c.in-Transfer in
-    let ready = (c.requires.ready p of_p).1 in
-    let was = there old.stores.items a.actor ready.actor_store in
-    let now = there new.stores.items a.actor (omega (arith, ready.actor_store, t.ensures.stores)) in
     let op : Op = Transfer x.handle x.outward x.slot x.moved in
-    let led = λ (s : CoreState) (k : ℕ) (shown : ShowsParts old s) (stands : StandsAt s a.actor p k op) (far_is : a.far ≡ k).
-    leads_store old new a.actor s (op_turn s a.actor p slots k op) (whats_of t.result) now.0 now.1 t.ensures.others
-    (transfer_is_handling s a.actor slots x.handle x.outward x.slot x.moved k) shown
-    (subst (λ (n : ℕ). Leads (ShowsHeld a.actor) (held_view new.frames new.handles now.0) s (op_turn s a.actor p n k op) (whats_of t.result)) (has was.0 was.1)
-    (subst (λ (q : ℕ). Leads (ShowsHeld a.actor) (held_view new.frames new.handles now.0) s (op_turn s a.actor p (slots_in was.0) q op) (whats_of t.result)) far_is
-    (t.ensures.turn was.0 now.0 was.1 now.1 s (record { frames = shown.frames; pins = shown.pins; store = shown.stores a.actor was.0 was.1 }) (stands.whole x.handle x.slot x.outward x.moved refl)))) in
-    let turn =
-    handled old new a.actor p slots a.far op place (whats_of t.result) tt t.ensures.spaces t.ensures.births t.ensures.taken
-    (λ s k. transfer_is_handling s a.actor slots x.handle x.outward x.slot x.moved k) led in
-    subst (λ (o : Op). IsTurnAmong old new a.actor p slots a.far o place (whats_of t.result) place) (sym x.is) turn
+    record {
+      said = told.said;
+      tells = told.tells;
+      ends = told.ends;
+      is_so = λ p slots place of_p has.
+          let ready = (c.requires.ready p of_p).1 in
+          let was = there old.stores.items actor ready.actor_store in
+          let now = there new.stores.items actor (omega (arith, ready.actor_store, t.ensures.stores)) in
+          let led = λ (s : CoreState) (k : ℕ) (shown : ShowsParts old s) (stands : StandsAt s actor p k op) (far_is : a.far ≡ k).
+          leads_store old new actor s (op_turn s actor p slots k op) (whats_of told.said) now.0 now.1 t.ensures.others
+          (transfer_is_handling s actor slots x.handle x.outward x.slot x.moved k) shown
+          (subst (λ (n : ℕ). Leads (ShowsHeld actor) (held_view new.frames new.handles now.0) s (op_turn s actor p n k op) (whats_of told.said)) (has was.0 was.1)
+          (subst (λ (q : ℕ). Leads (ShowsHeld actor) (held_view new.frames new.handles now.0) s (op_turn s actor p (slots_in was.0) q op) (whats_of told.said)) far_is
+          (told.is_so was.0 now.0 was.1 now.1 s (record { frames = shown.frames; pins = shown.pins; store = shown.stores actor was.0 was.1 }) (stands.whole x.handle x.slot x.outward x.moved refl)))) in
+          let turn =
+          handled old new actor p slots a.far op place (whats_of told.said) tt t.ensures.spaces t.ensures.births t.ensures.taken
+          (λ s k. transfer_is_handling s actor slots x.handle x.outward x.slot x.moved k) led in
+          subst (λ (o : Op). IsTurnAmong old new actor p slots a.far o place (whats_of told.said) place) (sym x.is) turn;
+    }
 
 -- ---- an operation of one process
 
@@ -198,14 +238,17 @@ take_alone-requires c =
       op = ready.in_range;
       far = ready.far;
       alone = alone_so;
+      room = c.requires.room;
     }
 
 pub returns-in_default : goal.returns-in_default
 returns-in_default c =
     let a = c.args in
+    let actor = a.head.now.actor in
     let op = a.op.now in
     let old = a.parts.now in
     let t = c.take_alone in
+    let told = t.ensures.turn in
     let new = record old { frames = t.new.frames; spaces = t.new.spaces } in
     let alone_so = is_alone op (single op c.requires.single) c.in_default.not-Pin c.in_default.not-Unpin c.in_default.not-Give c.in_default.not-Take c.in_default.not-Transfer in
     let q = c.unwrap-in_default.result in
@@ -216,7 +259,12 @@ returns-in_default c =
       taken = refl;
       stores = refl;
       slots = all_kept (λ (was now : Option (List ℕ)). slots_in now ≡ slots_in was) old.stores.items (λ x. refl);
-      turn = λ p slots place of_p has.
-          subst (λ (k : ℕ). IsTurnAmong old new a.actor k slots a.far op place (whats_of t.result) place) (some_is a.proc q p c.unwrap-in_default.ensures of_p)
-          (alone old new a.actor q slots a.far op place (whats_of t.result) alone_so (single op c.requires.single) within t.ensures.many refl refl refl refl t.ensures.others (λ was now k. t.ensures.turn was now slots k));
+      turn = record {
+        said = told.said;
+        tells = told.tells;
+        ends = told.ends;
+        is_so = λ p slots place of_p has.
+            subst (λ (k : ℕ). IsTurnAmong old new actor k slots a.far op place (whats_of told.said) place) (some_is a.proc q p c.unwrap-in_default.ensures of_p)
+            (alone old new actor q slots a.far op place (whats_of told.said) alone_so (single op c.requires.single) within t.ensures.many refl refl refl refl t.ensures.others (λ was now k. told.is_so was now slots k));
+      };
     }

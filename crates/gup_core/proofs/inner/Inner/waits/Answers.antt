@@ -3,7 +3,7 @@ use Rattle.gup_spec_turns.specs.Run.{RunState, waiting_in}
 use Rattle.gup_core.specs.Machine.{MachineValue, Shows, machine_of}
 use Rattle.gup_core.specs.Rest.{IsAtRest}
 use Rattle.gup_core.proofs.Taking.{waiting_is}
-use Rattle.gup_core.proofs.machine.Machine.waits.Goals as goal
+use Rattle.gup_core.proofs.inner.Inner.waits.Goals as goal
 
 pub returns : goal.returns
 returns c =

@@ -2,7 +2,7 @@ use Rattle.std.proofs.Common.{subst}
 use Rattle.gup_core.specs.Machine.{MachineValue, machine_of}
 use Rattle.gup_core.specs.Rest.{IsAtRest}
 use Rattle.gup_core.proofs.Resting.{at_rest}
-use Rattle.gup_core.proofs.machine.Machine.rests.Goals as goal
+use Rattle.gup_core.proofs.inner.Inner.rests.Goals as goal
 
 pub returns : goal.returns
 returns c =

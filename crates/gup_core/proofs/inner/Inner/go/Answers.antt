@@ -3,13 +3,13 @@ use Rattle.gup_law_turns.proofs.ScriptLemmas.{op_is_op}
 use Rattle.gup_op_base.specs.Said.{whats_of}
 use Rattle.gup_spec_journal.specs.Follows.{notes_of_turn}
 use Rattle.gup_core.specs.Machine.{MachineValue, machine_of, TakesTurns}
-use Rattle.gup_core.specs.Going.{CanGo, WaitsFor, SaysTurn}
+use Rattle.gup_core.specs.Going.{CanGo, WaitsFor, WritesTurn}
 use Rattle.gup_core.specs.Rest.{IsAtRest}
 use Rattle.gup_core.specs.Seats.{seat_behind}
 use Rattle.gup_core.proofs.Ready.{is_ready, still_parts, process_found_so, process_within, child_within, few}
-use Rattle.gup_core.proofs.Advancing.{goes_so, says_turn}
+use Rattle.gup_core.proofs.Advancing.{goes_so, few_more}
 use Rattle.gup_core.proofs.Taking.{still_machine, waiting_is, goes, IsWaiting}
-use Rattle.gup_core.proofs.machine.Machine.go.Goals as goal
+use Rattle.gup_core.proofs.inner.Inner.go.Goals as goal
 
 pub waits_for-requires-clause-there : goal.waits_for-requires-clause-there
 waits_for-requires-clause-there c =
@@ -18,7 +18,7 @@ waits_for-requires-clause-there c =
     let m = machine_of i.script i.parts i.seats.items i.turns in
     let rest = subst (λ (x : MachineValue). IsAtRest x) (sym c.self.view_is) c.rests.ensures in
     let op = sym (ap (λ ops. slice_get ops c.seat-seat.result.answered) c.ops.ensures) ∙ c.in-Some.ensures in
-    process_found_so m a c.process.result c.seat-seat.result c.in-Some.op.now rest c.process.ensures op
+    process_found_so m a c.process-proc.result c.seat-seat.result c.in-Some.op.now rest c.process-proc.ensures op
 
 pub waits_for-requires-clause-space : goal.waits_for-requires-clause-space
 waits_for-requires-clause-space c =
@@ -26,7 +26,7 @@ waits_for-requires-clause-space c =
     let a = c.args.actor in
     let m = machine_of i.script i.parts i.seats.items i.turns in
     let rest = subst (λ (x : MachineValue). IsAtRest x) (sym c.self.view_is) c.rests.ensures in
-    (process_within m a c.process.result rest c.process.ensures).0
+    (process_within m a c.process-proc.result rest c.process-proc.ensures).0
 
 pub waits_for-requires-clause-birth : goal.waits_for-requires-clause-birth
 waits_for-requires-clause-birth c =
@@ -34,7 +34,7 @@ waits_for-requires-clause-birth c =
     let a = c.args.actor in
     let m = machine_of i.script i.parts i.seats.items i.turns in
     let rest = subst (λ (x : MachineValue). IsAtRest x) (sym c.self.view_is) c.rests.ensures in
-    (process_within m a c.process.result rest c.process.ensures).1
+    (process_within m a c.process-proc.result rest c.process-proc.ensures).1
 
 pub waits_for-requires-clause-child : goal.waits_for-requires-clause-child
 waits_for-requires-clause-child c child same =
@@ -79,11 +79,21 @@ take_op-requires-clause-ready c p unfailed of_p =
     let rest = subst (λ (x : MachineValue). IsAtRest x) (sym c.self.view_is) c.rests.ensures in
     let here = subst (λ (x : MachineValue). slice_get x.seats a ≡ Some c.seat-seat.result) (sym c.self.view_is) c.seat-seat.ensures in
     let op = sym (ap (λ ops. slice_get ops c.seat-seat.result.answered) c.ops.ensures) ∙ c.in-Some.ensures in
-    let known : IsWaiting m a c.process.result c.seat-seat.result c.in-Some.op.now None =
+    let known : IsWaiting m a c.process-proc.result c.seat-seat.result c.in-Some.op.now None =
     λ s who far shown actor of_who place at. sym c.in_default-waits_for.is ∙ c.waits_for.ensures s who far shown actor of_who place at in
     is_ready m a c.process-proc.result c.seat-seat.result c.in-Some.op.now c.reached_states_stand.ensures c.self.invariant rest c.process-proc.ensures here op
-    (waiting_is m a c.process.result c.seat-seat.result c.in-Some.op.now None c.reached_states_stand.ensures rest c.process.ensures here op known)
+    (waiting_is m a c.process-proc.result c.seat-seat.result c.in-Some.op.now None c.reached_states_stand.ensures rest c.process-proc.ensures here op known)
     unfailed p of_p
+
+pub overflow_add-op : goal.overflow_add-op
+overflow_add-op c =
+    let i = c.self.inside in
+    let a = c.args.actor in
+    let m = machine_of i.script i.parts i.seats.items i.turns in
+    let rest = subst (λ (x : MachineValue). IsAtRest x) (sym c.self.view_is) c.rests.ensures in
+    let here = subst (λ (x : MachineValue). slice_get x.seats a ≡ Some c.seat-seat.result) (sym c.self.view_is) c.seat-seat.ensures in
+    let below = few m a c.seat-seat.result rest here in
+    omega arith
 
 pub behind-next-requires-clause-few : goal.behind-next-requires-clause-few
 behind-next-requires-clause-few c =
@@ -104,8 +114,8 @@ behind-next-requires-clause-op c =
     op_is_op i.script rest.valid a c.seat-seat.result.answered c.in-Some.op.now op
 
 -- it waits
-pub returns-in-Some-waits_for-clause-goes : goal.returns-in-Some-waits_for-clause-goes
-returns-in-Some-waits_for-clause-goes c =
+pub returns-in-Some-waits_for-clause-advances : goal.returns-in-Some-waits_for-clause-advances
+returns-in-Some-waits_for-clause-advances c =
     let i = c.self.inside in
     let a = c.args.actor in
     let m = machine_of i.script i.parts i.seats.items i.turns in
@@ -113,15 +123,15 @@ returns-in-Some-waits_for-clause-goes c =
     let here = subst (λ (x : MachineValue). slice_get x.seats a ≡ Some c.seat-seat.result) (sym c.self.view_is) c.seat-seat.ensures in
     let op = sym (ap (λ ops. slice_get ops c.seat-seat.result.answered) c.ops.ensures) ∙ c.in-Some.ensures in
     let waiting = c.in-Some-waits_for.waiting in
-    let known : IsWaiting m a c.process.result c.seat-seat.result c.in-Some.op.now (Some waiting) =
+    let known : IsWaiting m a c.process-proc.result c.seat-seat.result c.in-Some.op.now (Some waiting) =
     λ s who far shown actor of_who place at. sym c.in-Some-waits_for.is ∙ c.waits_for.ensures s who far shown actor of_who place at in
-    let waits = waiting_is m a c.process.result c.seat-seat.result c.in-Some.op.now (Some waiting) c.reached_states_stand.ensures rest c.process.ensures here op known in
-    (subst (λ (x : MachineValue). WaitsFor x a waiting) c.self.view_is (λ r h. sym (waits r h)), refl)
+    let waits = waiting_is m a c.process-proc.result c.seat-seat.result c.in-Some.op.now (Some waiting) c.reached_states_stand.ensures rest c.process-proc.ensures here op known in
+    (subst (λ (x : MachineValue). WaitsFor x a waiting) c.self.view_is (λ r h. sym (waits r h)), record { machine = refl; notes = refl; room = refl-≤ })
 
 -- it goes
 turn-taken : (c : goal.After-self-1) → TakesTurns (machine_of c.self.inside.script c.self.inside.parts c.self.inside.seats.items c.self.inside.turns)
-    (machine_of c.self.inside.script c.take_op.new.parts c.set_seat.new.seats.items c.next_turn-number.result) c.args.actor
-    (notes_of_turn c.next_turn-number.result c.args.actor (c.seat-seat.result.answered + 1) (whats_of c.take_op.result.0))
+    (machine_of c.self.inside.script c.take_op.new.parts c.set_seat.new.seats.items c.next_turn-turn.result) c.args.actor
+    (notes_of_turn c.next_turn-turn.result c.args.actor (c.seat-seat.result.answered + 1) (whats_of c.take_op.ensures.turn.said))
 turn-taken c =
     let i = c.self.inside in
     let a = c.args.actor in
@@ -129,35 +139,46 @@ turn-taken c =
     let rest = subst (λ (x : MachineValue). IsAtRest x) (sym c.self.view_is) c.rests.ensures in
     let here = subst (λ (x : MachineValue). slice_get x.seats a ≡ Some c.seat-seat.result) (sym c.self.view_is) c.seat-seat.ensures in
     let op = sym (ap (λ ops. slice_get ops c.seat-seat.result.answered) c.ops.ensures) ∙ c.in-Some.ensures in
-    let known : IsWaiting m a c.process.result c.seat-seat.result c.in-Some.op.now None =
+    let known : IsWaiting m a c.process-proc.result c.seat-seat.result c.in-Some.op.now None =
     λ s who far shown actor of_who place at. sym c.in_default-waits_for.is ∙ c.waits_for.ensures s who far shown actor of_who place at in
-    goes m a c.process-proc.result c.seat-seat.result c.behind-next.result c.in-Some.op.now c.take_op.new.parts c.set_seat.new.seats.items c.next_turn-number.result c.take_op.result.0 c.take_op.result.1
-    c.reached_states_stand.ensures rest c.process-proc.ensures here op c.next_turn-number.ensures
-    (waiting_is m a c.process.result c.seat-seat.result c.in-Some.op.now None c.reached_states_stand.ensures rest c.process.ensures here op known)
-    (c.behind-next.ensures ∙ ap (λ b. seat_behind c.seat-seat.result c.in-Some.op.now b c.take_op.result.1) c.is_last.ensures)
-    c.set_seat.ensures.here c.set_seat.ensures.others c.take_op.ensures.turn
+    let told = c.take_op.ensures.turn in
+    goes m a c.process-proc.result c.seat-seat.result c.behind-next.result c.in-Some.op.now c.take_op.new.parts c.set_seat.new.seats.items c.next_turn-turn.result told.said c.take_op.result.1
+    c.reached_states_stand.ensures rest c.process-proc.ensures here op c.next_turn-turn.ensures
+    (waiting_is m a c.process-proc.result c.seat-seat.result c.in-Some.op.now None c.reached_states_stand.ensures rest c.process-proc.ensures here op known)
+    (c.behind-next.ensures ∙ ap (λ b. seat_behind c.seat-seat.result c.in-Some.op.now b c.take_op.result.1) told.ends)
+    c.set_seat.ensures.here c.set_seat.ensures.others told.is_so
 
 pub invariant_of-self : goal.invariant_of-self
 invariant_of-self c =
     let i = c.self.inside in
-    still_machine (machine_of i.script i.parts i.seats.items i.turns) (machine_of i.script c.take_op.new.parts c.set_seat.new.seats.items c.next_turn-number.result) c.args.actor
-    (notes_of_turn c.next_turn-number.result c.args.actor (c.seat-seat.result.answered + 1) (whats_of c.take_op.result.0))
+    still_machine (machine_of i.script i.parts i.seats.items i.turns) (machine_of i.script c.take_op.new.parts c.set_seat.new.seats.items c.next_turn-turn.result) c.args.actor
+    (notes_of_turn c.next_turn-turn.result c.args.actor (c.seat-seat.result.answered + 1) (whats_of c.take_op.ensures.turn.said))
     c.self.invariant (still_parts c.self.inside.script c.self.inside.parts c.take_op.new.parts c.self.invariant.parts c.take_op.ensures.spaces c.take_op.ensures.births c.take_op.ensures.taken c.take_op.ensures.stores c.take_op.ensures.slots)
     (c.set_seat.ensures.many ∙ c.self.invariant.seats) (turn-taken c)
 
-pub returns-clause-goes : goal.returns-clause-goes
-returns-clause-goes c =
+pub returns-clause-advances : goal.returns-clause-advances
+returns-clause-advances c =
     let i = c.self.inside in
     let a = c.args.actor in
     let m = machine_of i.script i.parts i.seats.items i.turns in
     let rest = subst (λ (x : MachineValue). IsAtRest x) (sym c.self.view_is) c.rests.ensures in
     let here = subst (λ (x : MachineValue). slice_get x.seats a ≡ Some c.seat-seat.result) (sym c.self.view_is) c.seat-seat.ensures in
     let op = sym (ap (λ ops. slice_get ops c.seat-seat.result.answered) c.ops.ensures) ∙ c.in-Some.ensures in
-    let known : IsWaiting m a c.process.result c.seat-seat.result c.in-Some.op.now None =
+    let known : IsWaiting m a c.process-proc.result c.seat-seat.result c.in-Some.op.now None =
     λ s who far shown actor of_who place at. sym c.in_default-waits_for.is ∙ c.waits_for.ensures s who far shown actor of_who place at in
-    let ready = waiting_is m a c.process.result c.seat-seat.result c.in-Some.op.now None c.reached_states_stand.ensures rest c.process.ensures here op known in
-    let n = machine_of i.script c.take_op.new.parts c.set_seat.new.seats.items c.next_turn-number.result in
-    let says = says_turn m n a c.seat-seat.result c.next_turn-number.result (whats_of c.take_op.result.0) here c.next_turn-number.ensures (turn-taken c) in (
+    let ready = waiting_is m a c.process-proc.result c.seat-seat.result c.in-Some.op.now None c.reached_states_stand.ensures rest c.process-proc.ensures here op known in
+    let n = machine_of i.script c.take_op.new.parts c.set_seat.new.seats.items c.next_turn-turn.result in
+    let told = c.take_op.ensures.turn in
+    let notes = notes_of_turn c.next_turn-turn.result a (c.seat-seat.result.answered + 1) (whats_of told.said) in
+    let taken = turn-taken c in (
       subst (λ (x : MachineValue). CanGo x a) c.self.view_is (goes_so m a c.seat-seat.result c.in-Some.op.now here op ready),
-      subst (λ (x : MachineValue). SaysTurn x n a (whats_of c.take_op.result.0)) c.self.view_is says,
+      subst (λ (x : MachineValue). WritesTurn x n c.args.journal.now c.take_op.new.journal a) c.self.view_is (λ r h. (notes, told.tells.notes, taken r h)),
     )
+
+pub returns-clause-more : goal.returns-clause-more
+returns-clause-more c moved =
+    let told = c.take_op.ensures.turn in
+    few_more c.args.journal.now c.take_op.new.journal c.next_turn-turn.result c.args.actor (c.seat-seat.result.answered + 1) told.said told.tells.notes
+
+pub returns-clause-kept : goal.returns-clause-kept
+returns-clause-kept c = c.take_op.ensures.turn.tells.kept

@@ -2,7 +2,7 @@ use Rattle.std.proofs.Common.{subst, sym, ◌∙◌}
 use Rattle.gup_frames.specs.Frames.{frames_of}
 use Rattle.gup_core.specs.Machine.{MachineValue, Shows}
 use Rattle.gup_core.proofs.FreeFrames.{free_shown}
-use Rattle.gup_core.proofs.machine.Machine.free_frames.Goals as goal
+use Rattle.gup_core.proofs.inner.Inner.free_frames.Goals as goal
 
 pub returns : goal.returns
 returns c r shown =

@@ -1,0 +1,194 @@
+//! The machine but for what it keeps of notes: its script and parts, and where each actor stands.
+ghost use Rattle.std.specs.Prelude.{◌≡◌, ℕ, ◌+◌, ◌<◌, ◌≤◌, [], ◌∷◌, length, slice_get, Some, IfOk};
+ghost use Rattle.gup_spec_journal.specs.Place.{has_finished};
+ghost use Rattle.gup_spec_turns.specs.Run.{RunState, waiting_in};
+ghost use Rattle.gup_core.specs.Machine.{Shows, IsNew, counted, free_frames_in};
+ghost use Rattle.gup_core.specs.Going.{Advances, WritesTurn, HasMore, IsMoved, IsStill, KeepsRoom};
+ghost use Rattle.gup_core.specs.Rest.{IsAtRest};
+
+use crate::outcome::Advanced;
+use crate::seats::{self, Seat, seat_of, set_seat};
+use crate::takes::take_op;
+use crate::turns::{next_turn, op_at, ops, process};
+use gup_base::{ActorNo, NoMemory, Zone};
+use gup_op_base::Head;
+use gup_op_waits::parts::{self, Parts};
+use gup_op_waits::waits_for;
+use gup_plain::{Journal, Waiting, What};
+use gup_script::Script;
+use std::alloc::Global;
+use std::marker::Model;
+
+/// What a machine is, but for the notes of its last turn.
+#[derive(Drop)]
+pub(crate) struct Inner {
+    script: Script,
+    parts: Parts,
+    seats: Vec<Seat>,
+    turns: u32,
+}
+
+impl Model for Inner {
+    ghost use Rattle.gup_core.specs.Machine.{MachineValue, IsMachine};
+
+    ghost Value = { MachineValue };
+
+    ghost view = { λ m. record {
+      script = m.script;
+      parts = m.parts;
+      seats = m.seats.items;
+      turns = m.turns;
+    } };
+
+    ghost invariant = { λ m. IsMachine (record {
+      script = m.script;
+      parts = m.parts;
+      seats = m.seats.items;
+      turns = m.turns;
+    }) };
+}
+
+impl Inner {
+    /// That of a machine at the start of the script.
+    pub(crate) fn of(alloc: Global, script: Script) -> Result<Inner, NoMemory>
+        ensures { IfOk result (IsNew script) }
+    {
+        let parts = parts::first(alloc, &script)?;
+        let seats = seats::first(alloc, script.actors())?;
+        Ok(Inner {
+            script,
+            parts,
+            seats,
+            turns: 0,
+        })
+    }
+
+    pub(crate) fn script(&self) -> &Script
+        ensures { result.now ≡ self.now.script }
+    {
+        &self.script
+    }
+
+    /// Takes the actor's turn if it can go, and puts its notes on. Where it waits or has finished, nothing changes.
+    pub(crate) fn go(&mut self, actor: ActorNo, journal: &mut Journal) -> Advanced
+        requires actor { actor < length self.old.script.actors }
+        requires room { 3 ≤ journal.old.room }
+        ensures advances { Advances self.old self.new journal.old journal.new actor result }
+        ensures more { IsMoved result → HasMore journal.old journal.new }
+        ensures kept { KeepsRoom journal.old journal.new }
+        ensures script { self.new.script ≡ self.old.script }
+    {
+        self.rests();
+        gup_law_turns::reached_states_stand();
+        let seat = self.seat(actor);
+        let Some(op) = op_at(ops(&self.script, actor), seat.answered) else {
+            return Advanced::Finished;
+        };
+        let proc = process(&self.script, actor);
+        if let Some(waiting) = waits_for(&self.parts, actor, proc, seat.job, op) {
+            return Advanced::Waits(waiting);
+        }
+        let turn = next_turn(self.turns);
+        let head = Head {
+            turn,
+            actor,
+            op: seat.answered + 1,
+        };
+        let (over, job) = take_op(
+            &mut self.parts,
+            journal,
+            &head,
+            proc,
+            seat.far,
+            seat.job,
+            op,
+        );
+        let next = seats::behind(&seat, op, over, job);
+        set_seat(&mut self.seats, actor, &next);
+        self.turns = turn;
+        Advanced::Moved
+    }
+
+    /// Takes the actor's turn, and puts its notes on, also where it waits or has finished.
+    pub(crate) fn take_turn(&mut self, actor: ActorNo, journal: &mut Journal)
+        requires actor { actor < length self.old.script.actors }
+        requires room { 3 ≤ journal.old.room }
+        ensures turn { WritesTurn self.old self.new journal.old journal.new actor }
+        ensures more { HasMore journal.old journal.new }
+        ensures kept { KeepsRoom journal.old journal.new }
+        ensures script { self.new.script ≡ self.old.script }
+    {
+        match self.go(actor, journal) {
+            Advanced::Moved => {}
+            Advanced::Waits(waiting) => self.still(actor, What::Wait(waiting), journal),
+            Advanced::Finished => self.still(actor, What::Idle, journal),
+        }
+    }
+
+    // A turn that changes nothing.
+    #[inline(always)]
+    fn still(&mut self, actor: ActorNo, what: What, journal: &mut Journal)
+        requires actor { actor < length self.old.script.actors }
+        requires still { IsStill self.old actor what }
+        requires room { 1 ≤ journal.old.room }
+        ensures turn { WritesTurn self.old self.new journal.old journal.new actor }
+        ensures more { HasMore journal.old journal.new }
+        ensures kept { KeepsRoom journal.old journal.new }
+        ensures script { self.new.script ≡ self.old.script }
+    {
+        self.rests();
+        let seat = self.seat(actor);
+        let turn = next_turn(self.turns);
+        let head = Head {
+            turn,
+            actor,
+            op: seat.answered + 1,
+        };
+        head.tell(journal, what);
+        self.turns = turn;
+    }
+
+    pub(crate) fn waits(&self, actor: ActorNo) -> Option<Waiting>
+        requires { actor < length self.now.script.actors }
+        ensures { (r : RunState) → Shows self.now r → result ≡ waiting_in self.now.script r actor }
+    {
+        self.rests();
+        gup_law_turns::reached_states_stand();
+        let seat = self.seat(actor);
+        let Some(op) = op_at(ops(&self.script, actor), seat.answered) else {
+            return None;
+        };
+        let proc = process(&self.script, actor);
+        waits_for(&self.parts, actor, proc, seat.job, op)
+    }
+
+    pub(crate) fn finished(&self, actor: ActorNo) -> bool
+        requires { actor < length self.now.script.actors }
+        ensures { (r : RunState) → Shows self.now r → result ≡ has_finished self.now.script actor (r.places actor) }
+    {
+        ops(&self.script, actor).len() <= self.seat(actor).answered as usize
+    }
+
+    pub(crate) fn free_frames(&self, zone: Zone) -> u32
+        ensures { (r : RunState) → Shows self.now r → result ≡ free_frames_in r.core zone }
+    {
+        self.parts.frames.free(zone)
+    }
+
+    // Where the actor stands.
+    fn seat(&self, actor: ActorNo) -> Seat
+        requires { actor < length self.now.script.actors }
+        ensures { slice_get self.now.seats actor ≡ Some result }
+    {
+        seat_of(&self.seats, actor)
+    }
+
+    // What is true of a machine between two turns.
+    fn rests(&self)
+        ensures { IsAtRest self.now }
+    {
+        let _actors = self.script.actors();
+        self.parts.frames.are_there();
+        gup_law_turns::reached_states_stand();
+    }
+}
