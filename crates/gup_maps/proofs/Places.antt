@@ -32,6 +32,31 @@ module _ (pages : List ℕ) (ordered : IsOrdered pages) where
       let le : get_or pages (low + half - 1) 0 ≤ get_or pages i 0 = rises (low + half - 1) i (omega arith) within in
       omega arith
 
+  -- the page's own place, if it is there, and the places that no search finds: the first, and behind all
+  pub place_there : (page i : ℕ) → IsThere pages page i → IsPlace pages page i
+  place_there page i there =
+      record {
+        within = omega (arith, there.0);
+        before = λ j less. let below : get_or pages j 0 < get_or pages i 0 = ordered j i less there.0 in omega (arith, there.1);
+        behind = λ j above inside. let le : get_or pages i 0 ≤ get_or pages j 0 = rises i j above inside in omega (arith, there.1);
+      }
+
+  pub place_first : (page : ℕ) → page ≤ get_or pages 0 0 → IsPlace pages page 0
+  place_first page first =
+      record {
+        within = omega arith;
+        before = λ j less. absurd (omega arith);
+        behind = λ j above inside. let le : get_or pages 0 0 ≤ get_or pages j 0 = rises 0 j above inside in omega arith;
+      }
+
+  pub place_past : (page last n : ℕ) → length pages ≡ n → last + 1 ≡ n → get_or pages last 0 < page → IsPlace pages page n
+  place_past page last n len ends below =
+      record {
+        within = omega arith;
+        before = λ j less. let le : get_or pages j 0 ≤ get_or pages last 0 = rises j last (omega arith) (omega arith) in omega arith;
+        behind = λ j above inside. absurd (omega arith);
+      }
+
   -- the place of the next page
   pub place_more : (page i : ℕ) → IsPlace pages page i → IsThere pages page i → IsPlace pages (page + 1) (i + 1)
   place_more page i h there =

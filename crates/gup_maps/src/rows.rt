@@ -61,7 +61,7 @@ fn insert_run<V: Copy>(rows: &mut Vec<(PageNo, V)>, place: usize, page: PageNo, 
 {
     for k in 0..n {
         let next = PageNo::new(page.get() + u64::from(k)).unwrap();
-        rows.push((next, value)).unwrap();
+        rows.push_reserved((next, value));
     }
     rows[place..].rotate_right(usize::from(n));
 }
@@ -107,6 +107,21 @@ impl<V: Copy> Rows<V> {
     {
         self.start = make_room(&mut self.items, self.start, n);
         insert_run(&mut self.items, self.start + place, page, n, value);
+    }
+
+    /// Puts the page's row at this place. No other row moves where it is the last, but to make room.
+    pub(crate) fn insert(&mut self, place: usize, page: PageNo, value: V)
+        requires place { place ≤ length self.old }
+        requires room { length self.old < 1024 }
+        ensures rows { self.new ≡ take place self.old ++ (run page 1 value ++ drop place self.old) }
+    {
+        self.start = make_room(&mut self.items, self.start, 1);
+        let at = self.start + place;
+        if at == self.items.len() {
+            self.items.push_reserved((page, value));
+        } else {
+            self.items.insert(at, (page, value)).unwrap();
+        }
     }
 
     /// Gives the `n` rows from this place on this value.

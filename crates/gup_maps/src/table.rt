@@ -34,8 +34,47 @@ fn is_below(page: PageNo, other: PageNo) -> usize
     (page.get().wrapping_sub(other.get()) >> 63) as usize
 }
 
-// The place of the page among the rows: that of the first row that isn't below it.
+// Whether the page's row stands at this place.
+#[inline(always)]
+fn stands_at<V>(rows: &[(PageNo, V)], place: usize, page: PageNo) -> bool
+    ensures { MatchBool result (IsThere (pages_of rows.now) page place) (IsThere (pages_of rows.now) page place → ⊥) }
+{
+    place < rows.len() && rows[place].0 == page
+}
+
+// The place of the page among the rows: that of the first row that isn't below it. Pages mostly stand next to each other,
+// so it is tried first whether none is missing between the page and the first row, or the page and the last one.
+#[inline]
 fn place_of<V>(rows: &[(PageNo, V)], page: PageNo) -> usize
+    requires { IsOrdered (pages_of rows.now) }
+    ensures { IsPlace (pages_of rows.now) page result }
+{
+    let len = rows.len();
+    if len == 0 {
+        return 0;
+    }
+    let first = rows[0].0.get();
+    if page.get() <= first {
+        return 0;
+    }
+    let after_first = (page.get() - first) as usize;
+    if stands_at(rows, after_first, page) {
+        return after_first;
+    }
+    let last = rows[len - 1].0.get();
+    if last < page.get() {
+        return len;
+    }
+    let from_end = (last - page.get()) as usize + 1;
+    if from_end <= len && stands_at(rows, len - from_end, page) {
+        return len - from_end;
+    }
+    search(rows, page)
+}
+
+// The same, wherever the page stands.
+#[inline(never)]
+fn search<V>(rows: &[(PageNo, V)], page: PageNo) -> usize
     requires { IsOrdered (pages_of rows.now) }
     ensures { IsPlace (pages_of rows.now) page result }
 {
@@ -51,12 +90,13 @@ fn place_of<V>(rows: &[(PageNo, V)], page: PageNo) -> usize
 }
 
 // Whether the page has a row, which then stands at its place.
+#[inline(always)]
 fn has_row<V>(rows: &[(PageNo, V)], place: usize, page: PageNo) -> bool
     requires ordered { IsOrdered (pages_of rows.now) }
     requires place { IsPlace (pages_of rows.now) page place }
     ensures { MatchBool result (IsThere (pages_of rows.now) page place) (at rows.now page ≡ None) }
 {
-    place < rows.len() && rows[place].0 == page
+    stands_at(rows, place, page)
 }
 
 // Whether each of the `n` pages from `page` on has a row. They are then next to each other.
@@ -115,17 +155,49 @@ impl<V: Copy> Table<V> {
         let _rows = &self.rows;
     }
 
-    /// The value at the page, where there is one.
-    pub fn get(&self, page: PageNo) -> Option<V>
-        ensures { result ≡ at self.now page }
+    /// The place of the page's value, where it has one, for [`Table::value_at`] and [`Table::set_at`]. It stays so until
+    /// a page gets its first value, or loses its value.
+    #[inline]
+    pub fn find(&self, page: PageNo) -> Option<usize>
+        ensures { MatchOption result (at self.now page ≡ None) (IsThere (pages_of self.now) page) }
     {
         let rows = self.rows.as_slice();
         let place = place_of(rows, page);
         if has_row(rows, place, page) {
-            Some(rows[place].1)
+            Some(place)
         } else {
             None
         }
+    }
+
+    /// The value of the page whose place this is.
+    #[inline(always)]
+    pub fn value_at(&self, place: usize) -> V
+        requires { place < length self.now }
+        ensures { (page : ℕ) → IsThere (pages_of self.now) page place → at self.now page ≡ Some result }
+    {
+        self.rows.as_slice()[place].1
+    }
+
+    /// Gives the page whose place this is the value, in place of its own.
+    #[inline(always)]
+    pub fn set_at(&mut self, place: usize, value: V)
+        requires { place < length self.old }
+        ensures at { (page : ℕ) → IsThere (pages_of self.old) page place → at self.new ≡ put page (Some value) (at self.old) }
+        ensures len { length self.new ≡ length self.old }
+    {
+        self.rows.fill(place, 1, value);
+    }
+
+    /// The value at the page, where there is one.
+    #[inline]
+    pub fn get(&self, page: PageNo) -> Option<V>
+        ensures { result ≡ at self.now page }
+    {
+        let Some(place) = self.find(page) else {
+            return None;
+        };
+        Some(self.value_at(place))
     }
 
     /// The least page with a value at or above this one, where there is one.
@@ -150,9 +222,9 @@ impl<V: Copy> Table<V> {
         let rows = self.rows.as_slice();
         let place = place_of(rows, page);
         if has_row(rows, place, page) {
-            self.rows.fill(place, 1, value);
+            self.set_at(place, value);
         } else {
-            self.rows.insert_run(place, page, 1, value);
+            self.rows.insert(place, page, value);
         }
     }
 

@@ -1,6 +1,6 @@
 use Rattle.std.proofs.Common.{ℕ, ◌+◌, ◌<◌, ◌≤◌, length, get_or}
 use Rattle.gup_maps.specs.Table.{pages_of}
-use Rattle.gup_maps.proofs.table.place_of.Given as goal
+use Rattle.gup_maps.proofs.table.search.Given as goal
 
 -- the rows before low are below the page, and those from low + size on aren't
 abbrev pub invariant-loop-size : goal.invariant-loop-size
