@@ -1,0 +1,3 @@
+pub mod PlainWaits
+pub mod LocksKept
+pub mod Sleepers
