@@ -1,5 +1,5 @@
 -- What comes of asking an actor for its turn.
-use Rattle.std.proofs.Common.{◌≡◌, ℕ, ◌+◌, ◌≤◌, ◌++◌, true, List, [], ◌∷◌, length, slice_get, Option, Some, None, refl, sym, ap, ◌∙◌, subst, arith}
+use Rattle.std.proofs.Common.{◌≡◌, ℕ, ◌+◌, ◌≤◌, ◌++◌, Bool, true, List, [], ◌∷◌, length, slice_get, Option, Some, None, refl, sym, ap, ◌∙◌, subst, arith}
 use Rattle.std.proofs.lemmas.Bool.Decides.{nat_tests}
 use Rattle.std.proofs.lemmas.Option.{slice_get_past}
 use Rattle.gup_plain.specs.Note.{NoteValue, JournalValue}
@@ -11,16 +11,23 @@ use Rattle.gup_script.specs.Script.{ScriptValue}
 use Rattle.gup_spec_events.specs.State.{CoreState}
 use Rattle.gup_spec_journal.specs.Place.{Doer, Place, doer, has_finished, ops_of}
 use Rattle.gup_spec_journal.specs.Follows.{note_of, notes_of_turn}
-use Rattle.gup_spec_turns.specs.Run.{RunState, is_ready, op_in, waiting_in, waiting_with, core_turn_by}
+use Rattle.gup_spec_turns.specs.Run.{RunState, is_ready, op_in, waiting_in, waiting_with, core_turn_by, run_after}
 use Rattle.gup_core.specs.declared.seats.Seat.{Seat}
 use Rattle.gup_core.specs.Machine.{MachineValue, machine_of, counted, Shows, TakesTurn, TakesTurns}
-use Rattle.gup_core.specs.Going.{CanGo, WaitsFor, HasFinished, HasMore, IsStill}
+use Rattle.gup_core.specs.Going.{CanGo, WaitsFor, HasFinished, HasMore, IsStill, MayWakeOf}
 use Rattle.gup_op_base.specs.Said.{Said, whats_by, whats_of}
 use Rattle.gup_plain.specs.declared.answer.Answer.{Answer}
 use Rattle.gup_plain.specs.declared.event.PlainEvent.{PlainEvent}
 use Rattle.gup_core.specs.Rest.{op_of_seat}
 use Rattle.gup_core.proofs.Resting.{op_there}
-use Rattle.gup_core.proofs.Taking.{stays, says_so}
+use Rattle.gup_core.proofs.Taking.{stays, says_so, job_of_seat}
+use Rattle.gup_core.specs.Seats.{seat_behind}
+use Rattle.gup_core.specs.Waking.{woken_of}
+use Rattle.gup_core.specs.declared.outcome.Woken.{Woken}
+use Rattle.gup_law_waits.specs.Woken.{wakes}
+use Rattle.gup_op_base.specs.declared.jobs.JobPlace.{JobPlace}
+use Rattle.gup_op_base.specs.Jobs.{place_of}
+use Rattle.gup_spec_turns.specs.JobPlace.{place_in}
 
 -- the actor has an operation, and doesn't wait
 pub goes_so : (m : MachineValue) (a : ℕ) (seat : Seat) (op : Op) → slice_get m.seats a ≡ Some seat → op_of_seat m a seat ≡ Some op → ((r : RunState) → Shows m r → None ≡ waiting_in m.script r a) → CanGo m a
@@ -53,6 +60,16 @@ pub finished_still : (m : MachineValue) (a : ℕ) → HasFinished m a → IsStil
 finished_still m a finished r h =
     let none : op_in m.script r a ≡ None = slice_get_past (ops_of m.script a) (r.places a).answered (finished_at m.script a (r.places a) (finished r h)) in
     (ap (λ o. core_turn_by r.core (doer m.script a) (r.places a).far o (waiting_in m.script r a)) none, refl)
+
+-- ---- whom it wakes
+
+pub wakes_so : (m n : MachineValue) (a : ℕ) (seat next : Seat) (op : Op) (over : Bool) (job : JobPlace) (notes : List NoteValue) (woken : Woken)
+    → slice_get m.seats a ≡ Some seat → op_of_seat m a seat ≡ Some op → next ≡ seat_behind seat op over job → slice_get n.seats a ≡ Some next
+    → TakesTurns m n a notes → woken_of woken ≡ wakes (Some op) (place_of job) → MayWakeOf m a woken
+wakes_so m n a seat next op over job notes woken here present next_is seated taken is r h =
+    let stands : place_of job ≡ place_in (run_after m.script r a).core a =
+    ap place_of (sym (job_of_seat seat op over job)) ∙ ap (λ (x : Seat). place_of x.job) (sym next_is) ∙ (taken r h).shown.jobs a next seated in
+    is ∙ ap (λ o. wakes o (place_of job)) (sym (op_there m r a seat (Some op) h here present)) ∙ ap (λ p. wakes (op_in m.script r a) p) stands
 
 -- ---- how many notes there are
 

@@ -189,7 +189,7 @@ seat_next script a place seat op job None (Some next) (Some answer) is at two =
 seat_next script a place seat op job (Some event) (Some next) (Some answer) is at two =
     (ap (λ k. k + 1) at.0, first_far (present_op script a (place_behind place (whats_by (Some event) (Some next) (Some answer)))))
 
-job_of_seat : (seat : Seat) (op : Op) (answered : Bool) (job : JobPlace) → (seat_behind seat op answered job).job ≡ job
+pub job_of_seat : (seat : Seat) (op : Op) (answered : Bool) (job : JobPlace) → (seat_behind seat op answered job).job ≡ job
 job_of_seat seat op true job = refl
 job_of_seat seat op false job = refl
 

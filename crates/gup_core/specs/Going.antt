@@ -4,10 +4,14 @@ use Rattle.gup_plain.specs.Note.{NoteValue, JournalValue}
 use Rattle.gup_plain.specs.declared.note.Waiting.{Waiting}
 use Rattle.gup_plain.specs.declared.note.What.{What}
 use Rattle.gup_spec_journal.specs.Place.{has_finished, place_behind}
-use Rattle.gup_spec_turns.specs.Run.{RunState, can_go, waiting_in, core_turn_in}
+use Rattle.gup_spec_turns.specs.JobPlace.{place_in}
+use Rattle.gup_spec_turns.specs.Run.{RunState, op_in, can_go, waiting_in, core_turn_in, run_after}
+use Rattle.gup_law_waits.specs.Woken.{wakes}
 use Rattle.gup_core.specs.declared.outcome.Advanced.{Advanced}
 use Rattle.gup_core.specs.declared.outcome.Advanced.TheVariants.{Moved, Waits, Finished}
+use Rattle.gup_core.specs.declared.outcome.Woken.{Woken}
 use Rattle.gup_core.specs.Machine.{MachineValue, Shows, TakesTurn}
+use Rattle.gup_core.specs.Waking.{woken_of}
 
 -- in each state that the machine shows the actor could take a turn
 abbrev pub CanGo : MachineValue → (actor : ℕ) → Type 0
@@ -32,14 +36,20 @@ pub record Stays (old new : MachineValue) (was now : JournalValue) : Type 0 wher
   pub notes : now.notes ≡ was.notes
   pub room : was.room ≤ now.room
 
+-- from each state that the machine shows the actor's turn may wake these
+abbrev pub MayWakeOf : (old : MachineValue) → (actor : ℕ) → Woken → Type 0
+MayWakeOf old actor woken =
+    (r : RunState) → Shows old r
+    → woken_of woken ≡ wakes (op_in old.script r actor) (place_in (run_after old.script r actor).core actor)
+
 -- What is true after an actor was asked for its turn: it could go and has gone, or it waits, or it has finished.
 abbrev pub Advances : (old new : MachineValue) → (was now : JournalValue) → (actor : ℕ) → Advanced → Type 0
-Advances old new was now actor Moved = CanGo old actor × WritesTurn old new was now actor
+Advances old new was now actor (Moved woken) = CanGo old actor × WritesTurn old new was now actor × MayWakeOf old actor woken
 Advances old new was now actor (Waits waiting) = WaitsFor old actor waiting × Stays old new was now
 Advances old new was now actor Finished = HasFinished old actor × Stays old new was now
 
 abbrev pub IsMoved : Advanced → Type 0
-IsMoved Moved = Unit {0}
+IsMoved (Moved woken) = Unit {0}
 IsMoved (Waits waiting) = ⊥
 IsMoved Finished = ⊥
 

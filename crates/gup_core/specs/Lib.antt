@@ -3,3 +3,4 @@ pub mod Machine
 pub mod Goes
 pub mod Rest
 pub mod Going
+pub mod Waking

@@ -6,7 +6,7 @@ ghost use Rattle.gup_core.specs.Machine.{Shows, IsNew, counted, free_frames_in};
 ghost use Rattle.gup_core.specs.Going.{Advances, WritesTurn, HasMore, IsMoved, IsStill, KeepsRoom};
 ghost use Rattle.gup_core.specs.Rest.{IsAtRest};
 
-use crate::outcome::Advanced;
+use crate::outcome::{Advanced, woken_by};
 use crate::seats::{self, Seat, seat_of, set_seat};
 use crate::takes::take_op;
 use crate::turns::{next_turn, op_at, ops, process};
@@ -103,10 +103,11 @@ impl Inner {
             seat.job,
             op,
         );
+        let woken = woken_by(op, job);
         let next = seats::behind(&seat, op, over, job);
         set_seat(&mut self.seats, actor, &next);
         self.turns = turn;
-        Advanced::Moved
+        Advanced::Moved(woken)
     }
 
     /// Takes the actor's turn, and puts its notes on, also where it waits or has finished.
@@ -119,7 +120,7 @@ impl Inner {
         ensures script { self.new.script ≡ self.old.script }
     {
         match self.go(actor, journal) {
-            Advanced::Moved => {}
+            Advanced::Moved(_woken) => {}
             Advanced::Waits(waiting) => self.still(actor, What::Wait(waiting), journal),
             Advanced::Finished => self.still(actor, What::Idle, journal),
         }

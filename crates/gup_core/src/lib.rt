@@ -11,5 +11,5 @@ mod turn;
 mod turns;
 
 pub use machine::Machine;
-pub use outcome::Advanced;
+pub use outcome::{Advanced, Woken};
 pub use turn::Turn;

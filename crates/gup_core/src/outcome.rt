@@ -1,13 +1,53 @@
 //! What comes of asking an actor for its turn.
+ghost use Rattle.std.specs.Prelude.{◌≡◌, ℕ, Some};
+ghost use Rattle.gup_script.specs.declared.op.Op.TheVariants.{Fork};
+ghost use Rattle.gup_law_waits.specs.Woken.{wakes};
+ghost use Rattle.gup_op_base.specs.Jobs.{place_of};
+ghost use Rattle.gup_core.specs.Waking.{woken_of};
+
+use gup_base::ActorNo;
+use gup_op_base::JobPlace;
 use gup_plain::Waiting;
+use gup_script::Op;
+
+/// Who may be able to go after a turn, and could not before it. All others who waited or had finished still do.
+#[derive(Clone, Copy, Debug)]
+pub enum Woken {
+    /// Nobody.
+    Nobody,
+    /// This actor alone, to whom a pin was given.
+    One(ActorNo),
+    /// Whoever waits: a fork is over.
+    Everybody,
+}
 
 /// What came of asking an actor for its turn.
 #[derive(Clone, Copy, Debug)]
 pub enum Advanced {
-    /// It has taken its turn.
-    Moved,
+    /// It has taken its turn, which may have woken these.
+    Moved(Woken),
     /// It waits for this.
     Waits(Waiting),
     /// It has answered all its operations.
     Finished,
+}
+
+/// Whom a turn of the operation may have woken, after which its actor's job stands there.
+pub(crate) fn woken_by(op: &Op, place: JobPlace) -> Woken
+    ensures { woken_of result ≡ wakes (Some op.now) (place_of place) }
+{
+    match op {
+        Op::Give { handle: _, to } => Woken::One(*to),
+        Op::Fork { child: _ } => woken_by_fork(place),
+        _ => Woken::Nobody,
+    }
+}
+
+fn woken_by_fork(place: JobPlace) -> Woken
+    ensures { (child : ℕ) → woken_of result ≡ wakes (Some (Fork child)) (place_of place) }
+{
+    match place {
+        JobPlace::Unbegun => Woken::Everybody,
+        _ => Woken::Nobody,
+    }
 }

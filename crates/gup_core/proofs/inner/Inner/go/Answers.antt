@@ -3,11 +3,11 @@ use Rattle.gup_law_turns.proofs.ScriptLemmas.{op_is_op}
 use Rattle.gup_op_base.specs.Said.{whats_of}
 use Rattle.gup_spec_journal.specs.Follows.{notes_of_turn}
 use Rattle.gup_core.specs.Machine.{MachineValue, machine_of, TakesTurns}
-use Rattle.gup_core.specs.Going.{CanGo, WaitsFor, WritesTurn}
+use Rattle.gup_core.specs.Going.{CanGo, WaitsFor, WritesTurn, MayWakeOf}
 use Rattle.gup_core.specs.Rest.{IsAtRest}
 use Rattle.gup_core.specs.Seats.{seat_behind}
 use Rattle.gup_core.proofs.Ready.{is_ready, still_parts, process_found_so, process_within, child_within, few}
-use Rattle.gup_core.proofs.Advancing.{goes_so, few_more}
+use Rattle.gup_core.proofs.Advancing.{goes_so, few_more, wakes_so}
 use Rattle.gup_core.proofs.Taking.{still_machine, waiting_is, goes, IsWaiting}
 use Rattle.gup_core.proofs.inner.Inner.go.Goals as goal
 
@@ -173,6 +173,8 @@ returns-clause-advances c =
     let taken = turn-taken c in (
       subst (λ (x : MachineValue). CanGo x a) c.self.view_is (goes_so m a c.seat-seat.result c.in-Some.op.now here op ready),
       subst (λ (x : MachineValue). WritesTurn x n c.args.journal.now c.take_op.new.journal a) c.self.view_is (λ r h. (notes, told.tells.notes, taken r h)),
+      subst (λ (x : MachineValue). MayWakeOf x a c.woken_by-woken.result) c.self.view_is
+      (wakes_so m n a c.seat-seat.result c.behind-next.result c.in-Some.op.now c.take_op.result.0 c.take_op.result.1 notes c.woken_by-woken.result here op c.behind-next.ensures c.set_seat.ensures.here taken c.woken_by-woken.ensures),
     )
 
 pub returns-clause-more : goal.returns-clause-more
