@@ -95,7 +95,7 @@ copies_on s a p c page word job prepared is here =
 
 -- ---- its frame
 
-pub frame_taken : (F F' : FramesValue) (P C : SpaceValue) (a p c page to : ℕ) → free_frame F Any ≡ Some to → F' ≡ taken to F → IsForking (change F F' P P C C) a p c (wants_frame page) (at_word page 0 to) (Silent ∷ [])
+pub frame_taken : (F F' : FramesValue) (P C : SpaceValue) (a p c page to : ℕ) → free_frame F Any ≡ Some to → F' ≡ taken to F → IsForking (change F F' P P C C) a p c (wants_frame page) (at_word page 0 to) (growing p) (Silent ∷ [])
 frame_taken F F' P C a p c page to free is birth s shown fork =
     let both = wants_one s a p c page (s.job a) (s.prepared a) fork.at shown.place in
     let here = both.1 in
@@ -118,7 +118,7 @@ frame_taken F F' P C a p c page to free is birth s shown fork =
 
 -- ---- its words
 
-pub word_copied : (k : ForkChange) (a p c page word to : ℕ) (e : Entry) → nat_lt word words ≡ true → k.old_parent.entry page ≡ Some e → ((done : List ℕ) → AreForkEvents k (λ q d. copy_word a q d done page word to e ∷ [])) → IsForking k a p c (at_word page word to) (at_word page (word + 1) to) (Event (events.ForkWord p c page word) ∷ [])
+pub word_copied : (k : ForkChange) (a p c page word to : ℕ) (e : Entry) → nat_lt word words ≡ true → k.old_parent.entry page ≡ Some e → ((done : List ℕ) → AreForkEvents k (λ q d. copy_word a q d done page word to e ∷ [])) → IsForking k a p c (at_word page word to) (at_word page (word + 1) to) (growing p) (Event (events.ForkWord p c page word) ∷ [])
 word_copied k a p c page word to e more entry made birth s shown fork =
     let both = copies_one s a p c page word to (s.job a) (s.prepared a) fork.at shown.place in
     let here = both.1 in
@@ -133,19 +133,19 @@ word_copied k a p c page word to e more entry made birth s shown fork =
     here.birth)
 
 -- what the code has at hand
-pub word_turned : (k : ForkChange) (a p c page word to next : ℕ) → next ≡ word → word < words → IsSome (k.old_parent.entry page) → ((done : List ℕ) (e : Entry) → k.old_parent.entry page ≡ Some e → AreForkEvents k (λ q d. copy_word a q d done page next to e ∷ [])) → IsForking k a p c (at_word page word to) (at_word page (word + 1) to) (Event (events.ForkWord p c page next) ∷ [])
+pub word_turned : (k : ForkChange) (a p c page word to next : ℕ) → next ≡ word → word < words → IsSome (k.old_parent.entry page) → ((done : List ℕ) (e : Entry) → k.old_parent.entry page ≡ Some e → AreForkEvents k (λ q d. copy_word a q d done page next to e ∷ [])) → IsForking k a p c (at_word page word to) (at_word page (word + 1) to) (growing p) (Event (events.ForkWord p c page next) ∷ [])
 word_turned k a p c page word to next same less some made = go (k.old_parent.entry page) refl some
   where
-    go : (entry : Option Entry) → k.old_parent.entry page ≡ entry → IsSome entry → IsForking k a p c (at_word page word to) (at_word page (word + 1) to) (Event (events.ForkWord p c page next) ∷ [])
+    go : (entry : Option Entry) → k.old_parent.entry page ≡ entry → IsSome entry → IsForking k a p c (at_word page word to) (at_word page (word + 1) to) (growing p) (Event (events.ForkWord p c page next) ∷ [])
     go None entry some = absurd (cc)
     go (Some e) entry some =
-        notes_alike k a p c (at_word page word to) (at_word page (word + 1) to) _ _ (ap (λ w. Event (events.ForkWord p c page w) ∷ []) same)
+        notes_alike k a p c (at_word page word to) (at_word page (word + 1) to) (growing p) _ _ (ap (λ w. Event (events.ForkWord p c page w) ∷ []) same)
         (word_copied k a p c page word to e (grind (arith, nat_tests, less)) entry
         (λ done. subst (λ (w : ℕ). AreForkEvents k (λ q d. copy_word a q d done page w to e ∷ [])) same (made done e entry)))
 
 -- ---- its end
 
-pub copy_placed : (k : ForkChange) (a p c page word to : ℕ) (rights : Rights) → nat_lt word words ≡ false → k.old_child.right page ≡ Some rights → ((done : List ℕ) → AreForkEvents k (λ q d. place_child a q d done page to rights ∷ [])) → IsForking k a p c (at_word page word to) (from_page (page + 1)) (Silent ∷ [])
+pub copy_placed : (k : ForkChange) (a p c page word to : ℕ) (rights : Rights) → nat_lt word words ≡ false → k.old_child.right page ≡ Some rights → ((done : List ℕ) → AreForkEvents k (λ q d. place_child a q d done page to rights ∷ [])) → IsForking k a p c (at_word page word to) (from_page (page + 1)) (growing p) (Silent ∷ [])
 copy_placed k a p c page word to rights all mapped made birth s shown fork =
     let both = copies_one s a p c page word to (s.job a) (s.prepared a) fork.at shown.place in
     let here = both.1 in
@@ -158,10 +158,10 @@ copy_placed k a p c page word to rights all mapped made birth s shown fork =
     (ap (λ j. job_place j (put a None s.prepared a)) (put_here a (forking p c (page ∷ here.done) between) s.job))
     here.birth)
 
-pub copy_turned : (k : ForkChange) (a p c page word to : ℕ) → words ≤ word → IsSome (k.old_child.right page) → ((done : List ℕ) (rights : Rights) → k.old_child.right page ≡ Some rights → AreForkEvents k (λ q d. place_child a q d done page to rights ∷ [])) → IsForking k a p c (at_word page word to) (from_page (page + 1)) (Silent ∷ [])
+pub copy_turned : (k : ForkChange) (a p c page word to : ℕ) → words ≤ word → IsSome (k.old_child.right page) → ((done : List ℕ) (rights : Rights) → k.old_child.right page ≡ Some rights → AreForkEvents k (λ q d. place_child a q d done page to rights ∷ [])) → IsForking k a p c (at_word page word to) (from_page (page + 1)) (growing p) (Silent ∷ [])
 copy_turned k a p c page word to all mapped made = go (k.old_child.right page) refl mapped
   where
-    go : (right : Option Rights) → k.old_child.right page ≡ right → IsSome right → IsForking k a p c (at_word page word to) (from_page (page + 1)) (Silent ∷ [])
+    go : (right : Option Rights) → k.old_child.right page ≡ right → IsSome right → IsForking k a p c (at_word page word to) (from_page (page + 1)) (growing p) (Silent ∷ [])
     go None right some = absurd (cc)
     go (Some rights) right some =
         copy_placed k a p c page word to rights (grind (arith, nat_tests, all)) right (λ done. made done rights right)
@@ -241,7 +241,7 @@ failed_place a p c done step entry s =
     ap (λ j. job_place j ((run s (fails a p c done step entry)).prepared a))
     (failed_job a p c done step entry page_numbers s (are_gone entry 0 page_numbers) refl)
 
-pub fork_failed : (k : ForkChange) (a p c page : ℕ) → free_frame k.old_frames Any ≡ None → ((done : List ℕ) → AreForkEvents k (λ q d. fails a q d done (copying page 0) k.old_child.entry)) → IsForking k a p c (wants_frame page) unbegun (Event (events.ForkFail c) ∷ Done answers.NoFrame ∷ [])
+pub fork_failed : (k : ForkChange) (a p c page : ℕ) → free_frame k.old_frames Any ≡ None → ((done : List ℕ) → AreForkEvents k (λ q d. fails a q d done (copying page 0) k.old_child.entry)) → IsForking k a p c (wants_frame page) unbegun failed (Event (events.ForkFail c) ∷ Done answers.NoFrame ∷ [])
 fork_failed k a p c page none made birth s shown fork =
     let both = wants_one s a p c page (s.job a) (s.prepared a) fork.at shown.place in
     let here = both.1 in

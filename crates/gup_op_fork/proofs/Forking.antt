@@ -1,5 +1,5 @@
 -- What a turn of a fork makes of frames, the parent and the child is the turn table's.
-use Rattle.std.proofs.Common.{◌≡◌, ℕ, ◌+◌, ◌-◌, ◌^◌, ◌<◌, ◌≤◌, ◌&&◌, Bool, true, false, not, if◌then◌else◌, MatchOption, List, [], ◌∷◌, Option, Some, None, IsSome, is_some, refl, ap, sym, subst, ◌∙◌, arith}
+use Rattle.std.proofs.Common.{◌≡◌, ℕ, ◌+◌, ◌-◌, ◌^◌, ◌<◌, ◌≤◌, ◌&&◌, Bool, true, false, if◌then◌else◌, MatchOption, List, [], ◌∷◌, Option, Some, None, IsSome, is_some, refl, ap, sym, subst, ◌∙◌, arith}
 use Rattle.std.specs.Prelude.{nat_le}
 use Rattle.std.proofs.lemmas.Bool.{false≢true}
 use Rattle.std.proofs.lemmas.Bool.Decides.{nat_tests}
@@ -23,12 +23,12 @@ use Rattle.gup_spec_events.specs.Event.{CoreEvent, bias, begin_fork, count_page,
 use Rattle.gup_spec_turns.specs.CoreTurn.{CoreTurn}
 use Rattle.gup_spec_turns.specs.ForkTurns.{first_behind, next_page, next_turn, page_turn, share_turn, fork_turn}
 use Rattle.gup_spec_turns.specs.JobPlace.{JobPlace, copying_place, job_place, place_in, KeepsFrame, StandsFork, unbegun, from_page, at_page, wants_frame, at_word}
-use Rattle.gup_op_fork.specs.Forked.{birth_behind, ForkingView, ShowsForking, StandsAsFork}
+use Rattle.gup_op_fork.specs.Forked.{ForkingView, ShowsForking, StandsAsFork}
 use Rattle.gup_op_base.specs.Turns.{Leads, IsTurnOf}
 use Rattle.gup_op_base.proofs.Leading.{leads_alike}
 use Rattle.gup_maps.specs.Maps.{IsNextPage, IsLastPage}
 use Rattle.gup_op_base.proofs.Searching.{lowest_same}
-use Rattle.gup_op_pages.proofs.Unmapping.{found_at, none_found, unmapped_is, below_numbers}
+use Rattle.gup_op_fork.proofs.Searching.{found_at, none_found, unmapped_is, below_numbers}
 
 abbrev pub change : (F F' : FramesValue) (P P' C C' : SpaceValue) → ForkChange
 change F F' P P' C C' =
@@ -44,18 +44,18 @@ before k place birth = record { frames = k.old_frames; parent = k.old_parent; ch
 abbrev pub behind : ForkChange → JobPlace → Birth → ForkingView
 behind k place birth = record { frames = k.new_frames; parent = k.new_parent; child = k.new_child; place = place; birth = birth }
 
--- a turn of a fork that makes it, from one place to the next, whatever the child was
-abbrev pub IsForking : ForkChange → (a p c : ℕ) → (old new : JobPlace) → List What → Type 0
-IsForking k a p c old new whats =
-    (birth : Birth) → IsTurnOf (ShowsForking a p c) (StandsAsFork a p c) (before k old birth) (behind k new (birth_behind p whats)) (λ s. fork_turn s a p c (s.job a)) whats
+-- a turn of a fork that makes it, from one place to the next, whatever the child was; now it is this
+abbrev pub IsForking : ForkChange → (a p c : ℕ) → (old new : JobPlace) → (now : Birth) → List What → Type 0
+IsForking k a p c old new now whats =
+    (birth : Birth) → IsTurnOf (ShowsForking a p c) (StandsAsFork a p c) (before k old birth) (behind k new now) (λ s. fork_turn s a p c (s.job a)) whats
 
 -- and its end from one state
-abbrev pub LeadsOn : ForkChange → (a p c : ℕ) → CoreState → CoreTurn → (new : JobPlace) → List What → Type 0
-LeadsOn k a p c s turn new whats = Leads (ShowsForking a p c) (behind k new (birth_behind p whats)) s turn whats
+abbrev pub LeadsOn : ForkChange → (a p c : ℕ) → CoreState → CoreTurn → (new : JobPlace) → (now : Birth) → List What → Type 0
+LeadsOn k a p c s turn new now whats = Leads (ShowsForking a p c) (behind k new now) s turn whats
 
-pub leads_there : (k : ForkChange) {a p c : ℕ} {s : CoreState} {turn : CoreTurn} {new : JobPlace} {whats : List What} → turn.whats ≡ whats
+pub leads_there : (k : ForkChange) {a p c : ℕ} {s : CoreState} {turn : CoreTurn} {new : JobPlace} {now : Birth} {whats : List What} → turn.whats ≡ whats
     → ShowsFrames k.new_frames (run s turn.events) × ShowsSpace p k.new_parent (run s turn.events) × ShowsSpace c k.new_child (run s turn.events)
-    → place_in (run s turn.events) a ≡ new → (run s turn.events).birth c ≡ birth_behind p whats → LeadsOn k a p c s turn new whats
+    → place_in (run s turn.events) a ≡ new → (run s turn.events).birth c ≡ now → LeadsOn k a p c s turn new now whats
 leads_there k says led place birth =
     record { says = says; shown = record { frames = led.0; parent = led.1; child = led.2; place = place; birth = birth } }
 
@@ -73,10 +73,10 @@ not_copying page word (Some to) place other is = false≢true (sym other ∙ ap 
 
 -- ---- the beginning
 
-pub begun : (k : ForkChange) (a p c : ℕ) → AreForkEvents k (λ q d. begin_fork a q d ∷ []) → IsForking k a p c unbegun (from_page 0) (Event (events.ForkBegin p c) ∷ [])
+pub begun : (k : ForkChange) (a p c : ℕ) → AreForkEvents k (λ q d. begin_fork a q d ∷ []) → IsForking k a p c unbegun (from_page 0) (growing p) (Event (events.ForkBegin p c) ∷ [])
 begun k a p c made birth s shown fork = go (s.job a) fork.at shown.place
   where
-    go : (job : Job) → StandsFork s a p c job (s.prepared a) → job_place job (s.prepared a) ≡ unbegun → LeadsOn k a p c s (fork_turn s a p c job) (from_page 0) (Event (events.ForkBegin p c) ∷ [])
+    go : (job : Job) → StandsFork s a p c job (s.prepared a) → job_place job (s.prepared a) ≡ unbegun → LeadsOn k a p c s (fork_turn s a p c job) (from_page 0) (growing p) (Event (events.ForkBegin p c) ∷ [])
     go idle stands place =
         let behind = made s p c fork.apart shown.frames shown.parent shown.child in
         leads_there k refl behind
@@ -105,10 +105,10 @@ looks_on C c s done from found child place is =
     same_page : (m n : ℕ) → from_page m ≡ from_page n → m ≡ n
     same_page m n same = cc
 
-pub ended : (k : ForkChange) (a p c from : ℕ) → ((done : List ℕ) → AreForkEvents k (λ q d. end_fork a q d done ∷ [])) → lowest from (page_numbers - from) (λ page. is_some (k.old_child.right page)) ≡ None → IsForking k a p c (from_page from) unbegun (Event (events.ForkEnd p c) ∷ Done answers.Plain ∷ [])
+pub ended : (k : ForkChange) (a p c from : ℕ) → ((done : List ℕ) → AreForkEvents k (λ q d. end_fork a q d done ∷ [])) → lowest from (page_numbers - from) (λ page. is_some (k.old_child.right page)) ≡ None → IsForking k a p c (from_page from) unbegun born (Event (events.ForkEnd p c) ∷ Done answers.Plain ∷ [])
 ended k a p c from made none birth s shown fork = go (s.job a) fork.at shown.place
   where
-    go : (job : Job) → StandsFork s a p c job (s.prepared a) → job_place job (s.prepared a) ≡ from_page from → LeadsOn k a p c s (fork_turn s a p c job) unbegun (Event (events.ForkEnd p c) ∷ Done answers.Plain ∷ [])
+    go : (job : Job) → StandsFork s a p c job (s.prepared a) → job_place job (s.prepared a) ≡ from_page from → LeadsOn k a p c s (fork_turn s a p c job) unbegun born (Event (events.ForkEnd p c) ∷ Done answers.Plain ∷ [])
     go (forking q d done between) stands place =
         let behind = made done s p c fork.apart shown.frames shown.parent shown.child in
         leads_alike
@@ -132,10 +132,10 @@ pass_events F P C a page done =
     are_fork_events (change F F P P C C) a (λ q d. pass_page a q d done page ∷ [])
     (λ q d. record { own = (passing done page, tt); frames = refl; parent = refl; child = refl })
 
-pub passed : (F : FramesValue) (P C : SpaceValue) (a p c from page : ℕ) → lowest from (page_numbers - from) (λ g. is_some (C.right g)) ≡ Some page → P.entry page ≡ None → IsForking (change F F P P C C) a p c (from_page from) (from_page (page + 1)) (Event (events.ForkPage p c page) ∷ [])
+pub passed : (F : FramesValue) (P C : SpaceValue) (a p c from page : ℕ) → lowest from (page_numbers - from) (λ g. is_some (C.right g)) ≡ Some page → P.entry page ≡ None → IsForking (change F F P P C C) a p c (from_page from) (from_page (page + 1)) (growing p) (Event (events.ForkPage p c page) ∷ [])
 passed F P C a p c from page found empty birth s shown fork = go (s.job a) fork.at shown.place
   where
-    go : (job : Job) → StandsFork s a p c job (s.prepared a) → job_place job (s.prepared a) ≡ from_page from → LeadsOn (change F F P P C C) a p c s (fork_turn s a p c job) (from_page (page + 1)) (Event (events.ForkPage p c page) ∷ [])
+    go : (job : Job) → StandsFork s a p c job (s.prepared a) → job_place job (s.prepared a) ≡ from_page from → LeadsOn (change F F P P C C) a p c s (fork_turn s a p c job) (from_page (page + 1)) (growing p) (Event (events.ForkPage p c page) ∷ [])
     go (forking q d done between) stands place =
         let behind = pass_events F P C a page done s p c fork.apart shown.frames shown.parent shown.child in
         leads_alike
@@ -176,10 +176,10 @@ counted_at : (p c page : ℕ) (done : List ℕ) (copied : Bool) (prepared : Opti
 counted_at p c page done true prepared none = ap (copying_place page 0) none
 counted_at p c page done false prepared none = refl
 
-page_counted : (F : FramesValue) (P P' C : SpaceValue) (a p c from page : ℕ) (e : Entry) (copied : Bool) → lowest from (page_numbers - from) (λ g. is_some (C.right g)) ≡ Some page → P.entry page ≡ Some e → copied ≡ copies_frame F P e.frame → P' ≡ record P { table = Some a } → IsForking (change F F P P' C C) a p c (from_page from) (counted_place copied page) (Silent ∷ [])
-page_counted F P P' C a p c from page e copied found entry is locked birth s shown fork = go (s.job a) fork.keeps fork.at shown.place
+pub count_turned : (F : FramesValue) (P P' C : SpaceValue) (a p c from page : ℕ) (e : Entry) (copied : Bool) → lowest from (page_numbers - from) (λ g. is_some (C.right g)) ≡ Some page → P.entry page ≡ Some e → copied ≡ copies_frame F P e.frame → P' ≡ record P { table = Some a } → IsForking (change F F P P' C C) a p c (from_page from) (counted_place copied page) (growing p) (Silent ∷ [])
+count_turned F P P' C a p c from page e copied found entry is locked birth s shown fork = go (s.job a) fork.keeps fork.at shown.place
   where
-    go : (job : Job) → KeepsFrame job (s.prepared a) → StandsFork s a p c job (s.prepared a) → job_place job (s.prepared a) ≡ from_page from → LeadsOn (change F F P P' C C) a p c s (fork_turn s a p c job) (counted_place copied page) (Silent ∷ [])
+    go : (job : Job) → KeepsFrame job (s.prepared a) → StandsFork s a p c job (s.prepared a) → job_place job (s.prepared a) ≡ from_page from → LeadsOn (change F F P P' C C) a p c s (fork_turn s a p c job) (counted_place copied page) (growing p) (Silent ∷ [])
     go (forking q d done between) none stands place =
         let behind = count_events F P P' C a page e copied done locked s p c fork.apart shown.frames shown.parent shown.child in
         leads_alike {turn = record { events = count_page a p c done page e copied ∷ []; whats = Silent ∷ [] }}
@@ -202,13 +202,13 @@ page_counted F P P' C a p c from page e copied found entry is locked birth s sho
 
 -- ---- the share of a page
 
-page_shared : (k : ForkChange) (a p c page : ℕ) (e : Entry) → k.old_parent.entry page ≡ Some e → ((done : List ℕ) → AreForkEvents k (λ q d. shares a q d done page e)) → IsForking k a p c (at_page page) (from_page (page + 1)) (Event (events.ForkPage p c page) ∷ [])
+page_shared : (k : ForkChange) (a p c page : ℕ) (e : Entry) → k.old_parent.entry page ≡ Some e → ((done : List ℕ) → AreForkEvents k (λ q d. shares a q d done page e)) → IsForking k a p c (at_page page) (from_page (page + 1)) (growing p) (Event (events.ForkPage p c page) ∷ [])
 page_shared k a p c page e entry made birth s shown fork = go (s.job a) fork.at shown.place
   where
     same_page : (m n : ℕ) → at_page m ≡ at_page n → m ≡ n
     same_page m n same = cc
 
-    go : (job : Job) → StandsFork s a p c job (s.prepared a) → job_place job (s.prepared a) ≡ at_page page → LeadsOn k a p c s (fork_turn s a p c job) (from_page (page + 1)) (Event (events.ForkPage p c page) ∷ [])
+    go : (job : Job) → StandsFork s a p c job (s.prepared a) → job_place job (s.prepared a) ≡ at_page page → LeadsOn k a p c s (fork_turn s a p c job) (from_page (page + 1)) (growing p) (Event (events.ForkPage p c page) ∷ [])
     go (forking q d done (counted g)) stands place =
         let behind = made done s p c fork.apart shown.frames shown.parent shown.child in
         leads_alike
@@ -245,28 +245,18 @@ none_past from test past = let none : 2 ^ 35 - from ≡ 0 = omega arith in rw no
 -- ---- what the code has at hand
 
 -- the same turn with other notes
-pub notes_alike : (k : ForkChange) (a p c : ℕ) (old new : JobPlace) (whats other : List What) → other ≡ whats → IsForking k a p c old new whats → IsForking k a p c old new other
-notes_alike k a p c old new whats other same h = subst (λ (ws : List What). IsForking k a p c old new ws) (sym same) h
+pub notes_alike : (k : ForkChange) (a p c : ℕ) (old new : JobPlace) (now : Birth) (whats other : List What) → other ≡ whats → IsForking k a p c old new now whats → IsForking k a p c old new now other
+notes_alike k a p c old new now whats other same h =
+    subst (λ (ws : List What). IsForking k a p c old new now ws) (sym same) h
 
 -- the same events, with the parent in other words
 pub other_parent : (F F' : FramesValue) (P P' P'' C C' : SpaceValue) (events : (p c : ℕ) → List CoreEvent) → P'' ≡ P' → AreForkEvents (change F F' P P' C C') events → AreForkEvents (change F F' P P'' C C') events
 other_parent F F' P P' P'' C C' events same h =
     subst (λ (x : SpaceValue). AreForkEvents (change F F' P x C C') events) (sym same) h
 
-pub count_turned : (F : FramesValue) (P P' C : SpaceValue) (a p c from page : ℕ) (copied : Bool) → lowest from (page_numbers - from) (λ g. is_some (C.right g)) ≡ Some page → IsSome (P.entry page) → ((e : Entry) → P.entry page ≡ Some e → copied ≡ copies_frame F P e.frame) → P' ≡ record P { table = Some a } → IsForking (change F F P P' C C) a p c (from_page from) (counted_place copied page) (Silent ∷ [])
-count_turned F P P' C a p c from page copied found some is locked = go (P.entry page) refl some
-  where
-    go : (entry : Option Entry) → P.entry page ≡ entry → IsSome entry → IsForking (change F F P P' C C) a p c (from_page from) (counted_place copied page) (Silent ∷ [])
-    go None entry some = absurd (cc)
-    go (Some e) entry some = page_counted F P P' C a p c from page e copied found entry (is e entry) locked
-
-pub share_turned : (k : ForkChange) (a p c page : ℕ) → IsSome (k.old_parent.entry page) → ((done : List ℕ) (e : Entry) → k.old_parent.entry page ≡ Some e → AreForkEvents k (λ q d. shares a q d done page e)) → IsForking k a p c (at_page page) (from_page (page + 1)) (Event (events.ForkPage p c page) ∷ [])
+pub share_turned : (k : ForkChange) (a p c page : ℕ) → IsSome (k.old_parent.entry page) → ((done : List ℕ) (e : Entry) → k.old_parent.entry page ≡ Some e → AreForkEvents k (λ q d. shares a q d done page e)) → IsForking k a p c (at_page page) (from_page (page + 1)) (growing p) (Event (events.ForkPage p c page) ∷ [])
 share_turned k a p c page some made = go (k.old_parent.entry page) refl some
   where
-    go : (entry : Option Entry) → k.old_parent.entry page ≡ entry → IsSome entry → IsForking k a p c (at_page page) (from_page (page + 1)) (Event (events.ForkPage p c page) ∷ [])
+    go : (entry : Option Entry) → k.old_parent.entry page ≡ entry → IsSome entry → IsForking k a p c (at_page page) (from_page (page + 1)) (growing p) (Event (events.ForkPage p c page) ∷ [])
     go None entry some = absurd (cc)
     go (Some e) entry some = page_shared k a p c page e entry (λ done. made done e entry)
-
-pub no_entry : (found entry : Option Entry) (none : Bool) → is_some found ≡ not none → none ≡ true → found ≡ entry → entry ≡ None
-no_entry None entry none test is same = sym same
-no_entry (Some e) entry none test is same = absurd (cc)

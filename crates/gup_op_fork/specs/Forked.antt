@@ -1,16 +1,17 @@
 -- What a turn of a fork is over, and what it finds where the fork stands.
-use Rattle.std.specs.Prelude.{◌≡◌, ℕ, ◌≤◌, List, ◌∷◌, Some, None, IsSome}
+use Rattle.std.specs.Prelude.{◌≡◌, ℕ, ◌≤◌, Bool, true, false, Some, None, IsSome}
 use Rattle.gup_plain.specs.Event.{words}
 use Rattle.gup_plain.specs.State.{Birth, growing, born, failed}
-use Rattle.gup_plain.specs.declared.event.PlainEvent.TheVariants as events
-use Rattle.gup_plain.specs.declared.note.What.{What}
-use Rattle.gup_plain.specs.declared.note.What.TheVariants.{Event}
 use Rattle.gup_base.specs.declared.entry.Entry.{Entry}
 use Rattle.gup_frames.specs.Frames.{FramesValue, FrameLists, frames_of, IsFrame}
 use Rattle.gup_space.specs.Space.{SpaceValue, SpaceParts, space_of}
 use Rattle.gup_space.specs.Shows.{ShowsFrames, ShowsSpace}
 use Rattle.gup_spec_events.specs.State.{CoreState}
 use Rattle.gup_spec_turns.specs.JobPlace.{JobPlace, place_in, KeepsFrame, StandsFork, unbegun, from_page, at_page, wants_frame, at_word}
+use Rattle.gup_op_base.specs.declared.jobs.JobPlace.{JobPlace as KeptPlace}
+use Rattle.gup_op_base.specs.declared.jobs.JobPlace.TheVariants.{Unbegun}
+use Rattle.gup_op_fork.specs.declared.forks.Forked.{Forked}
+use Rattle.gup_op_fork.specs.declared.forks.Forked.TheVariants.{Goes, Born, Failed}
 
 -- a page that was counted has an entry of the parent, and none yet of the child, which has it mapped
 abbrev pub IsCountedIn : (page : ℕ) → (parent child : SpaceValue) → Type 0
@@ -30,11 +31,23 @@ IsReadyAt frames a (wants_frame page) parent child = (parent.structure ≡ Some 
 IsReadyAt frames a (at_word page word to) parent child =
     (parent.structure ≡ Some a) × IsCountedIn page parent child × IsCopyOf frames page to parent × (word ≤ words)
 
--- what the child is after a turn that says this: it grows until the fork ends or fails
-abbrev pub birth_behind : (parent : ℕ) → List What → Birth
-birth_behind parent (Event (events.ForkEnd p c) ∷ whats) = born
-birth_behind parent (Event (events.ForkFail c) ∷ whats) = failed
-birth_behind parent whats = growing parent
+-- whether the fork is over, with a child that is born or has failed
+abbrev pub is_over : Forked → Bool
+is_over (Goes place) = false
+is_over Born = true
+is_over Failed = true
+
+-- where it stands then
+abbrev pub place_after : Forked → KeptPlace
+place_after (Goes place) = place
+place_after Born = Unbegun
+place_after Failed = Unbegun
+
+-- what its child is then: it grows until the fork is over
+abbrev pub birth_after : (parent : ℕ) → Forked → Birth
+birth_after parent (Goes place) = growing parent
+birth_after parent Born = born
+birth_after parent Failed = failed
 
 -- frames, a parent and its child, where the fork stands, and what the child is
 pub record ForkingView : Type 0 where

@@ -1,29 +1,43 @@
 //! Forks: their beginning, and then page by page.
-ghost use Rattle.std.specs.Prelude.{◌≡◌, ℕ, ◌-◌, ◌<◌, ◌≤◌, ◌^◌, is_some, Some, None, IsSome};
+ghost use Rattle.std.specs.Prelude.{◌≡◌, ℕ, ◌-◌, ◌<◌, ◌≤◌, ◌^◌, true, false, is_some, Some, None, IsSome};
 ghost use Rattle.gup_base.specs.declared.entry.Allowed.TheVariants.{Any};
+ghost use Rattle.gup_base.specs.declared.entry.Entry.{Entry as EntryValue};
 ghost use Rattle.gup_base.specs.declared.entry.Rights.{Rights as RightsValue};
 ghost use Rattle.gup_plain.specs.Event.{page_numbers, words};
 ghost use Rattle.gup_plain.specs.Put.{lowest};
-ghost use Rattle.gup_plain.specs.State.{Birth};
-ghost use Rattle.gup_frames.specs.Frames.{FrameLists, frames_of, free_frame};
+ghost use Rattle.gup_plain.specs.State.{Birth, growing, born, failed};
+ghost use Rattle.gup_plain.specs.declared.event.PlainEvent.TheVariants as events;
+ghost use Rattle.gup_frames.specs.Frames.{FrameLists, frames_of, free_frame, IsFrame};
 ghost use Rattle.gup_space.specs.Space.{SpaceParts, space_of, AreMapped};
 ghost use Rattle.gup_space.specs.Counted.{AreCounted};
+ghost use Rattle.gup_fork.specs.Forks.{copies_frame};
 ghost use Rattle.gup_spec_turns.specs.ForkTurns.{fork_turn};
 ghost use Rattle.gup_spec_turns.specs.JobPlace.{unbegun, from_page, at_page, wants_frame, at_word};
 ghost use Rattle.gup_op_base.specs.Tidy.{IsTidy};
-ghost use Rattle.gup_op_base.specs.Said.{whats_of};
+ghost use Rattle.gup_op_base.specs.Said.{Tells, TellsTurn, whats_of, happened_said};
 ghost use Rattle.gup_op_base.specs.Turns.{IsTurnOf};
 ghost use Rattle.gup_op_base.specs.Jobs.{place_of};
-ghost use Rattle.gup_op_fork.specs.Forked.{IsCountedIn, IsCopyOf, IsReadyAt, birth_behind, ShowsForking, StandsAsFork, forking_view};
+ghost use Rattle.gup_op_fork.specs.Forked.{IsCountedIn, IsCopyOf, IsReadyAt, is_over, place_after, birth_after, ShowsForking, StandsAsFork, forking_view};
 
-use gup_base::{ActorNo, Allowed, FrameNo, PageNo, ProcNo, WordNo};
-use gup_fork::{begin, copies, copy_word, end, fail, place_child, share};
+use gup_base::{Allowed, FrameNo, PageNo, ProcNo, WordNo, maybe_pinned};
+use gup_fork::{begin, copy_word, end, fail, place_child, share};
 use gup_frames::Frames;
-use gup_op_base::{JobPlace, Said, done, happened, silent};
-use gup_plain::{Answer, PlainEvent};
+use gup_op_base::{Head, JobPlace};
+use gup_plain::{Answer, Journal, PlainEvent};
 use gup_space::Space;
 
-/// Takes a turn of a fork of process `proc` into `child_no`, and answers what it says and where the fork stands then.
+/// What came of a turn of a fork.
+#[derive(Clone, Copy, Debug)]
+pub enum Forked {
+    /// It goes on from this place.
+    Goes(JobPlace),
+    /// It is over, and the child is born.
+    Born,
+    /// It is over, since it has failed, and so has the child.
+    Failed,
+}
+
+/// Takes a turn of a fork of process `proc` into `child_no`, puts its notes on, and answers what came of it.
 ///
 /// The first turn gives the child its parent's mappings, and takes the parent's structure lock. Then come the child's
 /// pages, from the lowest on: one without an entry of the parent is passed, and any other is counted in one turn,
@@ -36,59 +50,76 @@ use gup_space::Space;
 /// Where no frame is free for a copy the fork fails in that turn, with the answer `NoFrame`: the child loses its
 /// mappings and its entries, and the parent's locks are free again (of Linux's `dup_mmap`, which fails with `ENOMEM`
 /// then).
+#[inline]
 pub fn fork(
     parent: &mut Space,
     child: &mut Space,
     frames: &mut Frames,
-    actor: ActorNo,
+    journal: &mut Journal,
+    head: &Head,
     proc: ProcNo,
     child_no: ProcNo,
     place: JobPlace,
-) -> (Said, JobPlace)
+) -> Forked
+    requires room { 3 ≤ journal.old.room }
     requires parent { IsTidy (frames_of frames.old) (space_of parent.old) }
     requires child { IsTidy (frames_of frames.old) (space_of child.old) }
     requires sequence { (space_of parent.old).sequence < 2 ^ 40 }
     requires few { (f : ℕ) → (frames_of frames.old).count f < 2 ^ 40 }
-    requires place { IsReadyAt (frames_of frames.old) actor (place_of place) (space_of parent.old) (space_of child.old) }
-    ensures { (birth : Birth)
-        → IsTurnOf (ShowsForking actor proc child_no) (StandsAsFork actor proc child_no)
+    requires place { IsReadyAt (frames_of frames.old) head.now.actor (place_of place) (space_of parent.old) (space_of child.old) }
+    ensures { TellsTurn head.now journal.old journal.new (is_over result)
+        (λ said. (birth : Birth)
+        → IsTurnOf (ShowsForking head.now.actor proc child_no) (StandsAsFork head.now.actor proc child_no)
         (forking_view frames.old parent.old child.old (place_of place) birth)
-        (forking_view frames.new parent.new child.new (place_of result.1) (birth_behind proc (whats_of result.0)))
-        (λ s. fork_turn s actor proc child_no (s.job actor)) (whats_of result.0) }
+        (forking_view frames.new parent.new child.new (place_of (place_after result)) (birth_after proc result))
+        (λ s. fork_turn s head.now.actor proc child_no (s.job head.now.actor)) (whats_of said)) }
 {
     match place {
-        JobPlace::Unbegun => first_turn(parent, child, actor, proc, child_no),
-        JobPlace::From(from) => next_turn(parent, child, frames, actor, proc, child_no, from),
-        JobPlace::At(page) => share_turn(parent, child, frames, proc, child_no, page),
-        JobPlace::Wanting(page) => frame_turn(parent, child, frames, proc, child_no, page),
-        JobPlace::Copying { page, word, to } => {
-            copy_turn(parent, child, frames, proc, child_no, page, word, to)
+        JobPlace::Unbegun => {
+            Forked::Goes(first_turn(parent, child, journal, head, proc, child_no))
         }
+        JobPlace::From(from) => {
+            next_turn(parent, child, frames, journal, head, proc, child_no, from)
+        }
+        JobPlace::At(page) => Forked::Goes(share_turn(
+            parent, child, frames, journal, head, proc, child_no, page,
+        )),
+        JobPlace::Wanting(page) => {
+            frame_turn(parent, child, frames, journal, head, proc, child_no, page)
+        }
+        JobPlace::Copying { page, word, to } => Forked::Goes(copy_turn(
+            parent, child, frames, journal, head, proc, child_no, page, word, to,
+        )),
     }
 }
 
 // The beginning, which takes the parent's structure lock.
+#[inline(never)]
 fn first_turn(
     parent: &mut Space,
     child: &mut Space,
-    actor: ActorNo,
+    journal: &mut Journal,
+    head: &Head,
     proc: ProcNo,
     child_no: ProcNo,
-) -> (Said, JobPlace)
-    requires { (space_of parent.old).sequence < 2 ^ 40 }
-    ensures { (frames : FrameLists) (birth : Birth)
-        → IsTurnOf (ShowsForking actor proc child_no) (StandsAsFork actor proc child_no)
+) -> JobPlace
+    requires room { 3 ≤ journal.old.room }
+    requires sequence { (space_of parent.old).sequence < 2 ^ 40 }
+    ensures { TellsTurn head.now journal.old journal.new false
+        (λ said. (frames : FrameLists) (birth : Birth)
+        → IsTurnOf (ShowsForking head.now.actor proc child_no) (StandsAsFork head.now.actor proc child_no)
         (forking_view frames parent.old child.old unbegun birth)
-        (forking_view frames parent.new child.new (place_of result.1) (birth_behind proc (whats_of result.0)))
-        (λ s. fork_turn s actor proc child_no (s.job actor)) (whats_of result.0) }
+        (forking_view frames parent.new child.new (place_of result) (growing proc))
+        (λ s. fork_turn s head.now.actor proc child_no (s.job head.now.actor)) (whats_of said)) }
 {
     begin(parent, child);
-    parent.set_structure(Some(actor));
+    parent.set_structure(Some(head.actor));
     let event = PlainEvent::ForkBegin {
         parent: proc,
         child: child_no,
     };
-    (happened(event), JobPlace::From(0))
+    head.happened(journal, event);
+    JobPlace::From(0)
 }
 
 // The next page from this one on is passed or counted; where there is none, the fork ends.
@@ -96,50 +127,71 @@ fn next_turn(
     parent: &mut Space,
     child: &Space,
     frames: &Frames,
-    actor: ActorNo,
+    journal: &mut Journal,
+    head: &Head,
     proc: ProcNo,
     child_no: ProcNo,
     from: u64,
-) -> (Said, JobPlace)
+) -> Forked
+    requires room { 3 ≤ journal.old.room }
     requires parent { IsTidy (frames_of frames.now) (space_of parent.old) }
     requires child { IsTidy (frames_of frames.now) (space_of child.now) }
     requires sequence { (space_of parent.old).sequence < 2 ^ 40 }
-    ensures { (birth : Birth)
-        → IsTurnOf (ShowsForking actor proc child_no) (StandsAsFork actor proc child_no)
+    ensures { TellsTurn head.now journal.old journal.new (is_over result)
+        (λ said. (birth : Birth)
+        → IsTurnOf (ShowsForking head.now.actor proc child_no) (StandsAsFork head.now.actor proc child_no)
         (forking_view frames.now parent.old child.now (from_page from) birth)
-        (forking_view frames.now parent.new child.now (place_of result.1) (birth_behind proc (whats_of result.0)))
-        (λ s. fork_turn s actor proc child_no (s.job actor)) (whats_of result.0) }
+        (forking_view frames.now parent.new child.now (place_of (place_after result)) (birth_after proc result))
+        (λ s. fork_turn s head.now.actor proc child_no (s.job head.now.actor)) (whats_of said)) }
 {
     let Some(page) = next_page(child, from) else {
-        return last_turn(parent, proc, child_no);
+        last_turn(parent, journal, head, proc, child_no);
+        return Forked::Born;
     };
-    if parent.entry(page).is_none() {
-        return (
-            page_done(proc, child_no, page),
-            JobPlace::From(page.get() + 1),
-        );
-    }
-    count_turn(parent, frames, actor, page)
+    let Some(entry) = parent.entry(page) else {
+        page_done(journal, head, proc, child_no, page);
+        return Forked::Goes(JobPlace::From(page.get() + 1));
+    };
+    Forked::Goes(count_turn(parent, frames, journal, head, page, entry.frame))
 }
 
-// The page's count is read, and the table lock taken: the page is to be copied, or to be shared.
-fn count_turn(parent: &mut Space, frames: &Frames, actor: ActorNo, page: PageNo) -> (Said, JobPlace)
-    requires parent { IsTidy (frames_of frames.now) (space_of parent.old) }
-    requires entry { IsSome ((space_of parent.old).entry page) }
-    ensures { (p c from : ℕ) (child : SpaceParts)
+// The count of the page's frame is read, and the table lock taken: the page is to be copied, or to be shared.
+fn count_turn(
+    parent: &mut Space,
+    frames: &Frames,
+    journal: &mut Journal,
+    head: &Head,
+    page: PageNo,
+    frame: FrameNo,
+) -> JobPlace
+    requires room { 3 ≤ journal.old.room }
+    requires there { IsFrame (frames_of frames.now) frame }
+    ensures { (p c from : ℕ) (child : SpaceParts) (e : EntryValue)
         → lowest from (page_numbers - from) (λ g. is_some ((space_of child).right g)) ≡ Some page
-        → (birth : Birth) → IsTurnOf (ShowsForking actor p c) (StandsAsFork actor p c)
+        → (space_of parent.old).entry page ≡ Some e → e.frame ≡ frame
+        → TellsTurn head.now journal.old journal.new false
+        (λ said. (birth : Birth) → IsTurnOf (ShowsForking head.now.actor p c) (StandsAsFork head.now.actor p c)
         (forking_view frames.now parent.old child (from_page from) birth)
-        (forking_view frames.now parent.new child (place_of result.1) (birth_behind p (whats_of result.0)))
-        (λ s. fork_turn s actor p c (s.job actor)) (whats_of result.0) }
+        (forking_view frames.now parent.new child (place_of result) (growing p))
+        (λ s. fork_turn s head.now.actor p c (s.job head.now.actor)) (whats_of said)) }
 {
-    let copied = copies(parent, frames, page);
-    parent.set_table(Some(actor));
+    let copied = is_copied(parent, frames, frame);
+    parent.set_table(Some(head.actor));
+    head.silent(journal);
     if copied {
-        (silent(), JobPlace::Wanting(page))
+        JobPlace::Wanting(page)
     } else {
-        (silent(), JobPlace::At(page))
+        JobPlace::At(page)
     }
+}
+
+// Whether the page of this frame is to be copied: the frame is exclusive and may be pinned, and the process has ever
+// pinned.
+fn is_copied(parent: &Space, frames: &Frames, frame: FrameNo) -> bool
+    requires { IsFrame (frames_of frames.now) frame }
+    ensures { result ≡ copies_frame (frames_of frames.now) (space_of parent.now) frame }
+{
+    frames.mark(frame) && parent.has_pinned() && maybe_pinned(frames.count(frame))
 }
 
 /// The child's lowest mapped page at or above this number, the next one of a fork that stands there.
@@ -154,14 +206,17 @@ pub fn next_page(child: &Space, from: u64) -> Option<PageNo>
 }
 
 // The end, which frees the parent's structure lock.
-fn last_turn(parent: &mut Space, proc: ProcNo, child_no: ProcNo) -> (Said, JobPlace)
-    requires { (space_of parent.old).sequence < 2 ^ 40 }
-    ensures { (a from : ℕ) (frames : FrameLists) (child : SpaceParts)
+fn last_turn(parent: &mut Space, journal: &mut Journal, head: &Head, proc: ProcNo, child_no: ProcNo)
+    requires room { 3 ≤ journal.old.room }
+    requires sequence { (space_of parent.old).sequence < 2 ^ 40 }
+    ensures { (from : ℕ) (frames : FrameLists) (child : SpaceParts)
         → lowest from (page_numbers - from) (λ page. is_some ((space_of child).right page)) ≡ None
-        → (birth : Birth) → IsTurnOf (ShowsForking a proc child_no) (StandsAsFork a proc child_no)
+        → TellsTurn head.now journal.old journal.new true
+        (λ said. (birth : Birth)
+        → IsTurnOf (ShowsForking head.now.actor proc child_no) (StandsAsFork head.now.actor proc child_no)
         (forking_view frames parent.old child (from_page from) birth)
-        (forking_view frames parent.new child (place_of result.1) (birth_behind proc (whats_of result.0)))
-        (λ s. fork_turn s a proc child_no (s.job a)) (whats_of result.0) }
+        (forking_view frames parent.new child unbegun born)
+        (λ s. fork_turn s head.now.actor proc child_no (s.job head.now.actor)) (whats_of said)) }
 {
     end(parent);
     parent.set_structure(None);
@@ -169,7 +224,7 @@ fn last_turn(parent: &mut Space, proc: ProcNo, child_no: ProcNo) -> (Said, JobPl
         parent: proc,
         child: child_no,
     };
-    (done(event, Answer::Plain), JobPlace::Unbegun)
+    head.done(journal, event, Answer::Plain);
 }
 
 // The counted page is shared, and the table lock is free again.
@@ -177,50 +232,59 @@ fn share_turn(
     parent: &mut Space,
     child: &mut Space,
     frames: &mut Frames,
+    journal: &mut Journal,
+    head: &Head,
     proc: ProcNo,
     child_no: ProcNo,
     page: PageNo,
-) -> (Said, JobPlace)
+) -> JobPlace
+    requires room { 3 ≤ journal.old.room }
     requires parent { IsTidy (frames_of frames.old) (space_of parent.old) }
     requires child { IsTidy (frames_of frames.old) (space_of child.old) }
     requires few { (f : ℕ) → (frames_of frames.old).count f < 2 ^ 40 }
     requires ready { IsCountedIn page (space_of parent.old) (space_of child.old) }
-    ensures { (a : ℕ) (birth : Birth)
-        → IsTurnOf (ShowsForking a proc child_no) (StandsAsFork a proc child_no)
+    ensures { TellsTurn head.now journal.old journal.new false
+        (λ said. (birth : Birth)
+        → IsTurnOf (ShowsForking head.now.actor proc child_no) (StandsAsFork head.now.actor proc child_no)
         (forking_view frames.old parent.old child.old (at_page page) birth)
-        (forking_view frames.new parent.new child.new (place_of result.1) (birth_behind proc (whats_of result.0)))
-        (λ s. fork_turn s a proc child_no (s.job a)) (whats_of result.0) }
+        (forking_view frames.new parent.new child.new (place_of result) (growing proc))
+        (λ s. fork_turn s head.now.actor proc child_no (s.job head.now.actor)) (whats_of said)) }
 {
     child.has_room(page);
     share(parent, child, frames, page);
     parent.set_table(None);
-    (
-        page_done(proc, child_no, page),
-        JobPlace::From(page.get() + 1),
-    )
+    page_done(journal, head, proc, child_no, page);
+    JobPlace::From(page.get() + 1)
 }
 
 // A page that is to be copied gets a frame; where none is free the fork fails.
+#[inline(never)]
 fn frame_turn(
     parent: &mut Space,
     child: &mut Space,
     frames: &mut Frames,
+    journal: &mut Journal,
+    head: &Head,
     proc: ProcNo,
     child_no: ProcNo,
     page: PageNo,
-) -> (Said, JobPlace)
+) -> Forked
+    requires room { 3 ≤ journal.old.room }
     requires child { IsTidy (frames_of frames.old) (space_of child.old) }
     requires sequence { (space_of parent.old).sequence < 2 ^ 40 }
-    ensures { (a : ℕ) (birth : Birth)
-        → IsTurnOf (ShowsForking a proc child_no) (StandsAsFork a proc child_no)
+    ensures { TellsTurn head.now journal.old journal.new (is_over result)
+        (λ said. (birth : Birth)
+        → IsTurnOf (ShowsForking head.now.actor proc child_no) (StandsAsFork head.now.actor proc child_no)
         (forking_view frames.old parent.old child.old (wants_frame page) birth)
-        (forking_view frames.new parent.new child.new (place_of result.1) (birth_behind proc (whats_of result.0)))
-        (λ s. fork_turn s a proc child_no (s.job a)) (whats_of result.0) }
+        (forking_view frames.new parent.new child.new (place_of (place_after result)) (birth_after proc result))
+        (λ s. fork_turn s head.now.actor proc child_no (s.job head.now.actor)) (whats_of said)) }
 {
     let Some(to) = frames.take(Allowed::Any) else {
-        return fail_turn(parent, child, frames, proc, child_no);
+        fail_turn(parent, child, frames, journal, head, proc, child_no);
+        return Forked::Failed;
     };
-    (silent(), JobPlace::Copying { page, word: 0, to })
+    head.silent(journal);
+    Forked::Goes(JobPlace::Copying { page, word: 0, to })
 }
 
 // The failure, which frees both locks of the parent.
@@ -228,49 +292,59 @@ fn fail_turn(
     parent: &mut Space,
     child: &mut Space,
     frames: &mut Frames,
+    journal: &mut Journal,
+    head: &Head,
     proc: ProcNo,
     child_no: ProcNo,
-) -> (Said, JobPlace)
+)
+    requires room { 3 ≤ journal.old.room }
     requires child { AreCounted (frames_of frames.old) (space_of child.old) }
     requires mapped { AreMapped (space_of child.old) }
     requires sequence { (space_of parent.old).sequence < 2 ^ 40 }
-    ensures { (a page : ℕ) → free_frame (frames_of frames.old) Any ≡ None
-        → (birth : Birth) → IsTurnOf (ShowsForking a proc child_no) (StandsAsFork a proc child_no)
+    ensures { (page : ℕ) → free_frame (frames_of frames.old) Any ≡ None
+        → TellsTurn head.now journal.old journal.new true
+        (λ said. (birth : Birth)
+        → IsTurnOf (ShowsForking head.now.actor proc child_no) (StandsAsFork head.now.actor proc child_no)
         (forking_view frames.old parent.old child.old (wants_frame page) birth)
-        (forking_view frames.new parent.new child.new (place_of result.1) (birth_behind proc (whats_of result.0)))
-        (λ s. fork_turn s a proc child_no (s.job a)) (whats_of result.0) }
+        (forking_view frames.new parent.new child.new unbegun failed)
+        (λ s. fork_turn s head.now.actor proc child_no (s.job head.now.actor)) (whats_of said)) }
 {
     fail(parent, child, frames);
     parent.set_table(None);
     parent.set_structure(None);
     let event = PlainEvent::ForkFail { child: child_no };
-    (done(event, Answer::NoFrame), JobPlace::Unbegun)
+    head.done(journal, event, Answer::NoFrame);
 }
 
 // The next word of the page is copied, or, where all are, the child gets the copy.
+#[inline]
 fn copy_turn(
     parent: &mut Space,
     child: &mut Space,
     frames: &mut Frames,
+    journal: &mut Journal,
+    head: &Head,
     proc: ProcNo,
     child_no: ProcNo,
     page: PageNo,
     word: u16,
     to: FrameNo,
-) -> (Said, JobPlace)
+) -> JobPlace
+    requires room { 3 ≤ journal.old.room }
     requires parent { IsTidy (frames_of frames.old) (space_of parent.old) }
     requires child { IsTidy (frames_of frames.old) (space_of child.old) }
     requires ready { IsCountedIn page (space_of parent.old) (space_of child.old) }
     requires copy { IsCopyOf (frames_of frames.old) page to (space_of parent.old) }
     requires word { word ≤ words }
-    ensures { (a : ℕ) (birth : Birth)
-        → IsTurnOf (ShowsForking a proc child_no) (StandsAsFork a proc child_no)
+    ensures { TellsTurn head.now journal.old journal.new false
+        (λ said. (birth : Birth)
+        → IsTurnOf (ShowsForking head.now.actor proc child_no) (StandsAsFork head.now.actor proc child_no)
         (forking_view frames.old parent.old child.old (at_word page word to) birth)
-        (forking_view frames.new parent.new child.new (place_of result.1) (birth_behind proc (whats_of result.0)))
-        (λ s. fork_turn s a proc child_no (s.job a)) (whats_of result.0) }
+        (forking_view frames.new parent.new child.new (place_of result) (growing proc))
+        (λ s. fork_turn s head.now.actor proc child_no (s.job head.now.actor)) (whats_of said)) }
 {
     let Some(next) = WordNo::new(u64::from(word)) else {
-        return place_turn(parent, child, frames, page, to);
+        return place_turn(parent, child, frames, journal, head, page, to);
     };
     copy_word(parent, frames, page, to, next);
     let event = PlainEvent::ForkWord {
@@ -279,40 +353,50 @@ fn copy_turn(
         page,
         word: next,
     };
+    head.happened(journal, event);
     let word = word + 1;
-    (happened(event), JobPlace::Copying { page, word, to })
+    JobPlace::Copying { page, word, to }
 }
 
 // All words are copied: the child gets the copy, and the table lock is free again.
+#[inline(never)]
 fn place_turn(
     parent: &mut Space,
     child: &mut Space,
     frames: &mut Frames,
+    journal: &mut Journal,
+    head: &Head,
     page: PageNo,
     to: FrameNo,
-) -> (Said, JobPlace)
+) -> JobPlace
+    requires room { 3 ≤ journal.old.room }
     requires child { IsTidy (frames_of frames.old) (space_of child.old) }
     requires ready { IsCountedIn page (space_of parent.old) (space_of child.old) }
     requires copy { IsCopyOf (frames_of frames.old) page to (space_of parent.old) }
-    ensures { (a p c word : ℕ) → words ≤ word
-        → (birth : Birth) → IsTurnOf (ShowsForking a p c) (StandsAsFork a p c)
+    ensures { (p c word : ℕ) → words ≤ word
+        → TellsTurn head.now journal.old journal.new false
+        (λ said. (birth : Birth) → IsTurnOf (ShowsForking head.now.actor p c) (StandsAsFork head.now.actor p c)
         (forking_view frames.old parent.old child.old (at_word page word to) birth)
-        (forking_view frames.new parent.new child.new (place_of result.1) (birth_behind p (whats_of result.0)))
-        (λ s. fork_turn s a p c (s.job a)) (whats_of result.0) }
+        (forking_view frames.new parent.new child.new (place_of result) (growing p))
+        (λ s. fork_turn s head.now.actor p c (s.job head.now.actor)) (whats_of said)) }
 {
     child.has_room(page);
     place_child(parent, child, frames, page, to);
     parent.set_table(None);
-    (silent(), JobPlace::From(page.get() + 1))
+    head.silent(journal);
+    JobPlace::From(page.get() + 1)
 }
 
 // The page is done: the child has what the parent has there.
-fn page_done(proc: ProcNo, child_no: ProcNo, page: PageNo) -> Said
-    ensures { result ≡ record { event = Some (PlainEvent.ForkPage proc child_no page); next = None; answer = None } }
+#[inline]
+fn page_done(journal: &mut Journal, head: &Head, proc: ProcNo, child_no: ProcNo, page: PageNo)
+    requires { 1 ≤ journal.old.room }
+    ensures { Tells head.now journal.old journal.new (happened_said (events.ForkPage proc child_no page)) }
 {
-    happened(PlainEvent::ForkPage {
+    let done = PlainEvent::ForkPage {
         parent: proc,
         child: child_no,
         page,
-    })
+    };
+    head.happened(journal, done);
 }
