@@ -1,8 +1,9 @@
 -- Which locks a turn needs, by what the machine keeps.
-use Rattle.std.specs.Prelude.{ℕ, ◌-◌, false, Option, Some, None, is_some}
+use Rattle.std.specs.Prelude.{ℕ, ◌-◌, Bool, true, false, Option, Some, None, is_some}
 use Rattle.gup_base.specs.declared.entry.Rights.{Rights}
 use Rattle.gup_plain.specs.Event.{page_numbers}
 use Rattle.gup_plain.specs.Put.{lowest}
+use Rattle.gup_plain.specs.declared.note.Waiting.{Waiting}
 use Rattle.gup_script.specs.declared.op.Op.{Op}
 use Rattle.gup_script.specs.declared.op.Op.TheVariants.{Fork}
 use Rattle.gup_spec_turns.specs.Waits.{Locks, both_locks, no_lock}
@@ -23,3 +24,8 @@ fork_needs right other = no_lock
 abbrev pub child_in : Op → Option ℕ
 child_in (Fork child) = Some child
 child_in op = None
+
+-- what an actor would wait for, if it needs that
+abbrev pub waiting_if : (needed : Bool) → Option Waiting → Option Waiting
+waiting_if true waiting = waiting
+waiting_if false waiting = None

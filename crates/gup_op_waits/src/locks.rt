@@ -4,13 +4,13 @@ ghost use Rattle.gup_script.specs.declared.op.Op.TheVariants.{Fork};
 ghost use Rattle.gup_spec_events.specs.State.{CoreState};
 ghost use Rattle.gup_space.specs.Space.{space_of};
 ghost use Rattle.gup_handles.specs.Handles.{handles_of};
-ghost use Rattle.gup_spec_turns.specs.Waits.{waits_for_lock as lock_waited, waits_for_locks as locks_waited};
+ghost use Rattle.gup_spec_turns.specs.Waits.{waits_for_locks as locks_waited};
 ghost use Rattle.gup_spec_turns.specs.Waits.{both_if, held_by_other as other_holding, locks_needed as needed, waiting_for};
 ghost use Rattle.gup_spec_turns.specs.JobPlace.{place_in};
 ghost use Rattle.gup_op_base.specs.Jobs.{place_of};
 ghost use Rattle.gup_op_pins.specs.Pins.{ShowsPins};
 ghost use Rattle.gup_op_base.specs.Tidy.{AreNumbered};
-ghost use Rattle.gup_op_waits.specs.Locks.{locks_of, fork_needs, child_in};
+ghost use Rattle.gup_op_waits.specs.Locks.{locks_of, fork_needs, child_in, waiting_if};
 ghost use Rattle.gup_spec_journal.specs.Place.{Doer};
 ghost use Rattle.gup_spec_journal.specs.Order.{is_given_to, taking_waits};
 ghost use Rattle.gup_op_waits.specs.Doers.{HasProcess, IsProcessOf};
@@ -96,13 +96,14 @@ fn waits_for_holders(
         → result ≡ locks_waited (needed s actor proc op.now) actor (s.structure proc) (s.table proc) }
 {
     let space = space_at(spaces, proc);
-    let structure = space.structure();
-    let table = space.table();
+    let structure = held_by_other(actor, space.structure());
+    let table = held_by_other(actor, space.table());
+    // Whatever the turn needs, nobody else holds it.
     if structure.is_none() && table.is_none() {
         return None;
     }
     let locks = locks_needed(spaces, proc, place, op);
-    waits_for_locks(&locks, actor, structure, table)
+    if_needed(locks.structure, structure).or(if_needed(locks.table, table))
 }
 
 fn space_at(spaces: &Vec<Space>, proc: ProcNo) -> &Space
@@ -165,32 +166,14 @@ fn both(needed: bool) -> Locks
     }
 }
 
-// The actor waits for the holder of a lock that it needs, first of the structure lock.
-fn waits_for_locks(
-    locks: &Locks,
-    actor: ActorNo,
-    structure: Option<ActorNo>,
-    table: Option<ActorNo>,
-) -> Option<Waiting>
-    ensures { result ≡ locks_waited (locks_of locks.now) actor structure table }
+// What the actor would wait for, if it needs that.
+fn if_needed(needed: bool, waiting: Option<Waiting>) -> Option<Waiting>
+    ensures { result ≡ waiting_if needed waiting }
 {
-    if let Some(waiting) = waits_for_lock(locks.structure, actor, structure) {
-        return Some(waiting);
-    }
-    waits_for_lock(locks.table, actor, table)
+    if needed { waiting } else { None }
 }
 
-// The actor waits for another one that holds a lock which it needs.
-fn waits_for_lock(needed: bool, actor: ActorNo, holder: Option<ActorNo>) -> Option<Waiting>
-    ensures { result ≡ lock_waited needed actor holder }
-{
-    if needed {
-        held_by_other(actor, holder)
-    } else {
-        None
-    }
-}
-
+// The actor would wait for another one that holds a lock.
 fn held_by_other(actor: ActorNo, holder: Option<ActorNo>) -> Option<Waiting>
     ensures { result ≡ other_holding actor holder }
 {

@@ -4,4 +4,4 @@
 mod order;
 mod run;
 
-pub use run::{Run, run_all};
+pub use run::{Run, run_all, run_machine};

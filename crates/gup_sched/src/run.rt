@@ -1,8 +1,9 @@
 //! The run of a machine.
-ghost use Rattle.std.specs.Prelude.{◌≡◌, ◌+◌, ◌*◌, ◌≤◌, length, IfOk};
+ghost use Rattle.std.specs.Prelude.{◌≡◌, ℕ, ◌+◌, ◌*◌, ◌<◌, ◌≤◌, length, slice_get, Some, IfOk, OnOk};
 ghost use Rattle.gup_spec_turns.specs.Cost.{operations, forks};
 ghost use Rattle.gup_spec_turns.specs.Run.{RunState, IsCoreRun};
 ghost use Rattle.gup_core.specs.Machine.{Shows, IsNew};
+ghost use Rattle.gup_core.specs.Going.{WritesTurn};
 ghost use Rattle.gup_sched.specs.Ran.{SaysStuck};
 
 use crate::order::{actor_no, behind, is_stuck, next_to_go};
@@ -34,14 +35,27 @@ pub fn run_all(alloc: Global, machine: Machine, script: &Script) -> Result<Run, 
         × (end.turns ≤ length script.now.turns + (1025 * operations script.now + 527361 * forks script.now))) }
     ensures script { IfOk result (λ run. run.machine.script ≡ script.now) }
 {
+    let _script = script;
+    run_machine(alloc, machine)
+}
+
+/// Runs the machine to the end of its own script, as `run_all` does.
+pub fn run_machine(alloc: Global, machine: Machine) -> Result<Run, NoMemory>
+    requires { IsNew machine.script machine }
+    ensures core { IfOk result (λ run. (end : RunState) × IsCoreRun machine.script run.journal.notes end
+        × Shows run.machine end × SaysStuck run.stuck machine.script end
+        × (end.turns ≤ length machine.script.turns + (1025 * operations machine.script + 527361 * forks machine.script))) }
+    ensures script { IfOk result (λ run. run.machine.script ≡ machine.script) }
+{
     reached_states_stand();
     turns_are_spent();
     costs_are_few();
     let mut machine = machine;
     let mut journal = Journal::new(alloc);
-    let actors = script.actors();
-    for actor in script.turns() {
-        machine.write_turn(*actor, &mut journal)?;
+    let actors = machine.script().actors();
+    let written = machine.script().turns().len();
+    for k in 0..written {
+        write_kth(&mut machine, &mut journal, k)?;
     }
     let mut pointer = actor_no(0);
     while let Some(actor) = next_to_go(&mut machine, &mut journal, actors, pointer)? {
@@ -52,4 +66,16 @@ pub fn run_all(alloc: Global, machine: Machine, script: &Script) -> Result<Run, 
         stuck: is_stuck(&machine, actors),
         machine,
     })
+}
+
+// Takes the written turn with this number, from 0.
+fn write_kth(machine: &mut Machine, journal: &mut Journal, k: usize) -> Result<(), NoMemory>
+    requires { k < length machine.old.script.turns }
+    ensures turn { OnOk result ((actor : ℕ) × (slice_get machine.old.script.turns k ≡ Some actor)
+        × WritesTurn machine.old machine.new journal.old journal.new actor) }
+    ensures script { machine.new.script ≡ machine.old.script }
+{
+    let _actors = machine.script().actors();
+    let actor = machine.script().turns()[k];
+    machine.write_turn(actor, journal)
 }

@@ -1,17 +1,37 @@
 use Rattle.std.proofs.Common.{◌≡◌, ℕ, Bool, true, false, Option, None, Some, is_some, not, refl, sym, ap, ◌∙◌}
+use Rattle.std.specs.Option.{option_or}
 use Rattle.gup_plain.specs.declared.note.Waiting.{Waiting}
-use Rattle.gup_spec_turns.specs.Waits.{Locks, locks_needed, first_waiting, waits_for_lock, waits_for_locks}
+use Rattle.gup_spec_turns.specs.Waits.{Locks, locks_needed, first_waiting, held_by_other, waits_for_lock, waits_for_locks}
+use Rattle.gup_op_waits.specs.Locks.{waiting_if}
 use Rattle.gup_op_waits.proofs.locks.waits_for_holders.Goals as goal
 
--- nobody waits for locks that nobody holds
-free_lock : (needed : Bool) (a : ℕ) → waits_for_lock needed a None ≡ None
-free_lock true a = refl
-free_lock false a = refl
+-- an actor waits for a lock if it needs it and another holds it
+lock_by : (needed : Bool) (a : ℕ) (holder : Option ℕ) → waits_for_lock needed a holder ≡ waiting_if needed (held_by_other a holder)
+lock_by true a holder = refl
+lock_by false a holder = refl
 
-free_locks : (locks : Locks) (a : ℕ) → None ≡ waits_for_locks locks a None None
-free_locks locks a =
+first_of_two : (first second : Option Waiting) → first_waiting first second ≡ option_or first second
+first_of_two None second = refl
+first_of_two (Some waiting) second = refl
+
+locks_by : (locks : Locks) (a : ℕ) (structure table : Option ℕ)
+    → waits_for_locks locks a structure table ≡ option_or (waiting_if locks.structure (held_by_other a structure)) (waiting_if locks.table (held_by_other a table))
+locks_by locks a structure table =
+    ap (λ (w : Option Waiting). first_waiting w (waits_for_lock locks.table a table)) (lock_by locks.structure a structure)
+    ∙ ap (λ (w : Option Waiting). first_waiting (waiting_if locks.structure (held_by_other a structure)) w) (lock_by locks.table a table)
+    ∙ first_of_two (waiting_if locks.structure (held_by_other a structure)) (waiting_if locks.table (held_by_other a table))
+
+none_if : (needed : Bool) (waiting : Option Waiting) → waiting ≡ None → waiting_if needed waiting ≡ None
+none_if true waiting none = none
+none_if false waiting none = refl
+
+-- it waits for nobody where nobody else holds one
+free_locks : (locks : Locks) (a : ℕ) (structure table : Option ℕ) → held_by_other a structure ≡ None → held_by_other a table ≡ None → None ≡ waits_for_locks locks a structure table
+free_locks locks a structure table no_structure no_table =
     sym
-    (ap (λ (w : Option Waiting). first_waiting w (waits_for_lock locks.table a None)) (free_lock locks.structure a) ∙ free_lock locks.table a)
+    (locks_by locks a structure table
+    ∙ ap (λ (w : Option Waiting). option_or w (waiting_if locks.table (held_by_other a table))) (none_if locks.structure (held_by_other a structure) no_structure)
+    ∙ none_if locks.table (held_by_other a table) no_table)
 
 none_of : {X : Type 0} (o : Option X) (none : Bool) → is_some o ≡ not none → none ≡ true → o ≡ None
 none_of None none is e = refl
@@ -22,19 +42,14 @@ returns-then-is_none-2 c s far spaces place at =
     let a = c.args.actor in
     let p = c.args.proc in
     let shown = spaces p c.space_at-space.result.now c.space_at-space.ensures in
-    let locks = locks_needed s a p c.args.op.now in
-    let structure : s.structure p ≡ None = shown.structure ∙ sym c.structure-structure.ensures ∙ none_of c.structure-structure.result c.is_none.result c.is_none.ensures c.if-is_none.true in
-    let table : s.table p ≡ None = shown.table ∙ sym c.table-table.ensures ∙ none_of c.table-table.result c.is_none-then-is_none.result c.is_none-then-is_none.ensures c.if-is_none-2.true in
-    free_locks locks a
-    ∙ ap (λ o. waits_for_locks locks a o None) (sym structure)
-    ∙ ap (λ o. waits_for_locks locks a (s.structure p) o) (sym table)
+    let structure = ap (held_by_other a) (shown.structure ∙ sym c.structure.ensures) ∙ sym c.held_by_other-structure.ensures ∙ none_of c.held_by_other-structure.result c.is_none.result c.is_none.ensures c.if-is_none.true in
+    let table = ap (held_by_other a) (shown.table ∙ sym c.table.ensures) ∙ sym c.held_by_other-table.ensures ∙ none_of c.held_by_other-table.result c.is_none-then-is_none.result c.is_none-then-is_none.ensures c.if-is_none-2.true in
+    free_locks (locks_needed s a p c.args.op.now) a (s.structure p) (s.table p) structure table
 
 pub returns : goal.returns
 returns c s far spaces place at =
     let a = c.args.actor in
     let p = c.args.proc in
     let shown = spaces p c.space_at-space.result.now c.space_at-space.ensures in
-    c.waits_for_locks.ensures
-    ∙ ap (λ l. waits_for_locks l a c.structure-structure.result c.table-table.result) (c.locks_needed-locks.ensures s a far spaces place at)
-    ∙ ap (λ o. waits_for_locks (locks_needed s a p c.args.op.now) a o c.table-table.result) (c.structure-structure.ensures ∙ sym shown.structure)
-    ∙ ap (λ o. waits_for_locks (locks_needed s a p c.args.op.now) a (s.structure p) o) (c.table-table.ensures ∙ sym shown.table)
+    let needed = c.locks_needed-locks.ensures s a p far spaces place at in
+    ?

@@ -8,34 +8,29 @@ use Rattle.gup_core.specs.Machine.{MachineValue, Shows}
 use Rattle.gup_core.specs.Going.{WritesTurn, Stays}
 use Rattle.gup_sched.specs.Ran.{SaysStuck, FoundTakes}
 use Rattle.gup_sched.proofs.Underway.{has_costs, IsWritten, written_first, written_turn, IsPointed, pointed_first, pointed_turn, pointed_end, few_turns, most}
-use Rattle.gup_sched.proofs.run.run_all.Goals as goal
+use Rattle.gup_sched.proofs.run.run_machine.Goals as goal
 
 -- the written turns
 
-pub loop-actor-init : goal.loop-actor-init
-loop-actor-init c =
-    let script = c.args.script.now in
+pub loop-k-init : goal.loop-k-init
+loop-k-init c =
+    let script = c.args.machine.script in
     let first = written_first script c.args.machine c.requires in
     (run_start script, subst (λ (ns : List NoteValue). IsWritten script c.args.machine ns 0 (run_start script)) (sym c.new-journal.ensures) first)
 
--- the actor of the turn
-is_written : (items turns : List ℕ) (k a : ℕ) → items ≡ turns → k < length items → slice_get items k ≡ Some a → (slice_get turns k ≡ Some a) × (k < length turns)
-is_written items turns k a same less is = (subst (λ (xs : List ℕ). slice_get xs k ≡ Some a) same is, subst (λ (xs : List ℕ). k < length xs) same less)
-
-pub loop-actor-preserved : goal.loop-actor-preserved
-loop-actor-preserved c =
-    let script = c.args.script.now in
+pub loop-k-preserved : goal.loop-k-preserved
+loop-k-preserved c =
+    let script = c.args.machine.script in
     let valid = c.actors-actors.ensures.valid in
     let costs = has_costs script valid c.turns_are_spent.ensures.spent c.turns_are_spent.ensures.kept c.turns_are_spent.ensures.start c.costs_are_few.ensures c.reached_states_stand.ensures in
-    let r : RunState = c.loop-actor.invariant.0 in
-    let w = c.loop-actor.invariant.1 in
-    let items = c.turns-actor-items.result.now in
-    let k = c.loop-actor.actor-index in
-    let a = c.actor-item.result in
-    let there = is_written items script.turns k a c.turns-actor-items.ensures c.loop-actor-test.true (slice_get_read items (length items) k a refl c.loop-actor-test.true c.actor-item.is) in
-    let taken = c.in_ok-write_turn.ensures.turn r w.underway.shown in
-    let after = written_turn script valid costs c.loop-actor.machine c.write_turn.new.self c.loop-actor.journal.notes taken.0 k r a there.0 there.1 c.in_ok-write_turn.ensures.script taken.2 w in
-    (run_after script r a, subst (λ (ns : List NoteValue). IsWritten script c.write_turn.new.self ns (k + 1) (run_after script r a)) (sym taken.1) after)
+    let r : RunState = c.loop-k.invariant.0 in
+    let w = c.loop-k.invariant.1 in
+    let took = c.in_ok-write_kth.ensures.turn in
+    let a = took.0 in
+    let there : slice_get script.turns c.loop-k.k ≡ Some a = ap (λ (s : ScriptValue). slice_get s.turns c.loop-k.k) (sym w.underway.same) ∙ took.1 in
+    let taken = took.2 r w.underway.shown in
+    let after = written_turn script valid costs c.loop-k.machine c.write_kth.new.machine c.loop-k.journal.notes taken.0 c.loop-k.k r a there (slice_get_within script.turns c.loop-k.k a there) c.in_ok-write_kth.ensures.script taken.2 w in
+    (run_after script r a, subst (λ (ns : List NoteValue). IsWritten script c.write_kth.new.machine ns (c.loop-k.k + 1) (run_after script r a)) (sym taken.1) after)
 
 -- after them
 
@@ -45,7 +40,7 @@ all_over items turns k same least most = let lengths = ap (λ (xs : List ℕ). l
 
 pub loop-journal-init : goal.loop-journal-init
 loop-journal-init c =
-    let script = c.args.script.now in
+    let script = c.args.machine.script in
     let m = c.loop-actor.machine in
     let notes = c.loop-actor.journal.notes in
     let r : RunState = c.loop-actor.invariant.0 in
@@ -64,7 +59,7 @@ fewer most before after less within = omega arith
 
 pub loop-journal-preserved : goal.loop-journal-preserved
 loop-journal-preserved c =
-    let script = c.args.script.now in
+    let script = c.args.machine.script in
     let valid = c.actors-actors.ensures.valid in
     let costs = has_costs script valid c.turns_are_spent.ensures.spent c.turns_are_spent.ensures.kept c.turns_are_spent.ensures.start c.costs_are_few.ensures c.reached_states_stand.ensures in
     let r : RunState = c.loop-journal.invariant.1.0 in
@@ -82,7 +77,7 @@ loop-journal-preserved c =
 
 pub loop-journal-smaller : goal.loop-journal-smaller
 loop-journal-smaller c =
-    let script = c.args.script.now in
+    let script = c.args.machine.script in
     let valid = c.actors-actors.ensures.valid in
     let costs = has_costs script valid c.turns_are_spent.ensures.spent c.turns_are_spent.ensures.kept c.turns_are_spent.ensures.start c.costs_are_few.ensures c.reached_states_stand.ensures in
     let r : RunState = c.loop-journal.invariant.1.0 in
@@ -112,7 +107,7 @@ returns-clause-script c =
 
 pub returns-clause-core : goal.returns-clause-core
 returns-clause-core c =
-    let script = c.args.script.now in
+    let script = c.args.machine.script in
     let m = c.loop-journal.machine in
     let n = c.next_to_go.new.machine in
     let r : RunState = c.loop-journal.invariant.1.0 in
