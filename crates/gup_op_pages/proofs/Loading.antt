@@ -6,6 +6,7 @@ use Rattle.gup_base.specs.declared.entry.Allowed.TheVariants.{Any}
 use Rattle.gup_base.specs.declared.entry.Entry.{Entry}
 use Rattle.gup_base.specs.declared.entry.Rights.{Rights}
 use Rattle.gup_base.specs.declared.entry.Rights.TheVariants.{R, RW}
+use Rattle.gup_plain.specs.Note.{JournalValue}
 use Rattle.gup_plain.specs.declared.answer.Answer.{Answer}
 use Rattle.gup_plain.specs.declared.note.What.TheVariants.{Done}
 use Rattle.gup_frames.specs.Frames.{FramesValue, IsFrame, free_frame, with_word}
@@ -21,13 +22,20 @@ use Rattle.gup_fault.specs.Faults.{HasEntry, IsWritable, page_word, IsFault}
 use Rattle.gup_spec_turns.specs.PageTurns.{load_turn, load_fault, loads_in, store_turn, store_fault, stores_to}
 use Rattle.gup_spec_turns.proofs.TurnParts.{loads_after, store_fault_by, stores_after}
 use Rattle.gup_spec_turns.specs.CoreTurn.{allows_store, frame_in, free_frame as free_in_state}
-use Rattle.gup_op_base.specs.Said.{whats_of, loaded_said, stored_said}
+use Rattle.gup_op_base.specs.declared.said.Head.{Head}
+use Rattle.gup_op_base.specs.Said.{Tells, whats_of, answered_said, loaded_said, stored_said}
 use Rattle.gup_op_base.specs.Turns.{Leads, IsTurnOf, Anywhere}
 use Rattle.gup_op_base.specs.Tidy.{IsTidy}
 use Rattle.gup_op_base.proofs.Leading.{ch, leads_alike, run_behind, state_of, has_frames, has_space}
 use Rattle.gup_op_base.proofs.Searching.{free_agrees, free_passes}
 use Rattle.gup_op_pages.specs.Alone.{AloneView, ShowsAlone}
 use Rattle.gup_op_pages.proofs.Viewing.{view, before, behind, events_show}
+
+-- ---- what is answered
+
+-- the same answer in other words
+pub answers_so : (head : Head) (was now : JournalValue) {answer other : Answer} → other ≡ answer → Tells head was now (answered_said other) → Tells head was now (answered_said answer)
+answers_so head was now {answer} {other} same h = subst (λ (x : Answer). Tells head was now (answered_said x)) same h
 
 -- ---- which fault it is
 
@@ -80,6 +88,16 @@ load_behind new a p page word es s some shown =
       says = ap (λ v. whats_of (loaded_said a p page word v)) (sym value_is);
       shown = subst (λ (t : CoreState). ShowsAlone p new t) (sym after) shown;
     }
+
+-- through the page's entry
+pub load_by_entry : (F : FramesValue) (S : SpaceValue) (a p page word : ℕ) (e : Entry) → S.entry page ≡ Some e
+    → IsTurnOf (ShowsAlone p) Anywhere (view F S) (view F S) (λ s. load_turn s a p page word (s.entry p page)) (whats_of (loaded_said a p page word (F.word e.frame word)))
+load_by_entry F S a p page word e found s shown stands =
+    let same : page_word F (S.entry page) word ≡ F.word e.frame word = ap (λ o. page_word F o word) found in
+    leads_alike
+    (ap (λ (x : Fault). loads_after s x a p page word) (ap (λ o. load_fault s a p page o) (shown.space.entry page ∙ found)))
+    (subst (λ (v : ℕ). Leads (ShowsAlone p) (view F S) s (loads_after s (Ok []) a p page word) (whats_of (loaded_said a p page word v))) same
+    (load_behind (view F S) a p page word [] s (ap is_some found) shown))
 
 -- what a fault to load comes to
 load_after : (new : AloneView) (a p page word : ℕ) (fault : Fault) (s : CoreState) → refusal_of fault ≡ None → IsSome (new.space.entry page) → ShowsAlone p new (run s (events_of fault))

@@ -22,6 +22,11 @@ use Rattle.gup_op_base.proofs.Searching.{lowest_same}
 use Rattle.gup_op_pages.specs.Alone.{AloneView, ShowsAlone}
 use Rattle.gup_op_pages.proofs.Viewing.{before, behind, events_show}
 
+-- the answer comes at the last page
+pub ends_last : (last : Bool) → last ≡ is_some (cond last (Some answers.Plain) None)
+ends_last true = refl
+ends_last false = refl
+
 -- ---- unmap
 
 -- Two turns have the same events, and the one leads.

@@ -1,11 +1,11 @@
 //! A turn of an operation.
-ghost use Rattle.std.specs.Prelude.{◌≡◌, ℕ, true, Some, None};
+ghost use Rattle.std.specs.Prelude.{◌≡◌, ℕ, ◌≤◌, true, Some, None};
 ghost use Rattle.gup_script.specs.Valid.{IsOp};
 ghost use Rattle.gup_frames.specs.Frames.{frames_of};
 ghost use Rattle.gup_space.specs.Space.{space_of};
 ghost use Rattle.gup_spec_turns.specs.Turn.{op_turn};
 ghost use Rattle.gup_op_base.specs.Tidy.{IsTidy, needs_table as table_needed};
-ghost use Rattle.gup_op_base.specs.Said.{whats_of};
+ghost use Rattle.gup_op_base.specs.Said.{TellsTurn, whats_of};
 ghost use Rattle.gup_op_base.specs.Turns.{IsTurnOf, Anywhere};
 ghost use Rattle.gup_op_pages.specs.Alone.{IsAlone, ShowsAlone, alone_view};
 ghost use Rattle.gup_op_base.specs.Far.{HasFar, far_in};
@@ -13,58 +13,63 @@ ghost use Rattle.gup_op_base.specs.Far.{HasFar, far_in};
 use crate::loads::{allows_store, load, store};
 use crate::mappings::{map, protect};
 use crate::unmaps::{discard, exit, unmap};
-use gup_base::{ActorNo, ProcNo};
+use gup_base::ProcNo;
 use gup_frames::Frames;
-use gup_op_base::{Said, page_behind, refused};
-use gup_plain::Answer;
+use gup_op_base::{Head, page_behind};
+use gup_plain::Journal;
 use gup_script::Op;
 use gup_space::Space;
 
-/// Takes a turn of the operation, which is over one process and the frames and has gone over so many pages. Nobody holds
-/// the table lock, if the turn needs it.
+/// Takes a turn of the operation, which is over one process and the frames and has gone over so many pages, and answers
+/// whether the operation is over. Nobody holds the table lock, if the turn needs it.
+#[inline]
 pub fn take(
     space: &mut Space,
     frames: &mut Frames,
-    actor: ActorNo,
+    journal: &mut Journal,
+    head: &Head,
     proc: ProcNo,
     far: u16,
     op: &Op,
-) -> Said
+) -> bool
     requires tidy { IsTidy (frames_of frames.old) (space_of space.old) }
     requires table { table_needed (space_of space.old) op.now ≡ true → (space_of space.old).table ≡ None }
     requires op { IsOp op.now }
     requires far { HasFar op.now far }
     requires alone { IsAlone op.now }
-    ensures { (slots k : ℕ) → far ≡ far_in (Some op.now) k
+    requires room { 3 ≤ journal.old.room }
+    ensures { TellsTurn head.now journal.old journal.new result
+        (λ said. (slots k : ℕ) → far ≡ far_in (Some op.now) k
         → IsTurnOf (ShowsAlone proc) Anywhere (alone_view frames.old space.old) (alone_view frames.new space.new)
-        (λ s. op_turn s actor proc slots k op.now) (whats_of result) }
+        (λ s. op_turn s head.now.actor proc slots k op.now) (whats_of said)) }
 {
     match op {
-        Op::Map { page, n, rights } => map(space, frames, actor, proc, *page, *n, *rights),
-        Op::Unmap { page, n } => unmap(
-            space,
-            frames,
-            actor,
-            proc,
-            page_behind(*page, far),
-            far + 1 == *n,
-        ),
-        Op::Protect { page, n, rights } => protect(space, frames, actor, proc, *page, *n, *rights),
-        Op::Discard { page, n } => discard(
-            space,
-            frames,
-            actor,
-            proc,
-            page_behind(*page, far),
-            far + 1 == *n,
-        ),
-        Op::Load { page, word } => load(space, frames, actor, proc, *page, *word),
-        Op::Store { page, word, value } => store(space, frames, actor, proc, *page, *word, *value),
-        Op::Exit => exit(space, frames, actor, proc),
-        Op::Pin { .. } | Op::Unpin { .. } | Op::Give { .. } => refused(Answer::Unborn),
-        Op::Take { .. } | Op::Transfer { .. } | Op::Fork { .. } => refused(Answer::Unborn),
-        Op::Get { .. } | Op::Put { .. } | Op::Mirror { .. } => refused(Answer::Unborn),
-        Op::Look { .. } | Op::Move { .. } => refused(Answer::Unborn),
+        Op::Load { page, word } => {
+            load(space, frames, journal, head, proc, *page, *word);
+            true
+        }
+        Op::Store { page, word, value } => {
+            store(space, frames, journal, head, proc, *page, *word, *value);
+            true
+        }
+        Op::Map { page, n, rights } => {
+            map(space, frames, journal, head, proc, *page, *n, *rights);
+            true
+        }
+        Op::Protect { page, n, rights } => {
+            protect(space, frames, journal, head, proc, *page, *n, *rights);
+            true
+        }
+        Op::Unmap { page, n } => {
+            let next = page_behind(*page, far);
+            unmap(space, frames, journal, head, proc, next, far + 1 == *n)
+        }
+        Op::Discard { page, n } => {
+            let next = page_behind(*page, far);
+            discard(space, frames, journal, head, proc, next, far + 1 == *n)
+        }
+        Op::Exit => exit(space, frames, journal, head, proc),
+        _ => false,
     }
 }
 
