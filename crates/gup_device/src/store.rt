@@ -39,6 +39,7 @@ impl Store {
     }
 
     /// How many words there are, from 1 to 4,096.
+    #[inline]
     pub fn words(&self) -> u16
         ensures words { result ≡ (store_of self.now).words }
         ensures some { 1 ≤ result }
@@ -48,6 +49,7 @@ impl Store {
     }
 
     /// The word of the slot.
+    #[inline]
     pub fn word(&self, slot: u16) -> u64
         requires { IsSlot (store_of self.now) slot }
         ensures { result ≡ (store_of self.now).word slot }
@@ -56,6 +58,7 @@ impl Store {
     }
 
     /// Reads a word of the frame into the slot, and answers it. The frame stays as it is.
+    #[inline]
     pub fn word_out(&mut self, frames: &Frames, frame: FrameNo, word: WordNo, slot: u16) -> u64
         requires slot { IsSlot (store_of self.old) slot }
         requires there { IsFrame (frames_of frames.now) frame }
@@ -69,6 +72,7 @@ impl Store {
     }
 
     /// Writes the word of the slot into a word of the frame, and answers it. The store stays as it is.
+    #[inline]
     pub fn word_in(&self, frames: &mut Frames, frame: FrameNo, word: WordNo, slot: u16) -> u64
         requires slot { IsSlot (store_of self.now) slot }
         requires there { IsFrame (frames_of frames.old) frame }

@@ -18,6 +18,7 @@ use gup_space::Space;
 /// Makes the page ready for a load: any entry is enough, and one that has none gets a frame of zeros.
 ///
 /// Refused first where the page has no mapping, then where it wants a frame and none of the allowed zones is free.
+#[inline]
 pub fn ready_read(
     space: &mut Space,
     frames: &mut Frames,
@@ -46,6 +47,7 @@ pub fn ready_read(
 /// references (Linux's `FAULT_FLAG_UNSHARE`).
 ///
 /// Refused first where the page has no mapping, then where it wants a frame and none of the allowed zones is free.
+#[inline]
 pub fn unshare(
     space: &mut Space,
     frames: &mut Frames,
@@ -74,6 +76,7 @@ pub fn unshare(
 }
 
 // Makes the frame of the page's entry exclusive, or gives the page a copy that is.
+#[inline]
 fn unshare_entry(
     space: &mut Space,
     frames: &mut Frames,
@@ -105,6 +108,7 @@ fn unshare_entry(
 ///
 /// Refused first where the page has no mapping, then where its rights don't allow a write, then where it wants a frame
 /// and none of the allowed zones is free.
+#[inline]
 pub fn ready_write(
     space: &mut Space,
     frames: &mut Frames,
@@ -138,6 +142,7 @@ pub fn ready_write(
 }
 
 // Makes the page's entry writable once its frame is exclusive, or gives the page a copy that is.
+#[inline]
 fn make_writable(
     space: &mut Space,
     frames: &mut Frames,

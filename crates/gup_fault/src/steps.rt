@@ -20,6 +20,7 @@ use gup_space::Space;
 /// `do_anonymous_page`; that the entry is never writable at once is this project's own).
 ///
 /// Refused exactly where no frame of the allowed zones is free.
+#[inline]
 pub fn fill(
     space: &mut Space,
     frames: &mut Frames,
@@ -46,6 +47,7 @@ pub fn fill(
 }
 
 /// Gives the mapped page, which has no entry, a frame of zeros, marked, and a writable entry.
+#[inline]
 pub(crate) fn fill_writable(
     space: &mut Space,
     frames: &mut Frames,
@@ -72,6 +74,7 @@ pub(crate) fn fill_writable(
 }
 
 /// Marks the frame of the page's entry as exclusive: nothing else refers to it (of Linux's `wp_can_reuse_anon_folio`).
+#[inline]
 pub fn mark(space: &Space, frames: &mut Frames, page: PageNo)
     requires alone { HasEntry ((space_of space.now).entry page)
         (λ e. (frames_of frames.old).count e.frame ≡ 1) }
@@ -86,6 +89,7 @@ pub fn mark(space: &Space, frames: &mut Frames, page: PageNo)
 }
 
 /// Makes the page's entry, of a marked frame, writable (of Linux's `wp_page_reuse`).
+#[inline]
 pub fn upgrade(space: &mut Space, frames: &Frames, page: PageNo)
     requires marked { HasEntry ((space_of space.old).entry page) (λ e. (frames_of frames.now).mark e.frame ≡ true) }
     requires right { (space_of space.old).right page ≡ Some RW }

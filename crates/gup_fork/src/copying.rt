@@ -15,6 +15,7 @@ use gup_space::Space;
 
 /// Copies one word of the page, which has an entry, into the same word of frame `to`, which is another one and isn't
 /// free: a word of Linux's `copy_user_highpage` (that it takes the words one by one is this project's own).
+#[inline]
 pub fn copy_word(parent: &Space, frames: &mut Frames, page: PageNo, to: FrameNo, word: WordNo)
     requires entry { IsSome ((space_of parent.now).entry page) }
     requires counted { IsCounted (frames_of frames.old) (space_of parent.now) page }
@@ -35,6 +36,7 @@ pub fn copy_word(parent: &Space, frames: &mut Frames, page: PageNo, to: FrameNo,
 }
 
 // Whether the page, which is mapped, may be written.
+#[inline]
 fn may_write(child: &Space, page: PageNo) -> bool
     ensures { (rights : RightsValue) → (space_of child.now).right page ≡ Some rights → result ≡ is_writable rights }
 {
@@ -47,6 +49,7 @@ fn may_write(child: &Space, page: PageNo) -> bool
 /// Gives the child's page, which has no entry, the copy: the frame gets its mark, and the child an entry of it, writable
 /// exactly where the page may be written. The parent keeps its entry, and the frame that it pinned (the end of
 /// `copy_present_page`). Whoever counted the page frees the table lock with it.
+#[inline]
 pub fn place_child(
     parent: &Space,
     child: &mut Space,

@@ -15,6 +15,7 @@ use gup_frames::Frames;
 use gup_space::Space;
 
 // Takes a reference of the frame back, where it has one.
+#[inline]
 fn put_one(frames: &mut Frames, frame: FrameNo)
     requires { IsFrame (frames_of frames.old) frame }
     ensures { frames_of frames.new ≡ without_references frame 1 (frames_of frames.old) }
@@ -25,14 +26,13 @@ fn put_one(frames: &mut Frames, frame: FrameNo)
 }
 
 // Takes the page's entry away, where it has one, and gives its reference back.
+#[inline]
 fn put_entry(child: &mut Space, frames: &mut Frames, page: PageNo)
     requires { (e : EntryValue) → (space_of child.old).entry page ≡ Some e → IsFrame (frames_of frames.old) e.frame }
     ensures child { space_of child.new ≡ with_entry page None (space_of child.old) }
     ensures frames { frames_of frames.new ≡ without_entry ((space_of child.old).entry page) (frames_of frames.old) }
 {
-    let entry = child.entry(page);
-    child.set_entry(page, None);
-    if let Some(entry) = entry {
+    if let Some(entry) = child.take_entry(page) {
         put_one(frames, entry.frame);
     }
 }

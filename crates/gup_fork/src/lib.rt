@@ -24,6 +24,7 @@ pub use fails::fail;
 /// The beginning of a fork: the parent's sequence gets odd, which tells lockless walks that its pages are being shared
 /// (Linux's `write_protect_seq`; that there is one pair of rises for the whole fork is this project's own, Linux has
 /// one for each area), and the child gets the parent's mappings. Who forks takes the parent's structure lock with it.
+#[inline]
 pub fn begin(parent: &mut Space, child: &mut Space)
     requires { (space_of parent.old).sequence < 2 ^ 40 }
     ensures parent { space_of parent.new ≡ record (space_of parent.old) { sequence = (space_of parent.old).sequence + 1 } }
@@ -39,6 +40,7 @@ pub fn begin(parent: &mut Space, child: &mut Space)
 
 /// Whether the fork copies the page, which has an entry, instead of sharing it: its frame is exclusive and may be
 /// pinned, and the process has ever pinned (Linux's `folio_needs_cow_for_dma`).
+#[inline]
 pub fn copies(parent: &Space, frames: &Frames, page: PageNo) -> bool
     requires entry { IsSome ((space_of parent.now).entry page) }
     requires counted { IsCounted (frames_of frames.now) (space_of parent.now) page }
@@ -52,6 +54,7 @@ pub fn copies(parent: &Space, frames: &Frames, page: PageNo) -> bool
 }
 
 // The read-only entry of the frame.
+#[inline(always)]
 fn read_only(frame: FrameNo) -> Entry
     ensures { result ≡ entry_of frame false }
 {
@@ -65,6 +68,7 @@ fn read_only(frame: FrameNo) -> Entry
 /// frame's mark goes, and the child gets a read-only entry of the same frame, which has one reference more
 /// (`__copy_present_ptes`; the order is this project's own, Linux raises the count first). No frame is taken, and no
 /// word changes. Whoever counted the page frees the table lock with it.
+#[inline]
 pub fn share(parent: &mut Space, child: &mut Space, frames: &mut Frames, page: PageNo)
     requires entry { IsSome ((space_of parent.old).entry page) }
     requires counted { IsCounted (frames_of frames.old) (space_of parent.old) page }
@@ -85,17 +89,17 @@ pub fn share(parent: &mut Space, child: &mut Space, frames: &mut Frames, page: P
         (with_table None (fork_change_of frames.old frames.new parent.old parent.new child.old child.new))
         (λ p c. shares a p c done page e) }
 {
-    let Some(entry) = parent.entry(page) else {
+    let Some(entry) = parent.lower_entry(page) else {
         return;
     };
     let frame = entry.frame;
-    parent.set_entry(page, Some(read_only(frame)));
     frames.set_mark(frame, false);
     frames.grab(frame, 1);
     child.set_entry(page, Some(read_only(frame)));
 }
 
 /// The end of a fork: the parent's sequence gets even again. Who forked frees the parent's structure lock with it.
+#[inline]
 pub fn end(parent: &mut Space)
     requires { (space_of parent.old).sequence < 2 ^ 40 }
     ensures parent { space_of parent.new ≡ record (space_of parent.old) { sequence = (space_of parent.old).sequence + 1 } }

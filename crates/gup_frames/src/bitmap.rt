@@ -33,6 +33,7 @@ impl Bitmap {
     }
 
     /// Puts the number in.
+    #[inline]
     pub(crate) fn insert(&mut self, k: usize)
         requires { k < 1024 }
         ensures { has self.new ≡ put k true (has self.old) }
@@ -41,6 +42,7 @@ impl Bitmap {
     }
 
     /// Takes the number out.
+    #[inline]
     pub(crate) fn remove(&mut self, k: usize)
         requires { k < 1024 }
         ensures { has self.new ≡ put k false (has self.old) }
@@ -50,6 +52,7 @@ impl Bitmap {
 
     /// The lowest of the `n` numbers from this one on that the set has. It looks at each word once, from that of the
     /// first number on.
+    #[inline]
     pub(crate) fn lowest(&self, first: usize, n: usize) -> Option<usize>
         requires { first + n ≤ 1024 }
         ensures { result ≡ lowest first n (has self.now) }

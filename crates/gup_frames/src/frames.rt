@@ -9,6 +9,7 @@ use std::alloc::Global;
 use std::marker::Model;
 
 // 1 where it is so, and else 0.
+#[inline(always)]
 fn one_if(so: bool) -> u32
     ensures { result ≡ (if so then 1 else 0) }
 {
@@ -77,6 +78,7 @@ impl Frames {
     }
 
     /// How many frames the movable zone has.
+    #[inline]
     pub fn movable(&self) -> u32
         ensures { result ≡ (frames_of self.now).movable }
     {
@@ -84,6 +86,7 @@ impl Frames {
     }
 
     /// How many frames the normal zone has.
+    #[inline]
     pub fn normal(&self) -> u32
         ensures { result ≡ (frames_of self.now).normal }
     {
@@ -91,6 +94,7 @@ impl Frames {
     }
 
     /// The zone of the frame.
+    #[inline]
     pub fn zone(&self, frame: FrameNo) -> Zone
         requires { IsFrame (frames_of self.now) frame }
         ensures { result ≡ zone_of (frames_of self.now) frame }
@@ -103,6 +107,7 @@ impl Frames {
     }
 
     /// How many references the frame has, with 1,024 for each pin. The frame is free exactly at 0.
+    #[inline]
     pub fn count(&self, frame: FrameNo) -> u64
         requires { IsFrame (frames_of self.now) frame }
         ensures { result ≡ (frames_of self.now).count frame }
@@ -111,6 +116,7 @@ impl Frames {
     }
 
     /// Whether the frame is marked as exclusive.
+    #[inline]
     pub fn mark(&self, frame: FrameNo) -> bool
         requires { IsFrame (frames_of self.now) frame }
         ensures { result ≡ (frames_of self.now).mark frame }
@@ -119,6 +125,7 @@ impl Frames {
     }
 
     /// This word of the frame.
+    #[inline]
     pub fn word(&self, frame: FrameNo, word: WordNo) -> u64
         requires { IsFrame (frames_of self.now) frame }
         ensures { result ≡ (frames_of self.now).word frame word }
@@ -136,6 +143,7 @@ impl Frames {
     }
 
     /// How many frames of the zone are free.
+    #[inline]
     pub fn free(&self, zone: Zone) -> u32
         ensures { result ≡ free_of (frames_of self.now) zone }
     {
@@ -184,9 +192,10 @@ impl Frames {
         };
         let frame = FrameNo::new(place as u64).unwrap();
         let movable = place < self.movable as usize;
+        let none = self.counts[place];
+        words::clear(&mut self.words, place, none);
         self.counts[place] = 1;
         self.marks[place] = false;
-        words::clear(&mut self.words, place);
         self.free.remove(place);
         self.free_movable -= one_if(movable);
         self.free_normal -= one_if(!movable);
@@ -195,6 +204,7 @@ impl Frames {
 
     /// Gives the frame, which isn't free, a reference more (`by` 1), or a pin's (`by` 1,024): Linux's `folio_ref_add`
     /// in `try_grab_folio`.
+    #[inline]
     pub fn grab(&mut self, frame: FrameNo, by: u64)
         requires there { IsFrame (frames_of self.old) frame }
         requires held { 0 < (frames_of self.old).count frame }
@@ -207,6 +217,7 @@ impl Frames {
 
     /// Takes so many references of the frame back (Linux's `folio_put_refs`). At the last one the frame is free, and
     /// its mark goes.
+    #[inline]
     pub fn put(&mut self, frame: FrameNo, by: u64)
         requires there { IsFrame (frames_of self.old) frame }
         requires some { 0 < by }
@@ -227,6 +238,7 @@ impl Frames {
     }
 
     /// Marks the frame as exclusive, or takes its mark (`SetPageAnonExclusive`, `ClearPageAnonExclusive`).
+    #[inline]
     pub fn set_mark(&mut self, frame: FrameNo, on: bool)
         requires { IsFrame (frames_of self.old) frame }
         ensures { frames_of self.new ≡ with_mark frame on (frames_of self.old) }
@@ -235,6 +247,7 @@ impl Frames {
     }
 
     /// Writes this word of the frame.
+    #[inline]
     pub fn set_word(&mut self, frame: FrameNo, word: WordNo, v: u64)
         requires { IsFrame (frames_of self.old) frame }
         ensures { frames_of self.new ≡ with_word frame word v (frames_of self.old) }
@@ -243,6 +256,7 @@ impl Frames {
     }
 
     /// Gives frame `to` the words of frame `from` (Linux's `copy_user_highpage`).
+    #[inline]
     pub fn copy(&mut self, from: FrameNo, to: FrameNo)
         requires from { IsFrame (frames_of self.old) from }
         requires to { IsFrame (frames_of self.old) to }

@@ -65,6 +65,7 @@ impl Handles {
     }
 
     /// The actor holds a pin of these frames by the handle, at least one, in the order of its pages.
+    #[inline]
     pub fn hold(&mut self, h: HandleNo, actor: ActorNo, frames: &ArrayVec<FrameNo, 16>, write: bool)
         requires unmade { handles_of self.old h ≡ unmade }
         requires some { 0 < array_vec_len frames.now }
@@ -77,6 +78,7 @@ impl Handles {
     }
 
     /// The actor holds a reference of the frame by the handle.
+    #[inline]
     pub fn hold_got(&mut self, h: HandleNo, actor: ActorNo, frame: FrameNo)
         requires { handles_of self.old h ≡ unmade }
         ensures got { handles_of self.new ≡ put h (got actor frame) (handles_of self.old) }
@@ -90,6 +92,7 @@ impl Handles {
     /// Gives the actor's pin to another, or to itself. Nobody holds it until it is taken.
     ///
     /// `NotHeld` comes exactly where the actor doesn't hold a pin by the handle, and then nothing changes.
+    #[inline]
     pub fn give(&mut self, h: HandleNo, actor: ActorNo, to: ActorNo) -> Result<(), NotHeld>
         ensures held { IsOk result ↔ IsPinOf (handles_of self.old h) actor }
         ensures given { OnOk result (handles_of self.new ≡ put h (given_to to (handles_of self.old h)) (handles_of self.old)) }
@@ -104,6 +107,7 @@ impl Handles {
     }
 
     /// Whether the handle is given to the actor.
+    #[inline]
     pub fn given(&self, h: HandleNo, actor: ActorNo) -> bool
         ensures { IsTrue result ↔ IsGivenTo (handles_of self.now h) actor }
     {
@@ -112,6 +116,7 @@ impl Handles {
 
     /// The actor takes the pin that is given to it, and holds it then. Answers whether it is given to it; else nothing
     /// changes.
+    #[inline]
     pub fn take(&mut self, h: HandleNo, actor: ActorNo) -> bool
         ensures given { IsTrue result ↔ IsGivenTo (handles_of self.old h) actor }
         ensures taken { handles_of self.new
@@ -126,6 +131,7 @@ impl Handles {
     /// of all. (Linux's `unpin_user_pages` goes from the first page up.) A got reference is gone at once.
     ///
     /// `NotHeld` comes exactly where the actor holds neither by the handle, and then nothing changes.
+    #[inline]
     pub fn drop_last(&mut self, h: HandleNo, actor: ActorNo) -> Result<FrameNo, NotHeld>
         ensures held { IsOk result ↔ IsHeldBy (handles_of self.old h) actor }
         ensures last { IfOk result (HasLast (handles_of self.old h)) }
@@ -144,6 +150,7 @@ impl Handles {
     /// The frames of the pages that the actor's pin still has, in order, at most 16, and whether the pin may write them.
     ///
     /// `NotHeld` comes exactly where the actor doesn't hold a pin by the handle.
+    #[inline]
     pub fn pages(&self, h: HandleNo, actor: ActorNo) -> Result<(&[FrameNo], bool), NotHeld>
         ensures held { IsOk result ↔ IsPinOf (handles_of self.now h) actor }
         ensures pages { IfOk result (λ pages. handles_of self.now h ≡ held actor pages.0.now pages.1) }

@@ -80,6 +80,7 @@ impl Maps {
     }
 
     /// How many pages are mapped, at most 1,024.
+    #[inline]
     pub fn len(&self) -> u16
         ensures len { result ≡ (maps_of self.now).pages }
         ensures within { result ≤ 1024 }
@@ -95,6 +96,7 @@ impl Maps {
     }
 
     /// The rights of the page, where it is mapped.
+    #[inline]
     pub fn rights_at(&self, page: PageNo) -> Option<Rights>
         ensures { result ≡ (maps_of self.now).right page }
     {
@@ -102,6 +104,7 @@ impl Maps {
     }
 
     /// The least mapped page at or above `from`, where there is one.
+    #[inline]
     pub fn next_page(&self, from: PageNo) -> Option<PageNo>
         ensures { MatchOption result (IsLastPage (maps_of self.now).right from) (IsNextPage (maps_of self.now).right from) }
     {
@@ -133,6 +136,7 @@ impl Maps {
     }
 
     /// Unmaps the page, and answers whether it was mapped (Linux's `munmap` passes over pages that aren't).
+    #[inline]
     pub fn unmap_page(&mut self, page: PageNo) -> bool
         ensures mapped { result ≡ is_some ((maps_of self.old).right page) }
         ensures right { (maps_of self.new).right ≡ put page None (maps_of self.old).right }

@@ -32,6 +32,7 @@ impl<V> Model for Rows<V> {
 
 // Makes room for `n` more rows after the last, and answers where the first then stands. It moves the rows down to the
 // front only where there is none.
+#[inline]
 fn make_room<V: Copy>(items: &mut Vec<(PageNo, V)>, start: usize, n: u16) -> usize
     requires within { start ≤ vec_len items.old }
     requires few { vec_len items.old ≤ 1024 }
@@ -86,12 +87,14 @@ impl<V: Copy> Rows<V> {
         self.start = 0;
     }
 
+    #[inline]
     pub(crate) fn as_slice(&self) -> &[(PageNo, V)]
         ensures value { result.now ≡ self.now }
     {
         &self.items[self.start..]
     }
 
+    #[inline]
     pub(crate) fn len(&self) -> usize
         ensures { result ≡ length self.now }
     {
@@ -110,6 +113,7 @@ impl<V: Copy> Rows<V> {
     }
 
     /// Puts the page's row at this place. No other row moves where it is the last, but to make room.
+    #[inline]
     pub(crate) fn insert(&mut self, place: usize, page: PageNo, value: V)
         requires place { place ≤ length self.old }
         requires room { length self.old < 1024 }
@@ -125,6 +129,7 @@ impl<V: Copy> Rows<V> {
     }
 
     /// Gives the `n` rows from this place on this value.
+    #[inline]
     pub(crate) fn fill(&mut self, place: usize, n: u16, value: V)
         requires ordered { IsOrdered (pages_of self.old) }
         requires within { place + n ≤ length self.old }
@@ -139,6 +144,7 @@ impl<V: Copy> Rows<V> {
     }
 
     /// Takes out the row at this place, and answers it. No other row moves where it is the first.
+    #[inline]
     pub(crate) fn remove(&mut self, place: usize) -> (PageNo, V)
         requires { place < length self.old }
         ensures value { result ≡ slice_index_or self.old place result }

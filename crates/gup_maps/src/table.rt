@@ -1,5 +1,5 @@
 //! Values at pages.
-ghost use Rattle.std.specs.Prelude.{◌≡◌, ℕ, ◌+◌, ◌<◌, ◌≤◌, ◌^◌, ◌↔◌, nat_lt, if◌then◌else◌, true, false, not, is_some, length, None, Some, IfOk, IsSome, MatchOption};
+ghost use Rattle.std.specs.Prelude.{◌≡◌, ℕ, ◌+◌, ◌<◌, ◌≤◌, ◌^◌, ◌↔◌, nat_lt, if◌then◌else◌, true, false, not, is_some, length, None, Some, IfOk, IfNone, IsSome, MatchOption};
 ghost use Rattle.std.specs.Bool.{MatchBool, OnTrue, OnFalse};
 ghost use Rattle.gup_plain.specs.Pages.{page_numbers, sum_below};
 ghost use Rattle.gup_plain.specs.Put.{put, spread};
@@ -134,6 +134,7 @@ impl<V: Copy> Table<V> {
     }
 
     /// How many pages have a value.
+    #[inline]
     pub fn len(&self) -> u16
         ensures len { result ≡ length self.now }
         ensures within { result ≤ 1024 }
@@ -201,6 +202,7 @@ impl<V: Copy> Table<V> {
     }
 
     /// The least page with a value at or above this one, where there is one.
+    #[inline]
     pub fn next(&self, from: PageNo) -> Option<PageNo>
         ensures { MatchOption result (IsLastPage (at self.now) from) (IsNextPage (at self.now) from) }
     {
@@ -214,6 +216,7 @@ impl<V: Copy> Table<V> {
     }
 
     /// Gives the page this value, whether or not it has one.
+    #[inline]
     pub fn set(&mut self, page: PageNo, value: V)
         requires { at self.old page ≡ None → length self.old < 1024 }
         ensures at { at self.new ≡ put page (Some value) (at self.old) }
@@ -229,10 +232,12 @@ impl<V: Copy> Table<V> {
     }
 
     /// Takes out the value at the page, and answers it, where there is one.
+    #[inline]
     pub fn remove(&mut self, page: PageNo) -> Option<V>
         ensures value { result ≡ at self.old page }
         ensures at { at self.new ≡ put page None (at self.old) }
         ensures len { length self.new + (if is_some result then 1 else 0) ≡ length self.old }
+        ensures kept { IfNone result (self.new ≡ self.old) }
     {
         let rows = self.rows.as_slice();
         let place = place_of(rows, page);

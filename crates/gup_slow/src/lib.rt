@@ -17,6 +17,7 @@ use gup_space::Space;
 /// (`MMF_HAS_PINNED`), and the frame's count gets the weight of a pin (Linux's `try_grab_folio` in `follow_page_pte`,
 /// `mm/gup.c`). Linux sets the flag at the beginning of a call, also where that then fails; a page that sets it again
 /// changes nothing.
+#[inline]
 pub fn pin_page(space: &mut Space, frames: &mut Frames, page: PageNo, want: Want) -> FrameNo
     requires { IsReady (frames_of frames.old) (space_of space.old) page want }
     ensures frame { frame_of ((space_of space.old).entry page) ≡ Some result }

@@ -1,7 +1,8 @@
 //! One process of the machine.
-ghost use Rattle.std.specs.Prelude.{◌≡◌, ℕ, ◌+◌, ◌<◌, ◌≤◌, ◌^◌, ◌↔◌, true, false, is_some, is_err, None, Some, Err, IfOk, OnOk, OnErr, IsSome, MatchOption};
+ghost use Rattle.std.specs.Prelude.{◌≡◌, ℕ, ◌+◌, ◌<◌, ◌≤◌, ◌^◌, ◌↔◌, true, false, is_some, is_err, None, Some, Err, IfOk, IfSome, IfNone, OnOk, OnErr, IsSome, MatchOption};
 ghost use Rattle.gup_plain.specs.Denial.{any_mapped, any_unmapped};
 ghost use Rattle.gup_plain.specs.Pages.{mapped_pages};
+ghost use Rattle.gup_spec_events.specs.Event.{entry_of};
 ghost use Rattle.gup_maps.specs.Maps.{IsNextPage, IsLastPage};
 ghost use Rattle.gup_space.specs.Space.{no_space, space_of, with_entry, with_rights, with_pages, without_page, AreMapped, HasRoom};
 
@@ -56,6 +57,7 @@ impl Space {
     }
 
     /// The page's entry, where it has one.
+    #[inline]
     pub fn entry(&self, page: PageNo) -> Option<Entry>
         ensures { result ≡ (space_of self.now).entry page }
     {
@@ -63,6 +65,7 @@ impl Space {
     }
 
     /// Gives the page this entry, or takes away the one that it has. A page that gets one is mapped, and finds room.
+    #[inline]
     pub fn set_entry(&mut self, page: PageNo, entry: Option<Entry>)
         requires mapped { IsSome entry → IsSome ((space_of self.old).right page) }
         requires room { IsSome entry → (space_of self.old).entry page ≡ None → (space_of self.old).entries < 1024 }
@@ -71,12 +74,42 @@ impl Space {
         match entry {
             Some(entry) => self.entries.set(page, entry),
             None => {
-                let _old = self.entries.remove(page);
+                let _old = self.take_entry(page);
             }
         }
     }
 
+    /// Takes the page's entry away, and answers it, where it has one.
+    #[inline]
+    pub fn take_entry(&mut self, page: PageNo) -> Option<Entry>
+        ensures entry { result ≡ (space_of self.old).entry page }
+        ensures taken { space_of self.new ≡ with_entry page None (space_of self.old) }
+        ensures kept { IfNone result (self.new ≡ self.old) }
+    {
+        self.entries.remove(page)
+    }
+
+    /// Makes the page's entry read-only, and answers it as it was, where it has one (Linux's `ptep_set_wrprotect`).
+    #[inline]
+    pub fn lower_entry(&mut self, page: PageNo) -> Option<Entry>
+        ensures entry { result ≡ (space_of self.old).entry page }
+        ensures lowered { IfSome result (λ e. space_of self.new ≡ with_entry page (Some (entry_of e.frame false)) (space_of self.old)) }
+        ensures kept { IfNone result (self.new ≡ self.old) }
+    {
+        let Some(place) = self.entries.find(page) else {
+            return None;
+        };
+        let entry = self.entries.value_at(place);
+        let lower = Entry {
+            frame: entry.frame,
+            writable: false,
+        };
+        self.entries.set_at(place, lower);
+        Some(entry)
+    }
+
     /// How many pages have an entry, at most 1,024.
+    #[inline]
     pub fn entries(&self) -> u16
         ensures len { result ≡ (space_of self.now).entries }
         ensures within { result ≤ 1024 }
@@ -93,6 +126,7 @@ impl Space {
     }
 
     /// How many pages are mapped, at most 1,024.
+    #[inline]
     pub fn len(&self) -> u16
         ensures len { result ≡ (space_of self.now).pages }
         ensures within { result ≤ 1024 }
@@ -108,6 +142,7 @@ impl Space {
     }
 
     /// The rights of the page, where it is mapped.
+    #[inline]
     pub fn rights_at(&self, page: PageNo) -> Option<Rights>
         ensures { result ≡ (space_of self.now).right page }
     {
@@ -115,6 +150,7 @@ impl Space {
     }
 
     /// The least mapped page at or above `from`, where there is one.
+    #[inline]
     pub fn next_page(&self, from: PageNo) -> Option<PageNo>
         ensures { MatchOption result (IsLastPage (space_of self.now).right from) (IsNextPage (space_of self.now).right from) }
     {
@@ -125,6 +161,7 @@ impl Space {
     ///
     /// A refusal changes nothing: `Overlap` exactly where one of the pages is mapped, else `Full` exactly where more
     /// than 1,024 pages would be.
+    #[inline]
     pub fn map(&mut self, page: PageNo, n: u16, rights: Rights) -> Result<(), MapRefusal>
         requires { page + n ≤ 2 ^ 35 }
         ensures overlap { (result ≡ Err MapRefusal.Overlap) ↔ (any_mapped (space_of self.old).right page n ≡ true) }
@@ -137,6 +174,7 @@ impl Space {
     }
 
     /// Gives the process the mappings of its parent, in place of its own (of Linux's `dup_mmap`). Its entries stay.
+    #[inline]
     pub fn copy_maps(&mut self, parent: &Space)
         ensures { space_of self.new ≡ record (space_of self.old) { right = (space_of parent.now).right; pages = (space_of parent.now).pages } }
     {
@@ -144,6 +182,7 @@ impl Space {
     }
 
     /// Unmaps the page, and answers whether it was mapped. Its entry stays, if it has one.
+    #[inline]
     pub fn unmap_page(&mut self, page: PageNo) -> bool
         ensures was { result ≡ is_some ((space_of self.old).right page) }
         ensures unmapped { space_of self.new ≡ without_page page (space_of self.old) }
@@ -154,6 +193,7 @@ impl Space {
     /// Gives the `n` pages from `page` on these rights, as [`Maps::protect`] does.
     ///
     /// `Hole` comes exactly where one of the pages isn't mapped, and then nothing changes.
+    #[inline]
     pub fn protect(&mut self, page: PageNo, n: u16, rights: Rights) -> Result<(), Hole>
         ensures hole { is_err result ≡ any_unmapped (space_of self.old).right page n }
         ensures protected { OnOk result (space_of self.new ≡ with_rights page n rights (space_of self.old)) }
@@ -163,6 +203,7 @@ impl Space {
     }
 
     /// The number that the beginning and the end of each fork raise (Linux's `write_protect_seq`).
+    #[inline]
     pub fn sequence(&self) -> u64
         ensures { result ≡ (space_of self.now).sequence }
     {
@@ -170,6 +211,7 @@ impl Space {
     }
 
     /// Raises that number by one.
+    #[inline]
     pub fn raise(&mut self)
         requires { (space_of self.old).sequence < 2 ^ 40 }
         ensures { space_of self.new ≡ record (space_of self.old) { sequence = (space_of self.old).sequence + 1 } }
@@ -178,6 +220,7 @@ impl Space {
     }
 
     /// Whether the process has ever pinned (Linux's `MMF_HAS_PINNED`).
+    #[inline]
     pub fn has_pinned(&self) -> bool
         ensures { result ≡ (space_of self.now).has_pinned }
     {
@@ -185,6 +228,7 @@ impl Space {
     }
 
     /// From now on the process has pinned. No call takes this back.
+    #[inline]
     pub fn set_pinned(&mut self)
         ensures { space_of self.new ≡ record (space_of self.old) { has_pinned = true } }
     {
@@ -192,6 +236,7 @@ impl Space {
     }
 
     /// The actor that holds the lock of the process's structure (Linux's `mmap_lock` for writing), where one does.
+    #[inline]
     pub fn structure(&self) -> Option<ActorNo>
         ensures { result ≡ (space_of self.now).structure }
     {
@@ -199,6 +244,7 @@ impl Space {
     }
 
     /// Gives that lock to this actor, or frees it.
+    #[inline]
     pub fn set_structure(&mut self, holder: Option<ActorNo>)
         ensures { space_of self.new ≡ record (space_of self.old) { structure = holder } }
     {
@@ -206,6 +252,7 @@ impl Space {
     }
 
     /// The actor that holds the lock of the process's page tables (Linux's page table lock), where one does.
+    #[inline]
     pub fn table(&self) -> Option<ActorNo>
         ensures { result ≡ (space_of self.now).table }
     {
@@ -213,6 +260,7 @@ impl Space {
     }
 
     /// Gives that lock to this actor, or frees it.
+    #[inline]
     pub fn set_table(&mut self, holder: Option<ActorNo>)
         ensures { space_of self.new ≡ record (space_of self.old) { table = holder } }
     {
