@@ -22,7 +22,8 @@ use Rattle.gup_spec_turns.proofs.TurnParts.{unpin_turn_by, give_turn_by}
 use Rattle.gup_op_base.specs.Turns.{IsTurnOf, Anywhere}
 use Rattle.gup_op_base.proofs.Leading.{leads_alike}
 use Rattle.gup_op_pins.specs.Pins.{IsPin, ShowsPins, IsWeighed}
-use Rattle.gup_op_pins.specs.Held.{HeldView, ShowsHeld, unpin_said, done_said}
+use Rattle.gup_op_base.specs.Said.{silent_said, done_said}
+use Rattle.gup_op_pins.specs.Held.{HeldView, ShowsHeld, unpin_said}
 
 abbrev pub view : FramesValue → HandlesValue → HeldView
 view F H = record { frames = F; pins = H; store = None }
@@ -176,6 +177,32 @@ unpin_by F F' H H' by a h frame frames write still is mine last new_frames new_p
 put_at : (h : ℕ) (v : HandleValue) (H : HandlesValue) → put h v H h ≡ v
 put_at h v H = grind (arith, nat_tests)
 
+-- a pin of one page leaves none behind, and one of more pages is still the actor's
+left_held : (a frame : ℕ) (pages left : List ℕ) (write : Bool) → pages ≡ left ++ frame ∷ [] → (length pages ≡ 1 → ⊥) → IsPinOf (held_or_gone a left write) a
+left_held a frame pages [] write is more = absurd (more (ap length is))
+left_held a frame pages (f ∷ left) write is more = refl
+
+none_held : (a frame : ℕ) (pages left : List ℕ) (write : Bool) → pages ≡ left ++ frame ∷ [] → length pages ≡ 1 → IsPinOf (held_or_gone a left write) a → ⊥
+none_held a frame pages [] write is one holds = holds
+none_held a frame pages (f ∷ left) write is one holds =
+    absurd (omega (arith, ap length is, length-append left (frame ∷ []), one))
+
+handle_now : (H H' : HandlesValue) (a h : ℕ) (pages : List ℕ) (write : Bool) → H h ≡ held a pages write → H' ≡ put h (without_last (H h)) H → H' h ≡ held_or_gone a (but_last pages) write
+handle_now H H' a h pages write pin new = ap (λ (f : HandlesValue). f h) new ∙ put_at h (without_last (H h)) H ∙ ap without_last pin
+
+pub pin_is_mine : (v : HandleValue) (a : ℕ) (pages : List ℕ) (write : Bool) → v ≡ held a pages write → IsPinOf v a
+pin_is_mine v a pages write pin = subst (λ (x : HandleValue). IsPinOf x a) (sym pin) refl
+
+pub pages_left : (H H' : HandlesValue) (a h frame : ℕ) (pages : List ℕ) (write : Bool) → H h ≡ held a pages write → HasLast (H h) frame → H' ≡ put h (without_last (H h)) H → (length pages ≡ 1 → ⊥) → IsPinOf (H' h) a
+pages_left H H' a h frame pages write pin last new more =
+    subst (λ (x : HandleValue). IsPinOf x a) (sym (handle_now H H' a h pages write pin new))
+    (left_held a frame pages (but_last pages) write (subst (λ (x : HandleValue). HasLast x frame) pin last) more)
+
+pub none_left_of : (H H' : HandlesValue) (a h frame : ℕ) (pages : List ℕ) (write : Bool) → H h ≡ held a pages write → HasLast (H h) frame → H' ≡ put h (without_last (H h)) H → length pages ≡ 1 → IsPinOf (H' h) a → ⊥
+none_left_of H H' a h frame pages write pin last new one holds =
+    none_held a frame pages (but_last pages) write (subst (λ (x : HandleValue). HasLast x frame) pin last) one
+    (subst (λ (x : HandleValue). IsPinOf x a) (handle_now H H' a h pages write pin new) holds)
+
 pub page_unpinned : (F F' : FramesValue) (H H' : HandlesValue) (a h frame : ℕ) (still : Bool) → IsPinOf (H h) a → HasLast (H h) frame
     → F' ≡ without_references frame 1024 F → H' ≡ put h (without_last (H h)) H → (still ≡ true → IsPinOf (H' h) a) → (still ≡ false → IsPinOf (H' h) a → ⊥)
     → IsTurnOf (ShowsHeld a) Anywhere (view F H) (view F' H') (λ s. unpin_turn s a h) (unpinned_whats still a h)
@@ -196,7 +223,7 @@ page_unpinned F F' H H' a h frame still mine last new_frames new_pins some none 
 -- ---- what is said, whatever the other handles are
 
 -- an unpin is silent that leaves a pin
-pub still_says : (v : HandleValue) (a h : ℕ) → IsPinOf v a → unpin_said v a h ≡ record { event = None; next = None; answer = None }
+pub still_says : (v : HandleValue) (a h : ℕ) → IsPinOf v a → unpin_said v a h ≡ silent_said
 still_says (held by frames write) a h is = refl
 still_says v a h none = absurd none
 
@@ -209,7 +236,7 @@ pin_gone (held by frames write) a is none = none_left by (but_last frames) write
 pin_gone v a none left = absurd none
 
 -- and one that leaves none ends
-pub gone_says : (H H' : HandlesValue) (a h : ℕ) → IsPinOf (H h) a → H' ≡ put h (without_last (H h)) H → (IsPinOf (H' h) a → ⊥) → unpin_said (H' h) a h ≡ done_said (events.Unpin a h)
+pub gone_says : (H H' : HandlesValue) (a h : ℕ) → IsPinOf (H h) a → H' ≡ put h (without_last (H h)) H → (IsPinOf (H' h) a → ⊥) → unpin_said (H' h) a h ≡ done_said (events.Unpin a h) answers.Plain
 gone_says H H' a h mine new none =
     let now : H' h ≡ without_last (H h) = ap (λ (f : HandlesValue). f h) new ∙ put_at h (without_last (H h)) H in
     ap (λ (v : HandleValue). unpin_said v a h)

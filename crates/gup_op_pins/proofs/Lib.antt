@@ -1,3 +1,4 @@
 pub mod Pinning
 pub mod Readying
 pub mod Holding
+pub mod Telling

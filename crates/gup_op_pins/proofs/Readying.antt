@@ -1,5 +1,5 @@
 -- What a pin's fault reads, what it leaves, and that the page is ready after it.
-use Rattle.std.proofs.Common.{◌≡◌, ℕ, ◌<◌, ◌^◌, ◌==◌, Bool, true, false, cond, [], ◌∷◌, ◌++◌, Option, Some, None, IsSome, Result, Ok, Err, OnOk, zero, suc, refl, sym, ap, ◌∙◌, subst, arith}
+use Rattle.std.proofs.Common.{◌≡◌, ℕ, ◌<◌, ◌^◌, ◌==◌, Bool, true, false, cond, [], ◌∷◌, ◌++◌, Option, Some, None, IsSome, Result, Ok, Err, OnOk, zero, suc, refl, sym, ap, ◌∙◌, subst, eqb-true, arith}
 use Rattle.std.proofs.lemmas.Bool.Decides.{nat_tests}
 use Rattle.gup_base.specs.declared.entry.Allowed.{Allowed}
 use Rattle.gup_base.specs.declared.entry.Entry.{Entry}
@@ -22,8 +22,7 @@ use Rattle.gup_spec_turns.specs.CoreTurn.{free_in}
 use Rattle.gup_op_pins.specs.Pins.{raised, fault_to_pin, want_of}
 use Rattle.gup_op_base.specs.Tidy.{IsTidy}
 use Rattle.gup_op_base.proofs.Leading.{state_of, has_frames, has_space}
-use Rattle.gup_op_pages.proofs.Loading.{write_fault_reads, free_apart}
-use Rattle.gup_op_base.proofs.Searching.{free_agrees}
+use Rattle.gup_op_base.proofs.Searching.{free_agrees, free_passes}
 
 -- ---- which fault it is
 
@@ -35,6 +34,14 @@ unshare_fault_reads F a p page (Some rights) None free s frames = refl
 unshare_fault_reads F a p page (Some rights) (Some e) free s frames =
     ap (λ m. unshares a p page e m (s.count e.frame) free) (frames.mark e.frame)
     ∙ ap (λ n. unshares a p page e (F.mark e.frame) n free) (frames.count e.frame)
+
+-- and what a write pin's does
+write_fault_reads : (F : FramesValue) (a p page : ℕ) (rights : Option Rights) (entry : Option Entry) (free : Option ℕ) (s : CoreState) → ShowsFrames F s
+    → write_fault a p page rights entry s.mark s.count free ≡ write_fault a p page rights entry F.mark F.count free
+write_fault_reads F a p page (Some RW) (Some e) free s frames =
+    ap (λ m. cond e.writable (Ok []) (makes_writable a p page e m (s.count e.frame) free)) (frames.mark e.frame)
+    ∙ ap (λ n. cond e.writable (Ok []) (makes_writable a p page e (F.mark e.frame) n free)) (frames.count e.frame)
+write_fault_reads F a p page rights entry free s frames = refl
 
 -- a state's fault is the one that was read of frames and a process
 pub pin_fault_same : (F : FramesValue) (S : SpaceValue) (a p page : ℕ) (write : Bool) (allowed : Allowed) (s : CoreState) → ShowsFrames F s → ShowsSpace p S s
@@ -209,6 +216,12 @@ some_positive (suc n) none = omega arith
 
 not_zero : (n : ℕ) → 0 < n → n ≡ 0 → ⊥
 not_zero n some none = omega arith
+
+-- the free frame is no entry's
+free_apart : (F : FramesValue) (S : SpaceValue) (allowed : Allowed) (page f : ℕ) (d : Entry) → IsTidy F S → free_frame F allowed ≡ Some f → S.entry page ≡ Some d → f ≡ d.frame → ⊥
+free_apart F S allowed page f d tidy free found same =
+    let none : (F.count f == 0) ≡ true = free_passes F allowed f free in
+    tidy.counted page d found (ap F.count (sym same) ∙ eqb-true (F.count f) 0 none)
 
 -- by the fault's events the frame's count is right
 counts_behind : (c : Change) (page many : ℕ) (write : Bool) (allowed : Allowed) → 1 < many → IsTidy c.old_frames c.old_space → ((f : ℕ) → c.old_frames.count f < many) → c.old_space.table ≡ None

@@ -11,7 +11,7 @@ use Rattle.gup_space.specs.Shows.{ShowsFrames}
 use Rattle.gup_handles.specs.Handles.{HandleValue, HandlesValue, handles_of, gone, without_last, HasLast}
 use Rattle.gup_spec_events.specs.State.{CoreState}
 use Rattle.gup_spec_events.specs.Event.{bias}
-use Rattle.gup_op_base.specs.declared.said.Said.{Said}
+use Rattle.gup_op_base.specs.Said.{Said, silent_said, done_said, answered_said}
 use Rattle.gup_op_pins.specs.Pins.{ShowsPins}
 
 -- the actor has these words, if it has a store
@@ -40,24 +40,17 @@ pub record ShowsHeld (a : ℕ) (view : HeldView) (s : CoreState) : Type 0 where
 
 -- ---- what such a turn changes, whatever state has all that, and whatever the other handles are
 
--- what is said by an answer alone, and by an event with its answer
-abbrev pub refused_said : Answer → Said
-refused_said answer = record { event = None; next = None; answer = Some answer }
-
-abbrev pub done_said : PlainEvent → Said
-done_said event = record { event = Some event; next = None; answer = Some answers.Plain }
-
 -- nothing changes, and this is answered
 pub record IsRefused (old new : HeldView) (answer : Answer) (said : Said) : Type 0 where
   pub frames : new.frames ≡ old.frames
   pub pins : new.pins ≡ old.pins
   pub store : new.store ≡ old.store
-  pub says : said ≡ refused_said answer
+  pub says : said ≡ answered_said answer
 
 -- an unpin says nothing while the pin has pages, and ends where it is gone
 abbrev pub unpin_said : HandleValue → (a handle : ℕ) → Said
-unpin_said gone a handle = done_said (events.Unpin a handle)
-unpin_said pin a handle = record { event = None; next = None; answer = None }
+unpin_said gone a handle = done_said (events.Unpin a handle) answers.Plain
+unpin_said pin a handle = silent_said
 
 -- The pin loses its last page, whose frame loses the weight of a pin; with the last of all it is gone.
 pub record IsUnpin (old new : HeldView) (a handle : ℕ) (said : Said) : Type 0 where
@@ -68,4 +61,4 @@ pub record IsUnpin (old new : HeldView) (a handle : ℕ) (said : Said) : Type 0 
 -- The handle becomes this one, no other does, and this event is said.
 pub record IsDone (old new : HandlesValue) (handle : ℕ) (value : HandleValue) (event : PlainEvent) (said : Said) : Type 0 where
   pub pins : new ≡ put handle value old
-  pub says : said ≡ done_said event
+  pub says : said ≡ done_said event answers.Plain

@@ -12,7 +12,7 @@ ghost use Rattle.gup_handles.specs.Handles.{handles_of, unmade, held};
 ghost use Rattle.gup_spec_turns.specs.CoreTurn.{zones_of as zones};
 ghost use Rattle.gup_spec_turns.specs.PinTurns.{cause_of as cause, pin_turn};
 ghost use Rattle.gup_op_base.specs.Tidy.{IsTidy};
-ghost use Rattle.gup_op_base.specs.Said.{whats_of};
+ghost use Rattle.gup_op_base.specs.Said.{TellsTurn, whats_of};
 ghost use Rattle.gup_op_base.specs.Turns.{IsTurnOf};
 ghost use Rattle.gup_op_pins.specs.Pins.{ShowsPinning, StandsAtPage, pinning_view, raised, fault_to_pin, want_of};
 
@@ -21,28 +21,31 @@ use gup_base::{ActorNo, Allowed, FrameNo, HandleNo, PageNo, ProcNo, Want, Zone};
 use gup_fault::{Denied, answer_of, ready_write, unshare};
 use gup_frames::Frames;
 use gup_handles::Handles;
-use gup_op_base::{Said, done, happened, page_behind, refused};
-use gup_plain::{Answer, Cause, PlainEvent};
+use gup_op_base::{Head, page_behind};
+use gup_plain::{Answer, Cause, Journal, PlainEvent};
 use gup_slow::pin_page;
 use gup_space::Space;
 
 /// One page of a pin of `n` pages from `page` on, of which `far` are taken. The page is made ready and its frame gets the
 /// weight of a pin (Linux's `__get_user_pages`, `mm/gup.c`). The last page's turn makes the handle, and so does the turn of
 /// a page that is refused after others: the pin then has those (this project's own: Linux leaves a short count to its
-/// caller). Where the first page is refused, the pin is. Has-pinned is set before the first page is tried.
+/// caller). Where the first page is refused, the pin is. Has-pinned is set before the first page is tried. Answers whether
+/// the operation is over.
+#[inline]
 pub fn pin(
     space: &mut Space,
     frames: &mut Frames,
     handles: &mut Handles,
     taken: &mut ArrayVec<FrameNo, 16>,
-    actor: ActorNo,
+    journal: &mut Journal,
+    head: &Head,
     proc: ProcNo,
     handle: HandleNo,
     page: PageNo,
     n: u8,
     want: Want,
     far: u16,
-) -> Said
+) -> bool
     requires tidy { IsTidy (frames_of frames.old) (space_of space.old) }
     requires table { (space_of space.old).table ≡ None }
     requires few { (f : ℕ) → (frames_of frames.old).count f < 2 ^ 40 }
@@ -53,11 +56,14 @@ pub fn pin(
     requires most { n ≤ 16 }
     requires range { page + n ≤ 2 ^ 35 }
     requires short { want.long ≡ false }
-    ensures { IsTurnOf (ShowsPinning actor proc) (StandsAtPage actor proc handle page n want far)
+    requires room { 3 ≤ journal.old.room }
+    ensures { TellsTurn head.now journal.old journal.new result
+        (λ said. IsTurnOf (ShowsPinning head.now.actor proc) (StandsAtPage head.now.actor proc handle page n want far)
         (pinning_view frames.old space.old handles.old taken.old.items)
         (pinning_view frames.new space.new handles.new taken.new.items)
-        (λ s. pin_turn s actor proc handle page n want) (whats_of result) }
+        (λ s. pin_turn s head.now.actor proc handle page n want) (whats_of said)) }
 {
+    let actor = head.actor;
     raise_flag(space, far);
     let page = page_behind(page, far);
     match ready(space, frames, page, want) {
@@ -69,17 +75,20 @@ pub fn pin(
                 page,
                 write: want.write,
             };
+            head.happened(journal, tried);
             if far + 1 < u16::from(n) {
-                return happened(tried);
+                return false;
             }
             hold(handles, taken, actor, handle, want.write);
-            Said {
-                event: Some(tried),
-                next: Some(PlainEvent::PinOk { actor, handle }),
-                answer: Some(Answer::Pinned(n)),
-            }
+            head.done(
+                journal,
+                PlainEvent::PinOk { actor, handle },
+                Answer::Pinned(n),
+            );
         }
-        Err(denied) if far == 0 => refused(answer_of(denied)),
+        Err(denied) if far == 0 => {
+            head.answered(journal, answer_of(denied));
+        }
         Err(denied) => {
             let answer = Answer::Short {
                 got: far as u8,
@@ -87,9 +96,10 @@ pub fn pin(
                 cause: cause_of(denied),
             };
             hold(handles, taken, actor, handle, want.write);
-            done(PlainEvent::PinOk { actor, handle }, answer)
+            head.done(journal, PlainEvent::PinOk { actor, handle }, answer);
         }
     }
+    true
 }
 
 // Before the first page is tried the process has pinned.
