@@ -1,6 +1,6 @@
 -- What a word of a transfer makes of frames and a store is the turn's.
 use Rattle.std.proofs.Common.{◌≡◌, ℕ, ◌+◌, ◌*◌, ◌/◌, ◌%◌, ◌<◌, ◌≤◌, ◌==◌, Bool, true, false, cond, List, [], ◌∷◌, length, slice_get, slice_index, Option, Some, None, refl, sym, ap, ◌∙◌, subst, arith}
-use Rattle.std.specs.Prelude.{◌-◌, ◌&&◌, nat_lt, nat_le}
+use Rattle.std.specs.Prelude.{◌-◌, ◌&&◌, nat_lt, nat_le, not}
 use Rattle.std.proofs.lemmas.List.Sums.{sum_by-cons}
 use Rattle.std.proofs.lemmas.Option.{get_or_from_slice_get}
 use Rattle.std.proofs.lemmas.Bool.Decides.{nat_tests}
@@ -13,7 +13,7 @@ use Rattle.gup_plain.specs.declared.answer.Answer.TheVariants as answers
 use Rattle.gup_plain.specs.declared.event.PlainEvent.{PlainEvent}
 use Rattle.gup_plain.specs.declared.note.What.{What}
 use Rattle.gup_plain.specs.declared.note.What.TheVariants.{Event, Done}
-use Rattle.gup_frames.specs.Frames.{FramesValue, IsFrame}
+use Rattle.gup_frames.specs.Frames.{FramesValue}
 use Rattle.gup_device.specs.Store.{StoreValue}
 use Rattle.gup_space.proofs.After.{moving_out, moving_in}
 use Rattle.gup_space.specs.Shows.{ShowsFrames}
@@ -24,13 +24,12 @@ use Rattle.gup_spec_events.specs.Event.{happens, move_out, move_in}
 use Rattle.gup_spec_journal.specs.Follows.{moves_word}
 use Rattle.gup_spec_turns.specs.DeviceTurns.{frame_at, moves_value, moves_from, moved_if, word_turn, transfer_turn}
 use Rattle.gup_spec_turns.proofs.TurnParts.{transfer_turn_by}
-use Rattle.gup_op_base.specs.declared.said.Said.{Said}
-use Rattle.gup_op_base.specs.Said.{whats_of}
+use Rattle.gup_op_base.specs.Said.{Said, whats_of}
 use Rattle.gup_op_base.specs.Turns.{Leads, IsTurnOf}
-use Rattle.gup_op_base.proofs.Leading.{leads_alike}
-use Rattle.gup_op_pins.specs.Pins.{IsPin, ShowsPins, IsWeighed, frames_in}
+use Rattle.gup_op_base.proofs.Leading.{leads_alike, notes_alike}
+use Rattle.gup_op_pins.specs.Pins.{IsPin, ShowsPins, frames_in}
 use Rattle.gup_op_pins.specs.Held.{ShowsStore, HeldView, ShowsHeld, slots_in}
-use Rattle.gup_op_devices.specs.Transfers.{IsWhole, HasMoved, is_pin_of, writes_in, fits_in, refusal_in}
+use Rattle.gup_op_devices.specs.Transfers.{IsWhole, HasMoved, IsMoved, IsFound, is_pin_of, writes_in, fits_in, refusal_in, words_in}
 
 abbrev pub view : FramesValue → HandlesValue → Option (List ℕ) → HeldView
 view F H W = record { frames = F; pins = H; store = W }
@@ -76,11 +75,11 @@ transfer_refused F H W a h outward slot parts far denied is s shown whole =
 abbrev pub moved_whats : (a h : ℕ) → (outward last : Bool) → (index slot value : ℕ) → List What
 moved_whats a h outward last index slot value = Event (moves_word a h outward index slot value) ∷ moved_if last
 
--- the notes of a word, the last one with the answer
-abbrev pub said_of : PlainEvent → (last : Bool) → Said
-said_of event last = record { event = Some event; next = None; answer = cond last (Some answers.Words) None }
+-- what the turn of a word says, the last one with the answer
+abbrev pub word_said : PlainEvent → (last : Bool) → Said
+word_said event last = record { event = Some event; next = None; answer = cond last (Some answers.Words) None }
 
-pub word_says : (event : PlainEvent) (last : Bool) → whats_of (said_of event last) ≡ Event event ∷ moved_if last
+word_says : (event : PlainEvent) (last : Bool) → whats_of (word_said event last) ≡ Event event ∷ moved_if last
 word_says event true = refl
 word_says event false = refl
 
@@ -124,21 +123,25 @@ leads_word F F' H W W' a h f index slot value false last s moved shown =
       };
     }
 
--- what is kept of the pin that the state has
-pages_same : (v : HandleValue) (handle : plain.Handle) (pinned pages : List ℕ) (by : ℕ) (write : Bool) → v ≡ held by pages write → IsPin v handle pinned → pinned ≡ pages
-pages_same v handle pinned pages by write is pin = (subst (λ (x : HandleValue). IsPin x handle pinned) is pin).1
+-- what is kept of a pin with pages that the state has
+pages_same : (v : HandleValue) (handle : plain.Handle) (pinned : List ℕ) (k f : ℕ) → slice_get (frames_in v) k ≡ Some f → IsPin v handle pinned → pinned ≡ frames_in v
+pages_same (held by frames write) handle pinned k f at pin = pin.1
+pages_same (given to frames write) handle pinned k f at pin = pin.1
+pages_same (got by frame) handle pinned k f at none = absurd none
+pages_same unmade handle pinned k f none pin = absurd (cc)
+pages_same gone handle pinned k f none pin = absurd (cc)
 
-pub word_moved : (F F' : FramesValue) (H : HandlesValue) (W W' pages : List ℕ) (a h f slot : ℕ) (parts : List Part) (far value : ℕ) (outward write : Bool)
-    → refusal_in (H h) a outward (length W) slot parts ≡ None → H h ≡ held a pages write → slice_get pages (word_at parts far / 512) ≡ Some f → slot + far < length W
+word_moved : (F F' : FramesValue) (H : HandlesValue) (W W' : List ℕ) (a h f slot : ℕ) (parts : List Part) (far value : ℕ) (outward : Bool)
+    → refusal_in (H h) a outward (length W) slot parts ≡ None → slice_get (frames_in (H h)) (word_at parts far / 512) ≡ Some f → slot + far < length W
     → HasMoved outward F F' W W' f (word_at parts far % 512) (slot + far) value
     → IsTurnOf (ShowsHeld a) (λ s. IsWhole s a h) (view F H (Some W)) (view F' H (Some W')) (λ s. transfer_turn s a (length W) h outward slot parts far)
     (moved_whats a h outward (far + 1 == words_of parts) (word_at parts far) (slot + far) value)
-word_moved F F' H W W' pages a h f slot parts far value outward write unrefused pin at within moved s shown whole =
+word_moved F F' H W W' a h f slot parts far value outward unrefused at within moved s shown whole =
     let i : ℕ = word_at parts far in
     let j : ℕ = slot + far in
     let last : Bool = far + 1 == words_of parts in
-    let pages_is : s.pinned h ≡ pages = pages_same (H h) (s.handle h) (s.pinned h) pages a write pin (shown.pins h) in
-    let f_is : frame_at (s.pinned h) i ≡ f = ap (λ ps. frame_at ps i) pages_is ∙ get_or_from_slice_get pages (i / 512) f 0 at in
+    let pages_is : s.pinned h ≡ frames_in (H h) = pages_same (H h) (s.handle h) (s.pinned h) (i / 512) f at (shown.pins h) in
+    let f_is : frame_at (s.pinned h) i ≡ f = ap (λ ps. frame_at ps i) pages_is ∙ get_or_from_slice_get (frames_in (H h)) (i / 512) f 0 at in
     leads_alike
     (turn_by (Some W) H a h outward slot parts far None s unrefused shown.pins whole
     ∙ ap (λ g. moves_from s a h outward last i j g) f_is
@@ -175,6 +178,10 @@ slot_within v a outward slots slot parts far unrefused within =
     let fits : slot + words_of parts ≤ slots = slots_fit slots slot (words_of parts) (parts_fit v a outward slots slot parts unrefused).1 in
     omega arith
 
+pub is_so : (test : Bool) → not test ≡ false → test ≡ true
+is_so true so = refl
+is_so false so = absurd (cc)
+
 -- a word of the first part, or one of the others
 at_part : (pages : ℕ) (part : Part) (parts : List Part) (far : ℕ) → part.0 + part.1 ≤ 512 * pages → (part.1 ≤ far → word_at parts (far - part.1) < 512 * pages) → word_at (part ∷ parts) far < 512 * pages
 at_part pages part parts far here rest = go (nat_lt far part.1) refl
@@ -184,7 +191,7 @@ at_part pages part parts far here rest = go (nat_lt far part.1) refl
     go false is = let behind : part.1 ≤ far = grind (arith, nat_tests) in rest behind
 
 -- a word of parts that fit is one of the pages
-word_fits : (pages : ℕ) (parts : List Part) (far : ℕ) → has_words pages parts ≡ true → far < words_of parts → word_at parts far < 512 * pages
+pub word_fits : (pages : ℕ) (parts : List Part) (far : ℕ) → has_words pages parts ≡ true → far < words_of parts → word_at parts far < 512 * pages
 word_fits pages [] far fit within = absurd (omega arith)
 word_fits pages (part ∷ parts) far fit within =
     let both : (nat_le (part.0 + part.1) (512 * pages) ≡ true) × (has_words pages parts ≡ true) = both_fit (nat_le (part.0 + part.1) (512 * pages)) (has_words pages parts) fit in
@@ -192,18 +199,60 @@ word_fits pages (part ∷ parts) far fit within =
     let rest : part.1 ≤ far → far - part.1 < words_of parts = λ behind. omega (arith, sum_by-cons (λ (x : Part). x.1) part parts) in
     at_part pages part parts far here (λ behind. word_fits pages parts (far - part.1) both.1 (rest behind))
 
-pub word_within : (v : HandleValue) (pages : List ℕ) (a : ℕ) (outward write : Bool) (slots slot : ℕ) (parts : List Part) (far : ℕ) → v ≡ held a pages write → refusal_in v a outward slots slot parts ≡ None → far < words_of parts → word_at parts far < 512 * length pages
-word_within v pages a outward write slots slot parts far is unrefused within =
-    word_fits (length pages) parts far
-    (ap (λ (x : HandleValue). has_words (length (frames_in x)) parts) (sym is) ∙ (parts_fit v a outward slots slot parts unrefused).0) within
+-- ---- the word that was found moves
 
--- ---- a frame of the pin is there
+-- its event by the parts
+event_is : (a h index place slot far value : ℕ) (parts : List Part) (outward : Bool) → index ≡ word_at parts far → place ≡ slot + far
+    → moves_word a h outward index place value ≡ moves_word a h outward (word_at parts far) (slot + far) value
+event_is a h index place slot far value parts outward at there =
+    ap (λ i. moves_word a h outward i place value) at ∙ ap (λ j. moves_word a h outward (word_at parts far) j value) there
 
-pub page_there : (F : FramesValue) (v : HandleValue) (pages : List ℕ) (by k f : ℕ) (write : Bool) → v ≡ held by pages write → IsWeighed F v → slice_get pages k ≡ Some f → IsFrame F f
-page_there F v pages by k f write is weighed at =
-    (weighed k f (ap (λ (x : HandleValue). slice_get (frames_in x) k) is ∙ at)).0
+-- and what it says
+said_is : (a h f index place slot far value : ℕ) (v : HandleValue) (parts : List Part) (outward last : Bool) → IsFound v parts far index f last → place ≡ slot + far
+    → word_said (moves_word a h outward index place value) last ≡ word_said (moves_word a h outward (word_at parts far) (slot + far) value) (far + 1 == words_of parts)
+said_is a h f index place slot far value v parts outward last found there =
+    ap (λ (e : PlainEvent). word_said e last) (event_is a h index place slot far value parts outward found.word there)
+    ∙ ap (λ (b : Bool). word_said (moves_word a h outward (word_at parts far) (slot + far) value) b) found.ends
+
+moved_at : (F F' : FramesValue) (W W' : List ℕ) (v : HandleValue) (f slot : ℕ) (parts : List Part) (far index word place value : ℕ) (outward last : Bool)
+    → IsFound v parts far index f last → word ≡ index % 512 → place ≡ slot + far → HasMoved outward F F' W W' f word place value → HasMoved outward F F' W W' f (word_at parts far % 512) (slot + far) value
+moved_at F F' W W' v f slot parts far index word place value outward last found word_is there moved =
+    subst (λ k. HasMoved outward F F' W W' f k (slot + far) value) (word_is ∙ ap (λ i. i % 512) found.word)
+    (subst (λ k. HasMoved outward F F' W W' f word k value) there moved)
+
+page_at : (v : HandleValue) (f : ℕ) (parts : List Part) (far index : ℕ) (last : Bool) → IsFound v parts far index f last → slice_get (frames_in v) (word_at parts far / 512) ≡ Some f
+page_at v f parts far index last found =
+    ap (λ i. slice_get (frames_in v) (i / 512)) (sym found.word) ∙ found.page
+
+pub found_turn : (F F' : FramesValue) (H : HandlesValue) (store : Option (List ℕ)) (W W' : List ℕ) (a h f slot : ℕ) (parts : List Part) (far index word place value : ℕ) (outward last : Bool)
+    → store ≡ Some W → refusal_in (H h) a outward (slots_in store) slot parts ≡ None → far < words_of parts
+    → IsFound (H h) parts far index f last → word ≡ index % 512 → place ≡ slot + far → HasMoved outward F F' W W' f word place value
+    → IsTurnOf (ShowsHeld a) (λ s. IsWhole s a h) (view F H store) (view F' H (Some W')) (λ s. transfer_turn s a (slots_in store) h outward slot parts far)
+    (whats_of (word_said (moves_word a h outward index place value) last))
+found_turn F F' H store W W' a h f slot parts far index word place value outward last is unrefused less found word_is there moved =
+    let at : ℕ = word_at parts far in
+    let final : Bool = far + 1 == words_of parts in
+    let unrefused_so : refusal_in (H h) a outward (length W) slot parts ≡ None = ap (λ k. refusal_in (H h) a outward k slot parts) (sym (ap slots_in is)) ∙ unrefused in
+    let says : whats_of (word_said (moves_word a h outward index place value) last) ≡ moved_whats a h outward final at (slot + far) value =
+    ap whats_of (said_is a h f index place slot far value (H h) parts outward last found there)
+    ∙ word_says (moves_word a h outward at (slot + far) value) final in
+    let P : Option (List ℕ) → Type 0 = λ w. IsTurnOf (ShowsHeld a) (λ s. IsWhole s a h) (view F H w) (view F' H (Some W')) (λ s. transfer_turn s a (slots_in w) h outward slot parts far) (moved_whats a h outward final at (slot + far) value) in
+    notes_alike says
+    (subst P (sym is)
+    (word_moved F F' H W W' a h f slot parts far value outward unrefused_so (page_at (H h) f parts far index last found)
+    (slot_within (H h) a outward (length W) slot parts far unrefused_so less)
+    (moved_at F F' W W' (H h) f slot parts far index word place value outward last found word_is there moved)))
 
 -- ---- whatever the other handles are
 
-pub refused_so : {P : Type 0} (refusal : Option Answer) (denied : Answer) → refusal ≡ Some denied → refusal ≡ None → P
-refused_so refusal denied is none = absurd (cc)
+pub found_moved : (F F' : FramesValue) (H : HandlesValue) (store : Option (List ℕ)) (W W' : List ℕ) (a h f slot : ℕ) (parts : List Part) (far index word place value : ℕ) (outward last : Bool)
+    → store ≡ Some W → IsFound (H h) parts far index f last → word ≡ index % 512 → place ≡ slot + far → HasMoved outward F F' W W' f word place value
+    → IsMoved (view F H store) (view F' H (Some W')) a h outward (word_at parts far) (slot + far) (far + 1 == words_of parts) (word_said (moves_word a h outward index place value) last)
+found_moved F F' H store W W' a h f slot parts far index word place value outward last is found word_is there moved = (
+  f,
+  value,
+  page_at (H h) f parts far index last found,
+  subst (λ (ws : List ℕ). HasMoved outward F F' ws W' f (word_at parts far % 512) (slot + far) value) (sym (ap words_in is))
+      (moved_at F F' W W' (H h) f slot parts far index word place value outward last found word_is there moved),
+  said_is a h f index place slot far value (H h) parts outward last found there,
+)

@@ -1,6 +1,7 @@
 -- What a word of a transfer does to a pin's frames and to the store of its device, and what refuses it.
-use Rattle.std.specs.Prelude.{◌≡◌, ℕ, ◌/◌, ◌%◌, ◌==◌, ◌&&◌, Bool, true, false, if◌then◌else◌, List, [], length, slice_get, slice_index, Option, Some, None}
-use Rattle.gup_base.specs.Parts.{Part}
+use Rattle.std.specs.Prelude.{◌≡◌, ℕ, ◌+◌, ◌/◌, ◌%◌, ◌==◌, ◌&&◌, nat_le, Bool, true, false, if◌then◌else◌, List, [], length, slice_get, slice_index, Option, Some, None}
+use Rattle.gup_base.specs.Parts.{Part, words_of, word_at}
+use Rattle.std.specs.List.{list_all}
 use Rattle.gup_plain.specs.Denial.{is_held_by, has_words, has_slots, transfer_denial_by}
 use Rattle.gup_plain.specs.Event.{words}
 use Rattle.gup_plain.specs.Put.{put}
@@ -12,7 +13,7 @@ use Rattle.gup_device.specs.Store.{store_of}
 use Rattle.gup_handles.specs.Handles.{HandleValue, unmade, held, given, got, gone}
 use Rattle.gup_spec_events.specs.State.{CoreState}
 use Rattle.gup_spec_journal.specs.Follows.{moves_word}
-use Rattle.gup_op_base.specs.declared.said.Said.{Said}
+use Rattle.gup_op_base.specs.Said.{Said}
 use Rattle.gup_op_pins.specs.Pins.{frames_in}
 use Rattle.gup_op_pins.specs.Held.{HeldView}
 
@@ -40,6 +41,17 @@ abbrev pub refusal_in : HandleValue → (a : ℕ) → (outward : Bool) → (slot
 refusal_in handle a outward slots slot parts =
     transfer_denial_by (is_pin_of handle a) outward (writes_in handle)
     (fits_in (length (frames_in handle)) slots slot parts)
+
+-- the words of these parts are among so many
+abbrev pub are_within : (many : ℕ) → List Part → Bool
+are_within many parts = list_all (λ (part : Part). nat_le (part.0 + part.1) many) parts
+
+-- The word of the parts with this number is the one with this index, the frame is that of its page in the pin, and
+-- this is whether it is the last.
+pub record IsFound (handle : HandleValue) (parts : List Part) (far index frame : ℕ) (last : Bool) : Type 0 where
+  pub word : index ≡ word_at parts far
+  pub page : slice_get (frames_in handle) (index / words) ≡ Some frame
+  pub ends : last ≡ (far + 1 == words_of parts)
 
 -- Frames and a store after a word that moved, by its value: outward into the slot, or inward into the frame.
 abbrev pub HasMoved : (outward : Bool) → (old new : FramesValue) → (old_words new_words : List ℕ) → (f word slot value : ℕ) → Type 0

@@ -1,89 +1,96 @@
 //! Transfers of words between the pages of a pin and the store of a device.
-ghost use Rattle.std.specs.Prelude.{◌≡◌, ℕ, ◌+◌, ◌==◌, ◌*◌, ◌/◌, ◌%◌, ◌^◌, ◌≤◌, ◌<◌, length, slice_get, Some, None, if◌then◌else◌};
+ghost use Rattle.std.specs.Prelude.{◌≡◌, ℕ, ◌+◌, ◌==◌, ◌*◌, ◌/◌, ◌%◌, ◌^◌, ◌≤◌, ◌<◌, nat_le, length, slice_get, IfOk, IfErr, OnOk, Some, None};
 ghost use Rattle.gup_base.specs.Parts.{words_of, word_at};
 ghost use Rattle.gup_plain.specs.Denial.{has_words};
 ghost use Rattle.gup_plain.specs.declared.answer.Answer.{Answer as AnswerValue};
-ghost use Rattle.gup_plain.specs.declared.answer.Answer.TheVariants as answers;
 ghost use Rattle.gup_frames.specs.Frames.{frames_of, IsFrame};
 ghost use Rattle.gup_device.specs.Store.{store_of, IsSlot};
 ghost use Rattle.gup_handles.specs.Handles.{handles_of};
 ghost use Rattle.gup_spec_journal.specs.Follows.{moves_word};
 ghost use Rattle.gup_spec_turns.specs.DeviceTurns.{transfer_turn};
-ghost use Rattle.gup_op_base.specs.Said.{whats_of};
+ghost use Rattle.gup_op_base.specs.Said.{Tells, TellsTurn, whats_of, happened_said};
 ghost use Rattle.gup_op_base.specs.Turns.{IsTurnOf};
 ghost use Rattle.gup_op_pins.specs.Pins.{IsWeighed};
-ghost use Rattle.gup_op_devices.specs.Transfers.{IsWhole, HasMoved, IsMoved, fits_in, refusal_in};
+ghost use Rattle.gup_op_devices.specs.Transfers.{IsWhole, HasMoved, IsMoved, IsFound, are_within, refusal_in};
 ghost use Rattle.gup_op_pins.specs.Held.{ShowsHeld, IsRefused, held_view, slots_in};
 
 use gup_base::{ActorNo, FrameNo, HandleNo, Parts, WordNo};
 use gup_device::Store;
 use gup_frames::Frames;
 use gup_handles::Handles;
-use gup_op_base::{Said, refused};
-use gup_plain::{Answer, PlainEvent};
+use gup_op_base::Head;
+use gup_plain::{Answer, Journal, PlainEvent};
 
 // The words of a page.
 const WORDS: u32 = 512;
 
 /// One word of a transfer of words in parts, of which `far` are moved: the next word of the parts, out into slot
 /// `slot` + `far` of the actor's store, or in from there. A device reads and writes frames and no pages: no fault comes,
-/// and no page table is read.
+/// and no page table is read. Answers whether the operation is over.
 ///
 /// The transfer is refused as a whole, before its first word moves: `NotHeld` where the actor doesn't hold the pin, then
 /// `Forbidden` where it would write the pages of a pin to read, then `Range` where a word of a part lies past the pin's
 /// pages or a slot past the store.
+#[inline]
 pub fn transfer(
     frames: &mut Frames,
     handles: &Handles,
     store: &mut Option<Store>,
-    actor: ActorNo,
+    journal: &mut Journal,
+    head: &Head,
     handle: HandleNo,
     outward: bool,
     slot: u32,
     parts: &Parts,
     far: u16,
-) -> Said
+) -> bool
     requires weighed { IsWeighed (frames_of frames.old) (handles_of handles.now handle) }
     requires within { far < words_of parts.now }
     requires most { words_of parts.now ≤ 64 }
+    requires room { 3 ≤ journal.old.room }
     ensures slots { slots_in store.new ≡ slots_in store.old }
-    ensures turn { IsTurnOf (ShowsHeld actor) (λ s. IsWhole s actor handle)
+    ensures turn { TellsTurn head.now journal.old journal.new result
+        (λ said. IsTurnOf (ShowsHeld head.now.actor) (λ s. IsWhole s head.now.actor handle)
         (held_view frames.old handles.now store.old) (held_view frames.new handles.now store.new)
-        (λ s. transfer_turn s actor (slots_in store.old) handle outward slot parts.now far) (whats_of result) }
-    ensures moved { refusal_in (handles_of handles.now handle) actor outward (slots_in store.old) slot parts.now ≡ None
-        → IsMoved (held_view frames.old handles.now store.old) (held_view frames.new handles.now store.new)
-        actor handle outward (word_at parts.now far) (slot + far) (far + 1 == words_of parts.now) result }
+        (λ s. transfer_turn s head.now.actor (slots_in store.old) handle outward slot parts.now far) (whats_of said)) }
+    ensures moved { refusal_in (handles_of handles.now handle) head.now.actor outward (slots_in store.old) slot parts.now ≡ None
+        → TellsTurn head.now journal.old journal.new result
+        (λ said. IsMoved (held_view frames.old handles.now store.old) (held_view frames.new handles.now store.new)
+        head.now.actor handle outward (word_at parts.now far) (slot + far) (far + 1 == words_of parts.now) said) }
     ensures refused { (denied : AnswerValue)
-        → refusal_in (handles_of handles.now handle) actor outward (slots_in store.old) slot parts.now ≡ Some denied
-        → IsRefused (held_view frames.old handles.now store.old) (held_view frames.new handles.now store.new) denied result }
+        → refusal_in (handles_of handles.now handle) head.now.actor outward (slots_in store.old) slot parts.now ≡ Some denied
+        → TellsTurn head.now journal.old journal.new result
+        (λ said. IsRefused (held_view frames.old handles.now store.old) (held_view frames.new handles.now store.new) denied said) }
 {
     let parts = parts.as_slice();
     let slots = slots_of(store);
-    if let Some(denied) = refusal(handles, actor, handle, outward, slots, slot, parts) {
-        return refused(denied);
+    match find(
+        handles, head.actor, handle, outward, slots, slot, parts, far,
+    ) {
+        Err(denied) => {
+            head.answered(journal, denied);
+            true
+        }
+        Ok(found) => {
+            // What isn't refused has a store.
+            let Some(store) = store else {
+                head.answered(journal, Answer::Range);
+                return true;
+            };
+            let place = slot + u32::from(far);
+            let word = word_of(found.index);
+            let value = move_word(frames, store, found.frame, word, place as u16, outward);
+            tell_moved(journal, head, handle, outward, found.index, place, value);
+            if found.last {
+                head.answered(journal, Answer::Words);
+            }
+            found.last
+        }
     }
-    // What isn't refused has a store, and is of a pin that the actor holds.
-    let Some(store) = store else {
-        return refused(Answer::Range);
-    };
-    let Ok((pages, _)) = handles.pages(handle, actor) else {
-        return refused(Answer::NotHeld);
-    };
-    let index = find_word(parts, far);
-    let place = slot + u32::from(far);
-    let value = move_word(
-        frames,
-        store,
-        frame_at(pages, index),
-        word_of(index),
-        place as u16,
-        outward,
-    );
-    let event = moved(actor, handle, outward, index, place, value);
-    moved_said(event, far + 1 == count_words(parts))
 }
 
 // How many words the store has, if there is one.
+#[inline]
 fn slots_of(store: &Option<Store>) -> u16
     ensures slots { result ≡ slots_in store.now }
     ensures few { result ≤ 4096 }
@@ -94,8 +101,17 @@ fn slots_of(store: &Option<Store>) -> u16
     }
 }
 
-// What refuses a transfer of these parts, if something does.
-fn refusal(
+// The next word of a transfer: its number in the pin, the frame that has it, and whether it is the last one.
+#[derive(Clone, Copy)]
+struct Found {
+    index: u32,
+    frame: FrameNo,
+    last: bool,
+}
+
+// Where the next word of a transfer of these parts is, or what refuses the transfer.
+#[inline]
+fn find(
     handles: &Handles,
     actor: ActorNo,
     handle: HandleNo,
@@ -103,71 +119,102 @@ fn refusal(
     slots: u16,
     slot: u32,
     parts: &[(u32, u8)],
-) -> Option<Answer>
-    requires { words_of parts.now ≤ 64 }
-    ensures { result ≡ refusal_in (handles_of handles.now handle) actor outward slots slot parts.now }
+    far: u16,
+) -> Result<Found, Answer>
+    requires within { far < words_of parts.now }
+    requires most { words_of parts.now ≤ 64 }
+    ensures refused { IfErr result
+        (λ denied. refusal_in (handles_of handles.now handle) actor outward slots slot parts.now ≡ Some denied) }
+    ensures unrefused { OnOk result
+        (refusal_in (handles_of handles.now handle) actor outward slots slot parts.now ≡ None) }
+    ensures found { IfOk result
+        (λ found. IsFound (handles_of handles.now handle) parts.now far found.index found.frame found.last) }
 {
     let Ok((pages, may_write)) = handles.pages(handle, actor) else {
-        return Some(Answer::NotHeld);
+        return Err(Answer::NotHeld);
     };
     if !outward && !may_write {
-        return Some(Answer::Forbidden);
+        return Err(Answer::Forbidden);
     }
-    if !fits(pages.len(), slots, slot, parts) {
-        return Some(Answer::Range);
+    let survey = look_over(parts, far, pages.len());
+    if !survey.within || u64::from(slot) + u64::from(survey.many) > u64::from(slots) {
+        return Err(Answer::Range);
     }
-    None
+    let index = survey.index as u32;
+    Ok(Found {
+        index,
+        frame: frame_at(pages, index),
+        last: far + 1 == survey.many,
+    })
 }
 
-// Whether the words of the parts are words of so many pages, and as many slots from this one on are of a store of so many.
-fn fits(pages: usize, slots: u16, slot: u32, parts: &[(u32, u8)]) -> bool
+// What there is to know of parts: which word of the pin is the next one, how many words there are, and whether all are
+// words of the pin's pages.
+#[derive(Clone, Copy)]
+struct Survey {
+    index: u64,
+    many: u16,
+    within: bool,
+}
+
+// Goes over the parts once, for the word with the number `far`, from 0, of words of so many pages.
+#[inline]
+fn look_over(parts: &[(u32, u8)], far: u16, pages: usize) -> Survey
     requires pages { pages ≤ 16 }
+    requires within { far < words_of parts.now }
     requires most { words_of parts.now ≤ 64 }
-    ensures { result ≡ fits_in pages slots slot parts.now }
-{
-    are_within(pages, parts) && u64::from(slot) + u64::from(count_words(parts)) <= u64::from(slots)
-}
-
-// Whether the words of each part are words of so many pages.
-fn are_within(pages: usize, parts: &[(u32, u8)]) -> bool
-    requires { pages ≤ 16 }
-    ensures { result ≡ has_words pages parts.now }
+    ensures index { result.index ≡ word_at parts.now far }
+    ensures many { result.many ≡ words_of parts.now }
+    ensures within { result.within ≡ has_words pages parts.now }
 {
     let words = u64::from(WORDS) * pages as u64;
-    parts
-        .iter()
-        .all(|part| u64::from(part.0) + u64::from(part.1) <= words)
-}
-
-// How many words the parts have.
-fn count_words(parts: &[(u32, u8)]) -> u16
-    requires { words_of parts.now ≤ 64 }
-    ensures { result ≡ words_of parts.now }
-{
-    let mut words = 0;
-    for part in parts {
-        words += u16::from(part.1);
+    // Most transfers have one part.
+    if let [part] = parts {
+        return Survey {
+            index: u64::from(part.0) + u64::from(far),
+            many: u16::from(part.1),
+            within: ends_within(part.0, part.1, words),
+        };
     }
-    words
+    look_over_all(parts, far, words)
 }
 
-// Which word of the pin is the one with this number, from 0, of the parts.
-fn find_word(parts: &[(u32, u8)], number: u16) -> u32
-    requires { word_at parts.now number < 2 ^ 32 }
-    ensures { result ≡ word_at parts.now number }
+// The same of any parts.
+fn look_over_all(parts: &[(u32, u8)], far: u16, words: u64) -> Survey
+    requires within { far < words_of parts.now }
+    requires most { words_of parts.now ≤ 64 }
+    ensures index { result.index ≡ word_at parts.now far }
+    ensures many { result.many ≡ words_of parts.now }
+    ensures within { result.within ≡ are_within words parts.now }
 {
-    let mut left = number;
+    let mut index = 0;
+    let mut many = 0;
+    let mut within = true;
     for part in parts {
-        let words = u16::from(part.1);
-        if left < words {
-            return part.0 + u32::from(left);
+        // The last part that begins at this word or before it has it.
+        if many <= far {
+            index = u64::from(part.0) + u64::from(far - many);
         }
-        left -= words;
+        within = within && ends_within(part.0, part.1, words);
+        many += u16::from(part.1);
     }
-    0
+    Survey {
+        index,
+        many,
+        within,
+    }
+}
+
+// Whether `n` words from this one on are among the first `words`.
+#[inline]
+fn ends_within(first: u32, n: u8, words: u64) -> bool
+    ensures { result ≡ nat_le (first + n) words }
+{
+    u64::from(first) + u64::from(n) <= words
 }
 
 // The frame that has the word with this index.
+#[inline]
 fn frame_at(pages: &[FrameNo], index: u32) -> FrameNo
     requires { index < 512 * length pages.now }
     ensures { slice_get pages.now (index / 512) ≡ Some result }
@@ -176,6 +223,7 @@ fn frame_at(pages: &[FrameNo], index: u32) -> FrameNo
 }
 
 // The place of the word with this index in its frame.
+#[inline]
 fn word_of(index: u32) -> WordNo
     ensures { result ≡ index % 512 }
 {
@@ -183,6 +231,7 @@ fn word_of(index: u32) -> WordNo
 }
 
 // Moves a word of the frame out into the slot, or in from there.
+#[inline]
 fn move_word(
     frames: &mut Frames,
     store: &mut Store,
@@ -202,44 +251,44 @@ fn move_word(
     }
 }
 
-// The event of a word that moved.
-fn moved(
-    actor: ActorNo,
+// Says that a word moved.
+#[inline]
+fn tell_moved(
+    journal: &mut Journal,
+    head: &Head,
     handle: HandleNo,
     outward: bool,
     index: u32,
     slot: u32,
     value: u64,
-) -> PlainEvent
-    ensures { result ≡ moves_word actor handle outward index slot value }
+)
+    requires room { 1 ≤ journal.old.room }
+    ensures says { Tells head.now journal.old journal.new
+        (happened_said (moves_word head.now.actor handle outward index slot value)) }
+    ensures room { journal.old.room ≤ journal.new.room + 1 }
 {
+    let actor = head.actor;
     if outward {
-        PlainEvent::MoveOut {
-            actor,
-            handle,
-            index,
-            slot,
-            value,
-        }
+        head.happened(
+            journal,
+            PlainEvent::MoveOut {
+                actor,
+                handle,
+                index,
+                slot,
+                value,
+            },
+        );
     } else {
-        PlainEvent::MoveIn {
-            actor,
-            handle,
-            index,
-            slot,
-            value,
-        }
-    }
-}
-
-// The event, and the answer where it is of the last word.
-fn moved_said(event: PlainEvent, last: bool) -> Said
-    ensures { result ≡ record { event = Some event; next = None; answer = if last then Some answers.Words else None } }
-{
-    let answer = if last { Some(Answer::Words) } else { None };
-    Said {
-        event: Some(event),
-        next: None,
-        answer,
+        head.happened(
+            journal,
+            PlainEvent::MoveIn {
+                actor,
+                handle,
+                index,
+                slot,
+                value,
+            },
+        );
     }
 }

@@ -1,7 +1,0 @@
-use Rattle.std.proofs.Common.{◌≡◌, take}
-use Rattle.gup_base.specs.Parts.{words_of}
-use Rattle.gup_op_devices.proofs.transfers.count_words.Given as goal
-
--- the words of the parts so far
-abbrev pub invariant-loop-part : goal.invariant-loop-part
-invariant-loop-part l = l.words ≡ words_of (take l.part-index l.parts)
