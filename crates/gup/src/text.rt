@@ -1,17 +1,16 @@
 //! The texts that the program writes: that of a run, and that of a refusal.
 ghost use Rattle.std.specs.Prelude.{◌≡◌, ℕ, ◌≤◌, ◌++◌, length, Some, decimal, IfOk, OnOk};
-ghost use Rattle.std.specs.List.{flat_map};
 ghost use Rattle.gup_plain.specs.declared.note.Waiting.{Waiting as WaitingValue};
 ghost use Rattle.gup_spec_turns.specs.Cause.{WaitsForBirthOrPin};
 ghost use Rattle.gup_spec_turns.specs.Run.{RunState, waiting_in};
 ghost use Rattle.gup_core.specs.Machine.{Shows};
-ghost use Rattle.gup_lines.specs.Text.{line_of, text_of, NamesWaiting};
+ghost use Rattle.gup_lines.specs.Text.{text_of, NamesWaiting};
 ghost use Rattle.gup.specs.Report.{reason_text, refusal_text};
 ghost use Rattle.gup.specs.Stuck.{stuck_of, stuck_text};
 
 use gup_base::{ActorNo, NoMemory};
 use gup_core::Machine;
-use gup_lines::{Outcome, outcomes, push_line, push_stuck};
+use gup_lines::{push_lines, push_stuck};
 use gup_plain::{Journal, Waiting};
 use gup_script::Script;
 use gup_spec_grammar::{Reason, ScriptFault};
@@ -22,17 +21,8 @@ use std::alloc::Global;
 pub fn journal_text(alloc: Global, script: &Script, journal: &Journal) -> Result<Vec<u8>, NoMemory>
     ensures { IfOk result (λ text. text.items ≡ text_of script.now journal.now.notes) }
 {
-    let outcomes = outcomes(alloc, script, journal)?;
-    lines_of(alloc, script, outcomes.all())
-}
-
-fn lines_of(alloc: Global, script: &Script, outcomes: &[Outcome]) -> Result<Vec<u8>, NoMemory>
-    ensures { IfOk result (λ text. text.items ≡ flat_map (line_of script.now) outcomes.now) }
-{
     let mut text = Vec::new(alloc);
-    for o in outcomes {
-        push_line(script, o, &mut text)?;
-    }
+    push_lines(alloc, script, journal, &mut text)?;
     Ok(text)
 }
 

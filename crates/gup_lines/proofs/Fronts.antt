@@ -1,5 +1,5 @@
 -- Lists that begin with a list: what writing piece by piece leaves where it breaks off.
-use Rattle.std.proofs.Common.{◌≡◌, ℕ, ◌≤◌, List, ◌++◌, length, take, sym, ◌∙◌, arith, ap, length-append, subst}
+use Rattle.std.proofs.Common.{◌≡◌, ℕ, ◌≤◌, List, ◌++◌, length, take, take-append-drop, drop, sym, ◌∙◌, arith, ap, length-append, subst}
 use Rattle.std.proofs.lemmas.List.{take-take, take-append-le, take_all}
 use Rattle.gup_lines.specs.Text.{BeginsWith}
 
@@ -19,4 +19,9 @@ begins-then new middle old more e h = begins-append new old more (let P : List �
 pub begins-same : (new old : List ℕ) → new ≡ old → BeginsWith new old
 begins-same new old e = let P : List ℕ → Type 0 = λ m. BeginsWith m old in subst P (sym e) (begins-self old)
 
-pub ruleset fronts = (begins-self, begins-then, begins-same)
+pub begins-trans : (new middle old : List ℕ) → BeginsWith new middle → BeginsWith middle old → BeginsWith new old
+begins-trans new middle old h begins =
+    let whole : middle ≡ old ++ drop (length old) middle = sym (take-append-drop (length old) middle) ∙ ap (λ xs. xs ++ drop (length old) middle) begins in
+    begins-then new middle old (drop (length old) middle) whole h
+
+pub ruleset fronts = (begins-self, begins-then, begins-same, begins-trans)

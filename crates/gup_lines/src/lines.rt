@@ -1,16 +1,18 @@
 //! The lines of a run.
-ghost use Rattle.std.specs.Prelude.{◌≡◌, ℕ, ◌<◌, List, [], ◌++◌, length, replicate, codes, decimal, IfOk, OnOk, OnErr};
+ghost use Rattle.std.specs.Prelude.{◌≡◌, ℕ, ◌<◌, List, [], ◌++◌, length, codes, decimal, IsSome, IfOk, OnOk, OnErr};
 ghost use Rattle.std.specs.List.{cons_option, flat_map};
 ghost use Rattle.gup_script.specs.Script.{actor_at, process_at, handle_at};
-ghost use Rattle.gup_lines.specs.Text.{name_in, process_name, handle_name, cause_text, word_text, answer_text, head_of, line_of, waiting_text, stuck_line, word_in, moved_by, words_after, outcome_of, outcomes_of, NamesWaiting, BeginsWith};
+ghost use Rattle.gup_plain.specs.Put.{put};
+ghost use Rattle.gup_lines.specs.Moved.{words_of, moved_after};
+ghost use Rattle.gup_lines.specs.Text.{text_of, name_in, process_name, handle_name, cause_text, word_text, answer_text, head_of, line_of, waiting_text, stuck_line, word_in, moved_by, words_after, outcome_of, outcomes_of, NamesWaiting, BeginsWith};
 
+use crate::kept::Moved;
 use crate::outcome::{Outcome, Outcomes};
 use gup_base::{ActorNo, HandleNo, NoMemory, ProcNo, Words};
 use gup_plain::{Answer, Cause, Journal, Note, PlainEvent, Waiting, What};
 use gup_script::Script;
 use itoa::Buffer;
-use std::alloc::{AllocError, Global};
-use std::mem::replace;
+use std::alloc::Global;
 
 /// The answers of the script's journal, in order, each with the words that its own actor's operation has moved.
 pub fn outcomes(alloc: Global, _script: &Script, journal: &Journal) -> Result<Outcomes, NoMemory>
@@ -22,60 +24,56 @@ pub fn outcomes(alloc: Global, _script: &Script, journal: &Journal) -> Result<Ou
 fn told_in(alloc: Global, notes: &[Note]) -> Result<Vec<Outcome>, NoMemory>
     ensures { IfOk result (λ found. found.items ≡ outcomes_of notes.now) }
 {
-    let mut moved = no_words(alloc)?;
+    let mut moved = Moved::new(alloc)?;
     let mut found = Vec::new(alloc);
     for note in notes {
-        let words = &mut moved[note.actor().get() as usize];
-        tell(note, words, &mut found)?;
+        tell(note, &mut moved, &mut found)?;
     }
     Ok(found)
 }
 
-// For each actor, no words.
-fn no_words(alloc: Global) -> Result<Vec<Words>, AllocError>
-    ensures { IfOk result (λ moved. moved.items ≡ replicate 81 []) }
-{
-    let mut moved = Vec::new(alloc);
-    for _ in 0_u8..81 {
-        moved.push(Words::new())?;
-    }
-    Ok(moved)
-}
-
 // Puts the outcome on that a note tells, if it ends an operation: the words that its actor's operation has moved go into
 // it. After any other note they are those, and the word of the note.
-fn tell(note: &Note, words: &mut Words, found: &mut Vec<Outcome>) -> Result<(), NoMemory>
+#[tactic(auto, using(crate::proofs::Moved::moves))]
+fn tell(note: &Note, moved: &mut Moved, found: &mut Vec<Outcome>) -> Result<(), NoMemory>
     ensures found { OnOk result (found.new.items
-        ≡ found.old.items ++ cons_option (outcome_of note.now.actor note.now.op words.old note.now.what) []) }
-    ensures words { OnOk result (words.new ≡ words_after words.old note.now.what) }
+        ≡ found.old.items ++ cons_option (outcome_of note.now.actor note.now.op (words_of moved.old note.now.actor) note.now.what) []) }
+    ensures moved { OnOk result (words_of moved.new ≡ moved_after (words_of moved.old) note.now) }
 {
     match note.what() {
         What::Silent | What::Idle | What::Wait(_) => Ok(()),
-        What::Event(event) => push_word(words, word_of(event)),
+        What::Event(event) => push_word(moved, note.actor(), word_of(event)),
         What::Done(answer) => {
+            let actor = note.actor();
+            let words = as_words(moved.of(actor))?;
             found.push(Outcome {
-                actor: note.actor(),
+                actor,
                 op: note.op(),
                 answer,
-                words: taken(words),
+                words,
             })?;
+            moved.clear(actor);
             Ok(())
         }
     }
 }
 
-// The words, which leaves none.
-fn taken(words: &mut Words) -> Words
-    ensures taken { result ≡ words.old }
-    ensures words { words.new ≡ [] }
+// These words. A transfer has 64 at most, and there is no room for more.
+fn as_words(kept: &[u64]) -> Result<Words, NoMemory>
+    ensures { IfOk result (λ words. words ≡ kept.now) }
 {
-    if words.as_slice().is_empty() {
-        return Words::new();
+    let mut words = Words::new();
+    for word in kept {
+        if words.as_slice().len() >= 64 {
+            return Err(NoMemory);
+        }
+        words.push(*word);
     }
-    replace(words, Words::new())
+    Ok(words)
 }
 
 // The word that an event of a transfer moves.
+#[inline(always)]
 fn word_of(event: PlainEvent) -> Option<u64>
     ensures { result ≡ word_in event }
 {
@@ -85,19 +83,105 @@ fn word_of(event: PlainEvent) -> Option<u64>
     }
 }
 
-// Puts the word on, if there is one. A transfer has 64 at most, and there is no room for more.
-fn push_word(words: &mut Words, word: Option<u64>) -> Result<(), NoMemory>
-    ensures { OnOk result (words.new ≡ moved_by words.old word) }
+// Puts the word on after those of its actor, if there is one.
+#[inline(always)]
+#[tactic(auto, using(crate::proofs::Moved::moves))]
+fn push_word(moved: &mut Moved, actor: ActorNo, word: Option<u64>) -> Result<(), NoMemory>
+    ensures { OnOk result (words_of moved.new ≡ put actor (moved_by (words_of moved.old actor) word) (words_of moved.old)) }
 {
-    if let Some(word) = word {
-        if words.as_slice().len() >= 64 {
-            return Err(NoMemory);
-        }
-        words.push(word);
+    match word {
+        Some(word) => moved.push(actor, word),
+        None => Ok(()),
+    }
+}
+
+/// Appends the line of each answer of the script's journal, in order, with the words that its own actor's operation
+/// has moved. Beside the text no more memory is taken than for the words of the operations that are under way. Where
+/// memory is wanted the text is as it was.
+pub fn push_lines(
+    alloc: Global,
+    script: &Script,
+    journal: &Journal,
+    text: &mut Vec<u8>,
+) -> Result<(), NoMemory>
+    ensures ok { OnOk result (text.new.items ≡ text.old.items ++ text_of script.now journal.now.notes) }
+    ensures err { OnErr result (text.new.items ≡ text.old.items) }
+{
+    let notes = journal.notes();
+    let length = text.len();
+    let written = write_lines(alloc, script, notes, text);
+    if written.is_err() {
+        text.truncate(length);
+    }
+    written
+}
+
+#[tactic(auto, using(crate::proofs::Fronts::fronts))]
+fn write_lines(
+    alloc: Global,
+    script: &Script,
+    notes: &[Note],
+    text: &mut Vec<u8>,
+) -> Result<(), NoMemory>
+    ensures ok { OnOk result (text.new.items ≡ text.old.items ++ text_of script.now notes.now) }
+    ensures err { OnErr result (BeginsWith text.new.items text.old.items) }
+{
+    let mut moved = Moved::new(alloc)?;
+    for note in notes {
+        pass_note(script, note, &mut moved, text)?;
     }
     Ok(())
 }
 
+// Writes the line of a note that ends an operation, and keeps the word of one that moves a word. Most notes do neither.
+#[inline(always)]
+#[tactic(auto, using(crate::proofs::Fronts::fronts, crate::proofs::Moved::moves))]
+fn pass_note(
+    script: &Script,
+    note: &Note,
+    moved: &mut Moved,
+    text: &mut Vec<u8>,
+) -> Result<(), NoMemory>
+    ensures text { OnOk result (text.new.items ≡ text.old.items ++ flat_map (line_of script.now)
+        (cons_option (outcome_of note.now.actor note.now.op (words_of moved.old note.now.actor) note.now.what) [])) }
+    ensures moved { OnOk result (words_of moved.new ≡ moved_after (words_of moved.old) note.now) }
+    ensures err { OnErr result (BeginsWith text.new.items text.old.items) }
+{
+    match note.what() {
+        What::Silent | What::Idle | What::Wait(_) => Ok(()),
+        What::Event(event) => push_word(moved, note.actor(), word_of(event)),
+        What::Done(_answer) => write_note(script, note, moved, text),
+    }
+}
+
+// Writes the line of a note that ends an operation, with the words that its actor's operation has moved. It stands
+// apart, so that the loop over the notes stays small.
+#[inline(never)]
+#[tactic(auto, using(crate::proofs::Fronts::fronts, crate::proofs::Moved::moves))]
+fn write_note(
+    script: &Script,
+    note: &Note,
+    moved: &mut Moved,
+    text: &mut Vec<u8>,
+) -> Result<(), NoMemory>
+    requires { IsSome (outcome_of note.now.actor note.now.op (words_of moved.old note.now.actor) note.now.what) }
+    ensures text { OnOk result (text.new.items ≡ text.old.items ++ flat_map (line_of script.now)
+        (cons_option (outcome_of note.now.actor note.now.op (words_of moved.old note.now.actor) note.now.what) [])) }
+    ensures moved { OnOk result (words_of moved.new ≡ moved_after (words_of moved.old) note.now) }
+    ensures err { OnErr result (BeginsWith text.new.items text.old.items) }
+{
+    match note.what() {
+        What::Silent | What::Idle | What::Wait(_) | What::Event(_) => Ok(()),
+        What::Done(answer) => {
+            let words = moved.of(note.actor());
+            write_line(script, note.actor(), note.op(), answer, words, text)?;
+            moved.clear(note.actor());
+            Ok(())
+        }
+    }
+}
+
+#[inline(always)]
 fn push_text(text: &mut Vec<u8>, piece: &str) -> Result<(), NoMemory>
     ensures ok { OnOk result (text.new.items ≡ text.old.items ++ piece.now) }
     ensures err { OnErr result (text.new.items ≡ text.old.items) }
@@ -106,7 +190,17 @@ fn push_text(text: &mut Vec<u8>, piece: &str) -> Result<(), NoMemory>
     Ok(())
 }
 
+#[inline(never)]
 fn push_number(text: &mut Vec<u8>, n: u64) -> Result<(), NoMemory>
+    ensures ok { OnOk result (text.new.items ≡ text.old.items ++ decimal n) }
+    ensures err { OnErr result (text.new.items ≡ text.old.items) }
+{
+    write_number(text, n)
+}
+
+// The same, without a call: where a line has one number at least, and where words follow one another.
+#[inline(always)]
+fn write_number(text: &mut Vec<u8>, n: u64) -> Result<(), NoMemory>
     ensures ok { OnOk result (text.new.items ≡ text.old.items ++ decimal n) }
     ensures err { OnErr result (text.new.items ≡ text.old.items) }
 {
@@ -138,7 +232,7 @@ fn push_words(text: &mut Vec<u8>, words: &[u64]) -> Result<(), NoMemory>
 {
     for word in words {
         push_text(text, " ")?;
-        push_number(text, *word)?;
+        write_number(text, *word)?;
     }
     Ok(())
 }
@@ -233,24 +327,59 @@ fn handle_name(script: &Script, h: HandleNo) -> &str
     }
 }
 
+// The actor's name and the operation's number.
 #[tactic(auto, using(crate::proofs::Fronts::fronts))]
+#[inline(always)]
 fn push_head(script: &Script, actor: ActorNo, op: u32, text: &mut Vec<u8>) -> Result<(), NoMemory>
-    ensures ok { OnOk result (text.new.items ≡ text.old.items ++ head_of script.now actor op) }
+    ensures ok { OnOk result (text.new.items ≡ text.old.items ++ (name_in (actor_at script.now actor) ++ (codes " " ++ decimal op))) }
     ensures err { OnErr result (BeginsWith text.new.items text.old.items) }
 {
     push_text(text, name_of(script, actor))?;
-    push_counted(text, " ", u64::from(op))?;
-    push_text(text, " ")
+    push_text(text, " ")?;
+    write_number(text, u64::from(op))
+}
+
+// The answer behind a space, and a line feed. Most answers are the first.
+#[tactic(auto, using(crate::proofs::Fronts::fronts))]
+#[inline(always)]
+fn push_end(text: &mut Vec<u8>, answer: Answer, words: &[u64]) -> Result<(), NoMemory>
+    ensures ok { OnOk result (text.new.items ≡ text.old.items ++ (codes " " ++ (answer_text answer words.now ++ codes "\n"))) }
+    ensures err { OnErr result (BeginsWith text.new.items text.old.items) }
+{
+    match answer {
+        Answer::Plain => push_text(text, " ok\n"),
+        answer => push_rest(text, answer, words),
+    }
 }
 
 #[tactic(auto, using(crate::proofs::Fronts::fronts))]
-fn write_line(script: &Script, o: &Outcome, text: &mut Vec<u8>) -> Result<(), NoMemory>
-    ensures ok { OnOk result (text.new.items ≡ text.old.items ++ line_of script.now o.now) }
+#[inline(never)]
+fn push_rest(text: &mut Vec<u8>, answer: Answer, words: &[u64]) -> Result<(), NoMemory>
+    ensures ok { OnOk result (text.new.items ≡ text.old.items ++ (codes " " ++ (answer_text answer words.now ++ codes "\n"))) }
     ensures err { OnErr result (BeginsWith text.new.items text.old.items) }
 {
-    push_head(script, o.actor, o.op, text)?;
-    push_answer(text, o.answer, o.words.as_slice())?;
+    push_text(text, " ")?;
+    push_answer(text, answer, words)?;
     push_text(text, "\n")
+}
+
+// Writes a line: the head, the answer, and a line feed.
+#[tactic(auto, using(crate::proofs::Fronts::fronts))]
+#[inline(always)]
+fn write_line(
+    script: &Script,
+    actor: ActorNo,
+    op: u32,
+    answer: Answer,
+    words: &[u64],
+    text: &mut Vec<u8>,
+) -> Result<(), NoMemory>
+    ensures ok { OnOk result (text.new.items ≡ text.old.items
+        ++ line_of script.now (record { actor = actor; op = op; answer = answer; words = words.now })) }
+    ensures err { OnErr result (BeginsWith text.new.items text.old.items) }
+{
+    push_head(script, actor, op, text)?;
+    push_end(text, answer, words)
 }
 
 /// Appends the line of an outcome: the actor's name, the operation's number, the answer and a line feed. Where
@@ -260,7 +389,7 @@ pub fn push_line(script: &Script, o: &Outcome, text: &mut Vec<u8>) -> Result<(),
     ensures err { OnErr result (text.new.items ≡ text.old.items) }
 {
     let length = text.len();
-    let written = write_line(script, o, text);
+    let written = write_line(script, o.actor, o.op, o.answer, o.words.as_slice(), text);
     if written.is_err() {
         text.truncate(length);
     }
