@@ -289,20 +289,9 @@ write_there c page tidy unallowed unlocked fault there some =
 
 -- ---- entries
 
-pub some_there : (F : FramesValue) (S : SpaceValue) (page : ℕ) → IsTidy F S → IsSome (S.entry page) → HasEntry (S.entry page) (λ e. IsFrame F e.frame)
-some_there F S page tidy some = go (S.entry page) refl some
-  where
-    go : (entry : Option Entry) → S.entry page ≡ entry → IsSome entry → HasEntry entry (λ e. IsFrame F e.frame)
-    go None is none = absurd (cc)
-    go (Some e) is found = tidy.there page e is
-
 pub writable_some : (entry : Option Entry) → IsWritable entry → IsSome entry
 writable_some None none = absurd none
 writable_some (Some e) writable = refl
-
-pub absent : (entry : Option Entry) → is_some entry ≡ false → entry ≡ None
-absent None none = refl
-absent (Some e) none = absurd (cc)
 
 pub counted_at : (F : FramesValue) (S : SpaceValue) (page : ℕ) → IsTidy F S → IsCounted F S page
 counted_at F S page tidy = record { mapped = tidy.mapped page; there = tidy.there page; counted = tidy.counted page }

@@ -17,6 +17,7 @@ use gup_unmap::take_down;
 
 /// One page of an unmap: it is taken down where it is mapped. The last page's turn has the answer too. Answers whether
 /// the operation is over.
+#[inline]
 pub fn unmap(
     space: &mut Space,
     frames: &mut Frames,
@@ -45,6 +46,7 @@ pub fn unmap(
 
 /// One page of a discard: it loses its contents where it is mapped. The last page's turn has the answer too. Answers
 /// whether the operation is over.
+#[inline]
 pub fn discard(
     space: &mut Space,
     frames: &mut Frames,
@@ -85,6 +87,7 @@ fn passed(journal: &mut Journal, head: &Head, mapped: bool, event: PlainEvent, l
     }
 }
 
+#[inline]
 fn first_page() -> PageNo
     ensures { result ≡ 0 }
 {
@@ -111,11 +114,11 @@ pub fn exit(
         return true;
     };
     let _mapped = take_down(space, frames, page);
-    let event = PlainEvent::Unmap {
+    let unmapped = PlainEvent::Unmap {
         actor: head.actor,
         proc,
         page,
     };
-    head.happened(journal, event);
+    head.happened(journal, unmapped);
     false
 }
