@@ -28,7 +28,7 @@ use gup_law_journal::{
 use gup_law_owners::plain_journals_are_owned;
 use gup_plain::Journal;
 use gup_read::{one_script, read_script, scripts_have_no_fault};
-use gup_sched::run_all;
+use gup_sched::run_machine;
 use gup_script::Script;
 use gup_spec_grammar::{ReadRefusal, ScriptFault};
 use std::alloc::Global;
@@ -117,8 +117,8 @@ struct Told {
 }
 
 // Runs the script.
-fn run_script(alloc: Global, script: &Script) -> Result<Told, NoMemory>
-    ensures { IfOk result (λ told. IsRunOf script.now told.stuck told.journal.notes told.text.items) }
+fn run_script(alloc: Global, script: Script) -> Result<Told, NoMemory>
+    ensures { IfOk result (λ told. IsRunOf script told.stuck told.journal.notes told.text.items) }
 {
     core_run_follows();
     core_run_is_in_order();
@@ -130,10 +130,10 @@ fn run_script(alloc: Global, script: &Script) -> Result<Told, NoMemory>
     runs_end_at_waits();
     finished_runs_answer_all();
     let _actors = script.actors();
-    let machine = Machine::new(alloc, script)?;
-    let ran = run_all(alloc, machine, script)?;
-    let mut text = journal_text(alloc, script, &ran.journal)?;
-    push_stuck_lines(script, &ran.machine, &mut text)?;
+    let machine = Machine::of(alloc, script)?;
+    let ran = run_machine(alloc, machine)?;
+    let mut text = journal_text(alloc, ran.machine.script(), &ran.journal)?;
+    push_stuck_lines(ran.machine.script(), &ran.machine, &mut text)?;
     Ok(Told {
         journal: ran.journal,
         stuck: ran.stuck,
@@ -165,15 +165,15 @@ fn refuse<K: Sink>(alloc: Global, sink: &mut K, fault: ScriptFault) -> Report
 }
 
 // Runs the script, and writes its answers and the actors that are stuck.
-fn run_and_write<K: Sink>(alloc: Global, sink: &mut K, script: &Script) -> Report
+fn run_and_write<K: Sink>(alloc: Global, sink: &mut K, script: Script) -> Report
     ensures statuses { HasRun result.status ⊎ (result.status ≡ 6) ⊎ (result.status ≡ 7) }
     ensures refusal { result.refusal ≡ None }
-    ensures finished { result.status ≡ 0 → (text : List ℕ) × IsRunOf script.now false result.journal.notes text
+    ensures finished { result.status ≡ 0 → (text : List ℕ) × IsRunOf script false result.journal.notes text
         × Appends (K.taken sink.old) (K.taken sink.new) text }
-    ensures stuck { result.status ≡ 4 → (text : List ℕ) × IsRunOf script.now true result.journal.notes text
+    ensures stuck { result.status ≡ 4 → (text : List ℕ) × IsRunOf script true result.journal.notes text
         × Appends (K.taken sink.old) (K.taken sink.new) text }
     ensures part { result.status ≡ 6
-        → IsPartlyTold script.now result.journal.notes (K.taken sink.old) (K.taken sink.new) }
+        → IsPartlyTold script result.journal.notes (K.taken sink.old) (K.taken sink.new) }
     ensures write_fault { result.status ≡ 6
         → EndsInFault (K.faults sink.old) (K.faults sink.new) (K.faulted sink.new) }
     ensures uncounted { (result.status ≡ 6 → ⊥) → K.faults sink.new ≡ K.faults sink.old }
@@ -332,7 +332,7 @@ pub fn gup<S: Source, K: Sink>(
         return show_usage(alloc, sink);
     }
     match read(alloc, source) {
-        Ok(script) => run_and_write(alloc, sink, &script),
+        Ok(script) => run_and_write(alloc, sink, script),
         Err(Unread::Failed) => Report::unrun(alloc, 5, None),
         Err(Unread::Fault(fault)) => refuse(alloc, sink, fault),
         Err(Unread::NoMemory) => Report::unrun(alloc, 7, None),

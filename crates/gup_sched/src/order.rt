@@ -1,12 +1,17 @@
 //! Whose turn the pointer gives.
-ghost use Rattle.std.specs.Prelude.{◌≡◌, ℕ, ◌<◌, ◌≤◌, IfOk, OnErr, IfSome, length};
+ghost use Rattle.std.specs.Prelude.{◌≡◌, ℕ, ◌<◌, ◌≤◌, true, IfOk, OnErr, IfSome, length};
 ghost use Rattle.gup_spec_journal.specs.Order.{behind};
-ghost use Rattle.gup_spec_turns.specs.Run.{RunState, can_go, pointed};
+ghost use Rattle.gup_spec_turns.specs.Run.{RunState, pointed};
 ghost use Rattle.gup_core.specs.Machine.{Shows};
-ghost use Rattle.gup_sched.specs.Ran.{SaysStuck, TakesOrStays, FoundTakes};
+ghost use Rattle.gup_core.specs.Waking.{woken_of};
+ghost use Rattle.gup_plain.specs.Put.{put};
+ghost use Rattle.gup_sched.specs.Awake.{AreAsleep, AreAsleepAfter, awake_behind};
+ghost use Rattle.gup_sched.specs.Ran.{SaysStuck, FoundTakes};
 
+use crate::awake::Awake;
 use gup_base::{ActorNo, NoMemory};
-use gup_core::{Advanced, Machine};
+use gup_core::{Advanced, Machine, Woken};
+use gup_law_waits::turns_wake_no_others;
 use gup_plain::Journal;
 
 /// The actor with this number.
@@ -32,46 +37,64 @@ pub(crate) fn behind(actors: u8, actor: ActorNo) -> ActorNo
     }
 }
 
-// Takes the actor's turn if it can go. Could it?
-fn goes(machine: &mut Machine, journal: &mut Journal, actor: ActorNo) -> Result<bool, NoMemory>
-    requires { actor < length machine.old.script.actors }
-    ensures can { IfOk result (λ went. (r : RunState) → Shows machine.old r → went ≡ can_go machine.old.script r actor) }
-    ensures turn { IfOk result (λ went. TakesOrStays went machine.old machine.new journal.old journal.new actor) }
-    ensures script { machine.new.script ≡ machine.old.script }
-    ensures err { OnErr result (journal.old.room < 3) }
-{
-    match machine.advance(actor, journal)? {
-        Advanced::Moved => Ok(true),
-        Advanced::Waits(_waiting) => Ok(false),
-        Advanced::Finished => Ok(false),
-    }
-}
-
-/// The first actor from the pointer on, in a circle, that can go takes its turn, and its notes are put on at the end.
+/// The first actor from the pointer on, in a circle, that can go takes its turn, and its notes are put on at the end. Asked are
+/// those that are awake, where those that are asleep can't go. Whoever can't go falls asleep; whom the turn may have woken
+/// is awake.
 pub(crate) fn next_to_go(
     machine: &mut Machine,
     journal: &mut Journal,
-    actors: u8,
+    awake: &mut Awake,
     pointer: ActorNo,
 ) -> Result<Option<ActorNo>, NoMemory>
-    requires few { actors ≤ 81 }
-    requires all { actors ≡ length machine.old.script.actors }
-    requires there { 0 < actors → pointer < actors }
+    requires all { awake.old.actors ≡ length machine.old.script.actors }
+    requires there { 0 < awake.old.actors → pointer < awake.old.actors }
     ensures next { IfOk result (λ found. (r : RunState) → Shows machine.old r
-        → found ≡ pointed machine.old.script r actors pointer) }
-    ensures below { IfOk result (λ found. IfSome found (λ actor. actor < actors)) }
+        → AreAsleep machine.old.script r awake.old.actors awake.old.awake
+        → found ≡ pointed machine.old.script r awake.old.actors pointer) }
+    ensures asleep { IfOk result (λ found. (r : RunState) → Shows machine.old r
+        → AreAsleep machine.old.script r awake.old.actors awake.old.awake
+        → AreAsleepAfter machine.old.script r awake.old.actors awake.new.awake found) }
+    ensures actors { awake.new.actors ≡ awake.old.actors }
+    ensures below { IfOk result (λ found. IfSome found (λ actor. actor < awake.old.actors)) }
     ensures turn { IfOk result (FoundTakes machine.old machine.new journal.old journal.new) }
     ensures script { machine.new.script ≡ machine.old.script }
     ensures err { OnErr result (journal.old.room < 3) }
 {
-    let mut actor = pointer;
-    for _step in 0..actors {
-        if goes(machine, journal, actor)? {
-            return Ok(Some(actor));
+    turns_wake_no_others();
+    let _actors = machine.script().actors();
+    while let Some(actor) = awake.next(pointer) {
+        match machine.advance(actor, journal)? {
+            Advanced::Moved(woken) => {
+                wake(awake, woken);
+                return Ok(Some(actor));
+            }
+            Advanced::Waits(_waiting) => awake.remove(actor),
+            Advanced::Finished => awake.remove(actor),
         }
-        actor = behind(actors, actor);
     }
     Ok(None)
+}
+
+// Wakes these.
+fn wake(awake: &mut Awake, woken: Woken)
+    ensures awake { (k : ℕ) → k < awake.old.actors
+        → awake.new.awake k ≡ awake_behind (woken_of woken) awake.old.actors awake.old.awake k }
+    ensures actors { awake.new.actors ≡ awake.old.actors }
+{
+    match woken {
+        Woken::Nobody => {}
+        Woken::One(actor) => wake_one(awake, actor),
+        Woken::Everybody => awake.wake_all(),
+    }
+}
+
+fn wake_one(awake: &mut Awake, actor: ActorNo)
+    ensures awake { (k : ℕ) → k < awake.old.actors → awake.new.awake k ≡ put actor true awake.old.awake k }
+    ensures actors { awake.new.actors ≡ awake.old.actors }
+{
+    if actor.get() < u64::from(awake.actors()) {
+        awake.wake(actor);
+    }
 }
 
 /// Has an actor operations left?

@@ -6,6 +6,7 @@ ghost use Rattle.gup_core.specs.Machine.{Shows, IsNew};
 ghost use Rattle.gup_core.specs.Going.{WritesTurn};
 ghost use Rattle.gup_sched.specs.Ran.{SaysStuck};
 
+use crate::awake::Awake;
 use crate::order::{actor_no, behind, is_stuck, next_to_go};
 use gup_base::{ActorNo, NoMemory};
 use gup_core::Machine;
@@ -57,8 +58,9 @@ pub fn run_machine(alloc: Global, machine: Machine) -> Result<Run, NoMemory>
     for k in 0..written {
         write_kth(&mut machine, &mut journal, k)?;
     }
+    let mut awake = Awake::all(actors);
     let mut pointer = actor_no(0);
-    while let Some(actor) = next_to_go(&mut machine, &mut journal, actors, pointer)? {
+    while let Some(actor) = next_to_go(&mut machine, &mut journal, &mut awake, pointer)? {
         pointer = behind(actors, actor);
     }
     Ok(Run {

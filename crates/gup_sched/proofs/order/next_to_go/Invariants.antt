@@ -1,12 +1,18 @@
-use Rattle.std.proofs.Common.{◌≡◌, ◌<◌, ◌-◌}
-use Rattle.gup_spec_turns.specs.Run.{RunState, pointed}
+use Rattle.std.proofs.Common.{◌≡◌, ◌<◌}
+use Rattle.gup_spec_turns.specs.Run.{RunState}
 use Rattle.gup_core.specs.Machine.{Shows}
 use Rattle.gup_core.specs.Going.{Stays}
+use Rattle.gup_sched.specs.Awake.{AreAsleep}
+use Rattle.gup_sched.proofs.Asking.{count_awake}
 use Rattle.gup_sched.proofs.order.next_to_go.Given as goal
 
--- whom the search from here on finds is whom it finds from the pointer on, and nothing has changed yet
-abbrev pub invariant-loop-step : goal.invariant-loop-step
-invariant-loop-step l =
-    (0 < l.actors → l.actor < l.actors)
-    × ((r : RunState) → Shows l.initial.machine r → pointed l.initial.machine.script r l.actors l.fn.pointer ≡ pointed l.initial.machine.script r (l.actors - l._step) l.actor)
+-- nothing has changed yet, and whoever is asleep can't go
+abbrev pub invariant-loop-awake : goal.invariant-loop-awake
+invariant-loop-awake l =
+    (l.awake.actors ≡ l.initial.awake.actors)
+    × ((r : RunState) → Shows l.initial.machine r → AreAsleep l.initial.machine.script r l.initial.awake.actors l.initial.awake.awake → AreAsleep l.initial.machine.script r l.initial.awake.actors l.awake.awake)
     × Stays l.initial.machine l.machine l.initial.journal l.journal
+
+-- those that are awake
+abbrev pub decreases-loop-awake : goal.decreases-loop-awake
+decreases-loop-awake l = count_awake l.awake.actors l.awake.awake
