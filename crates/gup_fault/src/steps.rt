@@ -146,10 +146,9 @@ pub(crate) fn break_entry(
         (λ a p. breaks a p page entry writable (free_frame (frames_of frames.old) allowed)) }
     ensures entry { OnOk result (IsExclusiveEntry (frames_of frames.new) writable ((space_of space.new).entry page)) }
 {
-    let Some(copy) = frames.take(allowed) else {
+    let Some(copy) = frames.take_copy(allowed, entry.frame) else {
         return Err(NoFrame);
     };
-    frames.copy(entry.frame, copy);
     frames.set_mark(copy, true);
     let copied = Entry {
         frame: copy,

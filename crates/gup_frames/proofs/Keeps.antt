@@ -6,7 +6,7 @@ use Rattle.std.proofs.lemmas.Bool.{cases_eq, cases_lt}
 use Rattle.std.proofs.lemmas.Bool.Decides.{nat_tests}
 use Rattle.gup_plain.specs.Put.{put, lowest}
 use Rattle.gup_frames.specs.Bits.{has}
-use Rattle.gup_frames.specs.Frames.{FrameLists, FramesValue, frames_of, free_in, free_from, word_in, without_references}
+use Rattle.gup_frames.specs.Frames.{FrameLists, FramesValue, frames_of, free_in, free_from, word_in, claimed, taken, copied, without_references}
 use Rattle.gup_frames.specs.Kept.{IsKept}
 use Rattle.gup_frames.proofs.Bits.{lowest_same}
 use Rattle.gup_frames.proofs.Free.{free_in-all, free_in-le, free_of-freed}
@@ -84,6 +84,16 @@ read_set {X} xs i x d inside = fun_ext (λ j. at j)
         (λ (e : j ≡ i). let test : eqb j i ≡ true = grind (arith, nat_tests) in rw test (rw e (get_or-set_same xs i x d inside)))
         (λ (ne : j ≢ i). let test : eqb j i ≡ false = grind (arith, nat_tests) in rw test (get_or-set_other xs i j x d ne))
         (cases_eq j i)
+
+-- a frame gets the words of one that is another, as it is taken
+pub taken_copied : (F : FramesValue) (words : ℕ → ℕ → ℕ) (from f : ℕ) → (from ≡ f → ⊥) → words ≡ put f (F.word from) F.word → claimed f (record F { word = words }) ≡ copied from f (taken f F)
+taken_copied F words from f apart is = ap made (is ∙ fun_ext (λ g. at g))
+  where
+    made : (ℕ → ℕ → ℕ) → FramesValue
+    made w = record F { count = put f 1 F.count; mark = put f false F.mark; word = w }
+
+    at : (g : ℕ) → put f (F.word from) F.word g ≡ put f (put f (λ _. 0) F.word from) (put f (λ _. 0) F.word) g
+    at g = grind (arith, nat_tests)
 
 -- ---- all frames are free
 

@@ -39,6 +39,10 @@ free_frame s Any = free_from s 0 (frames_in s)
 free_frame s (Only Movable) = free_from s 0 s.movable
 free_frame s (Only Normal) = free_from s s.movable s.normal
 
+-- a free frame gets its first reference, and no mark
+abbrev pub claimed : ℕ → FramesValue → FramesValue
+claimed f s = record s { count = put f 1 s.count; mark = put f false s.mark }
+
 -- a free frame is taken: it gets its first reference, and nothing stays of what it was
 abbrev pub taken : ℕ → FramesValue → FramesValue
 taken f s =

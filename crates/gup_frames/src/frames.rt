@@ -1,6 +1,6 @@
 //! The frames of the machine.
 ghost use Rattle.std.specs.Prelude.{◌≡◌, ℕ, ◌+◌, ◌-◌, ◌<◌, ◌≤◌, ◌^◌, ◌⊎◌, true, if◌then◌else◌, IfOk, IfSome, MatchOption};
-ghost use Rattle.gup_frames.specs.Frames.{frames_of, no_references, IsFrame, zone_of, free_frame, free_of, taken, with_references, without_references, with_mark, with_word, copied};
+ghost use Rattle.gup_frames.specs.Frames.{frames_of, no_references, IsFrame, zone_of, free_frame, free_of, claimed, taken, with_references, without_references, with_mark, with_word, copied};
 
 use crate::bitmap::Bitmap;
 use crate::words;
@@ -190,16 +190,44 @@ impl Frames {
         let Some(place) = self.lowest_free(allowed) else {
             return None;
         };
-        let frame = FrameNo::new(place as u64).unwrap();
-        let movable = place < self.movable as usize;
         let none = self.counts[place];
         words::clear(&mut self.words, place, none);
+        Some(self.claim(place))
+    }
+
+    /// Takes the lowest free frame of the zones allowed, as [`Frames::take`] does, and gives it the words of frame `from`,
+    /// which isn't free. `None` exactly where none of them is free, and nothing changes then.
+    pub fn take_copy(&mut self, allowed: Allowed, from: FrameNo) -> Option<FrameNo>
+        requires there { IsFrame (frames_of self.old) from }
+        requires held { (frames_of self.old).count from ≡ 0 → ⊥ }
+        ensures frame { result ≡ free_frame (frames_of self.old) allowed }
+        ensures taken { MatchOption result (frames_of self.new ≡ frames_of self.old)
+            (λ f. frames_of self.new ≡ copied from f (taken f (frames_of self.old))) }
+        ensures there { IfSome result (IsFrame (frames_of self.old)) }
+        ensures free { IfSome result (λ f. (frames_of self.old).count f ≡ 0) }
+    {
+        let Some(place) = self.lowest_free(allowed) else {
+            return None;
+        };
+        words::copy(&mut self.words, from.get() as usize, place);
+        Some(self.claim(place))
+    }
+
+    // Gives the frame at this place, which is free, its first reference, and no mark.
+    #[inline]
+    fn claim(&mut self, place: usize) -> FrameNo
+        requires there { IsFrame (frames_of self.old) place }
+        requires free { (frames_of self.old).count place ≡ 0 }
+        ensures frame { result ≡ place }
+        ensures claimed { frames_of self.new ≡ claimed place (frames_of self.old) }
+    {
+        let movable = place < self.movable as usize;
         self.counts[place] = 1;
         self.marks[place] = false;
         self.free.remove(place);
         self.free_movable -= one_if(movable);
         self.free_normal -= one_if(!movable);
-        Some(frame)
+        FrameNo::new(place as u64).unwrap()
     }
 
     /// Gives the frame, which isn't free, a reference more (`by` 1), or a pin's (`by` 1,024): Linux's `folio_ref_add`

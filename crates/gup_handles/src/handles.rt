@@ -57,7 +57,7 @@ impl Handles {
     pub fn new(alloc: Global) -> Result<Handles, NoMemory>
         ensures { IfOk result (λ handles. handles_of handles ≡ (λ _. unmade)) }
     {
-        let mut handles = Vec::new(alloc);
+        let mut handles = Vec::with_capacity(alloc, usize::from(HANDLES))?;
         for _h in 0..HANDLES {
             handles.push(Handle::unmade())?;
         }

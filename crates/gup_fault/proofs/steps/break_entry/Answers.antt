@@ -1,6 +1,6 @@
 use Rattle.std.proofs.Common.{◌≡◌, Some, true, ap, sym, refl, ◌∙◌}
 use Rattle.gup_plain.specs.declared.answer.Answer.TheVariants as answers
-use Rattle.gup_frames.specs.Frames.{FramesValue, frames_of, free_frame, with_mark, copied, without_references}
+use Rattle.gup_frames.specs.Frames.{FramesValue, frames_of, free_frame, with_mark, without_references}
 use Rattle.gup_space.specs.Space.{space_of}
 use Rattle.gup_spec_events.specs.Fault.{breaks}
 use Rattle.gup_fault.proofs.Puts.{free_is_free, free_is_other}
@@ -20,7 +20,7 @@ put-requires-clause-held c =
     let free : free_frame F c.args.allowed ≡ Some f = sym c.in-Some.ensures.frame in
     let held = c.requires.counted.counted c.args.entry c.requires.entry in
     still_held F _ c.args.entry.frame f held (free_is_free F c.args.allowed f free)
-    (c.set_mark.ensures ∙ ap (λ (x : FramesValue). with_mark f true x) (c.copy.ensures ∙ ap (λ (x : FramesValue). copied c.args.entry.frame f x) c.in-Some.ensures.taken))
+    (c.set_mark.ensures ∙ ap (λ (x : FramesValue). with_mark f true x) c.in-Some.ensures.taken)
 
 pub returns-clause-fault : goal.returns-clause-fault
 returns-clause-fault c =
@@ -31,7 +31,7 @@ returns-clause-fault c =
     let free : free_frame F c.args.allowed ≡ Some f = sym c.in-Some.ensures.frame in
     let held = c.requires.counted.counted c.args.entry c.requires.entry in
     let frames : frames_of c.put.new.self ≡ broken_frames old f F =
-    c.put.ensures ∙ ap (λ (x : FramesValue). without_references old 1 x) (c.set_mark.ensures ∙ ap (λ (x : FramesValue). with_mark f true x) (c.copy.ensures ∙ ap (λ (x : FramesValue). copied old f x) c.in-Some.ensures.taken)) in
+    c.put.ensures ∙ ap (λ (x : FramesValue). without_references old 1 x) (c.set_mark.ensures ∙ ap (λ (x : FramesValue). with_mark f true x) c.in-Some.ensures.taken) in
     changes_alike F (broken_frames old f F) _ S _ _ _ _ frames c.set_entry.ensures
     (broken F S c.args.page f c.args.entry c.args.writable (free_frame F c.args.allowed) free (free_is_free F c.args.allowed f free) c.requires.entry held)
 
@@ -43,6 +43,6 @@ returns-clause-entry c =
     let free : free_frame F c.args.allowed ≡ Some f = sym c.in-Some.ensures.frame in
     let held = c.requires.counted.counted c.args.entry c.requires.entry in
     let frames : frames_of c.put.new.self ≡ broken_frames old f F =
-    c.put.ensures ∙ ap (λ (x : FramesValue). without_references old 1 x) (c.set_mark.ensures ∙ ap (λ (x : FramesValue). with_mark f true x) (c.copy.ensures ∙ ap (λ (x : FramesValue). copied old f x) c.in-Some.ensures.taken)) in
+    c.put.ensures ∙ ap (λ (x : FramesValue). without_references old 1 x) (c.set_mark.ensures ∙ ap (λ (x : FramesValue). with_mark f true x) c.in-Some.ensures.taken) in
     exclusive (frames_of c.put.new.self) (space_of c.args.space.now) (space_of c.set_entry.new.self) c.args.page f c.args.writable c.set_entry.ensures
     (broken_mark F _ old f frames (λ same. free_is_other F c.args.allowed f old free held (sym same)))
