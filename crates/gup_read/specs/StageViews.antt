@@ -14,9 +14,9 @@ stage_value BeforeHead = before_head
 stage_value BeforeFrames = before_frames
 stage_value (Open st) = open_at st
 
-abbrev pub LeadsTo : Result Stage Reason → Result CodeStage Trouble → Type 0
-LeadsTo found (Ok stage) = found ≡ Ok (stage_value stage)
-LeadsTo found (Err e) = IsTrouble found e
+abbrev pub LeadsTo : Result Stage Reason → (next : CodeStage) → Result Unit Trouble → Type 0
+LeadsTo found next (Ok done) = found ≡ Ok (stage_value next)
+LeadsTo found next (Err e) = IsTrouble found e
 
 -- the first line of a text and what stands after its line feed, or none where there is no line feed
 abbrev pub IsCut : List ℕ → Option (Bor (List ℕ) × Bor (List ℕ)) → Type 0

@@ -11,7 +11,7 @@ use gup_read_outline::Reader;
 use gup_read_words::{count, is_name, number};
 use gup_script::{Kind, Op};
 use gup_spec_grammar::Reason;
-use std::alloc::AllocError;
+use std::alloc::{AllocError, Global};
 
 const MAX_PROCESSES: usize = 16;
 
@@ -122,7 +122,7 @@ fn seed_line(reader: &mut Reader, fields: &[&str]) -> Result<(), Trouble>
 
 /// A line after the `frames` line, by its words.
 #[tactic(auto, unfolding(crate::specs::Reading::next_in))]
-pub fn next_line(reader: &mut Reader, words: &[&str]) -> Result<(), Trouble>
+pub fn next_line(alloc: Global, reader: &mut Reader, words: &[&str]) -> Result<(), Trouble>
     ensures { Makes (next_in reader.old (map (λ word. word.now) words.now)) reader.new result }
 {
     let [word, fields @ ..] = words else {
@@ -136,7 +136,7 @@ pub fn next_line(reader: &mut Reader, words: &[&str]) -> Result<(), Trouble>
         "device" => device_line(reader, fields),
         "mover" => mover_line(reader, fields),
         "seed" => seed_line(reader, fields),
-        "turns" => turns_line(reader, fields),
+        "turns" => turns_line(alloc, reader, fields),
         "random" => random_line(reader, fields),
         _ => Err(Trouble::Fault(Reason::Word)),
     }

@@ -53,8 +53,8 @@ fn lines(alloc: Global, text: &[u8]) -> Result<Reader, ReadRefusal>
     let mut stage = Stage::BeforeHead;
     let mut rest = text;
     while let Some((line, behind)) = cut_line(rest) {
-        match stage.after(alloc, line) {
-            Ok(next) => stage = next,
+        match stage.take_line(alloc, line) {
+            Ok(()) => {}
             Err(trouble) => return Err(trouble.at(number)),
         }
         number += 1;

@@ -68,38 +68,37 @@ fn frames(words: &[&str]) -> Result<(u32, u32, u32), Reason>
 impl Stage {
     ghost use Rattle.gup_read.specs.StageViews.{stage_value, LeadsTo};
 
-    /// The stage after a line with these words.
+    /// Goes on by a line with these words.
     #[tactic(auto, unfolding(crate::specs::Reading::words_in))]
-    fn after_words(self, alloc: Global, words: &[&str]) -> Result<Stage, Trouble>
-        ensures { LeadsTo (words_in (stage_value self) (map (λ word. word.now) words.now)) result }
+    fn take_words(&mut self, alloc: Global, words: &[&str]) -> Result<(), Trouble>
+        ensures { LeadsTo (words_in (stage_value self.old) (map (λ word. word.now) words.now)) self.new result }
     {
         match self {
             Stage::BeforeHead => {
                 check(is_head(words), Reason::Head)?;
-                Ok(Stage::BeforeFrames)
+                *self = Stage::BeforeFrames;
+                Ok(())
             }
             Stage::BeforeFrames => {
                 let counts = frames(words)?;
-                Ok(Stage::Open(Reader::new(alloc, counts)))
+                *self = Stage::Open(Reader::new(alloc, counts));
+                Ok(())
             }
-            Stage::Open(mut reader) => {
-                next_line(&mut reader, words)?;
-                Ok(Stage::Open(reader))
-            }
+            Stage::Open(reader) => next_line(alloc, reader, words),
         }
     }
 
-    /// The stage after this line, which a line feed ends.
+    /// Goes on by this line, which a line feed ends.
     #[tactic(auto, unfolding(crate::specs::Reading::line_in, crate::specs::Reading::said_in))]
-    pub fn after(self, alloc: Global, line: &[u8]) -> Result<Stage, Trouble>
-        ensures { LeadsTo (line_in (stage_value self) line.now) result }
+    pub fn take_line(&mut self, alloc: Global, line: &[u8]) -> Result<(), Trouble>
+        ensures { LeadsTo (line_in (stage_value self.old) line.now) self.new result }
     {
         let text = line_text(line).ok_or(Reason::Byte)?;
         if is_passed(line) {
-            return Ok(self);
+            return Ok(());
         }
         let words = words(alloc, text)?;
         check(are_spaced(words.as_slice()), Reason::Space)?;
-        self.after_words(alloc, words.as_slice())
+        self.take_words(alloc, words.as_slice())
     }
 }

@@ -13,8 +13,9 @@ const INCREMENT: u64 = 1_442_695_040_888_963_407;
 pub fn push_times(turns: &mut Vec<ActorNo>, actor: ActorNo, times: u32) -> Result<(), AllocError>
     ensures { OnOk result (turns.new.items ≡ turns.old.items ++ replicate times actor) }
 {
+    turns.reserve(times as usize)?;
     for _ in 0..times {
-        turns.push(actor)?;
+        turns.push_reserved(actor);
     }
     Ok(())
 }
@@ -46,11 +47,12 @@ pub fn push_drawn(
     requires few { below ≤ 81 }
     ensures { OnOk result (turns.new.items ≡ turns.old.items ++ draws count below start) }
 {
+    turns.reserve(count as usize)?;
     let mut x = start;
     for _ in 0..count {
         x = next_state(x);
         let actor = ActorNo::new(drawn(below, x)).unwrap();
-        turns.push(actor)?;
+        turns.push_reserved(actor);
     }
     Ok(())
 }

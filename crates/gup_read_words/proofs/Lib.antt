@@ -5,3 +5,4 @@ pub mod SpelledNumbers
 pub mod SpelledPlaces
 pub mod SpelledTurns
 pub mod Steps
+pub mod WordCuts

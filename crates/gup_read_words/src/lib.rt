@@ -5,5 +5,5 @@ mod text;
 
 pub use text::{
     address, are_spaced, count, index, is_name, is_passed, is_printable, line_text, number, page,
-    range, segment, turn_name, turn_times, word_no, words,
+    range, segment, turn, word_no, words,
 };

@@ -1,8 +1,9 @@
 //! What a line's bytes, its words, and the numbers, places and names that words spell are.
-ghost use Rattle.std.specs.Prelude.{◌≡◌, ◌^◌, ◌≤◌, if◌then◌else◌, Some, None, map, IfOk, IfSome};
+ghost use Rattle.std.specs.Prelude.{◌≡◌, ◌^◌, ◌≤◌, if◌then◌else◌, Some, None, map, option_map, IfOk, IfSome};
 ghost use Rattle.std.specs.List.{list_all};
 ghost use Rattle.std.specs.Option.{option_copied};
 ghost use Rattle.gup_spec_grammar.specs.Spelling.{parts};
+ghost use Rattle.gup_read_words.specs.WordCut.{IsWordCut};
 ghost use Rattle.gup_read_words.specs.Text.{is_printable, is_passed, are_spaced, is_padded, number_in, count_in, index_in, page_in, word_no_in, page_and_word_in, address_in, range_in, index_and_count_in, segment_in, turn_name, turn_times, is_name, is_name_byte};
 
 use gup_base::{PageNo, WordNo};
@@ -48,12 +49,26 @@ pub fn is_passed(line: &[u8]) -> bool
     }
 }
 
+/// What stands before the first space, and what stands after it; `None` where there is no space.
+#[inline(always)]
+fn cut_word(line: &str) -> Option<(&str, &str)>
+    ensures { IsWordCut line.now result }
+{
+    let at = line.as_bytes().iter().position(|&b| b == b' ')?;
+    Some((&line[..at], &line[at + 1..]))
+}
+
 /// The parts of the line between its spaces.
 pub fn words(alloc: Global, line: &str) -> Result<Vec<&str>, AllocError>
     ensures { IfOk result (λ words. map (λ word. word.now) words.items ≡ parts 32 line.now) }
 {
     let mut words = Vec::with_capacity(alloc, USUAL_WORDS)?;
-    words.extend(line.split(' '))?;
+    let mut rest = line;
+    while let Some((word, behind)) = cut_word(rest) {
+        words.push(word)?;
+        rest = behind;
+    }
+    words.push(rest)?;
     Ok(words)
 }
 
@@ -184,25 +199,24 @@ pub fn segment(text: &str) -> Option<(u32, u8)>
     }
 }
 
-/// The name in a written turn's word: what stands before the first `*`, or the whole word.
-pub fn turn_name(word: &str) -> &str
-    ensures { result.now ≡ turn_name word.now }
-{
-    let Some((name, _)) = word.split_once('*') else {
-        return word;
-    };
-    name
-}
-
-/// How often a written turn's word says that its actor has a turn: the number after the first `*`, from 1 to
-/// 1,000,000, and once where there is no `*`.
-pub fn turn_times(word: &str) -> Option<u32>
-    ensures { result ≡ turn_times word.now }
+/// A written turn's word: the name before its first `*`, and how often it says that its actor has a turn. That is the
+/// number after the `*`, and once where there is none; `None` where the number isn't one from 1 to 1,000,000.
+pub fn turn(word: &str) -> Option<(&str, u32)>
+    ensures times { option_map (λ turn. turn.1) result ≡ turn_times word.now }
+    ensures name { IfSome result (λ turn. turn.0.now ≡ turn_name word.now) }
 {
     match word.split_once('*') {
-        None => Some(1),
-        Some((_, times)) => times_count(times),
+        None => Some((word, 1)),
+        Some((name, times)) => repeated(name, times),
     }
+}
+
+fn repeated<'a>(name: &'a str, times: &str) -> Option<(&'a str, u32)>
+    ensures times { option_map (λ turn. turn.1) result ≡ count_in 1 1000000 times.now }
+    ensures name { IfSome result (λ turn. turn.0.now ≡ name.now) }
+{
+    let n = times_count(times)?;
+    Some((name, n))
 }
 
 fn times_count(word: &str) -> Option<u32>

@@ -1,7 +1,7 @@
 use gup_base::{PageNo, WordNo};
 use gup_read_words::{
     address, are_spaced, count, index, is_name, is_passed, is_printable, line_text, number, page,
-    range, segment, turn_name, turn_times, word_no, words,
+    range, segment, turn, word_no, words,
 };
 use std::process::Abort;
 use std::test::*;
@@ -141,23 +141,19 @@ fn segments(rt: HostRuntime) {
 
 #[test]
 fn turns(rt: HostRuntime) {
-    for (word, name, times) in [
-        ("a", "a", Some(1)),
-        ("a*1", "a", Some(1)),
-        ("a*0", "a", None),
-        ("a*1000000", "a", Some(1_000_000)),
-        ("a*1000001", "a", None),
-        ("a*02", "a", None),
-        ("a*b*2", "a", None),
-        ("a*", "a", None),
-        ("*2", "", Some(2)),
-        ("", "", Some(1)),
+    for (word, expected) in [
+        ("a", Some(("a", 1))),
+        ("a*1", Some(("a", 1))),
+        ("a*0", None),
+        ("a*1000000", Some(("a", 1_000_000))),
+        ("a*1000001", None),
+        ("a*02", None),
+        ("a*b*2", None),
+        ("a*", None),
+        ("*2", Some(("", 2))),
+        ("", Some(("", 1))),
     ] {
-        assert_eq!(rt;
-            (turn_name(word), turn_times(word)),
-            (name, times),
-            "{word}"
-        );
+        assert_eq!(rt; turn(word), expected, "{word}");
     }
 }
 

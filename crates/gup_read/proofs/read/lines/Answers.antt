@@ -18,4 +18,4 @@ returns-in-Err c =
 pub loop-line-preserved : goal.loop-line-preserved
 loop-line-preserved c =
     let cut = c.in-Some.ensures in
-    one_line c.args.text.now c.loop-line.number (stage_value c.loop-line.stage) (stage_value c.in-Ok.next) c.in-Some.line.now c.loop-line.rest.now c.in-Some.behind.now c.loop-line.invariant cut.0 cut.1 c.in-Ok.ensures
+    one_line c.args.text.now c.loop-line.number (stage_value c.loop-line.stage) (stage_value c.take_line.new.self) c.in-Some.line.now c.loop-line.rest.now c.in-Some.behind.now c.loop-line.invariant cut.0 cut.1 c.in-Ok.ensures

@@ -1,6 +1,7 @@
-use Rattle.std.proofs.Common.{map, drop}
-use Rattle.gup_read.proofs.Turners.{AreLeft}
+use Rattle.std.proofs.Common.{◌≡◌, drop}
+use Rattle.gup_spec_grammar.specs.Outline.{with_turns}
+use Rattle.gup_read.specs.Runs.{spread}
 use Rattle.gup_read.proofs.turns.add_all.Given as goal
 
-abbrev pub invariant-loop-word : goal.invariant-loop-word
-invariant-loop-word l = AreLeft l.fn.reader (map (λ word. word.now) l.words) (map (λ word. word.now) (drop l.word-index l.words)) l.reader
+abbrev pub invariant-loop-run : goal.invariant-loop-run
+invariant-loop-run l = with_turns (spread (drop l.run-index l.runs)) l.reader ≡ with_turns (spread l.runs) l.fn.reader

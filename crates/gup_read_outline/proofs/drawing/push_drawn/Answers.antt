@@ -11,7 +11,10 @@ loop-preserved c =
     let state : c.next_state-x.result ≡ next = c.next_state-x.ensures in
     let value = rw c.unwrap-actor.ensures at c.new.ensures.value in
     let actor : c.unwrap-actor.result ≡ drawn c.args.below next = value ∙ c.drawn.ensures.number ∙ ap (drawn c.args.below) state in
-    rw (c.in_ok-push.ensures.items, state, actor)
-    (append_assoc c.loop.turns.items (drawn c.args.below next ∷ []) (draws left c.args.below next)
-    ∙ ap (λ (turns : List ℕ). c.loop.turns.items ++ turns) (sym more)
-    ∙ c.loop.invariant)
+    record {
+      done = rw (c.push_reserved.ensures.items, state, actor)
+          (append_assoc c.loop.turns.items (drawn c.args.below next ∷ []) (draws left c.args.below next)
+          ∙ ap (λ (turns : List ℕ). c.loop.turns.items ++ turns) (sym more)
+          ∙ c.loop.invariant.done);
+      room = omega arith;
+    }
