@@ -2,7 +2,7 @@ use Rattle.std.proofs.Common.{◌≡◌, ℕ, Bool, true, false, Option, None, S
 use Rattle.std.specs.Option.{option_or}
 use Rattle.gup_plain.specs.declared.note.Waiting.{Waiting}
 use Rattle.gup_spec_turns.specs.Waits.{Locks, locks_needed, first_waiting, held_by_other, waits_for_lock, waits_for_locks}
-use Rattle.gup_op_waits.specs.Locks.{waiting_if}
+use Rattle.gup_op_waits.specs.Locks.{locks_of, waiting_if}
 use Rattle.gup_op_waits.proofs.locks.waits_for_holders.Goals as goal
 
 -- an actor waits for a lock if it needs it and another holds it
@@ -51,5 +51,16 @@ returns c s far spaces place at =
     let a = c.args.actor in
     let p = c.args.proc in
     let shown = spaces p c.space_at-space.result.now c.space_at-space.ensures in
-    let needed = c.locks_needed-locks.ensures s a p far spaces place at in
-    ?
+    let needed = c.locks_needed-locks.ensures s a far spaces place at in
+    let locks : Locks = locks_of c.locks_needed-locks.result in
+    let structure = c.held_by_other-structure.result in
+    let table = c.held_by_other-table.result in
+    c.or.ensures
+    ∙ ap (λ (w : Option Waiting). option_or w c.if_needed-2.result) c.if_needed.ensures
+    ∙ ap (λ (w : Option Waiting). option_or (waiting_if locks.structure structure) w) c.if_needed-2.ensures
+    ∙ ap (λ (w : Option Waiting). option_or (waiting_if locks.structure w) (waiting_if locks.table table)) c.held_by_other-structure.ensures
+    ∙ ap (λ (w : Option Waiting). option_or (waiting_if locks.structure (held_by_other a c.structure.result)) (waiting_if locks.table w)) c.held_by_other-table.ensures
+    ∙ sym (locks_by locks a c.structure.result c.table.result)
+    ∙ ap (λ (l : Locks). waits_for_locks l a c.structure.result c.table.result) needed
+    ∙ ap (λ o. waits_for_locks (locks_needed s a p c.args.op.now) a o c.table.result) (c.structure.ensures ∙ sym shown.structure)
+    ∙ ap (λ o. waits_for_locks (locks_needed s a p c.args.op.now) a (s.structure p) o) (c.table.ensures ∙ sym shown.table)
