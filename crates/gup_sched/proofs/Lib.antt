@@ -1,2 +1,5 @@
 pub mod Underway
 pub mod NextActors
+pub mod AwakeBits
+pub mod AwakeSearches
+pub mod AwakeTurns

@@ -1,6 +1,7 @@
 //! The schedule of a run: whose turn is next, to the end.
 #![tactic(auto)]
 
+mod awake;
 mod order;
 mod run;
 
