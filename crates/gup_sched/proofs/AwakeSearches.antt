@@ -5,7 +5,7 @@ use Rattle.std.proofs.lemmas.Bool.Decides.{nat_tests}
 use Rattle.gup_script.specs.Script.{ScriptValue}
 use Rattle.gup_spec_journal.specs.Order.{behind}
 use Rattle.gup_spec_turns.specs.Run.{RunState, can_go, pointed}
-use Rattle.gup_sched.specs.Awake.{awake_from}
+use Rattle.gup_sched.specs.Awake.{AreAsleep, awake_from}
 
 -- the next number, in a circle
 
@@ -50,10 +50,6 @@ search_none awake n zero a there none = refl
 search_none awake n (suc steps) a there none = rw (none a there) (search_none awake n steps (behind n a) (behind_below n a there) none)
 
 -- Where whoever is asleep can't go, the search of the pointer passes it.
-
--- of so many actors those that are not awake can't go
-abbrev pub AreAsleep : ScriptValue → RunState → (n : ℕ) → (ℕ → Bool) → Type 0
-AreAsleep script r n awake = (k : ℕ) → k < n → awake k ≡ false → can_go script r k ≡ false
 
 -- the first awake one is the pointer's, if it can go
 pub awake_pointed : (script : ScriptValue) (r : RunState) (awake : ℕ → Bool) → AreAsleep script r (length script.actors) awake → (steps a x : ℕ) → a < length script.actors → awake_from awake (length script.actors) steps a ≡ Some x → can_go script r x ≡ true → pointed script r steps a ≡ Some x

@@ -1,19 +1,12 @@
 -- Who is asleep after a turn.
-use Rattle.std.proofs.Common.{◌≡◌, ℕ, ◌<◌, ◌==◌, Bool, true, false, if◌then◌else◌, nat_lt, List, refl, sym, ap, ◌∙◌, subst, arith}
+use Rattle.std.proofs.Common.{◌≡◌, ℕ, ◌<◌, ◌==◌, Bool, true, false, if◌then◌else◌, List, refl, sym, ap, ◌∙◌, subst, arith}
 use Rattle.std.proofs.lemmas.Bool.Decides.{nat_tests}
-use Rattle.gup_plain.specs.Put.{put}
 use Rattle.gup_script.specs.Script.{ScriptValue}
 use Rattle.gup_script.specs.Valid.{IsScript}
 use Rattle.gup_spec_turns.specs.JobPlace.{place_in}
 use Rattle.gup_spec_turns.specs.Run.{RunState, run_start, run_after, op_in, can_go, turned}
 use Rattle.gup_law_waits.specs.Woken.{Woken, nobody, one, everybody, wakes, MayWake}
-use Rattle.gup_sched.proofs.AwakeSearches.{AreAsleep}
-
--- who is awake after these are woken
-abbrev pub woken_by : Woken → (n : ℕ) → (ℕ → Bool) → ℕ → Bool
-woken_by nobody n awake = awake
-woken_by (one b) n awake = put b true awake
-woken_by everybody n awake = λ k. nat_lt k n
+use Rattle.gup_sched.specs.Awake.{AreAsleep, awake_behind}
 
 -- the law of who wakes, of one state
 abbrev pub WakesNoOthers : ScriptValue → RunState → Type 0
@@ -28,7 +21,7 @@ law_here law script valid actors r reached =
     subst (WakesNoOthers script) reached (λ a b other sleeps is. law script actors a b valid other sleeps is)
 
 -- an awake actor's turn leaves asleep whom it doesn't wake
-pub asleep_on : (script : ScriptValue) (r : RunState) (n a : ℕ) (awake : ℕ → Bool) → WakesNoOthers script r → awake a ≡ true → AreAsleep script r n awake → AreAsleep script (run_after script r a) n (woken_by (wakes (op_in script r a) (place_in (run_after script r a).core a)) n awake)
+pub asleep_on : (script : ScriptValue) (r : RunState) (n a : ℕ) (awake : ℕ → Bool) → WakesNoOthers script r → awake a ≡ true → AreAsleep script r n awake → AreAsleep script (run_after script r a) n (awake_behind (wakes (op_in script r a) (place_in (run_after script r a).core a)) n awake)
 asleep_on script r n a awake law own asleep = go (wakes (op_in script r a) (place_in (run_after script r a).core a)) refl
   where
     woken : Woken
@@ -38,7 +31,7 @@ asleep_on script r n a awake law own asleep = go (wakes (op_in script r a) (plac
     still w is k below sleeps apart =
         law a k (λ same. let both : awake k ≡ true = ap awake (sym same) ∙ own in cc) (λ may. apart (subst (λ (x : Woken). MayWake x k) is may)) (asleep k below sleeps)
 
-    go : (w : Woken) → woken ≡ w → AreAsleep script (run_after script r a) n (woken_by w n awake)
+    go : (w : Woken) → woken ≡ w → AreAsleep script (run_after script r a) n (awake_behind w n awake)
     go nobody is = λ k below sleeps. still nobody is k below sleeps (λ none. none)
     go (one b) is = λ k below sleeps. by_test is k below (k == b) refl sleeps
       where

@@ -35,6 +35,13 @@ impl Awake {
         Awake { actors, bits }
     }
 
+    /// How many actors there are.
+    pub(crate) fn actors(&self) -> u8
+        ensures { result ≡ self.now.actors }
+    {
+        self.actors
+    }
+
     /// Wakes each actor.
     pub(crate) fn wake_all(&mut self)
         ensures actors { self.new.actors ≡ self.old.actors }
