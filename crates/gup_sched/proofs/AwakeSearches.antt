@@ -1,11 +1,11 @@
 -- Whom the search among the awake finds, and whom the pointer gives the turn then.
-use Rattle.std.proofs.Common.{◌≡◌, ◌≢◌, ℕ, ◌+◌, ◌-◌, ◌<◌, ◌≤◌, ◌==◌, Bool, true, false, cond, Option, Some, None, length, refl, sym, ap, ◌∙◌, subst, zero, suc, ⊎_elim, arith}
-use Rattle.std.proofs.lemmas.Bool.{cases_eq, cases_lt}
+use Rattle.std.proofs.Common.{◌≡◌, ◌≢◌, ℕ, ◌+◌, ◌<◌, ◌≤◌, Bool, true, false, cond, Some, None, length, refl, ap, ◌∙◌, zero, suc, ⊎_elim, arith}
+use Rattle.std.proofs.lemmas.Bool.{cases_eq}
 use Rattle.std.proofs.lemmas.Bool.Decides.{nat_tests}
 use Rattle.gup_script.specs.Script.{ScriptValue}
 use Rattle.gup_spec_journal.specs.Order.{behind}
 use Rattle.gup_spec_turns.specs.Run.{RunState, can_go, pointed}
-use Rattle.gup_sched.specs.Awake.{awake_from, AreAsleep}
+use Rattle.gup_sched.specs.Awake.{AreAsleep, awake_from}
 
 -- the next number, in a circle
 
@@ -54,26 +54,25 @@ search_none awake n (suc steps) a there none = rw (none a there) (search_none aw
 -- the first awake one is the pointer's, if it can go
 pub awake_pointed : (script : ScriptValue) (r : RunState) (awake : ℕ → Bool) → AreAsleep script r (length script.actors) awake → (steps a x : ℕ) → a < length script.actors → awake_from awake (length script.actors) steps a ≡ Some x → can_go script r x ≡ true → pointed script r steps a ≡ Some x
 awake_pointed script r awake asleep zero a x there found goes = absurd (cc found)
-awake_pointed script r awake asleep (suc steps) a x there found goes = go (awake a) refl found
+awake_pointed script r awake asleep (suc steps) a x there found goes =
+    go (awake a) refl found (λ now. awake_pointed script r awake asleep steps (behind (length script.actors) a) x (behind_below (length script.actors) a there) now goes)
   where
     n : ℕ
     n = length script.actors
 
-    later : awake_from awake n steps (behind n a) ≡ Some x → pointed script r steps (behind n a) ≡ Some x
-    later now = awake_pointed script r awake asleep steps (behind n a) x (behind_below n a there) now goes
-
-    go : (b : Bool) → awake a ≡ b → cond b (Some a) (awake_from awake n steps (behind n a)) ≡ Some x → cond (can_go script r a) (Some a) (pointed script r steps (behind n a)) ≡ Some x
-    go true is now = let same : a ≡ x = cc now in rw (ap (can_go script r) same ∙ goes) now
-    go false is now = rw (asleep a there is) (later now)
+    go : (b : Bool) → awake a ≡ b → cond b (Some a) (awake_from awake n steps (behind n a)) ≡ Some x → (awake_from awake n steps (behind n a) ≡ Some x → pointed script r steps (behind n a) ≡ Some x) → cond (can_go script r a) (Some a) (pointed script r steps (behind n a)) ≡ Some x
+    go true is now later = let same : a ≡ x = cc now in rw (ap (can_go script r) same ∙ goes) now
+    go false is now later = rw (asleep a there is) (later now)
 
 -- and where none is awake, the pointer gives the turn to none
 pub none_pointed : (script : ScriptValue) (r : RunState) (awake : ℕ → Bool) → AreAsleep script r (length script.actors) awake → (steps a : ℕ) → a < length script.actors → awake_from awake (length script.actors) steps a ≡ None → pointed script r steps a ≡ None
 none_pointed script r awake asleep zero a there found = refl
-none_pointed script r awake asleep (suc steps) a there found = go (awake a) refl found
+none_pointed script r awake asleep (suc steps) a there found =
+    go (awake a) refl found (λ now. none_pointed script r awake asleep steps (behind (length script.actors) a) (behind_below (length script.actors) a there) now)
   where
     n : ℕ
     n = length script.actors
 
-    go : (b : Bool) → awake a ≡ b → cond b (Some a) (awake_from awake n steps (behind n a)) ≡ None → cond (can_go script r a) (Some a) (pointed script r steps (behind n a)) ≡ None
-    go true is now = absurd (cc now)
-    go false is now = rw (asleep a there is) (none_pointed script r awake asleep steps (behind n a) (behind_below n a there) now)
+    go : (b : Bool) → awake a ≡ b → cond b (Some a) (awake_from awake n steps (behind n a)) ≡ None → (awake_from awake n steps (behind n a) ≡ None → pointed script r steps (behind n a) ≡ None) → cond (can_go script r a) (Some a) (pointed script r steps (behind n a)) ≡ None
+    go true is now later = absurd (cc now)
+    go false is now later = rw (asleep a there is) (later now)

@@ -1,6 +1,6 @@
 pub mod Underway
 pub mod NextActors
-pub mod AwakeSearches
 pub mod AwakeBits
+pub mod AwakeSearches
 pub mod AwakeTurns
 pub mod Asking

@@ -5,7 +5,7 @@ ghost use Rattle.gup_spec_turns.specs.Run.{RunState, pointed};
 ghost use Rattle.gup_core.specs.Machine.{Shows};
 ghost use Rattle.gup_core.specs.Waking.{woken_of};
 ghost use Rattle.gup_plain.specs.Put.{put};
-ghost use Rattle.gup_sched.specs.Awake.{AreAsleep, AreAsleepAfter, awake_behind};
+ghost use Rattle.gup_sched.specs.Awake.{is_awake, AreAsleep, AreAsleepAfter, awake_behind};
 ghost use Rattle.gup_sched.specs.Ran.{SaysStuck, FoundTakes};
 
 use crate::awake::Awake;
@@ -49,11 +49,11 @@ pub(crate) fn next_to_go(
     requires all { awake.old.actors ≡ length machine.old.script.actors }
     requires there { 0 < awake.old.actors → pointer < awake.old.actors }
     ensures next { IfOk result (λ found. (r : RunState) → Shows machine.old r
-        → AreAsleep machine.old.script r awake.old.actors awake.old.awake
+        → AreAsleep machine.old.script r awake.old.actors (is_awake awake.old)
         → found ≡ pointed machine.old.script r awake.old.actors pointer) }
     ensures asleep { IfOk result (λ found. (r : RunState) → Shows machine.old r
-        → AreAsleep machine.old.script r awake.old.actors awake.old.awake
-        → AreAsleepAfter machine.old.script r awake.old.actors awake.new.awake found) }
+        → AreAsleep machine.old.script r awake.old.actors (is_awake awake.old)
+        → AreAsleepAfter machine.old.script r awake.old.actors (is_awake awake.new) found) }
     ensures actors { awake.new.actors ≡ awake.old.actors }
     ensures below { IfOk result (λ found. IfSome found (λ actor. actor < awake.old.actors)) }
     ensures turn { IfOk result (FoundTakes machine.old machine.new journal.old journal.new) }
@@ -78,7 +78,7 @@ pub(crate) fn next_to_go(
 // Wakes these.
 fn wake(awake: &mut Awake, woken: Woken)
     ensures awake { (k : ℕ) → k < awake.old.actors
-        → awake.new.awake k ≡ awake_behind (woken_of woken) awake.old.actors awake.old.awake k }
+        → is_awake awake.new k ≡ awake_behind (woken_of woken) awake.old.actors (is_awake awake.old) k }
     ensures actors { awake.new.actors ≡ awake.old.actors }
 {
     match woken {
@@ -89,7 +89,7 @@ fn wake(awake: &mut Awake, woken: Woken)
 }
 
 fn wake_one(awake: &mut Awake, actor: ActorNo)
-    ensures awake { (k : ℕ) → k < awake.old.actors → awake.new.awake k ≡ put actor true awake.old.awake k }
+    ensures awake { (k : ℕ) → k < awake.old.actors → is_awake awake.new k ≡ put actor true (is_awake awake.old) k }
     ensures actors { awake.new.actors ≡ awake.old.actors }
 {
     if actor.get() < u64::from(awake.actors()) {

@@ -2,7 +2,7 @@ use Rattle.std.proofs.Common.{◌≡◌, ◌<◌}
 use Rattle.gup_spec_turns.specs.Run.{RunState}
 use Rattle.gup_core.specs.Machine.{Shows}
 use Rattle.gup_core.specs.Going.{Stays}
-use Rattle.gup_sched.specs.Awake.{AreAsleep}
+use Rattle.gup_sched.specs.Awake.{is_awake, AreAsleep}
 use Rattle.gup_sched.proofs.Asking.{count_awake}
 use Rattle.gup_sched.proofs.order.next_to_go.Given as goal
 
@@ -10,9 +10,9 @@ use Rattle.gup_sched.proofs.order.next_to_go.Given as goal
 abbrev pub invariant-loop-awake : goal.invariant-loop-awake
 invariant-loop-awake l =
     (l.awake.actors ≡ l.initial.awake.actors)
-    × ((r : RunState) → Shows l.initial.machine r → AreAsleep l.initial.machine.script r l.initial.awake.actors l.initial.awake.awake → AreAsleep l.initial.machine.script r l.initial.awake.actors l.awake.awake)
+    × ((r : RunState) → Shows l.initial.machine r → AreAsleep l.initial.machine.script r l.initial.awake.actors (is_awake l.initial.awake) → AreAsleep l.initial.machine.script r l.initial.awake.actors (is_awake l.awake))
     × Stays l.initial.machine l.machine l.initial.journal l.journal
 
 -- those that are awake
 abbrev pub decreases-loop-awake : goal.decreases-loop-awake
-decreases-loop-awake l = count_awake l.awake.actors l.awake.awake
+decreases-loop-awake l = count_awake l.awake.actors (is_awake l.awake)

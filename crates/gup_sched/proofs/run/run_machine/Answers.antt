@@ -7,7 +7,7 @@ use Rattle.gup_spec_journal.specs.Order.{behind}
 use Rattle.gup_spec_turns.specs.Run.{RunState, run_start, run_after, pointed, IsCoreRun}
 use Rattle.gup_core.specs.Machine.{MachineValue, Shows}
 use Rattle.gup_core.specs.Going.{WritesTurn, Stays}
-use Rattle.gup_sched.specs.Awake.{AwakeValue, all_awake, AreAsleep, AreAsleepAfter}
+use Rattle.gup_sched.specs.Awake.{AwakeValue, is_awake, AreAsleep, AreAsleepAfter}
 use Rattle.gup_sched.specs.Ran.{SaysStuck, FoundTakes}
 use Rattle.gup_sched.proofs.Underway.{has_costs, IsWritten, written_first, written_turn, IsPointed, pointed_first, pointed_turn, pointed_end, few_turns, most}
 use Rattle.gup_sched.proofs.run.run_machine.Goals as goal
@@ -44,8 +44,8 @@ all_over items turns k same least most = let lengths = ap (λ (xs : List ℕ). l
 nobody_sleeps : (script : ScriptValue) (r : RunState) (n : ℕ) → AreAsleep script r n (λ k. nat_lt k n)
 nobody_sleeps script r n k below sleeps = absurd (grind (arith, nat_tests))
 
-awake_first : (script : ScriptValue) (r : RunState) (n : ℕ) (awake : AwakeValue) → awake ≡ all_awake n → AreAsleep script r n awake.awake
-awake_first script r n awake is = subst (λ (a : AwakeValue). AreAsleep script r n a.awake) (sym is) (nobody_sleeps script r n)
+awake_first : (script : ScriptValue) (r : RunState) (n : ℕ) (awake : AwakeValue) → is_awake awake ≡ (λ k. nat_lt k n) → AreAsleep script r n (is_awake awake)
+awake_first script r n awake is = subst (λ (f : ℕ → Bool). AreAsleep script r n f) (sym is) (nobody_sleeps script r n)
 
 pub loop-awake-init : goal.loop-awake-init
 loop-awake-init c =
@@ -57,8 +57,8 @@ loop-awake-init c =
     let first = pointed_first script m notes r (subst (λ (k : ℕ). IsWritten script m notes k r) over c.loop-k.invariant.1) in
     let zero = c.actor_no-pointer.ensures in (
       λ some. omega (arith, some, zero),
-      ap (λ a. a.actors) c.all-awake.ensures,
-      (r, subst (λ (k : ℕ). IsPointed script m notes k r) (sym zero) first, awake_first script r c.actors-actors.result c.all-awake.result c.all-awake.ensures),
+      c.all-awake.ensures.actors,
+      (r, subst (λ (k : ℕ). IsPointed script m notes k r) (sym zero) first, awake_first script r c.actors-actors.result c.all-awake.result c.all-awake.ensures.awake),
     )
 
 -- whom the pointer gives the turn
@@ -88,7 +88,7 @@ loop-awake-preserved c =
     let are = c.loop-awake.invariant.1 in
     let r : RunState = c.loop-awake.invariant.2.0 in
     let h = c.loop-awake.invariant.2.1 in
-    let asleep = of_own script c.loop-awake.machine.script r c.loop-awake.awake.actors n c.loop-awake.awake.awake h.underway.same are c.loop-awake.invariant.2.2 in
+    let asleep = of_own script c.loop-awake.machine.script r c.loop-awake.awake.actors n (is_awake c.loop-awake.awake) h.underway.same are c.loop-awake.invariant.2.2 in
     let a = c.in-Some.actor in
     let m = c.next_to_go.new.machine in
     let found = is_pointed script c.loop-awake.machine.script r c.loop-awake.awake.actors n c.loop-awake.pointer c.in_ok-actor.field-0 (Some a) h.underway.same are c.actors-actors.ensures.count (c.in_ok-actor.ensures.next r h.underway.shown asleep) c.in-Some.is in
@@ -103,7 +103,7 @@ loop-awake-preserved c =
       (
         run_after script r a,
         subst (λ (k : ℕ). IsPointed script m c.next_to_go.new.journal.notes k (run_after script r a)) next notes,
-        asleep_then script c.loop-awake.machine.script r c.loop-awake.awake.actors n a c.next_to_go.new.awake.awake c.in_ok-actor.field-0 h.underway.same are c.in-Some.is (c.in_ok-actor.ensures.asleep r h.underway.shown asleep),
+        asleep_then script c.loop-awake.machine.script r c.loop-awake.awake.actors n a (is_awake c.next_to_go.new.awake) c.in_ok-actor.field-0 h.underway.same are c.in-Some.is (c.in_ok-actor.ensures.asleep r h.underway.shown asleep),
       ),
     )
 
@@ -116,7 +116,7 @@ loop-awake-smaller c =
     let are = c.loop-awake.invariant.1 in
     let r : RunState = c.loop-awake.invariant.2.0 in
     let h = c.loop-awake.invariant.2.1 in
-    let asleep = of_own script c.loop-awake.machine.script r c.loop-awake.awake.actors n c.loop-awake.awake.awake h.underway.same are c.loop-awake.invariant.2.2 in
+    let asleep = of_own script c.loop-awake.machine.script r c.loop-awake.awake.actors n (is_awake c.loop-awake.awake) h.underway.same are c.loop-awake.invariant.2.2 in
     let a = c.in-Some.actor in
     let m = c.next_to_go.new.machine in
     let found = is_pointed script c.loop-awake.machine.script r c.loop-awake.awake.actors n c.loop-awake.pointer c.in_ok-actor.field-0 (Some a) h.underway.same are c.actors-actors.ensures.count (c.in_ok-actor.ensures.next r h.underway.shown asleep) c.in-Some.is in
@@ -149,7 +149,7 @@ returns-clause-core c =
     let are = c.loop-awake.invariant.1 in
     let r : RunState = c.loop-awake.invariant.2.0 in
     let h = c.loop-awake.invariant.2.1 in
-    let asleep = of_own script m.script r c.loop-awake.awake.actors n c.loop-awake.awake.awake h.underway.same are c.loop-awake.invariant.2.2 in
+    let asleep = of_own script m.script r c.loop-awake.awake.actors n (is_awake c.loop-awake.awake) h.underway.same are c.loop-awake.invariant.2.2 in
     let costs = has_costs script c.actors-actors.ensures.valid c.turns_are_spent.ensures.spent c.turns_are_spent.ensures.kept c.turns_are_spent.ensures.start c.costs_are_few.ensures c.reached_states_stand.ensures in
     let turns = few_turns script m c.loop-awake.journal.notes c.loop-awake.pointer r costs h in
     let none = is_pointed script m.script r c.loop-awake.awake.actors n c.loop-awake.pointer c.in_ok-actor.field-0 None h.underway.same are c.actors-actors.ensures.count (c.in_ok-actor.ensures.next r h.underway.shown asleep) c.in_default.is in

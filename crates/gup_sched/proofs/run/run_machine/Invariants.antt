@@ -1,6 +1,6 @@
 use Rattle.std.proofs.Common.{◌≡◌, ◌<◌, ◌-◌}
 use Rattle.gup_spec_turns.specs.Run.{RunState}
-use Rattle.gup_sched.specs.Awake.{AreAsleep}
+use Rattle.gup_sched.specs.Awake.{is_awake, AreAsleep}
 use Rattle.gup_sched.proofs.Underway.{IsWritten, IsPointed, most}
 use Rattle.gup_sched.proofs.run.run_machine.Given as goal
 
@@ -12,7 +12,7 @@ invariant-loop-k l = (r : RunState) × IsWritten l.fn.machine.script l.machine l
 abbrev pub invariant-loop-awake : goal.invariant-loop-awake
 invariant-loop-awake l =
     (0 < l.actors → l.pointer < l.actors) × (l.awake.actors ≡ l.actors)
-    × ((r : RunState) × IsPointed l.fn.machine.script l.machine l.journal.notes l.pointer r × AreAsleep l.fn.machine.script r l.actors l.awake.awake)
+    × ((r : RunState) × IsPointed l.fn.machine.script l.machine l.journal.notes l.pointer r × AreAsleep l.fn.machine.script r l.actors (is_awake l.awake))
 
 -- the turns that are left at most
 abbrev pub decreases-loop-awake : goal.decreases-loop-awake
