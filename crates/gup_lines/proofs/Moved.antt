@@ -1,5 +1,5 @@
 -- The words that the actors' operations have moved, from note to note, and what the notes tell with them.
-use Rattle.std.proofs.Common.{◌≡◌, ◌≢◌, ℕ, ◌+◌, ◌<◌, ◌≤◌, eqb, true, false, List, [], ◌∷◌, ◌++◌, length, get_or, set, drop, replicate, refl, sym, ◌∙◌, ap, ⊎_elim, append_assoc, append-nil, arith, Option, None, Some, get_or-set_same, get_or-set_other}
+use Rattle.std.proofs.Common.{◌≡◌, ◌≢◌, ℕ, ◌+◌, ◌<◌, ◌≤◌, eqb, true, false, List, [], ◌∷◌, ◌++◌, length, get_or, set, drop, replicate, refl, sym, ◌∙◌, ap, ⊎_elim, append_assoc, arith, Option, None, Some, get_or-set_same, get_or-set_other}
 use Rattle.std.specs.List.{cons_option, flat_map}
 use Rattle.std.proofs.Math.Path.{fun_ext}
 use Rattle.std.proofs.lemmas.List.{at_drop_more, get_or-replicate, get_or_past, length-replicate}
@@ -7,10 +7,9 @@ use Rattle.std.proofs.lemmas.Bool.{cases_eq, cases_lt}
 use Rattle.std.proofs.lemmas.Bool.Decides.{nat_tests}
 use Rattle.gup_plain.specs.Note.{NoteValue}
 use Rattle.gup_plain.specs.Put.{put}
-use Rattle.gup_script.specs.Script.{ScriptValue}
 use Rattle.gup_lines.specs.declared.outcome.Outcome.{Outcome}
 use Rattle.gup_lines.specs.Moved.{words_of, moved_after}
-use Rattle.gup_lines.specs.Text.{outcome_of, outcomes_from, line_of}
+use Rattle.gup_lines.specs.Text.{outcome_of, outcomes_from}
 
 -- where nobody has moved any
 pub none_moved : (n : ℕ) → words_of (replicate n []) ≡ (λ (actor : ℕ). [])

@@ -1,5 +1,5 @@
 //! The lines of a run.
-ghost use Rattle.std.specs.Prelude.{◌≡◌, ℕ, ◌<◌, List, [], ◌++◌, length, codes, decimal, IsSome, IfOk, OnOk, OnErr};
+ghost use Rattle.std.specs.Prelude.{◌≡◌, ℕ, ◌<◌, List, [], ◌++◌, length, codes, decimal, IsSome, IsTrue, IfOk, OnOk, OnErr};
 ghost use Rattle.std.specs.List.{cons_option, flat_map};
 ghost use Rattle.gup_script.specs.Script.{actor_at, process_at, handle_at};
 ghost use Rattle.gup_plain.specs.Put.{put};
@@ -96,7 +96,7 @@ fn push_word(moved: &mut Moved, actor: ActorNo, word: Option<u64>) -> Result<(),
 }
 
 /// Appends the line of each answer of the script's journal, in order, with the words that its own actor's operation
-/// has moved. Beside the text no more memory is taken than for the words of the operations that are under way. Where
+/// has moved. Beside the text memory is taken only for the words that are kept until their operation's answer. Where
 /// memory is wanted the text is as it was.
 pub fn push_lines(
     alloc: Global,
@@ -170,15 +170,22 @@ fn write_note(
     ensures moved { OnOk result (words_of moved.new ≡ moved_after (words_of moved.old) note.now) }
     ensures err { OnErr result (BeginsWith text.new.items text.old.items) }
 {
-    match note.what() {
-        What::Silent | What::Idle | What::Wait(_) | What::Event(_) => Ok(()),
-        What::Done(answer) => {
-            let words = moved.of(note.actor());
-            write_line(script, note.actor(), note.op(), answer, words, text)?;
-            moved.clear(note.actor());
-            Ok(())
-        }
+    push_head(script, note.actor(), note.op(), text)?;
+    if is_plain(note) {
+        push_text(text, " ok\n")?;
+    } else if let What::Done(answer) = note.what() {
+        push_end(text, answer, moved.of(note.actor()))?;
     }
+    moved.clear(note.actor());
+    Ok(())
+}
+
+// Does the note say `ok` alone? Most answers do.
+#[inline(always)]
+fn is_plain(note: &Note) -> bool
+    ensures { IsTrue result → note.now.what ≡ What.Done Answer.Plain }
+{
+    matches!(note.what(), What::Done(Answer::Plain))
 }
 
 #[inline(always)]
@@ -339,22 +346,10 @@ fn push_head(script: &Script, actor: ActorNo, op: u32, text: &mut Vec<u8>) -> Re
     write_number(text, u64::from(op))
 }
 
-// The answer behind a space, and a line feed. Most answers are the first.
-#[tactic(auto, using(crate::proofs::Fronts::fronts))]
-#[inline(always)]
-fn push_end(text: &mut Vec<u8>, answer: Answer, words: &[u64]) -> Result<(), NoMemory>
-    ensures ok { OnOk result (text.new.items ≡ text.old.items ++ (codes " " ++ (answer_text answer words.now ++ codes "\n"))) }
-    ensures err { OnErr result (BeginsWith text.new.items text.old.items) }
-{
-    match answer {
-        Answer::Plain => push_text(text, " ok\n"),
-        answer => push_rest(text, answer, words),
-    }
-}
-
+// The answer behind a space, and a line feed.
 #[tactic(auto, using(crate::proofs::Fronts::fronts))]
 #[inline(never)]
-fn push_rest(text: &mut Vec<u8>, answer: Answer, words: &[u64]) -> Result<(), NoMemory>
+fn push_end(text: &mut Vec<u8>, answer: Answer, words: &[u64]) -> Result<(), NoMemory>
     ensures ok { OnOk result (text.new.items ≡ text.old.items ++ (codes " " ++ (answer_text answer words.now ++ codes "\n"))) }
     ensures err { OnErr result (BeginsWith text.new.items text.old.items) }
 {

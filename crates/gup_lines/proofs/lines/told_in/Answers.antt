@@ -1,4 +1,4 @@
-use Rattle.std.proofs.Common.{◌≡◌, ℕ, ◌∙◌, List, ◌++◌, ap, sym, append-nil}
+use Rattle.std.proofs.Common.{ℕ, ◌∙◌, List, ◌++◌, ap, sym, append-nil}
 use Rattle.std.proofs.lemmas.List.{at_drop_all}
 use Rattle.gup_lines.specs.declared.outcome.Outcome.{Outcome}
 use Rattle.gup_lines.specs.Moved.{words_of}

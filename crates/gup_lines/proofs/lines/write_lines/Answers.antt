@@ -1,4 +1,4 @@
-use Rattle.std.proofs.Common.{◌≡◌, ℕ, ◌∙◌, List, ◌++◌, ap, sym, append-nil}
+use Rattle.std.proofs.Common.{ℕ, ◌∙◌, List, ◌++◌, ap, sym, append-nil}
 use Rattle.std.specs.List.{flat_map}
 use Rattle.std.proofs.lemmas.List.{at_drop_all}
 use Rattle.gup_plain.specs.Note.{NoteValue}
