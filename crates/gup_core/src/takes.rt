@@ -357,13 +357,13 @@ fn take_fork(
         child,
         place,
     );
-    set_birth(&mut parts.births, child, birth_of(forked));
-    goes_on(forked)
+    set_birth(&mut parts.births, child, birth_of(&forked));
+    goes_on(&forked)
 }
 
 // What the child of a fork is after a turn that comes to this: it grows until the fork ends or fails.
-fn birth_of(forked: Forked) -> Birth
-    ensures { result ≡ birth_by forked }
+fn birth_of(forked: &Forked) -> Birth
+    ensures { result ≡ birth_by forked.now }
 {
     match forked {
         Forked::Goes(_) => Birth::Growing,
@@ -373,12 +373,12 @@ fn birth_of(forked: Forked) -> Birth
 }
 
 // Whether a fork is over after a turn that comes to this, and where it stands then.
-fn goes_on(forked: Forked) -> (bool, JobPlace)
-    ensures over { result.0 ≡ is_over forked }
-    ensures place { result.1 ≡ place_after forked }
+fn goes_on(forked: &Forked) -> (bool, JobPlace)
+    ensures over { result.0 ≡ is_over forked.now }
+    ensures place { result.1 ≡ place_after forked.now }
 {
     match forked {
-        Forked::Goes(place) => (false, place),
+        Forked::Goes(place) => (false, *place),
         Forked::Born | Forked::Failed => (true, JobPlace::Unbegun),
     }
 }
