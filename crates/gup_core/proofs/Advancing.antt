@@ -2,6 +2,7 @@
 use Rattle.std.proofs.Common.{◌≡◌, ℕ, ◌+◌, ◌≤◌, ◌++◌, Bool, true, List, [], ◌∷◌, length, slice_get, Option, Some, None, refl, sym, ap, ◌∙◌, subst, arith}
 use Rattle.std.proofs.lemmas.Bool.Decides.{nat_tests}
 use Rattle.std.proofs.lemmas.Option.{slice_get_past}
+use Rattle.std.proofs.lemmas.List.{length-append, length-map}
 use Rattle.gup_plain.specs.Note.{NoteValue, JournalValue}
 use Rattle.gup_plain.specs.declared.note.Waiting.{Waiting}
 use Rattle.gup_plain.specs.declared.note.What.{What}
@@ -87,7 +88,7 @@ more_by : (was now : JournalValue) (turn actor number : ℕ) (whats : List What)
     → now.notes ≡ was.notes ++ notes_of_turn turn actor number whats → HasMore was now
 more_by was now turn actor number whats few put =
     let many : length now.notes ≡ length was.notes + length whats =
-    ap length put ∙ length-append was.notes (notes_of_turn turn actor number whats) ∙ ap (λ n. length was.notes + n) (length-map (note_of turn actor number) whats) in
+    ap length put ∙ length-append was.notes (notes_of_turn turn actor number whats) ∙ ap (λ n. length was.notes + n) (length-map whats (note_of turn actor number)) in
     (omega (arith, many, few.0), omega (arith, many, few.1))
 
 pub few_more : (was now : JournalValue) (turn actor number : ℕ) (said : Said) → now.notes ≡ was.notes ++ notes_of_turn turn actor number (whats_of said) → HasMore was now

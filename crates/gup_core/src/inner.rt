@@ -8,12 +8,11 @@ ghost use Rattle.gup_core.specs.Rest.{IsAtRest};
 
 use crate::outcome::{Advanced, woken_by};
 use crate::seats::{self, Seat, seat_of, set_seat};
-use crate::takes::take_op;
+use crate::takes::{take_at, waits_at};
 use crate::turns::{next_turn, op_at, ops, process};
 use gup_base::{ActorNo, NoMemory, Zone};
 use gup_op_base::Head;
 use gup_op_waits::parts::{self, Parts};
-use gup_op_waits::waits_for;
 use gup_plain::{Journal, Waiting, What};
 use gup_script::Script;
 use std::alloc::Global;
@@ -84,26 +83,24 @@ impl Inner {
         let Some(op) = op_at(ops(&self.script, actor), seat.answered) else {
             return Advanced::Finished;
         };
-        let proc = process(&self.script, actor);
-        if let Some(waiting) = waits_for(&self.parts, actor, proc, seat.job, op) {
+        if let Some(waiting) = waits_at(
+            &self.parts,
+            actor,
+            process(&self.script, actor),
+            &seat,
+            op,
+        ) {
             return Advanced::Waits(waiting);
         }
+        let proc = process(&self.script, actor);
         let turn = next_turn(self.turns);
         let head = Head {
             turn,
             actor,
             op: seat.answered + 1,
         };
-        let (over, job) = take_op(
-            &mut self.parts,
-            journal,
-            &head,
-            proc,
-            seat.far,
-            seat.job,
-            op,
-        );
-        let woken = woken_by(op, job);
+        let (over, job) = take_at(&mut self.parts, journal, &head, proc, &seat, op);
+        let woken = woken_by(op, &job);
         let next = seats::behind(&seat, op, over, job);
         set_seat(&mut self.seats, actor, &next);
         self.turns = turn;
@@ -160,7 +157,7 @@ impl Inner {
             return None;
         };
         let proc = process(&self.script, actor);
-        waits_for(&self.parts, actor, proc, seat.job, op)
+        waits_at(&self.parts, actor, proc, &seat, op)
     }
 
     pub(crate) fn finished(&self, actor: ActorNo) -> bool

@@ -33,8 +33,8 @@ pub enum Advanced {
 }
 
 /// Whom a turn of the operation may have woken, after which its actor's job stands there.
-pub(crate) fn woken_by(op: &Op, place: JobPlace) -> Woken
-    ensures { woken_of result ≡ wakes (Some op.now) (place_of place) }
+pub(crate) fn woken_by(op: &Op, place: &JobPlace) -> Woken
+    ensures { woken_of result ≡ wakes (Some op.now) (place_of place.now) }
 {
     match op {
         Op::Give { handle: _, to } => Woken::One(*to),
@@ -43,8 +43,8 @@ pub(crate) fn woken_by(op: &Op, place: JobPlace) -> Woken
     }
 }
 
-fn woken_by_fork(place: JobPlace) -> Woken
-    ensures { (child : ℕ) → woken_of result ≡ wakes (Some (Fork child)) (place_of place) }
+fn woken_by_fork(place: &JobPlace) -> Woken
+    ensures { (child : ℕ) → woken_of result ≡ wakes (Some (Fork child)) (place_of place.now) }
 {
     match place {
         JobPlace::Unbegun => Woken::Everybody,

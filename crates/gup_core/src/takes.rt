@@ -23,29 +23,87 @@ ghost use Rattle.gup_op_pins.specs.Held.{ShowsHeld, held_view, slots_in};
 ghost use Rattle.gup_op_devices.specs.Transfers.{IsWhole};
 ghost use Rattle.gup_op_base.specs.Said.{TellsTurn, whats_of};
 ghost use Rattle.gup_op_base.specs.Turns.{IsTurnOf, Anywhere};
-ghost use Rattle.gup_op_base.specs.Tidy.{IsTidy, needs_table};
+ghost use Rattle.gup_op_base.specs.Tidy.{AreNumbered, IsTidy, needs_table};
+ghost use Rattle.gup_spec_events.specs.State.{CoreState};
+ghost use Rattle.gup_spec_turns.specs.JobPlace.{place_in};
+ghost use Rattle.gup_spec_turns.specs.Waits.{waiting_for};
 ghost use Rattle.gup_op_waits.specs.Births.{HasFailed, birth_by};
 ghost use Rattle.gup_op_waits.specs.Doers.{HasProcess, IsProcessOf};
-ghost use Rattle.gup_op_waits.specs.Parts.{EachSpace, ShowsBirths};
+ghost use Rattle.gup_op_waits.specs.Parts.{EachSpace, ShowsBirths, ShowsParts};
 ghost use Rattle.gup_op_waits.specs.Stands.{StandsAt};
 ghost use Rattle.gup_core.specs.Goes.{ShowsAll, StandsFree, all_view, IsReady, IsForkReady, HasSlots, KeepsSlots};
 ghost use Rattle.gup_op_waits.specs.Locks.{child_in};
 
-use gup_base::{HandleNo, PageNo, Parts as Moved, ProcNo, Want};
+use crate::seats::Seat;
+use gup_base::{ActorNo, HandleNo, PageNo, Parts as Moved, ProcNo, Want};
 use gup_frames::Frames;
 use gup_op_base::{Head, JobPlace};
 use gup_op_devices::transfer;
 use gup_op_fork::{Forked, fork};
 use gup_op_pages::take;
 use gup_op_pins::{give, pin, take_over, unpin};
-use gup_op_waits::{Birth, Parts, child_of, has_failed, set_birth};
-use gup_plain::{Answer, Journal, PlainEvent};
+use gup_op_waits::{Birth, Parts, child_of, has_failed, set_birth, waits_for};
+use gup_plain::{Answer, Journal, PlainEvent, Waiting};
 use gup_script::Op;
 use gup_space::Space;
 
-/// Takes a turn of the operation, which is of this process if it is of one, puts its notes on at the journal's end, and answers
-/// whether the operation is over and where the actor's job stands then. Where the process has failed, the operation is refused.
-pub fn take_op(
+/// What the actor, which stands there, waits for before a turn of the operation.
+#[inline(always)]
+pub fn waits_at(
+    parts: &Parts,
+    actor: ActorNo,
+    proc: Option<ProcNo>,
+    seat: &Seat,
+    op: &Op,
+) -> Option<Waiting>
+    requires there { HasProcess op.now → IsSome proc }
+    requires space { IfSome proc (λ p. p < length parts.now.spaces.items) }
+    requires birth { IfSome proc (λ p. p < length parts.now.births.items) }
+    requires child { (child : ℕ) → op.now ≡ Fork child → child < length parts.now.spaces.items }
+    requires numbered { EachSpace AreNumbered parts.now.spaces.items }
+    ensures { (s : CoreState) (who : Doer) (far : ℕ) → ShowsParts parts.now s → who.actor ≡ actor → IsProcessOf who proc
+        → place_of seat.now.job ≡ place_in s actor → StandsAt s actor who.proc far op.now
+        → result ≡ waiting_for s who op.now }
+{
+    waits_for(parts, actor, proc, seat.job, op)
+}
+
+/// Takes a turn of the operation, before which its actor stands there, and which is of this process if it is of one. It puts
+/// the notes on at the journal's end, and answers whether the operation is over and where the actor's job stands then. Where
+/// the process has failed, the operation is refused.
+#[inline(always)]
+pub fn take_at(
+    parts: &mut Parts,
+    journal: &mut Journal,
+    head: &Head,
+    proc: Option<ProcNo>,
+    seat: &Seat,
+    op: &Op,
+) -> (bool, JobPlace)
+    requires process { HasProcess op.now → IsSome proc }
+    requires birth { IfSome proc (λ p. p < length parts.old.births.items) }
+    requires child { (child : ℕ) → op.now ≡ Fork child → child < length parts.old.births.items }
+    requires ready { (p : ℕ) → (HasFailed parts.old.births.items proc → ⊥) → IfSome proc (λ q. q ≡ p)
+        → IsReady parts.old head.now.actor p op.now seat.now.far seat.now.job }
+    requires room { 3 ≤ journal.old.room }
+    ensures spaces { length parts.new.spaces.items ≡ length parts.old.spaces.items }
+    ensures births { length parts.new.births.items ≡ length parts.old.births.items }
+    ensures taken { length parts.new.taken.items ≡ length parts.old.taken.items }
+    ensures stores { length parts.new.stores.items ≡ length parts.old.stores.items }
+    ensures slots { KeepsSlots parts.old.stores.items parts.new.stores.items }
+    ensures turn { TellsTurn head.now journal.old journal.new result.0
+        (λ said. (who : Doer) (k : ℕ) (others : ℕ → Place) → who.actor ≡ head.now.actor → IsProcessOf who proc
+        → HasSlots parts.old head.now.actor who.slots → seat.now.far ≡ far_in (Some op.now) k
+        → IsTurnOf (ShowsAll head.now.actor) (StandsFree head.now.actor who k op.now)
+        (all_view parts.old seat.now.job others) (all_view parts.new result.1 others)
+        (λ s. turn_of s who k op.now) (whats_of said)) }
+{
+    take_op(parts, journal, head, proc, seat.far, seat.job, op)
+}
+
+// Takes a turn of the operation, which is of this process if it is of one, puts its notes on at the journal's end, and answers
+// whether the operation is over and where the actor's job stands then. Where the process has failed, the operation is refused.
+fn take_op(
     parts: &mut Parts,
     journal: &mut Journal,
     head: &Head,

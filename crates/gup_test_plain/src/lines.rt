@@ -1,7 +1,7 @@
 ghost use Rattle.std.specs.Prelude.{◌≡◌, length, IfOk};
 
 use gup_base::{ActorNo, HandleNo, NoMemory, ProcNo, Words};
-use gup_lines::{Outcome, outcomes, push_line, push_stuck};
+use gup_lines::{Outcome, outcomes, push_line, push_lines, push_stuck};
 use gup_plain::{Answer, Cause, Journal, Note, PlainEvent, Waiting, What};
 use gup_script::{Actor, Contents, Kind, Process, Script};
 use std::alloc::{AllocError, Global};
@@ -189,19 +189,6 @@ fn journal_of(alloc: Global, steps: &str) -> Result<Journal, NoMemory> {
         }
     }
     Ok(journal)
-}
-
-fn push_lines(
-    alloc: Global,
-    script: &Script,
-    journal: &Journal,
-    text: &mut Vec<u8>,
-) -> Result<(), NoMemory> {
-    let found = outcomes(alloc, script, journal)?;
-    for outcome in found.all() {
-        push_line(script, outcome, text)?;
-    }
-    Ok(())
 }
 
 // Two transfers of the first thread, and one of the second between the words of the first.

@@ -66,8 +66,8 @@ returns-in-Some-clause-turn c =
 
 -- ---- another operation
 
-pub take_single-requires-clause-ready : goal.take_single-requires-clause-ready
-take_single-requires-clause-ready c p of_p = (c.args.place, c.requires.ready p (λ has. absurd (cc (c.has_failed.ensures.other has))) of_p)
+pub take_single-over-requires-clause-ready : goal.take_single-over-requires-clause-ready
+take_single-over-requires-clause-ready c p of_p = (c.args.place, c.requires.ready p (λ has. absurd (cc (c.has_failed.ensures.other has))) of_p)
 
 pub returns-clause-turn : goal.returns-clause-turn
 returns-clause-turn c =

@@ -101,8 +101,8 @@ returns-in-Pin-clause-turn c =
 
 -- ---- operations on a pin
 
-pub unpin-requires : goal.unpin-requires
-unpin-requires c =
+pub unpin-requires-clause-weighed : goal.unpin-requires-clause-weighed
+unpin-requires-clause-weighed c =
     let any = any_process c.args.proc in
     (c.requires.ready any.0 any.1).1.weighed c.in-Unpin.handle
 
@@ -147,8 +147,8 @@ returns-in-Give-clause-turn c =
           subst (λ (op : Op). IsTurnAmong old new actor p slots a.far op place (whats_of told.said) place) (sym c.in-Give.is) turn;
     }
 
-pub take_over-requires : goal.take_over-requires
-take_over-requires c =
+pub take_over-requires-clause-given : goal.take_over-requires-clause-given
+take_over-requires-clause-given c =
     let any = any_process c.args.proc in
     (c.requires.ready any.0 any.1).1.given c.in-Take.handle c.in-Take.is
 

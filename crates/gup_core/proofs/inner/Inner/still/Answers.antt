@@ -8,8 +8,8 @@ use Rattle.gup_core.proofs.Taking.{still_machine}
 use Rattle.gup_core.proofs.Advancing.{still_taken, one_more}
 use Rattle.gup_core.proofs.inner.Inner.still.Goals as goal
 
-pub overflow_add-op : goal.overflow_add-op
-overflow_add-op c =
+pub overflow_add-head : goal.overflow_add-head
+overflow_add-head c =
     let i = c.self.inside in
     let a = c.args.actor in
     let m = machine_of i.script i.parts i.seats.items i.turns in

@@ -13,5 +13,5 @@ returns c =
     let rest = subst (λ (x : MachineValue). IsAtRest x) (sym c.self.view_is) c.rests.ensures in
     let here = subst (λ (x : MachineValue). slice_get x.seats a ≡ Some c.seat-seat.result) (sym c.self.view_is) c.seat-seat.ensures in
     let op = sym (ap (λ ops. slice_get ops c.seat-seat.result.answered) c.ops.ensures) ∙ c.in-Some.ensures in
-    subst (λ (x : MachineValue). (r : RunState) → Shows x r → c.waits_for.result ≡ waiting_in x.script r a) c.self.view_is
-    (waiting_is m a c.process-proc.result c.seat-seat.result c.in-Some.op.now c.waits_for.result c.reached_states_stand.ensures rest c.process-proc.ensures here op c.waits_for.ensures)
+    subst (λ (x : MachineValue). (r : RunState) → Shows x r → c.waits_at.result ≡ waiting_in x.script r a) c.self.view_is
+    (waiting_is m a c.process-proc.result c.seat-seat.result c.in-Some.op.now c.waits_at.result c.reached_states_stand.ensures rest c.process-proc.ensures here op c.waits_at.ensures)
