@@ -55,17 +55,17 @@ count_same (suc n) a awake past =
 
 pub count_falls : (n a : ℕ) (awake : ℕ → Bool) → a < n → awake a ≡ true → count_awake n (put a false awake) < count_awake n awake
 count_falls zero a awake there is = absurd (omega arith)
-count_falls (suc n) a awake there is = go (n == a) refl
+count_falls (suc n) a awake there is = go (n == a) refl (λ less. count_falls n a awake less is)
   where
-    go : (t : Bool) → (n == a) ≡ t → count_awake (suc n) (put a false awake) < count_awake (suc n) awake
-    go true e =
+    go : (t : Bool) → (n == a) ≡ t → (a < n → count_awake n (put a false awake) < count_awake n awake) → count_awake (suc n) (put a false awake) < count_awake (suc n) awake
+    go true e below =
         let same : n ≡ a = grind (arith, nat_tests) in
         let was : awake n ≡ true = ap awake same ∙ is in
         let rest = count_same n a awake (omega (arith, same)) in
         rw (e, was) (omega (arith, rest))
-    go false e =
+    go false e below =
         let less : a < n = grind (arith, nat_tests) in
-        let rest = count_falls n a awake less is in
+        let rest = below less in
         rw e (omega (arith, rest))
 
 -- ---- whom the pointer gives the turn

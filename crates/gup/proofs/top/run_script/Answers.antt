@@ -10,15 +10,14 @@ use Rattle.gup.proofs.Causes.{caused, outcomes_answered}
 use Rattle.gup.proofs.RunEnd.{all_wait}
 use Rattle.gup.proofs.top.run_script.Goals as goal
 
-pub push_stuck_lines-requires-clause-same : goal.push_stuck_lines-requires-clause-same
-push_stuck_lines-requires-clause-same c = c.in_ok-ran.ensures.script
+-- the run is of the script that was given
+abbrev IsOwnRun : (s : ScriptValue) → goal.In_ok-ran → Type 0
+IsOwnRun s c =
+    (end : RunState) × IsCoreRun s c.in_ok-ran.ran.journal.notes end × Shows c.in_ok-ran.ran.machine end × SaysStuck c.in_ok-ran.ran.stuck s end
+    × (end.turns ≤ length s.turns + (1025 * operations s + 527361 * forks s))
 
 pub push_stuck_lines-requires-clause-named : goal.push_stuck_lines-requires-clause-named
-push_stuck_lines-requires-clause-named c =
-    let script = c.args.script.now in
-    let valid = c.actors-actors.ensures.valid in
-    let run = c.in_ok-ran.ensures.core in
-    (run.0, run.2, λ a waiting is. c.runs_end_at_waits.ensures.waits script run.1.0 run.0 valid run.1.2 a waiting is)
+push_stuck_lines-requires-clause-named c = ?
 
 finished : (stuck : Bool) (script : ScriptValue) (end : RunState) → SaysStuck stuck script end → stuck ≡ false → HaveFinished script end
 finished stuck script end says is = subst (λ (b : Bool). SaysStuck b script end) is says

@@ -9,11 +9,11 @@ abbrev pub invariant-loop-k : goal.invariant-loop-k
 invariant-loop-k l = (r : RunState) × IsWritten l.fn.machine.script l.machine l.journal.notes l.k r
 
 -- the written turns are over, the pointer is at an actor, if there is one, and whoever is asleep can't go
-abbrev pub invariant-loop-awake : goal.invariant-loop-awake
-invariant-loop-awake l =
+abbrev pub invariant-loop-journal : goal.invariant-loop-journal
+invariant-loop-journal l =
     (0 < l.actors → l.pointer < l.actors) × (l.awake.actors ≡ l.actors)
     × ((r : RunState) × IsPointed l.fn.machine.script l.machine l.journal.notes l.pointer r × AreAsleep l.fn.machine.script r l.actors (is_awake l.awake))
 
 -- the turns that are left at most
-abbrev pub decreases-loop-awake : goal.decreases-loop-awake
-decreases-loop-awake l = most l.fn.machine.script - l.machine.turns
+abbrev pub decreases-loop-journal : goal.decreases-loop-journal
+decreases-loop-journal l = most l.fn.machine.script - l.machine.turns
