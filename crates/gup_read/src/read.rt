@@ -51,9 +51,10 @@ fn lines(alloc: Global, text: &[u8]) -> Result<Reader, ReadRefusal>
 {
     let mut number = 1;
     let mut stage = Stage::BeforeHead;
+    let mut words = Vec::new(alloc);
     let mut rest = text;
     while let Some((line, behind)) = cut_line(rest) {
-        match stage.take_line(alloc, line) {
+        match stage.take_line(alloc, line, &mut words) {
             Ok(()) => {}
             Err(trouble) => return Err(trouble.at(number)),
         }

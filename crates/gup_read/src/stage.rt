@@ -6,7 +6,7 @@ ghost use Rattle.gup_read.specs.Reading.{counts_in, frames_in, is_head, words_in
 use crate::declarations::next_line;
 use crate::refusal::{Trouble, check};
 use gup_read_outline::Reader;
-use gup_read_words::{are_spaced, is_passed, line_text, number, words};
+use gup_read_words::{are_spaced, cut_words, is_passed, line_text, number};
 use gup_spec_grammar::Reason;
 use std::alloc::Global;
 
@@ -88,16 +88,21 @@ impl Stage {
         }
     }
 
-    /// Goes on by this line, which a line feed ends.
+    /// Goes on by this line, which a line feed ends. Its words are put into the vector.
     #[tactic(auto, unfolding(crate::specs::Reading::line_in, crate::specs::Reading::said_in))]
-    pub fn take_line(&mut self, alloc: Global, line: &[u8]) -> Result<(), Trouble>
+    pub fn take_line<'a>(
+        &mut self,
+        alloc: Global,
+        line: &'a [u8],
+        words: &mut Vec<&'a str>,
+    ) -> Result<(), Trouble>
         ensures { LeadsTo (line_in (stage_value self.old) line.now) self.new result }
     {
         let text = line_text(line).ok_or(Reason::Byte)?;
         if is_passed(line) {
             return Ok(());
         }
-        let words = words(alloc, text)?;
+        cut_words(text, words)?;
         check(are_spaced(words.as_slice()), Reason::Space)?;
         self.take_words(alloc, words.as_slice())
     }

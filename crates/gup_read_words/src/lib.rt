@@ -4,6 +4,6 @@
 mod text;
 
 pub use text::{
-    address, are_spaced, count, index, is_name, is_passed, is_printable, line_text, number, page,
-    range, segment, turn, word_no, words,
+    address, are_spaced, count, cut_words, index, is_name, is_passed, is_printable, line_text,
+    number, page, range, segment, turn, word_no,
 };

@@ -1,13 +1,13 @@
 //! What a line's bytes, its words, and the numbers, places and names that words spell are.
-ghost use Rattle.std.specs.Prelude.{◌≡◌, ◌^◌, ◌≤◌, if◌then◌else◌, Some, None, map, option_map, IfOk, IfSome};
+ghost use Rattle.std.specs.Prelude.{◌≡◌, ◌^◌, ◌<◌, ◌≤◌, if◌then◌else◌, Some, None, map, option_map, OnOk, IfSome};
 ghost use Rattle.std.specs.List.{list_all};
 ghost use Rattle.std.specs.Option.{option_copied};
 ghost use Rattle.gup_spec_grammar.specs.Spelling.{parts};
-ghost use Rattle.gup_read_words.specs.WordCut.{IsWordCut};
+ghost use Rattle.gup_read_words.specs.WordCut.{IsCutAt, IsWordCut};
 ghost use Rattle.gup_read_words.specs.Text.{is_printable, is_passed, are_spaced, is_padded, number_in, count_in, index_in, page_in, word_no_in, page_and_word_in, address_in, range_in, index_and_count_in, segment_in, turn_name, turn_times, is_name, is_name_byte};
 
 use gup_base::{PageNo, WordNo};
-use std::alloc::{AllocError, Global};
+use std::alloc::AllocError;
 
 /// How many pages there are.
 const PAGES: u64 = 1 << 35;
@@ -17,9 +17,6 @@ const MAX_SEGMENT: u64 = 64;
 
 /// How many times a written turn may be repeated.
 const MAX_TIMES: u64 = 1_000_000;
-
-/// How many words of a line there is room for from the start; a longer line makes more.
-const USUAL_WORDS: usize = 8;
 
 /// Whether each byte is one that a line may have: from the space to `~`.
 pub fn is_printable(line: &[u8]) -> bool
@@ -49,27 +46,36 @@ pub fn is_passed(line: &[u8]) -> bool
     }
 }
 
+/// What stands before the first such byte, which is ASCII, and what stands after it; `None` where there is none.
+#[inline(always)]
+fn cut_at(byte: u8, text: &str) -> Option<(&str, &str)>
+    requires { byte < 128 }
+    ensures { IsCutAt byte text.now result }
+{
+    let at = text.as_bytes().iter().position(|&b| b == byte)?;
+    Some((&text[..at], &text[at + 1..]))
+}
+
 /// What stands before the first space, and what stands after it; `None` where there is no space.
 #[inline(always)]
 fn cut_word(line: &str) -> Option<(&str, &str)>
     ensures { IsWordCut line.now result }
 {
-    let at = line.as_bytes().iter().position(|&b| b == b' ')?;
-    Some((&line[..at], &line[at + 1..]))
+    cut_at(b' ', line)
 }
 
-/// The parts of the line between its spaces.
-pub fn words(alloc: Global, line: &str) -> Result<Vec<&str>, AllocError>
-    ensures { IfOk result (λ words. map (λ word. word.now) words.items ≡ parts 32 line.now) }
+/// Puts the parts of the line between its spaces into the vector, in place of what it holds.
+pub fn cut_words<'a>(line: &'a str, words: &mut Vec<&'a str>) -> Result<(), AllocError>
+    ensures { OnOk result (map (λ word. word.now) words.new.items ≡ parts 32 line.now) }
 {
-    let mut words = Vec::with_capacity(alloc, USUAL_WORDS)?;
+    words.clear();
     let mut rest = line;
     while let Some((word, behind)) = cut_word(rest) {
         words.push(word)?;
         rest = behind;
     }
     words.push(rest)?;
-    Ok(words)
+    Ok(())
 }
 
 /// Whether no word is empty: the line that they were cut from has single spaces, and none at its ends.
@@ -152,7 +158,7 @@ fn page_and_word(before: &str, after: &str) -> Option<(PageNo, WordNo)>
 pub fn address(text: &str) -> Option<(PageNo, WordNo)>
     ensures { result ≡ address_in text.now }
 {
-    match text.split_once('.') {
+    match cut_at(b'.', text) {
         None => None,
         Some((before, after)) => page_and_word(before, after),
     }
@@ -193,7 +199,7 @@ fn segment_len(word: &str) -> Option<u8>
 pub fn segment(text: &str) -> Option<(u32, u8)>
     ensures { result ≡ segment_in text.now }
 {
-    match text.split_once(':') {
+    match cut_at(b':', text) {
         None => None,
         Some((before, after)) => index_and_count(before, after),
     }
@@ -205,7 +211,7 @@ pub fn turn(word: &str) -> Option<(&str, u32)>
     ensures times { option_map (λ turn. turn.1) result ≡ turn_times word.now }
     ensures name { IfSome result (λ turn. turn.0.now ≡ turn_name word.now) }
 {
-    match word.split_once('*') {
+    match cut_at(b'*', word) {
         None => Some((word, 1)),
         Some((name, times)) => repeated(name, times),
     }

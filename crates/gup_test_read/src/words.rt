@@ -1,7 +1,7 @@
 use gup_base::{PageNo, WordNo};
 use gup_read_words::{
-    address, are_spaced, count, index, is_name, is_passed, is_printable, line_text, number, page,
-    range, segment, turn, word_no, words,
+    address, are_spaced, count, cut_words, index, is_name, is_passed, is_printable, line_text,
+    number, page, range, segment, turn, word_no,
 };
 use std::process::Abort;
 use std::test::*;
@@ -200,6 +200,7 @@ fn lines(rt: HostRuntime) {
 
 #[test]
 fn words_of_lines(rt: HostRuntime) -> Result<(), Fail> {
+    let mut parts = Vec::new(rt.alloc());
     for (line, count, spaced) in [
         ("on t load 5.0", 4, true),
         ("a", 1, true),
@@ -208,14 +209,14 @@ fn words_of_lines(rt: HostRuntime) -> Result<(), Fail> {
         ("a ", 2, false),
         ("a  b", 3, false),
     ] {
-        let parts = words(rt.alloc(), line)?;
+        cut_words(line, &mut parts)?;
         assert_eq!(rt;
             (parts.len(), are_spaced(&parts)),
             (count, spaced),
             "{line}"
         );
     }
-    let parts = words(rt.alloc(), "gup 1")?;
+    cut_words("gup 1", &mut parts)?;
     assert_eq!(rt; parts.as_slice(), ["gup", "1"].as_slice());
     Ok(())
 }

@@ -1,4 +1,4 @@
-use Rattle.std.proofs.Common.{◌≡◌, ℕ, ◌+◌, ◌<◌, List, [], Err, Some, length, get_or, drop, sym, ap, ◌∙◌, arith, rules, length-drop}
+use Rattle.std.proofs.Common.{◌≡◌, ℕ, ◌+◌, List, [], Err, Some, get_or, drop, sym, ap, ◌∙◌, arith, rules, length-drop}
 use Rattle.std.specs.Borrow.{Bor}
 use Rattle.gup_spec_grammar.specs.declared.fault.Reason.{Reason}
 use Rattle.gup_read_words.specs.Text.{turn_times}

@@ -2,7 +2,7 @@ use denote.Shadow.{shadow}
 use denote.Text.{Utf8}
 use Rattle.std.proofs.Common.{◌≡◌, ◌++◌, map, length}
 use Rattle.gup_spec_grammar.specs.Spelling.{parts}
-use Rattle.gup_read_words.proofs.text.words.Given as goal
+use Rattle.gup_read_words.proofs.text.cut_words.Given as goal
 
 abbrev pub invariant-loop-word : goal.invariant-loop-word
 invariant-loop-word l =
