@@ -195,7 +195,7 @@ fn look_over_all(parts: &[(u32, u8)], far: u16, words: u64) -> Survey
         if many <= far {
             index = u64::from(part.0) + u64::from(far - many);
         }
-        within = within && ends_within(part.0, part.1, words);
+        within &= ends_within(part.0, part.1, words);
         many += u16::from(part.1);
     }
     Survey {

@@ -47,6 +47,7 @@ pub fn unpin(
         return true;
     };
     let last = pages.len() == 1;
+    // Who holds the pin holds its handle: this isn't refused.
     let Ok(frame) = handles.drop_last(handle, actor) else {
         head.answered(journal, Answer::NotHeld);
         return true;
