@@ -103,6 +103,7 @@ pub fn take_at(
 
 // Takes a turn of the operation, which is of this process if it is of one, puts its notes on at the journal's end, and answers
 // whether the operation is over and where the actor's job stands then. Where the process has failed, the operation is refused.
+#[inline(always)]
 fn take_op(
     parts: &mut Parts,
     journal: &mut Journal,
@@ -142,6 +143,7 @@ fn take_op(
 }
 
 // Refuses an operation of a failed process. The child of a fork fails too.
+#[inline(never)]
 fn refuse(births: &mut Vec<Birth>, journal: &mut Journal, head: &Head, op: &Op)
     requires child { (child : ℕ) → op.now ≡ Fork child → child < length births.old.items }
     requires room { 3 ≤ journal.old.room }
@@ -159,6 +161,7 @@ fn refuse(births: &mut Vec<Birth>, journal: &mut Journal, head: &Head, op: &Op)
 }
 
 // Takes a turn of an operation that is no fork.
+#[inline(always)]
 fn take_single(
     parts: &mut Parts,
     journal: &mut Journal,
@@ -236,6 +239,7 @@ fn take_single(
 }
 
 // Takes a turn of a pin.
+#[inline(never)]
 fn take_pin(
     parts: &mut Parts,
     journal: &mut Journal,
@@ -298,6 +302,7 @@ fn take_pin(
 }
 
 // Takes a turn of a transfer.
+#[inline(always)]
 fn take_transfer(
     parts: &mut Parts,
     journal: &mut Journal,
@@ -382,6 +387,7 @@ fn take_alone(
 
 // Takes a turn of a fork of the process into this child, which grows from the first turn on, and is born with the last, or
 // fails with it.
+#[inline(always)]
 fn take_fork(
     parts: &mut Parts,
     journal: &mut Journal,
@@ -442,6 +448,7 @@ fn goes_on(forked: &Forked) -> (bool, JobPlace)
 }
 
 // Takes a turn of a fork over two of the processes.
+#[inline(always)]
 fn fork_two(
     frames: &mut Frames,
     spaces: &mut [Space],

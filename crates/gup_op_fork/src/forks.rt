@@ -50,7 +50,7 @@ pub enum Forked {
 /// Where no frame is free for a copy the fork fails in that turn, with the answer `NoFrame`: the child loses its
 /// mappings and its entries, and the parent's locks are free again (of Linux's `dup_mmap`, which fails with `ENOMEM`
 /// then).
-#[inline]
+#[inline(always)]
 pub fn fork(
     parent: &mut Space,
     child: &mut Space,
@@ -317,7 +317,7 @@ fn fail_turn(
 }
 
 // The next word of the page is copied, or, where all are, the child gets the copy.
-#[inline]
+#[inline(always)]
 fn copy_turn(
     parent: &mut Space,
     child: &mut Space,

@@ -38,6 +38,7 @@ pub struct Locks {
 /// What the actor waits for before its next turn, if it waits: first that its process is born, if it is a thread, then
 /// that the pin is given to it which it is to take, then for the holder of the structure lock, then for that of the table
 /// lock. A thread of a failed process waits for nothing.
+#[inline(always)]
 pub fn waits_for(
     parts: &Parts,
     actor: ActorNo,
@@ -81,6 +82,7 @@ fn waits_for_pin(handles: &Handles, actor: ActorNo, handle: HandleNo) -> Option<
 }
 
 // The actor of a born process waits for the holder of a lock that its next turn needs.
+#[inline(always)]
 fn waits_for_holders(
     spaces: &Vec<Space>,
     actor: ActorNo,
@@ -128,6 +130,7 @@ pub fn child_of(op: &Op) -> Option<ProcNo>
 }
 
 // Which locks of its process the operation's next turn needs.
+#[inline(never)]
 fn locks_needed(spaces: &Vec<Space>, proc: ProcNo, place: JobPlace, op: &Op) -> Locks
     requires there { proc < length spaces.now.items }
     requires child { (child : ℕ) → op.now ≡ Fork child → child < length spaces.now.items }

@@ -174,7 +174,7 @@ returns-clause-advances c =
       subst (λ (x : MachineValue). CanGo x a) c.self.view_is (goes_so m a c.seat-seat.result c.in-Some.op.now here op ready),
       subst (λ (x : MachineValue). WritesTurn x n c.args.journal.now c.take_at-over.new.journal a) c.self.view_is (λ r h. (notes, told.tells.notes, taken r h)),
       subst (λ (x : MachineValue). MayWakeOf x a c.woken_by-woken.result) c.self.view_is
-      (wakes_so m n a c.seat-seat.result c.behind-next.result c.in-Some.op.now c.take_at-over.result.0 c.take_at-over.result.1 notes c.woken_by-woken.result here op c.behind-next.ensures c.set_seat.ensures.here taken c.woken_by-woken.ensures),
+          (wakes_so m n a c.seat-seat.result c.behind-next.result c.in-Some.op.now c.take_at-over.result.0 c.take_at-over.result.1 notes c.woken_by-woken.result here op c.behind-next.ensures c.set_seat.ensures.here taken c.woken_by-woken.ensures),
     )
 
 pub returns-clause-more : goal.returns-clause-more
