@@ -1,5 +1,5 @@
 -- What comes of asking an actor for its turn.
-use Rattle.std.proofs.Common.{◌≡◌, ℕ, ◌+◌, ◌≤◌, ◌++◌, Bool, true, List, [], ◌∷◌, length, slice_get, Option, Some, None, refl, sym, ap, ◌∙◌, subst, arith}
+use Rattle.std.proofs.Common.{◌≡◌, ℕ, ◌+◌, ◌≤◌, ◌++◌, Bool, true, List, [], ◌∷◌, length, slice_get, Option, Some, None, refl, sym, ap, ◌∙◌, arith}
 use Rattle.std.proofs.lemmas.Bool.Decides.{nat_tests}
 use Rattle.std.proofs.lemmas.Option.{slice_get_past}
 use Rattle.std.proofs.lemmas.List.{length-append, length-map}
@@ -14,7 +14,7 @@ use Rattle.gup_spec_journal.specs.Place.{Doer, Place, doer, has_finished, ops_of
 use Rattle.gup_spec_journal.specs.Follows.{note_of, notes_of_turn}
 use Rattle.gup_spec_turns.specs.Run.{RunState, is_ready, op_in, waiting_in, waiting_with, core_turn_by, run_after}
 use Rattle.gup_core.specs.declared.seats.Seat.{Seat}
-use Rattle.gup_core.specs.Machine.{MachineValue, machine_of, counted, Shows, TakesTurn, TakesTurns}
+use Rattle.gup_core.specs.Machine.{MachineValue, machine_of, counted, Shows, TakesTurns}
 use Rattle.gup_core.specs.Going.{CanGo, WaitsFor, HasFinished, HasMore, IsStill, MayWakeOf}
 use Rattle.gup_op_base.specs.Said.{Said, whats_by, whats_of}
 use Rattle.gup_plain.specs.declared.answer.Answer.{Answer}

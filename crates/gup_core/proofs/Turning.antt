@@ -1,15 +1,11 @@
 -- A turn of an operation among all parts: of one process, of a pin, of an operation on a pin, and of a fork.
-use Rattle.std.proofs.Common.{◌≡◌, ℕ, ◌+◌, ◌<◌, ◌==◌, Bool, true, false, List, ◌∷◌, length, slice_get, Option, Some, None, refl, sym, ap, ◌∙◌, subst, inl, inr, eqb-true, arith}
+use Rattle.std.proofs.Common.{◌≡◌, ℕ, ◌+◌, ◌<◌, ◌==◌, Bool, true, false, List, length, slice_get, Option, Some, None, refl, sym, ap, ◌∙◌, subst, inl, inr, eqb-true, arith}
 use Rattle.std.proofs.lemmas.Bool.Decides.{nat_tests}
 use Rattle.std.proofs.lemmas.Option.{slice_get_cases}
 use Rattle.arrayvec.specs.ArrayVec.{ArrayVec}
 use Rattle.gup_base.specs.declared.entry.Want.{Want}
 use Rattle.gup_plain.specs.State.{Birth as CoreBirth}
-use Rattle.gup_plain.specs.declared.answer.Answer.{Answer}
-use Rattle.gup_plain.specs.declared.event.PlainEvent.{PlainEvent}
-use Rattle.gup_plain.specs.declared.event.PlainEvent.TheVariants as events
 use Rattle.gup_plain.specs.declared.note.What.{What}
-use Rattle.gup_plain.specs.declared.note.What.TheVariants.{Event}
 use Rattle.gup_script.specs.declared.op.Op.{Op}
 use Rattle.gup_script.specs.declared.op.Op.TheVariants.{Pin, Fork}
 use Rattle.gup_frames.specs.Frames.{FrameLists, frames_of}
@@ -34,7 +30,6 @@ use Rattle.gup_op_fork.specs.declared.forks.Forked.TheVariants.{Goes, Born, Fail
 use Rattle.gup_op_fork.specs.Forked.{place_after, birth_after, ShowsForking, StandsAsFork, forking_view}
 use Rattle.gup_op_pins.specs.Pins.{IsPin, ShowsPins, ShowsPinning, StandsAtPage, pinning_view}
 use Rattle.gup_op_pins.specs.Held.{ShowsStore, ShowsHeld, held_view}
-use Rattle.gup_op_base.specs.Said.{answer_what, event_what, whats_by, whats_of}
 use Rattle.gup_op_base.specs.Turns.{Leads, IsTurnOf, Anywhere}
 use Rattle.gup_spec_journal.specs.Place.{Doer}
 use Rattle.gup_op_waits.specs.declared.births.Birth.{Birth}

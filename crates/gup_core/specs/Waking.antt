@@ -1,5 +1,4 @@
 -- Whom a turn wakes, as the machine says it.
-use Rattle.std.specs.Prelude.{ℕ}
 use Rattle.gup_law_waits.specs.Woken.{Woken, nobody, one, everybody}
 use Rattle.gup_core.specs.declared.outcome.Woken.{Woken as SaidWoken}
 use Rattle.gup_core.specs.declared.outcome.Woken.TheVariants as said

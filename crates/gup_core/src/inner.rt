@@ -69,6 +69,7 @@ impl Inner {
     }
 
     /// Takes the actor's turn if it can go, and puts its notes on. Where it waits or has finished, nothing changes.
+    #[inline(never)]
     pub(crate) fn go(&mut self, actor: ActorNo, journal: &mut Journal) -> Advanced
         requires actor { actor < length self.old.script.actors }
         requires room { 3 ≤ journal.old.room }
@@ -108,6 +109,7 @@ impl Inner {
     }
 
     /// Takes the actor's turn, and puts its notes on, also where it waits or has finished.
+    #[inline]
     pub(crate) fn take_turn(&mut self, actor: ActorNo, journal: &mut Journal)
         requires actor { actor < length self.old.script.actors }
         requires room { 3 ≤ journal.old.room }
@@ -116,6 +118,10 @@ impl Inner {
         ensures kept { KeepsRoom journal.old journal.new }
         ensures script { self.new.script ≡ self.old.script }
     {
+        // The turn of an actor that has finished costs little.
+        if self.finished(actor) {
+            return self.still(actor, What::Idle, journal);
+        }
         match self.go(actor, journal) {
             Advanced::Moved(_woken) => {}
             Advanced::Waits(waiting) => self.still(actor, What::Wait(waiting), journal),

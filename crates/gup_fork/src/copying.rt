@@ -15,7 +15,7 @@ use gup_space::Space;
 
 /// Copies one word of the page, which has an entry, into the same word of frame `to`, which is another one and isn't
 /// free: a word of Linux's `copy_user_highpage` (that it takes the words one by one is this project's own).
-#[inline]
+#[inline(always)]
 pub fn copy_word(parent: &Space, frames: &mut Frames, page: PageNo, to: FrameNo, word: WordNo)
     requires entry { IsSome ((space_of parent.now).entry page) }
     requires counted { IsCounted (frames_of frames.old) (space_of parent.now) page }

@@ -31,7 +31,7 @@ const WORDS: u32 = 512;
 /// The transfer is refused as a whole, before its first word moves: `NotHeld` where the actor doesn't hold the pin, then
 /// `Forbidden` where it would write the pages of a pin to read, then `Range` where a word of a part lies past the pin's
 /// pages or a slot past the store.
-#[inline(always)]
+#[inline(never)]
 pub fn transfer(
     frames: &mut Frames,
     handles: &Handles,

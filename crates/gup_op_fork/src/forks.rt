@@ -50,7 +50,7 @@ pub enum Forked {
 /// Where no frame is free for a copy the fork fails in that turn, with the answer `NoFrame`: the child loses its
 /// mappings and its entries, and the parent's locks are free again (of Linux's `dup_mmap`, which fails with `ENOMEM`
 /// then).
-#[inline(always)]
+#[inline(never)]
 pub fn fork(
     parent: &mut Space,
     child: &mut Space,

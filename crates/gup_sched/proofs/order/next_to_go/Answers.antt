@@ -1,7 +1,5 @@
-use Rattle.std.proofs.Common.{◌≡◌, ℕ, ◌+◌, ◌<◌, Bool, true, false, Option, Some, None, refl, sym, ap, ◌∙◌, subst, length, arith}
-use Rattle.gup_script.specs.Script.{ScriptValue}
-use Rattle.gup_spec_turns.specs.Run.{RunState, can_go, pointed}
-use Rattle.gup_core.specs.Machine.{MachineValue, Shows}
+use Rattle.std.proofs.Common.{◌≡◌, ℕ, ◌<◌, Bool, Some, None, sym, ◌∙◌, subst, arith}
+use Rattle.gup_core.specs.Machine.{MachineValue}
 use Rattle.gup_script.specs.Valid.{IsScript}
 use Rattle.gup_core.specs.Waking.{woken_of}
 use Rattle.gup_core.specs.Going.{Advances, CanGo, WaitsFor, HasFinished, MayWakeOf}

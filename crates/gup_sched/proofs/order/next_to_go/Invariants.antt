@@ -1,4 +1,4 @@
-use Rattle.std.proofs.Common.{◌≡◌, ◌<◌}
+use Rattle.std.proofs.Common.{◌≡◌}
 use Rattle.gup_spec_turns.specs.Run.{RunState}
 use Rattle.gup_core.specs.Machine.{Shows}
 use Rattle.gup_core.specs.Going.{Stays}

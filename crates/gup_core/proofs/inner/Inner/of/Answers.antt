@@ -1,4 +1,4 @@
-use Rattle.std.proofs.Common.{length, sym, ap, ◌∙◌, refl}
+use Rattle.std.proofs.Common.{length, ap, ◌∙◌, refl}
 use Rattle.std.proofs.Math.ListN.{length-replicate}
 use Rattle.gup_spec_turns.specs.Run.{run_start}
 use Rattle.gup_core.specs.Machine.{machine_of, Shows}
