@@ -1,5 +1,5 @@
 //! Forks: their beginning, and then page by page.
-ghost use Rattle.std.specs.Prelude.{◌≡◌, ℕ, ◌-◌, ◌<◌, ◌≤◌, ◌^◌, true, false, is_some, Some, None, IsSome};
+ghost use Rattle.std.specs.Prelude.{◌≡◌, ℕ, ◌+◌, ◌-◌, ◌<◌, ◌≤◌, ◌^◌, true, false, is_some, Some, None, IsSome};
 ghost use Rattle.gup_base.specs.declared.entry.Allowed.TheVariants.{Any};
 ghost use Rattle.gup_base.specs.declared.entry.Entry.{Entry as EntryValue};
 ghost use Rattle.gup_base.specs.declared.entry.Rights.{Rights as RightsValue};
@@ -346,16 +346,46 @@ fn copy_turn(
     let Some(next) = WordNo::new(u64::from(word)) else {
         return place_turn(parent, child, frames, journal, head, page, to);
     };
-    copy_word(parent, frames, page, to, next);
+    word_turn(
+        parent, frames, journal, head, proc, child_no, page, next, to,
+    );
+    let word = word + 1;
+    JobPlace::Copying { page, word, to }
+}
+
+/// The turn of a fork that copies this word of a page into frame `to`, and puts its note on; it is what `fork` does
+/// there. Most turns of a fork that copies are such, and they need nothing of the child.
+#[inline(always)]
+pub fn word_turn(
+    parent: &Space,
+    frames: &mut Frames,
+    journal: &mut Journal,
+    head: &Head,
+    proc: ProcNo,
+    child_no: ProcNo,
+    page: PageNo,
+    word: WordNo,
+    to: FrameNo,
+)
+    requires room { 1 ≤ journal.old.room }
+    requires parent { IsTidy (frames_of frames.old) (space_of parent.now) }
+    requires entry { IsSome ((space_of parent.now).entry page) }
+    requires copy { IsCopyOf (frames_of frames.old) page to (space_of parent.now) }
+    ensures { TellsTurn head.now journal.old journal.new false
+        (λ said. (child : SpaceParts) (birth : Birth)
+        → IsTurnOf (ShowsForking head.now.actor proc child_no) (StandsAsFork head.now.actor proc child_no)
+        (forking_view frames.old parent.now child (at_word page word to) birth)
+        (forking_view frames.new parent.now child (at_word page (word + 1) to) (growing proc))
+        (λ s. fork_turn s head.now.actor proc child_no (s.job head.now.actor)) (whats_of said)) }
+{
+    copy_word(parent, frames, page, to, word);
     let event = PlainEvent::ForkWord {
         parent: proc,
         child: child_no,
         page,
-        word: next,
+        word,
     };
     head.happened(journal, event);
-    let word = word + 1;
-    JobPlace::Copying { page, word, to }
 }
 
 // All words are copied: the child gets the copy, and the table lock is free again.

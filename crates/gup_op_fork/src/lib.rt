@@ -3,4 +3,4 @@
 
 mod forks;
 
-pub use forks::{Forked, fork, next_page};
+pub use forks::{Forked, fork, next_page, word_turn};

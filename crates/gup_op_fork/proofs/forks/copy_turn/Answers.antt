@@ -1,23 +1,27 @@
-use Rattle.std.proofs.Common.{◌≡◌, ◌<◌, ◌≤◌, ◌∙◌, refl, arith}
-use Rattle.gup_plain.specs.declared.event.PlainEvent.TheVariants as events
-use Rattle.gup_fork.specs.Forks.{fork_change_of}
-use Rattle.gup_op_base.specs.Said.{happened_said}
-use Rattle.gup_op_fork.proofs.Copying.{word_turned}
+use Rattle.std.proofs.Common.{◌≡◌, ℕ, ◌+◌, ◌≤◌, ◌∙◌, subst, arith}
+use Rattle.gup_plain.specs.State.{growing}
+use Rattle.gup_spec_turns.specs.ForkTurns.{fork_turn}
+use Rattle.gup_spec_turns.specs.JobPlace.{at_word}
+use Rattle.gup_op_base.specs.Said.{whats_of}
+use Rattle.gup_op_base.specs.Turns.{IsTurnOf}
+use Rattle.gup_op_fork.specs.Forked.{ShowsForking, StandsAsFork, forking_view}
 use Rattle.gup_op_fork.proofs.forks.copy_turn.Goals as goal
 
 pub returns : goal.returns
 returns c =
     let x = c.args in
-    let k = fork_change_of x.frames.now c.copy_word.new.frames x.parent.now x.parent.now x.child.now x.child.now in
+    let a = x.head.now.actor in
+    let told = c.word_turn.ensures in
     let same : c.in-Some.next ≡ x.word = c.in-Some.ensures.value ∙ c.from.ensures in
-    let less : x.word < 512 = grind (arith, c.in-Some.ensures.some, c.from.ensures) in
     record {
-      said = happened_said (events.ForkWord x.proc x.child_no x.page c.in-Some.next);
-      tells = c.happened.ensures.says;
-      ends = refl;
-      is_so =
-          word_turned k x.head.now.actor x.proc x.child_no x.page x.word x.to c.in-Some.next same less c.requires.ready.0
-          (λ done e entry. c.copy_word.ensures.events x.head.now.actor done (x.child.now) e entry);
+      said = told.said;
+      tells = told.tells;
+      ends = told.ends;
+      is_so = λ birth.
+          subst (λ (word : ℕ). IsTurnOf (ShowsForking a x.proc x.child_no) (StandsAsFork a x.proc x.child_no)
+          (forking_view x.frames.now x.parent.now x.child.now (at_word x.page word x.to) birth)
+          (forking_view c.word_turn.new.frames x.parent.now x.child.now (at_word x.page (word + 1) x.to) (growing x.proc))
+          (λ s. fork_turn s a x.proc x.child_no (s.job a)) (whats_of told.said)) same (told.is_so x.child.now birth);
     }
 
 pub returns-in_default : goal.returns-in_default
