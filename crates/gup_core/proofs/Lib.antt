@@ -13,3 +13,4 @@ pub mod Ready
 pub mod Starting
 pub mod FreeFrames
 pub mod Advancing
+pub mod WordTurns

@@ -1,17 +1,22 @@
 //! The machine but for what it keeps of notes: its script and parts, and where each actor stands.
-ghost use Rattle.std.specs.Prelude.{◌≡◌, ℕ, ◌+◌, ◌<◌, ◌≤◌, [], ◌∷◌, length, slice_get, Some, IfOk};
+ghost use Rattle.std.specs.Prelude.{◌≡◌, ℕ, ◌+◌, ◌<◌, ◌≤◌, [], ◌∷◌, length, slice_get, Some, IfOk, IsTrue, false};
 ghost use Rattle.gup_spec_journal.specs.Place.{has_finished};
 ghost use Rattle.gup_spec_turns.specs.Run.{RunState, waiting_in};
 ghost use Rattle.gup_core.specs.Machine.{Shows, IsNew, counted, free_frames_in};
+ghost use Rattle.gup_core.specs.declared.outcome.Advanced.TheVariants.{Moved};
+ghost use Rattle.gup_core.specs.declared.outcome.Woken.TheVariants.{Nobody};
+ghost use Rattle.gup_core.specs.declared.seats.Seat.{Seat as SeatValue};
+ghost use Rattle.gup_core.specs.Copies.{is_copying};
 ghost use Rattle.gup_core.specs.Going.{Advances, WritesTurn, HasMore, IsMoved, IsStill, KeepsRoom};
 ghost use Rattle.gup_core.specs.Rest.{IsAtRest};
 
-use crate::outcome::{Advanced, woken_by};
+use crate::copies::{copy_at, seat_after, take_copy};
+use crate::outcome::{Advanced, Woken, woken_by};
 use crate::seats::{self, Seat, seat_of, set_seat};
 use crate::takes::{take_at, waits_at};
 use crate::turns::{next_turn, op_at, ops, process};
 use gup_base::{ActorNo, NoMemory, Zone};
-use gup_op_base::Head;
+use gup_op_base::{Head, JobPlace};
 use gup_op_waits::parts::{self, Parts};
 use gup_plain::{Journal, Waiting, What};
 use gup_script::Script;
@@ -69,8 +74,70 @@ impl Inner {
     }
 
     /// Takes the actor's turn if it can go, and puts its notes on. Where it waits or has finished, nothing changes.
-    #[inline(never)]
+    #[inline(always)]
     pub(crate) fn go(&mut self, actor: ActorNo, journal: &mut Journal) -> Advanced
+        requires actor { actor < length self.old.script.actors }
+        requires room { 3 ≤ journal.old.room }
+        ensures advances { Advances self.old self.new journal.old journal.new actor result }
+        ensures more { IsMoved result → HasMore journal.old journal.new }
+        ensures kept { KeepsRoom journal.old journal.new }
+        ensures script { self.new.script ≡ self.old.script }
+    {
+        // A fork that copies a page has 512 turns for its words.
+        if self.stands_copying(actor) {
+            if self.copies_word(actor, journal) {
+                return Advanced::Moved(Woken::Nobody);
+            }
+        }
+        self.go_any(actor, journal)
+    }
+
+    // Whether the actor's job is a fork that copies a page.
+    #[inline(always)]
+    fn stands_copying(&self, actor: ActorNo) -> bool
+        requires { actor < length self.now.script.actors }
+        ensures { (seat : SeatValue) → slice_get self.now.seats actor ≡ Some seat → result ≡ is_copying seat.job }
+    {
+        matches!(self.seat(actor).job, JobPlace::Copying { .. })
+    }
+
+    // Takes the actor's turn if it copies a word of a page, and says whether it does. If not, nothing changes.
+    #[inline(never)]
+    fn copies_word(&mut self, actor: ActorNo, journal: &mut Journal) -> bool
+        requires actor { actor < length self.old.script.actors }
+        requires room { 3 ≤ journal.old.room }
+        ensures advances { IsTrue result → Advances self.old self.new journal.old journal.new actor (Moved Nobody) }
+        ensures more { IsTrue result → HasMore journal.old journal.new }
+        ensures kept { KeepsRoom journal.old journal.new }
+        ensures script { self.new.script ≡ self.old.script }
+        ensures stays { result ≡ false → (self.new ≡ self.old) × (journal.new ≡ journal.old) }
+    {
+        self.rests();
+        gup_law_turns::reached_states_stand();
+        let seat = self.seat(actor);
+        let Some(op) = op_at(ops(&self.script, actor), seat.answered) else {
+            return false;
+        };
+        let proc = process(&self.script, actor);
+        let Some(copy) = copy_at(&self.parts.births, proc, &seat, op) else {
+            return false;
+        };
+        let turn = next_turn(self.turns);
+        let head = Head {
+            turn,
+            actor,
+            op: seat.answered + 1,
+        };
+        take_copy(&mut self.parts, journal, &head, &copy);
+        let next = seat_after(&seat, &copy);
+        set_seat(&mut self.seats, actor, &next);
+        self.turns = turn;
+        true
+    }
+
+    // The same as `go`, whatever the turn is.
+    #[inline(never)]
+    fn go_any(&mut self, actor: ActorNo, journal: &mut Journal) -> Advanced
         requires actor { actor < length self.old.script.actors }
         requires room { 3 ≤ journal.old.room }
         ensures advances { Advances self.old self.new journal.old journal.new actor result }

@@ -2,6 +2,7 @@
 //! pins and stores that take no more memory than they had at the start.
 #![tactic(auto)]
 
+mod copies;
 mod inner;
 mod machine;
 mod outcome;

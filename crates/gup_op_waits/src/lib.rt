@@ -6,6 +6,6 @@ mod births;
 mod locks;
 pub mod parts;
 
-pub use births::{Birth, has_failed, set_birth};
+pub use births::{Birth, birth_of, has_failed, set_birth};
 pub use locks::{child_of, waits_for};
 pub use parts::Parts;

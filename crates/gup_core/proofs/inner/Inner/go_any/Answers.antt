@@ -9,7 +9,7 @@ use Rattle.gup_core.specs.Seats.{seat_behind}
 use Rattle.gup_core.proofs.Ready.{is_ready, still_parts, process_found_so, process_within, child_within, few}
 use Rattle.gup_core.proofs.Advancing.{goes_so, few_more, wakes_so}
 use Rattle.gup_core.proofs.Taking.{still_machine, waiting_is, goes, IsWaiting}
-use Rattle.gup_core.proofs.inner.Inner.go.Goals as goal
+use Rattle.gup_core.proofs.inner.Inner.go_any.Goals as goal
 
 pub waits_at-requires-clause-there : goal.waits_at-requires-clause-there
 waits_at-requires-clause-there c =
