@@ -238,10 +238,24 @@ fn push_words(text: &mut Vec<u8>, words: &[u64]) -> Result<(), NoMemory>
     ensures err { OnErr result (BeginsWith text.new.items text.old.items) }
 {
     for word in words {
-        push_text(text, " ")?;
-        write_number(text, *word)?;
+        text.push(b' ')?;
+        write_word(text, *word)?;
     }
     Ok(())
+}
+
+// A word alone. Most are of one digit, and that is one byte.
+#[inline(always)]
+fn write_word(text: &mut Vec<u8>, word: u64) -> Result<(), NoMemory>
+    ensures ok { OnOk result (text.new.items ≡ text.old.items ++ decimal word) }
+    ensures err { OnErr result (text.new.items ≡ text.old.items) }
+{
+    if word < 10 {
+        text.push(b'0' + word as u8)?;
+        Ok(())
+    } else {
+        write_number(text, word)
+    }
 }
 
 #[tactic(auto, using(crate::proofs::Fronts::fronts))]
