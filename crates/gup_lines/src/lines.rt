@@ -238,22 +238,25 @@ fn push_words(text: &mut Vec<u8>, words: &[u64]) -> Result<(), NoMemory>
     ensures err { OnErr result (BeginsWith text.new.items text.old.items) }
 {
     for word in words {
-        text.push(b' ')?;
         write_word(text, *word)?;
     }
     Ok(())
 }
 
-// A word alone. Most are of one digit, and that is one byte.
+// A word after a space. Most are of one digit, and two bytes: room for both is asked for at once.
+#[tactic(auto, using(crate::proofs::Fronts::fronts))]
 #[inline(always)]
 fn write_word(text: &mut Vec<u8>, word: u64) -> Result<(), NoMemory>
-    ensures ok { OnOk result (text.new.items ≡ text.old.items ++ decimal word) }
-    ensures err { OnErr result (text.new.items ≡ text.old.items) }
+    ensures ok { OnOk result (text.new.items ≡ text.old.items ++ word_text word) }
+    ensures err { OnErr result (BeginsWith text.new.items text.old.items) }
 {
     if word < 10 {
-        text.push(b'0' + word as u8)?;
+        text.reserve(2)?;
+        text.push_reserved(b' ');
+        text.push_reserved(b'0' + word as u8);
         Ok(())
     } else {
+        text.push(b' ')?;
         write_number(text, word)
     }
 }
