@@ -238,10 +238,27 @@ fn push_words(text: &mut Vec<u8>, words: &[u64]) -> Result<(), NoMemory>
     ensures err { OnErr result (BeginsWith text.new.items text.old.items) }
 {
     for word in words {
-        push_text(text, " ")?;
-        write_number(text, *word)?;
+        write_word(text, *word)?;
     }
     Ok(())
+}
+
+// A word after a space. Most are of one digit, and two bytes: room for both is asked for at once.
+#[tactic(auto, using(crate::proofs::Fronts::fronts))]
+#[inline(always)]
+fn write_word(text: &mut Vec<u8>, word: u64) -> Result<(), NoMemory>
+    ensures ok { OnOk result (text.new.items ≡ text.old.items ++ word_text word) }
+    ensures err { OnErr result (BeginsWith text.new.items text.old.items) }
+{
+    if word < 10 {
+        text.reserve(2)?;
+        text.push_reserved(b' ');
+        text.push_reserved(b'0' + word as u8);
+        Ok(())
+    } else {
+        text.push(b' ')?;
+        write_number(text, word)
+    }
 }
 
 #[tactic(auto, using(crate::proofs::Fronts::fronts))]
