@@ -243,7 +243,7 @@ fn push_words(text: &mut Vec<u8>, words: &[u64]) -> Result<(), NoMemory>
     Ok(())
 }
 
-// A word after a space. Most are of one digit, and two bytes: room for both is asked for at once.
+// A word after a space. Where it is of one digit these are two bytes, and room for both is asked for at once.
 #[tactic(auto, using(crate::proofs::Fronts::fronts))]
 #[inline(always)]
 fn write_word(text: &mut Vec<u8>, word: u64) -> Result<(), NoMemory>
