@@ -48,6 +48,7 @@ impl Process {
 
 /// The frames: counts, marks, words, and which are free.
 struct Frames {
+    movable: usize,
     counts: Vec<u64>,
     marks: Vec<bool>,
     words: Vec<u64>,
@@ -55,18 +56,34 @@ struct Frames {
 }
 
 impl Frames {
-    fn new(many: usize) -> Frames {
+    fn new(movable: usize, normal: usize) -> Frames {
+        let many = movable + normal;
         let mut free = vec![0; many / 64 + 1];
         for f in 0..many {
             free[f / 64] |= 1 << (f % 64);
         }
-        Frames { counts: vec![0; many], marks: vec![false; many], words: vec![0; many * WORDS], free }
+        Frames { movable, counts: vec![0; many], marks: vec![false; many], words: vec![0; many * WORDS], free }
     }
 
-    fn take(&mut self) -> Option<usize> {
-        let at = self.free.iter().position(|word| *word != 0)?;
-        let f = at * 64 + self.free[at].trailing_zeros() as usize;
-        self.free[at] &= self.free[at] - 1;
+    /// The lowest free frame, of both zones or of one.
+    fn take(&mut self, zone: Option<Zone>) -> Option<usize> {
+        let (first, end) = match zone {
+            None => (0, self.counts.len()),
+            Some(Zone::Movable) => (0, self.movable),
+            Some(Zone::Normal) => (self.movable, self.counts.len()),
+        };
+        let mut f = first;
+        let f = loop {
+            let rest = self.free.get(f / 64)? >> (f % 64);
+            if rest != 0 {
+                break f + rest.trailing_zeros() as usize;
+            }
+            f = (f / 64 + 1) * 64;
+        };
+        if f >= end {
+            return None;
+        }
+        self.free[f / 64] &= !(1 << (f % 64));
         self.counts[f] = 1;
         self.marks[f] = false;
         self.words[f * WORDS..(f + 1) * WORDS].fill(0);
@@ -86,6 +103,12 @@ impl Frames {
     }
 }
 
+#[derive(Clone, Copy, PartialEq)]
+enum Zone {
+    Movable,
+    Normal,
+}
+
 #[derive(Clone, Copy)]
 enum Op {
     Map { page: u64, n: u64, write: bool },
@@ -97,6 +120,9 @@ enum Op {
     Unpin { handle: usize },
     Give { handle: usize, to: usize },
     Take { handle: usize },
+    Get { handle: usize, page: u64 },
+    Put { handle: usize },
+    Move { process: usize, page: u64, zone: Zone },
     Transfer { handle: usize, outward: bool, index: u64, slot: u64, n: u64 },
     Fork { child: usize },
     Exit,
@@ -106,6 +132,7 @@ enum Handle {
     Unmade,
     Held(usize, Vec<usize>, bool),
     Given(usize, Vec<usize>, bool),
+    Got(usize, usize),
     Gone,
 }
 
@@ -115,6 +142,8 @@ enum Job {
     From(u64),
     Share(u64),
     Copy(u64, usize, Option<usize>),
+    Count(Entry),
+    Place(Entry, u64),
 }
 
 struct Actor<'s> {
@@ -157,7 +186,7 @@ fn ready(frames: &mut Frames, page: &mut Page, write: bool, pinned: bool) -> Opt
     let entry = match page.entry {
         Some(entry) => entry,
         None => {
-            let frame = frames.take()?;
+            let frame = frames.take(None)?;
             frames.marks[frame] = true;
             Entry { frame, writable: false }
         }
@@ -171,7 +200,7 @@ fn ready(frames: &mut Frames, page: &mut Page, write: bool, pinned: bool) -> Opt
         if frames.counts[frame] == 1 {
             frames.marks[frame] = true;
         } else {
-            let copy = frames.take()?;
+            let copy = frames.take(None)?;
             frames.copy(frame, copy);
             frames.marks[copy] = true;
             frames.put(frame, 1);
@@ -186,7 +215,7 @@ impl<'s> Machine<'s> {
     fn read(text: &'s str) -> Machine<'s> {
         let mut names: HashMap<&str, Named> = HashMap::new();
         let mut machine = Machine {
-            frames: Frames::new(0),
+            frames: Frames::new(0, 0),
             processes: Vec::new(),
             process_names: Vec::new(),
             actors: Vec::new(),
@@ -203,8 +232,8 @@ impl<'s> Machine<'s> {
             match words.next().unwrap() {
                 "gup" | "seed" => {}
                 "frames" => {
-                    let many = number(words.next()) + number(words.next());
-                    machine.frames = Frames::new(many as usize);
+                    let movable = number(words.next()) as usize;
+                    machine.frames = Frames::new(movable, number(words.next()) as usize);
                 }
                 kind @ ("process" | "child") => {
                     let name = words.next().unwrap();
@@ -213,13 +242,13 @@ impl<'s> Machine<'s> {
                     let birth = if kind == "process" { Birth::Born } else { Birth::Unborn };
                     machine.processes.push(Process { pages: VecDeque::with_capacity(1024), birth, has_pinned: false, structure: None, table: None });
                 }
-                kind @ ("thread" | "device") => {
+                kind @ ("thread" | "device" | "mover") => {
                     let name = words.next().unwrap();
                     names.insert(name, Named::Actor(machine.actors.len()));
-                    let (process, store) = if kind == "thread" {
-                        (Some(process(&names, words.next().unwrap())), Vec::new())
-                    } else {
-                        (None, vec![0; number(words.next()) as usize])
+                    let (process, store) = match kind {
+                        "thread" => (Some(process(&names, words.next().unwrap())), Vec::new()),
+                        "device" => (None, vec![0; number(words.next()) as usize]),
+                        _ => (None, Vec::new()),
                     };
                     machine.actors.push(Actor { name, process, store, ops: Vec::new(), done: 0, far: 0, job: Job::Idle, taken: Vec::new(), moved: Vec::new() });
                 }
@@ -273,6 +302,20 @@ impl<'s> Machine<'s> {
             "unpin" => Op::Unpin { handle: handle(names, words.next().unwrap()) },
             "give" => Op::Give { handle: handle(names, words.next().unwrap()), to: actor(names, words.next().unwrap()) },
             "take" => Op::Take { handle: handle(names, words.next().unwrap()) },
+            "get" => {
+                let name = words.next().unwrap();
+                let handle = self.handles.len();
+                names.insert(name, Named::Handle(handle));
+                self.handles.push(Handle::Unmade);
+                self.handle_names.push(name);
+                Op::Get { handle, page: number(words.next()) }
+            }
+            "put" => Op::Put { handle: handle(names, words.next().unwrap()) },
+            "move" => {
+                let process = process(names, words.next().unwrap());
+                let page = number(words.next());
+                Op::Move { process, page, zone: if words.next() == Some("normal") { Zone::Normal } else { Zone::Movable } }
+            }
             way @ ("out" | "in") => {
                 let handle = handle(names, words.next().unwrap());
                 Op::Transfer { handle, outward: way == "out", index: number(words.next()), slot: number(words.next()), n: number(words.next()) }
@@ -283,10 +326,17 @@ impl<'s> Machine<'s> {
         }
     }
 
+    /// The process that the operation is of, or names.
+    fn concerned(&self, a: usize, op: &Op) -> Option<usize> {
+        match op {
+            Op::Move { process, .. } => Some(*process),
+            _ => self.actors[a].process,
+        }
+    }
+
     /// What the actor waits for before a turn of the operation.
     fn waits(&self, a: usize, op: &Op) -> Option<Wait> {
-        let actor = &self.actors[a];
-        let Some(p) = actor.process else {
+        let Some(p) = self.concerned(a, op) else {
             return self.waits_for_pin(a, op);
         };
         let process = &self.processes[p];
@@ -303,7 +353,8 @@ impl<'s> Machine<'s> {
         let needed = match op {
             Op::Load { page, .. } => entry(*page).is_none(),
             Op::Store { page, .. } => !entry(*page).is_some_and(|entry| entry.writable),
-            Op::Unpin { .. } | Op::Give { .. } | Op::Take { .. } | Op::Transfer { .. } => return self.waits_for_pin(a, op),
+            Op::Move { .. } => held(process.table),
+            Op::Put { .. } | Op::Unpin { .. } | Op::Give { .. } | Op::Take { .. } | Op::Transfer { .. } => return self.waits_for_pin(a, op),
             _ => true,
         };
         needed.then_some(Wait::Lock)
@@ -325,7 +376,7 @@ impl<'s> Machine<'s> {
         if self.waits(a, &op).is_some() {
             return false;
         }
-        if actor.process.is_some_and(|p| self.processes[p].birth == Birth::Failed) {
+        if self.concerned(a, &op).is_some_and(|p| self.processes[p].birth == Birth::Failed) {
             if let Op::Fork { child } = op {
                 self.processes[child].birth = Birth::Failed;
             }
@@ -347,6 +398,9 @@ impl<'s> Machine<'s> {
                 }
                 self.answer(a, "ok");
             }
+            Op::Get { handle, page } => self.get(a, handle, page),
+            Op::Put { handle } => self.put(a, handle),
+            Op::Move { process, page, zone } => self.migrate(a, process, page, zone),
             Op::Transfer { handle, outward, index, slot, n } => self.transfer(a, handle, outward, index, slot, n),
             Op::Fork { child } => self.fork(a, child),
             Op::Exit => self.exit(a),
@@ -512,6 +566,66 @@ impl<'s> Machine<'s> {
         }
     }
 
+    fn get(&mut self, a: usize, handle: usize, page: u64) {
+        let p = self.own(a);
+        let Some(row) = self.processes[p].page(page) else {
+            return self.answer(a, "missing");
+        };
+        if ready(&mut self.frames, row, false, false).is_none() {
+            return self.answer(a, "noframe");
+        }
+        let frame = row.entry.unwrap().frame;
+        self.frames.counts[frame] += 1;
+        self.handles[handle] = Handle::Got(a, frame);
+        self.answer(a, "ok");
+    }
+
+    fn put(&mut self, a: usize, handle: usize) {
+        match self.handles[handle] {
+            Handle::Got(by, frame) if by == a => {
+                self.frames.put(frame, 1);
+                self.handles[handle] = Handle::Gone;
+                self.answer(a, "ok");
+            }
+            _ => self.answer(a, "notheld"),
+        }
+    }
+
+    /// A move of the page: its entry is cleared, its frame counted, and another takes its place, or the entry is put back.
+    fn migrate(&mut self, a: usize, p: usize, page: u64, zone: Zone) {
+        let process = &mut self.processes[p];
+        let job = self.actors[a].job;
+        let Some(row) = process.page(page) else {
+            return self.answer(a, "missing");
+        };
+        match job {
+            Job::Count(entry) => self.actors[a].job = Job::Place(entry, self.frames.counts[entry.frame]),
+            Job::Place(entry, count) => {
+                row.entry = Some(entry);
+                let to = if count == 1 { self.frames.take(Some(zone)) } else { None };
+                if let Some(to) = to {
+                    self.frames.copy(entry.frame, to);
+                    self.frames.marks[to] = self.frames.marks[entry.frame];
+                    self.frames.put(entry.frame, 1);
+                    row.entry = Some(Entry { frame: to, ..entry });
+                }
+                process.table = None;
+                match to {
+                    Some(_) => self.answer(a, "ok"),
+                    None if count == 1 => self.answer(a, "noframe"),
+                    None => self.answer(a, &format!("busy {count}")),
+                }
+            }
+            _ => match row.entry.take() {
+                None => self.answer(a, "untouched"),
+                Some(entry) => {
+                    process.table = Some(a);
+                    self.actors[a].job = Job::Count(entry);
+                }
+            },
+        }
+    }
+
     fn transfer(&mut self, a: usize, handle: usize, outward: bool, index: u64, slot: u64, n: u64) {
         let (frames, may_write) = match &self.handles[handle] {
             Handle::Held(by, frames, write) if *by == a => (frames, *write),
@@ -583,7 +697,7 @@ impl<'s> Machine<'s> {
                 parent.table = None;
                 actor.job = Job::From(page + 1);
             }
-            Job::Copy(page, _, None) => match frames.take() {
+            Job::Copy(page, _, None) => match frames.take(None) {
                 Some(to) => actor.job = Job::Copy(page, 0, Some(to)),
                 None => {
                     for row in child.pages.drain(..) {
@@ -607,6 +721,7 @@ impl<'s> Machine<'s> {
                 parent.table = None;
                 actor.job = Job::From(page + 1);
             }
+            Job::Count(_) | Job::Place(..) => unreachable!("no thread moves a page"),
         }
     }
 

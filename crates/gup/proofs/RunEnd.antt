@@ -6,7 +6,7 @@ use Rattle.gup_plain.specs.Note.{NoteValue}
 use Rattle.gup_plain.specs.declared.note.Waiting.{Waiting}
 use Rattle.gup_script.specs.declared.op.Op.{Op}
 use Rattle.gup_script.specs.Script.{ScriptValue}
-use Rattle.gup_spec_journal.specs.Place.{has_finished, ops_of, doer}
+use Rattle.gup_spec_journal.specs.Place.{has_finished, ops_of, doer_of}
 use Rattle.gup_spec_turns.specs.Cause.{HaveFinished, WaitsForBirthOrPin}
 use Rattle.gup_spec_turns.specs.Run.{RunState, op_in, waiting_with, waiting_in, is_ready, can_go, IsCoreRun}
 use Rattle.gup_lines.specs.Text.{NamesWaiting, text_of}
@@ -48,7 +48,7 @@ none_stuck script end zero most finished = refl
 none_stuck script end (suc n) most finished =
     let before = none_stuck script end n (omega arith) finished in
     let done : op_in script end n ≡ None = op_of_finished script end n (finished n (omega arith)) in
-    let waits : waiting_in script end n ≡ None = ap (waiting_with end.core (doer script n)) done in
+    let waits : waiting_in script end n ≡ None = ap (λ o. waiting_with end.core (doer_of script n o) o) done in
     ap (λ (l : List ℕ). l ++ stuck_of script n (waiting_in script end n)) before ∙ ap (stuck_of script n) waits
 
 pub finished_text : (script : ScriptValue) (notes : List NoteValue) (end : RunState) → HaveFinished script end → run_text script notes end ≡ text_of script notes

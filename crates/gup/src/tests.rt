@@ -19,7 +19,7 @@ const FIRST: &str =
 const FIRST_TEXT: &str = "t 1 ok\nt 2 ok 0\nt 3 ok\nt 4 ok 7\nt 5 ok\nt 6 missing\n";
 
 /// Scripts, with the statuses and the texts of their runs.
-const RUNS: [(&str, u8, &str); 30] = [
+const RUNS: [(&str, u8, &str); 45] = [
     // Nobody has anything to do.
     ("gup 1\nframes 8 8 64\nprocess p\nthread t p\n", 0, ""),
     ("gup 1\nframes 8 8 64\n", 0, ""),
@@ -80,6 +80,92 @@ const RUNS: [(&str, u8, &str); 30] = [
         "gup 1\nframes 8 8 64\nprocess p\nthread t p\ndevice d 2\non t map 5 2 rw\non t store 6.511 9\non t pin h 5 2 write\non t give h d\non t give h d\non t unpin h\non t take h\non t load 5.511\non t load 6.0\non t unpin h\non d take h\non d out h 1023 1 1\non d out h 1023 0 2\non d in h 0 1 2\non d in h 511 0 2\non d give h d\non d out h 0 0 1\non d take h\non d give h t\n",
         0,
         "t 1 ok\nt 2 ok\nt 3 ok 2\nt 4 ok\nd 1 ok\nt 5 notheld\nd 2 ok 9\nt 6 notheld\nd 3 range\nd 4 range\nd 5 ok 0 9\nd 6 ok\nd 7 notheld\nd 8 ok\nd 9 ok\nt 7 ok\nt 8 ok 0\nt 9 ok 9\nt 10 ok\n",
+    ),
+    // A reference is of its page's frame as a load finds it, keeps it over an unmap, and is put back by its own actor, once.
+    (
+        "gup 1\nframes 1 0 64\nprocess p\nthread t p\nthread v p\non t get g 5\non t map 5 2 rw\non t get h 5\non t get k 6\non t unmap 5 1\non t load 6.0\non v put h\non v put g\non t put h\non t put h\non t put k\non t load 6.0\nturns t*6 v*2\n",
+        0,
+        "t 1 missing\nt 2 ok\nt 3 ok\nt 4 noframe\nt 5 ok\nt 6 noframe\nv 1 notheld\nv 2 notheld\nt 7 ok\nt 8 notheld\nt 9 notheld\nt 10 ok 0\n",
+    ),
+    // It may be got of a page that may not be written, makes no fork copy the page, and is one of the frame that is shared.
+    (
+        "gup 1\nframes 1 0 64\nprocess p\nchild c\nthread t p\nthread u c\non t map 5 1 r\non t get g 5\non t get h 5\non t fork c\non t put g\non u get k 5\non u unmap 5 1\non t unmap 5 1\non t map 6 1 r\non t load 6.0\non u put k\non t load 6.0\non t put h\non t load 6.0\nturns t*9 u*2 t*2 u t*3\n",
+        0,
+        "t 1 ok\nt 2 ok\nt 3 ok\nt 4 ok\nt 5 ok\nt 6 ok\nu 1 ok\nu 2 ok\nt 7 ok\nt 8 noframe\nu 3 ok\nt 9 noframe\nt 10 ok\nt 11 ok 0\n",
+    ),
+    // A process that failed has no references.
+    (
+        "gup 1\nframes 1 0 64\nprocess p\nchild c\nthread t p\nthread u c\non t map 5 1 rw\non t pin h 5 1 write\non t fork c\non u get g 5\non u put g\n",
+        0,
+        "t 1 ok\nt 2 ok 1\nt 3 noframe\nu 1 unborn\nu 2 unborn\n",
+    ),
+    // A fork, an unmap, a discard and an exit wait for a move that has cleared a page, and then find it moved.
+    (
+        "gup 1\nframes 8 8 64\nprocess p\nchild c\nthread t p\nthread u c\nmover m\non t map 5 1 rw\non t store 5.0 7\non t fork c\non t store 5.0 8\non u load 5.0\non m move p 5 normal\nturns t*2 m t*4 m*2 t*4\n",
+        0,
+        "t 1 ok\nt 2 ok\nm 1 ok\nt 3 ok\nt 4 ok\nu 1 ok 7\n",
+    ),
+    (
+        "gup 1\nframes 1 1 64\nprocess p\nthread t p\nthread v p\nmover m\non t map 5 2 rw\non t store 5.0 7\non t load 5.0\non t map 5 2 rw\non t store 5.0 8\non t store 6.0 9\non v unmap 5 2\non m move p 5 normal\nturns t*2 m v*3 m*2 v*2\n",
+        0,
+        "t 1 ok\nt 2 ok\nm 1 ok\nv 1 ok\nt 3 missing\nt 4 ok\nt 5 ok\nt 6 ok\n",
+    ),
+    (
+        "gup 1\nframes 1 1 64\nprocess p\nthread t p\nthread v p\nmover m\non t map 5 1 rw\non t store 5.0 7\non t load 5.0\non t map 6 1 rw\non t store 6.0 9\non v discard 5 1\non m move p 5 normal\nturns t*2 m v*3 m*2 v\n",
+        0,
+        "t 1 ok\nt 2 ok\nm 1 ok\nv 1 ok\nt 3 ok 0\nt 4 ok\nt 5 ok\n",
+    ),
+    (
+        "gup 1\nframes 1 1 64\nprocess p\nthread t p\nthread v p\nmover m\non t map 5 1 rw\non t store 5.0 7\non t load 5.0\non t map 5 2 rw\non t store 5.0 8\non t store 6.0 9\non v exit\non m move p 5 normal\nturns t*2 m v*3 m*2 v*2\n",
+        0,
+        "t 1 ok\nt 2 ok\nm 1 ok\nv 1 ok\nt 3 missing\nt 4 ok\nt 5 ok\nt 6 ok\n",
+    ),
+    // So do a fork and an unmap for a page of a long pin: the fork copies what is pinned then, and the pin keeps what is
+    // unmapped.
+    (
+        "gup 1\nframes 8 8 64\nprocess p\nchild c\nthread t p\nthread v p\nthread u c\ndevice d 8\non t map 5 1 rw\non t store 5.0 7\non t pin h 5 1 write long\non t store 5.0 8\non t give h d\non v fork c\non u load 5.0\non d take h\non d out h 0 0 1\nturns t*3 v*3 t*2 v*517\n",
+        0,
+        "t 1 ok\nt 2 ok\nt 3 ok 1\nv 1 ok\nt 4 ok\nu 1 ok 7\nt 5 ok\nd 1 ok\nd 2 ok 8\n",
+    ),
+    (
+        "gup 1\nframes 8 8 64\nprocess p\nthread t p\nthread v p\ndevice d 8\non t map 5 1 rw\non t store 5.0 7\non t pin h 5 1 write long\non t give h d\non v unmap 5 1\non d take h\non d out h 0 0 1\nturns t*3 v*3 t*2 v\n",
+        0,
+        "t 1 ok\nt 2 ok\nt 3 ok 1\nv 1 ok\nt 4 ok\nd 1 ok\nd 2 ok 7\n",
+    ),
+    // A device goes on with its page while a move looks at it. The move answers the count that it read, though the pin is
+    // gone since.
+    (
+        "gup 1\nframes 8 8 64\nprocess p\nthread t p\ndevice d 8\nmover m\non t map 5 1 rw\non t store 5.0 7\non t pin h 5 1 write\non t give h d\non t load 5.1\non d take h\non d out h 0 0 1\non d in h 1 0 1\non d unpin h\non m move p 5 normal\non m move p 5 normal\nturns t*4 d m d m d*2 m\n",
+        0,
+        "t 1 ok\nt 2 ok\nt 3 ok 1\nt 4 ok\nd 1 ok\nd 2 ok 7\nd 3 ok 7\nd 4 ok\nm 1 busy 1025\nt 5 ok 7\nm 2 ok\n",
+    ),
+    // Of two processes that share a page, one gives it up before the move counts, or after it.
+    (
+        "gup 1\nframes 8 8 64\nprocess p\nchild c\nthread t p\nthread u c\nmover m\non t map 5 1 rw\non t store 5.0 7\non t fork c\non t load 5.0\non t store 5.0 8\non t load 5.0\non u load 5.0\non u unmap 5 1\non m move p 5 normal\nturns t*6 u m u m*2 t\n",
+        0,
+        "t 1 ok\nt 2 ok\nt 3 ok\nu 1 ok 7\nu 2 ok\nm 1 ok\nt 4 ok 7\nt 5 ok\nt 6 ok 8\n",
+    ),
+    (
+        "gup 1\nframes 8 8 64\nprocess p\nchild c\nthread t p\nthread u c\nmover m\non t map 5 1 rw\non t store 5.0 7\non t fork c\non t load 5.0\non u store 5.0 9\non u load 5.0\non m move p 5 normal\non m move p 5 normal\non m move c 5 normal\nturns t*6 m*2 u m\n",
+        0,
+        "t 1 ok\nt 2 ok\nt 3 ok\nu 1 ok\nm 1 busy 2\nt 4 ok 7\nu 2 ok 9\nm 2 ok\nm 3 ok\n",
+    ),
+    // A long pin takes normal frames alone, for the copy of a shared page, for a fault and to move to; and has the pages
+    // before one that can't be moved.
+    (
+        "gup 1\nframes 1 1 64\nprocess p\nchild c\nthread t p\nthread u c\nmover m\non t map 5 1 rw\non t store 5.0 7\non t fork c\non t pin h 5 1 read long\non u load 5.0\non m move c 5 movable\non m move c 5 normal\nturns t*7\n",
+        0,
+        "t 1 ok\nt 2 ok\nt 3 ok\nt 4 ok 1\nu 1 ok 7\nm 1 noframe\nm 2 noframe\n",
+    ),
+    (
+        "gup 1\nframes 2 0 64\nprocess p\nthread t p\non t map 5 1 rw\non t pin h 5 1 write long\non t load 5.0\non t pin k 5 1 write long\non t store 5.0 3\non t load 5.0\n",
+        0,
+        "t 1 ok\nt 2 noframe\nt 3 ok 0\nt 4 noframe\nt 5 ok\nt 6 ok 3\n",
+    ),
+    (
+        "gup 1\nframes 8 8 64\nprocess p\nthread t p\nmover m\non t map 5 3 rw\non t store 5.0 1\non t store 6.0 2\non t store 7.0 3\non t pin k 6 1 read\non t pin h 5 3 write long\non t unpin h\non t load 6.0\non m move p 6 normal\non m move p 5 movable\nturns t*13\n",
+        0,
+        "t 1 ok\nt 2 ok\nt 3 ok\nt 4 ok\nt 5 ok 1\nt 6 ok 1 of 3 unmovable 1025\nt 7 ok\nt 8 ok 2\nm 1 busy 1025\nm 2 ok\n",
     ),
     // At most 1,024 pages.
     (
@@ -214,7 +300,7 @@ const REFUSALS: [(&str, u32, Reason, &str); 7] = [
         "line 5: name\n",
     ),
     (
-        "gup 1\nframes 8 8 64\nprocess p\nthread t p\non t pin h 5 1 read long\n",
+        "gup 1\nframes 8 8 64\nprocess p\nthread t p\non t pinfast h 5 1 read\n",
         5,
         Reason::Later,
         "line 5: later\n",

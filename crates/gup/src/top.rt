@@ -23,7 +23,8 @@ use gup_core::Machine;
 use gup_io::{ReadToEnd, Sink, Source, read_up_to, write_all};
 use gup_law_journal::{
     core_run_follows, core_run_is_in_order, core_run_is_known, core_run_is_plain,
-    core_run_is_thorough, finished_runs_answer_all, no_frame_has_its_cause, runs_end_at_waits,
+    core_run_is_thorough, finished_runs_answer_all, moves_have_their_causes,
+    no_frame_has_its_cause, pins_have_their_causes, runs_end_at_waits,
 };
 use gup_law_owners::plain_journals_are_owned;
 use gup_plain::Journal;
@@ -127,6 +128,8 @@ fn run_script(alloc: Global, script: Script) -> Result<Told, NoMemory>
     plain_journals_are_owned();
     core_run_is_known();
     no_frame_has_its_cause();
+    moves_have_their_causes();
+    pins_have_their_causes();
     runs_end_at_waits();
     finished_runs_answer_all();
     let _actors = script.actors();

@@ -10,7 +10,7 @@ use Rattle.gup_plain.specs.declared.note.What.TheVariants.{Idle, Wait}
 use Rattle.gup_script.specs.declared.op.Op.{Op}
 use Rattle.gup_script.specs.Script.{ScriptValue}
 use Rattle.gup_spec_events.specs.State.{CoreState}
-use Rattle.gup_spec_journal.specs.Place.{Doer, Place, doer, has_finished, ops_of}
+use Rattle.gup_spec_journal.specs.Place.{Doer, Place, doer_of, has_finished, ops_of}
 use Rattle.gup_spec_journal.specs.Follows.{note_of, notes_of_turn}
 use Rattle.gup_spec_turns.specs.Run.{RunState, is_ready, op_in, waiting_in, waiting_with, core_turn_by, run_after}
 use Rattle.gup_core.specs.declared.seats.Seat.{Seat}
@@ -51,7 +51,7 @@ waits_turn s who far None waiting is = absurd (cc is)
 waits_turn s who far (Some op) waiting is = ap (λ w. core_turn_by s who far (Some op) w) is
 
 pub waits_still : (m : MachineValue) (a : ℕ) (waiting : Waiting) → WaitsFor m a waiting → IsStill m a (Wait waiting)
-waits_still m a waiting waits r h = (waits_turn r.core (doer m.script a) (r.places a).far (op_in m.script r a) waiting (waits r h), refl)
+waits_still m a waiting waits r h = (waits_turn r.core (doer_of m.script a (op_in m.script r a)) (r.places a).far (op_in m.script r a) waiting (waits r h), refl)
 
 -- nor does that of an actor that has finished
 finished_at : (script : ScriptValue) (a : ℕ) (place : Place) → has_finished script a place ≡ true → length (ops_of script a) ≤ place.answered
@@ -60,7 +60,7 @@ finished_at script a place is = grind (arith, nat_tests)
 pub finished_still : (m : MachineValue) (a : ℕ) → HasFinished m a → IsStill m a Idle
 finished_still m a finished r h =
     let none : op_in m.script r a ≡ None = slice_get_past (ops_of m.script a) (r.places a).answered (finished_at m.script a (r.places a) (finished r h)) in
-    (ap (λ o. core_turn_by r.core (doer m.script a) (r.places a).far o (waiting_in m.script r a)) none, refl)
+    (ap (λ o. core_turn_by r.core (doer_of m.script a o) (r.places a).far o (waiting_in m.script r a)) none, refl)
 
 -- ---- whom it wakes
 

@@ -1,5 +1,7 @@
 pub mod Owning
 pub mod Forking
+pub mod Moves
+pub mod Moving
 pub mod Pinning
 pub mod Parting
 pub mod Notes

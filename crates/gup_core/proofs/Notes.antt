@@ -1,26 +1,32 @@
 -- No turn has two events and no answer: an operation that goes on counts one page or word a turn.
-use Rattle.std.proofs.Common.{◌==◌, ℕ, ◌+◌, Bool, true, false, List, [], ◌∷◌, length, nat_lt, Option, Some, None, Ok, Err, zero, suc}
+use Rattle.std.proofs.Common.{◌==◌, ℕ, ◌+◌, Bool, true, false, List, [], ◌∷◌, ◌++◌, length, nat_lt, Option, Some, None, Ok, Err, zero, suc}
 use Rattle.gup_base.specs.Parts.{words_of, word_at}
+use Rattle.gup_base.specs.declared.entry.Allowed.{Allowed}
+use Rattle.gup_base.specs.declared.entry.Allowed.TheVariants.{Only}
 use Rattle.gup_base.specs.declared.entry.Entry.{Entry}
 use Rattle.gup_base.specs.declared.entry.Rights.{Rights}
 use Rattle.gup_base.specs.declared.entry.Want.{Want}
+use Rattle.gup_base.specs.declared.entry.Zone.{Zone}
 use Rattle.gup_plain.specs.Denial.{any_mapped, any_unmapped, map_denial, protect_denial, is_held_by, transfer_denial}
 use Rattle.gup_plain.specs.Event.{words}
 use Rattle.gup_plain.specs.State.{Birth, failed}
 use Rattle.gup_plain.specs.declared.answer.Answer.{Answer}
-use Rattle.gup_plain.specs.declared.event.PlainEvent.TheVariants as events
+use Rattle.gup_plain.specs.declared.answer.Answer.TheVariants as answers
 use Rattle.gup_plain.specs.declared.note.What.{What}
 use Rattle.gup_plain.specs.declared.note.What.TheVariants.{Event}
 use Rattle.gup_script.specs.declared.op.Op.{Op}
-use Rattle.gup_script.specs.declared.op.Op.TheVariants.{Map, Unmap, Protect, Discard, Load, Store, Pin, Unpin, Give, Transfer, Fork, Exit}
-use Rattle.gup_spec_events.specs.State.{CoreState, Job, forking, ForkStep, between, copying}
+use Rattle.gup_script.specs.declared.op.Op.TheVariants.{Map, Unmap, Protect, Discard, Load, Store, Pin, Unpin, Give, Get, Put, Transfer, Fork, Exit, Move}
+use Rattle.gup_spec_events.specs.State.{CoreState, Job, forking, ForkStep, between, copying, idle, moving, Counted, unread, one, more}
+use Rattle.gup_spec_events.specs.Event.{CoreEvent, entry_of, take_frame, put_entry, place_frame, restore_entry, run}
 use Rattle.gup_spec_events.specs.Fault.{Fault}
+use Rattle.gup_spec_journal.specs.Denial.{has_reference}
 use Rattle.gup_spec_turns.specs.Turn.{op_turn, failed_turn, turn_at}
 use Rattle.gup_spec_turns.specs.PageTurns.{load_fault, store_fault, exit_turn_by, lowest_page}
-use Rattle.gup_spec_turns.proofs.TurnParts.{loads_after, stores_after, map_turn_by, unmap_turn_by, protect_turn_by, discard_turn_by, unpin_turn_by, give_turn_by, transfer_turn_by}
-use Rattle.gup_spec_turns.specs.PinTurns.{pin_fault, pinned_if, ends_pin, pin_turn_by, but_last, unpinned}
+use Rattle.gup_spec_turns.proofs.TurnParts.{loads_after, stores_after, map_turn_by, unmap_turn_by, protect_turn_by, discard_turn_by, unpin_turn_by, give_turn_by, gets_after, put_turn_by, transfer_turn_by, clear_turn_by}
+use Rattle.gup_spec_turns.specs.PinTurns.{pin_fault, ends_pin, pin_turn_by, but_last, unpinned, got_by, got_frame, raises, moves_first, pins_behind, clears_or_pins, pins_moved, moved_turn, pin_turn_in}
+use Rattle.gup_spec_turns.specs.MoveTurns.{place_turn, counted_turn, move_turn}
 use Rattle.gup_spec_turns.specs.ForkTurns.{page_turn, next_page, next_turn, frame_turn, copy_turn, copying_turn, fork_step_turn, fork_turn}
-use Rattle.gup_spec_turns.specs.CoreTurn.{free_frame, free_in, zones_of}
+use Rattle.gup_spec_turns.specs.CoreTurn.{free_frame, free_in, entry_in, zones_of}
 
 abbrev pub NoTwo : List What → Type 0
 NoTwo (Event event ∷ Event next ∷ []) = ⊥
@@ -58,17 +64,38 @@ exit_two : (s : CoreState) (a p : ℕ) (lowest : Option ℕ) → NoTwo (exit_tur
 exit_two s a p None = tt
 exit_two s a p (Some page) = tt
 
-ends_two : (a p handle n far : ℕ) (answer : Answer) → NoTwo (ends_pin a p handle n far answer).whats
-ends_two a p handle n zero answer = tt
-ends_two a p handle n (suc far) answer = tt
+ends_two : (before : List CoreEvent) (a handle n far : ℕ) (answer : Answer) → NoTwo (ends_pin before a handle n far answer).whats
+ends_two before a handle n zero answer = tt
+ends_two before a handle n (suc far) answer = tt
+
+pinned_two : (last : Bool) (before : List CoreEvent) (a p handle page n : ℕ) (want : Want) (e : Entry) → NoTwo (pins_behind before a p handle page n want last e).whats
+pinned_two true before a p handle page n want e = tt
+pinned_two false before a p handle page n want e = tt
+
+clears_two : (moves last : Bool) (before : List CoreEvent) (a p handle page n : ℕ) (want : Want) (e : Entry) → NoTwo (clears_or_pins moves before a p handle page n want last e).whats
+clears_two true last before a p handle page n want e = tt
+clears_two false last before a p handle page n want e = pinned_two last before a p handle page n want e
 
 pin_two : (fault : Fault) (s : CoreState) (a p handle page n got : ℕ) (want : Want) → NoTwo (pin_turn_by fault s a p handle page n got want).whats
-pin_two (Err answer) s a p handle page n got want = ends_two a p handle n got answer
-pin_two (Ok before) s a p handle page n got want = go (got + 1 == n)
-  where
-    go : (last : Bool) → NoTwo (Event (events.PinTry a p page want.write) ∷ pinned_if last a handle n)
-    go true = tt
-    go false = tt
+pin_two (Err answer) s a p handle page n got want = ends_two (raises a p got) a handle n got answer
+pin_two (Ok before) s a p handle page n got want =
+    let es : List CoreEvent = raises a p got ++ before in
+    let e : Entry = entry_in ((run s es).entry p page) in
+    clears_two (moves_first (run s es) want e) (got + 1 == n) es a p handle page n want e
+
+placed_two : (a p handle page n got : ℕ) (want : Want) (e : Entry) (free : Option ℕ) → NoTwo (pins_moved a p handle page n got want e free).whats
+placed_two a p handle page n got want e None = ends_two (restore_entry a p page e (zones_of want) one ∷ []) a handle n got answers.NoFrame
+placed_two a p handle page n got want e (Some f) =
+    pinned_two (got + 1 == n) (take_frame a f ∷ place_frame a p page f e (zones_of want) ∷ put_entry a e.frame ∷ []) a p handle page n want (entry_of f e.writable)
+
+later_two : (s : CoreState) (a p handle page n got : ℕ) (want : Want) (e : Entry) (count : Counted) → NoTwo (moved_turn s a p handle page n got want e count).whats
+later_two s a p handle page n got want e unread = tt
+later_two s a p handle page n got want e one = placed_two a p handle page n got want e (free_in s (zones_of want))
+later_two s a p handle page n got want e (more count) = ends_two (restore_entry a p page e (zones_of want) (more count) ∷ []) a handle n got (answers.Unmovable count)
+
+pin_in_two : (s : CoreState) (a p handle page n got : ℕ) (want : Want) (job : Job) → NoTwo (pin_turn_in s a p handle page n got want job).whats
+pin_in_two s a p handle page n got want (moving q g e allowed count) = later_two s a p handle (page + got) n got want e count
+pin_in_two s a p handle page n got want job = pin_two (pin_fault s a p (page + got) want.write (free_in s (zones_of want))) s a p handle (page + got) n got want
 
 unpinned_two : (left : List ℕ) (a handle : ℕ) → NoTwo (unpinned left a handle)
 unpinned_two [] a handle = tt
@@ -81,6 +108,14 @@ unpin_two true a handle pinned = unpinned_two (but_last pinned) a handle
 give_two : (held : Bool) (a handle to : ℕ) → NoTwo (give_turn_by held a handle to).whats
 give_two false a handle to = tt
 give_two true a handle to = tt
+
+get_two : (s : CoreState) (fault : Fault) (a p handle page : ℕ) → NoTwo (gets_after s fault a p handle page).whats
+get_two s (Err answer) a p handle page = tt
+get_two s (Ok before) a p handle page = tt
+
+put_two : (held : Bool) (a handle f : ℕ) → NoTwo (put_turn_by held a handle f).whats
+put_two false a handle f = tt
+put_two true a handle f = tt
 
 transfer_two : (denied : Option Answer) (s : CoreState) (a handle : ℕ) (outward last : Bool) (index slot : ℕ) → NoTwo (transfer_turn_by denied s a handle outward last index slot).whats
 transfer_two (Some denied) s a handle outward last index slot = tt
@@ -116,6 +151,25 @@ fork_two : (s : CoreState) (a p c : ℕ) (job : Job) → NoTwo (fork_turn s a p 
 fork_two s a p c (forking q d done step) = step_two s a p c done step
 fork_two s a p c job = tt
 
+first_two : (a p page : ℕ) (zone : Zone) (right : Option Rights) (entry : Option Entry) → NoTwo (clear_turn_by right a p page zone entry).whats
+first_two a p page zone None entry = tt
+first_two a p page zone (Some rights) None = tt
+first_two a p page zone (Some rights) (Some e) = tt
+
+place_two : (a p page : ℕ) (e : Entry) (allowed : Allowed) (free : Option ℕ) → NoTwo (place_turn a p page e allowed free).whats
+place_two a p page e allowed None = tt
+place_two a p page e allowed (Some f) = tt
+
+counted_two : (s : CoreState) (a p page : ℕ) (e : Entry) (allowed : Allowed) (count : Counted) → NoTwo (counted_turn s a p page e allowed count).whats
+counted_two s a p page e allowed unread = tt
+counted_two s a p page e allowed one = place_two a p page e allowed (free_in s allowed)
+counted_two s a p page e allowed (more count) = tt
+
+move_two : (s : CoreState) (a p page : ℕ) (zone : Zone) (job : Job) → NoTwo (move_turn s a p page zone job).whats
+move_two s a p page zone idle = first_two a p page zone (s.right p page) (s.entry p page)
+move_two s a p page zone (moving q g e allowed count) = counted_two s a p page e (Only zone) count
+move_two s a p page zone job = tt
+
 no_two : (s : CoreState) (a p slots far : ℕ) (op : Op) → NoTwo (op_turn s a p slots far op).whats
 no_two s a p slots far (Map page n rights) = map_two (map_denial (any_mapped (s.right p) page n) (s.pages p) n) a p page n rights
 no_two s a p slots far (Unmap page n) = unmap_two (s.right p (page + far)) a p (page + far) (s.entry p (page + far)) (far + 1 == n)
@@ -124,12 +178,14 @@ no_two s a p slots far (Discard page n) = discard_two (s.right p (page + far)) a
 no_two s a p slots far (Load page word) = load_two s (load_fault s a p page (s.entry p page)) a p page word
 no_two s a p slots far (Store page word value) = store_two s (store_fault s a p page (s.entry p page)) a p page word value
 no_two s a p slots far (Pin handle page n want fast) =
-    let got : ℕ = length (s.taken a) in
-    pin_two (pin_fault s a p (page + got) want.write (free_in s (zones_of want))) s a p handle (page + got) n got want
+    pin_in_two s a p handle page n (length (s.taken a)) want (s.job a)
 no_two s a p slots far (Unpin handle) = unpin_two (is_held_by (s.handle handle) a) a handle (s.pinned handle)
 no_two s a p slots far (Give handle to) = give_two (is_held_by (s.handle handle) a) a handle to
+no_two s a p slots far (Get handle page) = get_two s (load_fault s a p page (s.entry p page)) a p handle page
+no_two s a p slots far (Put handle) = put_two (has_reference (got_by (s.got handle)) a) a handle (got_frame (s.got handle))
 no_two s a p slots far (Transfer handle outward slot parts) =
     transfer_two (transfer_denial (s.handle handle) a outward slots slot parts) s a handle outward (far + 1 == words_of parts) (word_at parts far) (slot + far)
+no_two s a p slots far (Move proc page zone) = move_two s a p page zone (s.job a)
 no_two s a p slots far (Fork child) = fork_two s a p child (s.job a)
 no_two s a p slots far Exit = exit_two s a p (lowest_page (s.right p))
 no_two s a p slots far op = tt

@@ -121,7 +121,7 @@ write_fault_own a p page (Some RW) (Some e) mark count free = by_entry e.writabl
     by_entry true = tt
     by_entry false = makes_writable_own a p page e (mark e.frame) (count e.frame) free
 
-load_fault_own : (s : CoreState) (a p page : ℕ) (entry : Option Entry) → AreOwn a p (events_of (load_fault s a p page entry))
+pub load_fault_own : (s : CoreState) (a p page : ℕ) (entry : Option Entry) → AreOwn a p (events_of (load_fault s a p page entry))
 load_fault_own s a p page None = read_fault_own a p page (s.right p page) None (free_frame s)
 load_fault_own s a p page (Some e) = tt
 
@@ -190,12 +190,12 @@ turn_is_own s a p slots far op alone = grind arith
 
 -- ---- pins and stores
 
--- pins, what running pins have taken, and the words of devices
+-- pins, what running pins have taken, the words of devices, and references
 abbrev pub Pins : Type 0
-Pins = (ℕ → Handle) × (ℕ → List ℕ) × (ℕ → List TakenPage) × (ℕ → ℕ → ℕ)
+Pins = (ℕ → Handle) × (ℕ → List ℕ) × (ℕ → List TakenPage) × (ℕ → ℕ → ℕ) × (ℕ → Option (ℕ × ℕ))
 
 abbrev pub pins_of : CoreState → Pins
-pins_of s = (s.handle, s.pinned, s.taken, s.store)
+pins_of s = (s.handle, s.pinned, s.taken, s.store, s.got)
 
 pub own_leaves_pins : (a p : ℕ) (s : CoreState) {e : CoreEvent} → IsOwn a p e → pins_of (happens s e) ≡ pins_of s
 own_leaves_pins a p s (takes f) = refl

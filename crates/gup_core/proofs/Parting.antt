@@ -29,7 +29,7 @@ back_plain [] (x ∷ high) (suc n) y many some = absurd (omega arith)
 back_plain (x ∷ low) high zero y many some = absurd (omega arith)
 back_plain (x ∷ low) high (suc n) y many some = back_plain low high n y (omega arith) some
 
-set_length : {A : Type 0} (xs : List A) (i : ℕ) (x : A) → length (slice_set xs i x) ≡ length xs
+pub set_length : {A : Type 0} (xs : List A) (i : ℕ) (x : A) → length (slice_set xs i x) ≡ length xs
 set_length [] i x = refl
 set_length (y ∷ xs) zero x = refl
 set_length (y ∷ xs) (suc i) x = ap (λ n. suc n) (set_length xs i x)

@@ -1,6 +1,6 @@
--- The events of a turn of a pin are of frames, of its process, of its handle and of what its actor has taken; those of a
--- turn of an operation on a pin are of frames, of the pin and of the actor's store.
-use Rattle.std.proofs.Common.{◌≡◌, ℕ, ◌+◌, ◌==◌, Bool, true, false, List, [], ◌∷◌, ◌++◌, length, Option, Some, None, Ok, Err, zero, suc, refl, ap, ◌∙◌, if◌then◌else◌, arith}
+-- The events of a turn of a pin or a get are of frames, of its process, of its handle and of what its actor has taken; those
+-- of a turn of an operation on a pin or a reference are of frames, of that and of the actor's store.
+use Rattle.std.proofs.Common.{◌≡◌, ℕ, ◌+◌, ◌==◌, Bool, true, false, List, [], ◌∷◌, ◌++◌, length, Option, Some, None, Ok, Err, zero, suc, refl, ap, if◌then◌else◌, arith}
 use Rattle.std.proofs.lemmas.Bool.Decides.{nat_tests}
 use Rattle.gup_base.specs.Parts.{Part, words_of, word_at}
 use Rattle.gup_base.specs.declared.entry.Entry.{Entry}
@@ -9,38 +9,51 @@ use Rattle.gup_base.specs.declared.entry.Want.{Want}
 use Rattle.gup_plain.specs.Denial.{is_held_by, transfer_denial}
 use Rattle.gup_plain.specs.State.{Birth}
 use Rattle.gup_plain.specs.declared.answer.Answer.{Answer}
-use Rattle.gup_space.proofs.After.{IsOf, AreOf, flagging, pinning, making, unpinning, giving, taking_over, moving_out, moving_in}
-use Rattle.gup_spec_events.specs.State.{CoreState, Taken as TakenPage, Job}
-use Rattle.gup_spec_events.specs.Event.{CoreEvent, happens, raise_flag, pin_page, make_handle, unpin_page, give_handle, take_handle, move_out, move_in, run}
+use Rattle.gup_plain.specs.declared.answer.Answer.TheVariants as answers
+use Rattle.gup_space.specs.Space.{SpaceValue}
+use Rattle.gup_space.specs.Shows.{ShowsSpace}
+use Rattle.gup_space.proofs.ShowsLemmas.{leave_other}
+use Rattle.gup_move.proofs.MoveLemmas.{leave_other as moves_leave}
+use Rattle.gup_space.proofs.After.{IsOf, AreOf, flagging, pinning, making, unpinning, giving, taking_over, getting, putting_back, moving_out, moving_in}
+use Rattle.gup_spec_events.specs.State.{CoreState, Taken as TakenPage, Job, idle, marking, moving, Counted, unread, one, more}
+use Rattle.gup_spec_events.specs.Event.{CoreEvent, entry_of, happens, take_frame, put_entry, clear_entry, count_moved, place_frame, restore_entry, raise_flag, pin_page, make_handle, unpin_page, give_handle, take_handle, get_reference, put_reference, move_out, move_in, taken_frames as frames_taken, run}
 use Rattle.gup_spec_events.specs.Fault.{Fault, events_of, unshare_fault, unshares, marks, breaks}
-use Rattle.gup_spec_turns.specs.CoreTurn.{free_in, zones_of}
-use Rattle.gup_spec_turns.specs.PinTurns.{raises, pin_fault, makes_if, ends_pin, pin_turn_by, pin_turn, last_of, but_last, unpin_turn, give_turn, take_turn}
-use Rattle.gup_spec_turns.proofs.TurnParts.{unpin_turn_by, give_turn_by, transfer_turn_by}
+use Rattle.gup_spec_turns.specs.CoreTurn.{free_in, zones_of, entry_in}
+use Rattle.gup_spec_journal.specs.Denial.{has_reference}
+use Rattle.gup_spec_turns.specs.PageTurns.{load_fault}
+use Rattle.gup_spec_turns.specs.PinTurns.{raises, pin_fault, makes_if, ends_pin, pin_turn_by, pin_turn, last_of, but_last, unpin_turn, give_turn, take_turn, get_turn, got_by, got_frame, put_turn, moves_first, pins_behind, clears_or_pins, ends_moved, pins_moved, moved_turn, pin_turn_at, pin_turn_in}
+use Rattle.gup_spec_turns.proofs.TurnParts.{unpin_turn_by, give_turn_by, gets_after, put_turn_by, transfer_turn_by}
 use Rattle.gup_spec_turns.specs.DeviceTurns.{moves, moves_value, transfer_turn, frame_at}
 use Rattle.gup_spec_turns.specs.JobPlace.{job_place, place_in}
-use Rattle.gup_core.proofs.Owning.{IsOwn, AreOwn, AreAll, through, two_lists, is_of, counts, marks_it, fills_own, breaks_own, write_fault_own, birth_stays, IsUnforked, job_stays, fork_stays, Pins, own_leaves_pins}
+use Rattle.gup_core.proofs.Owning.{IsOwn, AreOwn, AreAll, through, two_lists, is_of, counts, marks_it, fills_own, breaks_own, write_fault_own, load_fault_own, birth_stays, Pins, own_leaves_pins, takes as takes_own, fills_it, breaks_it}
+use Rattle.gup_core.proofs.Moves.{IsMoving, clears, counts as counts_it, takes, places, puts, puts_back as restores_it, move_birth_stays, move_leaves_pins, is_of_move, move_place, put_other}
 
 -- ---- pins
 
--- an event of a turn of a pin by actor a of process p
+-- an event of a turn of a pin or a get by actor a of process p
 pub data IsPinning (a p : ℕ) : CoreEvent → Type 0 where
   readies : (e : CoreEvent) → IsOwn a p e → IsPinning a p e
   flags : IsPinning a p (raise_flag a p)
   pins_it : (page : ℕ) (e : Entry) (write long : Bool) → IsPinning a p (pin_page a p page e write long)
   makes : (h : ℕ) → IsPinning a p (make_handle a h)
+  gets_it : (page f h : ℕ) (writable : Bool) → IsPinning a p (get_reference a p page f h writable)
+  moves_it : (e : CoreEvent) → IsMoving a p e → IsPinning a p e
 
 abbrev pub ArePinning : (a p : ℕ) → List CoreEvent → Type 0
 ArePinning a p es = AreAll (IsPinning a p) es
 
-pinning_of : (a p : ℕ) {e : CoreEvent} → IsPinning a p e → IsOf p e
-pinning_of a p (readies e own) = is_of a p own
-pinning_of a p flags = flagging a
-pinning_of a p (pins_it page e write long) = pinning a page e write long
-pinning_of a p (makes h) = making a h
+-- other processes stay
+pinning_leaves : (a p q : ℕ) (space : SpaceValue) (s : CoreState) {e : CoreEvent} → (p ≡ q → ⊥) → IsPinning a p e → ShowsSpace q space s → ShowsSpace q space (happens s e)
+pinning_leaves a p q space s other (readies e own) h = leave_other p q space s (e ∷ []) other (is_of a p own, tt) h
+pinning_leaves a p q space s other flags h = leave_other p q space s (raise_flag a p ∷ []) other (flagging a, tt) h
+pinning_leaves a p q space s other (pins_it page e write long) h = leave_other p q space s (pin_page a p page e write long ∷ []) other (pinning a page e write long, tt) h
+pinning_leaves a p q space s other (makes k) h = leave_other p q space s (make_handle a k ∷ []) other (making a k, tt) h
+pinning_leaves a p q space s other (moves_it e own) h = moves_leave p q space s (e ∷ []) other (is_of_move a p own, tt) h
+pinning_leaves a p q space s other (gets_it page f k writable) h = leave_other p q space s (get_reference a p page f k writable ∷ []) other (getting a page f k writable, tt) h
 
-pub pinnings_of : (a p : ℕ) (es : List CoreEvent) → ArePinning a p es → AreOf p es
-pinnings_of a p [] all = tt
-pinnings_of a p (e ∷ es) all = (pinning_of a p all.0, pinnings_of a p es all.1)
+pub pinnings_leave : (a p q : ℕ) (space : SpaceValue) (s : CoreState) (es : List CoreEvent) → (p ≡ q → ⊥) → ArePinning a p es → ShowsSpace q space s → ShowsSpace q space (run s es)
+pinnings_leave a p q space s [] other all h = h
+pinnings_leave a p q space s (e ∷ es) other all h = pinnings_leave a p q space (happens s e) es other all.1 (pinning_leaves a p q space s other all.0 h)
 
 ready_pinning : (a p : ℕ) (es : List CoreEvent) → AreOwn a p es → ArePinning a p es
 ready_pinning a p [] own = tt
@@ -71,27 +84,70 @@ makes_pinning : (last : Bool) (a p handle : ℕ) → ArePinning a p (makes_if la
 makes_pinning true a p handle = (makes handle, tt)
 makes_pinning false a p handle = tt
 
-ends_pinning : (a p handle n far : ℕ) (answer : Answer) → ArePinning a p (ends_pin a p handle n far answer).events
-ends_pinning a p handle n zero answer = (flags, tt)
-ends_pinning a p handle n (suc far) answer = (makes handle, tt)
+ends_pinning : (a p handle n far : ℕ) (before : List CoreEvent) (answer : Answer) → ArePinning a p before → ArePinning a p (ends_pin before a handle n far answer).events
+ends_pinning a p handle n zero before answer all = all
+ends_pinning a p handle n (suc far) before answer all = two_lists (IsPinning a p) before (make_handle a handle ∷ []) all (makes handle, tt)
+
+behind_pinning : (a p handle page n : ℕ) (want : Want) (last : Bool) (e : Entry) (before : List CoreEvent) → ArePinning a p before → ArePinning a p (pins_behind before a p handle page n want last e).events
+behind_pinning a p handle page n want last e before all =
+    two_lists (IsPinning a p) before (pin_page a p page e want.write want.long ∷ makes_if last a handle) all (pins_it page e want.write want.long, makes_pinning last a p handle)
+
+clears_pinning : (moves : Bool) (a p handle page n : ℕ) (want : Want) (last : Bool) (e : Entry) (before : List CoreEvent) → ArePinning a p before → ArePinning a p (clears_or_pins moves before a p handle page n want last e).events
+clears_pinning true a p handle page n want last e before all =
+    two_lists (IsPinning a p) before (clear_entry a p page e (zones_of want) ∷ []) all (moves_it (clear_entry a p page e (zones_of want)) (clears page e (zones_of want)), tt)
+clears_pinning false a p handle page n want last e before all = behind_pinning a p handle page n want last e before all
 
 pin_pinning : (fault : Fault) (s : CoreState) (a p handle page n got : ℕ) (want : Want) → AreOwn a p (events_of fault) → ArePinning a p (pin_turn_by fault s a p handle page n got want).events
-pin_pinning (Err answer) s a p handle page n got want own = ends_pinning a p handle n got answer
+pin_pinning (Err answer) s a p handle page n got want own = ends_pinning a p handle n got (raises a p got) answer (raises_pinning a p got)
 pin_pinning (Ok before) s a p handle page n got want own =
-    let first : ArePinning a p (raises a p got ++ before) = two_lists (IsPinning a p) (raises a p got) before (raises_pinning a p got) (ready_pinning a p before own) in
-    two_lists (IsPinning a p) (raises a p got ++ before) (pin_page a p page _ want.write want.long ∷ makes_if (got + 1 == n) a handle) first
-    (pins_it page _ want.write want.long, makes_pinning (got + 1 == n) a p handle)
+    let es : List CoreEvent = raises a p got ++ before in
+    let first : ArePinning a p es = two_lists (IsPinning a p) (raises a p got) before (raises_pinning a p got) (ready_pinning a p before own) in
+    let e : Entry = entry_in ((run s es).entry p page) in
+    clears_pinning (moves_first (run s es) want e) a p handle page n want (got + 1 == n) e es first
 
-pub pin_is_pinning : (s : CoreState) (a p handle page n : ℕ) (want : Want) → ArePinning a p (pin_turn s a p handle page n want).events
-pin_is_pinning s a p handle page n want =
-    let got : ℕ = length (s.taken a) in
+restores_pinning : (a p handle page n got : ℕ) (want : Want) (e : Entry) (count : Counted) (answer : Answer) → ArePinning a p (ends_moved a p handle page n got want e count answer).events
+restores_pinning a p handle page n got want e count answer =
+    ends_pinning a p handle n got (restore_entry a p page e (zones_of want) count ∷ []) answer
+    (moves_it (restore_entry a p page e (zones_of want) count) (restores_it page e (zones_of want) count), tt)
+
+places_pinning : (a p handle page n got : ℕ) (want : Want) (e : Entry) (free : Option ℕ) → ArePinning a p (pins_moved a p handle page n got want e free).events
+places_pinning a p handle page n got want e None = restores_pinning a p handle page n got want e one answers.NoFrame
+places_pinning a p handle page n got want e (Some f) =
+    behind_pinning a p handle page n want (got + 1 == n) (entry_of f e.writable) (take_frame a f ∷ place_frame a p page f e (zones_of want) ∷ put_entry a e.frame ∷ [])
+    (moves_it (take_frame a f) (takes f), (moves_it (place_frame a p page f e (zones_of want)) (places page f e (zones_of want)), (moves_it (put_entry a e.frame) (puts e.frame), tt)))
+
+moved_pinning : (s : CoreState) (a p handle page n got : ℕ) (want : Want) (e : Entry) (count : Counted) → ArePinning a p (moved_turn s a p handle page n got want e count).events
+moved_pinning s a p handle page n got want e unread =
+    (moves_it (count_moved a p page e (zones_of want) (s.count e.frame)) (counts_it page e (zones_of want) (s.count e.frame)), tt)
+moved_pinning s a p handle page n got want e one = places_pinning a p handle page n got want e (free_in s (zones_of want))
+moved_pinning s a p handle page n got want e (more count) = restores_pinning a p handle page n got want e (more count) (answers.Unmovable count)
+
+at_pinning : (s : CoreState) (a p handle page n got : ℕ) (want : Want) → ArePinning a p (pin_turn_at s a p handle page n got want).events
+at_pinning s a p handle page n got want =
     let free : Option ℕ = free_in s (zones_of want) in
     pin_pinning (pin_fault s a p (page + got) want.write free) s a p handle (page + got) n got want (pin_fault_own s a p (page + got) want.write free)
+
+get_pinning : (s : CoreState) (fault : Fault) (a p handle page : ℕ) → AreOwn a p (events_of fault) → ArePinning a p (gets_after s fault a p handle page).events
+get_pinning s (Err answer) a p handle page own = tt
+get_pinning s (Ok before) a p handle page own =
+    two_lists (IsPinning a p) before (get_reference a p page _ handle _ ∷ []) (ready_pinning a p before own) (gets_it page _ handle _, tt)
+
+pub get_is_pinning : (s : CoreState) (a p handle page : ℕ) → ArePinning a p (get_turn s a p handle page (s.entry p page)).events
+get_is_pinning s a p handle page =
+    get_pinning s (load_fault s a p page (s.entry p page)) a p handle page (load_fault_own s a p page (s.entry p page))
+
+in_pinning : (s : CoreState) (a p handle page n got : ℕ) (want : Want) (job : Job) → ArePinning a p (pin_turn_in s a p handle page n got want job).events
+in_pinning s a p handle page n got want (moving q g e allowed count) = moved_pinning s a p handle (page + got) n got want e count
+in_pinning s a p handle page n got want job = at_pinning s a p handle page n got want
+
+pub pin_is_pinning : (s : CoreState) (a p handle page n : ℕ) (want : Want) → ArePinning a p (pin_turn s a p handle page n want).events
+pin_is_pinning s a p handle page n want = in_pinning s a p handle page n (length (s.taken a)) want (s.job a)
 
 -- what they leave
 
 pinning_births : (a p : ℕ) (s : CoreState) {e : CoreEvent} → IsPinning a p e → (happens s e).birth ≡ s.birth
 pinning_births a p s (readies e own) = birth_stays a p s own
+pinning_births a p s (moves_it e own) = move_birth_stays a p s own
 pinning_births a p s event = refl
 
 pub pinnings_births : (a p : ℕ) (s : CoreState) (es : List CoreEvent) → ArePinning a p es → (run s es).birth ≡ s.birth
@@ -99,6 +155,7 @@ pinnings_births a p s es all = through (IsPinning a p) (λ x. x.birth) (λ x e i
 
 pinning_stores : (a p : ℕ) (s : CoreState) {e : CoreEvent} → IsPinning a p e → (happens s e).store ≡ s.store
 pinning_stores a p s (readies e own) = ap (λ (k : Pins). k.3) (own_leaves_pins a p s own)
+pinning_stores a p s (moves_it e own) = ap (λ (k : Pins). k.3) (move_leaves_pins a p s own)
 pinning_stores a p s event = refl
 
 pub pinnings_stores : (a p : ℕ) (s : CoreState) (es : List CoreEvent) → ArePinning a p es → (run s es).store ≡ s.store
@@ -106,33 +163,45 @@ pinnings_stores a p s es all = through (IsPinning a p) (λ x. x.store) (λ x e i
 
 pinning_taken : (a p b : ℕ) (s : CoreState) {e : CoreEvent} → (b ≡ a → ⊥) → IsPinning a p e → (happens s e).taken b ≡ s.taken b
 pinning_taken a p b s other (readies e own) = ap (λ (k : Pins). k.2 b) (own_leaves_pins a p s own)
+pinning_taken a p b s other (moves_it e own) = ap (λ (k : Pins). k.2 b) (move_leaves_pins a p s own)
 pinning_taken a p b s other flags = refl
 pinning_taken a p b s other (pins_it page e write long) = grind (arith, nat_tests)
 pinning_taken a p b s other (makes h) = grind (arith, nat_tests)
+pinning_taken a p b s other (gets_it page f h writable) = refl
 
 pub pinnings_taken : (a p b : ℕ) (s : CoreState) (es : List CoreEvent) → (b ≡ a → ⊥) → ArePinning a p es → (run s es).taken b ≡ s.taken b
 pinnings_taken a p b s es other all = through (IsPinning a p) (λ x. x.taken b) (λ x e is. pinning_taken a p b x other is) s es all
 
-pinning_jobs : (a p b : ℕ) (s : CoreState) {e : CoreEvent} (prepared : Option ℕ) → IsPinning a p e → IsUnforked (s.job a) → job_place ((happens s e).job b) prepared ≡ job_place (s.job b) prepared
-pinning_jobs a p b s prepared (readies e own) none = job_stays a p b s prepared own none
-pinning_jobs a p b s prepared event none = refl
+-- where another actor stands
+own_place : (a p b : ℕ) (s : CoreState) {e : CoreEvent} → (a ≡ b → ⊥) → IsOwn a p e → place_in (happens s e) b ≡ place_in s b
+own_place a p b s other (takes_own f) = ap (λ g. job_place (s.job b) g) (put_other a b (Some f) s.prepared other)
+own_place a p b s other (fills_it page f) = ap (λ g. job_place (s.job b) g) (put_other a b None s.prepared other)
+own_place a p b s other (counts page f writable) = ap (λ job. job_place job (s.prepared b)) (put_other a b (marking p page f) s.job other)
+own_place a p b s other (marks_it page f) = ap (λ job. job_place job (s.prepared b)) (put_other a b idle s.job other)
+own_place a p b s other (breaks_it page old new was writable) = ap (λ g. job_place (s.job b) g) (put_other a b None s.prepared other)
+own_place a p b s other event = refl
 
-pinning_forks : (a p b : ℕ) (s : CoreState) {e : CoreEvent} → IsPinning a p e → IsUnforked (s.job a) → place_in (happens s e) b ≡ place_in s b
-pinning_forks a p b s (readies e own) none = fork_stays a p b s own none
-pinning_forks a p b s event none = refl
+pinning_place : (a p b : ℕ) (s : CoreState) {e : CoreEvent} → (a ≡ b → ⊥) → IsPinning a p e → place_in (happens s e) b ≡ place_in s b
+pinning_place a p b s other (readies e own) = own_place a p b s other own
+pinning_place a p b s other (moves_it e own) = move_place a p b s other own
+pinning_place a p b s other event = refl
 
-pub pinnings_forks : (a p b : ℕ) (s : CoreState) (es : List CoreEvent) → ArePinning a p es → IsUnforked (s.job a) → place_in (run s es) b ≡ place_in s b
-pinnings_forks a p b s [] all none = refl
-pinnings_forks a p b s (e ∷ es) all none =
-    pinnings_forks a p b (happens s e) es all.1 (λ f. pinning_jobs a p a s f all.0 none ∙ none f) ∙ pinning_forks a p b s all.0 none
+pub pinnings_places : (a p b : ℕ) (s : CoreState) (es : List CoreEvent) → (a ≡ b → ⊥) → ArePinning a p es → place_in (run s es) b ≡ place_in s b
+pinnings_places a p b s es other all = through (IsPinning a p) (λ x. place_in x b) (λ x e is. pinning_place a p b x other is) s es all
 
--- ---- operations on pins
+-- how many pages are taken
+pub length_frames : (taken : List TakenPage) → length (frames_taken taken) ≡ length taken
+length_frames [] = refl
+length_frames (t ∷ taken) = ap (λ n. suc n) (length_frames taken)
 
--- an event of a turn of an operation on a pin by actor a
+-- ---- operations on pins and references
+
+-- an event of a turn of an operation on a pin or a reference by actor a
 pub data IsHandling (a : ℕ) : CoreEvent → Type 0 where
   unpins : (h f : ℕ) (left : List ℕ) → IsHandling a (unpin_page a h f left)
   gives : (h to : ℕ) → IsHandling a (give_handle a h to)
   takes_over : (h : ℕ) → IsHandling a (take_handle a h)
+  puts_back : (h f : ℕ) → IsHandling a (put_reference a f h)
   moves_from_it : (h index slot f value : ℕ) → IsHandling a (move_out a h index slot f value)
   moves_into : (h index slot f value : ℕ) → IsHandling a (move_in a h index slot f value)
 
@@ -150,6 +219,13 @@ give_handling : (held : Bool) (a handle to : ℕ) → AreHandling a (give_turn_b
 give_handling false a handle to = tt
 give_handling true a handle to = (gives handle to, tt)
 
+put_handling : (held : Bool) (a handle f : ℕ) → AreHandling a (put_turn_by held a handle f).events
+put_handling false a handle f = tt
+put_handling true a handle f = (puts_back handle f, tt)
+
+pub put_is_handling : (s : CoreState) (a handle : ℕ) → AreHandling a (put_turn s a handle).events
+put_is_handling s a handle = put_handling (has_reference (got_by (s.got handle)) a) a handle (got_frame (s.got handle))
+
 -- all but a transfer leave stores as they are
 unpin_store : (held : Bool) (s : CoreState) (a handle : ℕ) (pinned : List ℕ) → (run s (unpin_turn_by held a handle pinned).events).store ≡ s.store
 unpin_store false s a handle pinned = refl
@@ -164,6 +240,13 @@ give_store true s a handle to = refl
 
 pub give_leaves_stores : (s : CoreState) (a handle to : ℕ) → (run s (give_turn s a handle to).events).store ≡ s.store
 give_leaves_stores s a handle to = give_store (is_held_by (s.handle handle) a) s a handle to
+
+put_store : (held : Bool) (s : CoreState) (a handle f : ℕ) → (run s (put_turn_by held a handle f).events).store ≡ s.store
+put_store false s a handle f = refl
+put_store true s a handle f = refl
+
+pub put_leaves_stores : (s : CoreState) (a handle : ℕ) → (run s (put_turn s a handle).events).store ≡ s.store
+put_leaves_stores s a handle = put_store (has_reference (got_by (s.got handle)) a) s a handle (got_frame (s.got handle))
 
 pub take_leaves_stores : (s : CoreState) (a handle : ℕ) → (run s (take_turn a handle).events).store ≡ s.store
 take_leaves_stores s a handle = refl
@@ -215,6 +298,7 @@ handling_of : (a p : ℕ) {e : CoreEvent} → IsHandling a e → IsOf p e
 handling_of a p (unpins h f left) = unpinning a h f left
 handling_of a p (gives h to) = giving a h to
 handling_of a p (takes_over h) = taking_over a h
+handling_of a p (puts_back h f) = putting_back a f h
 handling_of a p (moves_from_it h index slot f value) = moving_out a h index slot f value
 handling_of a p (moves_into h index slot f value) = moving_in a h index slot f value
 

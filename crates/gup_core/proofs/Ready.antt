@@ -1,13 +1,14 @@
 -- What is true before a turn of an operation.
-use Rattle.std.proofs.Common.{◌≡◌, ℕ, ◌+◌, ◌*◌, ◌^◌, ◌<◌, ◌≤◌, true, length, slice_get, Option, Some, None, IsSome, IfSome, sym, ap, ◌∙◌, subst, arith}
+use Rattle.std.proofs.Common.{◌≡◌, ℕ, ◌+◌, ◌*◌, ◌^◌, ◌<◌, ◌≤◌, true, refl, length, slice_get, Option, Some, None, IsSome, IfSome, sym, ap, ◌∙◌, subst, arith}
 use Rattle.std.proofs.lemmas.Option.{slice_get_within}
 use Rattle.gup_plain.specs.Event.{page_numbers}
 use Rattle.gup_plain.specs.State.{born}
 use Rattle.gup_plain.specs.declared.note.Waiting.{Waiting}
 use Rattle.gup_script.specs.declared.op.Op.{Op}
-use Rattle.gup_script.specs.declared.op.Op.TheVariants.{Fork}
+use Rattle.gup_script.specs.declared.op.Op.TheVariants.{Fork, Move}
+use Rattle.gup_script.specs.Limits.{most_handles}
 use Rattle.gup_script.specs.Script.{ScriptValue}
-use Rattle.gup_spec_journal.specs.Place.{Doer, doer, process_of, birth_for}
+use Rattle.gup_spec_journal.specs.Place.{Doer, doer_of, process_of, birth_for}
 use Rattle.gup_frames.specs.Frames.{frames_of}
 use Rattle.gup_space.specs.Space.{space_of}
 use Rattle.gup_space.specs.Shows.{ShowsSpace}
@@ -17,8 +18,8 @@ use Rattle.gup_spec_events.specs.State.{CoreState, Job, idle, forking, between, 
 use Rattle.gup_spec_turns.specs.Waits.{waits_for_locks, locks_needed, waits_born, waiting_for, both_if}
 use Rattle.gup_spec_turns.specs.Run.{RunState, op_in, waiting_in, waiting_with}
 use Rattle.gup_law_turns.specs.Standing.{IsStanding}
-use Rattle.gup_spec_turns.specs.JobPlace.{IsNoFork, StandsFork}
-use Rattle.gup_law_turns.proofs.ScriptLemmas.{op_is_op, child_declared, thread_birth, has_ops_declared}
+use Rattle.gup_spec_turns.specs.JobPlace.{KeepsNoJob, StandsFork}
+use Rattle.gup_law_turns.proofs.ScriptLemmas.{op_is_op, child_declared, op_has_process, thread_birth, has_ops_declared}
 use Rattle.gup_op_base.specs.Tidy.{needs_table}
 use Rattle.gup_core.specs.declared.seats.Seat.{Seat}
 use Rattle.gup_op_waits.specs.Births.{HasFailed}
@@ -26,16 +27,22 @@ use Rattle.gup_op_waits.specs.Doers.{HasProcess, IsProcessOf}
 use Rattle.gup_op_waits.specs.declared.parts.Parts.{Parts}
 use Rattle.gup_op_waits.specs.Stands.{StandsAt}
 use Rattle.gup_core.specs.Goes.{IsForkReady, IsReady, KeepsSlots}
-use Rattle.gup_core.specs.Seats.{IsSeat}
 use Rattle.gup_core.specs.Machine.{MachineValue, Shows, IsMachine}
 use Rattle.gup_op_waits.specs.Parts.{AreParts}
-use Rattle.gup_core.specs.Rest.{IsAtRest, op_of_seat}
+use Rattle.gup_core.specs.Rest.{IsAtRest, HoldsNoLock, IsReadyPin, op_of_seat}
 use Rattle.gup_core.proofs.Resting.{Stand, standing, op_there, stands_at}
-use Rattle.gup_core.proofs.Scripts.{thread_there, process_there, own_process, found_there, has_process, few_answered}
+use Rattle.gup_core.proofs.Scripts.{thread_there, own_process, found_there, has_process, few_answered}
 use Rattle.gup_core.proofs.Singles.{table_process}
 use Rattle.gup_core.proofs.Refusing.{birth_unfailed}
 use Rattle.gup_core.proofs.Turning.{there}
-use Rattle.gup_op_waits.proofs.Waits.{single_needs, born_and_free, locks_free, given_free, keeps_given, table_free}
+use Rattle.gup_base.specs.declared.entry.Want.{Want}
+use Rattle.gup_frames.specs.Frames.{FramesValue}
+use Rattle.gup_space.specs.Space.{SpaceValue}
+use Rattle.gup_op_base.specs.Jobs.{place_of}
+use Rattle.gup_op_pins.specs.Pins.{IsReadyToPin}
+use Rattle.gup_spec_turns.specs.JobPlace.{JobPlace as Place, unbegun}
+use Rattle.gup_core.proofs.Pinning.{length_frames}
+use Rattle.gup_op_waits.proofs.Waits.{IsSingle as IsUnmoved, single_needs, born_and_free, locks_free, given_free, keeps_given, table_free}
 
 -- a process that is born is none that a fork brings
 unborn_child : (s : CoreState) (a p child : ℕ) (job : Job) (prepared : Option ℕ) → StandsFork s a p child job prepared → s.birth child ≡ born → ⊥
@@ -46,7 +53,7 @@ unborn_child s a p child (forking q c done (copying page word)) prepared h is = 
 unborn_child s a p child (forking q c done step) prepared h is = absurd h
 unborn_child s a p child job prepared h is = absurd h
 
-few_references : (n : ℕ) → n ≤ 16 * page_numbers + bias * 17680 → n < 2 ^ 40
+few_references : (n : ℕ) → n ≤ 16 * page_numbers + most_handles + 81 + bias * 17680 → n < 2 ^ 40
 unfolding page_numbers
 few_references n within = omega arith
 
@@ -63,25 +70,36 @@ fork_ready m r a p child seat stands h rest own here present is_born =
       stands = λ parent kid parent_is kid_is. rest.forks a child seat parent kid here present (ap (λ k. slice_get m.parts.spaces.items k) own ∙ parent_is) kid_is;
     }
 
-pub is_ready : (m : MachineValue) (a : ℕ) (proc : Option ℕ) (seat : Seat) (op : Op) → Stand → IsMachine m → IsAtRest m → IsProcessOf (doer m.script a) proc → slice_get m.seats a ≡ Some seat → op_of_seat m a seat ≡ Some op → ((r : RunState) → Shows m r → None ≡ waiting_in m.script r a)
+-- an operation that keeps no job is no move and no fork
+kept_single : (op : Op) → KeepsNoJob (Some op) → IsUnmoved op
+kept_single (Move q page zone) single = absurd single
+kept_single (Fork child) single = absurd single
+kept_single op single = tt
+
+-- a pin that is in the middle of nothing finds the table lock free
+to_pin : (F : FramesValue) (page : ℕ) (want : Want) (a : ℕ) (place : Place) (S : SpaceValue) → (HoldsNoLock S a → S.table ≡ None) → IsReadyPin F page want a place S → IsReadyToPin F page want place S
+to_pin F page want a unbegun S free h = free h
+to_pin F page want a place S free h = h
+
+pub is_ready : (m : MachineValue) (a : ℕ) (proc : Option ℕ) (seat : Seat) (op : Op) → Stand → IsMachine m → IsAtRest m → IsProcessOf (doer_of m.script a (Some op)) proc → slice_get m.seats a ≡ Some seat → op_of_seat m a seat ≡ Some op → ((r : RunState) → Shows m r → None ≡ waiting_in m.script r a)
     → (HasFailed m.parts.births.items proc → ⊥) → (p : ℕ) → IfSome proc (λ q. q ≡ p) → IsReady m.parts a p op seat.far seat.job
 is_ready m a proc seat op stand machine rest of_a here present ready unfailed p of_p =
-    let who : Doer = doer m.script a in
-    let own : ℕ = process_of m.script a in
+    let who : Doer = doer_of m.script a (Some op) in
+    let own : ℕ = who.proc in
     let r : RunState = machine.shown.0 in
     let h : Shows m r = machine.shown.1 in
     let stands : IsStanding m.script r = standing m r stand rest.valid h in
     let now : op_in m.script r a ≡ Some op = op_there m r a seat (Some op) h here present in
     let at : StandsAt r.core a own (r.places a).far op = stands_at m.script r a op stands now in
-    let free : waiting_for r.core who op ≡ None = ap (λ o. waiting_with r.core who o) (sym now) ∙ sym (ready r h) in
+    let free : waiting_for r.core who op ≡ None = ap (λ o. waiting_with r.core (doer_of m.script a o) o) (sym now) ∙ sym (ready r h) in
     let locks : Option Waiting = waits_for_locks (locks_needed r.core a own op) a (r.core.structure own) (r.core.table own) in
     let born_free : (birth_for r.core.birth who ≡ born) × (waits_born r.core a own op ≡ None) =
-    born_and_free (birth_for r.core.birth who) own (waits_born r.core a own op) (birth_unfailed m.parts.births.items proc who r.core unfailed (found_there m.script rest.valid a (length m.parts.births.items) proc rest.parts.births of_a) of_a h.parts.births) free in
-    let thread : HasProcess op → who.thread ≡ true = thread_there m.script rest.valid a seat.answered op present in
+    born_and_free (birth_for r.core.birth who) own (waits_born r.core a own op) (birth_unfailed m.parts.births.items proc who r.core unfailed (found_there m.script rest.valid a (length m.parts.births.items) seat.answered op proc rest.parts.births present of_a) of_a h.parts.births) free in
+    let thread : HasProcess op → who.of_process ≡ true = thread_there m.script rest.valid a seat.answered op present in
     let same : HasProcess op → own ≡ p = λ has. own_process who proc p of_a (thread has) of_p in
     let actor : a < length m.script.actors = has_ops_declared m.script a seat.answered op present in
     record {
-      there = λ has. let within = process_there m.script rest.valid a (thread has) in let is = same has in omega (arith, within, is, rest.parts.spaces);
+      there = λ has. let within = op_has_process m.script rest.valid a seat.answered op present (thread has) in let is = same has in omega (arith, within, is, rest.parts.spaces);
       tidy = rest.tidy;
       few_counts = λ f. few_references ((frames_of m.parts.frames).count f) (rest.few_counts f);
       table = λ space there single needed.
@@ -90,24 +108,41 @@ is_ready m a proc seat op stand machine rest of_a here present ready unfailed p 
           let kept : waits_for_locks (both_if (needs_table (space_of space) op)) a (space_of space).structure (space_of space).table ≡ locks =
           ap (λ o. waits_for_locks (both_if (needs_table (space_of space) op)) a o (space_of space).table) (sym shown.structure)
           ∙ ap (λ o. waits_for_locks (both_if (needs_table (space_of space) op)) a (r.core.structure own) o) (sym shown.table)
-          ∙ ap (λ l. waits_for_locks l a (r.core.structure own) (r.core.table own)) (single_needs (space_of space) r.core a own op shown single) in
-          let none : IsNoFork (op_of_seat m a seat) = subst IsNoFork (sym present) single in
+          ∙ ap (λ l. waits_for_locks l a (r.core.structure own) (r.core.table own)) (single_needs (space_of space) r.core a own op shown (kept_single op single)) in
+          let none : KeepsNoJob (op_of_seat m a seat) = subst KeepsNoJob (sym present) single in
           table_free (needs_table (space_of space) op) a (space_of space).structure (space_of space).table (rest.unlocked own a space seat found here none).1 (kept ∙ locks_free r.core a own op born_free.1) needed;
       in_range = op_is_op m.script rest.valid a seat.answered op present;
       far = rest.far a seat op here present;
       fork = λ child is.
           let forks : op_of_seat m a seat ≡ Some (Fork child) = present ∙ ap (λ (x : Op). Some x) is in
           let has : HasProcess op = subst HasProcess (sym is) tt in
-          fork_ready m r a p child seat stands h rest (same has) here forks (sym (thread_birth who r.core.birth (thread has)) ∙ born_free.0);
+          let mine : process_of m.script a ≡ own = ap (λ (x : Op). (doer_of m.script a (Some x)).proc) (sym is) in
+          fork_ready m r a p child seat stands h rest (mine ∙ same has) here forks (ap r.core.birth mine ∙ sym (thread_birth who r.core.birth (thread has)) ∙ born_free.0);
+      move = λ q page zone space is there.
+          let moves : op_of_seat m a seat ≡ Some (Move q page zone) = present ∙ ap (λ (x : Op). Some x) is in
+          let named : p ≡ q = sym (same (subst HasProcess (sym is) tt)) ∙ ap (λ (x : Op). (doer_of m.script a (Some x)).proc) is in
+          rest.moves a q page zone seat space here moves (ap (λ k. slice_get m.parts.spaces.items k) (sym named) ∙ there);
+      pin = λ space pages handle page n want fast is there taken.
+          let has : HasProcess op = subst HasProcess (sym is) tt in
+          let mine : process_of m.script a ≡ own = ap (λ (x : Op). (doer_of m.script a (Some x)).proc) (sym is) in
+          let found : slice_get m.parts.spaces.items own ≡ Some space = ap (λ k. slice_get m.parts.spaces.items k) (same has) ∙ there in
+          let shown : ShowsSpace own (space_of space) r.core = h.parts.spaces own space found in
+          let kept : waits_for_locks (both_if true) a (space_of space).structure (space_of space).table ≡ locks =
+          ap (λ o. waits_for_locks (both_if true) a o (space_of space).table) (sym shown.structure)
+          ∙ ap (λ o. waits_for_locks (both_if true) a (r.core.structure own) o) (sym shown.table)
+          ∙ ap (λ (x : Op). waits_for_locks (locks_needed r.core a own x) a (r.core.structure own) (r.core.table own)) (sym is) in
+          to_pin (frames_of m.parts.frames) (page + length pages.items) want a (place_of seat.job) (space_of space)
+          (λ unheld. table_free true a (space_of space).structure (space_of space).table unheld.1 (kept ∙ locks_free r.core a own op born_free.1) refl)
+          (rest.pins a handle page n want fast seat space pages here (present ∙ ap (λ (x : Op). Some x) is) (ap (λ k. slice_get m.parts.spaces.items k) mine ∙ found) taken);
       weighed = rest.weighed;
-      yet = λ handle page n want fast is. rest.yet a handle page n want fast seat here (present ∙ ap (λ (x : Op). Some x) is);
+      referred = rest.referred;
+      yet = λ handle makes. rest.yet a handle op seat here present makes;
       taken = λ pages handle page n want fast there is. rest.taken a handle page n want fast seat pages here there (present ∙ ap (λ (x : Op). Some x) is);
-      pinned = λ space handle page n want fast there is some.
+      pinned = λ space pages handle page n want fast there taken is some.
           let found : slice_get m.parts.spaces.items own ≡ Some space = ap (λ k. slice_get m.parts.spaces.items k) (same (subst HasProcess (sym is) tt)) ∙ there in
-          let far : seat.far ≡ (r.places a).far =
-          (subst (λ (o : Option Op). IsSeat o (r.places a) seat) (now ∙ ap (λ (x : Op). Some x) is) (h.seats a seat here)).1 in
-          sym (h.parts.spaces own space found).has_pinned ∙ at.pinned handle page n want fast is (subst (λ k. 0 < k) far some);
-      given = λ handle is. keeps_given (handles_of m.parts.handles handle) (r.core.handle handle) (r.core.pinned handle) a (h.parts.pins handle) (given_free r.core a own handle op is born_free.1);
+          let many : length pages.items ≡ length (r.core.taken a) = ap length (sym (h.parts.taken a pages taken)) ∙ length_frames (r.core.taken a) in
+          sym (h.parts.spaces own space found).has_pinned ∙ at.pinned handle page n want fast is (subst (λ k. 0 < k) many some);
+      given = λ handle is. keeps_given (handles_of m.parts.handles handle) (r.core.handle handle) (r.core.pinned handle) (r.core.got handle) a (h.parts.pins handle) (given_free r.core a own handle op is born_free.1);
       actor_taken = omega (arith, actor, rest.parts.taken);
       actor_store = omega (arith, actor, rest.parts.stores);
     }
@@ -132,14 +167,14 @@ child_within m a child seat op rest present same =
     let declared : child < length m.script.processes = child_declared m.script rest.valid a seat.answered child (present ∙ ap (λ (x : Op). Some x) same) in
     (omega (arith, declared, rest.parts.spaces), omega (arith, declared, rest.parts.births))
 
--- an operation of a process is a thread's, and that process has a space and a birth
-pub process_found_so : (m : MachineValue) (a : ℕ) (proc : Option ℕ) (seat : Seat) (op : Op) → IsAtRest m → IsProcessOf (doer m.script a) proc → op_of_seat m a seat ≡ Some op → HasProcess op → IsSome proc
-process_found_so m a proc seat op rest of_a present has = has_process (doer m.script a) proc of_a (thread_there m.script rest.valid a seat.answered op present has)
+-- the process of an operation has a space and a birth
+pub process_found_so : (m : MachineValue) (a : ℕ) (proc : Option ℕ) (seat : Seat) (op : Op) → IsAtRest m → IsProcessOf (doer_of m.script a (Some op)) proc → op_of_seat m a seat ≡ Some op → HasProcess op → IsSome proc
+process_found_so m a proc seat op rest of_a present has = has_process (doer_of m.script a (Some op)) proc of_a (thread_there m.script rest.valid a seat.answered op present has)
 
-pub process_within : (m : MachineValue) (a : ℕ) (proc : Option ℕ) → IsAtRest m → IsProcessOf (doer m.script a) proc → IfSome proc (λ p. p < length m.parts.spaces.items) × IfSome proc (λ p. p < length m.parts.births.items)
-process_within m a proc rest of_a = (
-  found_there m.script rest.valid a (length m.parts.spaces.items) proc rest.parts.spaces of_a,
-  found_there m.script rest.valid a (length m.parts.births.items) proc rest.parts.births of_a,
+pub process_within : (m : MachineValue) (a : ℕ) (proc : Option ℕ) (seat : Seat) (op : Op) → IsAtRest m → IsProcessOf (doer_of m.script a (Some op)) proc → op_of_seat m a seat ≡ Some op → IfSome proc (λ p. p < length m.parts.spaces.items) × IfSome proc (λ p. p < length m.parts.births.items)
+process_within m a proc seat op rest of_a present = (
+  found_there m.script rest.valid a (length m.parts.spaces.items) seat.answered op proc rest.parts.spaces present of_a,
+  found_there m.script rest.valid a (length m.parts.births.items) seat.answered op proc rest.parts.births present of_a,
 )
 
 -- the number of an operation fits

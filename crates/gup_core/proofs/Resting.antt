@@ -1,37 +1,46 @@
 -- What is true of a machine between two turns, by the state that turns led to.
-use Rattle.std.proofs.Common.{◌≡◌, ℕ, ◌+◌, ◌*◌, ◌<◌, ◌≤◌, ◌++◌, true, List, [], ◌∷◌, length, slice_get, Option, Some, None, IsSome, suc, refl, sym, ap, ◌∙◌, subst, eqb-true, arith}
+use Rattle.std.proofs.Common.{◌≡◌, ℕ, ◌+◌, ◌*◌, ◌<◌, ◌≤◌, ◌++◌, true, List, [], ◌∷◌, length, slice_get, Option, Some, None, IsSome, zero, suc, refl, sym, ap, ◌∙◌, subst, eqb-true, arith}
 use Rattle.gup_base.specs.Parts.{words_of}
+use Rattle.gup_base.specs.declared.entry.Allowed.{Allowed}
 use Rattle.gup_base.specs.declared.entry.Entry.{Entry}
 use Rattle.gup_base.specs.declared.entry.Rights.{Rights}
+use Rattle.gup_base.specs.declared.entry.Zone.{Zone}
 use Rattle.gup_plain.specs.Denial.{is_held_by}
 use Rattle.gup_plain.specs.Event.{page_numbers}
 use Rattle.gup_plain.specs.State.{Handle, unmade, held, given, gone, objects_of}
 use Rattle.gup_script.specs.declared.op.Op.{Op}
-use Rattle.gup_script.specs.declared.op.Op.TheVariants.{Unmap, Discard, Pin, Transfer, Fork}
+use Rattle.gup_script.specs.declared.op.Op.TheVariants.{Unmap, Discard, Pin, Transfer, Move, Fork}
 use Rattle.gup_script.specs.Script.{ScriptValue}
+use Rattle.gup_script.specs.Limits.{most_handles}
 use Rattle.gup_script.specs.Valid.{IsScript}
-use Rattle.gup_spec_journal.specs.Place.{ops_of, process_of, present_op}
+use Rattle.gup_spec_journal.specs.Place.{doer_of, ops_of, process_of, present_op}
 use Rattle.gup_frames.specs.Frames.{FramesValue, IsFrame, frames_of}
 use Rattle.gup_space.specs.Space.{SpaceValue, space_of}
 use Rattle.gup_space.specs.Shows.{ShowsFrames, ShowsSpace}
 use Rattle.gup_handles.specs.Handles.{HandleValue, handles_of}
 use Rattle.gup_handles.specs.Handles as kept
-use Rattle.gup_spec_events.specs.Event.{bias, taken_frames as frames_taken}
-use Rattle.gup_spec_events.specs.State.{CoreState, Taken, Job, idle, forking, between, counted, copying}
-use Rattle.gup_law_base.specs.Sound.{IsSound, keeps_table, keeps_structure}
+use Rattle.gup_handles.specs.Shows.{IsShown}
+use Rattle.gup_spec_events.specs.Event.{bias}
+use Rattle.gup_spec_events.specs.State.{CoreState, Taken, Job, idle, moving, Counted, forking, between, counted, copying}
+use Rattle.gup_law_base.specs.Sound.{IsSound, Moving, moving_of, keeps_table, keeps_structure}
+use Rattle.gup_law_base.proofs.Lonely.{whole_counts}
 use Rattle.gup_spec_turns.specs.Run.{RunState, run_start, run_after, turned}
 use Rattle.gup_spec_turns.specs.ForkTurns.{first_behind}
-use Rattle.gup_spec_turns.specs.JobPlace.{JobPlace, job_place, place_in, IsNoFork, StandsFork, IsForking, HasCounted, IsPrepared}
+use Rattle.gup_spec_turns.specs.JobPlace.{JobPlace, job_place, place_in, KeepsNoJob, StandsFork, StandsMove, IsForking, HasCounted, IsPrepared}
 use Rattle.gup_law_turns.specs.Standing.{IsStanding, StandsHandle, given_back, back_in}
 use Rattle.gup_op_base.specs.Far.{HasFar}
 use Rattle.gup_op_fork.specs.Forked.{IsCountedIn, IsCopyOf, IsReadyAt}
-use Rattle.gup_op_pins.specs.Pins.{IsPin, frames_in}
+use Rattle.gup_op_pins.specs.Pins.{IsReferred, frames_in}
+use Rattle.gup_op_move.specs.Moving.{IsReadyToMove}
+use Rattle.gup_spec_turns.specs.PinPlace.{StandsPin, StandsAtPage as IsAtPage}
+use Rattle.gup_base.specs.declared.entry.Want.{Want}
+use Rattle.gup_core.proofs.Pinning.{length_frames}
 use Rattle.gup_op_base.specs.Tidy.{IsTidy}
 use Rattle.gup_core.specs.declared.seats.Seat.{Seat}
 use Rattle.gup_core.specs.Machine.{MachineValue, Shows, IsReached, IsMachine}
 use Rattle.gup_op_waits.specs.Parts.{ShowsParts}
 use Rattle.gup_op_waits.specs.Stands.{StandsAt}
-use Rattle.gup_core.specs.Rest.{IsAtRest, HoldsNoLock, op_of_seat}
+use Rattle.gup_core.specs.Rest.{IsAtRest, HoldsNoLock, IsReadyPin, op_of_seat}
 use Rattle.gup_core.specs.Seats.{IsSeat}
 
 -- what the turns' law says
@@ -118,12 +127,62 @@ ready_at s F P C a p child frames parent kid stands prepares = go (s.job a) (s.p
     go (forking q c done step) prepared h kept_so = absurd h
     go job prepared h kept_so = absurd h
 
+-- ---- moves
+
+-- the frame of an entry that was cleared has a reference
+held_moved : (s : CoreState) (F : FramesValue) (a q g : ℕ) (e : Entry) (allowed : Allowed) (count : Counted) → IsSound s → ShowsFrames F s → s.job a ≡ moving q g e allowed count → F.count e.frame ≡ 0 → ⊥
+held_moved s F a q g e allowed count sound frames is none =
+    let m : Moving = record { proc = q; page = g; entry = e; count = count } in
+    let moves : sound.0.moves a ≡ Some m = sound.1.moves_are a ∙ ap moving_of is in
+    let some = whole_counts sound.0 s sound.1 q g e (sound.1.whole_moved a m moves) in
+    omega (arith, some, none, frames.count e.frame, sound.1.count_is e.frame)
+
+-- the page that a move has cleared is mapped and has no entry, and the frame of the entry has a reference
+pub ready_to_move : (s : CoreState) (F : FramesValue) (S : SpaceValue) (a p page : ℕ) (zone : Zone) → IsSound s → ((f : ℕ) → (F.count f ≡ 0 → ⊥) → IsFrame F f) → ShowsFrames F s → ShowsSpace p S s
+    → StandsMove s a p page zone (s.job a) → IsReadyToMove F page (place_in s a) S
+ready_to_move s F S a p page zone sound there frames space stands = go (s.job a) (s.prepared a) refl stands
+  where
+    held_so : (q g : ℕ) (e : Entry) (allowed : Allowed) (count : Counted) → s.job a ≡ moving q g e allowed count → F.count e.frame ≡ 0 → ⊥
+    held_so q g e allowed count is none = held_moved s F a q g e allowed count sound frames is none
+
+    go : (job : Job) (prepared : Option ℕ) → s.job a ≡ job → StandsMove s a p page zone job → IsReadyToMove F page (job_place job prepared) S
+    go idle prepared is h = tt
+    go (moving q g e allowed count) prepared is h = (
+      h.1,
+      subst (λ (o : Option Rights). IsSome o) (space.right page) h.4.mapped,
+      sym (space.entry page) ∙ h.4.absent,
+      there e.frame (held_so q g e allowed count is),
+      held_so q g e allowed count is,
+    )
+    go job prepared is h = absurd h
+
+-- and so is the page that a long pin has cleared, whose entry is right for the pin
+pub ready_to_pin : (s : CoreState) (F : FramesValue) (S : SpaceValue) (a p handle page n got : ℕ) (want : Want) → IsSound s → ((f : ℕ) → (F.count f ≡ 0 → ⊥) → IsFrame F f) → ShowsFrames F s → ShowsSpace p S s
+    → StandsPin s a p handle page n want got → IsReadyPin F (page + got) want a (place_in s a) S
+ready_to_pin s F S a p handle page n got want sound there frames space stands = go (s.job a) (s.prepared a) refl stands.at
+  where
+    go : (job : Job) (prepared : Option ℕ) → s.job a ≡ job → IsAtPage s a p (page + got) want job → IsReadyPin F (page + got) want a (job_place job prepared) S
+    go idle prepared is h = idle_unlocked s S p a sound is space
+    go (moving q g e allowed count) prepared is h = (
+      h.1,
+      record {
+        long = h.4.long;
+        pinned = sym space.has_pinned ∙ h.4.flag;
+        mapped = subst (λ (o : Option Rights). IsSome o) (space.right (page + got)) h.4.moving.mapped;
+        absent = sym (space.entry (page + got)) ∙ h.4.moving.absent;
+        there = there e.frame (held_moved s F a q g e allowed count sound frames is);
+        held = held_moved s F a q g e allowed count sound frames is;
+        marked = sym (frames.mark e.frame) ∙ h.4.marked;
+        may = h.4.may;
+      },
+    )
+    go job prepared is h = absurd h
+
 -- ---- actors
 
 far_fits : (script : ScriptValue) (r : RunState) (a : ℕ) (seat : Seat) (op : Op) → IsStanding script r → IsSeat (Some op) (r.places a) seat → present_op script a (r.places a) ≡ Some op → HasFar op seat.far
 far_fits script r a seat (Unmap page n) h at is = subst (λ (k : ℕ). k < n) (sym at.1) (h.unmaps a page n is)
 far_fits script r a seat (Discard page n) h at is = subst (λ (k : ℕ). k < n) (sym at.1) (h.discards a page n is)
-far_fits script r a seat (Pin handle page n want fast) h at is = subst (λ (k : ℕ). k < n) (sym at.1) (h.pins a handle page n want fast is).within
 far_fits script r a seat (Transfer handle outward slot parts) h at is = subst (λ (k : ℕ). k < words_of parts) (sym at.1) (h.transfers a handle outward slot parts is)
 far_fits script r a seat op h at is = tt
 
@@ -134,33 +193,51 @@ op_there m r a seat op h here is = ap (λ k. slice_get (ops_of m.script a) k) (s
 -- ---- pins
 
 -- each page that a pin still has is there, and has the weight of one
-weighed_by : (F : FramesValue) (s : CoreState) (K : HandleValue) (handle : Handle) (pinned : List ℕ) → ((f : ℕ) → (F.count f ≡ 0 → ⊥) → IsFrame F f) → ShowsFrames F s
-    → IsPin K handle pinned → ((k f : ℕ) → slice_get pinned k ≡ Some f → bias ≤ s.count f) → (k f : ℕ) → slice_get (frames_in K) k ≡ Some f → IsFrame F f × (bias ≤ F.count f)
-weighed_by F s K handle pinned there shown is weighs k f found = go K is found
+weighed_by : (F : FramesValue) (s : CoreState) (K : HandleValue) (handle : Handle) (pinned : List ℕ) (reference : Option (ℕ × ℕ)) → ((f : ℕ) → (F.count f ≡ 0 → ⊥) → IsFrame F f) → ShowsFrames F s
+    → IsShown K handle pinned reference → ((k f : ℕ) → slice_get pinned k ≡ Some f → bias ≤ s.count f) → (k f : ℕ) → slice_get (frames_in K) k ≡ Some f → IsFrame F f × (bias ≤ F.count f)
+weighed_by F s K handle pinned reference there shown is weighs k f found = go K is found
   where
     heavy : (frames : List ℕ) → pinned ≡ frames → slice_get frames k ≡ Some f → IsFrame F f × (bias ≤ F.count f)
     heavy frames same at =
         let weight : bias ≤ F.count f = subst (λ (n : ℕ). bias ≤ n) (shown.count f) (weighs k f (ap (λ fs. slice_get fs k) same ∙ at)) in
         (there f (λ none. absurd (omega (arith, weight, none))), weight)
 
-    go : (L : HandleValue) → IsPin L handle pinned → slice_get (frames_in L) k ≡ Some f → IsFrame F f × (bias ≤ F.count f)
+    go : (L : HandleValue) → IsShown L handle pinned reference → slice_get (frames_in L) k ≡ Some f → IsFrame F f × (bias ≤ F.count f)
     go kept.unmade is at = absurd (cc at)
     go (kept.held by frames write) is at = heavy frames is.1 at
     go (kept.given to frames write) is at = heavy frames is.1 at
-    go (kept.got by frame) is at = absurd is
+    go (kept.got by frame) is at = absurd (cc at)
     go kept.gone is at = absurd (cc at)
 
--- a pin that isn't made is kept so
-unmade_kept : (K : HandleValue) (handle : Handle) (pinned : List ℕ) → IsPin K handle pinned → handle ≡ unmade → K ≡ kept.unmade
-unmade_kept kept.unmade handle pinned is none = refl
-unmade_kept (kept.held by frames write) handle pinned is none = absurd (let no : held by is.0.0 write ≡ unmade = sym is.0.1 ∙ none in cc no)
-unmade_kept (kept.given to frames write) handle pinned is none = absurd (let no : given to is.0.0 write ≡ unmade = sym is.0.1 ∙ none in cc no)
-unmade_kept (kept.got by frame) handle pinned is none = absurd is
-unmade_kept kept.gone handle pinned is none = absurd (let no : gone ≡ unmade = sym is ∙ none in cc no)
+-- the frame of a reference is there, and has one
+some_count : (n : ℕ) → (n ≡ 0 → ⊥) → 1 ≤ n
+some_count zero some = absurd (some refl)
+some_count (suc n) some = omega arith
 
-length_frames : (taken : List Taken) → length (frames_taken taken) ≡ length taken
-length_frames [] = refl
-length_frames (t ∷ taken) = ap (λ n. suc n) (length_frames taken)
+referred_by : (F : FramesValue) (s : CoreState) (K : HandleValue) (handle : Handle) (pinned : List ℕ) (reference : Option (ℕ × ℕ)) → ((f : ℕ) → (F.count f ≡ 0 → ⊥) → IsFrame F f) → ShowsFrames F s
+    → IsShown K handle pinned reference → ((a f : ℕ) → reference ≡ Some (a, f) → s.count f ≡ 0 → ⊥) → IsReferred F K
+referred_by F s (kept.got by frame) handle pinned reference there shown is counts =
+    let some : F.count frame ≡ 0 → ⊥ = λ none. counts by frame is.1 (shown.count frame ∙ none) in
+    (there frame some, some_count (F.count frame) some)
+referred_by F s K handle pinned reference there shown is counts = tt
+
+-- a handle that isn't made is kept so
+unmade_kept : (K : HandleValue) (handle : Handle) (pinned : List ℕ) (reference : Option (ℕ × ℕ)) → IsShown K handle pinned reference → handle ≡ unmade → reference ≡ None → K ≡ kept.unmade
+unmade_kept kept.unmade handle pinned reference is none ungot = refl
+unmade_kept (kept.held by frames write) handle pinned reference is none ungot = absurd (let no : held by is.0.0 write ≡ unmade = sym is.0.1 ∙ none in cc no)
+unmade_kept (kept.given to frames write) handle pinned reference is none ungot = absurd (let no : given to is.0.0 write ≡ unmade = sym is.0.1 ∙ none in cc no)
+unmade_kept (kept.got by frame) handle pinned reference is none ungot = absurd (let no : Some (by, frame) ≡ None = sym is.1 ∙ ungot in cc no)
+unmade_kept kept.gone handle pinned reference is none ungot = absurd (let no : gone ≡ unmade = sym is.0 ∙ none in cc no)
+
+-- the process of a pin that has taken pages has pinned
+taken_flagged : (s : CoreState) (a p handle page n got : ℕ) (want : Want) → IsSound s → StandsPin s a p handle page n want got → 0 < length (s.taken a) → s.has_pinned p ≡ true
+taken_flagged s a p handle page n got want sound stands some = go (s.taken a) refl some
+  where
+    go : (taken : List Taken) → s.taken a ≡ taken → 0 < length taken → s.has_pinned p ≡ true
+    go [] is none = absurd (omega arith)
+    go (t ∷ taken) is more =
+        let first : slice_get (s.taken a) 0 ≡ Some t = ap (λ (l : List Taken). slice_get l 0) is in
+        subst (λ (q : ℕ). s.has_pinned q ≡ true) (stands.taken.each 0 t first).0 (sound.1.taken_flag a 0 t first)
 
 -- a pin whose words its holder moves has all its pages
 whole_by : (back : ℕ → ℕ) (a : ℕ) (pinned : List ℕ) (handle : Handle) → StandsHandle back pinned handle → back a ≡ 0 → is_held_by handle a ≡ true → length pinned ≡ length (objects_of handle)
@@ -172,18 +249,31 @@ whole_by back a pinned handle stands none holds = absurd (cc holds)
 -- ---- before a turn
 
 -- an actor stands so before a turn of its operation
-pub stands_at : (script : ScriptValue) (r : RunState) (a : ℕ) (op : Op) → IsStanding script r → present_op script a (r.places a) ≡ Some op → StandsAt r.core a (process_of script a) (r.places a).far op
+pub stands_at : (script : ScriptValue) (r : RunState) (a : ℕ) (op : Op) → IsStanding script r → present_op script a (r.places a) ≡ Some op → StandsAt r.core a (doer_of script a (Some op)).proc (r.places a).far op
 stands_at script r a op h is =
     record {
-      idle_job = λ single. h.idle_jobs a (subst IsNoFork (sym is) single);
+      idle_job = λ single. h.idle_jobs a (subst KeepsNoJob (sym is) single);
       keeps = h.keeps a;
-      fork = λ child same. h.forks a child (is ∙ ap (λ (x : Op). Some x) same);
-      pin = λ handle page n want fast same. h.pins a handle page n want fast (is ∙ ap (λ (x : Op). Some x) same);
-      pinned = λ handle page n want fast same some. h.flagged a handle page n want fast (is ∙ ap (λ (x : Op). Some x) same) some;
+      fork = λ child same.
+          subst (λ (p : ℕ). StandsFork r.core a p child (r.core.job a) (r.core.prepared a)) (own (Fork child) refl same)
+          (h.forks a child (is ∙ ap (λ (x : Op). Some x) same));
+      move = λ q page zone same.
+          subst (λ (p : ℕ). StandsMove r.core a p page zone (r.core.job a)) (ap (λ (x : Op). (doer_of script a (Some x)).proc) (sym same))
+          (h.moves a q page zone (is ∙ ap (λ (x : Op). Some x) same));
+      pin = λ handle page n want fast same.
+          subst (λ (p : ℕ). StandsPin r.core a p handle page n want (length (r.core.taken a))) (own (Pin handle page n want fast) refl same)
+          (h.pins a handle page n want fast (is ∙ ap (λ (x : Op). Some x) same));
+      pinned = λ handle page n want fast same some.
+          subst (λ (p : ℕ). r.core.has_pinned p ≡ true) (own (Pin handle page n want fast) refl same)
+          (taken_flagged r.core a (process_of script a) handle page n (length (r.core.taken a)) want h.sound (h.pins a handle page n want fast (is ∙ ap (λ (x : Op). Some x) same)) some);
       whole = λ handle slot outward parts same holds.
           whole_by (back_in script r handle) a (r.core.pinned handle) (r.core.handle handle) (h.handles handle)
           (ap (λ (o : Option Op). given_back o handle (r.places a).far) (is ∙ ap (λ (x : Op). Some x) same)) holds;
     }
+  where
+    -- the process of an operation that names none is its actor's
+    own : (o : Op) → (doer_of script a (Some o)).proc ≡ process_of script a → op ≡ o → process_of script a ≡ (doer_of script a (Some op)).proc
+    own o names same = sym (ap (λ (x : Op). (doer_of script a (Some x)).proc) same ∙ names)
 
 pub at_rest : (m : MachineValue) → IsScript m.script → IsMachine m → ((f : ℕ) → ((frames_of m.parts.frames).count f ≡ 0 → ⊥) → IsFrame (frames_of m.parts.frames) f) → Stand → IsAtRest m
 at_rest m valid is there stand =
@@ -197,24 +287,33 @@ at_rest m valid is there stand =
       seats = is.seats;
       tidy = λ p space here. tidy_in m.script r (frames_of m.parts.frames) (space_of space) p valid h there parts.frames (parts.spaces p space here);
       few_forks = λ p space here. subst (λ (k : ℕ). k ≤ 32) (parts.spaces p space here).sequence (h.few_forks p);
-      few_counts = λ f. subst (λ (k : ℕ). k ≤ 16 * page_numbers + bias * 17680) (parts.frames.count f) (h.few_counts f);
+      few_counts = λ f. subst (λ (k : ℕ). k ≤ 16 * page_numbers + most_handles + 81 + bias * 17680) (parts.frames.count f) (h.few_counts f);
       unlocked = λ p a space seat here sits single.
-          idle_unlocked r.core (space_of space) p a h.sound (h.idle_jobs a (subst IsNoFork (sym (op_there m r a seat (op_of_seat m a seat) shown sits refl)) single)) (parts.spaces p space here);
+          idle_unlocked r.core (space_of space) p a h.sound (h.idle_jobs a (subst KeepsNoJob (sym (op_there m r a seat (op_of_seat m a seat) shown sits refl)) single)) (parts.spaces p space here);
       forks = λ a child seat parent kid sits op parent_is kid_is.
           subst (λ (k : JobPlace). IsReadyAt (frames_of m.parts.frames) a k (space_of parent) (space_of kid)) (sym (shown.jobs a seat sits))
           (ready_at r.core (frames_of m.parts.frames) (space_of parent) (space_of kid) a (process_of m.script a) child parts.frames
           (parts.spaces (process_of m.script a) parent parent_is) (parts.spaces child kid kid_is)
           (h.forks a child (op_there m r a seat (Some (Fork child)) shown sits op)) (h.prepared a));
+      moves = λ a q page zone seat space sits op space_is.
+          subst (λ (k : JobPlace). IsReadyToMove (frames_of m.parts.frames) page k (space_of space)) (sym (shown.jobs a seat sits))
+          (ready_to_move r.core (frames_of m.parts.frames) (space_of space) a q page zone h.sound there parts.frames (parts.spaces q space space_is)
+          (h.moves a q page zone (op_there m r a seat (Some (Move q page zone)) shown sits op)));
       answered = λ a seat here. subst (λ (k : ℕ). k ≤ length (ops_of m.script a)) (sym (shown.seats a seat here).0) (h.answered a);
       far = λ a seat op here present.
           let now : present_op m.script a (r.places a) ≡ Some op = op_there m r a seat (Some op) shown here present in
           far_fits m.script r a seat op h (subst (λ (o : Option Op). IsSeat o (r.places a) seat) now (shown.seats a seat here)) now;
-      weighed = λ k. weighed_by (frames_of m.parts.frames) r.core (handles_of m.parts.handles k) (r.core.handle k) (r.core.pinned k) there parts.frames (parts.pins k) (h.weighed k);
-      yet = λ a handle page n want fast seat here present.
-          unmade_kept (handles_of m.parts.handles handle) (r.core.handle handle) (r.core.pinned handle) (parts.pins handle)
-          (h.pins a handle page n want fast (op_there m r a seat (Some (Pin handle page n want fast)) shown here present)).yet;
+      weighed = λ k. weighed_by (frames_of m.parts.frames) r.core (handles_of m.parts.handles k) (r.core.handle k) (r.core.pinned k) (r.core.got k) there parts.frames (parts.pins k) (h.weighed k);
+      referred = λ k. referred_by (frames_of m.parts.frames) r.core (handles_of m.parts.handles k) (r.core.handle k) (r.core.pinned k) (r.core.got k) there parts.frames (parts.pins k) (h.referred k);
+      yet = λ a handle op seat here present makes.
+          let yet = h.yet_unmade a handle op (op_there m r a seat (Some op) shown here present) makes in
+          unmade_kept (handles_of m.parts.handles handle) (r.core.handle handle) (r.core.pinned handle) (r.core.got handle) (parts.pins handle) yet.0 yet.1;
       taken = λ a handle page n want fast seat pages here taken present.
           let now : present_op m.script a (r.places a) ≡ Some (Pin handle page n want fast) = op_there m r a seat (Some (Pin handle page n want fast)) shown here present in
-          let at : IsSeat (Some (Pin handle page n want fast)) (r.places a) seat = subst (λ (o : Option Op). IsSeat o (r.places a) seat) now (shown.seats a seat here) in
-          ap length (sym (parts.taken a pages taken)) ∙ length_frames (r.core.taken a) ∙ (h.pins a handle page n want fast now).taken.many ∙ sym at.1;
+          subst (λ (k : ℕ). k < n) (sym (length_frames (r.core.taken a)) ∙ ap length (parts.taken a pages taken)) (h.pins a handle page n want fast now).within;
+      pins = λ a handle page n want fast seat space pages sits op space_is taken.
+          let at = h.pins a handle page n want fast (op_there m r a seat (Some (Pin handle page n want fast)) shown sits op) in
+          subst (λ (k : JobPlace). IsReadyPin (frames_of m.parts.frames) (page + length pages.items) want a k (space_of space)) (sym (shown.jobs a seat sits))
+          (subst (λ (k : ℕ). IsReadyPin (frames_of m.parts.frames) (page + k) want a (place_in r.core a) (space_of space)) (sym (length_frames (r.core.taken a)) ∙ ap length (parts.taken a pages taken))
+          (ready_to_pin r.core (frames_of m.parts.frames) (space_of space) a (process_of m.script a) handle page n (length (r.core.taken a)) want h.sound there parts.frames (parts.spaces (process_of m.script a) space space_is) at));
     }

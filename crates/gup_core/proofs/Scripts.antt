@@ -1,44 +1,32 @@
 -- What is true of the actors of a script.
 use Rattle.std.proofs.Common.{◌≡◌, ℕ, true, false, ◌<◌, ◌≤◌, Option, Some, None, IsSome, IfSome, List, [], ◌∷◌, length, slice_get, sum_by, zero, suc, refl, sym, ap, ◌∙◌, arith}
 use Rattle.std.proofs.lemmas.List.Sums.{sum_by-cons}
-use Rattle.gup_script.specs.declared.op.Kind.{Kind}
-use Rattle.gup_script.specs.declared.op.Kind.TheVariants.{Thread, Device, Mover}
 use Rattle.gup_script.specs.declared.op.Op.{Op}
 use Rattle.gup_script.specs.declared.op.Op.TheVariants.{Unmap}
-use Rattle.gup_script.specs.Script.{ScriptValue, Actor, actor_at, is_thread}
-use Rattle.gup_script.specs.Valid.{IsScript, IsOp, IsOfDevice, KindFits}
-use Rattle.gup_spec_journal.specs.Place.{Doer, doer, thread_in, ops_in, ops_of, process_in, process_of, process_of_kind}
-use Rattle.gup_law_turns.proofs.ScriptLemmas.{all_at, is_of_thread}
+use Rattle.gup_script.specs.Script.{ScriptValue, Actor, actor_at}
+use Rattle.gup_script.specs.Valid.{IsScript, IsOp, IsOfDevice}
+use Rattle.gup_spec_journal.specs.Place.{Doer, doer_of, ops_in, ops_of}
+use Rattle.gup_law_turns.proofs.ScriptLemmas.{has_own_process, op_has_process}
 use Rattle.gup_op_waits.specs.Doers.{HasProcess, IsProcessOf}
 use Rattle.gup_op_base.specs.Far.{HasFar}
 use Rattle.gup_core.specs.Seats.{far_behind}
 
--- an actor with an operation of a process is a thread of a declared one
+-- the process of an operation is a declared one
 
+-- an operation of a process is none of a device
 no_device : (op : Op) → HasProcess op → IsOfDevice op → ⊥
 no_device op has of_device = grind arith
 
-pub thread_there : (script : ScriptValue) → IsScript script → (a k : ℕ) (op : Op) → slice_get (ops_of script a) k ≡ Some op → HasProcess op → (doer script a).thread ≡ true
-thread_there script valid a k op is has = is_of_thread script valid a k op is (no_device op has)
-
-kind_there : (script : ScriptValue) (kind : Kind) → KindFits script kind → is_thread kind ≡ true → process_of_kind kind < length script.processes
-kind_there script (Thread p) fits thread = fits
-kind_there script (Device slots) fits thread = absurd (cc thread)
-kind_there script Mover fits thread = absurd (cc thread)
-
-pub process_there : (script : ScriptValue) → IsScript script → (a : ℕ) → (doer script a).thread ≡ true → process_of script a < length script.processes
-process_there script valid a thread = go (actor_at script a) refl thread
-  where
-    go : (actor : Option Actor) → actor_at script a ≡ actor → thread_in actor ≡ true → process_in actor < length script.processes
-    go None at is = absurd (cc is)
-    go (Some actor) at is = kind_there script actor.kind (all_at (λ (x : Actor). KindFits script x.kind) script.actors a actor valid.kinds at) is
+-- so its actor is a thread, or moves a page of a process
+pub thread_there : (script : ScriptValue) → IsScript script → (a k : ℕ) (op : Op) → slice_get (ops_of script a) k ≡ Some op → HasProcess op → (doer_of script a (Some op)).of_process ≡ true
+thread_there script valid a k op is has = has_own_process script valid a k op is (no_device op has)
 
 -- its process is the one that the machine finds
-pub own_process : (who : Doer) (proc : Option ℕ) (p : ℕ) → IsProcessOf who proc → who.thread ≡ true → IfSome proc (λ q. q ≡ p) → who.proc ≡ p
+pub own_process : (who : Doer) (proc : Option ℕ) (p : ℕ) → IsProcessOf who proc → who.of_process ≡ true → IfSome proc (λ q. q ≡ p) → who.proc ≡ p
 own_process who None p of_who thread same = absurd (let no : true ≡ false = sym thread ∙ of_who in cc no)
 own_process who (Some q) p of_who thread same = of_who.1 ∙ same
 
-pub has_process : (who : Doer) (proc : Option ℕ) → IsProcessOf who proc → who.thread ≡ true → IsSome proc
+pub has_process : (who : Doer) (proc : Option ℕ) → IsProcessOf who proc → who.of_process ≡ true → IsSome proc
 has_process who None of_who thread = absurd (let no : true ≡ false = sym thread ∙ of_who in cc no)
 has_process who (Some q) of_who thread = refl
 
@@ -47,9 +35,9 @@ process_of_doer who None of_who = tt
 process_of_doer who (Some q) of_who = sym of_who.1
 
 -- where it is found, it is declared
-pub found_there : (script : ScriptValue) → IsScript script → (a n : ℕ) (proc : Option ℕ) → n ≡ length script.processes → IsProcessOf (doer script a) proc → IfSome proc (λ p. p < n)
-found_there script valid a n None many of_who = tt
-found_there script valid a n (Some p) many of_who = let within = process_there script valid a of_who.0 in omega (arith, within, of_who.1, many)
+pub found_there : (script : ScriptValue) → IsScript script → (a n k : ℕ) (op : Op) (proc : Option ℕ) → n ≡ length script.processes → slice_get (ops_of script a) k ≡ Some op → IsProcessOf (doer_of script a (Some op)) proc → IfSome proc (λ p. p < n)
+found_there script valid a n k op None many is of_who = tt
+found_there script valid a n k op (Some p) many is of_who = let within = op_has_process script valid a k op is of_who.0 in omega (arith, within, of_who.1, many)
 
 -- no actor has more operations than all have together
 one_of_sum : (xs : List Actor) (k : ℕ) (x : Actor) → slice_get xs k ≡ Some x → length x.ops ≤ sum_by (λ (a : Actor). length a.ops) xs

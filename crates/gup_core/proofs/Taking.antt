@@ -10,7 +10,7 @@ use Rattle.gup_plain.specs.declared.note.What.TheVariants.{Idle, Wait}
 use Rattle.gup_script.specs.declared.op.Op.{Op}
 use Rattle.gup_script.specs.declared.op.Op.TheVariants.{Unmap}
 use Rattle.gup_script.specs.Script.{ScriptValue}
-use Rattle.gup_spec_journal.specs.Place.{Place, Doer, doer, place_behind, process_of, present_op, birth_for}
+use Rattle.gup_spec_journal.specs.Place.{Place, Doer, doer_of, place_behind, present_op, birth_for}
 use Rattle.gup_spec_journal.specs.Follows.{notes_of_turn}
 use Rattle.gup_spec_journal.specs.Order.{Turn, places_behind, pointer_after}
 use Rattle.gup_spec_events.specs.State.{CoreState}
@@ -126,7 +126,7 @@ pub idles : (m : MachineValue) (a : ℕ) (seat : Seat) (turns : ℕ) → slice_g
     → TakesTurns m (machine_of m.script m.parts m.seats turns) a (notes_of_turn turns a (seat.answered + 1) (Idle ∷ []))
 idles m a seat turns here none count r h =
     let is : core_turn_in m.script r a ≡ record { events = []; whats = Idle ∷ [] } =
-    ap (λ o. core_turn_by r.core (doer m.script a) (r.places a).far o (waiting_in m.script r a)) (op_there m r a seat None h here none) in
+    ap (λ o. core_turn_by r.core (doer_of m.script a o) (r.places a).far o (waiting_in m.script r a)) (op_there m r a seat None h here none) in
     record {
       said = says_so m r a seat turns (record { events = []; whats = Idle ∷ [] }) (Idle ∷ []) h here count is refl;
       shown = stays m r a seat turns Idle h here count is refl;
@@ -139,21 +139,21 @@ IsWaiting m a proc seat op waiting =
     → place_of seat.job ≡ place_in s a → StandsAt s a who.proc far op → waiting ≡ waiting_for s who op
 
 -- it is what the core run says
-pub waiting_is : (m : MachineValue) (a : ℕ) (proc : Option ℕ) (seat : Seat) (op : Op) (waiting : Option Waiting) → Stand → IsAtRest m → IsProcessOf (doer m.script a) proc → slice_get m.seats a ≡ Some seat → op_of_seat m a seat ≡ Some op → IsWaiting m a proc seat op waiting
+pub waiting_is : (m : MachineValue) (a : ℕ) (proc : Option ℕ) (seat : Seat) (op : Op) (waiting : Option Waiting) → Stand → IsAtRest m → IsProcessOf (doer_of m.script a (Some op)) proc → slice_get m.seats a ≡ Some seat → op_of_seat m a seat ≡ Some op → IsWaiting m a proc seat op waiting
     → (r : RunState) → Shows m r → waiting ≡ waiting_in m.script r a
 waiting_is m a proc seat op waiting stand rest of_a here present is r h =
     let now : present_op m.script a (r.places a) ≡ Some op = op_there m r a seat (Some op) h here present in
-    let at : StandsAt r.core a (process_of m.script a) (r.places a).far op = stands_at m.script r a op (standing m r stand rest.valid h) now in
-    is r.core (doer m.script a) (r.places a).far h.parts refl of_a (h.jobs a seat here) at
-    ∙ ap (λ o. waiting_with r.core (doer m.script a) o) (sym now)
+    let at : StandsAt r.core a (doer_of m.script a (Some op)).proc (r.places a).far op = stands_at m.script r a op (standing m r stand rest.valid h) now in
+    is r.core (doer_of m.script a (Some op)) (r.places a).far h.parts refl of_a (h.jobs a seat here) at
+    ∙ ap (λ o. waiting_with r.core (doer_of m.script a o) o) (sym now)
 
 pub waits : (m : MachineValue) (a : ℕ) (seat : Seat) (op : Op) (turns : ℕ) (waiting : Waiting) → slice_get m.seats a ≡ Some seat → op_of_seat m a seat ≡ Some op → turns ≡ counted m.turns
     → ((r : RunState) → Shows m r → Some waiting ≡ waiting_in m.script r a)
     → TakesTurns m (machine_of m.script m.parts m.seats turns) a (notes_of_turn turns a (seat.answered + 1) (Wait waiting ∷ []))
 waits m a seat op turns waiting here present count waiting_so r h =
     let is : core_turn_in m.script r a ≡ record { events = []; whats = Wait waiting ∷ [] } =
-    ap (λ o. core_turn_by r.core (doer m.script a) (r.places a).far o (waiting_in m.script r a)) (op_there m r a seat (Some op) h here present)
-    ∙ ap (λ w. core_turn_by r.core (doer m.script a) (r.places a).far (Some op) w) (sym (waiting_so r h)) in
+    ap (λ o. core_turn_by r.core (doer_of m.script a o) (r.places a).far o (waiting_in m.script r a)) (op_there m r a seat (Some op) h here present)
+    ∙ ap (λ w. core_turn_by r.core (doer_of m.script a (Some op)) (r.places a).far (Some op) w) (sym (waiting_so r h)) in
     record {
       said = says_so m r a seat turns (record { events = []; whats = Wait waiting ∷ [] }) (Wait waiting ∷ []) h here count is refl;
       shown = stays m r a seat turns (Wait waiting) h here count is refl;
@@ -194,24 +194,24 @@ job_of_seat seat op true job = refl
 job_of_seat seat op false job = refl
 
 -- the turn is that of the operation, or its refusal
-taken_is : (m : MachineValue) (r : RunState) (a : ℕ) (op : Op) → op_in m.script r a ≡ Some op → waiting_in m.script r a ≡ None → core_turn_in m.script r a ≡ turn_of r.core (doer m.script a) (r.places a).far op
+taken_is : (m : MachineValue) (r : RunState) (a : ℕ) (op : Op) → op_in m.script r a ≡ Some op → waiting_in m.script r a ≡ None → core_turn_in m.script r a ≡ turn_of r.core (doer_of m.script a (Some op)) (r.places a).far op
 taken_is m r a op is none =
-    ap (λ o. core_turn_by r.core (doer m.script a) (r.places a).far o (waiting_in m.script r a)) is
-    ∙ ap (λ w. core_turn_by r.core (doer m.script a) (r.places a).far (Some op) w) none
+    ap (λ o. core_turn_by r.core (doer_of m.script a o) (r.places a).far o (waiting_in m.script r a)) is
+    ∙ ap (λ w. core_turn_by r.core (doer_of m.script a (Some op)) (r.places a).far (Some op) w) none
 
 pub goes : (m : MachineValue) (a : ℕ) (proc : Option ℕ) (seat next : Seat) (op : Op) (parts : Parts) (seats : List Seat) (turns : ℕ) (said : Said) (job : JobPlace)
-    → Stand → IsAtRest m → IsProcessOf (doer m.script a) proc → slice_get m.seats a ≡ Some seat → op_of_seat m a seat ≡ Some op → turns ≡ counted m.turns
+    → Stand → IsAtRest m → IsProcessOf (doer_of m.script a (Some op)) proc → slice_get m.seats a ≡ Some seat → op_of_seat m a seat ≡ Some op → turns ≡ counted m.turns
     → ((r : RunState) → Shows m r → None ≡ waiting_in m.script r a)
     → next ≡ seat_behind seat op (is_some said.answer) job → slice_get seats a ≡ Some next → ((b : ℕ) → (b ≡ a → ⊥) → slice_get seats b ≡ slice_get m.seats b)
     → IsTurnBy m.parts parts a proc seat.far op seat.job (whats_of said) job
     → TakesTurns m (machine_of m.script parts seats turns) a (notes_of_turn turns a (seat.answered + 1) (whats_of said))
 goes m a proc seat next op parts seats turns said job stand rest of_a here present count ready next_is seated unseated turn r h =
     let far : ℕ = (r.places a).far in
-    let who : Doer = doer m.script a in
+    let who : Doer = doer_of m.script a (Some op) in
     let stands : IsStanding m.script r = standing m r stand rest.valid h in
     let op_is : op_in m.script r a ≡ Some op = op_there m r a seat (Some op) h here present in
     let at : IsSeat (Some op) (r.places a) seat = subst (λ (o : Option Op). IsSeat o (r.places a) seat) op_is (h.seats a seat here) in
-    let free : waiting_for r.core who op ≡ None = ap (λ o. waiting_with r.core who o) (sym op_is) ∙ sym (ready r h) in
+    let free : waiting_for r.core who op ≡ None = ap (λ o. waiting_with r.core (doer_of m.script a o) o) (sym op_is) ∙ sym (ready r h) in
     let t : CoreTurn = turn_of r.core who far op in
     let is : core_turn_in m.script r a ≡ t = taken_is m r a op op_is (sym (ready r h)) in
     let forks = place_in r.core in

@@ -1,4 +1,5 @@
--- A turn of an operation among all parts: of one process, of a pin, of an operation on a pin, and of a fork.
+-- A turn of an operation among all parts: of one process, of a pin or a get, of an operation on a pin or a reference, and of
+-- a fork.
 use Rattle.std.proofs.Common.{◌≡◌, ℕ, ◌+◌, ◌<◌, ◌==◌, Bool, true, false, List, length, slice_get, Option, Some, None, refl, sym, ap, ◌∙◌, subst, inl, inr, eqb-true, arith}
 use Rattle.std.proofs.lemmas.Bool.Decides.{nat_tests}
 use Rattle.std.proofs.lemmas.Option.{slice_get_cases}
@@ -7,7 +8,7 @@ use Rattle.gup_base.specs.declared.entry.Want.{Want}
 use Rattle.gup_plain.specs.State.{Birth as CoreBirth}
 use Rattle.gup_plain.specs.declared.note.What.{What}
 use Rattle.gup_script.specs.declared.op.Op.{Op}
-use Rattle.gup_script.specs.declared.op.Op.TheVariants.{Pin, Fork}
+use Rattle.gup_script.specs.declared.op.Op.TheVariants.{Pin, Get, Fork}
 use Rattle.gup_frames.specs.Frames.{FrameLists, frames_of}
 use Rattle.gup_space.specs.Space.{SpaceParts, space_of}
 use Rattle.gup_space.proofs.After.{AreOf}
@@ -19,8 +20,8 @@ use Rattle.gup_spec_events.specs.Event.{CoreEvent, taken_frames as frames_taken,
 use Rattle.gup_spec_turns.specs.CoreTurn.{CoreTurn}
 use Rattle.gup_spec_turns.specs.Turn.{op_turn, turn_of}
 use Rattle.gup_spec_turns.specs.ForkTurns.{fork_turn}
-use Rattle.gup_spec_turns.specs.PinTurns.{pin_turn}
-use Rattle.gup_spec_turns.specs.JobPlace.{JobPlace as Place, IsNoFork, job_place}
+use Rattle.gup_spec_turns.specs.PinTurns.{pin_turn, get_turn}
+use Rattle.gup_spec_turns.specs.JobPlace.{JobPlace as Place, KeepsNoJob, job_place, place_in, unbegun}
 use Rattle.gup_op_base.specs.declared.jobs.JobPlace.{JobPlace}
 use Rattle.gup_op_pages.specs.Alone.{IsAlone, ShowsAlone, alone_view}
 use Rattle.gup_op_base.specs.Far.{far_in}
@@ -28,7 +29,8 @@ use Rattle.gup_op_base.specs.Jobs.{place_of}
 use Rattle.gup_op_fork.specs.declared.forks.Forked.{Forked}
 use Rattle.gup_op_fork.specs.declared.forks.Forked.TheVariants.{Goes, Born, Failed}
 use Rattle.gup_op_fork.specs.Forked.{place_after, birth_after, ShowsForking, StandsAsFork, forking_view}
-use Rattle.gup_op_pins.specs.Pins.{IsPin, ShowsPins, ShowsPinning, StandsAtPage, pinning_view}
+use Rattle.gup_handles.specs.Shows.{IsShown, ShowsHandles}
+use Rattle.gup_op_pins.specs.Pins.{ShowsPinning, StandsAtPage, pinning_view}
 use Rattle.gup_op_pins.specs.Held.{ShowsStore, ShowsHeld, held_view}
 use Rattle.gup_op_base.specs.Turns.{Leads, IsTurnOf, Anywhere}
 use Rattle.gup_spec_journal.specs.Place.{Doer}
@@ -41,7 +43,8 @@ use Rattle.gup_op_waits.specs.Doers.{IsProcessOf}
 use Rattle.gup_op_waits.specs.Parts.{ShowsSpaces, IsBirth, ShowsBirths, ShowsTaken, ShowsStores, ShowsParts}
 use Rattle.gup_core.proofs.Owning.{AreOwn, are_of, turn_is_own, births_stay, IsUnforked, forks_stay, Pins, pins_of, own_leave_pins}
 use Rattle.gup_core.proofs.Forking.{AreForking, fork_is_own, fork_leave_pins, fork_leaves_others, fork_births_stay, fork_places_stay}
-use Rattle.gup_core.proofs.Pinning.{ArePinning, pin_is_pinning, pinnings_of, pinnings_births, pinnings_stores, pinnings_taken, pinnings_forks, AreHandling, Rest, rest_of, handling_leave, handlings_of, handlings_stores}
+use Rattle.gup_core.proofs.Pinning.{ArePinning, pin_is_pinning, get_is_pinning, pinnings_births, pinnings_stores, pinnings_taken, AreHandling, Rest, rest_of, handling_leave, handlings_of, handlings_stores, length_frames, pinnings_leave, pinnings_places}
+use Rattle.gup_spec_turns.specs.PinPlace.{StandsPin}
 
 -- ---- turns that are stated more than once
 
@@ -58,10 +61,17 @@ IsTurnBy old new a proc far op place whats next =
     → IsTurnOf (ShowsAll a) (StandsFree a who k op) (all_view old place others) (all_view new next others) (λ s. turn_of s who k op) whats
 
 -- a turn of a pin, by what is kept of its process and of what it has taken
-abbrev pub IsPinTurn : (old new : Parts) → (x y : SpaceParts) → (was now : ArrayVec ℕ) → (a p handle page n : ℕ) → Want → (far : ℕ) → List What → Type 0
-IsPinTurn old new x y was now a p handle page n want far whats =
-    IsTurnOf (ShowsPinning a p) (StandsAtPage a p handle page n want far) (pinning_view old.frames x old.handles was.items) (pinning_view new.frames y new.handles now.items)
+abbrev pub IsPinTurn : (old new : Parts) → (x y : SpaceParts) → (was now : ArrayVec ℕ) → (a p handle page n : ℕ) → Want → (place next : JobPlace) → List What → Type 0
+IsPinTurn old new x y was now a p handle page n want place next whats =
+    IsTurnOf (ShowsPinning a p) (StandsAtPage a p handle page n want (length was.items))
+    (pinning_view old.frames x old.handles was.items (place_of place)) (pinning_view new.frames y new.handles now.items (place_of next))
     (λ s. pin_turn s a p handle page n want) whats
+
+-- a turn of a get, by what is kept of its process, whatever its actor has taken
+abbrev pub IsGetTurn : (old new : Parts) → (x y : SpaceParts) → (taken : List ℕ) → (a p handle page : ℕ) → List What → Type 0
+IsGetTurn old new x y taken a p handle page whats =
+    IsTurnOf (ShowsPinning a p) Anywhere (pinning_view old.frames x old.handles taken unbegun) (pinning_view new.frames y new.handles taken unbegun)
+    (λ s. get_turn s a p handle page (s.entry p page)) whats
 
 -- ---- one element of a list
 
@@ -93,14 +103,14 @@ there xs q within =
 
 -- ---- parts that stay
 
-births_shown : (old new : Parts) (s t : CoreState) → new.births ≡ old.births → t.birth ≡ s.birth → ShowsBirths old.births.items s → ShowsBirths new.births.items t
+pub births_shown : (old new : Parts) (s t : CoreState) → new.births ≡ old.births → t.birth ≡ s.birth → ShowsBirths old.births.items s → ShowsBirths new.births.items t
 births_shown old new s t same stay h q birth here =
     subst (λ (f : ℕ → CoreBirth). IsBirth birth (f q)) (sym stay) (h q birth (ap (λ bs. slice_get bs.items q) (sym same) ∙ here))
 
-pub pins_shown : (old new : Parts) (s t : CoreState) → new.handles ≡ old.handles → pins_of t ≡ pins_of s → ShowsPins (handles_of old.handles) s → ShowsPins (handles_of new.handles) t
+pub pins_shown : (old new : Parts) (s t : CoreState) → new.handles ≡ old.handles → pins_of t ≡ pins_of s → ShowsHandles (handles_of old.handles) s → ShowsHandles (handles_of new.handles) t
 pins_shown old new s t same stay h =
-    subst (λ hs. ShowsPins (handles_of hs) t) (sym same)
-    (subst (λ (k : Pins). (n : ℕ) → IsPin (handles_of old.handles n) (k.0 n) (k.1 n)) (sym stay) h)
+    subst (λ hs. ShowsHandles (handles_of hs) t) (sym same)
+    (subst (λ (k : Pins). (n : ℕ) → IsShown (handles_of old.handles n) (k.0 n) (k.1 n) (k.4 n)) (sym stay) h)
 
 pub taken_shown : (old new : Parts) (s t : CoreState) → new.taken ≡ old.taken → t.taken ≡ s.taken → ShowsTaken old.taken.items s → ShowsTaken new.taken.items t
 taken_shown old new s t same stay h b pages here =
@@ -126,7 +136,7 @@ spaces_behind s p es before behind new own old shown now others =
 -- ---- a turn of one process
 
 pub alone : (old new : Parts) (a p slots far : ℕ) (op : Op) (place : JobPlace) (whats : List What)
-    → IsAlone op → IsNoFork (Some op) → p < length old.spaces.items → length new.spaces.items ≡ length old.spaces.items
+    → IsAlone op → KeepsNoJob (Some op) → p < length old.spaces.items → length new.spaces.items ≡ length old.spaces.items
     → new.births ≡ old.births → new.handles ≡ old.handles → new.taken ≡ old.taken → new.stores ≡ old.stores
     → ((q : ℕ) → (q ≡ p → ⊥) → slice_get new.spaces.items q ≡ slice_get old.spaces.items q)
     → ((was now : SpaceParts) (k : ℕ) → slice_get old.spaces.items p ≡ Some was → slice_get new.spaces.items p ≡ Some now → far ≡ far_in (Some op) k → IsTurnOf (ShowsAlone p) Anywhere (alone_view old.frames was) (alone_view new.frames now) (λ s. op_turn s a p slots k op) whats)
@@ -160,32 +170,35 @@ alone old new a p slots far op place whats by_itself single within many births h
 
 -- ---- a turn of a pin
 
-pub pinned : (old new : Parts) (a p slots far handle page n : ℕ) (want : Want) (fast : Bool) (place : JobPlace) (whats : List What)
+pub pinned : (old new : Parts) (a p slots far handle page n : ℕ) (want : Want) (fast : Bool) (place next : JobPlace) (whats : List What)
     → p < length old.spaces.items → length new.spaces.items ≡ length old.spaces.items
     → a < length old.taken.items → length new.taken.items ≡ length old.taken.items
     → new.births ≡ old.births → new.stores ≡ old.stores
     → ((q : ℕ) → (q ≡ p → ⊥) → slice_get new.spaces.items q ≡ slice_get old.spaces.items q)
     → ((b : ℕ) → (b ≡ a → ⊥) → slice_get new.taken.items b ≡ slice_get old.taken.items b)
     → ((x y : SpaceParts) (was now : ArrayVec ℕ) → slice_get old.spaces.items p ≡ Some x → slice_get new.spaces.items p ≡ Some y → slice_get old.taken.items a ≡ Some was → slice_get new.taken.items a ≡ Some now
-    → IsPinTurn old new x y was now a p handle page n want far whats)
-    → IsTurnAmong old new a p slots far (Pin handle page n want fast) place whats place
-pinned old new a p slots far handle page n want fast place whats within many taker takers births stores others untaken turn k rest far_is s shown stands =
+    → IsPinTurn old new x y was now a p handle page n want place next whats)
+    → IsTurnAmong old new a p slots far (Pin handle page n want fast) place whats next
+pinned old new a p slots far handle page n want fast place next whats within many taker takers births stores others untaken turn k rest far_is s shown stands =
     let x = there old.spaces.items p within in
     let y = there new.spaces.items p (omega (arith, within, many)) in
     let was = there old.taken.items a taker in
     let now = there new.taken.items a (omega (arith, taker, takers)) in
     let es : List CoreEvent = (pin_turn s a p handle page n want).events in
     let own : ArePinning a p es = pin_is_pinning s a p handle page n want in
-    let none : IsUnforked (s.job a) = λ f. ap (λ job. job_place job f) (stands.idle_job tt) in
-    let turn_at : IsPinTurn old new x.0 y.0 was.0 now.0 a p handle page n want k whats =
-    subst (λ (q : ℕ). IsPinTurn old new x.0 y.0 was.0 now.0 a p handle page n want q whats) far_is (turn x.0 y.0 was.0 now.0 x.1 y.1 was.1 now.1) in
-    let led : Leads (ShowsPinning a p) (pinning_view new.frames y.0 new.handles now.0.items) s (pin_turn s a p handle page n want) whats =
-    turn_at s (record { frames = shown.parts.frames; space = shown.parts.spaces p x.0 x.1; pins = shown.parts.pins; taken = shown.parts.taken a was.0 was.1 })
-    (record { at = stands.pin handle page n want fast refl; flagged = stands.pinned handle page n want fast refl }) in
+    let many_taken : length (s.taken a) ≡ length was.0.items = sym (length_frames (s.taken a)) ∙ ap length (shown.parts.taken a was.0 was.1) in
+    let led : Leads (ShowsPinning a p) (pinning_view new.frames y.0 new.handles now.0.items (place_of next)) s (pin_turn s a p handle page n want) whats =
+    turn x.0 y.0 was.0 now.0 x.1 y.1 was.1 now.1 s (record { frames = shown.parts.frames; space = shown.parts.spaces p x.0 x.1; pins = shown.parts.pins; taken = shown.parts.taken a was.0 was.1; place = sym shown.job })
+    (record {
+      at = subst (StandsPin s a p handle page n want) many_taken (stands.pin handle page n want fast refl);
+      flagged = λ some. stands.pinned handle page n want fast refl (subst (λ k. 0 < k) (sym many_taken) some);
+    }) in
     let parts : ShowsParts new (run s es) =
     record {
       frames = led.shown.frames;
-      spaces = spaces_behind s p es old.spaces.items new.spaces.items y.0 (pinnings_of a p es own) shown.parts.spaces led.shown.space y.1 others;
+      spaces =
+          replaced (λ q space. ShowsSpace q (space_of space) (run s es)) old.spaces.items new.spaces.items p y.0 y.1 others led.shown.space
+          (λ q space apart found. pinnings_leave a p q (space_of space) s es (λ is. apart (sym is)) own (shown.parts.spaces q space found));
       births = births_shown old new s (run s es) births (pinnings_births a p s es own) shown.parts.births;
       pins = led.shown.pins;
       taken =
@@ -197,21 +210,62 @@ pinned old new a p slots far handle page n want fast place whats within many tak
       says = led.says;
       shown = record {
         parts = parts;
-        job = shown.job ∙ sym (pinnings_forks a p a s es own none);
-        others = λ b apart. pinnings_forks a p b s es own none ∙ shown.others b apart;
+        job = sym led.shown.place;
+        others = λ b apart. pinnings_places a p b s es (λ is. apart (sym is)) own ∙ shown.others b apart;
       };
     }
 
--- ---- a turn of an operation on a pin
+-- ---- a turn of a get
+
+pub got : (old new : Parts) (a p slots far handle page : ℕ) (place : JobPlace) (whats : List What)
+    → p < length old.spaces.items → length new.spaces.items ≡ length old.spaces.items → a < length old.taken.items
+    → new.births ≡ old.births → new.taken ≡ old.taken → new.stores ≡ old.stores
+    → ((q : ℕ) → (q ≡ p → ⊥) → slice_get new.spaces.items q ≡ slice_get old.spaces.items q)
+    → ((x y : SpaceParts) (taken : List ℕ) → slice_get old.spaces.items p ≡ Some x → slice_get new.spaces.items p ≡ Some y → IsGetTurn old new x y taken a p handle page whats)
+    → IsTurnAmong old new a p slots far (Get handle page) place whats place
+got old new a p slots far handle page place whats within many taker births taken stores others turn k rest far_is s shown stands =
+    let x = there old.spaces.items p within in
+    let y = there new.spaces.items p (omega (arith, within, many)) in
+    let was = there old.taken.items a taker in
+    let es : List CoreEvent = (get_turn s a p handle page (s.entry p page)).events in
+    let own : ArePinning a p es = get_is_pinning s a p handle page in
+    let rests : place_in s a ≡ unbegun = ap (λ job. job_place job (s.prepared a)) (stands.idle_job tt) in
+    let led : Leads (ShowsPinning a p) (pinning_view new.frames y.0 new.handles was.0.items unbegun) s (get_turn s a p handle page (s.entry p page)) whats =
+    turn x.0 y.0 was.0.items x.1 y.1 s
+    (record { frames = shown.parts.frames; space = shown.parts.spaces p x.0 x.1; pins = shown.parts.pins; taken = shown.parts.taken a was.0 was.1; place = rests }) tt in
+    let parts : ShowsParts new (run s es) =
+    record {
+      frames = led.shown.frames;
+      spaces =
+          replaced (λ q space. ShowsSpace q (space_of space) (run s es)) old.spaces.items new.spaces.items p y.0 y.1 others led.shown.space
+          (λ q space apart found. pinnings_leave a p q (space_of space) s es (λ is. apart (sym is)) own (shown.parts.spaces q space found));
+      births = births_shown old new s (run s es) births (pinnings_births a p s es own) shown.parts.births;
+      pins = led.shown.pins;
+      taken =
+          replaced (λ b (pages : ArrayVec ℕ). frames_taken ((run s es).taken b) ≡ pages.items) old.taken.items new.taken.items a was.0
+          (ap (λ ts. slice_get ts.items a) taken ∙ was.1) (λ b apart. ap (λ ts. slice_get ts.items b) taken) led.shown.taken
+          (λ b pages apart found. ap frames_taken (pinnings_taken a p b s es apart own) ∙ shown.parts.taken b pages found);
+      stores = stores_shown old new s (run s es) stores (pinnings_stores a p s es own) shown.parts.stores;
+    } in
+    record {
+      says = led.says;
+      shown = record {
+        parts = parts;
+        job = shown.job ∙ rests ∙ sym led.shown.place;
+        others = λ b apart. pinnings_places a p b s es (λ is. apart (sym is)) own ∙ shown.others b apart;
+      };
+    }
+
+-- ---- a turn of an operation on a pin or a reference
 
 -- what such a turn is over
 pub record ShowsPart (parts : Parts) (s : CoreState) : Type 0 where
   pub frames : ShowsFrames (frames_of parts.frames) s
-  pub pins : ShowsPins (handles_of parts.handles) s
+  pub pins : ShowsHandles (handles_of parts.handles) s
   pub stores : ShowsStores parts.stores.items s
 
 pub handled : (old new : Parts) (a p slots far : ℕ) (op : Op) (place : JobPlace) (whats : List What)
-    → IsNoFork (Some op) → new.spaces ≡ old.spaces → new.births ≡ old.births → new.taken ≡ old.taken
+    → KeepsNoJob (Some op) → new.spaces ≡ old.spaces → new.births ≡ old.births → new.taken ≡ old.taken
     → ((s : CoreState) (k : ℕ) → AreHandling a (op_turn s a p slots k op).events)
     → ((s : CoreState) (k : ℕ) → ShowsParts old s → StandsAt s a p k op → far ≡ far_in (Some op) k → Leads ShowsPart new s (op_turn s a p slots k op) whats)
     → IsTurnAmong old new a p slots far op place whats place

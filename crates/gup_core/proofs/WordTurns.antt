@@ -5,7 +5,7 @@ use Rattle.gup_plain.specs.State.{born}
 use Rattle.gup_script.specs.declared.op.Op.{Op}
 use Rattle.gup_script.specs.declared.op.Op.TheVariants.{Fork}
 use Rattle.gup_spec_events.specs.State.{CoreState, Job, idle, forking, between}
-use Rattle.gup_spec_journal.specs.Place.{Doer, doer}
+use Rattle.gup_spec_journal.specs.Place.{Doer, doer_of}
 use Rattle.gup_spec_turns.specs.JobPlace.{job_place, place_in, at_word}
 use Rattle.gup_spec_turns.specs.Waits.{Locks, no_lock, fork_locks, first_waiting, waits_for_locks, waiting_for}
 use Rattle.gup_op_base.specs.Jobs.{place_of}
@@ -35,7 +35,7 @@ needs_none right (forking p c done between) prepared page word to is = absurd (c
 needs_none right (forking p c done step) prepared page word to is = refl
 needs_none right job prepared page word to is = refl
 
-waits_so : (s : CoreState) (who : Doer) (p child page word to : ℕ) → who.thread ≡ true → who.proc ≡ p → s.birth p ≡ born → at_word page word to ≡ place_in s who.actor → None ≡ waiting_for s who (Fork child)
+waits_so : (s : CoreState) (who : Doer) (p child page word to : ℕ) → who.of_process ≡ true → who.proc ≡ p → s.birth p ≡ born → at_word page word to ≡ place_in s who.actor → None ≡ waiting_for s who (Fork child)
 waits_so s who p child page word to thread own is_born place =
     sym (thread_waits s who (Fork child) p born thread own is_born
     ∙ ap (λ (l : Locks). first_waiting None (waits_for_locks l who.actor (s.structure who.proc) (s.table who.proc)))
@@ -60,7 +60,7 @@ pub record IsFree (m : MachineValue) (a : ℕ) (seat : Seat) (op : Op) (copy : W
   pub ready : (r : RunState) → Shows m r → None ≡ waiting_in m.script r a
   pub turn : IsReady m.parts a copy.proc op seat.far seat.job
 
-pub is_free : (m : MachineValue) (a : ℕ) (proc : Option ℕ) (seat : Seat) (op : Op) (copy : WordCopy) → Stand → IsMachine m → IsAtRest m → IsProcessOf (doer m.script a) proc
+pub is_free : (m : MachineValue) (a : ℕ) (proc : Option ℕ) (seat : Seat) (op : Op) (copy : WordCopy) → Stand → IsMachine m → IsAtRest m → IsProcessOf (doer_of m.script a (Some op)) proc
     → slice_get m.seats a ≡ Some seat → op_of_seat m a seat ≡ Some op → IsCopyAt m.parts.births.items proc seat.job op copy → IsFree m a seat op copy
 is_free m a proc seat op copy stand machine rest of_a here present is =
     let births : List Birth = m.parts.births.items in

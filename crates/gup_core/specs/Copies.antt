@@ -10,14 +10,14 @@ use Rattle.gup_core.specs.declared.copies.WordCopy.{WordCopy}
 
 -- where its job stands before it, and after it
 abbrev pub copying : WordCopy → JobPlace
-copying copy = Copying copy.page copy.word copy.to
+copying copy = Copying copy.word copy.to copy.page
 
 abbrev pub copied : WordCopy → JobPlace
-copied copy = Copying copy.page (copy.word + 1) copy.to
+copied copy = Copying (copy.word + 1) copy.to copy.page
 
 -- is it a fork that copies a page?
 abbrev pub is_copying : JobPlace → Bool
-is_copying (Copying page word to) = true
+is_copying (Copying word to page) = true
 is_copying place = false
 
 -- the next turn of the operation, a fork of a born process, whose job stands there, copies this word

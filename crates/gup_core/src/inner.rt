@@ -118,7 +118,7 @@ impl Inner {
         let Some(op) = op_at(ops(&self.script, actor), seat.answered) else {
             return false;
         };
-        let proc = process(&self.script, actor);
+        let proc = process(&self.script, actor, op);
         let Some(copy) = copy_at(&self.parts.births, proc, &seat, op) else {
             return false;
         };
@@ -154,13 +154,13 @@ impl Inner {
         if let Some(waiting) = waits_at(
             &self.parts,
             actor,
-            process(&self.script, actor),
+            process(&self.script, actor, op),
             &seat,
             op,
         ) {
             return Advanced::Waits(waiting);
         }
-        let proc = process(&self.script, actor);
+        let proc = process(&self.script, actor, op);
         let turn = next_turn(self.turns);
         let head = Head {
             turn,
@@ -229,7 +229,7 @@ impl Inner {
         let Some(op) = op_at(ops(&self.script, actor), seat.answered) else {
             return None;
         };
-        let proc = process(&self.script, actor);
+        let proc = process(&self.script, actor, op);
         waits_at(&self.parts, actor, proc, &seat, op)
     }
 

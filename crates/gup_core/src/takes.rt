@@ -3,45 +3,47 @@ ghost use Rattle.std.specs.Prelude.{◌≡◌, ℕ, ◌+◌, ◌<◌, ◌≤◌,
 ghost use Rattle.arrayvec.specs.ArrayVec.{ArrayVec as ArrayVecValue};
 ghost use Rattle.gup_base.specs.Parts.{words_of};
 ghost use Rattle.gup_plain.specs.State.{Birth as CoreBirth};
-ghost use Rattle.gup_script.specs.declared.op.Op.TheVariants.{Fork};
+ghost use Rattle.gup_script.specs.declared.op.Op.TheVariants.{Move, Fork};
 ghost use Rattle.gup_script.specs.Valid.{IsOp};
 ghost use Rattle.gup_frames.specs.Frames.{frames_of};
 ghost use Rattle.gup_space.specs.Space.{SpaceParts, space_of};
 ghost use Rattle.gup_handles.specs.Handles.{handles_of, unmade};
 ghost use Rattle.gup_spec_journal.specs.Place.{Doer};
 ghost use Rattle.gup_spec_turns.specs.Turn.{op_turn, failed_turn, turn_of};
-ghost use Rattle.gup_spec_turns.specs.PinTurns.{pin_turn};
+ghost use Rattle.gup_spec_turns.specs.PinTurns.{get_turn, pin_turn};
 ghost use Rattle.gup_spec_turns.specs.DeviceTurns.{transfer_turn};
 ghost use Rattle.gup_spec_turns.specs.ForkTurns.{fork_turn};
-ghost use Rattle.gup_spec_turns.specs.JobPlace.{JobPlace as Place};
+ghost use Rattle.gup_spec_turns.specs.JobPlace.{JobPlace as Place, KeepsNoJob};
 ghost use Rattle.gup_op_pages.specs.Alone.{IsAlone, ShowsAlone, alone_view};
 ghost use Rattle.gup_op_base.specs.Far.{HasFar, far_in};
 ghost use Rattle.gup_op_base.specs.Jobs.{place_of};
 ghost use Rattle.gup_op_fork.specs.Forked.{is_over, place_after, birth_after, IsReadyAt, ShowsForking, StandsAsFork, forking_view};
-ghost use Rattle.gup_op_pins.specs.Pins.{IsWeighed, ShowsPinning, StandsAtPage, pinning_view};
+ghost use Rattle.gup_op_move.specs.Moving.{IsReadyToMove, is_over as is_moved};
+ghost use Rattle.gup_op_pins.specs.Pins.{IsWeighed, IsReadyToPin, ShowsPinning, StandsAtPage, pinning_view};
 ghost use Rattle.gup_op_pins.specs.Held.{ShowsHeld, held_view, slots_in};
 ghost use Rattle.gup_op_devices.specs.Transfers.{IsWhole};
 ghost use Rattle.gup_op_base.specs.Said.{TellsTurn, whats_of};
 ghost use Rattle.gup_op_base.specs.Turns.{IsTurnOf, Anywhere};
 ghost use Rattle.gup_op_base.specs.Tidy.{AreNumbered, IsTidy, needs_table};
 ghost use Rattle.gup_spec_events.specs.State.{CoreState};
-ghost use Rattle.gup_spec_turns.specs.JobPlace.{place_in};
+ghost use Rattle.gup_spec_turns.specs.JobPlace.{place_in, unbegun};
 ghost use Rattle.gup_spec_turns.specs.Waits.{waiting_for};
 ghost use Rattle.gup_op_waits.specs.Births.{HasFailed, birth_by};
 ghost use Rattle.gup_op_waits.specs.Doers.{HasProcess, IsProcessOf};
 ghost use Rattle.gup_op_waits.specs.Parts.{EachSpace, ShowsBirths, ShowsParts};
 ghost use Rattle.gup_op_waits.specs.Stands.{StandsAt};
-ghost use Rattle.gup_core.specs.Goes.{ShowsAll, StandsFree, all_view, IsReady, IsForkReady, HasSlots, KeepsSlots};
+ghost use Rattle.gup_core.specs.Goes.{ShowsAll, StandsFree, all_view, IsReady, IsForkReady, IsSingle, HasSlots, KeepsSlots};
 ghost use Rattle.gup_op_waits.specs.Locks.{child_in};
 
 use crate::seats::Seat;
-use gup_base::{ActorNo, HandleNo, PageNo, Parts as Moved, ProcNo, Want};
+use gup_base::{ActorNo, HandleNo, PageNo, Parts as Moved, ProcNo, Want, Zone};
 use gup_frames::Frames;
 use gup_op_base::{Head, JobPlace};
 use gup_op_devices::transfer;
 use gup_op_fork::{Forked, fork};
+use gup_op_move::take_move;
 use gup_op_pages::take;
-use gup_op_pins::{give, pin, take_over, unpin};
+use gup_op_pins::{get, give, pin, put, take_over, unpin};
 use gup_op_waits::{Birth, Parts, child_of, has_failed, set_birth, waits_for};
 use gup_plain::{Answer, Journal, PlainEvent, Waiting};
 use gup_script::Op;
@@ -138,6 +140,29 @@ fn take_op(
     if let Some(child) = child_of(op) {
         return take_fork(parts, journal, head, proc.unwrap(), child, place);
     }
+    if let Op::Move { page, zone, .. } = op {
+        return move_page(parts, journal, head, proc.unwrap(), *page, *zone, place);
+    }
+    if let Op::Pin {
+        handle,
+        page,
+        n,
+        want,
+        ..
+    } = op
+    {
+        return take_pin(
+            parts,
+            journal,
+            head,
+            proc.unwrap(),
+            *handle,
+            *page,
+            *n,
+            *want,
+            place,
+        );
+    }
     let over = take_single(parts, journal, head, proc, far, op);
     (over, place)
 }
@@ -160,7 +185,7 @@ fn refuse(births: &mut Vec<Birth>, journal: &mut Journal, head: &Head, op: &Op)
     head.done(journal, PlainEvent::ForkFail { child }, Answer::Unborn);
 }
 
-// Takes a turn of an operation that is no fork.
+// Takes a turn of an operation that is no pin, no move and no fork.
 #[inline(always)]
 fn take_single(
     parts: &mut Parts,
@@ -173,7 +198,7 @@ fn take_single(
     requires process { HasProcess op.now → IsSome proc }
     requires ready { (p : ℕ) → IfSome proc (λ q. q ≡ p)
         → (place : JobPlace) × IsReady parts.old head.now.actor p op.now far place }
-    requires single { child_in op.now ≡ None }
+    requires single { IsSingle op.now }
     requires room { 3 ≤ journal.old.room }
     ensures spaces { length parts.new.spaces.items ≡ length parts.old.spaces.items }
     ensures births { length parts.new.births.items ≡ length parts.old.births.items }
@@ -188,23 +213,6 @@ fn take_single(
         (λ s. op_turn s head.now.actor p slots k op.now) (whats_of said)) }
 {
     match op {
-        Op::Pin {
-            handle,
-            page,
-            n,
-            want,
-            fast: _,
-        } => take_pin(
-            parts,
-            journal,
-            head,
-            proc.unwrap(),
-            *handle,
-            *page,
-            *n,
-            *want,
-            far,
-        ),
         Op::Unpin { handle } => unpin(
             &mut parts.frames,
             &mut parts.handles,
@@ -218,6 +226,20 @@ fn take_single(
         }
         Op::Take { handle } => {
             take_over(&mut parts.handles, journal, head, *handle);
+            true
+        }
+        Op::Get { handle, page } => {
+            take_get(parts, journal, head, proc.unwrap(), *handle, *page);
+            true
+        }
+        Op::Put { handle } => {
+            put(
+                &mut parts.frames,
+                &mut parts.handles,
+                journal,
+                head,
+                *handle,
+            );
             true
         }
         Op::Transfer {
@@ -249,23 +271,23 @@ fn take_pin(
     page: PageNo,
     n: u8,
     want: Want,
-    far: u16,
-) -> bool
+    place: JobPlace,
+) -> (bool, JobPlace)
     requires there { proc < length parts.old.spaces.items }
     requires actor { head.now.actor < length parts.old.taken.items }
     requires tidy { EachSpace (IsTidy (frames_of parts.old.frames)) parts.old.spaces.items }
-    requires table { (space : SpaceParts) → slice_get parts.old.spaces.items proc ≡ Some space
-        → (space_of space).table ≡ None }
+    requires ready { (space : SpaceParts) (pages : ArrayVecValue ℕ) → slice_get parts.old.spaces.items proc ≡ Some space
+        → slice_get parts.old.taken.items head.now.actor ≡ Some pages
+        → IsReadyToPin (frames_of parts.old.frames) (page + length pages.items) want (place_of place) (space_of space) }
     requires few { (f : ℕ) → (frames_of parts.old.frames).count f < 2 ^ 40 }
     requires unmade { handles_of parts.old.handles handle ≡ unmade }
     requires taken { (pages : ArrayVecValue ℕ) → slice_get parts.old.taken.items head.now.actor ≡ Some pages
-        → length pages.items ≡ far }
-    requires pinned { (space : SpaceParts) → slice_get parts.old.spaces.items proc ≡ Some space → 0 < far
+        → length pages.items < n }
+    requires pinned { (space : SpaceParts) (pages : ArrayVecValue ℕ) → slice_get parts.old.spaces.items proc ≡ Some space
+        → slice_get parts.old.taken.items head.now.actor ≡ Some pages → 0 < length pages.items
         → (space_of space).has_pinned ≡ true }
-    requires within { far < n }
     requires most { n ≤ 16 }
     requires range { page + n ≤ 2 ^ 35 }
-    requires short { want.long ≡ false }
     requires room { 3 ≤ journal.old.room }
     ensures spaces { length parts.new.spaces.items ≡ length parts.old.spaces.items }
     ensures taken { length parts.new.taken.items ≡ length parts.old.taken.items }
@@ -275,16 +297,17 @@ fn take_pin(
         → slice_get parts.new.spaces.items q ≡ slice_get parts.old.spaces.items q }
     ensures others_taken { (b : ℕ) → (b ≡ head.now.actor → ⊥)
         → slice_get parts.new.taken.items b ≡ slice_get parts.old.taken.items b }
-    ensures turn { TellsTurn head.now journal.old journal.new result
+    ensures turn { TellsTurn head.now journal.old journal.new result.0
         (λ said. (old new : SpaceParts) (was now : ArrayVecValue ℕ)
         → slice_get parts.old.spaces.items proc ≡ Some old → slice_get parts.new.spaces.items proc ≡ Some new
         → slice_get parts.old.taken.items head.now.actor ≡ Some was
         → slice_get parts.new.taken.items head.now.actor ≡ Some now
-        → IsTurnOf (ShowsPinning head.now.actor proc) (StandsAtPage head.now.actor proc handle page n want far)
-        (pinning_view parts.old.frames old parts.old.handles was.items)
-        (pinning_view parts.new.frames new parts.new.handles now.items)
+        → IsTurnOf (ShowsPinning head.now.actor proc) (StandsAtPage head.now.actor proc handle page n want (length was.items))
+        (pinning_view parts.old.frames old parts.old.handles was.items (place_of place))
+        (pinning_view parts.new.frames new parts.new.handles now.items (place_of result.1))
         (λ s. pin_turn s head.now.actor proc handle page n want) (whats_of said)) }
 {
+    let far = parts.taken[head.actor.get() as usize].len() as u16;
     pin(
         &mut parts.spaces[proc.get() as usize],
         &mut parts.frames,
@@ -298,7 +321,51 @@ fn take_pin(
         n,
         want,
         far,
+        place,
     )
+}
+
+// Takes the turn of a get.
+#[inline(never)]
+fn take_get(
+    parts: &mut Parts,
+    journal: &mut Journal,
+    head: &Head,
+    proc: ProcNo,
+    handle: HandleNo,
+    page: PageNo,
+)
+    requires there { proc < length parts.old.spaces.items }
+    requires tidy { EachSpace (IsTidy (frames_of parts.old.frames)) parts.old.spaces.items }
+    requires table { (space : SpaceParts) → slice_get parts.old.spaces.items proc ≡ Some space
+        → (space_of space).table ≡ None }
+    requires few { (f : ℕ) → (frames_of parts.old.frames).count f < 2 ^ 40 }
+    requires unmade { handles_of parts.old.handles handle ≡ unmade }
+    requires room { 3 ≤ journal.old.room }
+    ensures spaces { length parts.new.spaces.items ≡ length parts.old.spaces.items }
+    ensures births { parts.new.births ≡ parts.old.births }
+    ensures taken { parts.new.taken ≡ parts.old.taken }
+    ensures stores { parts.new.stores ≡ parts.old.stores }
+    ensures other_spaces { (q : ℕ) → (q ≡ proc → ⊥)
+        → slice_get parts.new.spaces.items q ≡ slice_get parts.old.spaces.items q }
+    ensures turn { TellsTurn head.now journal.old journal.new true
+        (λ said. (old new : SpaceParts) (taken : List ℕ)
+        → slice_get parts.old.spaces.items proc ≡ Some old → slice_get parts.new.spaces.items proc ≡ Some new
+        → IsTurnOf (ShowsPinning head.now.actor proc) Anywhere
+        (pinning_view parts.old.frames old parts.old.handles taken unbegun)
+        (pinning_view parts.new.frames new parts.new.handles taken unbegun)
+        (λ s. get_turn s head.now.actor proc handle page (s.entry proc page)) (whats_of said)) }
+{
+    get(
+        &mut parts.spaces[proc.get() as usize],
+        &mut parts.frames,
+        &mut parts.handles,
+        journal,
+        head,
+        proc,
+        handle,
+        page,
+    );
 }
 
 // Takes a turn of a transfer.
@@ -383,6 +450,51 @@ fn take_alone(
         far,
         op,
     )
+}
+
+// Takes a turn of a move of this page of the process to a frame of this zone.
+#[inline(never)]
+fn move_page(
+    parts: &mut Parts,
+    journal: &mut Journal,
+    head: &Head,
+    proc: ProcNo,
+    page: PageNo,
+    zone: Zone,
+    place: JobPlace,
+) -> (bool, JobPlace)
+    requires there { proc < length parts.old.spaces.items }
+    requires tidy { EachSpace (IsTidy (frames_of parts.old.frames)) parts.old.spaces.items }
+    requires ready { (space : SpaceParts) → slice_get parts.old.spaces.items proc ≡ Some space
+        → IsReadyToMove (frames_of parts.old.frames) page (place_of place) (space_of space) }
+    requires room { 3 ≤ journal.old.room }
+    ensures spaces { length parts.new.spaces.items ≡ length parts.old.spaces.items }
+    ensures births { parts.new.births ≡ parts.old.births }
+    ensures taken { parts.new.taken ≡ parts.old.taken }
+    ensures stores { parts.new.stores ≡ parts.old.stores }
+    ensures turn { TellsTurn head.now journal.old journal.new result.0
+        (λ said. (q slots k : ℕ) (others : ℕ → Place)
+        → IsTurnOf (ShowsAll head.now.actor) (λ s. StandsAt s head.now.actor proc k (Move q page zone))
+        (all_view parts.old place others) (all_view parts.new result.1 others)
+        (λ s. op_turn s head.now.actor proc slots k (Move q page zone)) (whats_of said)) }
+{
+    let next = take_move(
+        &mut parts.spaces[proc.get() as usize],
+        &mut parts.frames,
+        journal,
+        head,
+        page,
+        zone,
+        place,
+    );
+    (is_over(&next), next)
+}
+
+// Whether a move is over after a turn behind which it stands there.
+fn is_over(place: &JobPlace) -> bool
+    ensures { result ≡ is_moved (place_of place.now) }
+{
+    matches!(place, JobPlace::Unbegun)
 }
 
 // Takes a turn of a fork of the process into this child, which grows from the first turn on, and is born with the last, or

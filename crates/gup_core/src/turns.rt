@@ -1,7 +1,7 @@
 //! What a turn takes: its number, its operation, and the process of its actor.
 ghost use Rattle.std.specs.Prelude.{◌≡◌, ◌<◌, false, length, slice_get, Some, None, Option, MatchOption};
 ghost use Rattle.gup_script.specs.declared.op.Kind.TheVariants.{Thread};
-ghost use Rattle.gup_spec_journal.specs.Place.{ops_of, doer};
+ghost use Rattle.gup_spec_journal.specs.Place.{ops_of, doer_of};
 ghost use Rattle.gup_script.specs.Script.{is_thread};
 ghost use Rattle.gup_op_waits.specs.Doers.{IsProcessOf};
 ghost use Rattle.gup_core.specs.Machine.{counted};
@@ -31,11 +31,16 @@ pub fn ops(script: &Script, actor: ActorNo) -> &[Op]
     script.ops(actor)
 }
 
-/// The process of a thread; devices and the mover are of none.
-pub fn process(script: &Script, actor: ActorNo) -> Option<ProcNo>
+/// The process of this operation of the actor: that of a thread, and the one that a move names. Operations of devices are of
+/// none.
+#[inline(always)]
+pub fn process(script: &Script, actor: ActorNo, op: &Op) -> Option<ProcNo>
     requires { actor < length script.now.actors }
-    ensures { IsProcessOf (doer script.now actor) result }
+    ensures { IsProcessOf (doer_of script.now actor (Some op.now)) result }
 {
+    if let Op::Move { proc, .. } = op {
+        return Some(*proc);
+    }
     process_named(script.kind(actor))
 }
 

@@ -1,9 +1,10 @@
 -- The words of frames in one list.
-use Rattle.std.proofs.Common.{◌≡◌, ◌≢◌, ℕ, ◌+◌, ◌-◌, ◌*◌, ◌<◌, ◌≤◌, eqb, ltb, ◌&&◌, cond, List, length, get_or, set, get_or-set_same, get_or-set_other, ap, ◌∙◌, ⊎_elim, arith}
+use Rattle.std.proofs.Common.{◌≡◌, ◌≢◌, ℕ, ◌+◌, ◌-◌, ◌*◌, ◌<◌, ◌≤◌, eqb, ltb, ◌&&◌, cond, List, length, get_or, set, get_or-set_same, get_or-set_other, ap, sym, ◌∙◌, ⊎_elim, arith}
 use Rattle.std.proofs.Math.Path.{fun_ext}
+use Rattle.std.proofs.lemmas.List.{get_or_past}
 use Rattle.std.proofs.lemmas.Bool.{cases_eq, cases_lt}
 use Rattle.std.proofs.lemmas.Bool.Decides.{nat_tests}
-use Rattle.gup_plain.specs.Put.{put}
+use Rattle.gup_plain.specs.Put.{put, put2}
 use Rattle.gup_frames.specs.Frames.{word_in}
 
 -- the first n words of the frame are 0
@@ -52,3 +53,44 @@ copied_words old new from to same below above = fun_ext (λ f. fun_ext (λ w. at
         (cases_eq f to))
         (λ (past : 512 ≤ w). grind (arith, nat_tests))
         (cases_lt w 512)
+
+-- zeros behind the end change no word
+pub longer_words : (old new : List ℕ) (n : ℕ) → length old ≤ n → length new ≡ n → ((k d : ℕ) → k < n → k < length old → get_or new k d ≡ get_or old k d) → ((k d : ℕ) → length old ≤ k → k < n → get_or new k d ≡ 0) → word_in new ≡ word_in old
+longer_words old new n longer len same zeros = fun_ext (λ f. fun_ext (λ w. ap (λ x. cond (ltb w 512) x 0) (at (512 * f + w))))
+  where
+    at : (k : ℕ) → get_or new k 0 ≡ get_or old k 0
+    at k =
+        ⊎_elim
+        (λ (before : k < length old). same k 0 (omega arith) before)
+        (λ (behind : length old ≤ k).
+        ⊎_elim
+        (λ (within : k < n). zeros k 0 behind within ∙ sym (get_or_past old k 0 behind))
+        (λ (past : n ≤ k). get_or_past new k 0 (omega arith) ∙ sym (get_or_past old k 0 behind))
+        (cases_lt k n))
+        (cases_lt k (length old))
+
+-- past the end of the list a frame's words are 0
+pub unwritten : (words : List ℕ) (frame : ℕ) → length words ≤ 512 * frame → word_in words ≡ put frame (λ _. 0) (word_in words)
+unwritten words frame past = fun_ext (λ f. fun_ext (λ w. at f w))
+  where
+    at : (f w : ℕ) → word_in words f w ≡ put frame (λ _. 0) (word_in words) f w
+    at f w =
+        ⊎_elim
+        (λ (here : f ≡ frame). let read : get_or words (512 * f + w) 0 ≡ 0 = get_or_past words (512 * f + w) 0 (omega arith) in grind (arith, nat_tests))
+        (λ (ne : f ≢ frame). grind (arith, nat_tests))
+        (cases_eq f frame)
+
+-- one word is written
+pub written_word : (words : List ℕ) (frame word v : ℕ) → word < 512 → 512 * frame + word < length words → word_in (set words (512 * frame + word) v) ≡ put2 frame word v (word_in words)
+written_word words frame word v within inside = fun_ext (λ f. fun_ext (λ w. at f w))
+  where
+    at : (f w : ℕ) → word_in (set words (512 * frame + word) v) f w ≡ put2 frame word v (word_in words) f w
+    at f w =
+        ⊎_elim
+        (λ (here : 512 * f + w ≡ 512 * frame + word).
+        let read : get_or (set words (512 * frame + word) v) (512 * f + w) 0 ≡ v = rw here (get_or-set_same words (512 * frame + word) v 0 inside) in
+        grind (arith, nat_tests))
+        (λ (away : 512 * f + w ≢ 512 * frame + word).
+        let read : get_or (set words (512 * frame + word) v) (512 * f + w) 0 ≡ get_or words (512 * f + w) 0 = get_or-set_other words (512 * frame + word) (512 * f + w) v 0 away in
+        grind (arith, nat_tests))
+        (cases_eq (512 * f + w) (512 * frame + word))

@@ -12,26 +12,26 @@ use Rattle.gup_frames.proofs.Bits.{lowest_same}
 use Rattle.gup_frames.proofs.Free.{free_in-all, free_in-le, free_of-freed}
 
 -- the lowest of the set is the lowest free one
-pub lowest_free_is : (l : FrameLists) (free : List ℕ) (a b : ℕ) → IsKept l free a b → (first n : ℕ) → first + n ≤ l.movable + l.normal → lowest first n (has free) ≡ free_from (frames_of l) first n
-lowest_free_is l free a b kept first n inside =
+pub lowest_free_is : (l : FrameLists) (room : ℕ) (free : List ℕ) (a b : ℕ) → IsKept l room free a b → (first n : ℕ) → first + n ≤ l.movable + l.normal → lowest first n (has free) ≡ free_from (frames_of l) first n
+lowest_free_is l room free a b kept first n inside =
     let len : length l.counts ≡ l.movable + l.normal = kept.counts in
     lowest_same first n (has free) (λ f. eqb (get_or l.counts f 0) 0)
     (λ j above below. kept.set j ∙ ap (λ c. eqb c 0) (get_or_default l.counts j 1 0 (omega arith)))
 
 -- ---- a frame is taken, or freed
 
-module _ (l : FrameLists) (free : List ℕ) (a b f : ℕ) (kept : IsKept l free a b) (inside : f < l.movable + l.normal) where
+module _ (l : FrameLists) (room : ℕ) (free : List ℕ) (a b f : ℕ) (kept : IsKept l room free a b) (inside : f < l.movable + l.normal) where
   count_here : (count d : ℕ) → get_or (set l.counts f count) f d ≡ count
   count_here count d =
       let len : length l.counts ≡ l.movable + l.normal = kept.counts in
       get_or-set_same l.counts f count d (omega arith)
 
-  pub kept-changed : (new words : List ℕ) (count : ℕ) (mark : Bool) (a' b' : ℕ) → length words ≡ length l.words → has new ≡ put f (eqb count 0) (has free) → a' ≡ free_in (frames_of record { movable = l.movable; normal = l.normal; counts = set l.counts f count; marks = set l.marks f mark; words = words }) 0 l.movable → b' ≡ free_in (frames_of record { movable = l.movable; normal = l.normal; counts = set l.counts f count; marks = set l.marks f mark; words = words }) l.movable l.normal → IsKept (record { movable = l.movable; normal = l.normal; counts = set l.counts f count; marks = set l.marks f mark; words = words }) new a' b'
-  kept-changed new words count mark a' b' len_words bits movable normal = record {
+  pub kept-changed : (new words : List ℕ) (room_now count : ℕ) (mark : Bool) (a' b' : ℕ) → room ≤ room_now → has new ≡ put f (eqb count 0) (has free) → a' ≡ free_in (frames_of record { movable = l.movable; normal = l.normal; counts = set l.counts f count; marks = set l.marks f mark; words = words }) 0 l.movable → b' ≡ free_in (frames_of record { movable = l.movable; normal = l.normal; counts = set l.counts f count; marks = set l.marks f mark; words = words }) l.movable l.normal → IsKept (record { movable = l.movable; normal = l.normal; counts = set l.counts f count; marks = set l.marks f mark; words = words }) room_now new a' b'
+  kept-changed new words room_now count mark a' b' roomy bits movable normal = record {
     few = kept.few;
     counts = length-set l.counts f count ∙ kept.counts;
     marks = length-set l.marks f mark ∙ kept.marks;
-    words = len_words ∙ kept.words;
+    words = omega (arith, kept.words);
     set = λ j.
         ⊎_elim
         (λ (e : j ≡ f).
@@ -113,15 +113,15 @@ zeros n j =
     (λ (h : n ≤ j). let len : length (replicate {A = ℕ} n 0) ≡ n = length-replicate {A = ℕ} n 0 in get_or_past (replicate n 0) j 0 (omega arith))
     (cases_lt j n)
 
-pub kept-new : (m n : ℕ) (counts words : List ℕ) (marks : List Bool) (free : List ℕ) → m + n ≤ 1024 → counts ≡ replicate (m + n) 0 → length marks ≡ m + n → length words ≡ 512 * (m + n) → has free ≡ (λ k. ltb k (m + n)) → IsKept (record { movable = m; normal = n; counts = counts; marks = marks; words = words }) free m n
-kept-new m n counts words marks free few is len_marks len_words bits =
+pub kept-new : (m n room : ℕ) (counts words : List ℕ) (marks : List Bool) (free : List ℕ) → m + n ≤ 1024 → counts ≡ replicate (m + n) 0 → length marks ≡ m + n → 512 * (m + n) ≤ room → has free ≡ (λ k. ltb k (m + n)) → IsKept (record { movable = m; normal = n; counts = counts; marks = marks; words = words }) room free m n
+kept-new m n room counts words marks free few is len_marks roomy bits =
     let none : (j : ℕ) → get_or counts j 0 ≡ 0 = λ j. rw is (zeros (m + n) j) in
     let len : length counts ≡ m + n = rw is (length-replicate {A = ℕ} (m + n) 0) in
     let s : FramesValue = frames_of record { movable = m; normal = n; counts = counts; marks = marks; words = words } in record {
       few = few;
       counts = len;
       marks = len_marks;
-      words = len_words;
+      words = roomy;
       set = λ j.
           ap (λ h. h j) bits
           ∙ (⊎_elim

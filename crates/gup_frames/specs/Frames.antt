@@ -79,7 +79,8 @@ abbrev pub free_of : FramesValue → Zone → ℕ
 free_of s Movable = free_in s 0 s.movable
 free_of s Normal = free_in s s.movable s.normal
 
--- what a `Frames` keeps, in order of the frames: their counts, their marks, and 512 words of each
+-- what a `Frames` keeps, in order of the frames: their counts, their marks, and 512 words of each. The list of words
+-- ends with the last frame that was written so far.
 pub record FrameLists : Type 0 where
   pub movable : ℕ
   pub normal : ℕ
@@ -87,7 +88,7 @@ pub record FrameLists : Type 0 where
   pub marks : List Bool
   pub words : List ℕ
 
--- the words of each frame, of which each has 512
+-- the words of each frame, of which each has 512: past the end of the list they are 0
 abbrev pub word_in : List ℕ → ℕ → ℕ → ℕ
 word_in words f w = if nat_lt w 512 then slice_index words (512 * f + w) else 0
 

@@ -32,6 +32,7 @@ pub struct Frames {
 }
 
 impl Model for Frames {
+    ghost use Rattle.std.specs.Prelude.{vec_capacity};
     ghost use Rattle.gup_frames.specs.Frames.{FrameLists};
     ghost use Rattle.gup_frames.specs.Kept.{IsKept};
 
@@ -51,7 +52,7 @@ impl Model for Frames {
       counts = a.counts.items;
       marks = a.marks.items;
       words = a.words.items;
-    }) a.free a.free_movable a.free_normal };
+    }) (vec_capacity a.words) a.free a.free_movable a.free_normal };
 }
 
 impl Frames {
@@ -64,7 +65,7 @@ impl Frames {
         let many = (movable + normal) as usize;
         let counts = vec![in alloc; 0; many]?;
         let marks = vec![in alloc; false; many]?;
-        let words = vec![in alloc; 0; 512 * many]?;
+        let words = Vec::with_capacity(alloc, words::of_frames(many))?;
         Ok(Frames {
             movable,
             normal,
@@ -190,8 +191,7 @@ impl Frames {
         let Some(place) = self.lowest_free(allowed) else {
             return None;
         };
-        let none = self.counts[place];
-        words::clear(&mut self.words, place, none);
+        words::clear(&mut self.words, place);
         Some(self.claim(place))
     }
 

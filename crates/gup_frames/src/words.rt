@@ -1,5 +1,6 @@
-//! The words of all frames, in one list: 512 of each, one frame after another.
-ghost use Rattle.std.specs.Prelude.{◌≡◌, ℕ, ◌+◌, ◌*◌, ◌<◌, ◌≤◌, length, vec_len};
+//! The words of all frames, in one list: 512 of each, one frame after another. The list has room for all from the start, and
+//! ends with the last frame that was written so far: the words past its end are 0, and their memory isn't touched.
+ghost use Rattle.std.specs.Prelude.{◌≡◌, ℕ, ◌+◌, ◌*◌, ◌<◌, ◌≤◌, vec_len, vec_capacity};
 ghost use Rattle.gup_plain.specs.Put.{put, put2};
 ghost use Rattle.gup_frames.specs.Frames.{word_in};
 
@@ -8,56 +9,109 @@ use gup_base::WordNo;
 // How many words a frame has.
 const WORDS: usize = 512;
 
+/// How many words so many frames have.
+#[inline(always)]
+pub(crate) fn of_frames(frames: usize) -> usize
+    requires { frames ≤ 1024 }
+    ensures { result ≡ 512 * frames }
+{
+    WORDS * frames
+}
+
+// Makes the list so long, with words 0.
+#[inline(never)]
+fn lengthen(words: &mut Vec<u64>, end: usize)
+    requires longer { vec_len words.old ≤ end }
+    requires room { end ≤ vec_capacity words.old }
+    ensures words { word_in words.new.items ≡ word_in words.old.items }
+    ensures len { vec_len words.new ≡ end }
+    ensures room { vec_capacity words.old ≤ vec_capacity words.new }
+{
+    words.resize(end, 0).unwrap();
+}
+
+// Makes the list reach the end of the frame.
+#[inline(always)]
+fn reach(words: &mut Vec<u64>, frame: usize)
+    requires few { frame < 1024 }
+    requires room { 512 * (frame + 1) ≤ vec_capacity words.old }
+    ensures words { word_in words.new.items ≡ word_in words.old.items }
+    ensures reached { 512 * (frame + 1) ≤ vec_len words.new }
+    ensures longer { vec_len words.old ≤ vec_len words.new }
+    ensures room { vec_capacity words.old ≤ vec_capacity words.new }
+{
+    let end = of_frames(frame + 1);
+    if words.len() < end {
+        lengthen(words, end);
+    }
+}
+
 /// The word of the frame.
 #[inline(always)]
 pub(crate) fn read(words: &[u64], frame: usize, word: WordNo) -> u64
-    requires { 512 * (frame + 1) ≤ length words.now }
+    requires { frame < 1024 }
     ensures { result ≡ word_in words.now frame word }
 {
-    words[WORDS * frame + word.get() as usize]
+    match words.get(WORDS * frame + word.get() as usize) {
+        Some(v) => *v,
+        None => 0,
+    }
+}
+
+// Writes the word of a frame that the list may not reach yet.
+#[inline(never)]
+fn write_first(words: &mut Vec<u64>, frame: usize, word: WordNo, v: u64)
+    requires few { frame < 1024 }
+    requires room { 512 * (frame + 1) ≤ vec_capacity words.old }
+    ensures words { word_in words.new.items ≡ put2 frame word v (word_in words.old.items) }
+    ensures room { vec_capacity words.old ≤ vec_capacity words.new }
+{
+    reach(words, frame);
+    words[WORDS * frame + word.get() as usize] = v;
 }
 
 /// Writes the word of the frame.
 #[inline(always)]
 pub(crate) fn write(words: &mut Vec<u64>, frame: usize, word: WordNo, v: u64)
-    requires { 512 * (frame + 1) ≤ vec_len words.old }
+    requires few { frame < 1024 }
+    requires room { 512 * (frame + 1) ≤ vec_capacity words.old }
     ensures words { word_in words.new.items ≡ put2 frame word v (word_in words.old.items) }
-    ensures len { vec_len words.new ≡ vec_len words.old }
+    ensures room { vec_capacity words.old ≤ vec_capacity words.new }
 {
-    words[WORDS * frame + word.get() as usize] = v;
-}
-
-// Makes each word of the frame 0, which is handed in.
-fn clear_in(words: &mut [u64], frame: usize, zero: u64)
-    requires within { 512 * (frame + 1) ≤ length words.old }
-    requires zero { zero ≡ 0 }
-    ensures words { word_in words.new ≡ put frame (λ _. 0) (word_in words.old) }
-    ensures len { length words.new ≡ length words.old }
-{
-    let first = WORDS * frame;
-    for word in 0..WORDS {
-        words[first + word] = zero;
+    let place = WORDS * frame + word.get() as usize;
+    if place < words.len() {
+        words[place] = v;
+    } else {
+        write_first(words, frame, word, v);
     }
 }
 
-/// Makes each word of the frame 0. The 0 is handed in: where the compiler knows it, it calls `memset`, which on most
-/// processors takes an instruction that goes over each byte, and else it writes two words at a time.
-pub(crate) fn clear(words: &mut Vec<u64>, frame: usize, zero: u64)
-    requires within { 512 * (frame + 1) ≤ vec_len words.old }
-    requires zero { zero ≡ 0 }
+/// Makes each word of the frame 0. One past the end of the list needs nothing for it.
+pub(crate) fn clear(words: &mut Vec<u64>, frame: usize)
+    requires few { frame < 1024 }
+    requires room { 512 * (frame + 1) ≤ vec_capacity words.old }
     ensures words { word_in words.new.items ≡ put frame (λ _. 0) (word_in words.old.items) }
-    ensures len { vec_len words.new ≡ vec_len words.old }
+    ensures room { vec_capacity words.old ≤ vec_capacity words.new }
 {
-    clear_in(words, frame, zero);
+    let first = WORDS * frame;
+    if first < words.len() {
+        reach(words, frame);
+        for word in 0..WORDS {
+            words[first + word] = 0;
+        }
+    }
 }
 
 /// Gives the second frame the words of the first.
 pub(crate) fn copy(words: &mut Vec<u64>, from: usize, to: usize)
-    requires from { 512 * (from + 1) ≤ vec_len words.old }
-    requires to { 512 * (to + 1) ≤ vec_len words.old }
+    requires few { (from < 1024) × (to < 1024) }
+    requires from { 512 * (from + 1) ≤ vec_capacity words.old }
+    requires to { 512 * (to + 1) ≤ vec_capacity words.old }
     ensures words { word_in words.new.items ≡ put to (word_in words.old.items from) (word_in words.old.items) }
-    ensures len { vec_len words.new ≡ vec_len words.old }
+    ensures room { vec_capacity words.old ≤ vec_capacity words.new }
 {
+    reach(words, from);
+    reach(words, to);
     let first = WORDS * from;
     words.copy_within(first..first + WORDS, WORDS * to);
 }

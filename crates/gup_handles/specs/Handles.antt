@@ -34,6 +34,14 @@ IsHeldBy unmade actor = ⊥
 IsHeldBy (given to frames write) actor = ⊥
 IsHeldBy gone actor = ⊥
 
+-- the actor holds it, and it is a got reference
+abbrev pub IsGotBy : HandleValue → (actor : ℕ) → Type 0
+IsGotBy (got by frame) actor = by ≡ actor
+IsGotBy unmade actor = ⊥
+IsGotBy (held by frames write) actor = ⊥
+IsGotBy (given to frames write) actor = ⊥
+IsGotBy gone actor = ⊥
+
 abbrev pub IsGivenTo : HandleValue → (actor : ℕ) → Type 0
 IsGivenTo (given to frames write) actor = to ≡ actor
 IsGivenTo unmade actor = ⊥
@@ -60,10 +68,10 @@ abbrev pub held_or_gone : (by : ℕ) → List ℕ → Bool → HandleValue
 held_or_gone by [] write = gone
 held_or_gone by (f ∷ frames) write = held by (f ∷ frames) write
 
--- without its last page, or without the reference
+-- without its last page, or without the reference: that is as one that was never got
 abbrev pub without_last : HandleValue → HandleValue
 without_last (held by frames write) = held_or_gone by (but_last frames) write
-without_last (got by frame) = gone
+without_last (got by frame) = unmade
 without_last handle = handle
 
 -- the frame of its last page, or of the reference

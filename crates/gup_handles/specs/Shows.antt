@@ -1,13 +1,12 @@
 -- What handles are to a state of the core machine, and which events their changes are.
-use Rattle.std.specs.Prelude.{◌≡◌, ℕ, ◌⊎◌, List, Option, Some, None}
+use Rattle.std.specs.Prelude.{◌≡◌, ℕ, List, Option, Some, None}
 use Rattle.gup_plain.specs.State as plain
 use Rattle.gup_spec_events.specs.State.{CoreState}
 use Rattle.gup_spec_events.specs.Event.{CoreEvent, happens, unpin_page, put_reference}
 use Rattle.gup_handles.specs.Handles.{HandleValue, HandlesValue, unmade, held, given, got, gone, but_last}
 
 -- What a state has of a handle: the plain handle, the frames of its pages, and the holder and frame of a reference. A pin
--- is of some objects. In a state a reference that was put back is as one that was never got, so a handle that is gone is
--- there either gone, or unmade.
+-- is of some objects. A reference that was put back is as one that was never got.
 abbrev pub IsShown : HandleValue → plain.Handle → (pinned : List ℕ) → (reference : Option (ℕ × ℕ)) → Type 0
 IsShown unmade handle pinned reference = (handle ≡ plain.unmade) × (reference ≡ None)
 IsShown (held by frames write) handle pinned reference =
@@ -15,7 +14,7 @@ IsShown (held by frames write) handle pinned reference =
 IsShown (given to frames write) handle pinned reference =
     ((objects : List ℕ) × (handle ≡ plain.given to objects write)) × (pinned ≡ frames) × (reference ≡ None)
 IsShown (got by frame) handle pinned reference = (handle ≡ plain.unmade) × (reference ≡ Some (by, frame))
-IsShown gone handle pinned reference = ((handle ≡ plain.gone) ⊎ (handle ≡ plain.unmade)) × (reference ≡ None)
+IsShown gone handle pinned reference = (handle ≡ plain.gone) × (reference ≡ None)
 
 -- the state has these handles
 abbrev pub ShowsHandles : HandlesValue → CoreState → Type 0

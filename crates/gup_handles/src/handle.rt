@@ -1,7 +1,7 @@
 //! One handle.
 ghost use Rattle.std.specs.Prelude.{◌≡◌, ℕ, ◌<◌, ◌≤◌, ◌↔◌, length, IsTrue, IsSome, IfSome, OnSome, IfNone, MatchOption, if◌then◌else◌};
 ghost use Rattle.arrayvec.specs.ArrayVec.{array_vec_len};
-ghost use Rattle.gup_handles.specs.Handles.{unmade, held, got, IsPinOf, IsHeldBy, IsGivenTo, given_to, taken_by, without_last, HasLast};
+ghost use Rattle.gup_handles.specs.Handles.{unmade, held, got, IsPinOf, IsHeldBy, IsGotBy, IsGivenTo, given_to, taken_by, without_last, HasLast};
 
 use arrayvec::ArrayVec;
 use gup_base::{ActorNo, FrameNo};
@@ -78,9 +78,10 @@ impl Handle {
         }
     }
 
-    // The frame of which the actor holds a reference by it.
-    fn reference_of(&self, actor: ActorNo) -> Option<FrameNo>
-        ensures { MatchOption result (IsHeldBy self.now actor → IsPinOf self.now actor) (λ frame. self.now ≡ got actor frame) }
+    /// The frame of which the actor holds a reference by it.
+    pub(crate) fn reference(&self, actor: ActorNo) -> Option<FrameNo>
+        ensures held { IsSome result ↔ IsGotBy self.now actor }
+        ensures frame { MatchOption result (IsHeldBy self.now actor → IsPinOf self.now actor) (λ frame. self.now ≡ got actor frame) }
     {
         match self.stage {
             Stage::Got(by, frame) => { if by == actor { Some(frame) } else { None } }
@@ -136,10 +137,10 @@ impl Handle {
             }
             return Some(last);
         }
-        let Some(frame) = self.reference_of(actor) else {
+        let Some(frame) = self.reference(actor) else {
             return None;
         };
-        self.stage = Stage::Gone;
+        self.stage = Stage::Unmade;
         Some(frame)
     }
 

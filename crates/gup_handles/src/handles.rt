@@ -5,7 +5,7 @@ ghost use Rattle.arrayvec.specs.ArrayVec.{array_vec_len};
 ghost use Rattle.gup_plain.specs.Put.{put};
 ghost use Rattle.gup_spec_events.specs.State.{CoreState};
 ghost use Rattle.gup_spec_events.specs.Event.{happens, make_handle, give_handle, take_handle, get_reference, taken_frames, writes_taken};
-ghost use Rattle.gup_handles.specs.Handles.{handles_of, unmade, held, got, IsPinOf, IsHeldBy, IsGivenTo, given_to, taken_by, without_last, HasLast};
+ghost use Rattle.gup_handles.specs.Handles.{handles_of, unmade, held, got, IsPinOf, IsHeldBy, IsGotBy, IsGivenTo, given_to, taken_by, without_last, HasLast};
 ghost use Rattle.gup_handles.specs.Shows.{ShowsHandles, IsEvent, drops};
 
 use crate::handle::Handle;
@@ -33,7 +33,7 @@ impl fmt::Display for NotHeld {
 impl Error for NotHeld {}
 
 /// The handles, each the name of a pin (`pin_user_pages`) or of one got reference (`get_user_pages`). Each is made at
-/// most once, and none is made again once it is gone. They are this project's own: in Linux a caller keeps the pages
+/// most once, and no pin is made again once it is gone; a reference that is put back is as one that was never got. They are this project's own: in Linux a caller keeps the pages
 /// that it pinned in an array.
 #[derive(Drop)]
 pub struct Handles {
@@ -128,7 +128,7 @@ impl Handles {
     }
 
     /// The actor's pin loses the last of the pages that it still has, whose frame is answered, and is gone with the last
-    /// of all. (Linux's `unpin_user_pages` goes from the first page up.) A got reference is gone at once.
+    /// of all. (Linux's `unpin_user_pages` goes from the first page up.) A got reference is put back at once.
     ///
     /// `NotHeld` comes exactly where the actor holds neither by the handle, and then nothing changes.
     #[inline]
@@ -142,6 +142,20 @@ impl Handles {
     {
         let handle = &mut self.handles[h.get() as usize];
         match handle.drop_last(actor) {
+            Some(frame) => Ok(frame),
+            None => Err(NotHeld),
+        }
+    }
+
+    /// The frame of the reference that the actor got by the handle.
+    ///
+    /// `NotHeld` comes exactly where the actor doesn't hold a got reference by it.
+    #[inline]
+    pub fn reference(&self, h: HandleNo, actor: ActorNo) -> Result<FrameNo, NotHeld>
+        ensures held { IsOk result ↔ IsGotBy (handles_of self.now h) actor }
+        ensures frame { IfOk result (λ frame. handles_of self.now h ≡ got actor frame) }
+    {
+        match self.handles[h.get() as usize].reference(actor) {
             Some(frame) => Ok(frame),
             None => Err(NotHeld),
         }

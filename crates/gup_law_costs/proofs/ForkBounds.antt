@@ -1,31 +1,41 @@
 -- What a turn of any operation does to mapped pages and jobs, and what it takes of the cost: a fork's, and the others'.
-use Rattle.std.proofs.Common.{◌≡◌, ℕ, ◌+◌, ◌-◌, ◌*◌, ◌<◌, ◌≤◌, ◌==◌, ◌++◌, Bool, true, false, is_some, List, [], ◌∷◌, Option, Some, None, inl, inr, refl, ap, sym, subst, ◌∙◌, zero, suc, arith, nat_lt, eqb-true}
-use Rattle.std.specs.Prelude.{◌⊎◌, ◌&&◌, not}
+use Rattle.std.proofs.Common.{◌≡◌, ℕ, ◌+◌, ◌-◌, ◌*◌, ◌<◌, ◌≤◌, ◌==◌, ◌++◌, Bool, true, false, is_some, List, [], ◌∷◌, length, Option, Some, None, inl, inr, refl, ap, sym, subst, ◌∙◌, zero, suc, arith, nat_lt, eqb-true}
+use Rattle.std.specs.Prelude.{Ok, Err, ◌⊎◌, ◌&&◌, not, if◌then◌else◌}
 use Rattle.std.proofs.lemmas.Bool.Decides.{nat_tests}
 use Rattle.gup_base.specs.declared.entry.Entry.{Entry}
+use Rattle.gup_base.specs.declared.entry.Allowed.TheVariants.{Only}
 use Rattle.gup_base.specs.declared.entry.Rights.{Rights}
+use Rattle.gup_base.specs.declared.entry.Want.{Want}
+use Rattle.gup_base.specs.declared.entry.Zone.{Zone}
 use Rattle.gup_plain.specs.Put.{put}
 use Rattle.gup_plain.specs.Event.{page_numbers, words}
 use Rattle.gup_plain.specs.State.{Birth, unborn, growing, born, failed}
+use Rattle.gup_plain.specs.declared.answer.Answer.{Answer}
 use Rattle.gup_plain.specs.declared.answer.Answer.TheVariants as answers
 use Rattle.gup_plain.specs.declared.note.What.TheVariants.{Silent}
 use Rattle.gup_script.specs.declared.op.Op.{Op}
-use Rattle.gup_script.specs.declared.op.Op.TheVariants.{Fork}
-use Rattle.gup_spec_events.specs.State.{CoreState, Job, idle, forking, ForkStep, between, counted, lowered, cleared, copying, failing}
-use Rattle.gup_spec_events.specs.Event.{CoreEvent, happens, begin_fork, count_page, copies_page, fail_fork, put_child, fail_unborn, run}
+use Rattle.gup_script.specs.declared.op.Op.TheVariants.{Pin, Move, Fork}
+use Rattle.gup_spec_events.specs.State.{CoreState, Job, idle, moving, Counted, unread, one as counted_one, more as counted_more, forking, ForkStep, between, counted, lowered, cleared, copying, failing}
+use Rattle.gup_spec_events.specs.Event.{CoreEvent, entry_of, happens, counted_as, take_frame, put_entry, pin_page, make_handle, clear_entry, place_frame, restore_entry, begin_fork, count_page, copies_page, fail_fork, put_child, fail_unborn, run}
+use Rattle.gup_spec_events.specs.Fault.{Fault}
 use Rattle.gup_spec_events.specs.Failure.{are_gone, puts_entry, puts_entries, fails}
 use Rattle.gup_spec_events.proofs.Gone.{no_puts}
 use Rattle.gup_law_base.specs.Sound.{Forking, forking_of}
 use Rattle.gup_spec_journal.specs.Place.{Place, Doer, birth_by, birth_for, place_behind}
-use Rattle.gup_spec_turns.specs.Cost.{mapped_by, fork_turns, fork_left, GoesOn, IsWithinBound}
+use Rattle.gup_spec_turns.specs.Cost.{mapped_by, fork_turns, fork_left, move_turns, pin_turns, IsAnswered, GoesOn, IsWithinBound}
 use Rattle.gup_plain.specs.Pages.{mapped_pages}
 use Rattle.gup_spec_turns.specs.Pages.{pages_from}
-use Rattle.gup_spec_turns.specs.JobPlace.{JobPlace, copying_place, job_place, place_in, IsForking, StandsFork, unbegun, from_page, at_page, wants_frame, at_word}
-use Rattle.gup_spec_turns.specs.CoreTurn.{CoreTurn, answers_with, free_frame}
+use Rattle.gup_spec_turns.specs.JobPlace.{JobPlace, copying_place, job_place, place_in, IsForking, StandsFork, StandsMove, unbegun, from_page, at_page, wants_frame, at_word, moving_page}
+use Rattle.gup_spec_turns.specs.CoreTurn.{CoreTurn, answers_with, free_in, free_frame, zones_of, entry_in}
+use Rattle.gup_spec_turns.specs.PinPlace.{StandsAtPage, turns_over}
+use Rattle.gup_spec_turns.specs.PinTurns.{raises, pin_fault, makes_if, moves_first, clears_behind, clears_or_pins, pins_behind, ends_pin, ends_moved, pins_moved, moved_turn, pin_turn_by, pin_turn_in}
 use Rattle.gup_spec_turns.specs.ForkTurns.{first_behind, next_page, page_turn, next_turn, share_turn, frame_turn, copy_turn, copying_turn, fork_turn}
+use Rattle.gup_spec_turns.specs.MoveTurns.{restores, place_turn, counted_turn, move_turn}
+use Rattle.gup_spec_turns.proofs.TurnParts.{clear_turn_by}
 use Rattle.gup_spec_turns.specs.Turn.{op_turn, turn_at, failed_turn, turn_of}
 use Rattle.gup_law_costs.proofs.PageBounds.{StandsShort, IsMoved, still, TakesCost, takes_cost}
-use Rattle.gup_law_costs.proofs.PinBounds.{op_moved, kept_rights}
+use Rattle.gup_law_costs.proofs.PinBounds.{LeavesPages, FaultLeaves, leaves_both, pin_fault_leaves, raises_leave, pinned_leaves, op_moved, kept_rights}
+use Rattle.gup_law_turns.proofs.PinOps.{FewOver, few_idle, few_moved, room_page, room_move, room_left}
 use Rattle.gup_law_turns.proofs.MappedCounts.{mapped_none, pages_few, pages_behind}
 use Rattle.gup_law_turns.proofs.Puts.{put_same, put_other, some_same}
 use Rattle.gup_law_turns.proofs.PageSearches.{IsLowest, lowest_some}
@@ -98,11 +108,13 @@ apart_locked s p q parent a b grows locked other grows_too locked_too apart = go
 -- a fork stands in the middle
 abbrev IsMiddle : JobPlace → Type 0
 IsMiddle unbegun = ⊥
+IsMiddle (moving_page page e count) = ⊥
 IsMiddle place = Unit {0}
 
 -- there its turns are all that it costs
 left_turns : (right : ℕ → Option Rights) (x : JobPlace) → IsMiddle x → fork_left right x ≡ fork_turns right x
 left_turns right unbegun middle = absurd middle
+left_turns right (moving_page page e count) middle = absurd middle
 left_turns right place middle = refl
 
 -- a copy that has begun is in the middle, and costs at most as much as one that wants its frame
@@ -441,24 +453,307 @@ module _ (s : CoreState) (a p : ℕ) (place : Place) where
         born_failed x there = there
     unborn_by job is stands parent lost = absurd stands
 
-  -- where an operation stands: its actor is idle, unless it forks
+  -- what a turn of a move or a pin leaves: all mappings, and the jobs of others, with what these have prepared
+  record LeavesMoved (t : CoreState) : Type 0 where
+    right : t.right ≡ s.right
+    jobs : (b : ℕ) → (b == a) ≡ false → t.job b ≡ s.job b
+    prepared : (b : ℕ) → (b == a) ≡ false → t.prepared b ≡ s.prepared b
+
+  stays : LeavesMoved s
+  stays = record { right = refl; jobs = λ b other. refl; prepared = λ b other. refl }
+
+  -- moves
+
+  module _ (proc page : ℕ) (zone : Zone) where
+    abbrev IsMove : CoreTurn → Type 0
+    IsMove turn = IsSpent s a p place (Move proc page zone) turn
+
+    some_left : (x : JobPlace) → 0 < move_turns x
+    some_left (moving_page g e unread) = omega arith
+    some_left (moving_page g e count) = omega arith
+    some_left x = omega arith
+
+    -- it goes on from one place to another
+    move_goes : (turn : CoreTurn) (x y : JobPlace) → place_in s a ≡ x → place_in (run s turn.events) a ≡ y → LeavesMoved (run s turn.events) → GoesOn place (place_behind place turn.whats) → move_turns y < move_turns x → IsMove turn
+    move_goes turn x y was is left goes less =
+        let t : CoreState = run s turn.events in
+        let before : move_turns (place_in s a) ≡ move_turns x = ap move_turns was in
+        let after : move_turns (place_in t a) ≡ move_turns y = ap move_turns is in
+        let pages : mapped_pages (t.right p) ≡ mapped_pages (s.right p) = ap (λ (f : ℕ → ℕ → Option Rights). mapped_pages (f p)) left.right in
+        record {
+          others = λ q other. ap (λ (f : ℕ → ℕ → Option Rights). f q) left.right;
+          grown = λ q parent b grows locked apart. ap (λ (f : ℕ → ℕ → Option Rights). f q) left.right;
+          jobs = left.jobs;
+          prepared = left.prepared;
+          takes = inr (goes.0, omega (arith, before, after, pages, less));
+          bound = inr (goes, omega (arith, before, after, less));
+          gained = λ q birth. no_more (t.right q) (s.right q) 0 (ap (λ (f : ℕ → ℕ → Option Rights). f q) left.right);
+        }
+
+    -- it is answered, and its actor in the middle of nothing
+    move_ends : (turn : CoreTurn) → (run s turn.events).job a ≡ idle → LeavesMoved (run s turn.events) → IsAnswered place (place_behind place turn.whats) → IsMove turn
+    move_ends turn rests left answered =
+        let t : CoreState = run s turn.events in
+        let some = some_left (place_in s a) in
+        let pages : mapped_pages (t.right p) ≡ mapped_pages (s.right p) = ap (λ (f : ℕ → ℕ → Option Rights). mapped_pages (f p)) left.right in
+        record {
+          others = λ q other. ap (λ (f : ℕ → ℕ → Option Rights). f q) left.right;
+          grown = λ q parent b grows locked apart. ap (λ (f : ℕ → ℕ → Option Rights). f q) left.right;
+          jobs = left.jobs;
+          prepared = left.prepared;
+          takes = inl (answered, rests, omega (arith, some, pages));
+          bound = inl answered;
+          gained = λ q birth. no_more (t.right q) (s.right q) 0 (ap (λ (f : ℕ → ℕ → Option Rights). f q) left.right);
+        }
+
+    clear_spent : s.job a ≡ idle → (right : Option Rights) (entry : Option Entry) → IsMove (clear_turn_by right a p page zone entry)
+    clear_spent rests None entry = move_ends (answers_with answers.Missing) rests stays refl
+    clear_spent rests (Some rights) None = move_ends (answers_with answers.Untouched) rests stays refl
+    clear_spent rests (Some rights) (Some e) =
+        let turn : CoreTurn = clear_turn_by (Some rights) a p page zone (Some e) in
+        let job : Job = moving p page e (Only zone) unread in
+        move_goes turn unbegun (moving_page page e unread) (idle_place s a rests)
+        (ap (λ (j : Job). job_place j (s.prepared a)) (put_same a job s.job))
+        (record { right = refl; jobs = λ b other. put_other a b job s.job other; prepared = λ b other. refl })
+        (refl, refl) (omega arith)
+
+    counted_less : (e : Entry) (count : ℕ) → move_turns (moving_page page e (counted_as count)) < 2
+    counted_less e count = go (count == 1)
+      where
+        go : (b : Bool) → move_turns (moving_page page e (if b then counted_one else counted_more count)) < 2
+        go true = omega arith
+        go false = omega arith
+
+    restores_spent : (e : Entry) (count : Counted) (answer : Answer) → IsMove (restores a p page e (Only zone) count answer)
+    restores_spent e count answer =
+        move_ends (restores a p page e (Only zone) count answer) (put_same a idle s.job)
+        (record { right = refl; jobs = λ b other. put_other a b idle s.job other; prepared = λ b other. refl }) refl
+
+    place_spent : (e : Entry) (free : Option ℕ) → IsMove (place_turn a p page e (Only zone) free)
+    place_spent e None = restores_spent e counted_one answers.NoFrame
+    place_spent e (Some f) =
+        move_ends (place_turn a p page e (Only zone) (Some f)) (put_same a idle s.job)
+        (record {
+          right = refl;
+          jobs = λ b other. put_other a b idle s.job other;
+          prepared = λ b other. put_other a b None (put a (Some f) s.prepared) other ∙ put_other a b (Some f) s.prepared other;
+        })
+        refl
+
+    counted_spent : (g : ℕ) (e : Entry) (count : Counted) → place_in s a ≡ moving_page g e count → g ≡ page → IsMove (counted_turn s a p page e (Only zone) count)
+    counted_spent g e unread was own =
+        let count : ℕ = s.count e.frame in
+        let job : Job = moving p page e (Only zone) (counted_as count) in
+        move_goes (counted_turn s a p page e (Only zone) unread) (moving_page page e unread) (moving_page page e (counted_as count))
+        (was ∙ ap (λ (k : ℕ). moving_page k e unread) own)
+        (ap (λ (j : Job). job_place j (s.prepared a)) (put_same a job s.job))
+        (record { right = refl; jobs = λ b other. put_other a b job s.job other; prepared = λ b other. refl })
+        (refl, refl) (counted_less e count)
+    counted_spent g e counted_one was own = place_spent e (free_in s (Only zone))
+    counted_spent g e (counted_more count) was own = restores_spent e (counted_more count) (answers.Busy count)
+
+    move_spent : (job : Job) → s.job a ≡ job → StandsMove s a p page zone job → IsMove (move_turn s a p page zone job)
+    move_spent idle is stands = clear_spent is (s.right p page) (s.entry p page)
+    move_spent (moving q g e allowed count) is stands = counted_spent g e count (ap (λ (j : Job). job_place j (s.prepared a)) is) stands.1
+    move_spent job is stands = absurd stands
+
+    -- none of a failed process is in the middle
+    unborn_moved : (job : Job) → s.job a ≡ job → StandsMove s a p page zone job → s.birth p ≡ failed → IsMove (answers_with answers.Unborn)
+    unborn_moved idle is stands lost = move_ends (answers_with answers.Unborn) is stays refl
+    unborn_moved (moving q g e allowed count) is stands lost = absurd (let lives : s.birth p ≡ born = stands.4.birth in cc)
+    unborn_moved job is stands lost = absurd stands
+
+  -- pins
+
+  module _ (handle page n : ℕ) (want : Want) (fast : Bool) where
+    abbrev IsPin : CoreTurn → Type 0
+    IsPin turn = IsSpent s a p place (Pin handle page n want fast) turn
+
+    abbrev got : ℕ
+    got = length (s.taken a)
+
+    abbrev here : ℕ
+    here = page + got
+
+    -- it goes on, and has turns left
+    pin_goes : (turn : CoreTurn) → LeavesMoved (run s turn.events) → GoesOn place (place_behind place turn.whats) → place.far + 1 < pin_turns want.long n → IsPin turn
+    pin_goes turn left goes less =
+        let t : CoreState = run s turn.events in
+        let far : (place_behind place turn.whats).far ≡ place.far + 1 = goes.1 in
+        let pages : mapped_pages (t.right p) ≡ mapped_pages (s.right p) = ap (λ (f : ℕ → ℕ → Option Rights). mapped_pages (f p)) left.right in
+        record {
+          others = λ q other. ap (λ (f : ℕ → ℕ → Option Rights). f q) left.right;
+          grown = λ q parent b grows locked apart. ap (λ (f : ℕ → ℕ → Option Rights). f q) left.right;
+          jobs = left.jobs;
+          prepared = left.prepared;
+          takes = inr (goes.0, omega (arith, far, pages, less));
+          bound = inr (goes, omega (arith, far, less));
+          gained = λ q birth. no_more (t.right q) (s.right q) 0 (ap (λ (f : ℕ → ℕ → Option Rights). f q) left.right);
+        }
+
+    -- it is answered, and its actor in the middle of nothing
+    pin_ends : (turn : CoreTurn) → (run s turn.events).job a ≡ idle → LeavesMoved (run s turn.events) → IsAnswered place (place_behind place turn.whats) → place.far < pin_turns want.long n → IsPin turn
+    pin_ends turn rests left answered less =
+        let t : CoreState = run s turn.events in
+        let pages : mapped_pages (t.right p) ≡ mapped_pages (s.right p) = ap (λ (f : ℕ → ℕ → Option Rights). mapped_pages (f p)) left.right in
+        record {
+          others = λ q other. ap (λ (f : ℕ → ℕ → Option Rights). f q) left.right;
+          grown = λ q parent b grows locked apart. ap (λ (f : ℕ → ℕ → Option Rights). f q) left.right;
+          jobs = left.jobs;
+          prepared = left.prepared;
+          takes = inl (answered, rests, omega (arith, pages, less));
+          bound = inl answered;
+          gained = λ q birth. no_more (t.right q) (s.right q) 0 (ap (λ (f : ℕ → ℕ → Option Rights). f q) left.right);
+        }
+
+    -- so many turns of its page are over
+    module _ (over : ℕ) (few : FewOver want.long over) (most : place.far ≤ pin_turns want.long got + over) (within : got < n) where
+      room : place.far < pin_turns want.long n
+      room = room_left want.long got n place.far over few most within
+
+      -- after these events the page is pinned
+      pins_spent : (es : List CoreEvent) (g : ℕ) (e : Entry) (last : Bool) → (got + 1 == n) ≡ last → LeavesMoved (run s es) → (run s es).job a ≡ idle → IsPin (pins_behind es a p handle g n want last e)
+      pins_spent es g e last test left rests =
+          let t : CoreState = run s es in
+          let more : List CoreEvent = pin_page a p g e want.write want.long ∷ makes_if last a handle in
+          let same : run s (es ++ more) ≡ run t more = run_behind s es more in
+          let then_left = pinned_leaves t a p place rests t rests g handle e want last in
+          let all : LeavesMoved (run s (es ++ more)) = subst LeavesMoved (sym same) (record {
+            right = then_left.right ∙ left.right;
+            jobs = λ b other. then_left.jobs.others b other ∙ left.jobs b other;
+            prepared = λ b other. then_left.jobs.prepared b other ∙ left.prepared b other;
+          }) in
+          let idles : (run s (es ++ more)).job a ≡ idle = ap (λ (x : CoreState). x.job a) same ∙ then_left.jobs.idle in
+          go last test idles all
+        where
+          go : (l : Bool) → (got + 1 == n) ≡ l → (run s (pins_behind es a p handle g n want l e).events).job a ≡ idle → LeavesMoved (run s (pins_behind es a p handle g n want l e).events) → IsPin (pins_behind es a p handle g n want l e)
+          go true is idles all = pin_ends (pins_behind es a p handle g n want true e) idles all refl room
+          go false is idles all = pin_goes (pins_behind es a p handle g n want false e) all (refl, refl) (room_page want.long got n place.far over few most (grind (arith, nat_tests, within)))
+
+      -- or refused
+      refuses_spent : (es : List CoreEvent) (k : ℕ) (answer : Answer) → LeavesMoved (run s es) → (run s es).job a ≡ idle → IsPin (ends_pin es a handle n k answer)
+      refuses_spent es zero answer left rests = pin_ends (ends_pin es a handle n zero answer) rests left refl room
+      refuses_spent es (suc k) answer left rests =
+          let t : CoreState = run s es in
+          let same : run s (es ++ make_handle a handle ∷ []) ≡ happens t (make_handle a handle) = run_behind s es (make_handle a handle ∷ []) in
+          pin_ends (ends_pin es a handle n (suc k) answer) (ap (λ (x : CoreState). x.job a) same ∙ rests)
+          (subst LeavesMoved (sym same) (record { right = left.right; jobs = left.jobs; prepared = left.prepared })) refl room
+
+    -- from idle
+
+    module _ (rests : s.job a ≡ idle) (most : place.far ≤ pin_turns want.long got + 0) (within : got < n) where
+      clears_spent : (es : List CoreEvent) (e : Entry) → want.long ≡ true → LeavesMoved (run s es) → IsPin (clears_behind es a p here want e)
+      clears_spent es e long left =
+          let t : CoreState = run s es in
+          let job : Job = moving p here e (zones_of want) unread in
+          let same : run s (es ++ clear_entry a p here e (zones_of want) ∷ []) ≡ happens t (clear_entry a p here e (zones_of want)) = run_behind s es (clear_entry a p here e (zones_of want) ∷ []) in
+          pin_goes (clears_behind es a p here want e)
+          (subst LeavesMoved (sym same) (record {
+            right = left.right;
+            jobs = λ b other. put_other a b job t.job other ∙ left.jobs b other;
+            prepared = left.prepared;
+          }))
+          (refl, refl) (room_move want.long got n place.far 0 long (omega arith) most within)
+
+      long_by : (long below : Bool) → (long && below) ≡ true → long ≡ true
+      long_by true below is = refl
+      long_by false below is = absurd (cc is)
+
+      either_spent : (es : List CoreEvent) (e : Entry) (last moves : Bool) → (got + 1 == n) ≡ last → moves_first (run s es) want e ≡ moves → LeavesMoved (run s es) → (run s es).job a ≡ idle → IsPin (clears_or_pins moves es a p handle here n want last e)
+      either_spent es e last true test moves left idles = clears_spent es e (long_by want.long (nat_lt e.frame (run s es).movable) moves) left
+      either_spent es e last false test moves left idles = pins_spent 0 (few_idle want.long) most within es here e last test left idles
+
+      fault_spent : (k : ℕ) → got ≡ k → (fault : Fault) → FaultLeaves a fault → IsPin (pin_turn_by fault s a p handle here n k want)
+      fault_spent k is (Err answer) leaves =
+          let raised = raises_leave s a p place rests k in
+          refuses_spent 0 (few_idle want.long) most within (raises a p k) k answer (record { right = raised.right; jobs = raised.jobs.others; prepared = raised.jobs.prepared }) raised.jobs.idle
+      fault_spent k is (Ok before) leaves =
+          let first : CoreState = run s (raises a p k) in
+          let raised = raises_leave s a p place rests k in
+          let es : List CoreEvent = raises a p k ++ before in
+          let all : LeavesPages s a (run s es) = subst (LeavesPages s a) (sym (run_behind s (raises a p k) before)) (leaves_both s a first (run first before) raised (leaves first raised.jobs.idle)) in
+          let e : Entry = entry_in ((run s es).entry p here) in
+          either_spent es e (k + 1 == n) (moves_first (run s es) want e) (ap (λ (j : ℕ). j + 1 == n) is) refl
+          (record { right = all.right; jobs = all.jobs.others; prepared = all.jobs.prepared }) all.jobs.idle
+
+    -- of a page that it moves first
+
+    module _ (e : Entry) (over : ℕ) (most : place.far ≤ pin_turns want.long got + over) (within : got < n) (long : want.long ≡ true) where
+      restored : (count : Counted) → LeavesMoved (run s (restore_entry a p here e (zones_of want) count ∷ []))
+      restored count = record { right = refl; jobs = λ b other. put_other a b idle s.job other; prepared = λ b other. refl }
+
+      moved_few : over ≡ 2 → FewOver want.long over
+      moved_few twice = subst (FewOver want.long) (sym twice) (few_moved want.long long)
+
+      ends_spent : over ≡ 2 → (count : Counted) (answer : Answer) → IsPin (ends_moved a p handle here n got want e count answer)
+      ends_spent twice count answer =
+          refuses_spent over (moved_few twice) most within (restore_entry a p here e (zones_of want) count ∷ []) got answer (restored count) (put_same a idle s.job)
+
+      placed_spent : over ≡ 2 → (free : Option ℕ) → IsPin (pins_moved a p handle here n got want e free)
+      placed_spent twice None = ends_spent twice counted_one answers.NoFrame
+      placed_spent twice (Some f) =
+          pins_spent over (moved_few twice) most within (take_frame a f ∷ place_frame a p here f e (zones_of want) ∷ put_entry a e.frame ∷ []) here (entry_of f e.writable) (got + 1 == n) refl
+          (record {
+            right = refl;
+            jobs = λ b other. put_other a b idle s.job other;
+            prepared = λ b other. put_other a b None (put a (Some f) s.prepared) other ∙ put_other a b (Some f) s.prepared other;
+          })
+          (put_same a idle s.job)
+
+      moved_spent_by : (count : Counted) → over ≡ turns_over (moving p here e (zones_of want) count) → IsPin (moved_turn s a p handle here n got want e count)
+      moved_spent_by unread is =
+          let job : Job = moving p here e (zones_of want) (counted_as (s.count e.frame)) in
+          pin_goes (moved_turn s a p handle here n got want e unread)
+          (record { right = refl; jobs = λ b other. put_other a b job s.job other; prepared = λ b other. refl })
+          (refl, refl) (room_move want.long got n place.far over long (omega (arith, is)) most within)
+      moved_spent_by counted_one is = placed_spent is (free_in s (zones_of want))
+      moved_spent_by (counted_more count) is = ends_spent is (counted_more count) (answers.Unmovable count)
+
+    -- where it stands: no more turns are over than its pages and this one take
+    abbrev pub StandsPaced : Job → Type 0
+    StandsPaced job = (got < n) × (place.far ≤ pin_turns want.long got + turns_over job) × StandsAtPage s a p here want job
+
+    pin_spent : (job : Job) → s.job a ≡ job → StandsPaced job → IsPin (pin_turn_in s a p handle page n got want job)
+    pin_spent idle is stands =
+        fault_spent is stands.1 stands.0 got refl (pin_fault s a p here want.write (free_in s (zones_of want))) (pin_fault_leaves s a p here want.write (free_in s (zones_of want)))
+    pin_spent (moving q g e allowed count) is stands = moved_spent_by e (turns_over (moving q g e allowed count)) stands.1 stands.0 stands.2.4.long count (same count)
+      where
+        same : (c : Counted) → turns_over (moving q g e allowed c) ≡ turns_over (moving p here e (zones_of want) c)
+        same unread = refl
+        same counted_one = refl
+        same (counted_more k) = refl
+    pin_spent job is stands = absurd stands.2
+
+    -- none of a failed process is in the middle of a page
+    unborn_pinned : (job : Job) → s.job a ≡ job → StandsPaced job → s.birth p ≡ failed → IsPin (answers_with answers.Unborn)
+    unborn_pinned idle is stands lost = pin_ends (answers_with answers.Unborn) is stays refl (room_left want.long got n place.far 0 (few_idle want.long) stands.1 stands.0)
+    unborn_pinned (moving q g e allowed count) is stands lost = absurd (let lives : s.birth p ≡ born = stands.2.4.moving.birth in cc)
+    unborn_pinned job is stands lost = absurd stands.2
+
+  -- where an operation stands: its actor is idle, unless it forks, moves or pins
   abbrev pub StandsAt : Op → Type 0
+  StandsAt (Pin handle page n want fast) = StandsPaced handle page n want fast (s.job a)
+  StandsAt (Move proc page zone) = StandsMove s a p page zone (s.job a)
   StandsAt (Fork child) = StandsFork s a p child (s.job a) (s.prepared a)
   StandsAt op = (s.job a ≡ idle) × StandsShort s a op place
 
   -- every operation of a born process, or of whoever waits for no birth
   op_spent : (slots : ℕ) (op : Op) → (IsOfProcess op → s.birth p ≡ born) → mapped_pages (s.right p) ≤ 1024 → StandsAt op → IsSpent s a p place op (op_turn s a p slots place.far op)
+  op_spent slots (Pin handle page n want fast) birth few stands = pin_spent handle page n want fast (s.job a) refl stands
+  op_spent slots (Move proc page zone) birth few stands = move_spent proc page zone (s.job a) refl stands
   op_spent slots (Fork child) birth few stands = fork_spent child (s.job a) refl stands few
   op_spent slots op birth few stands = search (page_op_spent slots op refl, handle_op_spent slots op refl, birth, stands)
 
-  -- every operation of a thread of a failed process
+  -- every operation of a failed process
   failed_spent : (op : Op) → s.birth p ≡ failed → ((k : Forking) → forking_of (s.job a) ≡ Some k → s.birth k.proc ≡ born) → StandsAt op → IsSpent s a p place op (failed_turn a p op)
+  failed_spent (Pin handle page n want fast) lost parent stands = unborn_pinned handle page n want fast (s.job a) refl stands lost
+  failed_spent (Move proc page zone) lost parent stands = unborn_moved proc page zone (s.job a) refl stands lost
   failed_spent (Fork child) lost parent stands = unborn_by child (s.job a) refl stands parent lost
   failed_spent op lost parent stands = refused_spent op refl stands
 
--- only a thread is of a failed process
+-- whatever waits for a birth is of a process
 failed_proc : (who : Doer) (births : ℕ → Birth) → birth_for births who ≡ failed → births who.proc ≡ failed
-failed_proc who births is = go who.thread is
+failed_proc who births is = go who.of_process is
   where
     go : (t : Bool) → birth_by t (births who.proc) ≡ failed → births who.proc ≡ failed
     go true lost = lost

@@ -1,6 +1,6 @@
 -- What a turn of an operation on pages that isn't a fork does to the mapped pages of its process and to jobs, and how
 -- far it brings the operation.
-use Rattle.std.proofs.Common.{◌≡◌, ℕ, ◌+◌, ◌<◌, ◌≤◌, ◌==◌, Bool, true, false, is_some, if◌then◌else◌, List, [], ◌∷◌, ◌++◌, length, Option, Some, None, inl, inr, refl, ap, sym, subst, ◌∙◌, zero, suc, arith, append_assoc}
+use Rattle.std.proofs.Common.{◌≡◌, ℕ, ◌+◌, ◌<◌, ◌≤◌, ◌==◌, Bool, true, false, is_some, if◌then◌else◌, List, [], ◌∷◌, ◌++◌, Option, Some, None, inl, inr, refl, ap, sym, subst, ◌∙◌, zero, suc, arith, append_assoc}
 use Rattle.std.specs.Prelude.{◌⊎◌, Ok}
 use Rattle.std.proofs.lemmas.Bool.Decides.{nat_tests}
 use Rattle.gup_base.specs.Parts.{words_of}
@@ -16,7 +16,7 @@ use Rattle.gup_plain.specs.declared.note.What.{What}
 use Rattle.gup_plain.specs.declared.note.What.TheVariants.{Event}
 use Rattle.gup_plain.specs.Denial.{any_unmapped, protect_denial}
 use Rattle.gup_script.specs.declared.op.Op.{Op}
-use Rattle.gup_script.specs.declared.op.Op.TheVariants.{Map, Unmap, Protect, Discard, Load, Store, Pin, Unpin, Get, Put, Transfer, Mirror, Look, Move, Fork, Exit}
+use Rattle.gup_script.specs.declared.op.Op.TheVariants.{Map, Unmap, Protect, Discard, Load, Store, Pin, Unpin, Get, Transfer, Mirror, Look, Move, Fork, Exit}
 use Rattle.gup_script.specs.Limits.{most_pinned}
 use Rattle.gup_spec_events.specs.State.{CoreState, Job, idle, marking}
 use Rattle.gup_spec_events.specs.Event.{CoreEvent, happens, protect_pages, lower_entry, drop_entry, discard_entry, upgrade, run}
@@ -25,8 +25,9 @@ use Rattle.gup_spec_journal.specs.Place.{Place, place_behind}
 use Rattle.gup_spec_turns.specs.Cost.{mapped_by, op_left, IsAnswered, IsWithinBound}
 use Rattle.gup_plain.specs.Pages.{mapped_pages}
 use Rattle.gup_spec_turns.specs.CoreTurn.{CoreTurn, answers_with, free_frame, done_if, silent_or_done}
-use Rattle.gup_spec_turns.proofs.TurnParts.{loads_after, stores_after, store_fault_by, map_turn_by, unmap_turn_by, protect_turn_by, discard_turn_by}
+use Rattle.gup_spec_turns.proofs.TurnParts.{loads_after, gets_after, stores_after, store_fault_by, map_turn_by, unmap_turn_by, protect_turn_by, discard_turn_by}
 use Rattle.gup_spec_turns.specs.PageTurns.{load_turn, lowers_entry, lowers, lowers_for, lowest_page, exit_turn_by}
+use Rattle.gup_spec_turns.specs.PinTurns.{get_turn}
 use Rattle.gup_law_turns.proofs.MappedCounts.{mapped_spread, mapped_same, mapped_put, mapped_lost}
 use Rattle.gup_law_turns.proofs.Puts.{put_same, put_other}
 use Rattle.gup_law_turns.proofs.PageSearches.{lowest_some, undenied_protect}
@@ -44,16 +45,14 @@ pub answer_bound : (op : Op) (a p : ℕ) (place next : Place) (s t : CoreState) 
 answer_bound (Unmap page n) a p place next s t is = inl is
 answer_bound op a p place next s t is = search (is, inl)
 
--- where a turn of an operation stands: short of the last page or word that it goes over, a pin with those that it has taken;
--- forks stand aside, and what isn't built
+-- where a turn of an operation stands: short of the last page or word that it goes over; forks, moves and pins stand aside, and
+-- what isn't built
 abbrev pub StandsShort : CoreState → (a : ℕ) → Op → Place → Type 0
 StandsShort s a (Unmap page n) place = place.far < n
 StandsShort s a (Discard page n) place = place.far < n
-StandsShort s a (Pin handle page n want fast) place = (place.far < n) × (length (s.taken a) ≡ place.far)
+StandsShort s a (Pin handle page n want fast) place = ⊥
 StandsShort s a (Unpin handle) place = (place.far < most_pinned) × HasLeft s a handle place.far
 StandsShort s a (Transfer handle outward slot parts) place = place.far < words_of parts
-StandsShort s a (Get handle page) place = ⊥
-StandsShort s a (Put handle) place = ⊥
 StandsShort s a (Mirror mirror proc page) place = ⊥
 StandsShort s a (Look mirror word) place = ⊥
 StandsShort s a (Move proc page zone) place = ⊥
@@ -133,6 +132,15 @@ module _ (s : CoreState) (a p : ℕ) (place : Place) (rests : s.job a ≡ idle) 
       fault None free = still (Load page word) (answers_with answers.Missing) refl refl refl refl
       fault (Some rights) None = still (Load page word) (answers_with answers.NoFrame) refl refl refl refl
       fault (Some rights) (Some f) = still_using f (Load page word) (loads_after s (fills a p page (Some f)) a p page word) refl refl refl refl
+
+  pub get_moved : (handle page : ℕ) (entry : Option Entry) → IsMoved s a p place (Get handle page) (get_turn s a p handle page entry)
+  get_moved handle page (Some e) = still (Get handle page) (get_turn s a p handle page (Some e)) refl refl refl refl
+  get_moved handle page None = fault (s.right p page) (free_frame s)
+    where
+      fault : (rights : Option Rights) (free : Option ℕ) → IsMoved s a p place (Get handle page) (gets_after s (read_fault a p page rights None free) a p handle page)
+      fault None free = still (Get handle page) (answers_with answers.Missing) refl refl refl refl
+      fault (Some rights) None = still (Get handle page) (answers_with answers.NoFrame) refl refl refl refl
+      fault (Some rights) (Some f) = still_using f (Get handle page) (gets_after s (fills a p page (Some f)) a p handle page) refl refl refl refl
 
   pub store_moved : (page word value : ℕ) (entry : Option Entry) (allowed : Bool) → IsMoved s a p place (Store page word value) (stores_after s (store_fault_by allowed s a p page entry) a p page word value)
   store_moved page word value entry true = still (Store page word value) (stores_after s (Ok []) a p page word value) refl refl refl refl
@@ -311,11 +319,7 @@ takes_cost (Unmap page n) a p place next s t short rests gained (inl is) = inl (
 takes_cost (Unmap page n) a p place next s t short rests gained (inr on) = let far = on.0.1 in inr (on.0.0, omega arith)
 takes_cost (Discard page n) a p place next s t short rests gained (inl is) = inl (is, rests, omega arith)
 takes_cost (Discard page n) a p place next s t short rests gained (inr on) = let far = on.0.1 in inr (on.0.0, omega arith)
-takes_cost (Pin handle page n want fast) a p place next s t short rests gained (inl is) = let less = short.0 in inl (is, rests, omega arith)
-takes_cost (Pin handle page n want fast) a p place next s t short rests gained (inr on) =
-    let far = on.0.1 in
-    let less = short.0 in
-    inr (on.0.0, omega arith)
+takes_cost (Pin handle page n want fast) a p place next s t short rests gained bound = absurd short
 takes_cost (Unpin handle) a p place next s t short rests gained (inl is) = let less = short.0 in inl (is, rests, omega arith)
 takes_cost (Unpin handle) a p place next s t short rests gained (inr on) =
     let far = on.0.1 in
@@ -323,6 +327,7 @@ takes_cost (Unpin handle) a p place next s t short rests gained (inr on) =
     inr (on.0.0, omega arith)
 takes_cost (Transfer handle outward slot parts) a p place next s t short rests gained (inl is) = inl (is, rests, omega arith)
 takes_cost (Transfer handle outward slot parts) a p place next s t short rests gained (inr on) = let far = on.0.1 in inr (on.0.0, omega arith)
+takes_cost (Move proc page zone) a p place next s t short rests gained bound = absurd short
 takes_cost (Fork child) a p place next s t short rests gained bound = absurd short
 takes_cost Exit a p place next s t short rests gained (inl is) = inl (is, rests, omega arith)
 takes_cost Exit a p place next s t short rests gained (inr on) = let less = mapped_lost (s.right p) (t.right p) on.1 in inr (on.0.0, omega arith)

@@ -1,6 +1,6 @@
--- What a turn of a pin does to the mapped pages of its process and to jobs, and one of what is done with a pin, and how far
--- it brings the operation; and so every operation that isn't a fork.
-use Rattle.std.proofs.Common.{◌≡◌, ℕ, ◌+◌, ◌-◌, ◌<◌, ◌==◌, Bool, true, false, if◌then◌else◌, List, [], ◌∷◌, ◌++◌, length, Option, Some, None, inl, inr, refl, ap, sym, subst, ◌∙◌, zero, suc, arith}
+-- What the events of a pin's turn do to mapped pages and to jobs; and what a turn of what is done with a pin does, and how far it
+-- brings the operation; and so every operation that isn't a fork, a move or a pin.
+use Rattle.std.proofs.Common.{◌≡◌, ℕ, ◌+◌, ◌-◌, ◌<◌, ◌==◌, Bool, true, false, if◌then◌else◌, List, [], ◌∷◌, ◌++◌, length, Option, Some, None, inl, inr, refl, ap, ◌∙◌, zero, suc, arith}
 use Rattle.std.specs.Prelude.{Ok, Err}
 use Rattle.std.proofs.lemmas.List.{length-take-le}
 use Rattle.gup_base.specs.Parts.{Part, words_of, word_at}
@@ -13,29 +13,29 @@ use Rattle.gup_plain.specs.Denial.{any_mapped, any_unmapped, map_denial, protect
 use Rattle.gup_plain.specs.declared.answer.Answer.{Answer}
 use Rattle.gup_plain.specs.declared.answer.Answer.TheVariants as answers
 use Rattle.gup_script.specs.declared.op.Op.{Op}
-use Rattle.gup_script.specs.declared.op.Op.TheVariants.{Map, Unmap, Protect, Discard, Load, Store, Pin, Unpin, Give, Take, Transfer, Exit}
+use Rattle.gup_script.specs.declared.op.Op.TheVariants.{Map, Unmap, Protect, Discard, Load, Store, Unpin, Give, Take, Get, Put, Transfer, Exit}
 use Rattle.gup_spec_events.specs.State.{CoreState, Job, idle, marking}
-use Rattle.gup_spec_events.specs.Event.{CoreEvent, take_frame, fill, break_entry, put_entry, pin_page, upgrade, run}
+use Rattle.gup_spec_events.specs.Event.{take_frame, fill, break_entry, put_entry, pin_page, upgrade, run}
 use Rattle.gup_spec_events.specs.Fault.{Fault, fills, fills_writable, breaks, marks, makes_writable, unshares, unshare_fault, write_fault}
+use Rattle.gup_spec_journal.specs.Denial.{has_reference}
 use Rattle.gup_spec_journal.specs.Place.{Place, place_behind}
 use Rattle.gup_spec_turns.specs.Cost.{IsWithinBound}
-use Rattle.gup_spec_turns.specs.CoreTurn.{CoreTurn, answers_with, free_in, zones_of, allows_store, entry_in}
+use Rattle.gup_spec_turns.specs.CoreTurn.{CoreTurn, answers_with, allows_store}
 use Rattle.gup_spec_turns.specs.PageTurns.{lowest_page}
-use Rattle.gup_spec_turns.specs.PinTurns.{raises, pin_fault, makes_if, pins_behind, ends_pin, pin_turn_by, but_last, unpinned, take_turn}
-use Rattle.gup_spec_turns.proofs.TurnParts.{unpin_turn_by, give_turn_by, transfer_turn_by}
+use Rattle.gup_spec_turns.specs.PinTurns.{raises, pin_fault, makes_if, but_last, unpinned, take_turn, got_by, got_frame}
+use Rattle.gup_spec_turns.proofs.TurnParts.{unpin_turn_by, give_turn_by, put_turn_by, transfer_turn_by}
 use Rattle.gup_spec_turns.specs.DeviceTurns.{frame_at, moves_from}
 use Rattle.gup_spec_turns.specs.Turn.{op_turn}
-use Rattle.gup_law_costs.proofs.PageBounds.{StandsShort, KeepsJobs, IsMoved, same_prepared, used_prepared, same_jobs, keeping, still, goes_less, load_moved, store_moved, map_moved, protect_moved, unmap_moved, discard_moved, exit_moved}
+use Rattle.gup_law_costs.proofs.PageBounds.{StandsShort, KeepsJobs, IsMoved, same_prepared, used_prepared, same_jobs, keeping, still, goes_less, load_moved, get_moved, store_moved, map_moved, protect_moved, unmap_moved, discard_moved, exit_moved}
 use Rattle.gup_law_turns.proofs.Puts.{put_same, put_other}
 use Rattle.gup_law_turns.proofs.TurnShapes.{HasLeft, IsOfProcess}
-use Rattle.gup_law_turns.proofs.ShownTurns.{run_behind}
 
 -- Events leave all mappings, the jobs of other actors, and what these have prepared; their own is in the middle of nothing.
-record LeavesPages (s : CoreState) (a : ℕ) (t : CoreState) : Type 0 where
-  right : t.right ≡ s.right
-  jobs : KeepsJobs s a t
+pub record LeavesPages (s : CoreState) (a : ℕ) (t : CoreState) : Type 0 where
+  pub right : t.right ≡ s.right
+  pub jobs : KeepsJobs s a t
 
-leaves_both : (s : CoreState) (a : ℕ) (t u : CoreState) → LeavesPages s a t → LeavesPages t a u → LeavesPages s a u
+pub leaves_both : (s : CoreState) (a : ℕ) (t u : CoreState) → LeavesPages s a t → LeavesPages t a u → LeavesPages s a u
 leaves_both s a t u now later =
     record {
       right = later.right ∙ now.right;
@@ -65,7 +65,7 @@ leaves_used : (f : ℕ) (s : CoreState) (a : ℕ) (t : CoreState) → s.job a �
 leaves_used f s a t rests right job prepared = leaves_kept s a t rests right job (used_prepared a f s.prepared t.prepared prepared)
 
 -- the events of a fault do
-abbrev FaultLeaves : (a : ℕ) → Fault → Type 0
+abbrev pub FaultLeaves : (a : ℕ) → Fault → Type 0
 FaultLeaves a (Ok es) = (s : CoreState) → s.job a ≡ idle → LeavesPages s a (run s es)
 FaultLeaves a (Err answer) = Unit {0}
 
@@ -125,50 +125,20 @@ module _ (a p page : ℕ) where
       go true = λ s rests. leaves_same s a s rests refl refl refl
       go false = makes_leave e (mark e.frame) (count e.frame) free
 
-pin_fault_leaves : (s : CoreState) (a p page : ℕ) (write : Bool) (free : Option ℕ) → FaultLeaves a (pin_fault s a p page write free)
+pub pin_fault_leaves : (s : CoreState) (a p page : ℕ) (write : Bool) (free : Option ℕ) → FaultLeaves a (pin_fault s a p page write free)
 pin_fault_leaves s a p page true free = write_leaves a p page (s.right p page) (s.entry p page) s.mark s.count free
 pin_fault_leaves s a p page false free = unshare_leaves a p page (s.right p page) (s.entry p page) s.mark s.count free
 
 module _ (s : CoreState) (a p : ℕ) (place : Place) (rests : s.job a ≡ idle) where
   -- a pin
 
-  raises_leave : (far : ℕ) → LeavesPages s a (run s (raises a p far))
+  pub raises_leave : (far : ℕ) → LeavesPages s a (run s (raises a p far))
   raises_leave zero = leaves_same s a (run s (raises a p 0)) rests refl refl refl
   raises_leave (suc far) = leaves_same s a s rests refl refl refl
 
-  pinned_leaves : (t : CoreState) → t.job a ≡ idle → (page handle : ℕ) (e : Entry) (want : Want) (last : Bool) → LeavesPages t a (run t (pin_page a p page e want.write want.long ∷ makes_if last a handle))
+  pub pinned_leaves : (t : CoreState) → t.job a ≡ idle → (page handle : ℕ) (e : Entry) (want : Want) (last : Bool) → LeavesPages t a (run t (pin_page a p page e want.write want.long ∷ makes_if last a handle))
   pinned_leaves t idles page handle e want true = leaves_same t a (run t (pin_page a p page e want.write want.long ∷ makes_if true a handle)) idles refl refl refl
   pinned_leaves t idles page handle e want false = leaves_same t a (run t (pin_page a p page e want.write want.long ∷ makes_if false a handle)) idles refl refl refl
-
-  -- the turn that ends a pin
-  ends_moved : (handle page n : ℕ) (want : Want) (fast : Bool) (got : ℕ) (answer : Answer) → IsMoved s a p place (Pin handle page n want fast) (ends_pin a p handle n got answer)
-  ends_moved handle page n want fast zero answer = still s a p place rests (Pin handle page n want fast) (ends_pin a p handle n zero answer) refl refl refl refl
-  ends_moved handle page n want fast (suc got) answer = still s a p place rests (Pin handle page n want fast) (ends_pin a p handle n (suc got) answer) refl refl refl refl
-
-  pinned_moved : (handle page n g : ℕ) (want : Want) (fast last : Bool) (before : List CoreEvent) (e : Entry) → place.far < n → (place.far + 1 == n) ≡ last → LeavesPages s a (run s before) → IsMoved s a p place (Pin handle page n want fast) (pins_behind before a p handle g n want last e)
-  pinned_moved handle page n g want fast last before e less test leaves =
-      let turn : CoreTurn = pins_behind before a p handle g n want last e in
-      let there : CoreState = run s before in
-      let all : LeavesPages s a (run s turn.events) =
-      subst (LeavesPages s a) (sym (run_behind s before (pin_page a p g e want.write want.long ∷ makes_if last a handle)))
-      (leaves_both s a there (run there (pin_page a p g e want.write want.long ∷ makes_if last a handle)) leaves (pinned_leaves there leaves.jobs.idle g handle e want last)) in
-      keeping s a p place rests (Pin handle page n want fast) turn all.right all.jobs (bound last test)
-    where
-      bound : (l : Bool) → (place.far + 1 == n) ≡ l → IsWithinBound (Pin handle page n want fast) a p place (place_behind place (pins_behind before a p handle g n want l e).whats) s (run s (pins_behind before a p handle g n want last e).events)
-      bound true is = inl refl
-      bound false is = inr ((refl, refl), goes_less s a p place rests place.far n less is)
-
-  -- it has got so many pages as it had turns
-  pin_moved : (handle page n got : ℕ) (want : Want) (fast : Bool) → place.far < n → got ≡ place.far → (fault : Fault) → FaultLeaves a fault → IsMoved s a p place (Pin handle page n want fast) (pin_turn_by fault s a p handle (page + got) n got want)
-  pin_moved handle page n got want fast less many (Err answer) leaves = ends_moved handle page n want fast got answer
-  pin_moved handle page n got want fast less many (Ok before) leaves =
-      let g : ℕ = page + got in
-      let first : CoreState = run s (raises a p got) in
-      let raised = raises_leave got in
-      let all : LeavesPages s a (run s (raises a p got ++ before)) =
-      subst (LeavesPages s a) (sym (run_behind s (raises a p got) before)) (leaves_both s a first (run first before) raised (leaves first raised.jobs.idle)) in
-      let test : (place.far + 1 == n) ≡ (got + 1 == n) = ap (λ (k : ℕ). k + 1 == n) (sym many) in
-      pinned_moved handle page n g want fast (got + 1 == n) (raises a p got ++ before) (entry_in ((run s (raises a p got ++ before)).entry p g)) less test all
 
   -- what is done with a pin that is made
 
@@ -196,6 +166,10 @@ module _ (s : CoreState) (a p : ℕ) (place : Place) (rests : s.job a ≡ idle) 
   give_moved handle to false = still s a p place rests (Give handle to) (give_turn_by false a handle to) refl refl refl refl
   give_moved handle to true = still s a p place rests (Give handle to) (give_turn_by true a handle to) refl refl refl refl
 
+  put_moved : (handle : ℕ) (held : Bool) (f : ℕ) → IsMoved s a p place (Put handle) (put_turn_by held a handle f)
+  put_moved handle false f = still s a p place rests (Put handle) (put_turn_by false a handle f) refl refl refl refl
+  put_moved handle true f = still s a p place rests (Put handle) (put_turn_by true a handle f) refl refl refl refl
+
   word_moved : (handle : ℕ) (outward : Bool) (slot : ℕ) (parts : List Part) (i j f : ℕ) (last : Bool) → place.far < words_of parts → (place.far + 1 == words_of parts) ≡ last → IsMoved s a p place (Transfer handle outward slot parts) (moves_from s a handle outward last i j f)
   word_moved handle true slot parts i j f true less test = still s a p place rests (Transfer handle true slot parts) (moves_from s a handle true true i j f) refl refl refl refl
   word_moved handle false slot parts i j f true less test = still s a p place rests (Transfer handle false slot parts) (moves_from s a handle false true i j f) refl refl refl refl
@@ -219,13 +193,11 @@ module _ (s : CoreState) (a p : ℕ) (place : Place) (rests : s.job a ≡ idle) 
   op_moved slots (Store page word value) short = store_moved s a p place rests page word value (s.entry p page) (allows_store (s.entry p page))
   op_moved slots (Protect page n rights) short = protect_moved s a p place rests page n rights (protect_denial (any_unmapped (s.right p) page n)) refl
   op_moved slots (Discard page n) short = discard_moved s a p place rests page n (s.right p (page + place.far)) (s.entry p (page + place.far)) (place.far + 1 == n) short refl
-  op_moved slots (Pin handle page n want fast) short =
-      let got : ℕ = length (s.taken a) in
-      let free : Option ℕ = free_in s (zones_of want) in
-      pin_moved handle page n got want fast short.0 short.1 (pin_fault s a p (page + got) want.write free) (pin_fault_leaves s a p (page + got) want.write free)
   op_moved slots (Unpin handle) short = unpin_moved handle (is_held_by (s.handle handle) a) refl short.1
   op_moved slots (Give handle to) short = give_moved handle to (is_held_by (s.handle handle) a)
   op_moved slots (Take handle) short = still s a p place rests (Take handle) (take_turn a handle) refl refl refl refl
+  op_moved slots (Get handle page) short = get_moved s a p place rests handle page (s.entry p page)
+  op_moved slots (Put handle) short = put_moved handle (has_reference (got_by (s.got handle)) a) (got_frame (s.got handle))
   op_moved slots (Transfer handle outward slot parts) short =
       transfer_moved handle outward slot parts (transfer_denial (s.handle handle) a outward slots slot parts) (place.far + 1 == words_of parts) short refl
   op_moved slots Exit short = exit_moved s a p place rests (lowest_page (s.right p)) refl

@@ -4,29 +4,32 @@ use Rattle.std.specs.Prelude.{sum_by}
 use Rattle.std.proofs.lemmas.Bool.Decides.{nat_tests}
 use Rattle.std.proofs.lemmas.List.Sums.{sum_by-cons}
 use Rattle.gup_base.specs.declared.entry.Rights.{Rights}
+use Rattle.gup_base.specs.declared.entry.Zone.{Zone}
 use Rattle.gup_plain.specs.Event.{most_pages}
 use Rattle.gup_plain.specs.Put.{put}
 use Rattle.gup_plain.specs.State.{born}
 use Rattle.gup_plain.specs.declared.note.Waiting.{Waiting}
 use Rattle.gup_script.specs.declared.op.Op.{Op}
-use Rattle.gup_script.specs.declared.op.Op.TheVariants.{Map, Unmap, Discard, Pin, Unpin, Transfer, Fork, Exit}
+use Rattle.gup_script.specs.declared.op.Op.TheVariants.{Map, Unmap, Discard, Pin, Unpin, Transfer, Move, Fork, Exit}
 use Rattle.gup_script.specs.Script.{ScriptValue, Actor}
 use Rattle.gup_script.specs.Valid.{IsScript}
-use Rattle.gup_spec_events.specs.State.{CoreState}
+use Rattle.gup_spec_events.specs.State.{CoreState, Job, idle, moving, unread}
 use Rattle.gup_spec_events.specs.Event.{CoreEvent, run}
-use Rattle.gup_spec_journal.specs.Place.{Place, doer, present_op, process_of, ops_of, ops_in}
-use Rattle.gup_spec_turns.specs.Cost.{fork_turns, mapped_by, map_pages, most_turns_of, IsAnswered, IsWithinBound}
+use Rattle.gup_spec_journal.specs.Place.{Place, doer, doer_of, birth_for, present_op, process_of, ops_of, ops_in}
+use Rattle.gup_spec_turns.specs.Cost.{fork_turns, move_turns, mapped_by, map_pages, most_turns_of, IsAnswered, IsWithinBound}
 use Rattle.gup_plain.specs.Pages.{sum_below, mapped_pages}
-use Rattle.gup_spec_turns.specs.JobPlace.{JobPlace, place_in, unbegun}
+use Rattle.gup_spec_turns.specs.JobPlace.{JobPlace, place_in, unbegun, moving_page}
 use Rattle.gup_spec_turns.specs.Run.{turned, RunState, run_start, run_after, op_in, waiting_in, core_turn_in, is_ready}
 use Rattle.gup_law_turns.specs.Standing.{IsStanding}
 use Rattle.gup_law_turns.proofs.ScriptLemmas.{has_ops_declared, is_of_thread, thread_birth}
 use Rattle.gup_law_costs.proofs.PageBounds.{TakesCost}
 use Rattle.gup_law_costs.proofs.ForkBounds.{IsSpent}
+use Rattle.gup_spec_turns.specs.PinPlace.{turns_over}
+use Rattle.gup_law_turns.proofs.PinOps.{few_over, room_left}
 use Rattle.gup_law_turns.proofs.MappedCounts.{mapped_lost}
 use Rattle.gup_law_turns.proofs.Puts.{put_same, put_other, put_own, some_same}
 use Rattle.gup_law_turns.proofs.ReachedStates.{IsReached, Published, is_standing, reached_on}
-use Rattle.gup_law_turns.proofs.TurnShapes.{FitsOp, FitsAt, child_of}
+use Rattle.gup_law_turns.proofs.TurnShapes.{FitsMove, FitsOp, FitsAt, child_of}
 use Rattle.gup_law_costs.proofs.TurnCosts.{idle_by, next_place, spent_turn, fork_stays, process_no_device}
 use Rattle.gup_law_turns.proofs.StandingTurns.{at_others}
 use Rattle.gup_law_turns.proofs.StandingStates.{Stands}
@@ -142,7 +145,10 @@ module _ (law : Law) (published : Published) (script : ScriptValue) (valid : IsS
   stands : IsStanding script r
   stands = is_standing published script valid r h
 
-  spent : IsSpent r.core b (process_of script b) (r.places b) op (core_turn_in script r b)
+  abbrev own : ℕ
+  own = (doer_of script b (Some op)).proc
+
+  spent : IsSpent r.core b own (r.places b) op (core_turn_in script r b)
   spent = spent_turn script valid r stands b op is free
 
   few : (p : ℕ) → mapped_pages (t.right p) ≤ most_pages
@@ -157,7 +163,7 @@ module _ (law : Law) (published : Published) (script : ScriptValue) (valid : IsS
 
   -- what a born process gains is mapped by what is answered
   gained : (p : ℕ) → r.core.birth p ≡ born → mapped_pages (t.right p) + yet ≤ mapped_pages (r.core.right p) + yet_mapped script r.places
-  gained p birth = go (mapped_pages (r.core.right (child_of (process_of script b) (Some op)))) (mapped_pages (t.right (child_of (process_of script b) (Some op)))) spent.takes
+  gained p birth = go (mapped_pages (r.core.right (child_of own (Some op)))) (mapped_pages (t.right (child_of own (Some op)))) spent.takes
     where
       more : mapped_pages (t.right p) ≤ mapped_pages (r.core.right p) + mapped_by op
       more = spent.gained p birth
@@ -167,7 +173,7 @@ module _ (law : Law) (published : Published) (script : ScriptValue) (valid : IsS
           let fall = yet_fall script r.places b next op is (ap (λ (q : Place). q.answered) answered.0) in
           omega (arith, more, fall)
       go before after (inr on) =
-          let none = goes_unmapped op b (process_of script b) (r.places b) next r.core t on.0 spent.bound in
+          let none = goes_unmapped op b own (r.places b) next r.core t on.0 spent.bound in
           let stay = yet_stay script r.places b next on.0 in
           omega (arith, more, none, stay)
 
@@ -190,8 +196,8 @@ module _ (law : Law) (published : Published) (script : ScriptValue) (valid : IsS
       same_op : present_op script b (r.places b) ≡ present_op script b next
       same_op = ap (slice_get (ops_of script b)) (sym on.0)
 
-      bound_as : (o : Op) → op ≡ o → IsWithinBound o b (process_of script b) (r.places b) next r.core t
-      bound_as o same = subst (λ (x : Op). IsWithinBound x b (process_of script b) (r.places b) next r.core t) same spent.bound
+      bound_as : (o : Op) → op ≡ o → IsWithinBound o b (doer_of script b (Some o)).proc (r.places b) next r.core t
+      bound_as o same = subst (λ (x : Op). IsWithinBound x b (doer_of script b (Some x)).proc (r.places b) next r.core t) same spent.bound
 
       fork_on : (child : ℕ) → op ≡ Fork child → next.far + fork_turns (t.right child) (place_in t b) ≤ 515 * most_pages + 2
       fork_on child same =
@@ -225,8 +231,8 @@ module _ (law : Law) (published : Published) (script : ScriptValue) (valid : IsS
     where
       born_process : present_op script a (r.places a) ≡ Some Exit → 0 < (r.places a).far → r.core.birth (process_of script a) ≡ born
       born_process now begun =
-          sym (thread_birth (doer script a) r.core.birth (is_of_thread script valid a (r.places a).answered Exit now (process_no_device Exit tt)))
-          ∙ h.stands.begun a begun
+          sym (thread_birth (doer script a) r.core.birth (is_of_thread script valid a (r.places a).answered Exit now (process_no_device Exit tt) (λ moves. moves)))
+          ∙ subst (λ (o : Option Op). birth_for r.core.birth (doer_of script a o) ≡ born) now (h.stands.begun a begun)
 
       exit : present_op script a (r.places a) ≡ Some Exit → (far : ℕ) → (r.places a).far ≡ far → (r.places a).far + mapped_pages (t.right (process_of script a)) + yet ≤ most_pages + map_pages script
       exit now zero first = first_exit (process_of script a) (r.places a).far first
@@ -238,7 +244,7 @@ module _ (law : Law) (published : Published) (script : ScriptValue) (valid : IsS
 
   turn_within : AreWithin script t (put b next r.places)
   turn_within =
-      at_others (λ (a : ℕ) (place : Place). IsWithin script t yet a place) b next r.places (own_within (mapped_pages (r.core.right (child_of (process_of script b) (Some op)))) (mapped_pages (t.right (child_of (process_of script b) (Some op)))) spent.takes)
+      at_others (λ (a : ℕ) (place : Place). IsWithin script t yet a place) b next r.places (own_within (mapped_pages (r.core.right (child_of own (Some op)))) (mapped_pages (t.right (child_of own (Some op)))) spent.takes)
       (λ a other. other_within a (grind (arith, nat_tests)))
 
 -- after the turn of any actor
@@ -270,21 +276,36 @@ within_first script h a =
 
 -- so an operation has fewer turns after it than it may have
 few_turns : Published → (script : ScriptValue) → IsScript script → (r : RunState) → IsReached script r → AreWithin script r.core r.places → (a : ℕ) (op : Op) → op_in script r a ≡ Some op → (r.places a).far < most_turns_of script op
-few_turns published script valid r h within a op is = go op is (subst (λ (o : Option Op). FitsAt r.core (doer script a) o (r.places a)) is (h.stands.fits a))
+few_turns published script valid r h within a op is = go op is (subst (λ (o : Option Op). FitsAt r.core (doer_of script a o) o (r.places a)) is (h.stands.fits a))
   where
     far : ℕ
     far = (r.places a).far
+
+    some_moves : (x : JobPlace) → 0 < move_turns x
+    some_moves (moving_page g e unread) = omega arith
+    some_moves (moving_page g e count) = omega arith
+    some_moves x = omega arith
 
     some_turns : (right : ℕ → Option Rights) (x : JobPlace) → 0 < fork_turns right x
     some_turns right unbegun = omega arith
     some_turns right x = omega arith
 
-    go : (o : Op) → op_in script r a ≡ Some o → FitsOp r.core (doer script a) o (r.places a) → far < most_turns_of script o
+    few_moved : (page : ℕ) (zone : Zone) (p : ℕ) (job : Job) → FitsMove r.core a p page zone (r.places a) job → far < 3
+    few_moved page zone p idle fits = let first = fits in omega (arith, first)
+    few_moved page zone p (moving q g e allowed count) fits =
+        let some = some_moves (moving_page g e count) in
+        let sum = fits.0 in
+        omega (arith, some, sum)
+    few_moved page zone p job fits = absurd fits
+
+    go : (o : Op) → op_in script r a ≡ Some o → FitsOp r.core (doer_of script a (Some o)) o (r.places a) → far < most_turns_of script o
     go (Unmap page n) is fits = fits.1
     go (Discard page n) is fits = fits.1
-    go (Pin handle page n want fast) is fits = fits.2.within
+    go (Pin handle page n want fast) is fits =
+        room_left want.long (length (r.core.taken a)) n far (turns_over (r.core.job a)) (few_over r.core a (process_of script a) (page + length (r.core.taken a)) want (r.core.job a) fits.at) fits.most fits.within
     go (Unpin handle) is fits = (is_standing published script valid r h).unpins a handle is
     go (Transfer handle outward slot parts) is fits = fits.2
+    go (Move proc page zone) is fits = few_moved page zone proc (r.core.job a) fits.2
     go (Fork child) is fits =
         let all = (within a).forks child is in
         let some = some_turns (r.core.right child) (place_in r.core a) in

@@ -1,5 +1,5 @@
 -- A turn of an actor that can go takes of the cost, and any other leaves it.
-use Rattle.std.proofs.Common.{◌≡◌, ℕ, ◌+◌, ◌*◌, ◌<◌, ◌≤◌, ◌==◌, true, false, List, [], ◌∷◌, length, All, Option, Some, None, slice_get, inl, inr, refl, ap, sym, subst, ◌∙◌, zero, suc, arith, add-one, eqb-true}
+use Rattle.std.proofs.Common.{Bool, ◌≡◌, ℕ, ◌+◌, ◌*◌, ◌<◌, ◌≤◌, ◌==◌, true, false, List, [], ◌∷◌, length, All, Option, Some, None, slice_get, inl, inr, refl, ap, sym, subst, ◌∙◌, zero, suc, arith, add-one, eqb-true}
 use Rattle.std.specs.Prelude.{◌⊎◌, sum_by}
 use Rattle.std.proofs.lemmas.Bool.Decides.{nat_tests}
 use Rattle.std.proofs.lemmas.List.Sums.{sum_by-cons}
@@ -9,16 +9,16 @@ use Rattle.gup_plain.specs.State.{Birth, growing, born, failed, Handle, held, ob
 use Rattle.gup_plain.specs.Denial.{is_held_by}
 use Rattle.gup_plain.specs.declared.note.Waiting.{Waiting}
 use Rattle.gup_script.specs.declared.op.Op.{Op}
-use Rattle.gup_script.specs.declared.op.Op.TheVariants.{Map, Unmap, Discard, Pin, Unpin, Transfer, Fork}
+use Rattle.gup_script.specs.declared.op.Op.TheVariants.{Map, Unmap, Discard, Pin, Unpin, Transfer, Move, Fork}
 use Rattle.gup_script.specs.Script.{ScriptValue, Actor}
 use Rattle.gup_script.specs.Valid.{IsScript, IsOp, IsOfDevice}
 use Rattle.gup_spec_events.specs.State.{CoreState, Job, idle, forking, between, counted, copying}
 use Rattle.gup_spec_events.specs.Event.{CoreEvent, run}
 use Rattle.gup_law_base.specs.Sound.{Forking, forking_of}
-use Rattle.gup_spec_journal.specs.Place.{Place, Doer, doer, birth_for, place_behind, process_of, ops_of, ops_in}
-use Rattle.gup_spec_turns.specs.Cost.{fork_left, op_cost, op_left, left_cost, actor_cost, cost, operations, is_fork, forks, IsBoundedTurn, IsWithinBound}
+use Rattle.gup_spec_journal.specs.Place.{Place, Doer, doer_of, birth_for, place_behind, process_of, ops_of, ops_in}
+use Rattle.gup_spec_turns.specs.Cost.{fork_left, move_turns, pin_turns, op_cost, op_left, left_cost, actor_cost, cost, operations, is_fork, forks, IsBoundedTurn, IsWithinBound}
 use Rattle.gup_plain.specs.Pages.{sum_below, mapped_pages}
-use Rattle.gup_spec_turns.specs.JobPlace.{JobPlace, job_place, place_in, IsForking, StandsFork, IsNoFork, unbegun}
+use Rattle.gup_spec_turns.specs.JobPlace.{JobPlace, job_place, place_in, IsForking, StandsFork, KeepsNoJob, unbegun}
 use Rattle.gup_law_turns.specs.Standing.{IsStanding, StandsHandle, given_back, back_in}
 use Rattle.gup_spec_turns.specs.Run.{RunState, run_start, run_after, op_in, waiting_in, waiting_with, core_turn_by, core_turn_in, is_ready, can_go}
 use Rattle.gup_spec_turns.specs.Waits.{waits_born}
@@ -28,7 +28,7 @@ use Rattle.gup_law_costs.proofs.ForkBounds.{IsSpent, StandsAt, place_by, turn_sp
 use Rattle.gup_law_turns.proofs.MappedCounts.{mapped_none}
 use Rattle.gup_law_turns.proofs.Puts.{put_same, put_other, put_own}
 use Rattle.gup_law_costs.proofs.PinBounds.{kept_rights}
-use Rattle.gup_law_turns.proofs.ScriptLemmas.{has_ops_declared, op_is_op, child_declared, is_of_thread, thread_birth, has_process}
+use Rattle.gup_law_turns.proofs.ScriptLemmas.{has_ops_declared, op_is_op, child_declared, has_own_process, thread_birth, op_has_process}
 use Rattle.gup_law_turns.proofs.TurnShapes.{HasLeft, IsOfProcess, child_of}
 use Rattle.gup_law_turns.proofs.ShownTurns.{idle_place, waits_no_birth}
 use Rattle.gup_law_turns.proofs.Sums.{sum_at, sum_same, sum_zero, sum_of_list}
@@ -47,6 +47,7 @@ cost_first (op ∷ ops) = refl
 
 -- an idle actor stands at the first turn of its operation
 left_op : (s : CoreState) (a : ℕ) → s.job a ≡ idle → (op : Op) → op_left s a op 0 ≡ op_cost op
+left_op s a rests (Move proc page zone) = ap move_turns (idle_place s a rests)
 left_op s a rests (Fork child) = ap (fork_left (s.right child)) (idle_place s a rests)
 left_op s a rests op = omega arith
 
@@ -108,6 +109,8 @@ fork_stays measure first s t b p child job prepared stands is has same kept righ
 
 -- the operation of another actor has as much left
 op_stays : (script : ScriptValue) (r : RunState) → IsStanding script r → (t : CoreState) (b : ℕ) → t.job b ≡ r.core.job b → t.prepared b ≡ r.core.prepared b → ((q parent : ℕ) → r.core.birth q ≡ growing parent → r.core.structure parent ≡ Some b → t.right q ≡ r.core.right q) → (op : Op) → op_in script r b ≡ Some op → op_left t b op (r.places b).far ≡ op_left r.core b op (r.places b).far
+op_stays script r h t b job kept grown (Move proc page zone) is =
+    ap (λ (j : Job). move_turns (job_place j (t.prepared b))) job ∙ ap (λ (o : Option ℕ). move_turns (job_place (r.core.job b) o)) kept
 op_stays script r h t b job kept grown (Fork child) is =
     let p : ℕ = process_of script b in
     fork_stays fork_left (λ f g. refl) r.core t b p child (r.core.job b) (r.core.prepared b) (h.forks b child is) refl refl job kept (grown child p)
@@ -118,13 +121,13 @@ pub process_no_device : (op : Op) → IsOfProcess op → IsOfDevice op → ⊥
 process_no_device op of device = grind arith
 
 -- the pages of its process, or of the child that it brings, are those of a declared one; or it is of no process
-pub has_child : (script : ScriptValue) → IsScript script → (a k : ℕ) (op : Op) → slice_get (ops_of script a) k ≡ Some op → (child_of (process_of script a) (Some op) < length script.processes) ⊎ (IsOfProcess op → ⊥)
+pub has_child : (script : ScriptValue) → IsScript script → (a k : ℕ) (op : Op) → slice_get (ops_of script a) k ≡ Some op → (child_of (doer_of script a (Some op)).proc (Some op) < length script.processes) ⊎ (IsOfProcess op → ⊥)
 has_child script valid a k op there = go op there
   where
-    own : (o : Op) → IsOfProcess o → slice_get (ops_of script a) k ≡ Some o → process_of script a < length script.processes
-    own o of is = has_process script valid a (is_of_thread script valid a k o is (process_no_device o of))
+    own : (o : Op) → IsOfProcess o → slice_get (ops_of script a) k ≡ Some o → (doer_of script a (Some o)).proc < length script.processes
+    own o of is = op_has_process script valid a k o is (has_own_process script valid a k o is (process_no_device o of))
 
-    go : (o : Op) → slice_get (ops_of script a) k ≡ Some o → (child_of (process_of script a) (Some o) < length script.processes) ⊎ (IsOfProcess o → ⊥)
+    go : (o : Op) → slice_get (ops_of script a) k ≡ Some o → (child_of (doer_of script a (Some o)).proc (Some o) < length script.processes) ⊎ (IsOfProcess o → ⊥)
     go (Fork child) is = inl (child_declared script valid a k child is)
     go op is = search (own op, inl, inr)
 
@@ -141,14 +144,14 @@ gives_back_far : (handle far : ℕ) → given_back (Some (Unpin handle)) handle 
 gives_back_far handle far = grind (arith, nat_tests)
 
 -- where an operation stands
-stands_at : (script : ScriptValue) → IsScript script → (r : RunState) → IsStanding script r → (a : ℕ) (op : Op) → op_in script r a ≡ Some op → StandsAt r.core a (process_of script a) (r.places a) op
+stands_at : (script : ScriptValue) → IsScript script → (r : RunState) → IsStanding script r → (a : ℕ) (op : Op) → op_in script r a ≡ Some op → StandsAt r.core a (doer_of script a (Some op)).proc (r.places a) op
 stands_at script valid r h a op is = go op is
   where
     built : (op : Op) → op_in script r a ≡ Some op → IsOp op
     built op is = op_is_op script valid a (r.places a).answered op is
 
-    rests : (op : Op) → IsNoFork (Some op) → op_in script r a ≡ Some op → r.core.job a ≡ idle
-    rests op none is = h.idle_jobs a (subst IsNoFork (sym is) none)
+    rests : (op : Op) → KeepsNoJob (Some op) → op_in script r a ≡ Some op → r.core.job a ≡ idle
+    rests op none is = h.idle_jobs a (subst KeepsNoJob (sym is) none)
 
     left : (handle : ℕ) → op_in script r a ≡ Some (Unpin handle) → HasLeft r.core a handle (r.places a).far
     left handle is holds =
@@ -156,35 +159,36 @@ stands_at script valid r h a op is = go op is
         let back : back_in script r handle a ≡ (r.places a).far = ap (λ (o : Option Op). given_back o handle (r.places a).far) is ∙ gives_back_far handle (r.places a).far in
         (has.0, ap (λ (k : ℕ). length (r.core.pinned handle) + k) (sym back) ∙ has.1)
 
-    go : (op : Op) → op_in script r a ≡ Some op → StandsAt r.core a (process_of script a) (r.places a) op
+    go : (op : Op) → op_in script r a ≡ Some op → StandsAt r.core a (doer_of script a (Some op)).proc (r.places a) op
     go (Unmap page n) is = (rests (Unmap page n) tt is, h.unmaps a page n is)
     go (Discard page n) is = (rests (Discard page n) tt is, h.discards a page n is)
     go (Pin handle page n want fast) is =
         let stands = h.pins a handle page n want fast is in
-        (rests (Pin handle page n want fast) tt is, (stands.within, stands.taken.many))
+        (stands.within, h.paced a handle page n want fast is, stands.at)
     go (Unpin handle) is = (rests (Unpin handle) tt is, (h.unpins a handle is, left handle is))
     go (Transfer handle outward slot parts) is = (rests (Transfer handle outward slot parts) tt is, h.transfers a handle outward slot parts is)
+    go (Move proc page zone) is = h.moves a proc page zone is
     go (Fork child) is = h.forks a child is
     go op is = let right = built op is in (rests op tt is, search right)
 
-goes_by : (script : ScriptValue) (r : RunState) (a : ℕ) (op : Op) → op_in script r a ≡ Some op → waiting_in script r a ≡ None → (birth_for r.core.birth (doer script a) ≡ born) ⊎ (birth_for r.core.birth (doer script a) ≡ failed)
+goes_by : (script : ScriptValue) (r : RunState) (a : ℕ) (op : Op) → op_in script r a ≡ Some op → waiting_in script r a ≡ None → (birth_for r.core.birth (doer_of script a (Some op)) ≡ born) ⊎ (birth_for r.core.birth (doer_of script a (Some op)) ≡ failed)
 goes_by script r a op is free =
-    let who : Doer = doer script a in
-    let unwaiting : waiting_with r.core who (Some op) ≡ None = subst (λ (o : Option Op). waiting_with r.core who o ≡ None) is free in
+    let who : Doer = doer_of script a (Some op) in
+    let unwaiting : waiting_with r.core who (Some op) ≡ None = subst (λ (o : Option Op). waiting_with r.core (doer_of script a o) o ≡ None) is free in
     waits_no_birth (birth_for r.core.birth who) who.proc (waits_born r.core who.actor who.proc op) unwaiting
 
 -- the process that an actor forks is born
 forked_born : (script : ScriptValue) (r : RunState) → IsStanding script r → (a : ℕ) (k : Forking) → forking_of (r.core.job a) ≡ Some k → r.core.birth k.proc ≡ born
 forked_born script r h a k is = h.sound.1.fork_parent a k (h.sound.1.forks_are a ∙ is)
 
-pub spent_turn : (script : ScriptValue) → IsScript script → (r : RunState) → IsStanding script r → (a : ℕ) (op : Op) → op_in script r a ≡ Some op → waiting_in script r a ≡ None → IsSpent r.core a (process_of script a) (r.places a) op (core_turn_in script r a)
+pub spent_turn : (script : ScriptValue) → IsScript script → (r : RunState) → IsStanding script r → (a : ℕ) (op : Op) → op_in script r a ≡ Some op → waiting_in script r a ≡ None → IsSpent r.core a (doer_of script a (Some op)).proc (r.places a) op (core_turn_in script r a)
 spent_turn script valid r h a op is free =
-    let who : Doer = doer script a in
-    let p : ℕ = process_of script a in
+    let who : Doer = doer_of script a (Some op) in
+    let p : ℕ = who.proc in
     let k : ℕ = (r.places a).answered in
-    let P : Option Op → Option Waiting → Type 0 = λ o w. IsSpent r.core a p (r.places a) op (core_turn_by r.core who (r.places a).far o w) in
+    let P : Option Op → Option Waiting → Type 0 = λ o w. IsSpent r.core a p (r.places a) op (core_turn_by r.core (doer_of script a o) (r.places a).far o w) in
     let own : IsOfProcess op → r.core.birth p ≡ birth_for r.core.birth who =
-    λ of. sym (thread_birth who r.core.birth (is_of_thread script valid a k op is (process_no_device op of))) in
+    λ of. sym (thread_birth who r.core.birth (has_own_process script valid a k op is (process_no_device op of))) in
     let spent : P (Some op) None = turn_spent r.core who (r.places a) op (goes_by script r a op is free) own (forked_born script r h a) (h.few_pages p) (stands_at script valid r h a op is) in
     subst (λ (w : Option Waiting). P (op_in script r a) w) (sym free) (subst (λ (o : Option Op). P o None) (sym is) spent)
 
@@ -199,9 +203,9 @@ kept_at s who far op b none = kept_rights s who.actor who.proc who.slots far op 
 
 kept_turn : (script : ScriptValue) (r : RunState) (a : ℕ) (op : Op) → op_in script r a ≡ Some op → waiting_in script r a ≡ None → (IsOfProcess op → ⊥) → (run r.core (core_turn_in script r a).events).right ≡ r.core.right
 kept_turn script r a op is free none =
-    let who : Doer = doer script a in
+    let who : Doer = doer_of script a (Some op) in
     let far : ℕ = (r.places a).far in
-    let P : Option Op → Option Waiting → Type 0 = λ o w. (run r.core (core_turn_by r.core who far o w).events).right ≡ r.core.right in
+    let P : Option Op → Option Waiting → Type 0 = λ o w. (run r.core (core_turn_by r.core (doer_of script a o) far o w).events).right ≡ r.core.right in
     let kept : P (Some op) None = kept_at r.core who far op (birth_for r.core.birth who) none in
     subst (λ (w : Option Waiting). P (op_in script r a) w) (sym free) (subst (λ (o : Option Op). P o None) (sym is) kept)
 
@@ -221,7 +225,7 @@ next_place script r a = place_behind (r.places a) (core_turn_in script r a).what
 spent_by : (script : ScriptValue) → IsScript script → (r : RunState) → IsStanding script r → (a : ℕ) (op : Op) → op_in script r a ≡ Some op → waiting_in script r a ≡ None → cost script (run_after script r a) < cost script r
 unfolding cost
 spent_by script valid r h a op is free =
-    let p : ℕ = process_of script a in
+    let p : ℕ = (doer_of script a (Some op)).proc in
     let q : ℕ = child_of p (Some op) in
     let t : CoreState = run r.core (core_turn_in script r a).events in
     let after : RunState = run_after script r a in
@@ -252,8 +256,8 @@ spent_turns script valid r h a goes = by_parts (op_in script r a) (waiting_in sc
 
 abbrev pub IsIdleBy : ScriptValue → RunState → ℕ → Option Op → Option Waiting → Type 0
 IsIdleBy script r a op waiting =
-    ((core_turn_by r.core (doer script a) (r.places a).far op waiting).events ≡ [])
-    × (place_behind (r.places a) (core_turn_by r.core (doer script a) (r.places a).far op waiting).whats ≡ r.places a)
+    ((core_turn_by r.core (doer_of script a op) (r.places a).far op waiting).events ≡ [])
+    × (place_behind (r.places a) (core_turn_by r.core (doer_of script a op) (r.places a).far op waiting).whats ≡ r.places a)
 
 pub idle_by : (script : ScriptValue) (r : RunState) (a : ℕ) (op : Option Op) (waiting : Option Waiting) → is_ready op waiting ≡ false → IsIdleBy script r a op waiting
 idle_by script r a None waiting stays = (refl, refl)
@@ -274,9 +278,15 @@ kept_cost script r a stays =
 
 -- at the start
 
+-- three turns a page are the most of a pin
+pin_few : (long : Bool) (n : ℕ) → pin_turns long n ≤ 3 * n
+pin_few true n = omega arith
+pin_few false n = omega arith
+
 -- an operation costs at most 1,025, and a fork 527,361 more
 most_of : (op : Op) → IsOp op → op_cost op ≤ 1025 + 527361 * is_fork op
 most_of (Map page n rights) range = omega arith
+most_of (Pin handle page n want fast) range = let few = pin_few want.long n in let most = range.1 in omega (arith, few, most)
 most_of op range = omega arith
 
 most_of_ops : (ops : List Op) → All IsOp ops → sum_by op_cost ops ≤ 1025 * length ops + 527361 * sum_by is_fork ops
@@ -310,9 +320,14 @@ first_cost script valid =
     let pages = sum_zero (length script.processes) (λ p. mapped_pages (s.right p)) (λ p. mapped_none (s.right p) (λ k. refl)) in
     omega (arith, same, actors, most, pages)
 
+-- the bound of an operation speaks of a process only where that is its thread's own
+own_bound : (script : ScriptValue) (a : ℕ) (op : Op) (place next : Place) (s t : CoreState) → IsWithinBound op a (doer_of script a (Some op)).proc place next s t → IsWithinBound op a (process_of script a) place next s t
+own_bound script a (Move proc page zone) place next s t bound = bound
+own_bound script a op place next s t bound = bound
+
 -- the bounds on an operation's own turns
 pub bounded_turn : (script : ScriptValue) → IsScript script → (r : RunState) → IsStanding script r → (a : ℕ) (op : Op) → op_in script r a ≡ Some op → waiting_in script r a ≡ None → IsBoundedTurn script r a op
 bounded_turn script valid r h a op is free =
     let spent = spent_turn script valid r h a op is free in
     let here : (run_after script r a).places a ≡ next_place script r a = put_same a (next_place script r a) r.places in
-    subst (λ (q : Place). IsWithinBound op a (process_of script a) (r.places a) q r.core (run_after script r a).core) (sym here) spent.bound
+    subst (λ (q : Place). IsWithinBound op a (process_of script a) (r.places a) q r.core (run_after script r a).core) (sym here) (own_bound script a op (r.places a) (next_place script r a) r.core (run_after script r a).core spent.bound)

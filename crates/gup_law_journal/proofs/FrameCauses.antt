@@ -4,11 +4,12 @@ use Rattle.std.specs.Prelude.{Ok, Err}
 use Rattle.std.proofs.lemmas.Bool.Decides.{nat_tests}
 use Rattle.gup_base.specs.Parts.{Part, words_of, word_at}
 use Rattle.gup_base.specs.declared.entry.Allowed.{Allowed}
-use Rattle.gup_base.specs.declared.entry.Allowed.TheVariants.{Any}
+use Rattle.gup_base.specs.declared.entry.Allowed.TheVariants.{Any, Only}
 use Rattle.gup_base.specs.declared.entry.Entry.{Entry}
 use Rattle.gup_base.specs.declared.entry.Rights.{Rights}
 use Rattle.gup_base.specs.declared.entry.Rights.TheVariants.{R, RW}
 use Rattle.gup_base.specs.declared.entry.Want.{Want}
+use Rattle.gup_base.specs.declared.entry.Zone.{Zone}
 use Rattle.gup_plain.specs.State.{Birth, born, failed, objects_of}
 use Rattle.gup_plain.specs.declared.answer.Answer.{Answer}
 use Rattle.gup_plain.specs.declared.answer.Answer.TheVariants as answers
@@ -20,23 +21,25 @@ use Rattle.gup_plain.specs.declared.note.Waiting.{Waiting}
 use Rattle.gup_plain.specs.Denial.{any_mapped, any_unmapped, map_denial, protect_denial, is_held_by, has_words, has_slots, range_denial, transfer_denial_by, transfer_denial}
 use Rattle.gup_plain.specs.Event.{may_write, words}
 use Rattle.gup_script.specs.declared.op.Op.{Op}
-use Rattle.gup_script.specs.declared.op.Op.TheVariants.{Map, Unmap, Protect, Discard, Load, Store, Pin, Unpin, Give, Take, Transfer, Fork, Exit}
+use Rattle.gup_script.specs.declared.op.Op.TheVariants.{Map, Unmap, Protect, Discard, Load, Store, Pin, Unpin, Give, Take, Get, Put, Transfer, Fork, Exit, Move}
 use Rattle.gup_script.specs.Script.{ScriptValue}
-use Rattle.gup_spec_events.specs.State.{CoreState, Job, forking, between, counted, copying}
-use Rattle.gup_spec_events.specs.Event.{upgrade}
+use Rattle.gup_spec_events.specs.State.{CoreState, Job, idle, moving, Counted, unread, one as counted_one, more as counted_more, forking, between, counted, copying}
+use Rattle.gup_spec_events.specs.Event.{CoreEvent, upgrade, restore_entry, run}
 use Rattle.gup_spec_events.specs.Fault.{Fault, fills, unshares, unshare_fault, read_fault, write_fault, fills_writable, breaks, makes_writable, marks}
+use Rattle.gup_spec_journal.specs.Denial.{has_reference}
 use Rattle.gup_spec_journal.specs.Follows.{refuses}
-use Rattle.gup_spec_journal.specs.Place.{Doer, doer, birth_for}
-use Rattle.gup_spec_turns.specs.Cause.{AreHeld, allowed_of, MayBeShared, NeedsOwn, NeedsWritable, NeedsForPin, NeedsFor, LacksFrame, LacksExactly}
-use Rattle.gup_spec_turns.specs.JobPlace.{JobPlace, copying_place, job_place, unbegun, from_page, at_page, wants_frame, at_word}
+use Rattle.gup_spec_journal.specs.Place.{Doer, doer_of, birth_for}
+use Rattle.gup_spec_turns.specs.Cause.{AreHeld, allowed_of, MayBeShared, NeedsOwn, NeedsWritable, NeedsForPin, NeedsAtPage, NeedsFor, NeedsFrame, LacksFrame, LacksExactly}
+use Rattle.gup_spec_turns.specs.JobPlace.{JobPlace, copying_place, job_place, unbegun, from_page, at_page, wants_frame, at_word, moving_page}
 use Rattle.gup_spec_turns.specs.Run.{RunState, op_in, waiting_in, waiting_with, core_turn_by, turn_in}
-use Rattle.gup_spec_turns.specs.CoreTurn.{CoreTurn, answers_with, free_in, free_frame, zones_of, allows_store, silent_or_done}
+use Rattle.gup_spec_turns.specs.CoreTurn.{CoreTurn, answers_with, free_in, free_frame, zones_of, entry_in, allows_store, silent_or_done}
 use Rattle.gup_spec_turns.specs.ForkTurns.{first_behind, next_page, page_turn, next_turn, frame_turn, copy_turn, copying_turn, fork_turn}
+use Rattle.gup_spec_turns.specs.MoveTurns.{place_turn, counted_turn, move_turn}
 use Rattle.gup_spec_turns.specs.Waits.{waits_born}
-use Rattle.gup_spec_turns.proofs.TurnParts.{loads_after, stores_after, store_fault_by, map_turn_by, unmap_turn_by, protect_turn_by, discard_turn_by, unpin_turn_by, give_turn_by, transfer_turn_by}
+use Rattle.gup_spec_turns.proofs.TurnParts.{loads_after, stores_after, store_fault_by, map_turn_by, unmap_turn_by, protect_turn_by, discard_turn_by, unpin_turn_by, give_turn_by, gets_after, put_turn_by, transfer_turn_by, clear_turn_by}
 use Rattle.gup_spec_turns.specs.PageTurns.{load_turn, store_turn, lowest_page, exit_turn_by}
 use Rattle.gup_spec_turns.specs.Turn.{op_turn, failed_turn, turn_at}
-use Rattle.gup_spec_turns.specs.PinTurns.{pin_fault, pinned_if, cause_of, ends_pin, pin_turn_by, but_last, unpinned}
+use Rattle.gup_spec_turns.specs.PinTurns.{pin_fault, pinned_if, cause_of, ends_pin, pin_turn_by, but_last, unpinned, get_turn, got_by, got_frame, raises, moves_first, clears_or_pins, pins_moved, moved_turn, pin_turn_at, pin_turn_in}
 use Rattle.gup_law_turns.proofs.Puts.{some_same}
 use Rattle.gup_law_turns.proofs.NoteRightness.{unrefused_short, not_both}
 use Rattle.gup_law_turns.proofs.ShownTurns.{waits_no_birth}
@@ -154,6 +157,10 @@ module _ (s : CoreState) (a p : ℕ) (allowed : Allowed) where
       record { only = ((λ e. absurd e), ((λ e. absurd e), tt)); always = λ need none. absurd (exact need none) }
   stores_exact needs page word value (Err answer) exact = refused_exact needs answer exact
 
+  gets_exact : (needs : Type 0) (handle page : ℕ) (fault : Fault) → IsExactFault s allowed needs fault → IsExact s allowed needs (gets_after s fault a p handle page)
+  gets_exact needs handle page (Ok events) exact = record { only = ((λ e. absurd e), tt); always = λ need none. absurd (exact need none) }
+  gets_exact needs handle page (Err answer) exact = refused_exact needs answer exact
+
   -- loads
 
   read_exact : (page : ℕ) (rights : Option Rights) (free : Option ℕ) → free_in s allowed ≡ free → IsExactFault s allowed (IsSome rights × IsAbsent None) (read_fault a p page rights None free)
@@ -223,13 +230,13 @@ module _ (s : CoreState) (a p : ℕ) (allowed : Allowed) where
   pin_fault_exact page true = write_exact page (s.right p page) (s.entry p page)
   pin_fault_exact page false = unshare_exact page (s.right p page) (s.entry p page)
 
-  ends_exact : (needs : Type 0) (handle n got : ℕ) (answer : Answer) → (IsWant answer → Finds s allowed needs) × (needs → free_in s allowed ≡ None → answer ≡ answers.NoFrame) → IsExact s allowed needs (ends_pin a p handle n got answer)
-  ends_exact needs handle n zero answer exact =
+  ends_exact : (needs : Type 0) (handle n got : ℕ) (before : List CoreEvent) (answer : Answer) → (IsWant answer → Finds s allowed needs) × (needs → free_in s allowed ≡ None → answer ≡ answers.NoFrame) → IsExact s allowed needs (ends_pin before a handle n got answer)
+  ends_exact needs handle n zero before answer exact =
       record {
         only = (exact.0, tt);
         always = λ need none. inl (0, omega arith, ap Done (exact.1 need none));
       }
-  ends_exact needs handle n (suc got) answer exact =
+  ends_exact needs handle n (suc got) before answer exact =
       record {
         only = ((λ e. absurd e), ((λ e. exact.0 (ends_so answer e)), tt));
         always = λ need none. inr (suc got, n, (1, omega arith, ap (λ (x : Answer). Done (answers.Short (suc got) n (cause_of x))) (exact.1 need none)));
@@ -239,11 +246,16 @@ module _ (s : CoreState) (a p : ℕ) (allowed : Allowed) where
   pinned_cause cause true handle n = ((λ e. absurd e), ((λ e. absurd e), tt))
   pinned_cause cause false handle n = tt
 
+  pins_cause : (cause : Type 0) (handle page n : ℕ) (want : Want) (before : List CoreEvent) (last : Bool) (e : Entry) (moves : Bool) → HaveCause cause (clears_or_pins moves before a p handle page n want last e).whats
+  pins_cause cause handle page n want before last e true = ((λ e. absurd e), tt)
+  pins_cause cause handle page n want before last e false = ((λ e. absurd e), pinned_cause cause last handle n)
+
   pin_exact : (needs : Type 0) (handle page n got : ℕ) (want : Want) (fault : Fault) → IsExactFault s allowed needs fault → IsExact s allowed needs (pin_turn_by fault s a p handle page n got want)
-  pin_exact needs handle page n got want (Err answer) exact = ends_exact needs handle n got answer exact
+  pin_exact needs handle page n got want (Err answer) exact = ends_exact needs handle n got (raises a p got) answer exact
   pin_exact needs handle page n got want (Ok before) exact =
       record {
-        only = ((λ e. absurd e), pinned_cause (Finds s allowed needs) (got + 1 == n) handle n);
+        only = pins_cause (Finds s allowed needs) handle page n want (raises a p got ++ before) (got + 1 == n)
+            (entry_in ((run s (raises a p got ++ before)).entry p page)) (moves_first (run s (raises a p got ++ before)) want (entry_in ((run s (raises a p got ++ before)).entry p page)));
         always = λ need none. absurd (exact need none);
       }
 
@@ -252,6 +264,11 @@ module _ (s : CoreState) (a p : ℕ) where
   load_exact page word (Some e) = loads_exact s a p Any (IsSome (s.right p page) × (Some e ≡ None)) page word (Ok []) (λ need none. absurd (cc need.1))
   load_exact page word None =
       loads_exact s a p Any (IsSome (s.right p page) × IsAbsent None) page word (read_fault a p page (s.right p page) None (free_frame s)) (read_exact s a p Any page (s.right p page) (free_frame s) refl)
+
+  get_exact : (handle page : ℕ) (entry : Option Entry) → IsExact s Any (IsSome (s.right p page) × (entry ≡ None)) (get_turn s a p handle page entry)
+  get_exact handle page (Some e) = gets_exact s a p Any (IsSome (s.right p page) × (Some e ≡ None)) handle page (Ok []) (λ need none. absurd (cc need.1))
+  get_exact handle page None =
+      gets_exact s a p Any (IsSome (s.right p page) × IsAbsent None) handle page (read_fault a p page (s.right p page) None (free_frame s)) (read_exact s a p Any page (s.right p page) (free_frame s) refl)
 
   store_exact : (page word value : ℕ) (entry : Option Entry) → IsExact s Any ((s.right p page ≡ Some RW) × NeedsWritable s entry) (store_turn s a p page word value entry)
   store_exact page word value entry =
@@ -265,7 +282,7 @@ module _ (s : CoreState) (a p : ℕ) where
       by_entry true is = λ need none. writes entry is need.1
       by_entry false is = write_exact s a p Any page (s.right p page) entry
 
-  -- what is done with a pin that is made wants no frame
+  -- what is done with a pin or a reference that is there wants no frame
 
   unpin_cause : (held : Bool) (handle : ℕ) (pinned : List ℕ) → NeverWants (unpin_turn_by held a handle pinned)
   unpin_cause false handle pinned = ((λ e. absurd e), tt)
@@ -278,6 +295,10 @@ module _ (s : CoreState) (a p : ℕ) where
   give_cause : (held : Bool) (handle to : ℕ) → NeverWants (give_turn_by held a handle to)
   give_cause false handle to = ((λ e. absurd e), tt)
   give_cause true handle to = ((λ e. absurd e), ((λ e. absurd e), tt))
+
+  put_cause : (held : Bool) (handle f : ℕ) → NeverWants (put_turn_by held a handle f)
+  put_cause false handle f = ((λ e. absurd e), tt)
+  put_cause true handle f = ((λ e. absurd e), tt)
 
   transfer_cause : (slots handle : ℕ) (outward last : Bool) (slot i j : ℕ) (parts : List Part) (denied : Option Answer) → transfer_denial (s.handle handle) a outward slots slot parts ≡ denied → NeverWants (transfer_turn_by denied s a handle outward last i j)
   transfer_cause slots handle outward last slot i j parts (Some answer) is =
@@ -354,7 +375,81 @@ module _ (s : CoreState) (a p : ℕ) where
   fork_exact child (forking q c done (counted page)) = elsewhere (at_page page) (fork_turn s a p child (forking q c done (counted page))) (λ g is. cc is) ((λ e. absurd e), tt)
   fork_exact child (forking q c done (copying page word)) = copying_exact child done page word (s.prepared a)
   fork_exact child (forking q c done step) = elsewhere unbegun (fork_turn s a p child (forking q c done step)) (λ g is. cc is) ((λ e. absurd e), tt)
+  fork_exact child (moving q g e allowed count) = elsewhere (moving_page g e count) (fork_turn s a p child (moving q g e allowed count)) (λ g is. cc is) ((λ e. absurd e), tt)
   fork_exact child job = elsewhere unbegun (fork_turn s a p child job) (λ g is. cc is) ((λ e. absurd e), tt)
+
+  -- a move needs a frame only after a count of 1, and is refused so only where none is free
+
+  abbrev MoveNeeds : JobPlace → Type 0
+  MoveNeeds x = (g : ℕ) × (e : Entry) × (x ≡ moving_page g e counted_one)
+
+  unmoved : (zone : Zone) (x : JobPlace) (turn : CoreTurn) → ((g : ℕ) (e : Entry) → x ≡ moving_page g e counted_one → ⊥) → NeverWants turn → IsExact s (Only zone) (MoveNeeds x) turn
+  unmoved zone x turn none never = exact_never s (Only zone) (MoveNeeds x) turn (λ need. none need.0 need.1 need.2) never
+
+  clear_cause : (page : ℕ) (zone : Zone) (right : Option Rights) (entry : Option Entry) → NeverWants (clear_turn_by right a p page zone entry)
+  clear_cause page zone None entry = ((λ e. absurd e), tt)
+  clear_cause page zone (Some rights) None = ((λ e. absurd e), tt)
+  clear_cause page zone (Some rights) (Some entry) = ((λ e. absurd e), tt)
+
+  place_exact : (page : ℕ) (zone : Zone) (g : ℕ) (e : Entry) (free : Option ℕ) → free_in s (Only zone) ≡ free → IsExact s (Only zone) (MoveNeeds (moving_page g e counted_one)) (place_turn a p page e (Only zone) free)
+  place_exact page zone g e None is =
+      record {
+        only = ((λ want. ((g, e, refl), is)), tt);
+        always = λ need none. inl (0, omega arith, refl);
+      }
+  place_exact page zone g e (Some f) is =
+      record { only = ((λ e. absurd e), tt); always = λ need none. absurd (free_and_none s (Only zone) f is none) }
+
+  counted_exact : (page : ℕ) (zone : Zone) (g : ℕ) (e : Entry) (count : Counted) → IsExact s (Only zone) (MoveNeeds (moving_page g e count)) (counted_turn s a p page e (Only zone) count)
+  counted_exact page zone g e unread = unmoved zone (moving_page g e unread) (counted_turn s a p page e (Only zone) unread) (λ k d is. cc is) ((λ e. absurd e), tt)
+  counted_exact page zone g e counted_one = place_exact page zone g e (free_in s (Only zone)) refl
+  counted_exact page zone g e (counted_more n) = unmoved zone (moving_page g e (counted_more n)) (counted_turn s a p page e (Only zone) (counted_more n)) (λ k d is. cc is) ((λ e. absurd e), tt)
+
+  move_exact : (page : ℕ) (zone : Zone) (job : Job) → IsExact s (Only zone) (MoveNeeds (job_place job (s.prepared a))) (move_turn s a p page zone job)
+  move_exact page zone idle = unmoved zone unbegun (move_turn s a p page zone idle) (λ k d is. cc is) (clear_cause page zone (s.right p page) (s.entry p page))
+  move_exact page zone (moving q g e allowed count) = counted_exact page zone g e count
+  move_exact page zone (forking q c done between) = unmoved zone (from_page (first_behind done)) (move_turn s a p page zone (forking q c done between)) (λ k d is. cc is) ((λ e. absurd e), tt)
+  move_exact page zone (forking q c done (counted g)) = unmoved zone (at_page g) (move_turn s a p page zone (forking q c done (counted g))) (λ k d is. cc is) ((λ e. absurd e), tt)
+  move_exact page zone (forking q c done (copying g word)) = unmoved zone (copying_place g word (s.prepared a)) (move_turn s a p page zone (forking q c done (copying g word))) (λ k d is. elsewhere_copying g word k d (s.prepared a) is) ((λ e. absurd e), tt)
+    where
+      elsewhere_copying : (g word k : ℕ) (d : Entry) (prepared : Option ℕ) → copying_place g word prepared ≡ moving_page k d counted_one → ⊥
+      elsewhere_copying g word k d None is = cc is
+      elsewhere_copying g word k d (Some to) is = cc is
+  move_exact page zone job = unmoved zone unbegun (move_turn s a p page zone job) (λ k d is. cc is) ((λ e. absurd e), tt)
+
+  -- a long pin that has cleared a page needs a frame only after a count of 1, and is refused so only where none is free
+
+  moved_exact : (handle page n got : ℕ) (want : Want) (e : Entry) (free : Option ℕ) → free_in s (zones_of want) ≡ free → IsExact s (zones_of want) (Unit {0}) (pins_moved a p handle page n got want e free)
+  moved_exact handle page n got want e None is =
+      ends_exact s a p (zones_of want) (Unit {0}) handle n got (restore_entry a p page e (zones_of want) counted_one ∷ []) answers.NoFrame ((λ wants. (tt, is)), λ need none. refl)
+  moved_exact handle page n got want e (Some f) is =
+      record {
+        only = ((λ e. absurd e), pinned_cause s a p (zones_of want) (Finds s (zones_of want) (Unit {0})) (got + 1 == n) handle n);
+        always = λ need none. absurd (free_and_none s (zones_of want) f is none);
+      }
+
+  cleared_exact : (handle page n got : ℕ) (want : Want) (g : ℕ) (e : Entry) (count : Counted) → IsExact s (zones_of want) (NeedsAtPage s p page want.write (moving_page g e count)) (moved_turn s a p handle page n got want e count)
+  cleared_exact handle page n got want g e unread = exact_never s (zones_of want) ⊥ (moved_turn s a p handle page n got want e unread) (λ need. need) ((λ e. absurd e), tt)
+  cleared_exact handle page n got want g e counted_one = moved_exact handle page n got want e (free_in s (zones_of want)) refl
+  cleared_exact handle page n got want g e (counted_more count) =
+      ends_exact s a p (zones_of want) ⊥ handle n got (restore_entry a p page e (zones_of want) (counted_more count) ∷ []) (answers.Unmovable count) ((λ wants. absurd wants), λ need none. absurd need)
+
+  -- one that has cleared none needs one as its page does
+  uncleared : (handle page n got : ℕ) (want : Want) → IsExact s (zones_of want) (NeedsForPin s p (page + got) want.write) (pin_turn_at s a p handle page n got want)
+  uncleared handle page n got want =
+      pin_exact s a p (zones_of want) (NeedsForPin s p (page + got) want.write) handle (page + got) n got want
+      (pin_fault s a p (page + got) want.write (free_in s (zones_of want))) (pin_fault_exact s a p (zones_of want) (page + got) want.write)
+
+  pin_in_exact : (handle page n got : ℕ) (want : Want) (job : Job) → IsExact s (zones_of want) (NeedsAtPage s p (page + got) want.write (job_place job (s.prepared a))) (pin_turn_in s a p handle page n got want job)
+  pin_in_exact handle page n got want (moving q g e allowed count) = cleared_exact handle (page + got) n got want g e count
+  pin_in_exact handle page n got want (forking q c done between) = uncleared handle page n got want
+  pin_in_exact handle page n got want (forking q c done (counted g)) = uncleared handle page n got want
+  pin_in_exact handle page n got want (forking q c done (copying g word)) = copies (s.prepared a)
+    where
+      copies : (prepared : Option ℕ) → IsExact s (zones_of want) (NeedsAtPage s p (page + got) want.write (copying_place g word prepared)) (pin_turn_at s a p handle page n got want)
+      copies None = uncleared handle page n got want
+      copies (Some to) = uncleared handle page n got want
+  pin_in_exact handle page n got want job = uncleared handle page n got want
 
   op_exact : (slots far : ℕ) (op : Op) → IsExact s (allowed_of op) (NeedsFor s a p op) (op_turn s a p slots far op)
   op_exact slots far (Map page n rights) =
@@ -368,16 +463,17 @@ module _ (s : CoreState) (a p : ℕ) where
   op_exact slots far (Discard page n) =
       never s Any (op_turn s a p slots far (Discard page n)) (discard_cause (page + far) (s.right p (page + far)) (s.entry p (page + far)) (far + 1 == n))
   op_exact slots far (Pin handle page n want fast) =
-      let got : ℕ = length (s.taken a) in
-      pin_exact s a p (zones_of want) (NeedsForPin s p (page + got) want.write) handle (page + got) n got want
-      (pin_fault s a p (page + got) want.write (free_in s (zones_of want))) (pin_fault_exact s a p (zones_of want) (page + got) want.write)
+      pin_in_exact handle page n (length (s.taken a)) want (s.job a)
   op_exact slots far (Unpin handle) =
       never s Any (op_turn s a p slots far (Unpin handle)) (unpin_cause (is_held_by (s.handle handle) a) handle (s.pinned handle))
   op_exact slots far (Give handle to) = never s Any (op_turn s a p slots far (Give handle to)) (give_cause (is_held_by (s.handle handle) a) handle to)
   op_exact slots far (Take handle) = never s Any (op_turn s a p slots far (Take handle)) ((λ e. absurd e), ((λ e. absurd e), tt))
+  op_exact slots far (Get handle page) = get_exact handle page (s.entry p page)
+  op_exact slots far (Put handle) = never s Any (op_turn s a p slots far (Put handle)) (put_cause (has_reference (got_by (s.got handle)) a) handle (got_frame (s.got handle)))
   op_exact slots far (Transfer handle outward slot parts) =
       never s Any (op_turn s a p slots far (Transfer handle outward slot parts))
       (transfer_cause slots handle outward (far + 1 == words_of parts) slot (word_at parts far) (slot + far) parts (transfer_denial (s.handle handle) a outward slots slot parts) refl)
+  op_exact slots far (Move proc page zone) = move_exact page zone (s.job a)
   op_exact slots far (Fork child) = fork_exact child (s.job a)
   op_exact slots far Exit = never s Any (op_turn s a p slots far Exit) (exit_cause (lowest_page (s.right p)))
   op_exact slots far op = never s Any (op_turn s a p slots far op) ((λ e. absurd e), tt)
@@ -431,11 +527,20 @@ finds_always s who far present waiting op needs held =
     let free : LacksFrame (core_turn_by s who far (Some op) waiting).whats = subst (λ (w : Option Waiting). LacksFrame (core_turn_by s who far (Some op) w).whats) (sym needs.1) born_turn in
     subst (λ (o : Option Op). LacksFrame (core_turn_by s who far o waiting).whats) (sym needs.0) free
 
+-- the same of the process that its operation is of
+needs_so : (script : ScriptValue) (r : RunState) (a : ℕ) (op : Op) → NeedsAt r.core (doer_of script a (op_in script r a)) (op_in script r a) (waiting_in script r a) op → NeedsFrame script r a op
+needs_so script r a op needs =
+    (needs.0, needs.1, subst (λ (o : Option Op). birth_for r.core.birth (doer_of script a o) ≡ born) needs.0 needs.2, subst (λ (o : Option Op). NeedsFor r.core a (doer_of script a o).proc op) needs.0 needs.3)
+
+needs_at : (script : ScriptValue) (r : RunState) (a : ℕ) (op : Op) → NeedsFrame script r a op → NeedsAt r.core (doer_of script a (op_in script r a)) (op_in script r a) (waiting_in script r a) op
+needs_at script r a op needs =
+    (needs.0, needs.1, subst (λ (o : Option Op). birth_for r.core.birth (doer_of script a o) ≡ born) (sym needs.0) needs.2, subst (λ (o : Option Op). NeedsFor r.core a (doer_of script a o).proc op) (sym needs.0) needs.3)
+
 -- of any actor's turn, from any state
 pub lacks_exactly : (script : ScriptValue) (r : RunState) (a : ℕ) → LacksExactly script r (turn_in script r a)
 lacks_exactly script r a =
-    let who : Doer = doer script a in
+    let who : Doer = doer_of script a (op_in script r a) in
     let far : ℕ = (r.places a).far in (
-      (λ lacks. finds_only r.core who far (op_in script r a) (waiting_in script r a) refl lacks),
-      (λ finds. finds_always r.core who far (op_in script r a) (waiting_in script r a) finds.0 finds.1 finds.2),
+      (λ lacks. let finds = finds_only r.core who far (op_in script r a) (waiting_in script r a) refl lacks in (finds.0, needs_so script r a finds.0 finds.1, finds.2)),
+      (λ finds. finds_always r.core who far (op_in script r a) (waiting_in script r a) finds.0 (needs_at script r a finds.0 finds.1) finds.2),
     )

@@ -7,3 +7,5 @@ pub mod ActorNotes
 pub mod RunNotes
 pub mod RunEnds
 pub mod FrameCauses
+pub mod MoveCauses
+pub mod PinCauses

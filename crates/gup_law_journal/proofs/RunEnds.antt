@@ -1,28 +1,30 @@
 -- The end of a run: nobody can go, and who waits, waits for a process or for a pin.
-use Rattle.std.proofs.Common.{◌≡◌, ℕ, ◌<◌, ◌==◌, Bool, true, false, if◌then◌else◌, is_some, List, [], ◌∷◌, length, slice_get, Option, Some, None, inl, inr, refl, sym, ap, subst, ◌∙◌, arith}
+use Rattle.std.proofs.Common.{◌≡◌, ℕ, ◌+◌, ◌<◌, Bool, true, false, is_some, List, [], ◌∷◌, length, slice_get, Option, Some, None, inl, inr, refl, sym, ap, ap₂, subst, ◌∙◌}
 use Rattle.std.specs.Prelude.{◌⊎◌}
-use Rattle.std.proofs.lemmas.Bool.Decides.{nat_tests}
+use Rattle.gup_base.specs.declared.entry.Want.{Want}
+use Rattle.gup_base.specs.declared.entry.Zone.{Zone}
+use Rattle.gup_spec_turns.specs.PinPlace.{StandsAtPage}
+use Rattle.gup_law_journal.proofs.LockHolders.{own_none}
 use Rattle.gup_plain.specs.State.{Birth, born, unborn, growing, failed, Handle}
 use Rattle.gup_plain.specs.declared.note.Waiting.{Waiting}
 use Rattle.gup_plain.specs.declared.note.Waiting.TheVariants as waitings
 use Rattle.gup_script.specs.declared.op.Op.{Op}
-use Rattle.gup_script.specs.declared.op.Op.TheVariants.{Take, Fork}
+use Rattle.gup_script.specs.declared.op.Op.TheVariants.{Pin, Take, Move, Fork}
 use Rattle.gup_script.specs.Script.{ScriptValue, actor_at}
 use Rattle.gup_script.specs.Valid.{IsScript, AreDeclared}
-use Rattle.gup_spec_events.specs.State.{CoreState, Job, idle, forking, ForkStep, between, counted, copying}
+use Rattle.gup_spec_events.specs.State.{Job, idle, moving, forking, ForkStep, between, counted, copying}
 use Rattle.gup_law_base.specs.Sound.{Forking, forking_of, keeps_table, keeps_structure}
 use Rattle.gup_spec_journal.specs.Order.{Turn, is_given_to, taking_waits, handle_waits}
-use Rattle.gup_spec_journal.specs.Place.{Doer, doer, birth_by, birth_for, ops_of, process_of}
+use Rattle.gup_spec_journal.specs.Place.{Doer, doer, doer_of, birth_by, birth_for, ops_of, process_of}
 use Rattle.gup_spec_turns.specs.Cause.{WaitsForBirthOrPin}
 use Rattle.gup_law_turns.specs.Standing.{IsStanding}
-use Rattle.gup_spec_turns.specs.JobPlace.{IsNoFork, StandsFork}
+use Rattle.gup_spec_turns.specs.JobPlace.{KeepsNoJob, StandsMove, StandsFork}
 use Rattle.gup_spec_turns.specs.Run.{RunState, Runs, run_after, op_in, waiting_with, waiting_in, is_ready, can_go}
-use Rattle.gup_spec_turns.specs.Waits.{Locks, fork_locks, locks_needed, held_by_other, waits_for_lock, first_waiting, waits_for_locks, waits_born, waiting_for}
+use Rattle.gup_spec_turns.specs.Waits.{Locks, both_locks, move_locks, fork_locks, locks_needed, held_by_other, waits_for_lock, first_waiting, waits_for_locks, waits_born, waiting_for}
 use Rattle.gup_spec_turns.proofs.TurnParts.{waits_at}
 use Rattle.gup_spec_turns.specs.ForkTurns.{next_page}
 use Rattle.gup_law_journal.proofs.Pointer.{PointerFits, none_can_go, pointer_fits}
-use Rattle.gup_law_turns.proofs.Puts.{some_same}
-use Rattle.gup_law_turns.proofs.ScriptLemmas.{has_ops_declared, ops_at, has_process}
+use Rattle.gup_law_turns.proofs.ScriptLemmas.{has_ops_declared, ops_at, op_has_process}
 
 pub end_turns : (script : ScriptValue) (turns : List Turn) (r end : RunState) → PointerFits script r → Runs script r turns end → (a : ℕ) → a < length script.actors → can_go script end a ≡ false
 end_turns script [] r end fits run a below =
@@ -56,37 +58,17 @@ locks_wait locks a structure table w is = go (waits_for_lock locks.structure a s
         let holds = lock_waits locks.structure a structure v first in
         (holds.0, inl holds.1)
 
--- a lock that its own holder needs, is not waited for
-held_by_self : (a : ℕ) → held_by_other a (Some a) ≡ None
-held_by_self a = go (a == a) refl
-  where
-    go : (b : Bool) → (a == a) ≡ b → (if b then None else Some (waitings.Holder a)) ≡ None
-    go true is = refl
-    go false is = absurd (let no : ⊥ = grind (arith, nat_tests) in no)
-
--- a fork in the middle of a process keeps its structure lock
-fork_keeps : (s : CoreState) (b p child q : ℕ) (job : Job) (prepared : Option ℕ) → StandsFork s b p child job prepared → keeps_table job ≡ Some q → keeps_structure job ≡ Some q
-fork_keeps s b p child q idle prepared stands keeps = absurd (cc keeps)
-fork_keeps s b p child q (forking k c done between) prepared stands keeps = absurd (cc keeps)
-fork_keeps s b p child q (forking k c done step) prepared stands keeps = cc keeps
-fork_keeps s b p child q job prepared stands keeps = absurd stands
-
-fork_kept : (s : CoreState) (b q : ℕ) (job : Job) → ((k : Forking) → forking_of job ≡ Some k → s.structure k.proc ≡ Some b) → keeps_structure job ≡ Some q → s.structure q ≡ Some b
-fork_kept s b q (forking k c done step) locked keeps =
-    subst (λ (n : ℕ). s.structure n ≡ Some b) (some_same keeps) (locked (record { proc = k; child = c; done = done; step = step }) refl)
-fork_kept s b q job locked keeps = absurd (cc keeps)
-
 -- whoever is of a born process waits for no birth
 born_for : (who : Doer) (births : ℕ → Birth) → births who.proc ≡ born → birth_for births who ≡ born
-born_for who births is = go who.thread
+born_for who births is = go who.of_process
   where
     go : (t : Bool) → birth_by t (births who.proc) ≡ born
     go true = is
     go false = refl
 
--- and whoever waits for one is a thread
-waits_as_thread : (who : Doer) (births : ℕ → Birth) → (birth_for births who ≡ born → ⊥) → who.thread ≡ true
-waits_as_thread who births never = go who.thread never
+-- and whatever waits for one is of a process
+waits_as_thread : (who : Doer) (births : ℕ → Birth) → (birth_for births who ≡ born → ⊥) → who.of_process ≡ true
+waits_as_thread who births never = go who.of_process never
   where
     go : (t : Bool) → (birth_by t (births who.proc) ≡ born → ⊥) → t ≡ true
     go true never = refl
@@ -105,127 +87,142 @@ waits_to_take handle a op w is = absurd (cc is)
 handle_declared : (script : ScriptValue) → IsScript script → (a k h : ℕ) → slice_get (ops_of script a) k ≡ Some (Take h) → h < length script.handles
 handle_declared script valid a k h there = ops_at (AreDeclared script) script valid.declared a k (Take h) (actor_at script a) refl there
 
-module _ (script : ScriptValue) (r : RunState) (h : IsStanding script r) where
-  -- an actor that keeps a lock forks
-  keeper_forks : (b p : ℕ) → (keeps_structure (r.core.job b) ≡ Some p) ⊎ (keeps_table (r.core.job b) ≡ Some p) → (child : ℕ) × (op_in script r b ≡ Some (Fork child))
-  keeper_forks b p keeps = go (op_in script r b) refl
+-- the operations that keep a lock
+data IsKeeping : Op → Type 0 where
+  forks : (child : ℕ) → IsKeeping (Fork child)
+  moves : (proc page : ℕ) (zone : Zone) → IsKeeping (Move proc page zone)
+  pins : (handle page n : ℕ) (want : Want) (fast : Bool) → IsKeeping (Pin handle page n want fast)
+
+module _ (script : ScriptValue) (r : RunState) (h : IsStanding script r) (stuck : (a : ℕ) → a < length script.actors → can_go script r a ≡ false) where
+  -- an actor that keeps a lock forks, moves or pins
+  keeper_op : (b : ℕ) → (r.core.job b ≡ idle → ⊥) → (op : Op) × (op_in script r b ≡ Some op) × IsKeeping op
+  keeper_op b busy = go (op_in script r b) refl
     where
-      idle_keeps : r.core.job b ≡ idle → (keeps_structure (r.core.job b) ≡ Some p) ⊎ (keeps_table (r.core.job b) ≡ Some p) → ⊥
-      idle_keeps rests (inl structure) = cc (sym (ap keeps_structure rests) ∙ structure)
-      idle_keeps rests (inr table) = cc (sym (ap keeps_table rests) ∙ table)
+      jobless : (o : Option Op) → op_in script r b ≡ o → KeepsNoJob o → ⊥
+      jobless o is none = busy (h.idle_jobs b (subst KeepsNoJob (sym is) none))
 
-      no_fork : (o : Option Op) → op_in script r b ≡ o → IsNoFork o → ⊥
-      no_fork o is none = idle_keeps (h.idle_jobs b (subst IsNoFork (sym is) none)) keeps
+      go : (o : Option Op) → op_in script r b ≡ o → (op : Op) × (op_in script r b ≡ Some op) × IsKeeping op
+      go (Some (Fork child)) is = (Fork child, is, forks child)
+      go (Some (Move proc page zone)) is = (Move proc page zone, is, moves proc page zone)
+      go (Some (Pin handle page n want fast)) is = (Pin handle page n want fast, is, pins handle page n want fast)
+      go o is = absurd (jobless o is tt)
 
-      go : (o : Option Op) → op_in script r b ≡ o → (child : ℕ) × (op_in script r b ≡ Some (Fork child))
-      go (Some (Fork child)) is = (child, is)
-      go op is = absurd (no_fork op is tt)
+  -- none that waits for nothing is stuck
+  free_goes : (b : ℕ) (op : Op) → op_in script r b ≡ Some op → waiting_for r.core (doer_of script b (Some op)) op ≡ None → ⊥
+  free_goes b op is free =
+      let waiting : waiting_in script r b ≡ None = ap (λ (o : Option Op). waiting_with r.core (doer_of script b o) o) is ∙ free in
+      let ready : can_go script r b ≡ true = ap (λ (o : Option Op). is_ready o (waiting_in script r b)) is ∙ ap (is_ready (Some op)) waiting in
+      cc (sym (stuck b (has_ops_declared script b (r.places b).answered op is)) ∙ ready)
 
-  -- whoever holds a table lock holds the structure lock too
-  holds_both : (p d : ℕ) → r.core.table p ≡ Some d → r.core.structure p ≡ Some d
-  holds_both p d locked =
-      let keeps : keeps_table (r.core.job d) ≡ Some p = h.sound.1.table_held p d locked in
-      let forks = keeper_forks d p (inr keeps) in
-      let both = fork_keeps r.core d (process_of script d) forks.0 p (r.core.job d) (r.core.prepared d) (h.forks d forks.0 forks.1) keeps in
-      fork_kept r.core d p (r.core.job d) (λ k is. h.sound.1.forks_structure d k (h.sound.1.forks_are d ∙ is)) both
+  -- a move in the middle waits for nobody
+  move_goes : (b proc page : ℕ) (zone : Zone) (job : Job) → op_in script r b ≡ Some (Move proc page zone) → r.core.job b ≡ job → StandsMove r.core b proc page zone job → (job ≡ idle → ⊥) → ⊥
+  move_goes b proc page zone idle there is stands busy = busy refl
+  move_goes b proc page zone (moving q g e allowed count) there is stands busy =
+      let birth : r.core.birth proc ≡ born = stands.4.birth in
+      free_goes b (Move proc page zone) there
+      (ap (λ (x : Birth). waits_at x proc (waits_for_locks (move_locks (r.core.job b)) b (r.core.structure proc) (r.core.table proc))) birth
+      ∙ ap (λ (j : Job). waits_for_locks (move_locks j) b (r.core.structure proc) (r.core.table proc)) is)
+  move_goes b proc page zone job there is stands busy = stands
 
-  -- so the table lock of a process is free for whoever holds its structure lock
-  table_own : (b p : ℕ) → r.core.structure p ≡ Some b → (o : Option ℕ) → r.core.table p ≡ o → held_by_other b o ≡ None
-  table_own b p locked None free = refl
-  table_own b p locked (Some d) table =
-      let one : d ≡ b = some_same (sym (holds_both p d table) ∙ locked) in
-      subst (λ (k : ℕ). held_by_other b (Some k) ≡ None) (sym one) (held_by_self b)
+  -- nor does a pin in the middle of a page
+  pin_goes : (b handle page n : ℕ) (want : Want) (fast : Bool) (job : Job) → op_in script r b ≡ Some (Pin handle page n want fast) → StandsAtPage r.core b (process_of script b) (page + length (r.core.taken b)) want job → (job ≡ idle → ⊥) → ⊥
+  pin_goes b handle page n want fast idle there stands busy = busy refl
+  pin_goes b handle page n want fast (moving q g e allowed count) there stands busy =
+      let p : ℕ = process_of script b in
+      let at = stands.4 in
+      free_goes b (Pin handle page n want fast) there
+      (ap (λ (x : Birth). waits_at x p (waits_for_locks both_locks b (r.core.structure p) (r.core.table p))) (born_for (doer script b) r.core.birth at.moving.birth)
+      ∙ ap₂ (λ (x y : Option ℕ). first_waiting (held_by_other b x) (held_by_other b y)) at.unforked at.moving.locked
+      ∙ own_none b)
+  pin_goes b handle page n want fast job there stands busy = stands
 
-  table_unwaited : (b p : ℕ) (needed : Bool) → r.core.structure p ≡ Some b → waits_for_lock needed b (r.core.table p) ≡ None
-  table_unwaited b p true locked = table_own b p locked (r.core.table p) refl
-  table_unwaited b p false locked = refl
+  -- nor does a fork that needs no table lock, or finds it free
+  module _ (b child : ℕ) (there : op_in script r b ≡ Some (Fork child)) where
+    abbrev p : ℕ
+    p = process_of script b
 
-  -- a fork in the middle waits for nobody
-  middle_goes : (b child : ℕ) (job : Job) → r.core.job b ≡ job → StandsFork r.core b (process_of script b) child job (r.core.prepared b) → (job ≡ idle → ⊥) → waiting_for r.core (doer script b) (Fork child) ≡ None
-  middle_goes b child job is stands busy = go job is stands busy
+    is_born : (q c : ℕ) (done : List ℕ) (step : ForkStep) → r.core.job b ≡ forking q c done step → q ≡ p → birth_for r.core.birth (doer script b) ≡ born
+    is_born q c done step is own =
+        let k : Forking = record { proc = q; child = c; done = done; step = step } in
+        born_for (doer script b) r.core.birth (subst (λ (n : ℕ). r.core.birth n ≡ born) own (h.sound.1.fork_parent b k (h.sound.1.forks_are b ∙ ap forking_of is)))
+
+    fork_free : (job : Job) → r.core.job b ≡ job → birth_for r.core.birth (doer script b) ≡ born → waits_for_locks (fork_locks (r.core.right child) job) b (r.core.structure p) (r.core.table p) ≡ None → ⊥
+    fork_free job is birth free =
+        free_goes b (Fork child) there
+        (ap (λ (x : Birth). waits_at x p (waits_for_locks (fork_locks (r.core.right child) (r.core.job b)) b (r.core.structure p) (r.core.table p))) birth
+        ∙ ap (λ (j : Job). waits_for_locks (fork_locks (r.core.right child) j) b (r.core.structure p) (r.core.table p)) is ∙ free)
+
+    unlocked : (needed : Bool) → r.core.table p ≡ None → waits_for_lock needed b (r.core.table p) ≡ None
+    unlocked true free = ap (held_by_other b) free
+    unlocked false free = refl
+
+    fork_goes : (job : Job) → r.core.job b ≡ job → StandsFork r.core b p child job (r.core.prepared b) → (job ≡ idle → ⊥) → (keeps_table job ≡ None → r.core.table p ≡ None) → ⊥
+    fork_goes idle is stands busy table = busy refl
+    fork_goes (forking q c done between) is stands busy table =
+        fork_free (forking q c done between) is (is_born q c done between is stands.parent) (unlocked (is_some (next_page (r.core.right child) done)) (table refl))
+    fork_goes (forking q c done (counted page)) is stands busy table = fork_free (forking q c done (counted page)) is (is_born q c done (counted page) is stands.0.parent) refl
+    fork_goes (forking q c done (copying page word)) is stands busy table = fork_free (forking q c done (copying page word)) is (is_born q c done (copying page word) is stands.0.parent) refl
+    fork_goes (forking q c done step) is stands busy table = absurd stands
+    fork_goes job is stands busy table = stands
+
+  -- so where nobody can go nobody is in the middle of a fork, a move or a pin's page whose process's table lock is free, or its own
+  keeper_goes : (b : ℕ) → (r.core.job b ≡ idle → ⊥) → (keeps_table (r.core.job b) ≡ None → (p : ℕ) → r.core.table p ≡ None) → ⊥
+  keeper_goes b busy table =
+      let keeper = keeper_op b busy in
+      go keeper.0 keeper.1 keeper.2
     where
-      p : ℕ
-      p = process_of script b
+      go : (op : Op) → op_in script r b ≡ Some op → IsKeeping op → ⊥
+      go op is (forks child) = fork_goes b child is (r.core.job b) refl (h.forks b child is) busy (λ none. table none (process_of script b))
+      go op is (pins handle page n want fast) = pin_goes b handle page n want fast (r.core.job b) is (h.pins b handle page n want fast is).at busy
+      go op is (moves proc page zone) = move_goes b proc page zone (r.core.job b) is refl (h.moves b proc page zone is) busy
 
-      is_born : (q c : ℕ) (done : List ℕ) (step : ForkStep) → r.core.job b ≡ forking q c done step → q ≡ p → birth_for r.core.birth (doer script b) ≡ born
-      is_born q c done step is own =
-          let k : Forking = record { proc = q; child = c; done = done; step = step } in
-          born_for (doer script b) r.core.birth (subst (λ (n : ℕ). r.core.birth n ≡ born) own (h.sound.1.fork_parent b k (h.sound.1.forks_are b ∙ ap forking_of is)))
+  -- nobody holds a table lock
+  table_free : (p : ℕ) (o : Option ℕ) → r.core.table p ≡ o → r.core.table p ≡ None
+  table_free p None is = is
+  table_free p (Some d) is =
+      let keeps : keeps_table (r.core.job d) ≡ Some p = h.sound.1.table_held p d is in
+      absurd (keeper_goes d (λ rests. cc (sym (ap keeps_table rests) ∙ keeps)) (λ none. absurd (cc (sym keeps ∙ none))))
 
-      -- it waits for no lock, so for nothing
-      unlocked : birth_for r.core.birth (doer script b) ≡ born → waits_for_locks (fork_locks (r.core.right child) (r.core.job b)) b (r.core.structure p) (r.core.table p) ≡ None → waiting_for r.core (doer script b) (Fork child) ≡ None
-      unlocked birth free =
-          ap (λ (x : Birth). waits_at x p (waits_for_locks (fork_locks (r.core.right child) (r.core.job b)) b (r.core.structure p) (r.core.table p))) birth ∙ free
-
-      go : (j : Job) → r.core.job b ≡ j → StandsFork r.core b p child j (r.core.prepared b) → (j ≡ idle → ⊥) → waiting_for r.core (doer script b) (Fork child) ≡ None
-      go idle is stands busy = absurd (busy refl)
-      go (forking q c done between) is stands busy =
-          unlocked (is_born q c done between is stands.parent)
-          (ap (λ (j : Job). waits_for_locks (fork_locks (r.core.right child) j) b (r.core.structure p) (r.core.table p)) is ∙ table_unwaited b p (is_some (next_page (r.core.right child) done)) stands.locked)
-      go (forking q c done (counted page)) is stands busy =
-          unlocked (is_born q c done (counted page) is stands.0.parent)
-          (ap (λ (j : Job). waits_for_locks (fork_locks (r.core.right child) j) b (r.core.structure p) (r.core.table p)) is)
-      go (forking q c done (copying page word)) is stands busy =
-          unlocked (is_born q c done (copying page word) is stands.0.parent)
-          (ap (λ (j : Job). waits_for_locks (fork_locks (r.core.right child) j) b (r.core.structure p) (r.core.table p)) is)
-      go (forking q c done step) is stands busy = absurd stands
-      go job is stands busy = absurd stands
-
-  -- whoever keeps a lock can go
-  keeper_goes : (b p : ℕ) → (keeps_structure (r.core.job b) ≡ Some p) ⊎ (keeps_table (r.core.job b) ≡ Some p) → (b < length script.actors) × (can_go script r b ≡ true)
-  keeper_goes b p keeps =
-      let forks = keeper_forks b p keeps in
-      let op : Op = Fork forks.0 in
-      let free = middle_goes b forks.0 (r.core.job b) refl (h.forks b forks.0 forks.1) (busy keeps) in
-      let waiting : waiting_in script r b ≡ None = ap (waiting_with r.core (doer script b)) forks.1 ∙ free in
-      let ready : can_go script r b ≡ true = ap (λ (o : Option Op). is_ready o (waiting_in script r b)) forks.1 ∙ ap (is_ready (Some op)) waiting in
-      (has_ops_declared script b (r.places b).answered op forks.1, ready)
-    where
-      busy : (keeps_structure (r.core.job b) ≡ Some p) ⊎ (keeps_table (r.core.job b) ≡ Some p) → r.core.job b ≡ idle → ⊥
-      busy (inl structure) rests = cc (sym (ap keeps_structure rests) ∙ structure)
-      busy (inr table) rests = cc (sym (ap keeps_table rests) ∙ table)
-
-  holder_goes : (p b : ℕ) → IsHolder (r.core.structure p) (r.core.table p) b → (b < length script.actors) × (can_go script r b ≡ true)
-  holder_goes p b (inl structure) = keeper_goes b p (inl (h.sound.1.structure_held p b structure))
-  holder_goes p b (inr table) = keeper_goes b p (inr (h.sound.1.table_held p b table))
+  -- and so nobody a structure lock
+  no_holder : (p b : ℕ) → IsHolder (r.core.structure p) (r.core.table p) b → ⊥
+  no_holder p b (inl structure) =
+      let keeps : keeps_structure (r.core.job b) ≡ Some p = h.sound.1.structure_held p b structure in
+      keeper_goes b (λ rests. cc (sym (ap keeps_structure rests) ∙ keeps)) (λ none q. table_free q (r.core.table q) refl)
+  no_holder p b (inr table) = cc (sym (table_free p (r.core.table p) refl) ∙ table)
 
   -- where nobody can go, nobody waits for a lock
-  no_lock_waits : ((a : ℕ) → a < length script.actors → can_go script r a ≡ false) → (a p : ℕ) (locks : Locks) (w : Waiting) → waits_for_locks locks a (r.core.structure p) (r.core.table p) ≡ Some w → ⊥
-  no_lock_waits stuck a p locks w waits =
+  no_lock_waits : (a p : ℕ) (locks : Locks) (w : Waiting) → waits_for_locks locks a (r.core.structure p) (r.core.table p) ≡ Some w → ⊥
+  no_lock_waits a p locks w waits =
       let holds = locks_wait locks a (r.core.structure p) (r.core.table p) w waits in
-      let goes = holder_goes p holds.0 holds.1 in
-      cc (sym (stuck holds.0 goes.0) ∙ goes.1)
+      no_holder p holds.0 holds.1
 
   -- once it waits for no birth, it waits for a pin of the script
-  waits_born_by : ((a : ℕ) → a < length script.actors → can_go script r a ≡ false) → IsScript script → (a : ℕ) (op : Op) (w : Waiting) → op_in script r a ≡ Some op → waits_born r.core a (process_of script a) op ≡ Some w → WaitsForBirthOrPin script w
-  waits_born_by stuck valid a op w is waits = go (handle_waits r.core.handle a (Some op)) refl waits
+  waits_born_by : IsScript script → (a p : ℕ) (op : Op) (w : Waiting) → op_in script r a ≡ Some op → waits_born r.core a p op ≡ Some w → WaitsForBirthOrPin script w
+  waits_born_by valid a p op w is waits = go (handle_waits r.core.handle a (Some op)) refl waits
     where
-      p : ℕ
-      p = process_of script a
-
       go : (given : Option Waiting) → handle_waits r.core.handle a (Some op) ≡ given → first_waiting given (waits_for_locks (locks_needed r.core a p op) a (r.core.structure p) (r.core.table p)) ≡ Some w → WaitsForBirthOrPin script w
-      go None none locks = absurd (no_lock_waits stuck a p (locks_needed r.core a p op) w locks)
+      go None none locks = absurd (no_lock_waits a p (locks_needed r.core a p op) w locks)
       go (Some v) some now =
           let take = waits_to_take r.core.handle a op v some in
           let there = is ∙ ap (λ (o : Op). Some o) take.1 in
           inr (take.0, handle_declared script valid a (r.places a).answered take.0 there, sym (same_waiting now) ∙ take.2)
 
-  waits_by : ((a : ℕ) → a < length script.actors → can_go script r a ≡ false) → IsScript script → (a : ℕ) (o : Option Op) (w : Waiting) → op_in script r a ≡ o → waiting_with r.core (doer script a) o ≡ Some w → WaitsForBirthOrPin script w
-  waits_by stuck valid a None w is waits = absurd (cc waits)
-  waits_by stuck valid a (Some op) w is waits = go (birth_for r.core.birth who) refl waits
+  waits_by : IsScript script → (a : ℕ) (o : Option Op) (w : Waiting) → op_in script r a ≡ o → waiting_with r.core (doer_of script a o) o ≡ Some w → WaitsForBirthOrPin script w
+  waits_by valid a None w is waits = absurd (cc waits)
+  waits_by valid a (Some op) w is waits = go (birth_for r.core.birth who) refl waits
     where
       who : Doer
-      who = doer script a
+      who = doer_of script a (Some op)
 
       process : (birth_for r.core.birth who ≡ born → ⊥) → Some (waitings.Process who.proc) ≡ Some w → WaitsForBirthOrPin script w
       process unborn_yet now =
-          inl (who.proc, has_process script valid a (waits_as_thread who r.core.birth unborn_yet), sym (same_waiting now))
+          inl (who.proc, op_has_process script valid a (r.places a).answered op is (waits_as_thread who r.core.birth unborn_yet), sym (same_waiting now))
 
       go : (b : Birth) → birth_for r.core.birth who ≡ b → waits_at b who.proc (waits_born r.core a who.proc op) ≡ Some w → WaitsForBirthOrPin script w
       go unborn birth now = process (λ e. cc (sym birth ∙ e)) now
       go (growing parent) birth now = process (λ e. cc (sym birth ∙ e)) now
       go failed birth now = absurd (cc now)
-      go born birth now = waits_born_by stuck valid a op w is now
+      go born birth now = waits_born_by valid a who.proc op w is now
 
 -- where nobody can go, whoever waits, waits for a process or for a pin of the script
 pub waits_for_birth_or_pin : (script : ScriptValue) → IsScript script → (r : RunState) → IsStanding script r → ((a : ℕ) → a < length script.actors → can_go script r a ≡ false) → (a : ℕ) (w : Waiting) → waiting_in script r a ≡ Some w → WaitsForBirthOrPin script w

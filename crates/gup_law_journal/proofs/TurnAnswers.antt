@@ -1,33 +1,31 @@
 -- Which answers turns have, and how many.
 use Rattle.std.proofs.Common.{◌≡◌, ℕ, ◌+◌, ◌<◌, Bool, true, false, IsTrue, List, [], ◌∷◌, ◌++◌, length, Option, Some, None, refl, sym, ap, subst, ◌∙◌, arith, leb-true, leb-false, nat_le, rules}
 use Rattle.std.proofs.lemmas.Option.{slice_get_past}
-use Rattle.gup_base.specs.declared.entry.Want.{Want}
 use Rattle.gup_plain.specs.Put.{put}
 use Rattle.gup_plain.specs.Note.{NoteValue}
 use Rattle.gup_plain.specs.State.{PlainState}
 use Rattle.gup_plain.specs.declared.answer.Answer.{Answer}
 use Rattle.gup_plain.specs.declared.answer.Answer.TheVariants as answers
-use Rattle.gup_plain.specs.declared.answer.Cause.{Cause}
-use Rattle.gup_plain.specs.declared.answer.Cause.TheVariants as causes
 use Rattle.gup_plain.specs.declared.note.What.{What}
 use Rattle.gup_plain.specs.declared.note.What.TheVariants.{Idle, Done}
 use Rattle.gup_plain.specs.declared.note.Waiting.{Waiting}
 use Rattle.gup_script.specs.declared.op.Op.{Op}
 use Rattle.gup_script.specs.Script.{ScriptValue, Actor}
 use Rattle.gup_script.specs.Valid.{IsScript}
-use Rattle.gup_spec_journal.specs.Follows.{refuses, EndsPin, notes_of_turn}
+use Rattle.gup_spec_journal.specs.Denial.{References}
+use Rattle.gup_spec_journal.specs.Follows.{refuses, notes_of_turn}
 use Rattle.gup_spec_journal.specs.Order.{Turn, journal_of, places_behind}
-use Rattle.gup_spec_journal.specs.Place.{Place, place_after, place_behind, ops_of, ops_in, Doer, doer}
-use Rattle.gup_spec_turns.specs.Cause.{IsKnownCause, IsKnownAnswer, IsKnown, AreKnown, answers_in, answered_in, HaveFinished}
+use Rattle.gup_spec_journal.specs.Place.{Place, place_after, place_behind, ops_of, ops_in, Doer, doer_of}
+use Rattle.gup_spec_turns.specs.Cause.{IsKnownAnswer, IsKnown, AreKnown, answers_in, answered_in, HaveFinished}
 use Rattle.gup_spec_turns.specs.Cost.{operations}
 use Rattle.gup_plain.specs.Pages.{sum_below}
 use Rattle.gup_spec_turns.specs.JobPlace.{JobPlace}
 use Rattle.gup_law_turns.specs.Standing.{IsStanding}
 use Rattle.gup_spec_turns.specs.Run.{RunState, AreTurns, run_start, run_after, core_turn_by, core_turn_in, op_in, waiting_in}
 use Rattle.gup_law_turns.proofs.Puts.{by_points, put_same, put_other, put_own}
-use Rattle.gup_law_turns.proofs.NoteRightness.{unrefused_short, not_both}
+use Rattle.gup_law_turns.proofs.NoteRightness.{not_both}
 use Rattle.gup_law_turns.proofs.ScriptLemmas.{has_ops_declared}
-use Rattle.gup_law_turns.proofs.TurnShapes.{TurnOf, refused, pinned_short, TurnAt, goes}
+use Rattle.gup_law_turns.proofs.TurnShapes.{TurnOf, refused, TurnAt, goes}
 use Rattle.gup_law_turns.proofs.StandingTurns.{stands_on}
 use Rattle.gup_law_turns.proofs.StandingStates.{Stands}
 use Rattle.gup_law_turns.proofs.TurnSteps.{taken}
@@ -36,43 +34,23 @@ use Rattle.gup_law_turns.proofs.EventLists.{Law}
 
 -- no operation is refused by an answer that comes of what none has as yet
 
-unmovable_never : (op : Op) (count : ℕ) → refuses op (answers.Unmovable count) ≡ false
-unmovable_never op count = grind arith
-
-busy_never : (op : Op) (count : ℕ) → refuses op (answers.Busy count) ≡ false
-busy_never op count = grind arith
-
-untouched_never : (op : Op) → refuses op answers.Untouched ≡ false
-untouched_never op = grind arith
-
 stale_never : (op : Op) → refuses op answers.Stale ≡ false
 stale_never op = grind arith
 
 known_refusal : (op : Op) (answer : Answer) → IsTrue (refuses op answer) → IsKnownAnswer answer
-known_refusal op (answers.Unmovable count) is = not_both (refuses op (answers.Unmovable count)) (unmovable_never op count) is
-known_refusal op (answers.Busy count) is = not_both (refuses op (answers.Busy count)) (busy_never op count) is
-known_refusal op answers.Untouched is = not_both (refuses op answers.Untouched) (untouched_never op) is
 known_refusal op answers.Stale is = not_both (refuses op answers.Stale) (stale_never op) is
-known_refusal op (answers.Short got wanted cause) is =
-    absurd (not_both (refuses op (answers.Short got wanted cause)) (unrefused_short op got wanted cause) is)
 known_refusal op answer is = tt
-
--- what ends a pin is a cause that there is
-known_cause : (want : Want) (cause : Cause) → EndsPin want cause → IsKnownCause cause
-known_cause want (causes.Unmovable count) end = end
-known_cause want cause end = tt
 
 -- the notes of a turn
 abbrev pub AreKnownWhats : List What → Type 0
 AreKnownWhats [] = Unit {0}
 AreKnownWhats (what ∷ whats) = IsKnown what × AreKnownWhats whats
 
-known_turn : {s : PlainState} {who : Doer} {place : Place} {op : Op} {from to : JobPlace} {whats : List What} → TurnOf s who place op from whats to → AreKnownWhats whats
-known_turn (refused op answer first refusal right passes) = (known_refusal op answer refusal, tt)
-known_turn (pinned_short handle page n want fast cause some less end right) = (tt, (known_cause want cause end, tt))
+known_turn : {s : PlainState} {references : References} {who : Doer} {place : Place} {op : Op} {from to : JobPlace} {whats : List What} → TurnOf s references who place op from whats to → AreKnownWhats whats
+known_turn (refused op answer first refusal at_once right passes) = (known_refusal op answer refusal, tt)
 known_turn turn = search rules
 
-known_taken : {s : PlainState} {who : Doer} {place : Place} {op : Option Op} {waiting : Option Waiting} {from to : JobPlace} {whats : List What} → TurnAt s who place op waiting from whats to → AreKnownWhats whats
+known_taken : {s : PlainState} {references : References} {who : Doer} {place : Place} {op : Option Op} {waiting : Option Waiting} {from to : JobPlace} {whats : List What} → TurnAt s references who place op waiting from whats to → AreKnownWhats whats
 known_taken (goes op whats from to birth own turn) = known_turn turn
 known_taken turn = search rules
 
@@ -131,7 +109,7 @@ turn_counts script r a = go (nat_le (length script.actors) a) refl
   where
     idle_counts : (o : Option Op) → op_in script r a ≡ o → o ≡ None → all_answered script (run_after script r a).places ≡ all_answered script r.places + answers_in (core_turn_in script r a).whats
     idle_counts o is none =
-        let idle : (core_turn_in script r a).whats ≡ Idle ∷ [] = ap (λ (x : Option Op). (core_turn_by r.core (doer script a) (r.places a).far x (waiting_in script r a)).whats) (is ∙ none) in
+        let idle : (core_turn_in script r a).whats ≡ Idle ∷ [] = ap (λ (x : Option Op). (core_turn_by r.core (doer_of script a x) (r.places a).far x (waiting_in script r a)).whats) (is ∙ none) in
         let places : (run_after script r a).places ≡ r.places = ap (λ (ws : List What). put a (place_behind (r.places a) ws) r.places) idle ∙ put_own a r.places in
         let same = ap (all_answered script) places in
         let nothing : answers_in (core_turn_in script r a).whats ≡ 0 = ap answers_in idle in

@@ -1,5 +1,5 @@
 -- The turns of a run are in the script's order.
-use Rattle.std.proofs.Common.{◌≡◌, ℕ, ◌<◌, ◌⊎◌, inl, inr, ap₂, Bool, true, false, List, [], ◌∷◌, length, Option, Some, None, is_none, slice_get, nat_le, refl, sym, ap, ◌∙◌, subst, zero, suc, arith, rules}
+use Rattle.std.proofs.Common.{◌≡◌, ℕ, ◌<◌, ◌⊎◌, inl, inr, Bool, true, false, List, [], ◌∷◌, length, Option, Some, None, is_none, slice_get, nat_le, refl, sym, ap, ◌∙◌, subst, zero, suc, arith, rules}
 use Rattle.std.proofs.Math.Dec.{leb-zero, leb-suc-zero, leb-suc-suc}
 use Rattle.gup_script.specs.Valid.{IsScript}
 use Rattle.gup_plain.specs.State.{PlainState, Birth, born}
@@ -13,13 +13,14 @@ use Rattle.gup_script.specs.Script.{ScriptValue}
 use Rattle.gup_script.specs.declared.op.Op.{Op}
 use Rattle.gup_script.specs.declared.op.Op.TheVariants.{Fork}
 use Rattle.gup_spec_events.specs.State.{plain_of}
-use Rattle.gup_spec_journal.specs.Order.{Turn, Ordered, Moves, IsWrittenTurn, IsOverAt, IsOver, IsPassed, MayHold, KeepsLock, MayNeedLock, IsPointedTurn, IsNextTurn, AreInOrder, behind_by, written_turn, waiting_at, waiting_of, finished_in, handle_waits}
-use Rattle.gup_spec_journal.specs.Place.{Place, Doer, doer, birth_for, process_of, ops_of}
+use Rattle.gup_spec_journal.specs.Denial.{References}
+use Rattle.gup_spec_journal.specs.Order.{Turn, Ordered, Moves, IsWrittenTurn, IsOverAt, IsOver, IsPassed, MayHold, MayNeedLock, IsPointedTurn, IsNextTurn, AreInOrder, behind_by, written_turn, waiting_at, waiting_of, finished_in, handle_waits}
+use Rattle.gup_spec_journal.specs.Place.{Place, Doer, birth_for, ops_of, doer_of}
 use Rattle.gup_spec_turns.specs.JobPlace.{JobPlace}
 use Rattle.gup_spec_turns.proofs.TurnParts.{waits_at}
 use Rattle.gup_spec_turns.specs.Waits.{waits_born, first_waiting}
 use Rattle.gup_spec_turns.specs.Run.{RunState, Runs, next_actor, next_by, written_in, turn_in, run_after, op_in, waiting_with, waiting_in, core_turn_in, is_ready, can_go}
-use Rattle.gup_law_journal.proofs.LockHolders.{IsInFork, locks_of, needs_lock, waits_for_fork, fork_can_go}
+use Rattle.gup_law_journal.proofs.LockHolders.{IsKeeper, locks_of, needs_lock, waits_for_keeper, no_keeper}
 use Rattle.gup_law_turns.proofs.ScriptLemmas.{has_ops_declared}
 use Rattle.gup_law_journal.proofs.Pointer.{PointerFits, IsFirstToGo, pointed_some, none_can_go, pointer_fits}
 use Rattle.gup_law_turns.proofs.Puts.{some_same}
@@ -36,8 +37,8 @@ finished_is (op ∷ ops) zero = leb-suc-zero (length ops)
 finished_is (op ∷ ops) (suc k) = leb-suc-suc (length ops) k ∙ finished_is ops k
 
 -- a turn of an operation has one to three notes of it
-pub op_moves : {s : PlainState} {who : Doer} {place : Place} {op : Op} {from to : JobPlace} {whats : List What} → TurnOf s who place op from whats to → Moves whats
-op_moves (refused op answer first refusal right passes) = (omega arith, omega arith, (refl, tt))
+pub op_moves : {s : PlainState} {references : References} {who : Doer} {place : Place} {op : Op} {from to : JobPlace} {whats : List What} → TurnOf s references who place op from whats to → Moves whats
+op_moves (refused op answer first refusal at_once right passes) = (omega arith, omega arith, (refl, tt))
 op_moves turn = (omega arith, omega arith, search rules)
 
 -- so has one of an operation whose process failed
@@ -66,7 +67,7 @@ free_written : (holder : ℕ → Type 0) (seen : Option Waiting) (whats : List W
 free_written holder seen whats (inl same) moves = rw same (inl moves)
 free_written holder seen whats (inr (none, b, holds, is)) moves = absurd (cc is)
 
-written_right : {s : PlainState} {who : Doer} {place : Place} {op : Option Op} {waiting : Option Waiting} {from to : JobPlace} {whats : List What} {finished : Bool} {holder : ℕ → Type 0} {seen : Option Waiting} → TurnAt s who place op waiting from whats to → Sees finished holder seen op waiting → IsWrittenTurn finished seen holder whats
+written_right : {s : PlainState} {references : References} {who : Doer} {place : Place} {op : Option Op} {waiting : Option Waiting} {from to : JobPlace} {whats : List What} {finished : Bool} {holder : ℕ → Type 0} {seen : Option Waiting} → TurnAt s references who place op waiting from whats to → Sees finished holder seen op waiting → IsWrittenTurn finished seen holder whats
 written_right (idles waiting at) h = rw h.finishes refl
 written_right {holder = holder} {seen = seen} (waits op waiting at) h = rw h.finishes (wait_written holder seen waiting (h.waits_so op refl))
 written_right {holder = holder} {seen = seen} (goes op whats from to birth own turn) h = rw h.finishes (free_written holder seen whats (h.waits_so op refl) (op_moves turn))
@@ -76,7 +77,7 @@ written_right {holder = holder} {seen = seen} (unborn_fork child birth fails fir
     rw h.finishes (free_written holder seen (Event (events.ForkFail child) ∷ Done answers.Unborn ∷ []) (h.waits_so (Fork child) refl) (failure_moves child))
 
 -- the turn of an actor that can go moves it on
-goes_moves : {s : PlainState} {who : Doer} {place : Place} {op : Option Op} {waiting : Option Waiting} {from to : JobPlace} {whats : List What} → TurnAt s who place op waiting from whats to → is_ready op waiting ≡ true → Moves whats
+goes_moves : {s : PlainState} {references : References} {who : Doer} {place : Place} {op : Option Op} {waiting : Option Waiting} {from to : JobPlace} {whats : List What} → TurnAt s references who place op waiting from whats to → is_ready op waiting ≡ true → Moves whats
 goes_moves (idles waiting at) is = absurd (cc is)
 goes_moves (waits op waiting at) is = absurd (cc is)
 goes_moves (goes op whats from to birth own turn) is = op_moves turn
@@ -107,44 +108,35 @@ goes_on (Some op) None {holder = holder} {seen = seen} h is = (h.finishes, go (h
 abbrev pub ordered_of : RunState → Ordered
 ordered_of r = record { plain = plain_of r.core; places = r.places; pointer = r.pointer; turns = r.turns }
 
--- the operation of an actor in the middle of a fork keeps a lock
-keeps_lock : (op : Option Op) (child : ℕ) → op ≡ Some (Fork child) → KeepsLock op
-keeps_lock op child is = subst KeepsLock (sym is) tt
-
--- and only a fork does
-kept_fork : (op : Option Op) → KeepsLock op → (child : ℕ) × (op ≡ Some (Fork child))
-kept_fork (Some (Fork child)) keeps = (child, refl)
-kept_fork op keeps = absurd keeps
-
 module _ (script : ScriptValue) (valid : IsScript script) (r : RunState) (h : Stands script r) where
-  -- one that is in the middle of a fork of this actor's process may hold a lock of it
-  may_hold : (a b : ℕ) → MayNeedLock (op_in script r a) → (a ≡ b → ⊥) → IsInFork script r b (process_of script a) → MayHold script (ordered_of r) a b
-  may_hold a b needs apart fork = (apart, fork.of, fork.begun, keeps_lock (op_in script r b) fork.child fork.forks, needs)
+  -- one that is in the middle of an operation which keeps a lock of this actor's process may hold one of it
+  may_hold : (a b : ℕ) → MayNeedLock (op_in script r a) → (a ≡ b → ⊥) → IsKeeper script r b (doer_of script a (op_in script r a)).proc → MayHold script (ordered_of r) a b
+  may_hold a b needs apart keeper = (apart, keeper.of, keeper.begun, keeper.keeps, needs)
 
   -- once its process is born, and its pin given to it, an actor waits only for such a one
   sees_locks : (a : ℕ) (op : Op) → op_in script r a ≡ Some op → (locks : Option Waiting) → locks_of script r h a op ≡ locks → SeesWaiting (MayHold script (ordered_of r) a) None locks
   sees_locks a op present None is = inl refl
   sees_locks a op present (Some waiting) is =
-      let fork = waits_for_fork script r h a op waiting is in
-      let p = process_of script a in
+      let keeper = waits_for_keeper script r h a op waiting is in
+      let p = (doer_of script a (Some op)).proc in
       let needs : MayNeedLock (op_in script r a) = subst MayNeedLock (sym present) (needs_lock r.core a p op (r.core.structure p) (r.core.table p) waiting is) in
-      inr (refl, fork.0, may_hold a fork.0 needs fork.2 fork.3, ap (λ (w : Waiting). Some w) fork.1)
+      let here : IsKeeper script r keeper.0 (doer_of script a (op_in script r a)).proc = subst (λ (o : Option Op). IsKeeper script r keeper.0 (doer_of script a o).proc) (sym present) keeper.3 in
+      inr (refl, keeper.0, may_hold a keeper.0 needs keeper.2 here, ap (λ (w : Waiting). Some w) keeper.1)
 
   sees_born : (a : ℕ) (op : Op) → op_in script r a ≡ Some op → (given : Option Waiting) → SeesWaiting (MayHold script (ordered_of r) a) given (first_waiting given (locks_of script r h a op))
   sees_born a op present (Some waiting) = inl refl
   sees_born a op present None = sees_locks a op present (locks_of script r h a op) refl
 
-  sees_waiting : (a : ℕ) (op : Op) → op_in script r a ≡ Some op → (b : Birth) → birth_for r.core.birth (doer script a) ≡ b → SeesWaiting (MayHold script (ordered_of r) a) (waiting_at (process_of script a) b (handle_waits r.core.handle a (Some op))) (waits_at b (process_of script a) (waits_born r.core a (process_of script a) op))
-  sees_waiting a op present born is = sees_born a op present (handle_waits r.core.handle a (Some op))
-  sees_waiting a op present birth is = inl refl
+  sees_waiting : (a : ℕ) (op : Op) → op_in script r a ≡ Some op → (b : Birth) → SeesWaiting (MayHold script (ordered_of r) a) (waiting_at (doer_of script a (Some op)).proc b (handle_waits r.core.handle a (Some op))) (waits_at b (doer_of script a (Some op)).proc (waits_born r.core a (doer_of script a (Some op)).proc op))
+  sees_waiting a op present born = sees_born a op present (handle_waits r.core.handle a (Some op))
+  sees_waiting a op present birth = inl refl
 
   pub sees : (a : ℕ) → Sees (finished_in script (ordered_of r) a) (MayHold script (ordered_of r) a) (waiting_of script (ordered_of r) a) (op_in script r a) (waiting_in script r a)
   sees a =
-      let who : Doer = doer script a in
-      let seen : Option Op → Option Waiting = λ o. waiting_at (process_of script a) (birth_for r.core.birth who) (handle_waits r.core.handle a o) in
+      let seen : Option Op → Option Waiting = λ o. waiting_at (doer_of script a o).proc (birth_for r.core.birth (doer_of script a o)) (handle_waits r.core.handle a o) in
       record {
         finishes = finished_is (ops_of script a) (r.places a).answered;
-        waits_so = λ o is. subst (λ (x : Option Op). SeesWaiting (MayHold script (ordered_of r) a) (seen x) (waiting_with r.core who x)) (sym is) (sees_waiting a o is (birth_for r.core.birth who) refl);
+        waits_so = λ o is. subst (λ (x : Option Op). SeesWaiting (MayHold script (ordered_of r) a) (seen x) (waiting_with r.core (doer_of script a x) x)) (sym is) (sees_waiting a o is (birth_for r.core.birth (doer_of script a (Some o))));
       }
 
   turn_written : (a : ℕ) → IsWrittenTurn (finished_in script (ordered_of r) a) (waiting_of script (ordered_of r) a) (MayHold script (ordered_of r) a) (core_turn_in script r a).whats
@@ -166,13 +158,9 @@ module _ (script : ScriptValue) (valid : IsScript script) (r : RunState) (h : St
         moves = goes_moves (taken script valid r h a).shape found.4;
       }
 
-  -- where no actor can go, none is in the middle of a fork, which could
+  -- where no actor can go, none is in the middle of an operation that keeps a lock: a move could, and a fork waits at most for one
   no_holder : ((b : ℕ) → b < length script.actors → can_go script r b ≡ false) → (a b : ℕ) → MayHold script (ordered_of r) a b → ⊥
-  no_holder over a b holds =
-      let fork = kept_fork (op_in script r b) holds.3 in
-      let can : can_go script r b ≡ true = ap₂ is_ready fork.1 (fork_can_go script r h b fork.0 fork.1 holds.2) in
-      let stopped : can_go script r b ≡ false = over b (has_ops_declared script b (r.places b).answered (Fork fork.0) fork.1) in
-      cc
+  no_holder over a b holds = no_keeper script r h (λ k op is. over k (has_ops_declared script k (r.places k).answered op is)) b holds.3 holds.2
 
   -- so none waits for another one
   pub is_over : ((b : ℕ) → b < length script.actors → can_go script r b ≡ false) → (a : ℕ) → can_go script r a ≡ false → IsOver script (ordered_of r) a

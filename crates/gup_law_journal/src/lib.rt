@@ -12,8 +12,8 @@ ghost use Rattle.gup_spec_journal.specs.Plain.{IsPlain};
 ghost use Rattle.gup_spec_journal.specs.Thorough.{IsThorough};
 ghost use Rattle.gup_spec_journal.specs.Follows.{Follows};
 ghost use Rattle.gup_spec_journal.specs.Order.{Turn, InOrder, journal_of};
-ghost use Rattle.gup_spec_turns.specs.Run.{RunState, Runs, AreTurns, AreBetween, run_start, turn_in, waiting_in, can_go, IsCoreRun};
-ghost use Rattle.gup_spec_turns.specs.Cause.{LacksExactly, AreKnown, answered_in, HaveFinished, WaitsForBirthOrPin};
+ghost use Rattle.gup_spec_turns.specs.Run.{RunState, Runs, AreTurns, AreBetween, turned, run_start, turn_in, waiting_in, can_go, IsCoreRun};
+ghost use Rattle.gup_spec_turns.specs.Cause.{LacksExactly, UntouchedExactly, BusyExactly, UnmovableExactly, AreKnown, answered_in, HaveFinished, WaitsForBirthOrPin};
 ghost use Rattle.gup_spec_turns.specs.Cost.{operations};
 
 /// Turns in any order follow the script, where each actor stands between two operations after them, as it does where nobody
@@ -76,6 +76,32 @@ pub fn finished_runs_answer_all()
 pub fn no_frame_has_its_cause()
     ensures { (script : ScriptValue) (r : RunState) (a : ℕ) → LacksExactly script r (turn_in script r a) }
 {}
+
+/// Whichever actors have taken turns: a turn answers that a page is untouched exactly where it is the first of a move, which waits
+/// for nothing, of a page that is mapped and has no entry. It answers that the frame of a page is busy exactly where a move has
+/// cleared the page's entry, and has read that count, which isn't 1.
+pub fn moves_have_their_causes()
+    ensures untouched { (script : ScriptValue) (actors : List ℕ) (a : ℕ) → IsScript script →
+        let r : RunState = turned script (run_start script) actors in
+        UntouchedExactly script r (turn_in script r a) }
+    ensures busy { (script : ScriptValue) (actors : List ℕ) (a : ℕ) → IsScript script →
+        let r : RunState = turned script (run_start script) actors in
+        BusyExactly script r (turn_in script r a) }
+{
+    gup_law_events::simulates();
+    gup_law_events::starts_sound();
+}
+
+/// Whichever actors have taken turns: a turn answers that a page can't be moved, or ends a short pin so, exactly where a long pin
+/// has cleared the page's entry, and has read that count, which isn't 1.
+pub fn pins_have_their_causes()
+    ensures { (script : ScriptValue) (actors : List ℕ) (a : ℕ) → IsScript script →
+        let r : RunState = turned script (run_start script) actors in
+        UnmovableExactly script r (turn_in script r a) }
+{
+    gup_law_events::simulates();
+    gup_law_events::starts_sound();
+}
 
 /// At the end of a run each actor has finished or waits, and whoever waits, waits for a process of the script to be born
 /// or for a pin of the script to be given to it.

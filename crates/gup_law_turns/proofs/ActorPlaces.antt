@@ -5,10 +5,11 @@ use Rattle.gup_plain.specs.declared.note.What.{What}
 use Rattle.gup_plain.specs.declared.note.Waiting.{Waiting}
 use Rattle.gup_script.specs.declared.op.Op.{Op}
 use Rattle.gup_spec_events.specs.State.{CoreState}
+use Rattle.gup_spec_journal.specs.Denial.{References}
 use Rattle.gup_spec_journal.specs.Place.{Place, Doer, place_behind}
 use Rattle.gup_spec_turns.specs.JobPlace.{JobPlace}
 use Rattle.gup_law_turns.proofs.ScriptPlaces.{fresh_place}
-use Rattle.gup_law_turns.proofs.TurnShapes.{FitsAt, Rests, TurnOf, took, passed, took_lowest, pinned_page, unpinned_page, moved_word, began, passed_page, counted_page, shared_page, counted_copy, took_frame, copied_word, placed_copy, TurnAt, idles, waits, goes, unborn_refused, unborn_fork}
+use Rattle.gup_law_turns.proofs.TurnShapes.{FitsAt, Rests, TurnOf, took, passed, took_lowest, cleared_page, counted_cleared, pinned_page, unpinned_page, moved_word, cleared_entry, counted_frame, began, passed_page, counted_page, shared_page, counted_copy, took_frame, copied_word, placed_copy, TurnAt, idles, waits, goes, unborn_refused, unborn_fork}
 use Rattle.gup_law_turns.proofs.ShownTurns.{FitsNext}
 
 -- at the next turn of the same operation
@@ -25,13 +26,17 @@ pub data IsBehindTurn (t : CoreState) (who : Doer) (op : Option Op) (place : Pla
   stays_there : place_behind place whats ≡ place → (FitsNext t who op place whats → FitsAt t who op place) → IsBehindTurn t who op place whats
   goes_by : IsBehind t who op place whats → IsBehindTurn t who op place whats
 
-pub op_behind : (t : CoreState) (o : Option Op) {s : PlainState} {who : Doer} {place : Place} {op : Op} {whats : List What} {from to : JobPlace} → TurnOf s who place op from whats to → IsBehind t who o place whats
+pub op_behind : (t : CoreState) (o : Option Op) {s : PlainState} {references : References} {who : Doer} {place : Place} {op : Op} {whats : List What} {from to : JobPlace} → TurnOf s references who place op from whats to → IsBehind t who o place whats
 op_behind t o (took op page n event over more) = goes_on true refl (λ next. next)
 op_behind t o {place = place} (passed op page n event over more none) = goes_on place.had refl (λ next. next)
 op_behind t o (took_lowest page none) = goes_on true refl (λ next. next)
-op_behind t o (pinned_page handle page n want fast more undenied) = goes_on true refl (λ next. next)
+op_behind t o {place = place} (cleared_page handle page n want fast g e long first less more) = goes_on place.had refl (λ next. next)
+op_behind t o {place = place} (counted_cleared handle page n want fast g e count read long begun less more) = goes_on place.had refl (λ next. next)
+op_behind t o (pinned_page handle page n want fast from tries less more undenied) = goes_on true refl (λ next. next)
 op_behind t o {place = place} (unpinned_page handle undenied more) = goes_on place.had refl (λ next. next)
 op_behind t o (moved_word handle outward slot parts value more undenied) = goes_on true refl (λ next. next)
+op_behind t o {place = place} (cleared_entry proc page zone e first) = goes_on place.had refl (λ next. next)
+op_behind t o {place = place} (counted_frame proc page zone e count read begun) = goes_on place.had refl (λ next. next)
 op_behind t o (began child first) = goes_on true refl (λ next. next)
 op_behind t o (passed_page child from page begun least) = goes_on true refl (λ next. next)
 op_behind t o {place = place} (counted_page child from page begun least) = goes_on place.had refl (λ next. next)
@@ -42,7 +47,7 @@ op_behind t o (copied_word child page word to begun more) = goes_on true refl (�
 op_behind t o {place = place} (placed_copy child page to begun) = goes_on place.had refl (λ next. next)
 op_behind t o turn = is_over refl (λ next. next)
 
-pub turn_behind : (t : CoreState) {s : PlainState} {who : Doer} {place : Place} {op : Option Op} {waiting : Option Waiting} {whats : List What} {from to : JobPlace} → TurnAt s who place op waiting from whats to → IsBehindTurn t who op place whats
+pub turn_behind : (t : CoreState) {s : PlainState} {references : References} {who : Doer} {place : Place} {op : Option Op} {waiting : Option Waiting} {whats : List What} {from to : JobPlace} → TurnAt s references who place op waiting from whats to → IsBehindTurn t who op place whats
 turn_behind t (idles waiting at) = stays_there refl (λ next. next)
 turn_behind t (waits op waiting at) = stays_there refl (λ next. next)
 turn_behind t (goes op whats from to birth own turn) = goes_by (op_behind t (Some op) turn)

@@ -1,24 +1,34 @@
--- What is true beside soundness while no operation gets, moves, mirrors or walks, and of which events turns are made.
+-- What is true beside soundness while no operation mirrors or walks, and of which events turns are made.
 use Rattle.std.proofs.Common.{◌≡◌, ℕ, Bool, List, [], ◌∷◌, Option, None, refl}
+use Rattle.gup_base.specs.declared.entry.Allowed.{Allowed}
 use Rattle.gup_base.specs.declared.entry.Entry.{Entry}
 use Rattle.gup_base.specs.declared.entry.Rights.{Rights}
-use Rattle.gup_spec_events.specs.State.{CoreState, ForkStep, core_start}
-use Rattle.gup_spec_events.specs.Event.{CoreEvent, take_frame, fill, count_one, set_mark, upgrade, break_entry, put_entry, map_pages, lower_entry, protect_pages, drop_entry, discard_entry, load, store, raise_flag, pin_page, make_handle, unpin_page, give_handle, take_handle, move_out, move_in, begin_fork, count_page, share_entry, share_mark, share_child, copy_word, place_child, pass_page, end_fork, fail_fork, put_child, fail_unborn}
+use Rattle.gup_spec_events.specs.State.{CoreState, ForkStep, core_start, Counted}
+use Rattle.gup_spec_events.specs.Event.{CoreEvent, take_frame, fill, count_one, set_mark, upgrade, break_entry, put_entry, map_pages, lower_entry, protect_pages, drop_entry, discard_entry, load, store, raise_flag, pin_page, make_handle, unpin_page, give_handle, take_handle, get_reference, put_reference, move_out, move_in, begin_fork, count_page, share_entry, share_mark, share_child, copy_word, place_child, pass_page, end_fork, fail_fork, put_child, fail_unborn, clear_entry, count_moved, place_frame, restore_entry}
 
--- no mirror is filled, and nothing is got
+-- no mirror is filled
 pub record IsCalm (s : CoreState) : Type 0 where
   pub unmirrored : (m : ℕ) → s.mirrored m ≡ None
-  pub no_gets : (k : ℕ) → s.got k ≡ None
 
 pub starts_calm : (movable normal : ℕ) (is_born : ℕ → Bool) → IsCalm (core_start movable normal is_born)
-starts_calm movable normal is_born = record { unmirrored = λ m. refl; no_gets = λ k. refl }
+starts_calm movable normal is_born = record { unmirrored = λ m. refl }
 
--- What an operation is about, beside its process: pages alone, the pin that it makes, or one that it gives, takes, gives
--- back or moves words of.
+-- What an operation is about, beside its process: pages alone, the page that it moves, the pin that it makes, one that it
+-- gives, takes, gives back or
+-- moves words of, or the reference that it gets or puts back.
 pub data Strand : Type 0 where
   of_pages : Strand
+  of_move : Strand
   of_pin : (handle : ℕ) → Strand
   of_handle : (handle : ℕ) → Strand
+  of_get : (handle : ℕ) → Strand
+  of_put : (handle : ℕ) → Strand
+
+-- a move and a pin, if that is for long, may move a page
+abbrev pub MayMove : Strand → Type 0
+MayMove of_move = Unit {0}
+MayMove (of_pin handle) = Unit {0}
+MayMove strand = ⊥
 
 -- The events of a turn of actor a that gives, takes or gives back a pin, or moves a word of one: they are of no process.
 pub data IsHandleEvent (a h : ℕ) : CoreEvent → Type 0 where
@@ -53,6 +63,12 @@ pub data IsTurnEvent (a p c : ℕ) (strand : Strand) : CoreEvent → Type 0 wher
   pinning : (h : ℕ) → strand ≡ of_pin h → (page : ℕ) (e : Entry) (write long : Bool) → IsTurnEvent a p c strand (pin_page a p page e write long)
   making : (h : ℕ) → strand ≡ of_pin h → IsTurnEvent a p c strand (make_handle a h)
   handling : {e : CoreEvent} (h : ℕ) → strand ≡ of_handle h → IsHandleEvent a h e → IsTurnEvent a p c strand e
+  getting : (h : ℕ) → strand ≡ of_get h → (page f : ℕ) (writable : Bool) → IsTurnEvent a p c strand (get_reference a p page f h writable)
+  putting_back : (h : ℕ) → strand ≡ of_put h → (f : ℕ) → IsTurnEvent a p c strand (put_reference a f h)
+  clearing : MayMove strand → (page : ℕ) (e : Entry) (allowed : Allowed) → IsTurnEvent a p c strand (clear_entry a p page e allowed)
+  counting_moved : MayMove strand → (page : ℕ) (e : Entry) (allowed : Allowed) (count : ℕ) → IsTurnEvent a p c strand (count_moved a p page e allowed count)
+  placing_frame : MayMove strand → (page f : ℕ) (e : Entry) (allowed : Allowed) → IsTurnEvent a p c strand (place_frame a p page f e allowed)
+  restoring : MayMove strand → (page : ℕ) (e : Entry) (allowed : Allowed) (count : Counted) → IsTurnEvent a p c strand (restore_entry a p page e allowed count)
   beginning : IsTurnEvent a p c strand (begin_fork a p c)
   counting : (done : List ℕ) (page : ℕ) (e : Entry) (copies : Bool) → IsTurnEvent a p c strand (count_page a p c done page e copies)
   sharing_entry : (done : List ℕ) (page f : ℕ) (writable : Bool) → IsTurnEvent a p c strand (share_entry a p c done page f writable)

@@ -73,6 +73,7 @@ pub record IsReady (s : CoreState) (a p : ℕ) (es : List CoreEvent) : Type 0 wh
   pub job : (run s es).job a ≡ idle
   pub birth : (run s es).birth p ≡ born
   pub told : all_told es ≡ []
+  pub right : (run s es).right ≡ s.right
 
 -- The page is ready for a read, or a write: its entry is of a marked frame and allows it, and no lock is held.
 pub record Allows (t : CoreState) (p page : ℕ) (write : Bool) : Type 0 where
@@ -99,7 +100,7 @@ abbrev pub IsFree : CoreState → Option ℕ → Type 0
 IsFree s frame = (f : ℕ) → frame ≡ Some f → (f < s.movable + s.normal) × (s.count f ≡ 0)
 
 -- a frame that is free isn't one that has a reference
-differ : (count : ℕ → ℕ) (f g : ℕ) → count f ≡ 0 → (count g ≡ 0 → ⊥) → (f == g) ≡ false
+pub differ : (count : ℕ → ℕ) (f g : ℕ) → count f ≡ 0 → (count g ≡ 0 → ⊥) → (f == g) ≡ false
 differ count f g free counted = go (f == g) refl
   where
     go : (t : Bool) → (f == g) ≡ t → t ≡ false
@@ -122,7 +123,7 @@ module _ (s : CoreState) (a p : ℕ) (h : MayFault s a p) where
 
   -- no fault
   pub needs_none : IsReady s a p []
-  needs_none = record { kinds = λ strand. tt; can = tt; rest = h.rest; job = h.job; birth = h.birth; told = refl }
+  needs_none = record { kinds = λ strand. tt; can = tt; rest = h.rest; job = h.job; birth = h.birth; told = refl; right = refl }
 
   -- with the free frame that its turn takes, if there is one
   module _ (free : AreUnlocked s p) (page : ℕ) (frame : Option ℕ) (is_free : IsFree s frame) where
@@ -139,6 +140,7 @@ module _ (s : CoreState) (a p : ℕ) (h : MayFault s a p) where
           job = h.job;
           birth = h.birth;
           told = refl;
+          right = refl;
         }
 
     filled_writable : (f : ℕ) → frame ≡ Some f → s.right p page ≡ Some RW → s.entry p page ≡ None → IsReady s a p (take_frame a f ∷ fill a p page f ∷ upgrade a p page f ∷ [])
@@ -151,6 +153,7 @@ module _ (s : CoreState) (a p : ℕ) (h : MayFault s a p) where
           job = h.job;
           birth = h.birth;
           told = refl;
+          right = refl;
         }
 
     -- the read-only entry of a marked frame becomes writable
@@ -163,6 +166,7 @@ module _ (s : CoreState) (a p : ℕ) (h : MayFault s a p) where
           job = h.job;
           birth = h.birth;
           told = refl;
+          right = refl;
         }
 
     -- an unmarked frame that has one reference is marked first
@@ -181,6 +185,7 @@ module _ (s : CoreState) (a p : ℕ) (h : MayFault s a p) where
           job = put_same a idle (put a (marking p page e.frame) s.job);
           birth = h.birth;
           told = refl;
+          right = refl;
         }
 
     marked_once : (e : Entry) → s.entry p page ≡ Some e → s.mark e.frame ≡ false → s.count e.frame ≡ 1 → IsReady s a p (marks a p page e)
@@ -192,6 +197,7 @@ module _ (s : CoreState) (a p : ℕ) (h : MayFault s a p) where
           job = put_same a idle (put a (marking p page e.frame) s.job);
           birth = h.birth;
           told = refl;
+          right = refl;
         }
 
     -- one that may have others is copied, and its reference given back
@@ -211,6 +217,7 @@ module _ (s : CoreState) (a p : ℕ) (h : MayFault s a p) where
           job = h.job;
           birth = h.birth;
           told = refl;
+          right = refl;
         }
 
     -- what each fault comes to, of a page that is read or written

@@ -28,14 +28,14 @@ use Rattle.gup_law_turns.proofs.ForkFails.{below_or_from, unborn_empty, fork_fai
 use Rattle.gup_law_turns.proofs.KeptPages.{pages_leave}
 use Rattle.gup_law_turns.proofs.Puts.{put_same, put2_same, none_of}
 use Rattle.gup_law_turns.proofs.PageSearches.{free_frame_free, lowest_some, lowest_none, IsLowest}
-use Rattle.gup_law_turns.proofs.TurnShapes.{AtFirst, IsBegun, FitsFork, FitsOp, TurnOf, began, passed_page, counted_page, shared_page, ended, counted_copy, took_frame, copied_word, placed_copy, failed_fork, AtRest, unprepared, at_rest}
+use Rattle.gup_law_turns.proofs.TurnShapes.{references_of, AtFirst, IsBegun, FitsFork, FitsOp, TurnOf, began, passed_page, counted_page, shared_page, ended, counted_copy, took_frame, copied_word, placed_copy, failed_fork, AtRest, unprepared, at_rest}
 use Rattle.gup_law_turns.proofs.ShownTurns.{IsOpen, IsTurned, both_free, table_free}
 
 -- a fork's shape, by the places where it stands before and after the turn
-shape_from : (s t : CoreState) (who : Doer) (child : ℕ) (place : Place) (whats : List What) (from to : JobPlace) → place_in s who.actor ≡ from → place_in t who.actor ≡ to → TurnOf (plain_of s) who place (Fork child) from whats to → TurnOf (plain_of s) who place (Fork child) (place_in s who.actor) whats (place_in t who.actor)
+shape_from : (s t : CoreState) (who : Doer) (child : ℕ) (place : Place) (whats : List What) (from to : JobPlace) → place_in s who.actor ≡ from → place_in t who.actor ≡ to → TurnOf (plain_of s) (references_of s) who place (Fork child) from whats to → TurnOf (plain_of s) (references_of s) who place (Fork child) (place_in s who.actor) whats (place_in t who.actor)
 shape_from s t who child place whats from to before behind shape =
-    subst (λ (x : JobPlace). TurnOf (plain_of s) who place (Fork child) x whats (place_in t who.actor)) (sym before)
-    (subst (λ (y : JobPlace). TurnOf (plain_of s) who place (Fork child) from whats y) (sym behind) shape)
+    subst (λ (x : JobPlace). TurnOf (plain_of s) (references_of s) who place (Fork child) x whats (place_in t who.actor)) (sym before)
+    (subst (λ (y : JobPlace). TurnOf (plain_of s) (references_of s) who place (Fork child) from whats y) (sym behind) shape)
 
 -- where it stands, by its job and the frame that it has prepared
 stands_at : (s : CoreState) (a : ℕ) (job : Job) (prepared : Option ℕ) → s.job a ≡ job → s.prepared a ≡ prepared → place_in s a ≡ job_place job prepared
@@ -242,7 +242,7 @@ module _ (s : CoreState) (who : Doer) (child : ℕ) (place : Place) (h : IsOpen 
           has_counted = record { above = is_lowest.from; lowest = is_next; locked = put_same p (Some a) s.table; entry = rw there refl; mapped = is_lowest.passes }
 
           -- in these steps it goes on, to share the page or to copy it
-          counted_on : (step : ForkStep) (to : JobPlace) → copies ≡ copies_page s p e.frame → after.job a ≡ forking p child done step → job_place (forking p child done step) None ≡ to → StandsFork after a p child (forking p child done step) None → TurnOf (plain_of s) who place (Fork child) (from_page (first_behind done)) (Silent ∷ []) to → IsTurned s who place (Fork child) (record { events = count_page a p child done page e copies ∷ []; whats = Silent ∷ [] })
+          counted_on : (step : ForkStep) (to : JobPlace) → copies ≡ copies_page s p e.frame → after.job a ≡ forking p child done step → job_place (forking p child done step) None ≡ to → StandsFork after a p child (forking p child done step) None → TurnOf (plain_of s) (references_of s) who place (Fork child) (from_page (first_behind done)) (Silent ∷ []) to → IsTurned s who place (Fork child) (record { events = count_page a p child done page e copies ∷ []; whats = Silent ∷ [] })
           counted_on step to right behind is_there stands shape =
               record {
                 done = record {

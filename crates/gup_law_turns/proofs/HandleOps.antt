@@ -21,7 +21,7 @@ use Rattle.gup_script.specs.declared.op.Op.TheVariants.{Unpin, Give, Take, Trans
 use Rattle.gup_spec_events.specs.State.{CoreState, idle, plain_of}
 use Rattle.gup_spec_events.specs.Event.{CoreEvent, Can, CanMove, happens, unpin_page, give_handle, take_handle, move_out, move_in}
 use Rattle.gup_law_events.specs.Law.{all_told}
-use Rattle.gup_spec_journal.specs.Denial.{no_references, op_denial}
+use Rattle.gup_spec_journal.specs.Denial.{op_denial}
 use Rattle.gup_spec_journal.specs.Follows.{refuses}
 use Rattle.gup_spec_journal.specs.Order.{is_given_to, taking_waits, handle_waits}
 use Rattle.gup_spec_journal.specs.Place.{Place, Doer}
@@ -34,7 +34,7 @@ use Rattle.gup_spec_turns.proofs.TurnParts.{unpin_turn_by, give_turn_by, transfe
 use Rattle.gup_spec_turns.specs.DeviceTurns.{frame_at, moves_value, transfer_turn}
 use Rattle.gup_law_turns.proofs.CalmStates.{of_handle, IsHandleEvent, unpinning, giving, taking_over, moving_out, moving_in, handling}
 use Rattle.gup_law_turns.proofs.Puts.{put_same, some_same}
-use Rattle.gup_law_turns.proofs.TurnShapes.{AtFirst, HasLeft, FitsOp, TurnOf, refused, gave, took_over, unpinned_page, unpinned_last, moved_word, moved_last, AtRest, Rests, strand_of}
+use Rattle.gup_law_turns.proofs.TurnShapes.{references_of, AtFirst, HasLeft, FitsOp, TurnOf, refused, gave, took_over, unpinned_page, unpinned_last, moved_word, moved_last, AtRest, Rests, strand_of, IsAtOnce}
 use Rattle.gup_law_turns.proofs.EventLists.{events_of}
 use Rattle.gup_law_turns.proofs.ShownTurns.{IsQuiet, FitsNext, MakesPin, IsTurned, shape_idle}
 
@@ -105,17 +105,17 @@ module _ (s : CoreState) (who : Doer) (place : Place) (h : IsQuiet s who.actor) 
   a = who.actor
 
   -- an operation is refused
-  answered : (op : Op) (answer : Answer) → AtFirst place → IsTrue (refuses op answer) → IsAnswerOf (op_denial (plain_of s) no_references who (pages_got (plain_of s) who.actor) op) answer → Passes (plain_of s) who.proc op place.far → MakesPin s s a op → IsTurned s who place op (answers_with answer)
-  answered op answer first refusal right passes pin =
+  answered : (op : Op) (answer : Answer) → AtFirst place → IsTrue (refuses op answer) → IsAtOnce op answer → IsAnswerOf (op_denial (plain_of s) (references_of s) who (pages_got (plain_of s) who.actor) op) answer → Passes (plain_of s) who.proc op place.far → MakesPin s s a op → IsTurned s who place op (answers_with answer)
+  answered op answer first refusal at_once right passes pin =
       record {
         done = record { kinds = tt; can = tt; rest = h.rest; told = refl };
-        shape = shape_idle s s who place op (Done answer ∷ []) still.0 still.0 (refused op answer first refusal right passes);
+        shape = shape_idle s s who place op (Done answer ∷ []) still.0 still.0 (refused op answer first refusal at_once right passes);
         next = still;
         pin = pin;
       }
 
   -- a turn of one event of the handle, in which the actor goes on to be in the middle of nothing
-  one_event : (op : Op) (handle : ℕ) (e : CoreEvent) (whats : List What) → strand_of (Some op) ≡ of_handle handle → IsHandleEvent a handle e → Can s e → AtRest (happens s e) a → all_told (e ∷ []) ≡ events_of whats → (happens s e).job a ≡ idle → TurnOf (plain_of s) who place op unbegun whats unbegun → FitsNext (happens s e) who (Some op) place whats → MakesPin s (happens s e) a op → IsTurned s who place op (record { events = e ∷ []; whats = whats })
+  one_event : (op : Op) (handle : ℕ) (e : CoreEvent) (whats : List What) → strand_of (Some op) ≡ of_handle handle → IsHandleEvent a handle e → Can s e → AtRest (happens s e) a → all_told (e ∷ []) ≡ events_of whats → (happens s e).job a ≡ idle → TurnOf (plain_of s) (references_of s) who place op unbegun whats unbegun → FitsNext (happens s e) who (Some op) place whats → MakesPin s (happens s e) a op → IsTurned s who place op (record { events = e ∷ []; whats = whats })
   one_event op handle e whats own kind can rest told behind shape next pin =
       record {
         done = record { kinds = (handling handle own kind, tt); can = (can, tt); rest = rest; told = told };
@@ -165,7 +165,7 @@ module _ (s : CoreState) (who : Doer) (place : Place) (h : IsQuiet s who.actor) 
   unpin_by : (handle : ℕ) (holding : Bool) → is_held_by (s.handle handle) a ≡ holding → FitsOp s who (Unpin handle) place → IsTurned s who place (Unpin handle) (unpin_turn_by holding a handle (s.pinned handle))
   unpin_by handle true is fits = unpins handle fits.1 is fits.3 (but_last (s.pinned handle)) refl
   unpin_by handle false is fits =
-      answered (Unpin handle) answers.NotHeld (at_first place.far refl, fits.1) refl (rw is refl) tt (inl (refl, refl, is))
+      answered (Unpin handle) answers.NotHeld (at_first place.far refl, fits.1) refl tt (rw is refl) tt (inl (refl, refl, is))
     where
       at_first : (far : ℕ) → place.far ≡ far → far ≡ 0
       at_first zero begun = refl
@@ -180,7 +180,7 @@ module _ (s : CoreState) (who : Doer) (place : Place) (h : IsQuiet s who.actor) 
       (gave handle to first (ap holder_denial is)) still
       (refl, inr (holds (s.handle handle) a is, put_same handle (given_to (s.handle handle) to) s.handle))
   give_by handle to false is first =
-      answered (Give handle to) answers.NotHeld first refl (rw is refl) tt (refl, inl refl)
+      answered (Give handle to) answers.NotHeld first refl tt (rw is refl) tt (refl, inl refl)
 
   -- take
 
@@ -269,7 +269,7 @@ module _ (s : CoreState) (who : Doer) (place : Place) (h : IsQuiet s who.actor) 
     transfer_by outward (Some answer) is fits =
         let first = denied_first outward answer place.far refl is fits in
         answered (Transfer handle outward slot parts) answer (first, fits.1.0 first)
-        (denied_by handle outward slot parts (is_held_by (s.handle handle) a) (may_write (s.handle handle)) has_all answer is) (rw is refl) tt (refl, refl)
+        (denied_by handle outward slot parts (is_held_by (s.handle handle) a) (may_write (s.handle handle)) has_all answer is) tt (rw is refl) tt (refl, refl)
 
 pub unpin_turned : (s : CoreState) (who : Doer) (place : Place) → IsQuiet s who.actor → (handle : ℕ) → FitsOp s who (Unpin handle) place → IsTurned s who place (Unpin handle) (unpin_turn s who.actor handle)
 unpin_turned s who place h handle fits = unpin_by s who place h fits.0 handle (is_held_by (s.handle handle) who.actor) refl fits

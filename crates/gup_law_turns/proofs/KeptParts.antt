@@ -1,17 +1,18 @@
 -- What the events of a turn leave as it is.
-use Rattle.std.proofs.Common.{◌≡◌, ℕ, ◌==◌, ◌⊎◌, inl, inr, Bool, true, false, if◌then◌else◌, List, [], ◌∷◌, ◌++◌, Option, Some, refl, sym, ap, subst, ◌∙◌, eqb-true, arith}
+use Rattle.std.proofs.Common.{◌≡◌, ℕ, ◌==◌, ◌⊎◌, inl, inr, Bool, true, false, if◌then◌else◌, List, [], ◌∷◌, ◌++◌, Option, Some, None, refl, sym, ap, subst, ◌∙◌, eqb-true, arith}
 use Rattle.std.proofs.lemmas.Bool.Decides.{nat_tests}
+use Rattle.gup_base.specs.declared.entry.Allowed.{Allowed}
 use Rattle.gup_base.specs.declared.entry.Entry.{Entry}
 use Rattle.gup_base.specs.declared.entry.Rights.{Rights}
-use Rattle.gup_plain.specs.Event.{IsHeldBy, IsGivenTo, given_to, held_by}
-use Rattle.gup_plain.specs.Put.{put}
+use Rattle.gup_plain.specs.Event.{IsHeldBy, IsGivenTo, given_to, held_by, words}
+use Rattle.gup_plain.specs.Put.{put, put2}
 use Rattle.gup_plain.specs.State.{Birth, unborn, growing, born, failed, Handle, unmade, held, gone}
-use Rattle.gup_spec_events.specs.State.{CoreState, Taken, idle}
-use Rattle.gup_spec_events.specs.Event.{CoreEvent, Can, happens, raise_flag, pin_page, make_handle, unpin_page, give_handle, take_handle, taken_frames, objects_taken, writes_taken, run}
+use Rattle.gup_spec_events.specs.State.{CoreState, Taken, marking, moving, Counted, one, forking, ForkStep, between, counted, lowered, cleared, copying, failing}
+use Rattle.gup_spec_events.specs.Event.{CoreEvent, Can, MayFail, happens, put_child, fail_fork, raise_flag, pin_page, make_handle, unpin_page, give_handle, take_handle, taken_frames, objects_taken, writes_taken, run}
 use Rattle.gup_spec_events.specs.Invariant.{AllCan}
-use Rattle.gup_law_base.specs.Sound.{IsSound, Forking, forking_of, birth_of_child, is_failing}
-use Rattle.gup_law_turns.proofs.CalmStates.{IsCalm, Strand, of_pin, of_handle, IsTurnEvent, AreTurnEvents, raising, pinning, making, handling, IsHandleEvent, AreHandleEvents, unpinning, giving, taking_over, beginning, ending, failing_at, putting_child, failing_unborn}
-use Rattle.gup_law_turns.proofs.Puts.{put_same, put_other}
+use Rattle.gup_law_base.specs.Sound.{IsSound, Forking, forking_of, birth_of_child, is_failing, moving_of, marking_of, step_page}
+use Rattle.gup_law_turns.proofs.CalmStates.{IsCalm, Strand, of_pin, of_handle, of_get, of_put, getting, putting_back, IsTurnEvent, AreTurnEvents, raising, pinning, making, handling, IsHandleEvent, AreHandleEvents, unpinning, giving, taking_over, beginning, ending, failing_at, putting_child, failing_unborn, marking_it, clearing, placing_frame, restoring, sharing_entry, sharing_child, placing, MayMove}
+use Rattle.gup_law_turns.proofs.Puts.{put_same, put_other, some_same}
 use Rattle.gup_law_turns.proofs.EventLists.{Law}
 
 -- what is of one process
@@ -35,12 +36,12 @@ pub record Leaves (a p c : ℕ) (s t : CoreState) : Type 0 where
   pub prepared : (b : ℕ) → (b == a) ≡ false → t.prepared b ≡ s.prepared b
   pub owed : (b : ℕ) → (b == a) ≡ false → t.owed b ≡ s.owed b
 
--- the entries and locks of the process stay, and the actor's job
-pub record IsBarred (a p : ℕ) (s t : CoreState) : Type 0 where
+-- the rights and entries of the process stay, and its table lock; and nobody begins a fork of it
+pub record KeepsPages (p : ℕ) (s t : CoreState) : Type 0 where
+  pub right : t.right p ≡ s.right p
   pub entry : t.entry p ≡ s.entry p
-  pub structure : t.structure p ≡ s.structure p
   pub table : t.table p ≡ s.table p
-  pub job : t.job a ≡ s.job a
+  pub unforked : s.structure p ≡ None → t.structure p ≡ None
 
 -- a value that isn't the changed number's stays
 put_kept : {X : Type 0} (c q : ℕ) (x : X) (f : ℕ → X) (y : X) → (q ≡ c → ⊥) → f q ≡ y → put c x f q ≡ y
@@ -49,6 +50,14 @@ put_kept c q x f y other is = go (q == c) refl
     go : (t : Bool) → (q == c) ≡ t → (if t then x else f q) ≡ y
     go true same = absurd (other (eqb-true q c same))
     go false apart = is
+
+-- nor do the entries of another process
+put2_apart : {X : Type 0} (c q page : ℕ) (x : X) (f : ℕ → ℕ → X) → (q ≡ c → ⊥) → put2 c page x f q ≡ f q
+put2_apart c q page x f other = go (q == c) refl
+  where
+    go : (t : Bool) → (q == c) ≡ t → (if t then put page x (f q) else f q) ≡ f q
+    go true same = absurd (other (eqb-true q c same))
+    go false apart = refl
 
 -- the child of a fork is not born before its end
 child_unborn : (p : ℕ) (failing : Bool) → (if failing then failed else growing p) ≡ born → ⊥
@@ -66,7 +75,7 @@ module _ (s : CoreState) (a p c : ℕ) (strand : Strand) where
   leaves_event (putting_child done page e true) = record { process = λ q other child. simp (other, child); birth = λ q child. refl; job = λ b other. simp other; prepared = λ b other. refl; owed = λ b other. refl }
   leaves_event event = record { process = λ q other child. first_of (simp other, simp child, simp (other, child), cc); birth = λ q child. first_of (simp child, cc); job = λ b other. first_of (simp other, cc); prepared = λ b other. first_of (simp other, cc); owed = λ b other. first_of (simp other, cc) }
 
-  -- nothing of a turn gets or mirrors
+  -- nothing of a turn mirrors
 
   calm_handle : {e : CoreEvent} (h : ℕ) → IsHandleEvent a h e → IsCalm s → IsCalm (happens s e)
   calm_handle h (unpinning f left) calm = assumption
@@ -93,10 +102,99 @@ module _ (s : CoreState) (a p c : ℕ) (strand : Strand) where
   births_event failing_unborn sound can q lives = let child : s.birth c ≡ unborn = can.1 in put_kept c q failed s.birth born (λ same. cc) lives
   births_event event sound can q lives = lives
 
-  -- Where the structure is locked, and the actor is in the middle of nothing, it changes neither entries nor locks.
-  barred_event : {e : CoreEvent} (b : ℕ) → IsTurnEvent a p c strand e → s.structure p ≡ Some b → s.job a ≡ idle → Can s e → IsBarred a p s (happens s e)
-  barred_event b (handling h is (giving to)) locked job can = record { entry = refl; structure = refl; table = refl; job = refl }
-  barred_event b event locked job can = record { entry = cc; structure = cc; table = cc; job = cc }
+  -- what another actor has locked
+
+  another : (b : ℕ) (holder : Option ℕ) → (b ≡ a → ⊥) → holder ≡ Some b → holder ≡ Some a → ⊥
+  another b holder other locked own = let two : Some b ≡ Some a = sym locked ∙ own in other (some_same two)
+
+  -- a fork of the process holds its structure lock, and in the middle of a page its table lock
+  forks_here : IsSound s → (done : List ℕ) (step : ForkStep) → s.job a ≡ forking p c done step → s.structure p ≡ Some a
+  forks_here sound done step job =
+      sound.1.forks_structure a (record { proc = p; child = c; done = done; step = step }) (sound.1.forks_are a ∙ ap forking_of job)
+
+  pages_here : IsSound s → (done : List ℕ) (step : ForkStep) (page : ℕ) → step_page step ≡ Some page → s.job a ≡ forking p c done step → s.table p ≡ Some a
+  pages_here sound done step page on job =
+      sound.1.forks_table a page (record { proc = p; child = c; done = done; step = step }) (sound.1.forks_are a ∙ ap forking_of job) on
+
+  child_here : IsSound s → (done : List ℕ) (step : ForkStep) → s.job a ≡ forking p c done step → s.birth p ≡ born → p ≡ c → ⊥
+  child_here sound done step job lives same =
+      let k : Forking = record { proc = p; child = c; done = done; step = step } in
+      let birth : s.birth c ≡ birth_of_child k = sound.1.fork_birth a k (sound.1.forks_are a ∙ ap forking_of job) in
+      child_unborn p (is_failing step) (sym birth ∙ (ap s.birth (sym same) ∙ lives))
+
+  moves_here : IsSound s → (page : ℕ) (e : Entry) (allowed : Allowed) (count : Counted) → s.job a ≡ moving p page e allowed count → s.table p ≡ Some a
+  moves_here sound page e allowed count job =
+      sound.1.moves_table a (record { proc = p; page = page; entry = e; count = count }) (sound.1.moves_are a ∙ ap moving_of job)
+
+  marks_here : IsSound s → (page f : ℕ) → s.job a ≡ marking p page f → s.table p ≡ Some a
+  marks_here sound page f job =
+      sound.1.marks_table a (record { proc = p; page = page; frame = f }) (sound.1.marks_are a ∙ ap marking_of job)
+
+  structure_if : (b q : ℕ) (ends : Bool) → (b ≡ a → ⊥) → s.structure p ≡ Some a → s.structure q ≡ Some b → (if ends then put p None s.structure else s.structure) q ≡ Some b
+  structure_if b q true other own locked = put_kept p q None s.structure (Some b) (λ same. another b (s.structure p) other (ap s.structure (sym same) ∙ locked) own) locked
+  structure_if b q false other own locked = locked
+
+  -- its structure lock stays
+  structure_event : {e : CoreEvent} → IsTurnEvent a p c strand e → IsSound s → Can s e → (b q : ℕ) → (b ≡ a → ⊥) → s.structure q ≡ Some b → (happens s e).structure q ≡ Some b
+  structure_event (handling h is (giving to)) sound can b q other locked = locked
+  structure_event beginning sound can b q other locked =
+      let free : s.structure p ≡ None = can.2.0 in
+      put_kept p q (Some a) s.structure (Some b) (λ same. let here : s.structure p ≡ Some b = ap s.structure (sym same) ∙ locked in cc) locked
+  structure_event (ending done) sound can b q other locked = structure_if b q true other (forks_here sound done between can.0) locked
+  structure_event (failing_at done step ends) sound can b q other locked = structure_if b q ends other (forks_here sound done step can.0) locked
+  structure_event (putting_child done page e ends) sound can b q other locked = structure_if b q ends other (forks_here sound done failing can.0) locked
+  structure_event event sound can b q other locked = locked
+
+  same_pages : (t : CoreState) → t.right p ≡ s.right p → t.entry p ≡ s.entry p → t.table p ≡ s.table p → (s.structure p ≡ None → t.structure p ≡ None) → KeepsPages p s t
+  same_pages t right entry table unforked = record { right = right; entry = entry; table = table; unforked = unforked }
+
+  -- a lock that is free stays so where it is given back
+  free_if : (ends : Bool) → s.structure p ≡ None → (if ends then put p None s.structure else s.structure) p ≡ None
+  free_if true free = put_same p None s.structure
+  free_if false free = free
+
+  failed_table : IsSound s → (b : ℕ) (done : List ℕ) (step : ForkStep) → MayFail step → (b ≡ a → ⊥) → s.table p ≡ Some b → s.job a ≡ forking p c done step → put p (elim step [ between ↦ s.table p | counted page ↦ None | lowered page ↦ None | cleared page ↦ None | copying page word ↦ None | failing ↦ None ]) s.table p ≡ s.table p
+  failed_table sound b done between may other locked job = put_same p (s.table p) s.table
+  failed_table sound b done (counted page) may other locked job = absurd (another b (s.table p) other locked (pages_here sound done (counted page) page refl job))
+  failed_table sound b done (lowered page) may other locked job = absurd (another b (s.table p) other locked (pages_here sound done (lowered page) page refl job))
+  failed_table sound b done (cleared page) may other locked job = absurd (another b (s.table p) other locked (pages_here sound done (cleared page) page refl job))
+  failed_table sound b done (copying page word) may other locked job = absurd (another b (s.table p) other locked (pages_here sound done (copying page word) page refl job))
+  failed_table sound b done failing may other locked job = absurd may
+
+  -- where it has locked the table, so do rights and entries
+  barred_event : {e : CoreEvent} → IsTurnEvent a p c strand e → IsSound s → Can s e → (b : ℕ) → (b ≡ a → ⊥) → s.table p ≡ Some b → KeepsPages p s (happens s e)
+  barred_event (handling h is (giving to)) sound can b other locked = record { right = refl; entry = refl; table = refl; unforked = λ free. free }
+  barred_event (marking_it page f) sound can b other locked = absurd (another b (s.table p) other locked (marks_here sound page f can))
+  barred_event (placing_frame is page f e allowed) sound can b other locked = absurd (another b (s.table p) other locked (moves_here sound page e allowed one can.0))
+  barred_event (restoring is page e allowed count) sound can b other locked = absurd (another b (s.table p) other locked (moves_here sound page e allowed count can.0))
+  barred_event (sharing_entry done page f writable) sound can b other locked = absurd (another b (s.table p) other locked (pages_here sound done (counted page) page refl can.0))
+  barred_event (sharing_child done page f writable) sound can b other locked = absurd (another b (s.table p) other locked (pages_here sound done (cleared page) page refl can.0))
+  barred_event (placing done page to rights) sound can b other locked = absurd (another b (s.table p) other locked (pages_here sound done (copying page words) page refl can.0))
+  barred_event (failing_at done step ends) sound can b other locked =
+      let lives : s.birth p ≡ born = sound.1.table_born p b locked in
+      same_pages (happens s (fail_fork a p c done step ends))
+      (put_kept c p (λ _. None) s.right (s.right p) (child_here sound done step can.0 lives) refl) refl
+      (failed_table sound b done step can.1 other locked can.0) (free_if ends)
+  barred_event (putting_child done page e ends) sound can b other locked =
+      let lives : s.birth p ≡ born = sound.1.table_born p b locked in
+      same_pages (happens s (put_child a p c done page e ends)) refl
+      (put2_apart c p page None s.entry (child_here sound done failing can.0 lives)) refl (free_if ends)
+  barred_event failing_unborn sound can b other locked = absurd (let lives : s.birth p ≡ born = sound.1.table_born p b locked in let lost : s.birth p ≡ failed = can.0 in cc)
+  barred_event beginning sound can b other locked = absurd (let free : s.table p ≡ None = can.2.1 in cc)
+  barred_event (ending done) sound can b other locked = record { right = refl; entry = refl; table = refl; unforked = λ free. put_same p None s.structure }
+  barred_event event sound can b other locked = record { right = cc; entry = cc; table = cc; unforked = λ free. free }
+
+  -- where it has locked the structure, entries stay but for a move
+  entries_event : {e : CoreEvent} → (MayMove strand → ⊥) → IsTurnEvent a p c strand e → IsSound s → Can s e → (b : ℕ) → (b ≡ a → ⊥) → s.structure p ≡ Some b → (happens s e).entry p ≡ s.entry p
+  entries_event unmoved (handling h is (giving to)) sound can b other locked = refl
+  entries_event unmoved (clearing is page e allowed) sound can b other locked = absurd (unmoved is)
+  entries_event unmoved (placing_frame is page f e allowed) sound can b other locked = absurd (unmoved is)
+  entries_event unmoved (restoring is page e allowed count) sound can b other locked = absurd (unmoved is)
+  entries_event unmoved (sharing_entry done page f writable) sound can b other locked = absurd (another b (s.structure p) other locked (forks_here sound done (counted page) can.0))
+  entries_event unmoved (sharing_child done page f writable) sound can b other locked = absurd (another b (s.structure p) other locked (forks_here sound done (cleared page) can.0))
+  entries_event unmoved (placing done page to rights) sound can b other locked = absurd (another b (s.structure p) other locked (forks_here sound done (copying page words) can.0))
+  entries_event unmoved (putting_child done page e ends) sound can b other locked = absurd (another b (s.structure p) other locked (forks_here sound done failing can.0))
+  entries_event unmoved event sound can b other locked = cc
 
 -- numbers that aren't equal are found so
 pub apart : (b a : ℕ) → (b ≡ a → ⊥) → (b == a) ≡ false
@@ -131,17 +229,51 @@ stays_born law s a p c strand (e ∷ es) kinds sound can q is =
     let now = law s e sound can.0 in
     stays_born law (happens s e) a p c strand es kinds.1 now.sound can.1 q (births_event s a p c strand kinds.0 sound can.0 q is)
 
-pub stays_barred : (s : CoreState) (a p c b : ℕ) (strand : Strand) (es : List CoreEvent) → AreTurnEvents a p c strand es → AllCan s es → s.structure p ≡ Some b → s.job a ≡ idle → IsBarred a p s (run s es)
-stays_barred s a p c b strand [] kinds can locked job = record { entry = refl; structure = refl; table = refl; job = refl }
-stays_barred s a p c b strand (e ∷ es) kinds can locked job =
-    let first = barred_event s a p c strand b kinds.0 locked job can.0 in
-    let later = stays_barred (happens s e) a p c b strand es kinds.1 can.1 (first.structure ∙ locked) (first.job ∙ job) in
+pub stays_locked : Law → (s : CoreState) (a p c : ℕ) (strand : Strand) (es : List CoreEvent) → AreTurnEvents a p c strand es → IsSound s → AllCan s es → (b q : ℕ) → (b ≡ a → ⊥) → s.structure q ≡ Some b → (run s es).structure q ≡ Some b
+stays_locked law s a p c strand [] kinds sound can b q other locked = locked
+stays_locked law s a p c strand (e ∷ es) kinds sound can b q other locked =
+    let now = law s e sound can.0 in
+    stays_locked law (happens s e) a p c strand es kinds.1 now.sound can.1 b q other (structure_event s a p c strand kinds.0 sound can.0 b q other locked)
+
+pub stays_barred : Law → (s : CoreState) (a p c : ℕ) (strand : Strand) (es : List CoreEvent) → AreTurnEvents a p c strand es → IsSound s → AllCan s es → (b : ℕ) → (b ≡ a → ⊥) → s.table p ≡ Some b → KeepsPages p s (run s es)
+stays_barred law s a p c strand [] kinds sound can b other locked = record { right = refl; entry = refl; table = refl; unforked = λ free. free }
+stays_barred law s a p c strand (e ∷ es) kinds sound can b other locked =
+    let now = law s e sound can.0 in
+    let first = barred_event s a p c strand kinds.0 sound can.0 b other locked in
+    let later = stays_barred law (happens s e) a p c strand es kinds.1 now.sound can.1 b other (first.table ∙ locked) in
     record {
+      right = later.right ∙ first.right;
       entry = later.entry ∙ first.entry;
-      structure = later.structure ∙ first.structure;
       table = later.table ∙ first.table;
-      job = later.job ∙ first.job;
+      unforked = λ free. later.unforked (first.unforked free);
     }
+
+pub stays_out : Law → (s : CoreState) (a p c : ℕ) (strand : Strand) (es : List CoreEvent) → (MayMove strand → ⊥) → AreTurnEvents a p c strand es → IsSound s → AllCan s es → (b : ℕ) → (b ≡ a → ⊥) → s.structure p ≡ Some b → (run s es).entry p ≡ s.entry p
+stays_out law s a p c strand [] unmoved kinds sound can b other locked = refl
+stays_out law s a p c strand (e ∷ es) unmoved kinds sound can b other locked =
+    let now = law s e sound can.0 in
+    stays_out law (happens s e) a p c strand es unmoved kinds.1 now.sound can.1 b other (structure_event s a p c strand kinds.0 sound can.0 b p other locked)
+    ∙ entries_event s a p c strand unmoved kinds.0 sound can.0 b other locked
+
+-- a flag that is set stays
+
+flag_handle : (s : CoreState) (a h q : ℕ) {e : CoreEvent} → IsHandleEvent a h e → s.has_pinned q ≡ true → (happens s e).has_pinned q ≡ true
+flag_handle s a h q (unpinning f left) set = set
+flag_handle s a h q event set = set
+
+flag_event : (s : CoreState) (a p c q : ℕ) (strand : Strand) {e : CoreEvent} → IsTurnEvent a p c strand e → s.has_pinned q ≡ true → (happens s e).has_pinned q ≡ true
+flag_event s a p c q strand (handling h is event) set = flag_handle s a h q event set
+flag_event s a p c q strand (raising h is) set = go (q == p)
+  where
+    go : (b : Bool) → (if b then true else s.has_pinned q) ≡ true
+    go true = refl
+    go false = set
+flag_event s a p c q strand event set = set
+
+pub stays_flagged : (s : CoreState) (a p c q : ℕ) (strand : Strand) (es : List CoreEvent) → AreTurnEvents a p c strand es → s.has_pinned q ≡ true → (run s es).has_pinned q ≡ true
+stays_flagged s a p c q strand [] kinds set = set
+stays_flagged s a p c q strand (e ∷ es) kinds set =
+    stays_flagged (happens s e) a p c q strand es kinds.1 (flag_event s a p c q strand kinds.0 set)
 
 -- what is about one pin leaves the others
 
@@ -319,6 +451,48 @@ pub leaves_pins : (s : CoreState) (a p c : ℕ) (strand : Strand) (es : List Cor
 leaves_pins s a p c strand [] kinds can = same_pins a strand s s refl refl refl refl
 leaves_pins s a p c strand (e ∷ es) kinds can =
     pins_on a strand s (happens s e) (run s (e ∷ es)) (pins_event s a strand p c e kinds.0 can.0) (leaves_pins (happens s e) a p c strand es kinds.1 can.1)
+
+-- references
+
+-- Of references, a turn leaves all but the one that it gets or puts back; one that isn't got stays so, unless the turn gets it.
+pub record LeavesGot (strand : Strand) (s t : CoreState) : Type 0 where
+  pub kept : ((h : ℕ) → strand ≡ of_get h → ⊥) → ((h : ℕ) → strand ≡ of_put h → ⊥) → t.got ≡ s.got
+  pub ungot : (h : ℕ) → (strand ≡ of_get h → ⊥) → s.got h ≡ None → t.got h ≡ None
+
+none_put : {X : Type 0} (k h : ℕ) (f : ℕ → Option X) → f h ≡ None → put k None f h ≡ None
+none_put k h f none = go (h == k)
+  where
+    go : (b : Bool) → (if b then None else f h) ≡ None
+    go true = refl
+    go false = none
+
+module _ (s : CoreState) (a p c : ℕ) (strand : Strand) where
+  got_handle : {e : CoreEvent} (h : ℕ) → IsHandleEvent a h e → (happens s e).got ≡ s.got
+  got_handle h (unpinning f left) = refl
+  got_handle h event = refl
+
+  got_event : {e : CoreEvent} → IsTurnEvent a p c strand e → LeavesGot strand s (happens s e)
+  got_event (getting k is page f writable) =
+      record {
+        kept = λ no_get no_put. absurd (no_get k is);
+        ungot = λ h no_get none. put_apart k h (Some (a, f)) s.got (λ same. no_get (is ∙ ap of_get (sym same))) ∙ none;
+      }
+  got_event (putting_back k is f) =
+      record { kept = λ no_get no_put. absurd (no_put k is); ungot = λ h no_get none. none_put k h s.got none }
+  got_event (handling h is event) =
+      let same = got_handle h event in
+      record { kept = λ no_get no_put. same; ungot = λ k no_get none. ap (λ (f : ℕ → Option (ℕ × ℕ)). f k) same ∙ none }
+  got_event event = record { kept = λ no_get no_put. refl; ungot = λ h no_get none. none }
+
+pub leaves_got : (s : CoreState) (a p c : ℕ) (strand : Strand) (es : List CoreEvent) → AreTurnEvents a p c strand es → LeavesGot strand s (run s es)
+leaves_got s a p c strand [] kinds = record { kept = λ no_get no_put. refl; ungot = λ h no_get none. none }
+leaves_got s a p c strand (e ∷ es) kinds =
+    let first = got_event s a p c strand kinds.0 in
+    let later = leaves_got (happens s e) a p c strand es kinds.1 in
+    record {
+      kept = λ no_get no_put. later.kept no_get no_put ∙ first.kept no_get no_put;
+      ungot = λ h no_get none. later.ungot h no_get (first.ungot h no_get none);
+    }
 
 -- What gives, takes or gives back a pin, or moves a word of one, leaves all processes, all jobs and what actors have taken.
 pub record LeavesAll (s t : CoreState) : Type 0 where

@@ -4,7 +4,10 @@ pub mod PinChanges
 pub mod ForkFails
 pub mod ForkOps
 pub mod HandleOps
+pub mod MoveOps
 pub mod PinOps
+pub mod ReferenceOps
+pub mod ReferenceNotes
 pub mod Sums
 pub mod CalmStates
 pub mod SmallCounts
@@ -25,6 +28,7 @@ pub mod PageOps
 pub mod FaultTurns
 pub mod PinSubjects
 pub mod KeptPages
+pub mod KeptMarks
 pub mod NoteRightness
 pub mod PageSearches
 pub mod ScriptPlaces

@@ -1,6 +1,5 @@
 -- The notes of a turn are right in the plain state, and miss no page.
-use Rattle.std.proofs.Common.{◌≡◌, ℕ, ◌+◌, ◌<◌, ◌==◌, ◌++◌, cond, Bool, true, false, IsTrue, inl, List, [], ◌∷◌, Option, Some, None, slice_get, refl, sym, ap, ◌∙◌, subst, eqb-true, inr, arith}
-use Rattle.std.proofs.Math.Path.{subst₂}
+use Rattle.std.proofs.Common.{◌≡◌, ℕ, ◌+◌, ◌==◌, ◌++◌, cond, Bool, true, false, IsTrue, inl, List, [], ◌∷◌, Option, Some, None, slice_get, refl, sym, ap, ◌∙◌, subst, eqb-true, inr, arith}
 use Rattle.gup_base.specs.Parts.{word_at}
 use Rattle.gup_plain.specs.Event.{CanHappen, happened, IsUnbornOrGrowing}
 use Rattle.gup_plain.specs.Note.{NoteValue}
@@ -15,21 +14,18 @@ use Rattle.gup_plain.specs.declared.note.What.{What}
 use Rattle.gup_plain.specs.declared.note.What.TheVariants.{Silent, Idle, Wait, Event, Done}
 use Rattle.gup_plain.specs.declared.note.Waiting.{Waiting}
 use Rattle.gup_script.specs.Script.{ScriptValue}
-use Rattle.gup_script.specs.Valid.{IsScript, IsOp}
 use Rattle.gup_script.specs.declared.op.Op.{Op}
-use Rattle.gup_script.specs.declared.op.Op.TheVariants.{Unmap, Discard, Pin, Get, Put, Fork, Exit}
+use Rattle.gup_script.specs.declared.op.Op.TheVariants.{Unmap, Discard, Get, Put, Fork, Exit}
 use Rattle.gup_plain.specs.Denial.{denial_at, is_denial}
-use Rattle.gup_spec_journal.specs.Denial.{References, no_references, denial, op_denial}
-use Rattle.gup_spec_events.specs.State.{CoreState}
+use Rattle.gup_spec_journal.specs.Denial.{References, denial, op_denial}
 use Rattle.gup_spec_journal.specs.Follows.{refuses, moves_word, notes_of_turn, note_of}
 use Rattle.gup_spec_journal.specs.Order.{plain_behind}
-use Rattle.gup_spec_journal.specs.Place.{Place, Doer, doer, birth_by, birth_for, place_after, place_behind, ops_of, present_op}
+use Rattle.gup_spec_journal.specs.Place.{Place, Doer, concerned, doer, birth_by, birth_for, place_after, place_behind, ops_of, present_op}
 use Rattle.gup_spec_journal.specs.Plain.{Judgement, Judged, AreSo, references_after, judged_after, IsRightAt, IsRightOf, IsBornOrFailed, IsAnswerAfter, IsAnswerOf, IsUndeniedAt, judged_before, pages_got, got_at, refusal_by_cause, refusal_in, plain_after}
 use Rattle.gup_spec_journal.specs.Thorough.{Passes, IsDue, IsThoroughAt, IsThoroughOf}
-use Rattle.gup_law_turns.proofs.ScriptLemmas.{op_is_op}
 use Rattle.gup_law_turns.proofs.Puts.{put_same, put_twice, put_own}
 use Rattle.gup_spec_turns.specs.JobPlace.{JobPlace}
-use Rattle.gup_law_turns.proofs.TurnShapes.{TurnOf, refused, mapped, protected, loaded, stored, gave, took_over, took, took_last, passed, passed_last, took_lowest, took_all, pinned_page, pinned_all, pinned_short, unpinned_last, moved_word, moved_last, began, passed_page, shared_page, ended, copied_word, failed_fork, GoesOver, unmaps, discards, TurnAt, idles, waits, goes, unborn_refused, unborn_fork, FitsAt, AtFirst}
+use Rattle.gup_law_turns.proofs.TurnShapes.{TurnOf, refused, mapped, protected, loaded, stored, gave, took_over, got_one, put_back, took, took_last, passed, passed_last, took_lowest, took_all, pinned_page, pinned_all, pinned_short, unpinned_last, moved_word, moved_last, began, passed_page, shared_page, ended, copied_word, failed_fork, GoesOver, unmaps, discards, TurnAt, idles, waits, goes, unborn_refused, unborn_fork, AtFirst, placed_frame, found_no_frame, found_busy, lacked_frame, found_unmovable}
 use Rattle.gup_law_turns.proofs.EventLists.{events_of, AllCanHappen}
 
 -- a note is right, and misses no page
@@ -49,24 +45,47 @@ pub are_thorough : (script : ScriptValue) (j : Judged) (notes : List NoteValue) 
 are_thorough script j [] both = tt
 are_thorough script j (note ∷ notes) both = (both.0.1, are_thorough script (judged_after script j note) notes both.1)
 
--- the notes of one turn are so, each in what those before it have led to, whoever has got references
+-- the notes of one turn are so, each in what those before it have led to
 abbrev pub AreRight : List Op → Doer → PlainState → References → Place → List What → Type 0
-AreRight ops who s references place [] = Unit {0}
-AreRight ops who s references place (what ∷ whats) =
-    IsBothAt s references who place (slice_get ops place.answered) what
-    × AreRight ops who (plain_after s what) references (place_after place what) whats
+AreRight ops actor s references place [] = Unit {0}
+AreRight ops actor s references place (what ∷ whats) =
+    IsBothAt s references (concerned actor (slice_get ops place.answered)) place (slice_get ops place.answered) what
+    × AreRight ops actor (plain_after s what) (references_after references actor.actor (slice_get ops place.answered) what)
+    (place_after place what) whats
 
--- no operation of a script reads who has got references
+-- the operation is the present one of the actor, who does it as this doer
+abbrev pub IsPresent : List Op → (actor who : Doer) → Place → Op → Type 0
+IsPresent ops actor who place op = (slice_get ops place.answered ≡ Some op) × (who ≡ concerned actor (Some op))
 
-pub denies_alike : (op : Op) → IsOp op → (s : PlainState) (references : References) (who : Doer) (got : ℕ) → op_denial s no_references who got op ≡ op_denial s references who got op
-denies_alike (Put handle) range s references who got = absurd range
-denies_alike op range s references who got = refl
+-- a note of the present operation
+at_present : (ops : List Op) (actor who : Doer) (place : Place) (op : Op) → IsPresent ops actor who place op → (s : PlainState) (references : References) (now : Place) (what : What) → IsBothAt s references who now (Some op) what → IsBothAt s references (concerned actor (slice_get ops place.answered)) now (slice_get ops place.answered) what
+at_present ops actor who place op is s references now what right =
+    subst (λ (o : Option Op). IsBothAt s references (concerned actor o) now o what) (sym is.0)
+    (subst (λ (w : Doer). IsBothAt s references w now (Some op) what) is.1 right)
 
--- and none changes it
-pub references_stay : (references : References) (a : ℕ) (op : Option Op) (what : What) → ((o : Op) → op ≡ Some o → IsOp o) → references_after references a op what ≡ references
-references_stay references a (Some (Get handle page)) what range = absurd (range (Get handle page) refl)
-references_stay references a (Some (Put handle)) what range = absurd (range (Put handle) refl)
-references_stay references a op what range = refl
+-- who has got references after the notes of one turn
+abbrev pub references_behind : List Op → References → (a : ℕ) → Place → List What → References
+references_behind ops references a place [] = references
+references_behind ops references a place (what ∷ whats) =
+    references_behind ops (references_after references a (slice_get ops place.answered) what) a (place_after place what) whats
+
+-- a note that is no answer changes nothing of that
+
+abbrev pub IsNoAnswer : What → Type 0
+IsNoAnswer (Done answer) = ⊥
+IsNoAnswer what = Unit {0}
+
+pub references_stay : (references : References) (a : ℕ) (op : Option Op) (what : What) → IsNoAnswer what → references_after references a op what ≡ references
+references_stay references a (Some (Get handle page)) (Done answer) no_answer = absurd no_answer
+references_stay references a (Some (Get handle page)) what no_answer = refl
+references_stay references a (Some (Put handle)) (Done answer) no_answer = absurd no_answer
+references_stay references a (Some (Put handle)) what no_answer = refl
+references_stay references a op what no_answer = refl
+
+-- so what is right after an event is judged by those who had got them before it
+right_behind : (ops : List Op) (who : Doer) (s : PlainState) (references : References) (place : Place) (e : PlainEvent) (whats : List What) → AreRight ops who s references (place_after place (Event e)) whats → AreRight ops who s (references_after references who.actor (slice_get ops place.answered) (Event e)) (place_after place (Event e)) whats
+right_behind ops who s references place e whats right =
+    subst (λ (k : References). AreRight ops who s k (place_after place (Event e)) whats) (sym (references_stay references who.actor (slice_get ops place.answered) (Event e) tt)) right
 
 -- where whoever does it waits for no birth
 
@@ -105,7 +124,7 @@ refused_here op answer s a is = (refl, refl)
 
 -- where a fork ends, what was born stays so
 stays_born : (births : ℕ → Birth) (who : Doer) (child : ℕ) → birth_for births who ≡ born → birth_for (put child born births) who ≡ born
-stays_born births who child birth = go who.thread (who.proc == child) birth
+stays_born births who child birth = go who.of_process (who.proc == child) birth
   where
     go : (t c : Bool) → birth_by t (births who.proc) ≡ born → birth_by t (cond c born (births who.proc)) ≡ born
     go false c now = refl
@@ -114,7 +133,7 @@ stays_born births who child birth = go who.thread (who.proc == child) birth
 
 -- where a fork fails, what was born stays so, since its child wasn't
 stays_unfailed : (births : ℕ → Birth) (who : Doer) (child : ℕ) → birth_for births who ≡ born → IsUnbornOrGrowing (births child) → birth_for (put child failed births) who ≡ born
-stays_unfailed births who child birth yet = go who.thread (who.proc == child) refl birth
+stays_unfailed births who child birth yet = go who.of_process (who.proc == child) refl birth
   where
     go : (t c : Bool) → (who.proc == child) ≡ c → birth_by t (births who.proc) ≡ born → birth_by t (cond c failed (births who.proc)) ≡ born
     go false c e now = refl
@@ -137,7 +156,7 @@ denial_failed s references who got op e = ap (λ (b : Birth). denial_at b (op_de
 
 -- it is a thread
 failed_thread : (births : ℕ → Birth) (who : Doer) → birth_for births who ≡ failed → births who.proc ≡ failed
-failed_thread births who birth = go who.thread birth
+failed_thread births who birth = go who.of_process birth
   where
     go : (t : Bool) → birth_by t (births who.proc) ≡ failed → births who.proc ≡ failed
     go true now = now
@@ -145,7 +164,7 @@ failed_thread births who birth = go who.thread birth
 
 -- and stays one of a failed process where its fork fails
 stays_failed : (births : ℕ → Birth) (who : Doer) (child : ℕ) → birth_for births who ≡ failed → birth_for (put child failed births) who ≡ failed
-stays_failed births who child birth = go who.thread (who.proc == child) birth
+stays_failed births who child birth = go who.of_process (who.proc == child) birth
   where
     go : (t c : Bool) → birth_by t (births who.proc) ≡ failed → birth_by t (cond c failed (births who.proc)) ≡ failed
     go false c now = now
@@ -159,56 +178,47 @@ unnamed_passes s p (Discard page n) far none = λ less. none (page + far)
 unnamed_passes s p Exit far none = none
 unnamed_passes s p op far none = tt
 
-module _ (ops : List Op) (s : PlainState) (references : References) (who : Doer) (place : Place) (birth : birth_for s.birth who ≡ failed) where
+module _ (ops : List Op) (actor : Doer) (s : PlainState) (references : References) (who : Doer) (place : Place) (birth : birth_for s.birth who ≡ failed) where
   -- it is refused in its first turn
-  refusal_right : (op : Op) → AtFirst place → IsTrue (refuses op answers.Unborn) → IsFailedUnmapped s → slice_get ops place.answered ≡ Some op → AreRight ops who s references place (Done answers.Unborn ∷ [])
+  refusal_right : (op : Op) → AtFirst place → IsTrue (refuses op answers.Unborn) → IsFailedUnmapped s → IsPresent ops actor who place op → AreRight ops actor s references place (Done answers.Unborn ∷ [])
   refusal_right op first refusal unmapped is =
       let got : ℕ = pages_got s who.actor in
       let here : IsAnswerOf (denial s references who got op) answers.Unborn = subst (λ (d : Option Answer). IsAnswerOf d answers.Unborn) (sym (denial_failed s references who got op birth)) refl in
       let judged : IsAnswerAfter (judged_before op place.had answers.Unborn) (denial s references who got op) answers.Unborn =
       subst (λ (b : Bool). IsAnswerAfter b (denial s references who got op) answers.Unborn) (sym (ap (λ (h : Bool). judged_before op h answers.Unborn) first.1 ∙ judged_first op answers.Unborn refusal)) here in
       let passes = unnamed_passes s who.proc op place.far (λ page. unmapped who.proc page (failed_thread s.birth who birth)) in
-      (subst (λ (o : Option Op). IsBothAt s references who place o (Done answers.Unborn)) (sym is) ((settled_failed (birth_for s.birth who) birth, judged), passes), tt)
+      (at_present ops actor who place op is s references place (Done answers.Unborn) ((settled_failed (birth_for s.birth who) birth, judged), passes), tt)
 
   -- a fork makes its child failed too
-  failure_right : (child : ℕ) → CanHappen s (events.ForkFail child) → slice_get ops place.answered ≡ Some (Fork child) → AreRight ops who s references place (Event (events.ForkFail child) ∷ Done answers.Unborn ∷ [])
+  failure_right : (child : ℕ) → CanHappen s (events.ForkFail child) → IsPresent ops actor who place (Fork child) → AreRight ops actor s references place (Event (events.ForkFail child) ∷ Done answers.Unborn ∷ [])
   failure_right child can is =
       let e : PlainEvent = events.ForkFail child in
       let t : PlainState = happened s e in
       let still : birth_for t.birth who ≡ failed = stays_failed s.birth who child birth in
       let judged : IsAnswerOf (denial t references who (pages_got t who.actor) (Fork child)) answers.Unborn = subst (λ (d : Option Answer). IsAnswerOf d answers.Unborn) (sym (denial_failed t references who (pages_got t who.actor) (Fork child) still)) refl in
-      let first = subst (λ (o : Option Op). IsBothAt s references who place o (Event e)) (sym is) ((can, inr (denial_failed s references who (pages_got s who.actor) (Fork child) birth, refl)), tt) in
-      let second = subst (λ (o : Option Op). IsBothAt t references who (place_after place (Event e)) o (Done answers.Unborn)) (sym is) ((settled_failed (birth_for t.birth who) still, judged), tt) in
-      (first, (second, tt))
+      let first = at_present ops actor who place (Fork child) is s references place (Event e) ((can, inr (denial_failed s references who (pages_got s who.actor) (Fork child) birth, refl)), tt) in
+      let second = at_present ops actor who place (Fork child) is t references (place_after place (Event e)) (Done answers.Unborn) ((settled_failed (birth_for t.birth who) still, judged), tt) in
+      (first, right_behind ops actor t references place e (Done answers.Unborn ∷ []) (second, tt))
 
--- a pin that is in the middle had an event
-abbrev pub HadInPin : Option Op → Place → Type 0
-HadInPin (Some (Pin handle page n want fast)) place = 0 < place.far → place.had ≡ true
-HadInPin op place = Unit {0}
-
-pub had_in_pin : (s : CoreState) (who : Doer) (op : Option Op) (place : Place) → FitsAt s who op place → HadInPin op place
-had_in_pin s who (Some (Pin handle page n want fast)) place fits = fits.1.1
-had_in_pin s who op place fits = tt
-
-module _ (ops : List Op) (s : PlainState) (references : References) (who : Doer) (place : Place) (birth : birth_for s.birth who ≡ born) where
+module _ (ops : List Op) (actor : Doer) (s : PlainState) (references : References) (who : Doer) (place : Place) (birth : birth_for s.birth who ≡ born) where
   -- one note of the present operation
-  one_right : (op : Op) (what : What) → slice_get ops place.answered ≡ Some op → IsBothOf s references who place op what → AreRight ops who s references place (what ∷ [])
-  one_right op what is right = (subst (λ (o : Option Op). IsBothAt s references who place o what) (sym is) right, tt)
+  one_right : (op : Op) (what : What) → IsPresent ops actor who place op → IsBothOf s references who place op what → AreRight ops actor s references place (what ∷ [])
+  one_right op what is right = (at_present ops actor who place op is s references place what right, tt)
 
   event_right : (op : Op) (e : PlainEvent) → CanHappen s e → op_denial s references who (pages_got s who.actor) op ≡ None → IsDue s who.proc op place.far e → IsBothOf s references who place op (Event e)
   event_right op e can free due =
       ((can, inl (undenied place.had (denial s references who (pages_got s who.actor) op) (denial_born s references who (pages_got s who.actor) op birth ∙ free))), due)
 
-  done_right : (op : Op) (answer : Answer) → slice_get ops place.answered ≡ Some op → IsAnswerAfter (judged_before op place.had answer) (denial s references who (got_at s who.actor answer) op) (refusal_in answer) → Passes s who.proc op place.far → AreRight ops who s references place (Done answer ∷ [])
+  done_right : (op : Op) (answer : Answer) → IsPresent ops actor who place op → IsAnswerAfter (judged_before op place.had answer) (denial s references who (got_at s who.actor answer) op) (refusal_in answer) → Passes s who.proc op place.far → AreRight ops actor s references place (Done answer ∷ [])
   done_right op answer is right passes = one_right op (Done answer) is ((settled (birth_for s.birth who) birth, right), passes)
 
   -- an event and its answer
-  then_right : (op : Op) (e : PlainEvent) (answer : Answer) → slice_get ops place.answered ≡ Some op → IsBothOf s references who place op (Event e) → birth_for (happened s e).birth who ≡ born → IsAnswerAfter (judged_before op true answer) (denial (happened s e) references who (got_at (happened s e) who.actor answer) op) (refusal_in answer) → Passes (happened s e) who.proc op (place.far + 1) → AreRight ops who s references place (Event e ∷ Done answer ∷ [])
+  then_right : (op : Op) (e : PlainEvent) (answer : Answer) → IsPresent ops actor who place op → IsBothOf s references who place op (Event e) → birth_for (happened s e).birth who ≡ born → IsAnswerAfter (judged_before op true answer) (denial (happened s e) references who (got_at (happened s e) who.actor answer) op) (refusal_in answer) → Passes (happened s e) who.proc op (place.far + 1) → AreRight ops actor s references place (Event e ∷ Done answer ∷ [])
   then_right op e answer is right still judged passes =
       let born_then = settled (birth_for (happened s e).birth who) still in
-      let first = subst (λ (o : Option Op). IsBothAt s references who place o (Event e)) (sym is) right in
-      let second = subst (λ (o : Option Op). IsBothAt (happened s e) references who (place_after place (Event e)) o (Done answer)) (sym is) ((born_then, judged), passes) in
-      (first, (second, tt))
+      let first = at_present ops actor who place op is s references place (Event e) right in
+      let second = at_present ops actor who place op is (happened s e) references (place_after place (Event e)) (Done answer) ((born_then, judged), passes) in
+      (first, right_behind ops actor (happened s e) references place e (Done answer ∷ []) (second, tt))
 
   -- an operation that goes over pages is not denied
   over_undenied : {op : Op} {page n : ℕ} {event : ℕ → PlainEvent} → GoesOver who.actor who.proc op page n event → op_denial s references who (pages_got s who.actor) op ≡ None
@@ -223,16 +233,22 @@ module _ (ops : List Op) (s : PlainState) (references : References) (who : Doer)
   took_right op page n event (unmaps g m) can = event_right op (events.Unmap who.actor who.proc (page + place.far)) can refl tt
   took_right op page n event (discards g m) can = event_right op (events.Discard who.actor who.proc (page + place.far)) can refl tt
 
-  took_last_right : (op : Op) (page n : ℕ) (event : ℕ → PlainEvent) → GoesOver who.actor who.proc op page n event → place.far + 1 ≡ n → slice_get ops place.answered ≡ Some op → CanHappen s (event (page + place.far)) → AreRight ops who s references place (Event (event (page + place.far)) ∷ Done answers.Plain ∷ [])
+  took_last_right : (op : Op) (page n : ℕ) (event : ℕ → PlainEvent) → GoesOver who.actor who.proc op page n event → place.far + 1 ≡ n → IsPresent ops actor who place op → CanHappen s (event (page + place.far)) → AreRight ops actor s references place (Event (event (page + place.far)) ∷ Done answers.Plain ∷ [])
   took_last_right op page n event (unmaps g m) last is can =
       then_right op (events.Unmap who.actor who.proc (page + place.far)) answers.Plain is (took_right op page n event (unmaps g m) can) birth refl (λ less. absurd (omega arith))
   took_last_right op page n event (discards g m) last is can =
       then_right op (events.Discard who.actor who.proc (page + place.far)) answers.Plain is (took_right op page n event (discards g m) can) birth refl (λ less. absurd (omega arith))
 
   -- the answer of a page that is passed last is judged here
-  plain_right : (op : Op) → slice_get ops place.answered ≡ Some op → op_denial s references who (pages_got s who.actor) op ≡ None → Passes s who.proc op place.far → AreRight ops who s references place (Done answers.Plain ∷ [])
+  undenied_right : (op : Op) (answer : Answer) → IsPresent ops actor who place op → got_at s who.actor answer ≡ pages_got s who.actor → is_denial (refusal_in answer) ≡ false → op_denial s references who (pages_got s who.actor) op ≡ None → Passes s who.proc op place.far → AreRight ops actor s references place (Done answer ∷ [])
+  undenied_right op answer is got plain free passes =
+      let free_here : denial s references who (got_at s who.actor answer) op ≡ None =
+      ap (λ (k : ℕ). denial s references who k op) got ∙ denial_born s references who (pages_got s who.actor) op birth ∙ free in
+      done_right op answer is (answers_undenied (judged_before op place.had answer) (denial s references who (got_at s who.actor answer) op) (refusal_in answer) free_here plain) passes
+
+  plain_right : (op : Op) → IsPresent ops actor who place op → op_denial s references who (pages_got s who.actor) op ≡ None → Passes s who.proc op place.far → AreRight ops actor s references place (Done answers.Plain ∷ [])
   plain_right op is free passes =
-      done_right op answers.Plain is (answers_undenied (judged_before op place.had answers.Plain) (denial s references who (pages_got s who.actor) op) answers.Plain (denial_born s references who (pages_got s who.actor) op birth ∙ free) refl) passes
+      undenied_right op answers.Plain is refl refl free passes
 
   -- a word that moves brings no birth
   still_born : (handle : ℕ) (outward : Bool) (k l value : ℕ) → (happened s (moves_word who.actor handle outward k l value)).birth ≡ s.birth
@@ -240,109 +256,118 @@ module _ (ops : List Op) (s : PlainState) (references : References) (who : Doer)
   still_born handle false k l value = refl
 
   -- a turn of each shape
-  op_right : (op : Op) {from to : JobPlace} (whats : List What) → IsOp op → TurnOf s who place op from whats to → slice_get ops place.answered ≡ Some op → HadInPin (Some op) place → AllCanHappen s (events_of whats) → AreRight ops who s references place whats
-  op_right op whats range (refused o answer first refusal right passes) is had can =
+  op_right : (op : Op) {from to : JobPlace} (whats : List What) → TurnOf s references who place op from whats to → IsPresent ops actor who place op → AllCanHappen s (events_of whats) → AreRight ops actor s references place whats
+  op_right op whats (refused o answer first refusal at_once right passes) is can =
       let got : ℕ = pages_got s who.actor in
-      let judged : IsAnswerOf (denial s references who got op) answer = subst (λ (d : Option Answer). IsAnswerOf d answer) (sym (denial_born s references who got op birth)) (subst (λ (d : Option Answer). IsAnswerOf d answer) (denies_alike op range s references who got) right) in
+      let judged : IsAnswerOf (denial s references who got op) answer = subst (λ (d : Option Answer). IsAnswerOf d answer) (sym (denial_born s references who got op birth)) right in
       let here = refused_here op answer s who.actor refusal in
       let at : IsAnswerOf (denial s references who (got_at s who.actor answer) op) (refusal_in answer) =
       subst (λ (k : ℕ). IsAnswerOf (denial s references who k op) (refusal_in answer)) (sym here.0) (subst (λ (x : Answer). IsAnswerOf (denial s references who got op) x) (sym here.1) judged) in
       done_right op answer is (subst (λ (b : Bool). IsAnswerAfter b (denial s references who (got_at s who.actor answer) op) (refusal_in answer)) (sym (ap (λ (h : Bool). judged_before op h answer) first.1 ∙ judged_first op answer refusal)) at) passes
-  op_right op whats range (mapped page n rights first free) is had can =
+  op_right op whats (mapped page n rights first free) is can =
       let e = events.Map who.actor who.proc page n rights in then_right op e answers.Plain is (event_right op e can.0 free tt) birth refl tt
-  op_right op whats range (protected page n rights first free) is had can =
+  op_right op whats (protected page n rights first free) is can =
       let e = events.Protect who.actor who.proc page n rights in then_right op e answers.Plain is (event_right op e can.0 free tt) birth refl tt
-  op_right op whats range (loaded page word value first free) is had can =
+  op_right op whats (loaded page word value first free) is can =
       let e = events.Load who.actor who.proc page word value in then_right op e (answers.Value value) is (event_right op e can.0 free tt) birth refl tt
-  op_right op whats range (stored page word value first free) is had can =
+  op_right op whats (stored page word value first free) is can =
       let e = events.Store who.actor who.proc page word value in then_right op e answers.Plain is (event_right op e can.0 free tt) birth refl tt
-  op_right op whats range (gave handle to first free) is had can =
+  op_right op whats (gave handle to first free) is can =
       let e = events.Give who.actor handle to in then_right op e answers.Plain is (event_right op e can.0 free tt) birth refl tt
-  op_right op whats range (took_over handle first) is had can =
+  op_right op whats (took_over handle first) is can =
       let e = events.Take who.actor handle in then_right op e answers.Plain is (event_right op e can.0 refl tt) birth refl tt
-  op_right op whats range (took o page n event over more) is had can = one_right op (Event (event (page + place.far))) is (took_right op page n event over can.0)
-  op_right op whats range (took_last o page n event over last) is had can = took_last_right op page n event over last is can.0
-  op_right op whats range (passed o page n event over more none) is had can = one_right op Silent is (tt, passes_over over none)
-  op_right op whats range (passed_last o page n event over last none) is had can = plain_right op is (over_undenied over) (passes_over over none)
-  op_right op whats range (took_lowest page none) is had can =
+  op_right op whats (got_one handle page first free) is can = plain_right op is free tt
+  op_right op whats (put_back handle first free) is can = plain_right op is free tt
+  op_right op whats (took o page n event over more) is can = one_right op (Event (event (page + place.far))) is (took_right op page n event over can.0)
+  op_right op whats (took_last o page n event over last) is can = took_last_right op page n event over last is can.0
+  op_right op whats (passed o page n event over more none) is can = one_right op Silent is (tt, passes_over over none)
+  op_right op whats (passed_last o page n event over last none) is can = plain_right op is (over_undenied over) (passes_over over none)
+  op_right op whats (took_lowest page none) is can =
       let e = events.Unmap who.actor who.proc page in one_right op (Event e) is (event_right op e can.0 refl none)
-  op_right op whats range (took_all none) is had can = plain_right op is refl none
-  op_right op whats range (pinned_page handle page n want fast more free) is had can =
-      let e = events.PinTry who.actor who.proc (page + place.far) want.write in one_right op (Event e) is (event_right op e can.0 free tt)
-  op_right op whats range (pinned_all handle page n want fast last free) is had can =
-      let e : PlainEvent = events.PinTry who.actor who.proc (page + place.far) want.write in
+  op_right op whats (took_all none) is can = plain_right op is refl none
+  op_right op whats (pinned_page handle page n want fast from tries less more free) is can =
+      let e = events.PinTry who.actor who.proc (page + pages_got s who.actor) want.write in one_right op (Event e) is (event_right op e can.0 free tt)
+  op_right op whats (pinned_all handle page n want fast from tries last free) is can =
+      let e : PlainEvent = events.PinTry who.actor who.proc (page + pages_got s who.actor) want.write in
       let t : PlainState = happened s e in
       let ok : PlainEvent = events.PinOk who.actor handle in
       let u : PlainState = happened t ok in
       let then : Place = place_after place (Event e) in
-      let first = subst (λ (o : Option Op). IsBothAt s references who place o (Event e)) (sym is) (event_right op e can.0 free tt) in
-      let second = subst (λ (o : Option Op). IsBothAt t references who then o (Event ok)) (sym is) ((can.1.0, inl tt), tt) in
-      let third = subst (λ (o : Option Op). IsBothAt u references who (place_after then (Event ok)) o (Done (answers.Pinned n))) (sym is) ((settled (birth_for s.birth who) birth, refl), tt) in
-      (first, (second, (third, tt)))
-  op_right op whats range (pinned_short handle page n want fast cause some less end right) is had can =
+      let first = at_present ops actor who place op is s references place (Event e) (event_right op e can.0 free tt) in
+      let second = at_present ops actor who place op is t references then (Event ok) ((can.1.0, inl tt), tt) in
+      let third = at_present ops actor who place op is u references (place_after then (Event ok)) (Done (answers.Pinned n)) ((settled (birth_for s.birth who) birth, refl), tt) in
+      let behind = right_behind ops actor u references then ok (Done (answers.Pinned n) ∷ []) (third, tt) in
+      (first, right_behind ops actor t references place e (Event ok ∷ Done (answers.Pinned n) ∷ []) (second, behind))
+  op_right op whats (pinned_short handle page n want fast got cause from had same some less end refuses right) is can =
       let e : PlainEvent = events.PinOk who.actor handle in
-      let judged : IsAnswerOf (denial s references who place.far op) (refusal_by_cause cause) = subst (λ (d : Option Answer). IsAnswerOf d (refusal_by_cause cause)) (sym (denial_born s references who place.far op birth)) right in
-      let stands : IsUndeniedAt place.had (denial s references who (pages_got s who.actor) op) = subst (λ (b : Bool). IsUndeniedAt b (denial s references who (pages_got s who.actor) op)) (sym (had some)) tt in
-      then_right op e (answers.Short place.far n cause) is ((can.0, inl stands), tt) birth judged tt
-  op_right op whats range (unpinned_last handle none free last) is had can =
+      let judged : IsAnswerOf (denial s references who got op) (refusal_by_cause cause) = subst (λ (d : Option Answer). IsAnswerOf d (refusal_by_cause cause)) (sym (denial_born s references who got op birth)) right in
+      let stands : IsUndeniedAt place.had (denial s references who (pages_got s who.actor) op) = subst (λ (b : Bool). IsUndeniedAt b (denial s references who (pages_got s who.actor) op)) (sym had) tt in
+      then_right op e (answers.Short got n cause) is ((can.0, inl stands), tt) birth judged tt
+  op_right op whats (lacked_frame handle page n want fast g e long begun none free) is can = undenied_right op answers.NoFrame is refl refl free tt
+  op_right op whats (found_unmovable handle page n want fast g e count long begun none free) is can = undenied_right op (answers.Unmovable count) is refl refl free tt
+  op_right op whats (unpinned_last handle none free last) is can =
       let e = events.Unpin who.actor handle in then_right op e answers.Plain is (event_right op e can.0 free last) birth refl tt
-  op_right op whats range (moved_word handle outward slot parts value more free) is had can =
+  op_right op whats (moved_word handle outward slot parts value more free) is can =
       let e = moves_word who.actor handle outward (word_at parts place.far) (slot + place.far) value in
       one_right op (Event e) is (event_right op e can.0 free tt)
-  op_right op whats range (moved_last handle outward slot parts value last free) is had can =
+  op_right op whats (moved_last handle outward slot parts value last free) is can =
       let e = moves_word who.actor handle outward (word_at parts place.far) (slot + place.far) value in
       let still = ap (λ (f : ℕ → Birth). birth_for f who) (still_born handle outward (word_at parts place.far) (slot + place.far) value) ∙ birth in
       then_right op e answers.Words is (event_right op e can.0 free tt) still refl tt
-  op_right op whats range (began child first) is had can =
+  op_right op whats (placed_frame proc page zone e begun free) is can = plain_right op is free tt
+  op_right op whats (found_no_frame proc page zone e begun free) is can = undenied_right op answers.NoFrame is refl refl free tt
+  op_right op whats (found_busy proc page zone e count begun free) is can = undenied_right op (answers.Busy count) is refl refl free tt
+  op_right op whats (began child first) is can =
       let e = events.ForkBegin who.proc child in one_right op (Event e) is (event_right op e can.0 refl tt)
-  op_right op whats range (passed_page child from page begun up) is had can =
+  op_right op whats (passed_page child from page begun up) is can =
       let e = events.ForkPage who.proc child page in one_right op (Event e) is (event_right op e can.0 refl tt)
-  op_right op whats range (shared_page child page begun) is had can =
+  op_right op whats (shared_page child page begun) is can =
       let e = events.ForkPage who.proc child page in one_right op (Event e) is (event_right op e can.0 refl tt)
-  op_right op whats range (ended child from begun) is had can =
+  op_right op whats (ended child from begun) is can =
       let e : PlainEvent = events.ForkEnd who.proc child in
       let still = stays_born s.birth who child birth in
       let judged = answers_undenied false (denial (happened s e) references who (pages_got (happened s e) who.actor) op) answers.Plain (denial_born (happened s e) references who (pages_got (happened s e) who.actor) op still) refl in
       then_right op e answers.Plain is (event_right op e can.0 refl tt) still judged tt
-  op_right op whats range (copied_word child page word to begun less) is had can =
+  op_right op whats (copied_word child page word to begun less) is can =
       let e = events.ForkWord who.proc child page word in one_right op (Event e) is (event_right op e can.0 refl tt)
-  op_right op whats range (failed_fork child page begun) is had can =
+  op_right op whats (failed_fork child page begun) is can =
       let e : PlainEvent = events.ForkFail child in
       let still = stays_unfailed s.birth who child birth can.0 in
       let judged = answers_undenied false (denial (happened s e) references who (pages_got (happened s e) who.actor) op) answers.NoFrame (denial_born (happened s e) references who (pages_got (happened s e) who.actor) op still) refl in
       then_right op e answers.NoFrame is (event_right op e can.0 refl tt) still judged tt
-  op_right op whats range turn is had can = one_right op Silent is (tt, tt)
+  op_right op whats turn is can = one_right op Silent is (tt, tt)
 
-pub turn_right : (ops : List Op) (references : References) {s : PlainState} {who : Doer} {place : Place} {op : Option Op} {waiting : Option Waiting} {from to : JobPlace} {whats : List What} → TurnAt s who place op waiting from whats to → slice_get ops place.answered ≡ op → ((o : Op) → op ≡ Some o → IsOp o) → HadInPin op place → IsFailedUnmapped s → AllCanHappen s (events_of whats) → AreRight ops who s references place whats
-turn_right ops references {s = s} {who = who} {place = place} (idles waiting at) is range had unmapped can = (subst (λ (o : Option Op). IsBothAt s references who place o Idle) (sym is) (tt, tt), tt)
-turn_right ops references {s = s} {who = who} {place = place} (waits op waiting at) is range had unmapped can = (subst (λ (o : Option Op). IsBothAt s references who place o (Wait waiting)) (sym is) (tt, tt), tt)
-turn_right ops references {s = s} {who = who} {place = place} (goes op whats from to birth own turn) is range had unmapped can = op_right ops s references who place birth op whats (range op refl) turn is had can
-turn_right ops references {s = s} {who = who} {place = place} (unborn_refused op birth first refusal) is range had unmapped can = refusal_right ops s references who place birth op first refusal unmapped is
-turn_right ops references {s = s} {who = who} {place = place} (unborn_fork child birth fails first) is range had unmapped can = failure_right ops s references who place birth child can.0 is
+pub turn_right : (ops : List Op) (actor : Doer) (references : References) {s : PlainState} {who : Doer} {place : Place} {op : Option Op} {waiting : Option Waiting} {from to : JobPlace} {whats : List What} → TurnAt s references who place op waiting from whats to → slice_get ops place.answered ≡ op → who ≡ concerned actor op → IsFailedUnmapped s → AllCanHappen s (events_of whats) → AreRight ops actor s references place whats
+turn_right ops actor references {s = s} {who = who} {place = place} (idles waiting at) is own unmapped can = (subst (λ (o : Option Op). IsBothAt s references (concerned actor o) place o Idle) (sym is) (tt, tt), tt)
+turn_right ops actor references {s = s} {who = who} {place = place} (waits op waiting at) is own unmapped can = (at_present ops actor who place op (is, own) s references place (Wait waiting) (tt, tt), tt)
+turn_right ops actor references {s = s} {who = who} {place = place} (goes op whats from to birth lives turn) is own unmapped can = op_right ops actor s references who place birth op whats turn (is, own) can
+turn_right ops actor references {s = s} {who = who} {place = place} (unborn_refused op birth first refusal) is own unmapped can = refusal_right ops actor s references who place birth op first refusal unmapped (is, own)
+turn_right ops actor references {s = s} {who = who} {place = place} (unborn_fork child birth fails first) is own unmapped can = failure_right ops actor s references who place birth child can.0 (is, own)
 
--- what has been judged after notes of one actor, none of which is of a reference
-abbrev pub judged_behind : Judged → ℕ → List What → Judged
-judged_behind j a whats =
-    record { plain = plain_behind j.plain whats; references = j.references; places = put a (place_behind (j.places a) whats) j.places }
+-- what has been judged after notes of one actor
+abbrev pub judged_behind : ScriptValue → Judged → ℕ → List What → Judged
+judged_behind script j a whats =
+    record {
+      plain = plain_behind j.plain whats;
+      references = references_behind (ops_of script a) j.references a (j.places a) whats;
+      places = put a (place_behind (j.places a) whats) j.places;
+    }
 
--- the references stay over a note of an actor of a script
-pub stay_here : (script : ScriptValue) → IsScript script → (j : Judged) (a : ℕ) (what : What) → references_after j.references a (present_op script a (j.places a)) what ≡ j.references
-stay_here script valid j a what =
-    references_stay j.references a (present_op script a (j.places a)) what (op_is_op script valid a (j.places a).answered)
-
-judged_step : (script : ScriptValue) → IsScript script → (j : Judged) (t a n : ℕ) (what : What) (whats : List What) → judged_behind (judged_after script j (note_of t a n what)) a whats ≡ judged_behind j a (what ∷ whats)
-judged_step script valid j t a n what whats =
+judged_step : (script : ScriptValue) (j : Judged) (t a n : ℕ) (what : What) (whats : List What) → judged_behind script (judged_after script j (note_of t a n what)) a whats ≡ judged_behind script j a (what ∷ whats)
+judged_step script j t a n what whats =
     let next = place_after (j.places a) what in
-    let same : put a (place_behind (put a next j.places a) whats) (put a next j.places) ≡ put a (place_behind next whats) j.places =
-    ap (λ (q : Place). put a (place_behind q whats) (put a next j.places)) (put_same a next j.places) ∙ put_twice a next (place_behind next whats) j.places in
-    ap (λ (places : ℕ → Place). record { plain = plain_behind (plain_after j.plain what) whats; references = references_after j.references a (present_op script a (j.places a)) what; places = places }) same
-    ∙ ap (λ (references : References). record { plain = plain_behind (plain_after j.plain what) whats; references = references; places = put a (place_behind next whats) j.places }) (stay_here script valid j a what)
+    let then : References = references_after j.references a (present_op script a (j.places a)) what in
+    let plain : PlainState = plain_behind (plain_after j.plain what) whats in
+    let here : Place → References = λ q. references_behind (ops_of script a) then a q whats in
+    ap (λ (q : Place). record { plain = plain; references = here q; places = put a (place_behind q whats) (put a next j.places) }) (put_same a next j.places)
+    ∙ ap (λ (places : ℕ → Place). record { plain = plain; references = here next; places = places }) (put_twice a next (place_behind next whats) j.places)
 
 -- a turn's notes, and then the rest
-pub plain_append : (script : ScriptValue) → IsScript script → (t a n : ℕ) (whats : List What) (rest : List NoteValue) (j : Judged) → AreRight (ops_of script a) (doer script a) j.plain j.references (j.places a) whats → AreSo IsBothAt script (judged_behind j a whats) rest → AreSo IsBothAt script j (notes_of_turn t a n whats ++ rest)
-plain_append script valid t a n [] rest j right later = subst (λ (places : ℕ → Place). AreSo IsBothAt script (record { plain = j.plain; references = j.references; places = places }) rest) (put_own a j.places) later
-plain_append script valid t a n (what ∷ whats) rest j right later =
+pub plain_append : (script : ScriptValue) (t a n : ℕ) (whats : List What) (rest : List NoteValue) (j : Judged) → AreRight (ops_of script a) (doer script a) j.plain j.references (j.places a) whats → AreSo IsBothAt script (judged_behind script j a whats) rest → AreSo IsBothAt script j (notes_of_turn t a n whats ++ rest)
+plain_append script t a n [] rest j right later = subst (λ (places : ℕ → Place). AreSo IsBothAt script (record { plain = j.plain; references = j.references; places = places }) rest) (put_own a j.places) later
+plain_append script t a n (what ∷ whats) rest j right later =
     let next = place_after (j.places a) what in
-    let more = subst₂ (λ (references : References) (q : Place). AreRight (ops_of script a) (doer script a) (plain_after j.plain what) references q whats) (sym (stay_here script valid j a what)) (sym (put_same a next j.places)) right.1 in
-    let after = subst (λ (k : Judged). AreSo IsBothAt script k rest) (sym (judged_step script valid j t a n what whats)) later in
-    (right.0, plain_append script valid t a n whats rest (judged_after script j (note_of t a n what)) more after)
+    let then : References = references_after j.references a (present_op script a (j.places a)) what in
+    let more = subst (λ (q : Place). AreRight (ops_of script a) (doer script a) (plain_after j.plain what) then q whats) (sym (put_same a next j.places)) right.1 in
+    let after = subst (λ (k : Judged). AreSo IsBothAt script k rest) (sym (judged_step script j t a n what whats)) later in
+    (right.0, plain_append script t a n whats rest (judged_after script j (note_of t a n what)) more after)

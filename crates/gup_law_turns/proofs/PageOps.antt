@@ -22,7 +22,7 @@ use Rattle.gup_spec_events.specs.Event.{CoreEvent, AreUnlocked, happens, entry_o
 use Rattle.gup_spec_events.specs.Fault.{Fault, read_fault, write_fault, gives_back}
 use Rattle.gup_spec_events.specs.Invariant.{AllCan}
 use Rattle.gup_law_events.specs.Law.{all_told}
-use Rattle.gup_spec_journal.specs.Denial.{no_references, op_denial}
+use Rattle.gup_spec_journal.specs.Denial.{op_denial}
 use Rattle.gup_spec_journal.specs.Place.{Place, Doer}
 use Rattle.gup_spec_journal.specs.Follows.{refuses}
 use Rattle.gup_spec_journal.specs.Plain.{IsAnswerOf, pages_got}
@@ -38,7 +38,7 @@ use Rattle.gup_law_turns.proofs.FaultTurns.{IsReady, MayFault, may_fault, Refuse
 use Rattle.gup_law_turns.proofs.KeptPages.{pages_leave}
 use Rattle.gup_law_turns.proofs.Puts.{put_same, put2_same, some_same, none_of}
 use Rattle.gup_law_turns.proofs.PageSearches.{free_frame_free, lowest_some, lowest_none, none_below, undenied_map, denied_map, undenied_protect, denied_protect}
-use Rattle.gup_law_turns.proofs.TurnShapes.{AtFirst, FitsOp, TurnOf, refused, mapped, protected, loaded, stored, took, took_last, passed, passed_last, took_lowest, took_all, GoesOver, unmaps, discards, AtRest, unprepared, at_rest, IsDone, Rests, child_of, strand_of}
+use Rattle.gup_law_turns.proofs.TurnShapes.{references_of, AtFirst, FitsOp, TurnOf, refused, mapped, protected, loaded, stored, took, took_last, passed, passed_last, took_lowest, took_all, GoesOver, unmaps, discards, AtRest, unprepared, at_rest, IsDone, Rests, child_of, strand_of, IsAtOnce}
 use Rattle.gup_law_turns.proofs.EventLists.{events_of}
 use Rattle.gup_law_turns.proofs.ShownTurns.{IsOpen, FitsNext, MakesPin, IsTurned, shape_idle, both_free, kinds_behind, run_behind, can_behind, told_behind}
 
@@ -65,7 +65,7 @@ module _ (s : CoreState) (who : Doer) (place : Place) (h : IsOpen s who.actor wh
   IsOfPages op t = (child_of p (Some op) ≡ p) × (strand_of (Some op) ≡ of_pages) × MakesPin s t a op
 
   -- what is asked of the next turn of an operation that is answered here
-  done_turn : (op : Op) (turn : CoreTurn) → IsDone s a p p of_pages turn → IsOfPages op (run s turn.events) → (run s turn.events).job a ≡ idle → TurnOf (plain_of s) who place op unbegun turn.whats unbegun → (Rests (run s turn.events) a → FitsNext (run s turn.events) who (Some op) place turn.whats) → IsTurned s who place op turn
+  done_turn : (op : Op) (turn : CoreTurn) → IsDone s a p p of_pages turn → IsOfPages op (run s turn.events) → (run s turn.events).job a ≡ idle → TurnOf (plain_of s) (references_of s) who place op unbegun turn.whats unbegun → (Rests (run s turn.events) a → FitsNext (run s turn.events) who (Some op) place turn.whats) → IsTurned s who place op turn
   done_turn op turn done alone behind shape next =
       let left = pages_leave s a p p turn.events done.kinds in
       record {
@@ -76,14 +76,14 @@ module _ (s : CoreState) (who : Doer) (place : Place) (h : IsOpen s who.actor wh
       }
 
   -- an operation is answered without an event
-  answered : (op : Op) (answer : Answer) → IsOfPages op s → AtFirst place → IsTrue (refuses op answer) → IsAnswerOf (op_denial (plain_of s) no_references who (pages_got (plain_of s) who.actor) op) answer → Passes (plain_of s) p op place.far → IsTurned s who place op (answers_with answer)
-  answered op answer alone first refusal right passes =
+  answered : (op : Op) (answer : Answer) → IsOfPages op s → AtFirst place → IsTrue (refuses op answer) → IsAtOnce op answer → IsAnswerOf (op_denial (plain_of s) (references_of s) who (pages_got (plain_of s) who.actor) op) answer → Passes (plain_of s) p op place.far → IsTurned s who place op (answers_with answer)
+  answered op answer alone first refusal at_once right passes =
       done_turn op (answers_with answer) (record { kinds = tt; can = tt; rest = h.rest; told = refl }) alone job
-      (refused op answer first refusal right passes) (λ still. still)
+      (refused op answer first refusal at_once right passes) (λ still. still)
 
   -- an entry of a born process is of a mapped page, and a writable one of a page that may be written
 
-  named_load : (page : ℕ) (e : Entry) → s.entry p page ≡ Some e → (rights : Option Rights) → s.right p page ≡ rights → load_denial rights ≡ None
+  pub named_load : (page : ℕ) (e : Entry) → s.entry p page ≡ Some e → (rights : Option Rights) → s.right p page ≡ rights → load_denial rights ≡ None
   named_load page e is None right =
       let lost : s.birth p ≡ failed = h.sound.1.entry_mapped p page e (h.sound.1.whole_entry p page e is) right in
       absurd (let lives = h.birth in cc)
@@ -98,7 +98,7 @@ module _ (s : CoreState) (who : Doer) (place : Place) (h : IsOpen s who.actor wh
 
   -- load, after the events of a fault
 
-  load_ready : (page word : ℕ) (before : List CoreEvent) → word < words → AtFirst place → op_denial (plain_of s) no_references who (pages_got (plain_of s) who.actor) (Load page word) ≡ None → IsReady s a p before → IsSome ((run s before).entry p page) → IsTurned s who place (Load page word) (loads s before a p page word)
+  load_ready : (page word : ℕ) (before : List CoreEvent) → word < words → AtFirst place → op_denial (plain_of s) (references_of s) who (pages_got (plain_of s) who.actor) (Load page word) ≡ None → IsReady s a p before → IsSome ((run s before).entry p page) → IsTurned s who place (Load page word) (loads s before a p page word)
   load_ready page word before within first undenied ready there =
       let t : CoreState = run s before in
       let f : ℕ = frame_in (t.entry p page) in
@@ -116,8 +116,8 @@ module _ (s : CoreState) (who : Doer) (place : Place) (h : IsOpen s who.actor wh
       (λ still. still)
 
   load_fills : (page word : ℕ) (rights : Option Rights) (free : Option ℕ) → AreUnlocked s p → word < words → AtFirst place → s.right p page ≡ rights → free_frame s ≡ free → s.entry p page ≡ None → IsTurned s who place (Load page word) (loads_after s (read_fault a p page rights None free) a p page word)
-  load_fills page word None free unlocked within first is found none = answered (Load page word) answers.Missing (refl, refl, tt) first refl (rw is refl) tt
-  load_fills page word (Some rights) None unlocked within first is found none = answered (Load page word) answers.NoFrame (refl, refl, tt) first refl (rw is refl) tt
+  load_fills page word None free unlocked within first is found none = answered (Load page word) answers.Missing (refl, refl, tt) first refl tt (rw is refl) tt
+  load_fills page word (Some rights) None unlocked within first is found none = answered (Load page word) answers.NoFrame (refl, refl, tt) first refl tt (rw is refl) tt
   load_fills page word (Some rights) (Some f) unlocked within first is found none =
       let before = take_frame a f ∷ fill a p page f ∷ [] in
       load_ready page word before within first (rw is refl) (filled s a p may unlocked page (free_frame s) (free_frame_free s) f found (rw is refl) none)
@@ -131,7 +131,7 @@ module _ (s : CoreState) (who : Doer) (place : Place) (h : IsOpen s who.actor wh
 
   -- store, after the events of a fault
 
-  store_ready : (page word value : ℕ) (before : List CoreEvent) → word < words → AtFirst place → op_denial (plain_of s) no_references who (pages_got (plain_of s) who.actor) (Store page word value) ≡ None → IsReady s a p before → allows_store ((run s before).entry p page) ≡ true → IsTurned s who place (Store page word value) (stores s before a p page word value)
+  store_ready : (page word value : ℕ) (before : List CoreEvent) → word < words → AtFirst place → op_denial (plain_of s) (references_of s) who (pages_got (plain_of s) who.actor) (Store page word value) ≡ None → IsReady s a p before → allows_store ((run s before).entry p page) ≡ true → IsTurned s who place (Store page word value) (stores s before a p page word value)
   store_ready page word value before within first undenied ready may =
       let t : CoreState = run s before in
       let f : ℕ = frame_in (t.entry p page) in
@@ -156,7 +156,7 @@ module _ (s : CoreState) (who : Doer) (place : Place) (h : IsOpen s who.actor wh
 
   store_leads : (page word value : ℕ) (fault : Fault) → word < words → AtFirst place → LeadsTo s a p page true (store_denial (s.right p page)) fault → IsTurned s who place (Store page word value) (stores_after s fault a p page word value)
   store_leads page word value (Err answer) within first to =
-      answered (Store page word value) answer (refl, refl, tt) first (refused_store page word value to.0) to.1 tt
+      answered (Store page word value) answer (refl, refl, tt) first (refused_store page word value to.0) tt to.1 tt
   store_leads page word value (Ok before) within first to =
       store_ready page word value before within first to.0 to.1 (ap allows_store to.2.there ∙ to.2.may refl)
 
@@ -175,7 +175,7 @@ module _ (s : CoreState) (who : Doer) (place : Place) (h : IsOpen s who.actor wh
 
     map_by : (page n : ℕ) (rights : Rights) (denied : Option Answer) → AtFirst place → IsOp (Map page n rights) → map_denial (any_mapped (s.right p) page n) (s.pages p) n ≡ denied → IsTurned s who place (Map page n rights) (map_turn_by denied a p page n rights)
     map_by page n rights (Some answer) first fits is =
-        answered (Map page n rights) answer (refl, refl, tt) first (denied_map page n rights (any_mapped (s.right p) page n) (s.pages p) answer is) (rw is refl) tt
+        answered (Map page n rights) answer (refl, refl, tt) first (denied_map page n rights (any_mapped (s.right p) page n) (s.pages p) answer is) tt (rw is refl) tt
     map_by page n rights None first fits is =
         let free = undenied_map (any_mapped (s.right p) page n) (s.pages p) n is in
         let unmapped = none_below n (λ k. is_some (s.right p (page + k))) free.0 in
@@ -273,7 +273,7 @@ module _ (s : CoreState) (who : Doer) (place : Place) (h : IsOpen s who.actor wh
 
     protect_by : (page n : ℕ) (rights : Rights) (denied : Option Answer) → AtFirst place → protect_denial (any_unmapped (s.right p) page n) ≡ denied → IsTurned s who place (Protect page n rights) (protect_turn_by denied s a p page n rights)
     protect_by page n rights (Some answer) first is =
-        answered (Protect page n rights) answer (refl, refl, tt) first (denied_protect page n rights (any_unmapped (s.right p) page n) answer is) (rw is refl) tt
+        answered (Protect page n rights) answer (refl, refl, tt) first (denied_protect page n rights (any_unmapped (s.right p) page n) answer is) tt (rw is refl) tt
     protect_by page n rights None first is =
         let done = protect_done page n rights (undenied_protect (s.right p) page n is) in
         done_turn (Protect page n rights) (protect_turn_by None s a p page n rights) done.0 (refl, refl, tt) done.1 (protected page n rights first is) (λ still. still)

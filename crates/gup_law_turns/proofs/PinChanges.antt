@@ -13,7 +13,7 @@ use Rattle.gup_plain.specs.declared.note.What.{What}
 use Rattle.gup_plain.specs.declared.note.Waiting.{Waiting}
 use Rattle.gup_script.specs.Script.{ScriptValue}
 use Rattle.gup_script.specs.declared.op.Op.{Op}
-use Rattle.gup_script.specs.declared.op.Op.TheVariants.{Pin, Unpin, Give, Take, Transfer, Fork}
+use Rattle.gup_script.specs.declared.op.Op.TheVariants.{Pin, Unpin, Give, Take, Get, Put, Transfer, Fork, Move}
 use Rattle.gup_spec_events.specs.State.{CoreState, plain_of}
 use Rattle.gup_spec_events.specs.Event.{unpin_page, run}
 use Rattle.gup_spec_events.specs.Invariant.{AllCan}
@@ -30,7 +30,7 @@ use Rattle.gup_law_turns.proofs.KeptParts.{same_or_apart, KeepsPin, leaves_pins}
 use Rattle.gup_law_turns.proofs.ActorPlaces.{IsBehindTurn, stays_there, goes_by, goes_on, is_over, turn_behind}
 use Rattle.gup_law_turns.proofs.Puts.{put_same}
 use Rattle.gup_law_turns.proofs.ScriptPlaces.{fresh_place}
-use Rattle.gup_law_turns.proofs.TurnShapes.{TurnAt, goes, unborn_refused, unborn_fork, child_of, strand_of}
+use Rattle.gup_law_turns.proofs.TurnShapes.{references_of, TurnAt, goes, unborn_refused, unborn_fork, child_of, strand_of}
 use Rattle.gup_law_turns.proofs.StandingStates.{IsTaken}
 
 -- What may come of a pin in a turn of an actor, which has given back so many of its pages before it, and so many after
@@ -247,6 +247,9 @@ module _ (script : ScriptValue) (s : CoreState) (who : Doer) (place : Place) whe
   op_changes h (Transfer handle outward slot parts) birth is turns =
       about_change h handle (Transfer handle outward slot parts) refl (λ other far. refl)
       (transfer_change handle outward slot parts (going (Transfer handle outward slot parts)) birth is turns) is turns
+  op_changes h (Get handle page) birth is turns = other_change h (Some (Get handle page)) None (going (Get handle page)) is (λ far. refl) (λ e. cc e) (λ e. cc e) turns
+  op_changes h (Put handle) birth is turns = other_change h (Some (Put handle)) None (going (Put handle)) is (λ far. refl) (λ e. cc e) (λ e. cc e) turns
+  op_changes h (Move proc page zone) birth is turns = other_change h (Some (Move proc page zone)) None (going (Move proc page zone)) is (λ far. refl) (λ e. cc e) (λ e. cc e) turns
   op_changes h op birth is turns = pages_change h op (λ far. refl) refl is turns
 
   -- the turn of a failed process changes no pin
@@ -263,7 +266,7 @@ module _ (script : ScriptValue) (s : CoreState) (who : Doer) (place : Place) whe
       let behind : back_behind h (going op).whats ≡ 0 = ap (λ (q : Place). given_back (present_op script who.actor q) h q.far) over ∙ first_back (present_op script who.actor (fresh_place (place.answered + 1))) h in
       is_kept kept.handle kept.pinned (λ holds. behind ∙ sym before)
 
-  shape_changes : {from to : JobPlace} {whats : List What} (h : ℕ) (op : Op) → (going op).whats ≡ whats → present_op script who.actor place ≡ Some op → IsGoing op → TurnAt (plain_of s) who place (Some op) None from whats to → ChangeBy h (Some op) (going op)
+  shape_changes : {from to : JobPlace} {whats : List What} (h : ℕ) (op : Op) → (going op).whats ≡ whats → present_op script who.actor place ≡ Some op → IsGoing op → TurnAt (plain_of s) (references_of s) who place (Some op) None from whats to → ChangeBy h (Some op) (going op)
   shape_changes h op same is turns (goes o whats from to birth own turn) = op_changes h op birth is turns
   shape_changes h op same is turns (unborn_refused o birth first refusal) = failed_changes h op birth first.0 (ap (place_behind place) same)
   shape_changes h op same is turns (unborn_fork child birth own first) = failed_changes h op birth first.0 (ap (place_behind place) same)

@@ -1,9 +1,13 @@
 -- The turns of a pin can be done, have their shapes, and lead where the next turn can go on.
-use Rattle.std.proofs.Common.{◌≡◌, ℕ, ◌+◌, ◌<◌, ◌≤◌, ◌==◌, Bool, true, false, IsTrue, List, [], ◌∷◌, ◌++◌, length, get_or, slice_get, All, Option, Some, None, Ok, Err, ◌⊎◌, inl, inr, refl, ap, sym, subst, ◌∙◌, zero, suc, arith, length-append}
+use Rattle.std.proofs.Common.{◌≡◌, if◌then◌else◌, ℕ, ◌+◌, ◌<◌, ◌≤◌, ◌==◌, Bool, true, false, nat_lt, ◌&&◌, IsTrue, IsSome, List, [], ◌∷◌, ◌++◌, length, get_or, slice_get, All, Option, Some, None, Ok, Err, ◌⊎◌, inl, inr, refl, ap, sym, subst, ◌∙◌, zero, suc, arith, length-append}
 use Rattle.std.proofs.lemmas.Bool.Decides.{nat_tests}
 use Rattle.std.proofs.lemmas.List.{length-map}
 use Rattle.std.proofs.lemmas.Option.{slice_get_within, slice_get-get_or}
+use Rattle.gup_base.specs.declared.entry.Allowed.{Allowed}
+use Rattle.gup_base.specs.declared.entry.Allowed.TheVariants.{Any, Only}
 use Rattle.gup_base.specs.declared.entry.Entry.{Entry}
+use Rattle.gup_base.specs.declared.entry.Rights.{Rights}
+use Rattle.gup_base.specs.declared.entry.Zone.TheVariants.{Movable, Normal}
 use Rattle.gup_base.specs.declared.entry.Want.{Want}
 use Rattle.gup_plain.specs.Denial.{pin_denial}
 use Rattle.gup_plain.specs.Event.{IsHeldBy}
@@ -11,32 +15,39 @@ use Rattle.gup_plain.specs.State.{born, Handle, unmade, held}
 use Rattle.gup_plain.specs.declared.answer.Answer.{Answer}
 use Rattle.gup_plain.specs.declared.answer.Answer.TheVariants as answers
 use Rattle.gup_plain.specs.declared.event.PlainEvent.TheVariants as events
-use Rattle.gup_plain.specs.declared.note.What.TheVariants.{Event, Done}
+use Rattle.gup_plain.specs.declared.note.What.{What}
+use Rattle.gup_plain.specs.declared.note.What.TheVariants.{Silent, Event, Done}
 use Rattle.gup_script.specs.Limits.{most_pinned}
 use Rattle.gup_script.specs.Valid.{IsOp}
 use Rattle.gup_script.specs.declared.op.Op.TheVariants.{Pin}
-use Rattle.gup_spec_events.specs.State.{CoreState, Taken, idle, pending_of, plain_of}
-use Rattle.gup_spec_events.specs.Event.{CoreEvent, Can, happens, IsUntaken, AreAlike, taken_frames, objects_taken, writes_taken, raise_flag, pin_page, make_handle, run}
+use Rattle.gup_spec_events.specs.State.{CoreState, Taken, Job, idle, moving, Counted, unread, one, more, pending_of, plain_of}
+use Rattle.gup_spec_events.specs.Event.{CoreEvent, Can, MayPrepare, IsAllowed, IsNormal, counted_as, entry_of, happens, IsUntaken, AreAlike, taken_frames, objects_taken, writes_taken, take_frame, put_entry, raise_flag, pin_page, make_handle, clear_entry, count_moved, place_frame, restore_entry, run}
 use Rattle.gup_spec_events.specs.Fault.{Fault}
 use Rattle.gup_spec_events.specs.Invariant.{AllCan}
 use Rattle.gup_law_events.specs.Law.{all_told}
 use Rattle.gup_spec_journal.specs.Follows.{refuses, EndsPin}
 use Rattle.gup_spec_journal.specs.Place.{Place, Doer}
-use Rattle.gup_spec_journal.specs.Denial.{no_references, op_denial}
+use Rattle.gup_spec_journal.specs.Denial.{op_denial}
 use Rattle.gup_spec_journal.specs.Plain.{IsAnswerOf, pages_got, refusal_by_cause}
-use Rattle.gup_spec_turns.specs.JobPlace.{unbegun}
-use Rattle.gup_spec_turns.specs.PinPlace.{HasTaken, IsTakenPage, StandsPin}
+use Rattle.gup_spec_turns.specs.JobPlace.{JobPlace, job_place, place_in, KeepsFrame, unbegun, moving_page}
+use Rattle.gup_spec_turns.specs.PinPlace.{HasTaken, IsTakenPage, IsMovingPin, StandsAtPage, turns_over}
 use Rattle.gup_law_turns.specs.Standing.{StandsHandle}
 use Rattle.gup_spec_turns.specs.CoreTurn.{free_in, zones_of, entry_in}
-use Rattle.gup_spec_turns.specs.PinTurns.{cause_of, pin_fault, pins, pins_behind, ends_pin, pin_turn_by, pin_turn_at, pin_turn}
+use Rattle.gup_spec_turns.specs.PinTurns.{raises, cause_of, pin_fault, moves_first, pins, pins_in, clears_behind, clears_or_pins, pins_behind, ends_pin, ends_moved, pins_moved, moved_turn, pin_turn_by, pin_turn_in, pin_turn}
+use Rattle.gup_script.specs.declared.op.Op.{Op}
+use Rattle.gup_spec_turns.specs.Cost.{pin_turns}
+use Rattle.gup_spec_turns.specs.MoveTurns.{count_turn}
 use Rattle.gup_spec_turns.specs.Waits.{waits_for_locks, locks_needed}
-use Rattle.gup_law_turns.proofs.CalmStates.{of_pages, of_pin, AreTurnEvents, raising, pinning, making}
-use Rattle.gup_law_turns.proofs.FaultTurns.{IsReady, Allows, MayFault, may_fault, IsFree, RefusesPage, missing, forbidden, no_frame, LeadsTo, pin_leads}
+use Rattle.gup_law_turns.proofs.CalmStates.{of_pages, of_pin, AreTurnEvents, taking, putting, raising, pinning, making, clearing, counting_moved, placing_frame, restoring}
+use Rattle.gup_law_turns.proofs.FaultTurns.{IsReady, Allows, MayFault, may_fault, IsFree, RefusesPage, missing, forbidden, no_frame, LeadsTo, pin_leads, no_mirror_at, differ}
 use Rattle.gup_law_turns.proofs.KeptPages.{pages_leave}
-use Rattle.gup_law_turns.proofs.PageSearches.{free_in_free}
-use Rattle.gup_law_turns.proofs.Puts.{put_same}
-use Rattle.gup_law_turns.proofs.TurnShapes.{FitsOp, TurnOf, refused, pinned_page, pinned_all, pinned_short, AtRest, unprepared, Rests}
-use Rattle.gup_law_turns.proofs.ShownTurns.{IsOpen, MakesPin, IsTurned, shape_idle, both_free, kinds_behind, run_behind, can_behind, told_behind}
+use Rattle.gup_law_turns.proofs.PageSearches.{free_in_free, free_in_allowed}
+use Rattle.gup_law_turns.proofs.Puts.{put_same, put_other, put2_same}
+use Rattle.gup_law_turns.proofs.TurnShapes.{references_of, FitsOp, TurnOf, refused, pinned_page, pinned_all, pinned_short, AtRest, unprepared, Rests, FitsPin, TriesAt, RefusesAt, IsAtOnce, cleared_page, counted_cleared, lacked_frame, found_unmovable, at_rest}
+use Rattle.gup_law_turns.proofs.ShownTurns.{IsOpen, MakesPin, IsTurned, both_free, kinds_behind, run_behind, can_behind, told_behind, idle_place}
+use Rattle.gup_law_turns.proofs.KeptParts.{stays_calm}
+use Rattle.gup_law_turns.proofs.KeptMarks.{moved_counted}
+use Rattle.gup_law_turns.proofs.MoveOps.{counted_is, counted_read}
 
 -- lists by index
 
@@ -102,6 +113,79 @@ held_whole a write taken some few handle pinned made has =
     (subst (λ (fs : List ℕ). IsHeldBy (held a (objects_taken taken) write) a × StandsHandle (λ b. 0) fs (held a (objects_taken taken) write)) (sym has)
     (refl, (omega (arith, frames, some), omega (arith, objects, few), omega (arith, objects, frames))))
 
+-- how many turns a pin has had
+
+-- one that has no page, and is in the middle of none, has had none
+none_over : (long : Bool) (got far : ℕ) → got ≡ 0 → far ≤ pin_turns long got + 0 → far ≡ 0
+none_over true got far none most = omega (arith, none, most)
+none_over false got far none most = omega (arith, none, most)
+
+-- short pins are in the middle of none
+abbrev pub FewOver : (long : Bool) → ℕ → Type 0
+FewOver true over = over ≤ 2
+FewOver false over = over ≡ 0
+
+pub room_page : (long : Bool) (got n far over : ℕ) → FewOver long over → far ≤ pin_turns long got + over → got + 1 < n → far + 1 < pin_turns long n
+room_page true got n far over few most less = omega (arith, few, most, less)
+room_page false got n far over few most less = omega (arith, few, most, less)
+
+room_behind : (long : Bool) (got far over : ℕ) → FewOver long over → far ≤ pin_turns long got + over → far + 1 ≤ pin_turns long (got + 1) + 0
+room_behind true got far over few most = omega (arith, few, most)
+room_behind false got far over few most = omega (arith, few, most)
+
+pub room_move : (long : Bool) (got n far over : ℕ) → long ≡ true → over ≤ 1 → far ≤ pin_turns long got + over → got < n → far + 1 < pin_turns long n
+room_move true got n far over is few most less = omega (arith, few, most, less)
+room_move false got n far over is few most less = absurd (cc is)
+
+pub few_idle : (long : Bool) → FewOver long 0
+few_idle true = omega arith
+few_idle false = refl
+
+pub few_moved : (long : Bool) → long ≡ true → FewOver long 2
+few_moved true is = omega arith
+few_moved false is = absurd (cc is)
+
+counted_over : (q g : ℕ) (e : Entry) (allowed : Allowed) (count : ℕ) → turns_over (moving q g e allowed (counted_as count)) ≡ 2
+counted_over q g e allowed count = go (count == 1)
+  where
+    go : (b : Bool) → turns_over (moving q g e allowed (if b then one else more count)) ≡ 2
+    go true = refl
+    go false = refl
+
+-- so one that stands at a page has more
+pub room_left : (long : Bool) (got n far over : ℕ) → FewOver long over → far ≤ pin_turns long got + over → got < n → far < pin_turns long n
+room_left true got n far over few most less = omega (arith, few, most, less)
+room_left false got n far over few most less = omega (arith, few, most, less)
+
+pub few_over : (s : CoreState) (a p page : ℕ) (want : Want) (job : Job) → StandsAtPage s a p page want job → FewOver want.long (turns_over job)
+few_over s a p page want idle at = few_idle want.long
+few_over s a p page want (moving q g e allowed unread) at = subst (λ (l : Bool). FewOver l 1) (sym at.4.long) (omega arith)
+few_over s a p page want (moving q g e allowed one) at = few_moved want.long at.4.long
+few_over s a p page want (moving q g e allowed (more count)) at = few_moved want.long at.4.long
+few_over s a p page want job at = absurd at
+
+-- what a pin may have is mapped
+undenied_mapped : (write : Bool) (right : Option Rights) → pin_denial write right ≡ None → IsSome right
+undenied_mapped true None free = absurd (cc free)
+undenied_mapped true (Some rights) free = refl
+undenied_mapped false None free = absurd (cc free)
+undenied_mapped false (Some rights) free = refl
+
+-- a page that isn't moved first is of the normal zone, if it is for long
+normal_by : (long below : Bool) (movable f : ℕ) → nat_lt f movable ≡ below → (long && below) ≡ false → long ≡ true → movable ≤ f
+normal_by true true movable f less none is = absurd (cc none)
+normal_by true false movable f less none is = grind (arith, nat_tests)
+normal_by false below movable f less none is = absurd (cc is)
+
+-- one that is, is of a pin that is for long
+long_by : (long below : Bool) → (long && below) ≡ true → long ≡ true
+long_by true below is = refl
+long_by false below is = absurd (cc is)
+
+-- a long pin has frames of the normal zone alone
+zones_long : (want : Want) → want.long ≡ true → zones_of want ≡ Only Normal
+zones_long want long = rw long refl
+
 -- an answer that refuses a page ends a pin
 
 refuses_pin : (handle page n : ℕ) (want : Want) (fast : Bool) {answer : Answer} → RefusesPage answer → IsTrue (refuses (Pin handle page n want fast) answer)
@@ -109,24 +193,34 @@ refuses_pin handle page n want fast missing = refl
 refuses_pin handle page n want fast forbidden = refl
 refuses_pin handle page n want fast no_frame = refl
 
-ends_with : {answer : Answer} (want : Want) → RefusesPage answer → EndsPin want (cause_of answer) × (refusal_by_cause (cause_of answer) ≡ answer)
-ends_with want missing = (tt, refl)
-ends_with want forbidden = (tt, refl)
-ends_with want no_frame = (tt, refl)
+at_once : (handle page n : ℕ) (want : Want) (fast : Bool) {answer : Answer} → RefusesPage answer → IsAtOnce (Pin handle page n want fast) answer
+at_once handle page n want fast missing = tt
+at_once handle page n want fast forbidden = tt
+at_once handle page n want fast no_frame = tt
 
--- the events before a page is pinned, and what they lead to
-record IsPinReady (s : CoreState) (a p handle page : ℕ) (write : Bool) (es : List CoreEvent) : Type 0 where
+ends_with : {answer : Answer} (want : Want) → RefusesPage answer → EndsPin want (cause_of answer) × (refusal_by_cause (cause_of answer) ≡ answer) × RefusesAt want unbegun (refusal_by_cause (cause_of answer))
+ends_with want missing = (tt, refl, tt)
+ends_with want forbidden = (tt, refl, tt)
+ends_with want no_frame = (tt, refl, tt)
+
+-- the events before a page is pinned, or refused, and what they lead to
+record IsPinLed (s : CoreState) (a p handle : ℕ) (es : List CoreEvent) : Type 0 where
   kinds : AreTurnEvents a p p (of_pin handle) es
   can : AllCan s es
   rest : AtRest (run s es) a
   job : (run s es).job a ≡ idle
-  birth : (run s es).birth p ≡ born
   told : all_told es ≡ []
-  flag : (run s es).has_pinned p ≡ true
   handles : (run s es).handle ≡ s.handle
   pinned : (run s es).pinned ≡ s.pinned
   taken : (run s es).taken ≡ s.taken
-  allows : Allows (run s es) p page write
+
+-- where the page is ready
+record IsPinReady (s : CoreState) (a p handle page : ℕ) (want : Want) (es : List CoreEvent) : Type 0 where
+  led : IsPinLed s a p handle es
+  birth : (run s es).birth p ≡ born
+  flag : (run s es).has_pinned p ≡ true
+  right : (run s es).right p page ≡ s.right p page
+  allows : Allows (run s es) p page want.write
 
 module _ (s : CoreState) (who : Doer) (place : Place) (h : IsOpen s who.actor who.proc) (handle page n : ℕ) (want : Want) (fast : Bool) (range : IsOp (Pin handle page n want fast)) (fits : FitsOp s who (Pin handle page n want fast) place) where
   abbrev a : ℕ
@@ -135,241 +229,572 @@ module _ (s : CoreState) (who : Doer) (place : Place) (h : IsOpen s who.actor wh
   abbrev p : ℕ
   p = who.proc
 
+  abbrev op : Op
+  op = Pin handle page n want fast
+
+  -- the pages that it has
+  abbrev got : ℕ
+  got = length (s.taken a)
+
   -- the page of this turn
   abbrev here : ℕ
-  here = page + place.far
-
-  job : s.job a ≡ idle
-  job = fits.0
-
-  stands : StandsPin s a p handle page n want place.far
-  stands = fits.2
+  here = page + got
 
   -- it is denied at the page after those that are pending, which are those that it has taken
-  got_here : pages_got (plain_of s) a ≡ place.far
-  got_here = length-map (s.taken a) pending_of ∙ stands.taken.many
+  got_here : pages_got (plain_of s) a ≡ got
+  got_here = length-map (s.taken a) pending_of
 
-  denied_here : pin_denial want.write (s.right p here) ≡ None → op_denial (plain_of s) no_references who (pages_got (plain_of s) a) (Pin handle page n want fast) ≡ None
+  denied_here : pin_denial want.write (s.right p here) ≡ None → op_denial (plain_of s) (references_of s) who (pages_got (plain_of s) a) op ≡ None
   denied_here undenied = subst (λ (k : ℕ). pin_denial want.write (s.right p (page + k)) ≡ None) (sym got_here) undenied
 
-  answered_here : (answer : Answer) → IsAnswerOf (pin_denial want.write (s.right p here)) answer → IsAnswerOf (op_denial (plain_of s) no_references who (pages_got (plain_of s) a) (Pin handle page n want fast)) answer
+  answered_here : (answer : Answer) → IsAnswerOf (pin_denial want.write (s.right p here)) answer → IsAnswerOf (op_denial (plain_of s) (references_of s) who (pages_got (plain_of s) a) op) answer
   answered_here answer right = subst (λ (k : ℕ). IsAnswerOf (pin_denial want.write (s.right p (page + k))) answer) (sym got_here) right
 
-  -- After these events the page is pinned.
-  module _ (es : List CoreEvent) (ready : IsPinReady s a p handle here want.write es) where
+  -- its shape, by the places where it stands before and after the turn
+  shape_from : (t : CoreState) (whats : List What) (from to : JobPlace) → place_in s a ≡ from → place_in t a ≡ to → TurnOf (plain_of s) (references_of s) who place op from whats to → TurnOf (plain_of s) (references_of s) who place op (place_in s a) whats (place_in t a)
+  shape_from t whats from to before behind shape =
+      subst (λ (x : JobPlace). TurnOf (plain_of s) (references_of s) who place op x whats (place_in t a)) (sym before)
+      (subst (λ (y : JobPlace). TurnOf (plain_of s) (references_of s) who place op from whats y) (sym behind) shape)
+
+  stands_at : (t : CoreState) (job : Job) → t.job a ≡ job → place_in t a ≡ job_place job (t.prepared a)
+  stands_at t job is = ap (λ (j : Job). job_place j (t.prepared a)) is
+
+  fits_on : (t : CoreState) (next : Place) (taken : List Taken) (job : Job) → t.taken a ≡ taken → t.job a ≡ job → FitsPin t a p handle page n want next taken job → FitsOp t who op next
+  fits_on t next taken job has is fits_then =
+      subst (λ (ts : List Taken). FitsPin t a p handle page n want next ts (t.job a)) (sym has)
+      (subst (λ (j : Job). FitsPin t a p handle page n want next taken j) (sym is) fits_then)
+
+  -- what is made of the handle of pages that are taken
+  makes_it : (t made : CoreState) → made ≡ happens t (make_handle a handle) → 0 < length (t.taken a) → length (t.taken a) ≤ n → MakesPin s made a op
+  makes_it t made is some few =
+      let most : n ≤ most_pinned = range.1 in
+      let makes : CoreState = happens t (make_handle a handle) in
+      subst (λ (x : CoreState). MakesPin s x a op) (sym is)
+      (inr (held_whole a (writes_taken (t.taken a)) (t.taken a) some (omega (arith, few, most)) (makes.handle handle) (makes.pinned handle) (put_same handle (held a (objects_taken (t.taken a)) (writes_taken (t.taken a))) t.handle) (put_same handle (taken_frames (t.taken a)) t.pinned)))
+
+  -- These events come first; so many turns of the page are over.
+  module _ (es : List CoreEvent) (led : IsPinLed s a p handle es) (from : JobPlace) (before : place_in s a ≡ from) (over : ℕ) (few : FewOver want.long over) (least : got + over ≤ place.far) (most : place.far ≤ pin_turns want.long got + over) where
     abbrev t : CoreState
     t = run s es
 
-    abbrev entry : Entry
-    entry = ready.allows.entry
-
-    abbrev pinning_it : CoreEvent
-    pinning_it = pin_page a p here entry want.write want.long
-
-    abbrev new : Taken
-    new = record { proc = p; page = here; frame = entry.frame; object = t.object p here; write = want.write; long = want.long }
-
-    has_taken : HasTaken p page want place.far (t.taken a)
-    has_taken = subst (HasTaken p page want place.far) (sym (ap (λ (f : ℕ → List Taken). f a) ready.taken)) stands.taken
-
-    can_pin : Can t pinning_it
-    can_pin = (
-      ready.birth,
-      ready.allows.free,
-      (ready.job, unprepared t a ready.rest ready.job),
-      ready.flag,
-      ready.allows.there,
-      (ready.allows.marked, ready.allows.may, λ is. absurd (let short = range.3.short in cc is)),
-      untaken_next p page place.far want (t.taken a) has_taken,
-      alike_taken p page place.far want (t.taken a) has_taken,
-    )
-
-    abbrev u : CoreState
-    u = happens t pinning_it
-
-    now_taken : u.taken a ≡ t.taken a ++ new ∷ []
-    now_taken = put_same a (t.taken a ++ new ∷ []) t.taken
-
-    more_taken : HasTaken p page want (place.far + 1) (u.taken a)
-    more_taken = subst (HasTaken p page want (place.far + 1)) (sym now_taken) (one_more p page place.far want (t.taken a) new has_taken (refl, refl, refl, refl))
+    same_taken : t.taken a ≡ s.taken a
+    same_taken = ap (λ (f : ℕ → List Taken). f a) led.taken
 
     handle_unmade : t.handle handle ≡ unmade
-    handle_unmade = ap (λ (f : ℕ → Handle). f handle) ready.handles ∙ stands.yet
+    handle_unmade = ap (λ (f : ℕ → Handle). f handle) led.handles ∙ fits.yet
 
-    -- a page that isn't the last
-    pins_one : place.far + 1 < n → pin_denial want.write (s.right p here) ≡ None → IsTurned s who place (Pin handle page n want fast) (pins_behind es a p handle here n want false entry)
-    pins_one more undenied =
-        let same : run s (es ++ pinning_it ∷ []) ≡ u = run_behind s es (pinning_it ∷ []) in
+    -- the page is refused, where the pin has others
+    abbrev ended : CoreState
+    ended = happens t (make_handle a handle)
+
+    ends_short : (k : ℕ) (answer : Answer) → got ≡ suc k → EndsPin want (cause_of answer) → RefusesAt want from (refusal_by_cause (cause_of answer)) → IsAnswerOf (pin_denial want.write (s.right p here)) (refusal_by_cause (cause_of answer)) → IsTurned s who place op (ends_pin es a handle n (suc k) answer)
+    ends_short k answer is end refusal right =
+        let same : run s (es ++ make_handle a handle ∷ []) ≡ ended = run_behind s es (make_handle a handle ∷ []) in
+        let within = fits.within in
+        let many : length (t.taken a) ≡ got = ap (λ (ts : List Taken). length ts) same_taken in
+        let some : t.taken a ≡ [] → ⊥ = some_taken (t.taken a) k (many ∙ is) in
+        let right_then : IsAnswerOf (op_denial (plain_of s) (references_of s) who (suc k) op) (refusal_by_cause (cause_of answer)) = subst (λ (j : ℕ). IsAnswerOf (pin_denial want.write (s.right p (page + j))) (refusal_by_cause (cause_of answer))) is right in
         record {
           done = record {
-            kinds = kinds_behind a p p (of_pin handle) es (pinning_it ∷ []) ready.kinds (pinning handle refl here entry want.write want.long, tt);
-            can = can_behind s es (pinning_it ∷ []) ready.can (can_pin, tt);
-            rest = subst (λ (x : CoreState). AtRest x a) (sym same) (record { prepared = ready.rest.prepared; owed = ready.rest.owed });
-            told = told_behind es (pinning_it ∷ []) ready.told;
+            kinds = kinds_behind a p p (of_pin handle) es (make_handle a handle ∷ []) led.kinds (making handle refl, tt);
+            can = can_behind s es (make_handle a handle ∷ []) led.can ((led.job, handle_unmade, some), tt);
+            rest = subst (λ (x : CoreState). AtRest x a) (sym same) (record { prepared = led.rest.prepared; owed = led.rest.owed });
+            told = told_behind es (make_handle a handle ∷ []) led.told;
           };
-          shape = shape_idle s (run s (es ++ pinning_it ∷ [])) who place (Pin handle page n want fast) (Event (events.PinTry a p here want.write) ∷ []) job (ap (λ (x : CoreState). x.job a) same ∙ ready.job) (pinned_page handle page n want fast more (denied_here undenied));
-          next = subst (λ (x : CoreState). FitsOp x who (Pin handle page n want fast) (record place { far = place.far + 1; had = true })) (sym same) (
-            ready.job,
-            ((λ none. absurd (omega (arith, none))), λ some. refl),
-            record { within = more; yet = handle_unmade; taken = more_taken },
-          );
-          pin = subst (λ (x : CoreState). MakesPin s x a (Pin handle page n want fast)) (sym same)
-              (inl (ap (λ (f : ℕ → Handle). f handle) ready.handles, ap (λ (f : ℕ → List ℕ). f handle) ready.pinned));
+          shape = shape_from (run s (es ++ make_handle a handle ∷ [])) (Event (events.PinOk a handle) ∷ Done (answers.Short (suc k) n (cause_of answer)) ∷ []) from unbegun before (idle_place (run s (es ++ make_handle a handle ∷ [])) a (ap (λ (x : CoreState). x.job a) same ∙ led.job))
+              (pinned_short handle page n want fast (suc k) (cause_of answer) from (fits.had_some (omega (arith, is))) (got_here ∙ is) (omega arith) (omega (arith, is, within)) end refusal right_then);
+          next = subst (λ (x : CoreState). Rests x a) (sym same) (led.job, put_same a [] t.taken);
+          pin = makes_it t (run s (es ++ make_handle a handle ∷ [])) same (omega (arith, many, is)) (omega (arith, many, within));
         }
 
-    abbrev making_it : List CoreEvent
-    making_it = pinning_it ∷ make_handle a handle ∷ []
+    -- or has none
+    ends_none : (answer : Answer) → got ≡ 0 → TurnOf (plain_of s) (references_of s) who place op from (Done answer ∷ []) unbegun → IsTurned s who place op (ends_pin es a handle n 0 answer)
+    ends_none answer is shape =
+        record {
+          done = record { kinds = led.kinds; can = led.can; rest = led.rest; told = led.told };
+          shape = shape_from t (Done answer ∷ []) from unbegun before (idle_place t a led.job) shape;
+          next = (led.job, none_taken (t.taken a) (ap (λ (ts : List Taken). length ts) same_taken ∙ is));
+          pin = inl (ap (λ (f : ℕ → Handle). f handle) led.handles, ap (λ (f : ℕ → List ℕ). f handle) led.pinned);
+        }
 
-    abbrev made : CoreState
-    made = happens u (make_handle a handle)
+    -- After these events the page is ready.
+    module _ (ready : IsPinReady s a p handle here want es) where
+      abbrev entry : Entry
+      entry = ready.allows.entry
 
-    -- the last one
-    pins_last : place.far + 1 ≡ n → pin_denial want.write (s.right p here) ≡ None → IsTurned s who place (Pin handle page n want fast) (pins_behind es a p handle here n want true entry)
-    pins_last last undenied =
-        let same : run s (es ++ making_it) ≡ made = run_behind s es making_it in
-        let many = more_taken.many in
-        let few : n ≤ most_pinned = range.1 in
+      -- it is pinned, if it is of the normal zone or not for long
+      module _ (normal : want.long ≡ true → IsNormal t entry.frame) (tries : TriesAt want from) where
+        abbrev pinning_it : CoreEvent
+        pinning_it = pin_page a p here entry want.write want.long
+
+        abbrev new : Taken
+        new = record { proc = p; page = here; frame = entry.frame; object = t.object p here; write = want.write; long = want.long }
+
+        has_taken : HasTaken p page want got (t.taken a)
+        has_taken = subst (HasTaken p page want got) (sym same_taken) fits.has
+
+        can_pin : Can t pinning_it
+        can_pin = (
+          ready.birth,
+          ready.allows.free,
+          (led.job, unprepared t a led.rest led.job),
+          ready.flag,
+          ready.allows.there,
+          (ready.allows.marked, ready.allows.may, normal),
+          untaken_next p page got want (t.taken a) has_taken,
+          alike_taken p page got want (t.taken a) has_taken,
+        )
+
+        abbrev u : CoreState
+        u = happens t pinning_it
+
+        now_taken : u.taken a ≡ t.taken a ++ new ∷ []
+        now_taken = put_same a (t.taken a ++ new ∷ []) t.taken
+
+        more_taken : HasTaken p page want (got + 1) (t.taken a ++ new ∷ [])
+        more_taken = one_more p page got want (t.taken a) new has_taken (refl, refl, refl, refl)
+
+        many_then : length (t.taken a ++ new ∷ []) ≡ got + 1
+        many_then = more_taken.many
+
+        -- a page that isn't the last
+        pins_one : got + 1 < n → pin_denial want.write (s.right p here) ≡ None → IsTurned s who place op (pins_behind es a p handle here n want false entry)
+        pins_one less undenied =
+            let same : run s (es ++ pinning_it ∷ []) ≡ u = run_behind s es (pinning_it ∷ []) in
+            let many = many_then in
+            record {
+              done = record {
+                kinds = kinds_behind a p p (of_pin handle) es (pinning_it ∷ []) led.kinds (pinning handle refl here entry want.write want.long, tt);
+                can = can_behind s es (pinning_it ∷ []) led.can (can_pin, tt);
+                rest = subst (λ (x : CoreState). AtRest x a) (sym same) (record { prepared = led.rest.prepared; owed = led.rest.owed });
+                told = told_behind es (pinning_it ∷ []) led.told;
+              };
+              shape = shape_from (run s (es ++ pinning_it ∷ [])) (Event (events.PinTry a p here want.write) ∷ []) from unbegun before (idle_place (run s (es ++ pinning_it ∷ [])) a (ap (λ (x : CoreState). x.job a) same ∙ led.job)) (page_shape less undenied);
+              next = subst (λ (x : CoreState). FitsOp x who op (record place { far = place.far + 1; had = true })) (sym same)
+                  (fits_on u (record place { far = place.far + 1; had = true }) (t.taken a ++ new ∷ []) idle now_taken led.job (record {
+                    had_none = λ none. absurd (omega (arith, many, none));
+                    had_some = λ some. refl;
+                    least = omega (arith, many, least);
+                    most = subst (λ (k : ℕ). place.far + 1 ≤ pin_turns want.long k + 0) (sym many) (room_behind want.long got place.far over few most);
+                    within = omega (arith, many, less);
+                    yet = handle_unmade;
+                    has = subst (λ (k : ℕ). HasTaken p page want k (t.taken a ++ new ∷ [])) (sym many) more_taken;
+                    at = tt;
+                  }));
+              pin = subst (λ (x : CoreState). MakesPin s x a op) (sym same)
+                  (inl (ap (λ (f : ℕ → Handle). f handle) led.handles, ap (λ (f : ℕ → List ℕ). f handle) led.pinned));
+            }
+          where
+            page_shape : got + 1 < n → pin_denial want.write (s.right p here) ≡ None → TurnOf (plain_of s) (references_of s) who place op from (Event (events.PinTry a p here want.write) ∷ []) unbegun
+            page_shape less undenied =
+                subst (λ (k : ℕ). TurnOf (plain_of s) (references_of s) who place op from (Event (events.PinTry a p (page + k) want.write) ∷ []) unbegun) got_here
+                (pinned_page handle page n want fast from tries (subst (λ (k : ℕ). k + 1 < n) (sym got_here) less) (room_page want.long got n place.far over few most less) (denied_here undenied))
+
+        abbrev making_it : List CoreEvent
+        making_it = pinning_it ∷ make_handle a handle ∷ []
+
+        abbrev made : CoreState
+        made = happens u (make_handle a handle)
+
+        -- the last one
+        pins_last : got + 1 ≡ n → pin_denial want.write (s.right p here) ≡ None → IsTurned s who place op (pins_behind es a p handle here n want true entry)
+        pins_last last undenied =
+            let same : run s (es ++ making_it) ≡ made = run_behind s es making_it in
+            let many : length (u.taken a) ≡ got + 1 = ap (λ (ts : List Taken). length ts) now_taken ∙ many_then in
+            record {
+              done = record {
+                kinds = kinds_behind a p p (of_pin handle) es making_it led.kinds (pinning handle refl here entry want.write want.long, (making handle refl, tt));
+                can = can_behind s es making_it led.can (can_pin, ((led.job, handle_unmade, λ none. longer_some (t.taken a) new (sym now_taken ∙ none)), tt));
+                rest = subst (λ (x : CoreState). AtRest x a) (sym same) (record { prepared = led.rest.prepared; owed = led.rest.owed });
+                told = told_behind es making_it led.told;
+              };
+              shape = shape_from (run s (es ++ making_it)) (Event (events.PinTry a p here want.write) ∷ Event (events.PinOk a handle) ∷ Done (answers.Pinned n) ∷ []) from unbegun before (idle_place (run s (es ++ making_it)) a (ap (λ (x : CoreState). x.job a) same ∙ led.job))
+                  (subst (λ (k : ℕ). TurnOf (plain_of s) (references_of s) who place op from (Event (events.PinTry a p (page + k) want.write) ∷ Event (events.PinOk a handle) ∷ Done (answers.Pinned n) ∷ []) unbegun) got_here
+                  (pinned_all handle page n want fast from tries (ap (λ (k : ℕ). k + 1) got_here ∙ last) (denied_here undenied)));
+              next = subst (λ (x : CoreState). Rests x a) (sym same) (led.job, put_same a [] u.taken);
+              pin = makes_it u (run s (es ++ making_it)) same (omega (arith, many)) (omega (arith, many, last));
+            }
+
+        pins_by : (last : Bool) → (got + 1 == n) ≡ last → pin_denial want.write (s.right p here) ≡ None → IsTurned s who place op (pins_behind es a p handle here n want last entry)
+        pins_by true test undenied = pins_last (grind (arith, nat_tests)) undenied
+        pins_by false test undenied = let within = fits.within in pins_one (grind (arith, nat_tests, within)) undenied
+
+  -- A page that is to be moved first is cleared.
+  module _ (es : List CoreEvent) (ready : IsPinReady s a p handle here want es) (job : s.job a ≡ idle) (long : want.long ≡ true) (undenied : pin_denial want.write (s.right p here) ≡ None) where
+    abbrev cleared_in : CoreState
+    cleared_in = run s es
+
+    abbrev gone : Entry
+    gone = ready.allows.entry
+
+    abbrev clearing_it : CoreEvent
+    clearing_it = clear_entry a p here gone (zones_of want)
+
+    abbrev behind_it : CoreState
+    behind_it = happens cleared_in clearing_it
+
+    abbrev moves : Job
+    moves = moving p here gone (zones_of want) unread
+
+    clears : IsTurned s who place op (clears_behind es a p here want gone)
+    clears =
+        let led = ready.led in
+        let same : run s (es ++ clearing_it ∷ []) ≡ behind_it = run_behind s es (clearing_it ∷ []) in
+        let none = unprepared cleared_in a led.rest led.job in
+        let behind : behind_it.job a ≡ moves = put_same a moves cleared_in.job in
+        let free : pin_denial want.write (behind_it.right p here) ≡ None = ap (pin_denial want.write) ready.right ∙ undenied in
+        let calm = stays_calm s a p p (of_pin handle) es led.kinds h.calm in
+        let within = fits.within in
+        let least : got + 0 ≤ place.far = subst (λ (j : Job). got + turns_over j ≤ place.far) job fits.least in
+        let most : place.far ≤ pin_turns want.long got + 0 = subst (λ (j : Job). place.far ≤ pin_turns want.long got + turns_over j) job fits.most in
+        let page_then : IsMovingPin behind_it a p here want gone = record {
+          long = long;
+          moving = record { birth = ready.birth; mapped = undenied_mapped want.write (behind_it.right p here) free; absent = put2_same p here None cleared_in.entry; locked = put_same p (Some a) cleared_in.table };
+          unforked = ready.allows.free.0;
+          flag = ready.flag;
+          undenied = free;
+          marked = ready.allows.marked;
+          may = ready.allows.may;
+        } in
         record {
           done = record {
-            kinds = kinds_behind a p p (of_pin handle) es making_it ready.kinds (pinning handle refl here entry want.write want.long, (making handle refl, tt));
-            can = can_behind s es making_it ready.can (can_pin, ((ready.job, handle_unmade, λ none. longer_some (t.taken a) new (sym now_taken ∙ none)), tt));
-            rest = subst (λ (x : CoreState). AtRest x a) (sym same) (record { prepared = ready.rest.prepared; owed = ready.rest.owed });
-            told = told_behind es making_it ready.told;
+            kinds = kinds_behind a p p (of_pin handle) es (clearing_it ∷ []) led.kinds (clearing tt here gone (zones_of want), tt);
+            can = can_behind s es (clearing_it ∷ []) led.can ((ready.birth, ready.allows.free.1, (led.job, none), led.rest.owed, ready.allows.there, no_mirror_at cleared_in p here calm), tt);
+            rest = subst (λ (x : CoreState). AtRest x a) (sym same) (at_rest behind_it a none led.rest.owed);
+            told = told_behind es (clearing_it ∷ []) led.told;
           };
-          shape = shape_idle s (run s (es ++ making_it)) who place (Pin handle page n want fast) (Event (events.PinTry a p here want.write) ∷ Event (events.PinOk a handle) ∷ Done (answers.Pinned n) ∷ []) job (ap (λ (x : CoreState). x.job a) same ∙ ready.job) (pinned_all handle page n want fast last (denied_here undenied));
-          next = subst (λ (x : CoreState). Rests x a) (sym same) (ready.job, put_same a [] u.taken);
-          pin = subst (λ (x : CoreState). MakesPin s x a (Pin handle page n want fast)) (sym same)
-              (inr (held_whole a (writes_taken (u.taken a)) (u.taken a) (omega (arith, many)) (omega (arith, many, last, few)) (made.handle handle) (made.pinned handle) (put_same handle (held a (objects_taken (u.taken a)) (writes_taken (u.taken a))) u.handle) (put_same handle (taken_frames (u.taken a)) u.pinned)));
+          shape = shape_from (run s (es ++ clearing_it ∷ [])) (Silent ∷ []) unbegun (moving_page here gone unread) (idle_place s a job) (ap (λ (x : CoreState). place_in x a) same ∙ stands_at behind_it moves behind)
+              (cleared_page handle page n want fast here gone long (λ no_page. none_over want.long got place.far (sym got_here ∙ no_page) most) (subst (λ (k : ℕ). k < n) (sym got_here) within) (room_move want.long got n place.far 0 long (omega arith) most within));
+          next = subst (λ (x : CoreState). FitsOp x who op (record place { far = place.far + 1 })) (sym same)
+              (fits_on behind_it (record place { far = place.far + 1 }) (s.taken a) moves (ap (λ (f : ℕ → List Taken). f a) led.taken) behind (record {
+                had_none = fits.had_none;
+                had_some = fits.had_some;
+                least = omega (arith, least);
+                most = omega (arith, most);
+                within = within;
+                yet = ap (λ (f : ℕ → Handle). f handle) led.handles ∙ fits.yet;
+                has = fits.has;
+                at = (refl, refl, refl, tt, page_then);
+              }));
+          pin = subst (λ (x : CoreState). MakesPin s x a op) (sym same)
+              (inl (ap (λ (f : ℕ → Handle). f handle) led.handles, ap (λ (f : ℕ → List ℕ). f handle) led.pinned));
         }
 
-    pins_by : (last : Bool) → (place.far + 1 == n) ≡ last → pin_denial want.write (s.right p here) ≡ None → IsTurned s who place (Pin handle page n want fast) (pins_behind es a p handle here n want last entry)
-    pins_by true test undenied = pins_last (grind (arith, nat_tests)) undenied
-    pins_by false test undenied = let within = stands.within in pins_one (grind (arith, nat_tests, within)) undenied
+  -- Where it is in the middle of no page: after these events the page is pinned, or cleared.
+  module _ (job : s.job a ≡ idle) where
+    idle_least : got + 0 ≤ place.far
+    idle_least = subst (λ (j : Job). got + turns_over j ≤ place.far) job fits.least
+
+    idle_most : place.far ≤ pin_turns want.long got + 0
+    idle_most = subst (λ (j : Job). place.far ≤ pin_turns want.long got + turns_over j) job fits.most
 
     -- by the entry that the page has then
-    pins_here : (last : Bool) → (place.far + 1 == n) ≡ last → pin_denial want.write (s.right p here) ≡ None → IsTurned s who place (Pin handle page n want fast) (pins s es a p handle here n want last)
-    pins_here last test undenied =
-        subst (λ (e : Entry). IsTurned s who place (Pin handle page n want fast) (pins_behind es a p handle here n want last e)) (sym (ap entry_in ready.allows.there)) (pins_by last test undenied)
+    pins_or_clears : (es : List CoreEvent) (ready : IsPinReady s a p handle here want es) (last : Bool) → (got + 1 == n) ≡ last → pin_denial want.write (s.right p here) ≡ None → (moves : Bool) → moves_first (run s es) want ready.allows.entry ≡ moves → IsTurned s who place op (clears_or_pins moves es a p handle here n want last ready.allows.entry)
+    pins_or_clears es ready last test undenied true moves =
+        clears es ready job (long_by want.long (nat_lt ready.allows.entry.frame (run s es).movable) moves) undenied
+    pins_or_clears es ready last test undenied false moves =
+        pins_by es ready.led unbegun (idle_place s a job) 0 (few_idle want.long) idle_least idle_most ready
+        (normal_by want.long (nat_lt ready.allows.entry.frame (run s es).movable) (run s es).movable ready.allows.entry.frame refl moves) tt last test undenied
 
-  -- the first page: the flag's event comes before those of the fault
+    pins_here : (es : List CoreEvent) → IsPinReady s a p handle here want es → (last : Bool) → (got + 1 == n) ≡ last → pin_denial want.write (s.right p here) ≡ None → IsTurned s who place op (pins s es a p handle here n want last)
+    pins_here es ready last test undenied =
+        subst (λ (e : Entry). IsTurned s who place op (pins_in (run s es) es a p handle here n want last e)) (sym (ap entry_in ready.allows.there))
+        (pins_or_clears es ready last test undenied (moves_first (run s es) want ready.allows.entry) refl)
 
-  abbrev raised : CoreState
-  raised = happens s (raise_flag a p)
+    -- the first page: the flag's event comes before those of the fault
 
-  raised_may : MayFault raised a p
-  raised_may =
-      let may = may_fault s a p h job in
-      record {
-        rest = record { prepared = may.rest.prepared; owed = may.rest.owed };
-        calm = record { unmirrored = may.calm.unmirrored; no_gets = may.calm.no_gets };
-        birth = may.birth;
-        job = may.job;
-        counted = may.counted;
-        marked = may.marked;
-      }
+    abbrev raised : CoreState
+    raised = happens s (raise_flag a p)
 
-  ready_first : (es : List CoreEvent) → IsReady raised a p es → Allows (run raised es) p here want.write → IsPinReady s a p handle here want.write (raise_flag a p ∷ es)
-  ready_first es ready allows =
-      let left = pages_leave raised a p p es (ready.kinds of_pages) in
-      record {
-        kinds = (raising handle refl, ready.kinds (of_pin handle));
-        can = (h.birth, ready.can);
-        rest = ready.rest;
-        job = ready.job;
-        birth = ready.birth;
-        told = ready.told;
-        flag = ap (λ (f : ℕ → Bool). f p) left.has_pinned ∙ put_same p true s.has_pinned;
-        handles = left.handle;
-        pinned = left.pinned;
-        taken = left.taken;
-        allows = allows;
-      }
+    raised_may : MayFault raised a p
+    raised_may =
+        let may = may_fault s a p h job in
+        record {
+          rest = record { prepared = may.rest.prepared; owed = may.rest.owed };
+          calm = record { unmirrored = may.calm.unmirrored };
+          birth = may.birth;
+          job = may.job;
+          counted = may.counted;
+          marked = may.marked;
+        }
 
-  refused_first : (answer : Answer) → place.far ≡ 0 → RefusesPage answer → IsAnswerOf (pin_denial want.write (s.right p here)) answer → IsTurned s who place (Pin handle page n want fast) (ends_pin a p handle n 0 answer)
-  refused_first answer first refusal right =
-      record {
-        done = record {
+    ready_first : (es : List CoreEvent) → IsReady raised a p es → Allows (run raised es) p here want.write → IsPinReady s a p handle here want (raise_flag a p ∷ es)
+    ready_first es ready allows =
+        let left = pages_leave raised a p p es (ready.kinds of_pages) in
+        record {
+          led = record {
+            kinds = (raising handle refl, ready.kinds (of_pin handle));
+            can = (h.birth, ready.can);
+            rest = ready.rest;
+            job = ready.job;
+            told = ready.told;
+            handles = left.handle;
+            pinned = left.pinned;
+            taken = left.taken;
+          };
+          birth = ready.birth;
+          flag = ap (λ (f : ℕ → Bool). f p) left.has_pinned ∙ put_same p true s.has_pinned;
+          right = ap (λ (f : ℕ → ℕ → Option Rights). f p here) ready.right;
+          allows = allows;
+        }
+
+    led_raised : IsPinLed s a p handle (raise_flag a p ∷ [])
+    led_raised =
+        record {
           kinds = (raising handle refl, tt);
           can = (h.birth, tt);
           rest = record { prepared = h.rest.prepared; owed = h.rest.owed };
+          job = job;
           told = refl;
-        };
-        shape = shape_idle s raised who place (Pin handle page n want fast) (Done answer ∷ []) job job (refused (Pin handle page n want fast) answer (first, fits.1.0 first) (refuses_pin handle page n want fast refusal) (answered_here answer right) tt);
-        next = (job, none_taken (s.taken a) (stands.taken.many ∙ first));
-        pin = inl (refl, refl);
-      }
+          handles = refl;
+          pinned = refl;
+          taken = refl;
+        }
 
-  first_by : (fault : Fault) → place.far ≡ 0 → LeadsTo raised a p here want.write (pin_denial want.write (s.right p here)) fault → IsTurned s who place (Pin handle page n want fast) (pin_turn_by fault s a p handle here n 0 want)
-  first_by (Err answer) first to = refused_first answer first to.0 to.1
-  first_by (Ok es) first to =
-      pins_here (raise_flag a p ∷ es) (ready_first es to.1 to.2) (0 + 1 == n) (ap (λ (k : ℕ). k + 1 == n) first) to.0
+    refused_first : (answer : Answer) → got ≡ 0 → RefusesPage answer → IsAnswerOf (pin_denial want.write (s.right p here)) answer → IsTurned s who place op (ends_pin (raises a p 0) a handle n 0 answer)
+    refused_first answer first refusal right =
+        ends_none (raise_flag a p ∷ []) led_raised unbegun (idle_place s a job) 0 (few_idle want.long) idle_least idle_most answer first
+        (refused op answer (none_over want.long got place.far first idle_most, fits.had_none first) (refuses_pin handle page n want fast refusal) (at_once handle page n want fast refusal) (answered_here answer right) tt)
 
-  -- a later one: the pages that are taken say that the flag is set
+    first_by : (fault : Fault) → got ≡ 0 → LeadsTo raised a p here want.write (pin_denial want.write (s.right p here)) fault → IsTurned s who place op (pin_turn_by fault s a p handle here n 0 want)
+    first_by (Err answer) first to = refused_first answer first to.0 to.1
+    first_by (Ok es) first to =
+        pins_here (raise_flag a p ∷ es) (ready_first es to.1 to.2) (0 + 1 == n) (ap (λ (k : ℕ). k + 1 == n) first) to.0
 
-  flag_set : (got : ℕ) → place.far ≡ suc got → s.has_pinned p ≡ true
-  flag_set got later =
-      let first = first_taken (s.taken a) got (stands.taken.many ∙ later) in
-      subst (λ (q : ℕ). s.has_pinned q ≡ true) (stands.taken.each 0 first.0 first.1).0 (h.sound.1.taken_flag a 0 first.0 first.1)
+    -- a later one: the pages that are taken say that the flag is set
 
-  ready_later : (got : ℕ) (es : List CoreEvent) → place.far ≡ suc got → IsReady s a p es → Allows (run s es) p here want.write → IsPinReady s a p handle here want.write es
-  ready_later got es later ready allows =
-      let left = pages_leave s a p p es (ready.kinds of_pages) in
-      record {
-        kinds = ready.kinds (of_pin handle);
-        can = ready.can;
-        rest = ready.rest;
-        job = ready.job;
-        birth = ready.birth;
-        told = ready.told;
-        flag = ap (λ (f : ℕ → Bool). f p) left.has_pinned ∙ flag_set got later;
-        handles = left.handle;
-        pinned = left.pinned;
-        taken = left.taken;
-        allows = allows;
-      }
+    flag_set : (k : ℕ) → got ≡ suc k → s.has_pinned p ≡ true
+    flag_set k later =
+        let first = first_taken (s.taken a) k later in
+        subst (λ (q : ℕ). s.has_pinned q ≡ true) (fits.has.each 0 first.0 first.1).0 (h.sound.1.taken_flag a 0 first.0 first.1)
 
-  abbrev short : CoreState
-  short = happens s (make_handle a handle)
+    ready_later : (k : ℕ) (es : List CoreEvent) → got ≡ suc k → IsReady s a p es → Allows (run s es) p here want.write → IsPinReady s a p handle here want es
+    ready_later k es later ready allows =
+        let left = pages_leave s a p p es (ready.kinds of_pages) in
+        record {
+          led = record {
+            kinds = ready.kinds (of_pin handle);
+            can = ready.can;
+            rest = ready.rest;
+            job = ready.job;
+            told = ready.told;
+            handles = left.handle;
+            pinned = left.pinned;
+            taken = left.taken;
+          };
+          birth = ready.birth;
+          flag = ap (λ (f : ℕ → Bool). f p) left.has_pinned ∙ flag_set k later;
+          right = ap (λ (f : ℕ → ℕ → Option Rights). f p here) ready.right;
+          allows = allows;
+        }
 
-  refused_later : (got : ℕ) (answer : Answer) → place.far ≡ suc got → RefusesPage answer → IsAnswerOf (pin_denial want.write (s.right p here)) answer → IsTurned s who place (Pin handle page n want fast) (ends_pin a p handle n (suc got) answer)
-  refused_later got answer later refusal right =
-      let ends = ends_with want refusal in
-      let many = stands.taken.many in
-      let within = stands.within in
-      let few : n ≤ most_pinned = range.1 in
-      let right_cause = subst (IsAnswerOf (pin_denial want.write (s.right p here))) (sym ends.1) right in
-      let short_at : TurnOf (plain_of s) who place (Pin handle page n want fast) unbegun (Event (events.PinOk a handle) ∷ Done (answers.Short place.far n (cause_of answer)) ∷ []) unbegun = pinned_short handle page n want fast (cause_of answer) (omega (arith, later)) within ends.0 right_cause in
-      let shape = subst (λ (k : ℕ). TurnOf (plain_of s) who place (Pin handle page n want fast) unbegun (Event (events.PinOk a handle) ∷ Done (answers.Short k n (cause_of answer)) ∷ []) unbegun) later short_at in
-      record {
-        done = record {
-          kinds = (making handle refl, tt);
-          can = ((job, stands.yet, some_taken (s.taken a) got (many ∙ later)), tt);
-          rest = record { prepared = h.rest.prepared; owed = h.rest.owed };
+    led_none : IsPinLed s a p handle []
+    led_none = record { kinds = tt; can = tt; rest = h.rest; job = job; told = refl; handles = refl; pinned = refl; taken = refl }
+
+    refused_later : (k : ℕ) (answer : Answer) → got ≡ suc k → RefusesPage answer → IsAnswerOf (pin_denial want.write (s.right p here)) answer → IsTurned s who place op (ends_pin (raises a p (suc k)) a handle n (suc k) answer)
+    refused_later k answer later refusal right =
+        let ends = ends_with want refusal in
+        ends_short [] led_none unbegun (idle_place s a job) 0 (few_idle want.long) idle_least idle_most k answer later ends.0 ends.2
+        (subst (IsAnswerOf (pin_denial want.write (s.right p here))) (sym ends.1) right)
+
+    later_by : (k : ℕ) (fault : Fault) → got ≡ suc k → LeadsTo s a p here want.write (pin_denial want.write (s.right p here)) fault → IsTurned s who place op (pin_turn_by fault s a p handle here n (suc k) want)
+    later_by k (Err answer) later to = refused_later k answer later to.0 to.1
+    later_by k (Ok es) later to =
+        pins_here es (ready_later k es later to.1 to.2) (suc k + 1 == n) (ap (λ (j : ℕ). j + 1 == n) later) to.0
+
+    -- the free frame that its turn takes, of the zones that the pin may have
+    abbrev frame : Option ℕ
+    frame = free_in s (zones_of want)
+
+    is_free : IsFree s frame
+    is_free = free_in_free s (zones_of want)
+
+    pin_by : (k : ℕ) → got ≡ k → waits_for_locks (locks_needed s a p op) a (s.structure p) (s.table p) ≡ None → IsTurned s who place op (pin_turn_by (pin_fault s a p here want.write frame) s a p handle here n k want)
+    pin_by zero is free = first_by (pin_fault s a p here want.write frame) is (pin_leads raised a p raised_may (both_free s a p h.sound job free) here frame is_free want.write)
+    pin_by (suc k) is free = later_by k (pin_fault s a p here want.write frame) is (pin_leads s a p (may_fault s a p h job) (both_free s a p h.sound job free) here frame is_free want.write)
+
+  -- Where it has cleared this page.
+  module _ (e : Entry) (over : ℕ) (least : got + over ≤ place.far) (most : place.far ≤ pin_turns want.long got + over) (at : IsMovingPin s a p here want e) where
+    abbrev allowed : Allowed
+    allowed = zones_of want
+
+    keeps_none : (count : Counted) → s.job a ≡ moving p here e allowed count → s.prepared a ≡ None
+    keeps_none count job = subst (λ (j : Job). KeepsFrame j (s.prepared a)) job h.rest.prepared
+
+    counts : over ≡ 1 → s.job a ≡ moving p here e allowed unread → IsTurned s who place op (count_turn a p here e allowed (s.count e.frame))
+    counts once job =
+        let count : ℕ = s.count e.frame in
+        let none = keeps_none unread job in
+        let t : CoreState = happens s (count_moved a p here e allowed count) in
+        let behind : t.job a ≡ moving p here e allowed (counted_as count) = put_same a (moving p here e allowed (counted_as count)) s.job in
+        let was = at.moving in
+        let within = fits.within in
+        let two = counted_over p here e allowed count in
+        let stands : IsMovingPin t a p here want e = record {
+          long = at.long;
+          moving = record { birth = was.birth; mapped = was.mapped; absent = was.absent; locked = was.locked };
+          unforked = at.unforked;
+          flag = at.flag;
+          undenied = at.undenied;
+          marked = at.marked;
+          may = at.may;
+        } in
+        record {
+          done = record {
+            kinds = (counting_moved tt here e allowed count, tt);
+            can = ((job, refl), tt);
+            rest = at_rest t a none h.rest.owed;
+            told = refl;
+          };
+          shape = shape_from t (Silent ∷ []) (moving_page here e unread) (moving_page here e (counted_as count)) (stands_at s (moving p here e allowed unread) job) (stands_at t (moving p here e allowed (counted_as count)) behind)
+              (counted_cleared handle page n want fast here e (counted_as count) (counted_read count) at.long (omega (arith, least, once)) (subst (λ (k : ℕ). k < n) (sym got_here) within) (room_move want.long got n place.far over at.long (omega (arith, once)) most within));
+          next = fits_on t (record place { far = place.far + 1 }) (s.taken a) (moving p here e allowed (counted_as count)) refl behind (record {
+            had_none = fits.had_none;
+            had_some = fits.had_some;
+            least = omega (arith, least, once, two);
+            most = omega (arith, most, once, two);
+            within = within;
+            yet = fits.yet;
+            has = fits.has;
+            at = (refl, refl, refl, counted_is count, stands);
+          });
+          pin = inl (refl, refl);
+        }
+
+    led_restored : (count : Counted) → (count ≡ unread → ⊥) → s.job a ≡ moving p here e allowed count → IsPinLed s a p handle (restore_entry a p here e allowed count ∷ [])
+    led_restored count read job =
+        let none = keeps_none count job in
+        let t : CoreState = happens s (restore_entry a p here e allowed count) in
+        record {
+          kinds = (restoring tt here e allowed count, tt);
+          can = ((job, read, none), tt);
+          rest = at_rest t a none h.rest.owed;
+          job = put_same a idle s.job;
           told = refl;
-        };
-        shape = shape_idle s short who place (Pin handle page n want fast) (Event (events.PinOk a handle) ∷ Done (answers.Short (suc got) n (cause_of answer)) ∷ []) job job shape;
-        next = (job, put_same a [] s.taken);
-        pin = inr (held_whole a (writes_taken (s.taken a)) (s.taken a) (omega (arith, many, later)) (omega (arith, many, within, few)) (short.handle handle) (short.pinned handle) (put_same handle (held a (objects_taken (s.taken a)) (writes_taken (s.taken a))) s.handle) (put_same handle (taken_frames (s.taken a)) s.pinned));
-      }
+          handles = refl;
+          pinned = refl;
+          taken = refl;
+        }
 
-  later_by : (got : ℕ) (fault : Fault) → place.far ≡ suc got → LeadsTo s a p here want.write (pin_denial want.write (s.right p here)) fault → IsTurned s who place (Pin handle page n want fast) (pin_turn_by fault s a p handle here n (suc got) want)
-  later_by got (Err answer) later to = refused_later got answer later to.0 to.1
-  later_by got (Ok es) later to =
-      pins_here es (ready_later got es later to.1 to.2) (suc got + 1 == n) (ap (λ (k : ℕ). k + 1 == n) later) to.0
+    -- the page is refused, and its entry put back
+    refuses_moved : (count : Counted) (answer : Answer) → over ≡ 2 → (count ≡ unread → ⊥) → s.job a ≡ moving p here e allowed count → EndsPin want (cause_of answer) → RefusesAt want (moving_page here e count) (refusal_by_cause (cause_of answer)) → IsAnswerOf None (refusal_by_cause (cause_of answer)) → (got ≡ 0 → TurnOf (plain_of s) (references_of s) who place op (moving_page here e count) (Done answer ∷ []) unbegun) → (k : ℕ) → got ≡ k → IsTurned s who place op (ends_moved a p handle here n k want e count answer)
+    refuses_moved count answer twice read job end refusal right shape zero is =
+        ends_none (restore_entry a p here e allowed count ∷ []) (led_restored count read job) (moving_page here e count) (stands_at s (moving p here e allowed count) job) over (subst (FewOver want.long) (sym twice) (few_moved want.long at.long)) least most answer is (shape is)
+    refuses_moved count answer twice read job end refusal right shape (suc k) is =
+        ends_short (restore_entry a p here e allowed count ∷ []) (led_restored count read job) (moving_page here e count) (stands_at s (moving p here e allowed count) job) over (subst (FewOver want.long) (sym twice) (few_moved want.long at.long)) least most k answer is end refusal
+        (subst (λ (d : Option Answer). IsAnswerOf d (refusal_by_cause (cause_of answer))) (sym at.undenied) right)
 
-  -- the free frame that its turn takes, of the zones that the pin may have
-  abbrev frame : Option ℕ
-  frame = free_in s (zones_of want)
+    undenied : op_denial (plain_of s) (references_of s) who (pages_got (plain_of s) a) op ≡ None
+    undenied = denied_here at.undenied
 
-  is_free : IsFree s frame
-  is_free = free_in_free s (zones_of want)
+    begun : over ≡ 2 → 0 < place.far
+    begun twice = omega (arith, twice, least)
 
-  pin_by : (far : ℕ) → place.far ≡ far → waits_for_locks (locks_needed s a p (Pin handle page n want fast)) a (s.structure p) (s.table p) ≡ None → IsTurned s who place (Pin handle page n want fast) (pin_turn_by (pin_fault s a p here want.write frame) s a p handle here n far want)
-  pin_by zero is free = first_by (pin_fault s a p here want.write frame) is (pin_leads raised a p raised_may (both_free s a p h.sound job free) here frame is_free want.write)
-  pin_by (suc got) is free = later_by got (pin_fault s a p here want.write frame) is (pin_leads s a p (may_fault s a p h job) (both_free s a p h.sound job free) here frame is_free want.write)
+    -- or it is placed in another frame, and pinned there
+    module _ (f : ℕ) (found : free_in s allowed ≡ Some f) (job : s.job a ≡ moving p here e allowed one) where
+      abbrev took : CoreState
+      took = happens s (take_frame a f)
+
+      abbrev placed : CoreState
+      placed = happens took (place_frame a p here f e allowed)
+
+      abbrev gave : CoreState
+      gave = happens placed (put_entry a e.frame)
+
+      abbrev placing_it : List CoreEvent
+      placing_it = take_frame a f ∷ place_frame a p here f e allowed ∷ put_entry a e.frame ∷ []
+
+      is_unused : (f < s.movable + s.normal) × (s.count f ≡ 0)
+      is_unused = free_in_free s allowed f found
+
+      other_frame : (f == e.frame) ≡ false
+      other_frame = differ s.count f e.frame is_unused.1 (moved_counted s a p here e allowed one h.sound job)
+
+      may_take : IsAllowed s allowed f → IsAllowed took allowed f
+      may_take = by allowed
+        where
+          by : (zones : Allowed) → IsAllowed s zones f → IsAllowed took zones f
+          by Any is = is
+          by (Only Movable) is = is
+          by (Only Normal) is = is
+
+      is_normal : want.long ≡ true → IsNormal gave f
+      is_normal long = subst (λ (zones : Allowed). IsAllowed s zones f) (zones_long want long) (free_in_allowed s allowed f found)
+
+      marked_there : gave.mark f ≡ true
+      marked_there =
+          let old : Bool = if placed.count e.frame == 1 then false else placed.mark e.frame in
+          put_other e.frame f old placed.mark other_frame
+          ∙ put_same f (took.mark e.frame) took.mark
+          ∙ put_other f e.frame false s.mark (flipped other_frame)
+          ∙ at.marked
+        where
+          flipped : (f == e.frame) ≡ false → (e.frame == f) ≡ false
+          flipped apart = grind (arith, nat_tests)
+
+      led_placed : IsPinLed s a p handle placing_it
+      led_placed =
+          record {
+            kinds = (taking f, (placing_frame tt here f e allowed, (putting e.frame, tt)));
+            can = (
+              (subst MayPrepare (sym job) tt, keeps_none one job, is_unused.0, is_unused.1),
+              (
+                (job, put_same a (Some f) s.prepared, h.rest.owed, may_take (free_in_allowed s allowed f found)),
+                (put_same a (Some e.frame) s.owed, tt),
+              ),
+            );
+            rest = at_rest gave a (put_same a None took.prepared) (put_same a None placed.owed);
+            job = put_same a idle s.job;
+            told = refl;
+            handles = refl;
+            pinned = refl;
+            taken = refl;
+          }
+
+      ready_placed : IsPinReady s a p handle here want placing_it
+      ready_placed =
+          record {
+            led = led_placed;
+            birth = at.moving.birth;
+            flag = at.flag;
+            right = refl;
+            allows = record {
+              free = (at.unforked, put_same p None s.table);
+              entry = entry_of f e.writable;
+              there = put2_same p here (Some (entry_of f e.writable)) s.entry;
+              marked = marked_there;
+              may = at.may;
+            };
+          }
+
+      places : over ≡ 2 → IsTurned s who place op (pins_behind placing_it a p handle here n want (got + 1 == n) (entry_of f e.writable))
+      unfolding ready_placed
+      places twice =
+          pins_by placing_it led_placed (moving_page here e one) (stands_at s (moving p here e allowed one) job) over (subst (FewOver want.long) (sym twice) (few_moved want.long at.long)) least most ready_placed is_normal at.long (got + 1 == n) refl at.undenied
+
+    places_by : (free : Option ℕ) → free_in s allowed ≡ free → over ≡ 2 → s.job a ≡ moving p here e allowed one → IsTurned s who place op (pins_moved a p handle here n got want e free)
+    places_by None found twice job =
+        refuses_moved one answers.NoFrame twice (λ same. cc same) job tt at.long refl
+        (λ none. lacked_frame handle page n want fast here e at.long (begun twice) (got_here ∙ none) undenied) got refl
+    places_by (Some f) found twice job = places f found job twice
+
+    moved_by : (count : Counted) → over ≡ turns_over (moving p here e allowed count) → s.job a ≡ moving p here e allowed count → IsTurned s who place op (moved_turn s a p handle here n got want e count)
+    moved_by unread is job = counts is job
+    moved_by one is job = places_by (free_in s allowed) refl is job
+    moved_by (more count) is job =
+        refuses_moved (more count) (answers.Unmovable count) is (λ same. cc same) job at.long (at.long, refl) refl
+        (λ none. found_unmovable handle page n want fast here e count at.long (begun is) (got_here ∙ none) undenied) got refl
+
+  pin_in : (job : Job) → s.job a ≡ job → StandsAtPage s a p here want job → waits_for_locks (locks_needed s a p op) a (s.structure p) (s.table p) ≡ None → IsTurned s who place op (pin_turn_in s a p handle page n got want job)
+  pin_in idle is stands free = pin_by is got refl free
+  pin_in (moving q g e allowed count) is stands free =
+      let job : s.job a ≡ moving p here e (zones_of want) count = is ∙ ap (λ (k : ℕ). moving k g e allowed count) stands.0 ∙ ap (λ (k : ℕ). moving p k e allowed count) stands.1 ∙ ap (λ (zones : Allowed). moving p here e zones count) stands.2 in
+      moved_by e (turns_over (moving p here e (zones_of want) count))
+      (subst (λ (j : Job). got + turns_over j ≤ place.far) job fits.least)
+      (subst (λ (j : Job). place.far ≤ pin_turns want.long got + turns_over j) job fits.most)
+      stands.4 count refl job
+  pin_in job is stands free = absurd stands
 
 pub pin_turned : (s : CoreState) (who : Doer) (place : Place) → IsOpen s who.actor who.proc → (handle page n : ℕ) (want : Want) (fast : Bool) → IsOp (Pin handle page n want fast) → FitsOp s who (Pin handle page n want fast) place → waits_for_locks (locks_needed s who.actor who.proc (Pin handle page n want fast)) who.actor (s.structure who.proc) (s.table who.proc) ≡ None → IsTurned s who place (Pin handle page n want fast) (pin_turn s who.actor who.proc handle page n want)
 pin_turned s who place h handle page n want fast range fits free =
-    let many : length (s.taken who.actor) ≡ place.far = fits.2.taken.many in
-    subst (λ (k : ℕ). IsTurned s who place (Pin handle page n want fast) (pin_turn_at s who.actor who.proc handle page n k want)) (sym many)
-    (pin_by s who place h handle page n want fast range fits place.far refl free)
+    pin_in s who place h handle page n want fast range fits (s.job who.actor) refl fits.at free

@@ -4,22 +4,53 @@ use Rattle.gup_plain.specs.Denial.{is_held_by, transfer_denial_by}
 use Rattle.gup_plain.specs.Event.{IsHeldBy}
 use Rattle.gup_plain.specs.State.{Handle, held, objects_of}
 use Rattle.gup_script.specs.Script.{ScriptValue, actor_at}
-use Rattle.gup_script.specs.Valid.{IsScript, AreDeclared, PinsAt}
+use Rattle.gup_script.specs.Valid.{IsScript, AreDeclared, MakesAt}
 use Rattle.gup_script.specs.declared.op.Op.{Op}
-use Rattle.gup_script.specs.declared.op.Op.TheVariants.{Pin, Unpin, Give, Take, Transfer}
+use Rattle.gup_script.specs.declared.op.Op.TheVariants.{Pin, Unpin, Give, Take, Get, Transfer}
 use Rattle.gup_spec_journal.specs.Place.{present_op}
 use Rattle.gup_law_turns.specs.Standing.{StandsHandle}
 use Rattle.gup_law_turns.proofs.ScriptLemmas.{ops_at}
-use Rattle.gup_law_turns.proofs.CalmStates.{Strand, of_pages, of_pin, of_handle}
+use Rattle.gup_law_turns.proofs.CalmStates.{Strand, of_pages, of_pin, of_handle, of_get, of_put, of_move}
 use Rattle.gup_law_turns.proofs.KeptParts.{same_or_apart}
 use Rattle.gup_law_turns.proofs.PinChanges.{same_pin, same_handle}
 use Rattle.gup_law_turns.proofs.ScriptPlaces.{fresh_place}
 use Rattle.gup_law_turns.proofs.TurnShapes.{strand_of}
 
--- an operation that makes a pin is the actor's present one
-pub pins_here : (script : ScriptValue) (a k : ℕ) (op : Option Op) → present_op script a (fresh_place k) ≡ op → (h : ℕ) → strand_of op ≡ of_pin h → PinsAt script a k h
-pins_here script a k (Some (Pin handle page n want fast)) is h e = subst (PinsAt script a k) (same_pin e) (page, n, want, fast, is)
+-- an operation that makes a pin, or a reference, is the actor's present one
+
+pub pins_here : (script : ScriptValue) (a k : ℕ) (op : Option Op) → present_op script a (fresh_place k) ≡ op → (h : ℕ) → strand_of op ≡ of_pin h → MakesAt script a k h
+pins_here script a k (Some (Pin handle page n want fast)) is h e = subst (MakesAt script a k) (same_pin e) (Pin handle page n want fast, is, refl)
 pins_here script a k op is h e = absurd (cc e)
+
+same_get : {h k : ℕ} → of_get h ≡ of_get k → h ≡ k
+same_get e = cc
+
+pub gets_here : (script : ScriptValue) (a k : ℕ) (op : Option Op) → present_op script a (fresh_place k) ≡ op → (h : ℕ) → strand_of op ≡ of_get h → MakesAt script a k h
+gets_here script a k (Some (Get handle page)) is h e = subst (MakesAt script a k) (same_get e) (Get handle page, is, refl)
+gets_here script a k op is h e = absurd (cc e)
+
+-- whether an operation gets a reference by this handle, which is declared then
+
+pub gets_or_not : (strand : Strand) (h : ℕ) → (strand ≡ of_get h) ⊎ (strand ≡ of_get h → ⊥)
+gets_or_not (of_get k) h =
+    elim (same_or_apart k h) [
+      | inl same ↦ inl (ap of_get same)
+      | inr other ↦ inr (λ e. other (same_get e))
+    ]
+gets_or_not of_pages h = inr (λ e. cc e)
+gets_or_not (of_pin k) h = inr (λ e. cc e)
+gets_or_not (of_handle k) h = inr (λ e. cc e)
+gets_or_not (of_put k) h = inr (λ e. cc e)
+gets_or_not of_move h = inr (λ e. cc e)
+
+got_declared : (script : ScriptValue) (op : Op) (h : ℕ) → AreDeclared script op → strand_of (Some op) ≡ of_get h → h < length script.handles
+got_declared script (Get handle page) h there about = subst (λ (k : ℕ). k < length script.handles) (same_get about) there
+got_declared script op h there about = absurd (cc about)
+
+pub reference_declared : (script : ScriptValue) → IsScript script → (a k : ℕ) (op : Option Op) → present_op script a (fresh_place k) ≡ op → (h : ℕ) → strand_of op ≡ of_get h → h < length script.handles
+reference_declared script valid a k None is h about = absurd (cc about)
+reference_declared script valid a k (Some op) is h about =
+    got_declared script op h (ops_at (AreDeclared script) script valid.declared a k op (actor_at script a) refl is) about
 
 -- whether an operation is about this handle
 abbrev pub IsAbout : Strand → (h : ℕ) → Type 0
@@ -27,6 +58,7 @@ IsAbout strand h = (strand ≡ of_pin h) ⊎ (strand ≡ of_handle h)
 
 pub about_or_not : (strand : Strand) (h : ℕ) → IsAbout strand h ⊎ (strand ≡ of_pin h → ⊥) × (strand ≡ of_handle h → ⊥)
 about_or_not of_pages h = inr ((λ e. cc e), (λ e. cc e))
+about_or_not of_move h = inr ((λ e. cc e), (λ e. cc e))
 about_or_not (of_pin k) h =
     elim (same_or_apart k h) [
       | inl same ↦ inl (inl (ap of_pin same))
@@ -37,6 +69,8 @@ about_or_not (of_handle k) h =
       | inl same ↦ inl (inr (ap of_handle same))
       | inr other ↦ inr ((λ e. cc e), (λ e. other (same_handle e)))
     ]
+about_or_not (of_get k) h = inr ((λ e. cc e), (λ e. cc e))
+about_or_not (of_put k) h = inr ((λ e. cc e), (λ e. cc e))
 
 -- that is declared
 about_declared : (script : ScriptValue) (op : Op) (h : ℕ) → AreDeclared script op → IsAbout (strand_of (Some op)) h → h < length script.handles

@@ -9,7 +9,7 @@ use Rattle.gup_spec_events.specs.Invariant.{AllCan, Holder, entry_of_page, prepa
 use Rattle.gup_law_base.specs.Sound.{IsSound}
 use Rattle.gup_law_base.specs.Sound as sounds
 use Rattle.gup_spec_turns.specs.JobPlace.{IsPrepared}
-use Rattle.gup_law_turns.proofs.CalmStates.{Strand, AreTurnEvents, IsTurnEvent, taking, filling, breaking, handling, giving, placing}
+use Rattle.gup_law_turns.proofs.CalmStates.{Strand, AreTurnEvents, IsTurnEvent, taking, filling, breaking, handling, giving, placing_frame, placing}
 use Rattle.gup_law_turns.proofs.Puts.{some_same}
 
 -- frames that actors have prepared are of the machine
@@ -38,6 +38,7 @@ module _ (s : CoreState) (a p c : ℕ) (strand : Strand) (h : ArePreparedThere s
   there_event (filling page f) can = λ b g is. there_without b g is
   there_event (breaking page old new was writable) can = λ b g is. there_without b g is
   there_event (handling handle is (giving to)) can = h
+  there_event (placing_frame is page f e allowed) can = λ b g is. there_without b g is
   there_event (placing done page to rights) can = λ b g is. there_without b g is
   there_event event can = h
 

@@ -1,35 +1,38 @@
 -- What is known of each state that turns lead to.
-use Rattle.std.proofs.Common.{◌≡◌, ℕ, ◌≤◌, ◌<◌, ◌⊎◌, inl, inr, Bool, List, [], ◌∷◌, length, slice_get, Contains, Option, Some, None, IsSome, true, refl, ap, sym, ◌∙◌, subst, arith, ◌+◌, zero, suc}
+use Rattle.std.proofs.Common.{◌≡◌, ℕ, ◌≤◌, ◌<◌, ◌⊎◌, inl, inr, Bool, List, [], ◌∷◌, length, slice_get, Contains, Option, Some, None, IsSome, true, false, refl, ap, sym, ◌∙◌, subst, arith, ◌+◌, zero, suc}
 use Rattle.std.proofs.lemmas.List.Sums.{get_or-le-sum_by}
 use Rattle.std.proofs.lemmas.Option.{slice_get_within}
 use Rattle.gup_base.specs.declared.entry.Entry.{Entry}
 use Rattle.gup_base.specs.declared.entry.Rights.{Rights}
 use Rattle.gup_base.specs.declared.entry.Want.{Want}
+use Rattle.gup_base.specs.declared.entry.Zone.{Zone}
 use Rattle.gup_plain.specs.State.{PlainState, unborn, failed, Handle, unmade, held, given, objects_of}
 use Rattle.gup_plain.specs.Event.{most_pages}
 use Rattle.gup_plain.specs.declared.note.What.{What}
 use Rattle.gup_plain.specs.declared.note.Waiting.{Waiting}
 use Rattle.gup_script.specs.declared.op.Op.{Op}
-use Rattle.gup_script.specs.declared.op.Op.TheVariants.{Unmap, Discard, Pin, Unpin, Transfer, Fork, Exit}
+use Rattle.gup_script.specs.declared.op.Op.TheVariants.{Unmap, Discard, Pin, Unpin, Transfer, Move, Fork, Exit}
 use Rattle.gup_script.specs.Script.{ScriptValue}
 use Rattle.gup_script.specs.Valid.{IsScript, IsOp}
-use Rattle.gup_spec_events.specs.State.{CoreState, Taken, Job, idle, forking, between, counted, copying}
+use Rattle.gup_spec_events.specs.State.{CoreState, Taken, Job, idle, moving, forking, between, counted, copying}
 use Rattle.gup_spec_events.specs.Event.{bias}
-use Rattle.gup_spec_events.specs.Invariant.{Holds, entry_of_page, page_of_pin, weight, frame_of}
+use Rattle.gup_spec_events.specs.Invariant.{Holds, entry_of_page, page_of_pin, got_as, got_frame, weight, frame_of, grabbed_frame}
 use Rattle.gup_law_base.specs.Sound.{IsSound}
 use Rattle.gup_law_base.specs.Sound as sounds
-use Rattle.gup_spec_journal.specs.Place.{Place, Doer, doer, place_behind, ops_of, present_op, process_of}
+use Rattle.gup_spec_journal.specs.Denial.{References}
+use Rattle.gup_spec_journal.specs.Place.{Place, Doer, place_behind, ops_of, present_op, process_of, doer_of}
 use Rattle.gup_plain.specs.Pages.{mapped_pages}
-use Rattle.gup_spec_turns.specs.PinPlace.{HasTaken, IsNoPin}
-use Rattle.gup_spec_turns.specs.JobPlace.{JobPlace, StandsFork, IsNoFork}
+use Rattle.gup_spec_turns.specs.PinPlace.{IsNoPin, StandsAtPage, StandsPin, turns_over}
+use Rattle.gup_spec_turns.specs.Cost.{pin_turns}
+use Rattle.gup_spec_turns.specs.JobPlace.{JobPlace, StandsFork, StandsMove, KeepsNoJob}
 use Rattle.gup_law_turns.specs.Standing.{StandsHandle, back_in, IsStanding}
 use Rattle.gup_spec_turns.specs.Run.{turned, RunState, run_start, run_after, op_in, core_turn_in}
 use Rattle.gup_law_turns.proofs.ScriptLemmas.{op_is_op, has_ops_declared}
-use Rattle.gup_law_turns.proofs.SmallCounts.{HoldsNoFrame, ArePinsFew, few_counts}
+use Rattle.gup_law_turns.proofs.SmallCounts.{HoldsNoFrame, HoldsFew, ArePinsFew, few_counts}
 use Rattle.gup_law_turns.proofs.FewPages.{few_sequence}
 use Rattle.gup_law_turns.proofs.ActorPlaces.{op_behind, answered_more}
 use Rattle.gup_law_turns.proofs.PreparedFrames.{ArePreparedThere, there_on, is_prepared}
-use Rattle.gup_law_turns.proofs.TurnShapes.{FitsFork, FitsOp, FitsAt, TurnAt, idles, waits, goes, unborn_refused, unborn_fork, child_of, strand_of}
+use Rattle.gup_law_turns.proofs.TurnShapes.{FitsMove, FitsFork, FitsPin, FitsOp, FitsAt, TurnAt, idles, waits, goes, unborn_refused, unborn_fork, child_of, strand_of}
 use Rattle.gup_law_turns.proofs.StandingTurns.{Starts, at_each, stands_on, stands_first}
 use Rattle.gup_law_turns.proofs.StandingStates.{Stands}
 use Rattle.gup_law_turns.proofs.TurnSteps.{taken}
@@ -85,17 +88,39 @@ fork_stands s a p child place (forking q c done (copying page n)) prepared fits 
 fork_stands s a p child place (forking q c done step) prepared fits = absurd fits.1
 fork_stands s a p child place job prepared fits = absurd fits
 
+move_stands : (s : CoreState) (a p page : ℕ) (zone : Zone) (place : Place) (job : Job) → FitsMove s a p page zone place job → StandsMove s a p page zone job × (grabbed_frame job ≡ None)
+move_stands s a p page zone place idle fits = (tt, refl)
+move_stands s a p page zone place (moving q g e allowed count) fits = (fits.1, refl)
+move_stands s a p page zone place job fits = absurd fits
+
 idle_stands : (job : Job) → job ≡ idle → HoldsNoFrame job
 idle_stands job is = rw is (refl, refl)
 
-no_frame : (s : CoreState) (who : Doer) (op : Option Op) (place : Place) → FitsAt s who op place → HoldsNoFrame (s.job who.actor)
-no_frame s who (Some (Pin handle page n want fast)) place fits = idle_stands (s.job who.actor) fits.0
-no_frame s who (Some (Fork child)) place fits = (fork_stands s who.actor who.proc child place (s.job who.actor) (s.prepared who.actor) fits.1).1
-no_frame s who (Some Exit) place fits = idle_stands (s.job who.actor) fits.0
-no_frame s who op place fits = idle_stands (s.job who.actor) fits.0.0
+few_frame : (a : ℕ) (job : Job) → HoldsNoFrame job → HoldsFew a job
+few_frame a job none = (inl none.0, none.1)
 
-idle_job : (s : CoreState) (who : Doer) (op : Option Op) (place : Place) → IsNoFork op → FitsAt s who op place → s.job who.actor ≡ idle
-idle_job s who (Some (Pin handle page n want fast)) place no_fork fits = fits.0
+-- a long pin keeps no walk's frame
+ungrabbed : (s : CoreState) (a p page : ℕ) (want : Want) (job : Job) → StandsAtPage s a p page want job → grabbed_frame job ≡ None
+ungrabbed s a p page want idle at = refl
+ungrabbed s a p page want (moving q g e allowed count) at = refl
+ungrabbed s a p page want job at = absurd at
+
+-- a short pin is in the middle of nothing
+short_idle : (s : CoreState) (a p page : ℕ) (want : Want) (job : Job) → s.job a ≡ job → want.long ≡ false → StandsAtPage s a p page want job → s.job a ≡ idle
+short_idle s a p page want idle is short at = is
+short_idle s a p page want (moving q g e allowed count) is short at = absurd (let long = at.4.long in cc)
+short_idle s a p page want job is short at = absurd at
+
+no_frame : (s : CoreState) (who : Doer) (op : Option Op) (place : Place) → ((o : Op) → op ≡ Some o → who.actor < 81) → FitsAt s who op place → HoldsFew who.actor (s.job who.actor)
+no_frame s who (Some (Pin handle page n want fast)) place few fits = (inr (few (Pin handle page n want fast) refl), ungrabbed s who.actor who.proc (page + length (s.taken who.actor)) want (s.job who.actor) fits.at)
+no_frame s who (Some (Move proc page zone)) place few fits = (inr (few (Move proc page zone) refl), (move_stands s who.actor who.proc page zone place (s.job who.actor) fits.2).1)
+no_frame s who (Some (Fork child)) place few fits = few_frame who.actor (s.job who.actor) (fork_stands s who.actor who.proc child place (s.job who.actor) (s.prepared who.actor) fits.1).1
+no_frame s who (Some Exit) place few fits = few_frame who.actor (s.job who.actor) (idle_stands (s.job who.actor) fits.0)
+no_frame s who op place few fits = few_frame who.actor (s.job who.actor) (idle_stands (s.job who.actor) fits.0.0)
+
+idle_job : (s : CoreState) (who : Doer) (op : Option Op) (place : Place) → KeepsNoJob op → FitsAt s who op place → s.job who.actor ≡ idle
+idle_job s who (Some (Pin handle page n want fast)) place short fits = short_idle s who.actor who.proc (page + length (s.taken who.actor)) want (s.job who.actor) refl short fits.at
+idle_job s who (Some (Move proc page zone)) place no_fork fits = absurd no_fork
 idle_job s who (Some (Fork child)) place no_fork fits = absurd no_fork
 idle_job s who (Some Exit) place no_fork fits = fits.0
 idle_job s who op place no_fork fits = fits.0.0
@@ -104,6 +129,7 @@ idle_job s who op place no_fork fits = fits.0.0
 
 untaken : (s : CoreState) (who : Doer) (op : Option Op) (place : Place) → IsNoPin op → FitsAt s who op place → s.taken who.actor ≡ []
 untaken s who (Some (Pin handle page n want fast)) place no_pin fits = absurd no_pin
+untaken s who (Some (Move proc page zone)) place no_pin fits = fits.0
 untaken s who (Some (Fork child)) place no_pin fits = fits.0
 untaken s who (Some Exit) place no_pin fits = fits.1
 untaken s who op place no_pin fits = fits.0.1
@@ -141,19 +167,17 @@ few_pins script valid r h =
   where
     at : (a k : ℕ) (t : Taken) → slice_get (r.core.taken a) k ≡ Some t → IsNoPin (op_in script r a) ⊎ ((handle page n : ℕ) × (want : Want) × (fast : Bool) × (op_in script r a ≡ Some (Pin handle page n want fast))) → (a < 81) × (k < 16)
     at a k t there (inl no_pin) =
-        absurd (let none : slice_get (r.core.taken a) k ≡ None = ap (λ (xs : List Taken). slice_get xs k) (untaken r.core (doer script a) (op_in script r a) (r.places a) no_pin (h.fits a)) in cc)
+        absurd (let none : slice_get (r.core.taken a) k ≡ None = ap (λ (xs : List Taken). slice_get xs k) (untaken r.core (doer_of script a (op_in script r a)) (op_in script r a) (r.places a) no_pin (h.fits a)) in cc)
     at a k t there (inr pin) =
         let op : Op = Pin pin.0 pin.1 pin.2 pin.3 pin.4 in
-        let fits : FitsOp r.core (doer script a) op (r.places a) = subst (λ (o : Option Op). FitsAt r.core (doer script a) o (r.places a)) pin.5 (h.fits a) in
+        let fits : FitsOp r.core (doer_of script a (Some op)) op (r.places a) = subst (λ (o : Option Op). FitsAt r.core (doer_of script a o) o (r.places a)) pin.5 (h.fits a) in
         let range : IsOp op = op_is_op script valid a (r.places a).answered op pin.5 in
         let within = slice_get_within (r.core.taken a) k t there in
-        let stands = fits.2 in
-        let many = stands.taken.many in
-        let one = stands.within in
+        let one = fits.within in
         let most = range.1 in
         let declared = has_ops_declared script a (r.places a).answered op pin.5 in
         let actors = valid.few_actors in
-        (omega (arith, declared, actors), omega (arith, within, many, one, most))
+        (omega (arith, declared, actors), omega (arith, within, one, most))
 
 -- the page of a handle has its weight in its frame's count
 pin_weighed : (s : CoreState) (h k f : ℕ) → IsSound s → slice_get (s.pinned h) k ≡ Some f → bias ≤ s.count f
@@ -166,17 +190,43 @@ pin_weighed s h k f sound is =
     let sum = sound.1.count_is f in
     omega (arith, some, here, sum, tally.3)
 
--- a pin that has taken a page has set the flag of its process
+-- the frame of a reference has one
+got_counted : (s : CoreState) (h a f : ℕ) → IsSound s → s.got h ≡ Some (a, f) → s.count f ≡ 0 → ⊥
+unfolding sounds.held
+got_counted s h a f sound is none =
+    let tally = sound.1.references f in
+    let at : Contains tally.0 (got_as h) = (tally.2 (got_as h)).0 (ap got_frame is) in
+    let some = get_or-le-sum_by weight tally.0 at.0 (got_as h) at.1 in
+    let here = ap weight at.2 in
+    let sum = sound.1.count_is f in
+    omega (arith, some, here, sum, none, tally.3)
+
+-- a pin that is in the middle of none has taken a page if any of its turns is over
+taken_some : (long : Bool) (got far : ℕ) → far ≤ pin_turns long got + 0 → 0 < far → 0 < got
+taken_some true got far most some = omega (arith, most, some)
+taken_some false got far most some = omega (arith, most, some)
+
+-- a pin of which a turn is over has set the flag of its process
 first_taken : (xs : List Taken) → 0 < length xs → (t : Taken) × (slice_get xs 0 ≡ Some t)
 first_taken [] some = absurd (omega (arith, some))
 first_taken (t ∷ xs) some = (t, refl)
 
-pin_flagged : (s : CoreState) (a p page far : ℕ) (want : Want) → IsSound s → HasTaken p page want far (s.taken a) → 0 < far → s.has_pinned p ≡ true
-pin_flagged s a p page far want sound taken some =
-    let many = taken.many in
-    let first = first_taken (s.taken a) (omega (arith, many, some)) in
-    let proc = (taken.each 0 first.0 first.1).0 in
-    ap s.has_pinned (sym proc) ∙ sound.1.taken_flag a 0 first.0 first.1
+pin_flagged : (s : CoreState) (a p handle page n : ℕ) (want : Want) (place : Place) → IsSound s → FitsPin s a p handle page n want place (s.taken a) (s.job a) → (job : Job) → s.job a ≡ job → 0 < place.far → s.has_pinned p ≡ true
+pin_flagged s a p handle page n want place sound fits job is some = by_job job is (subst (StandsAtPage s a p (page + length (s.taken a)) want) is fits.at)
+  where
+    by_pages : 0 < length (s.taken a) → s.has_pinned p ≡ true
+    by_pages any =
+        let first = first_taken (s.taken a) any in
+        let proc = (fits.has.each 0 first.0 first.1).0 in
+        ap s.has_pinned (sym proc) ∙ sound.1.taken_flag a 0 first.0 first.1
+
+    by_job : (job : Job) → s.job a ≡ job → StandsAtPage s a p (page + length (s.taken a)) want job → s.has_pinned p ≡ true
+    by_job idle same at = by_pages (taken_some want.long (length (s.taken a)) place.far (subst (λ (j : Job). place.far ≤ pin_turns want.long (length (s.taken a)) + turns_over j) same fits.most) some)
+    by_job (moving q g e allowed count) same at = at.4.flag
+    by_job job same at = absurd at
+
+pin_stands : (s : CoreState) (a p handle page n : ℕ) (want : Want) (place : Place) → FitsPin s a p handle page n want place (s.taken a) (s.job a) → StandsPin s a p handle page n want (length (s.taken a))
+pin_stands s a p handle page n want place fits = record { within = fits.within; yet = fits.yet; taken = fits.has; at = fits.at }
 
 -- what is published of core states
 abbrev pub Published : Type 0
@@ -196,10 +246,12 @@ pub is_standing : Published → (script : ScriptValue) → IsScript script → (
 is_standing published script valid r h =
     let s : CoreState = r.core in
     let k : Stands script r = h.stands in
-    let at : (a : ℕ) (op : Op) → present_op script a (r.places a) ≡ Some op → FitsOp s (doer script a) op (r.places a) =
-    λ a op is. subst (λ (o : Option Op). FitsAt s (doer script a) o (r.places a)) is (k.fits a) in
+    let at : (a : ℕ) (op : Op) → present_op script a (r.places a) ≡ Some op → FitsOp s (doer_of script a (Some op)) op (r.places a) =
+    λ a op is. subst (λ (o : Option Op). FitsAt s (doer_of script a o) o (r.places a)) is (k.fits a) in
     let few : (p page : ℕ) (e : Entry) → s.entry p page ≡ Some e → p < 16 =
     λ p page e is. let below : p < length script.processes = k.declared p (entry_brought s p page e k.sound (k.emptied p page) is) in let most = valid.few_processes in omega (arith, below, most) in
+    let few_actor : (a : ℕ) (op : Op) → present_op script a (r.places a) ≡ Some op → a < 81 =
+    λ a op is. let declared = has_ops_declared script a (r.places a).answered op is in let actors = valid.few_actors in omega (arith, declared, actors) in
     record {
       sound = k.sound;
       holds = published s k.sound;
@@ -207,27 +259,31 @@ is_standing published script valid r h =
       mapped = λ p page e is. entry_mapped s p page e k.sound (k.emptied p page) is (s.right p page) refl;
       counted = λ p page e is none. entry_counted s p page e k.sound is none;
       few_pages = λ p. few_mapped s p (k.few.mapped p) (k.few.pages p);
-      few_counts = few_counts s k.sound k.calm k.rest (λ a. no_frame s (doer script a) (present_op script a (r.places a)) (r.places a) (k.fits a)) k.emptied few (few_pins script valid r k);
+      few_counts = few_counts s k.sound k.calm k.rest (λ a. no_frame s (doer_of script a (present_op script a (r.places a))) (present_op script a (r.places a)) (r.places a) (λ op is. few_actor a op is) (k.fits a)) k.emptied few (few_pins script valid r k) (λ handle got. let below = k.got handle got in let most = valid.few_handles in omega (arith, below, most));
       few_forks = few_sequence (length script.processes) valid.few_processes s k.few;
-      idle_jobs = λ a no_fork. idle_job s (doer script a) (present_op script a (r.places a)) (r.places a) no_fork (k.fits a);
+      idle_jobs = λ a no_fork. idle_job s (doer_of script a (present_op script a (r.places a))) (present_op script a (r.places a)) (r.places a) no_fork (k.fits a);
       forks = λ a child is. (fork_stands s a (process_of script a) child (r.places a) (s.job a) (s.prepared a) (at a (Fork child) is).1).0;
+      moves = λ a proc page zone is. (move_stands s a proc page zone (r.places a) (s.job a) (at a (Move proc page zone) is).2).0;
       prepared = λ a f is. is_prepared s k.sound h.there a f is;
       keeps = λ a. (k.rest a).prepared;
-      untaken = λ a no_pin. untaken s (doer script a) (present_op script a (r.places a)) (r.places a) no_pin (k.fits a);
-      pins = λ a handle page n want fast is. (at a (Pin handle page n want fast) is).2;
-      flagged = λ a handle page n want fast is. pin_flagged s a (process_of script a) page (r.places a).far want k.sound (at a (Pin handle page n want fast) is).2.taken;
+      untaken = λ a no_pin. untaken s (doer_of script a (present_op script a (r.places a))) (present_op script a (r.places a)) (r.places a) no_pin (k.fits a);
+      pins = λ a handle page n want fast is. pin_stands s a (process_of script a) handle page n want (r.places a) (at a (Pin handle page n want fast) is);
+      paced = λ a handle page n want fast is. (at a (Pin handle page n want fast) is).most;
+      flagged = λ a handle page n want fast is. pin_flagged s a (process_of script a) handle page n want (r.places a) k.sound (at a (Pin handle page n want fast) is) (s.job a) refl;
       unpins = λ a handle is. unpin_short (back_in script r handle) (s.pinned handle) (s.handle handle) a (r.places a).far (k.handles handle) (at a (Unpin handle) is).2 (at a (Unpin handle) is).3;
       handles = k.handles;
       made = k.made;
       weighed = λ handle j f there. pin_weighed s handle j f k.sound there;
-      ungot = k.calm.no_gets;
+      got = k.got;
+      referred = λ handle a f there none. got_counted s handle a f k.sound there none;
+      yet_unmade = λ a handle op is makes. k.yet_unmade a (r.places a).answered handle (op, is, makes) (omega arith);
       unmaps = λ a page n is. (at a (Unmap page n) is).1;
       discards = λ a page n is. (at a (Discard page n) is).1;
       transfers = λ a handle outward slot parts is. (at a (Transfer handle outward slot parts) is).2;
       answered = h.answered;
     }
 
-answered_on : (script : ScriptValue) (t : CoreState) {s : PlainState} {who : Doer} {place : Place} {op : Option Op} {waiting : Option Waiting} {whats : List What} {from to : JobPlace} → TurnAt s who place op waiting from whats to → present_op script who.actor place ≡ op → HasAnswered script who.actor place → HasAnswered script who.actor (place_behind place whats)
+answered_on : (script : ScriptValue) (t : CoreState) {s : PlainState} {references : References} {who : Doer} {place : Place} {op : Option Op} {waiting : Option Waiting} {whats : List What} {from to : JobPlace} → TurnAt s references who place op waiting from whats to → present_op script who.actor place ≡ op → HasAnswered script who.actor place → HasAnswered script who.actor (place_behind place whats)
 answered_on script t (idles waiting at) is within = within
 answered_on script t (waits op waiting at) is within = within
 answered_on script t {who = who} {place = place} (goes op whats from to birth own turn) is within =
@@ -243,7 +299,7 @@ reached_on law script valid r h a =
     let behind = place_behind (r.places a) (core_turn_in script r a).whats in
     record {
       stands = stands_on law script valid r h.stands a;
-      there = there_on r.core a (process_of script a) (child_of (process_of script a) (op_in script r a)) (strand_of (op_in script r a)) (core_turn_in script r a).events turn.done.kinds turn.done.can h.there;
+      there = there_on r.core a (doer_of script a (op_in script r a)).proc (child_of (doer_of script a (op_in script r a)).proc (op_in script r a)) (strand_of (op_in script r a)) (core_turn_in script r a).events turn.done.kinds turn.done.can h.there;
       answered = at_each (HasAnswered script) a behind r.places (answered_on script r.core turn.shape refl (h.answered a)) h.answered;
     }
 

@@ -2,14 +2,14 @@
 use Rattle.std.proofs.Common.{◌≡◌, ℕ, ◌<◌, ◌≤◌, Bool, true, List, Option, Some, None, slice_get, length, All, refl, ap, subst, arith}
 use Rattle.std.proofs.lemmas.Option.{slice_get_within, get_or_from_slice_get}
 use Rattle.gup_script.specs.Script.{ScriptValue, Process, Actor, actor_at, process_at, ops_in, ops_of, is_thread}
-use Rattle.gup_script.specs.Valid.{IsScript, IsOp, IsChild, AreDeclared, ForksAt, FitsKind, IsOfDevice, KindFits}
+use Rattle.gup_script.specs.Valid.{IsScript, IsOp, IsChild, AreDeclared, ForksAt, FitsKind, IsOfDevice, IsOfMover, KindFits}
 use Rattle.gup_base.specs.Counts.{most_slots}
 use Rattle.gup_script.specs.declared.op.Kind.{Kind}
 use Rattle.gup_script.specs.declared.op.Kind.TheVariants.{Thread, Device, Mover}
 use Rattle.gup_plain.specs.State.{Birth}
-use Rattle.gup_spec_journal.specs.Place.{Doer, doer, thread_in, birth_by, birth_for, slots_of_kind, slots_in, process_of, process_in, process_of_kind, ops_of, ops_in}
+use Rattle.gup_spec_journal.specs.Place.{Doer, doer, doer_of, thread_in, birth_by, birth_for, slots_of_kind, slots_in, process_of, process_in, process_of_kind, ops_of, ops_in}
 use Rattle.gup_script.specs.declared.op.Op.{Op}
-use Rattle.gup_script.specs.declared.op.Op.TheVariants.{Fork}
+use Rattle.gup_script.specs.declared.op.Op.TheVariants.{Move, Fork}
 
 -- an actor that is declared has operations of its kind
 abbrev pub FitsIn : Option Actor → Op → Type 0
@@ -58,22 +58,27 @@ kind_at script valid a k op (Some actor) is there =
 pub op_fits_kind : (script : ScriptValue) → IsScript script → (a k : ℕ) (op : Op) → slice_get (ops_of script a) k ≡ Some op → FitsIn (actor_at script a) op
 op_fits_kind script valid a k op there = kind_at script valid a k op (actor_at script a) refl there
 
--- an operation that is none of a device is a thread's
-thread_kind : (kind : Kind) (op : Op) → FitsKind kind op → (IsOfDevice op → ⊥) → is_thread kind ≡ true
-thread_kind (Thread p) op fits other = refl
-thread_kind (Device slots) op fits other = absurd (other fits)
-thread_kind Mover op fits other = absurd fits
+-- an operation that is none of a device, and no move, is a thread's
+thread_kind : (kind : Kind) (op : Op) → FitsKind kind op → (IsOfDevice op → ⊥) → (IsOfMover op → ⊥) → is_thread kind ≡ true
+thread_kind (Thread p) op fits other unmoved = refl
+thread_kind (Device slots) op fits other unmoved = absurd (other fits)
+thread_kind Mover op fits other unmoved = absurd (unmoved fits)
 
-thread_in_kind : (actor : Option Actor) (op : Op) → FitsIn actor op → (IsOfDevice op → ⊥) → thread_in actor ≡ true
-thread_in_kind None op fits other = absurd fits
-thread_in_kind (Some actor) op fits other = thread_kind actor.kind op fits other
+thread_in_kind : (actor : Option Actor) (op : Op) → FitsIn actor op → (IsOfDevice op → ⊥) → (IsOfMover op → ⊥) → thread_in actor ≡ true
+thread_in_kind None op fits other unmoved = absurd fits
+thread_in_kind (Some actor) op fits other unmoved = thread_kind actor.kind op fits other unmoved
 
-pub is_of_thread : (script : ScriptValue) → IsScript script → (a k : ℕ) (op : Op) → slice_get (ops_of script a) k ≡ Some op → (IsOfDevice op → ⊥) → (doer script a).thread ≡ true
-is_of_thread script valid a k op there other =
-    thread_in_kind (actor_at script a) op (op_fits_kind script valid a k op there) other
+pub is_of_thread : (script : ScriptValue) → IsScript script → (a k : ℕ) (op : Op) → slice_get (ops_of script a) k ≡ Some op → (IsOfDevice op → ⊥) → (IsOfMover op → ⊥) → (doer script a).of_process ≡ true
+is_of_thread script valid a k op there other unmoved =
+    thread_in_kind (actor_at script a) op (op_fits_kind script valid a k op there) other unmoved
+
+-- one that is none of a device is of a process, a thread's or the one that it names
+pub has_own_process : (script : ScriptValue) → IsScript script → (a k : ℕ) (op : Op) → slice_get (ops_of script a) k ≡ Some op → (IsOfDevice op → ⊥) → (doer_of script a (Some op)).of_process ≡ true
+has_own_process script valid a k (Move proc page zone) there other = refl
+has_own_process script valid a k op there other = is_of_thread script valid a k op there other (λ moves. moves)
 
 -- so its process is born where the actor waits for no birth
-pub thread_birth : (who : Doer) (birth : ℕ → Birth) → who.thread ≡ true → birth_for birth who ≡ birth who.proc
+pub thread_birth : (who : Doer) (birth : ℕ → Birth) → who.of_process ≡ true → birth_for birth who ≡ birth who.proc
 thread_birth who birth is = ap (λ (t : Bool). birth_by t (birth who.proc)) is
 
 -- a store has at most 4,096 slots
@@ -101,5 +106,10 @@ process_declared script valid a (Some actor) is thread =
     of_kind (Device slots) fits thread = absurd (cc thread)
     of_kind Mover fits thread = absurd (cc thread)
 
-pub has_process : (script : ScriptValue) → IsScript script → (a : ℕ) → (doer script a).thread ≡ true → process_of script a < length script.processes
+pub has_process : (script : ScriptValue) → IsScript script → (a : ℕ) → (doer script a).of_process ≡ true → process_of script a < length script.processes
 has_process script valid a thread = process_declared script valid a (actor_at script a) refl thread
+
+-- and so is the one that an operation is of
+pub op_has_process : (script : ScriptValue) → IsScript script → (a k : ℕ) (op : Op) → slice_get (ops_of script a) k ≡ Some op → (doer_of script a (Some op)).of_process ≡ true → (doer_of script a (Some op)).proc < length script.processes
+op_has_process script valid a k (Move proc page zone) there is = ops_at (AreDeclared script) script valid.declared a k (Move proc page zone) (actor_at script a) refl there
+op_has_process script valid a k op there is = has_process script valid a is

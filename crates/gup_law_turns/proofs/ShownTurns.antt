@@ -22,7 +22,7 @@ use Rattle.gup_spec_turns.specs.CoreTurn.{CoreTurn}
 use Rattle.gup_spec_turns.specs.Waits.{held_by_other, waits_for_locks, first_waiting, both_locks}
 use Rattle.gup_spec_turns.proofs.TurnParts.{waits_at}
 use Rattle.gup_law_turns.proofs.CalmStates.{IsCalm, Strand, AreTurnEvents}
-use Rattle.gup_law_turns.proofs.TurnShapes.{FitsAt, Rests, TurnOf, AtRest, IsDone, child_of, strand_of}
+use Rattle.gup_law_turns.proofs.TurnShapes.{references_of, FitsAt, Rests, TurnOf, AtRest, IsDone, child_of, strand_of}
 use Rattle.std.specs.Prelude.{◌⊎◌}
 
 -- A state between two turns, in which process p is born.
@@ -68,7 +68,7 @@ MakesPin s t a op = Unit {0}
 -- the turn can be done, it has its shape, and the actor stands right after it
 pub record IsTurned (s : CoreState) (who : Doer) (place : Place) (op : Op) (turn : CoreTurn) : Type 0 where
   pub done : IsDone s who.actor who.proc (child_of who.proc (Some op)) (strand_of (Some op)) turn
-  pub shape : TurnOf (plain_of s) who place op (place_in s who.actor) turn.whats (place_in (run s turn.events) who.actor)
+  pub shape : TurnOf (plain_of s) (references_of s) who place op (place_in s who.actor) turn.whats (place_in (run s turn.events) who.actor)
   pub next : FitsNext (run s turn.events) who (Some op) place turn.whats
   pub pin : MakesPin s (run s turn.events) who.actor op
 
@@ -77,10 +77,10 @@ pub idle_place : (s : CoreState) (a : ℕ) → s.job a ≡ idle → place_in s a
 idle_place s a job = ap (λ (j : Job). job_place j (s.prepared a)) job
 
 -- where the actor is in the middle of nothing before and after, the turn is none of a fork that has begun
-pub shape_idle : (s t : CoreState) (who : Doer) (place : Place) (op : Op) (whats : List What) → s.job who.actor ≡ idle → t.job who.actor ≡ idle → TurnOf (plain_of s) who place op unbegun whats unbegun → TurnOf (plain_of s) who place op (place_in s who.actor) whats (place_in t who.actor)
+pub shape_idle : (s t : CoreState) (who : Doer) (place : Place) (op : Op) (whats : List What) → s.job who.actor ≡ idle → t.job who.actor ≡ idle → TurnOf (plain_of s) (references_of s) who place op unbegun whats unbegun → TurnOf (plain_of s) (references_of s) who place op (place_in s who.actor) whats (place_in t who.actor)
 shape_idle s t who place op whats before behind shape =
-    subst (λ (from : JobPlace). TurnOf (plain_of s) who place op from whats (place_in t who.actor)) (sym (idle_place s who.actor before))
-    (subst (λ (to : JobPlace). TurnOf (plain_of s) who place op unbegun whats to) (sym (idle_place t who.actor behind)) shape)
+    subst (λ (from : JobPlace). TurnOf (plain_of s) (references_of s) who place op from whats (place_in t who.actor)) (sym (idle_place s who.actor before))
+    (subst (λ (to : JobPlace). TurnOf (plain_of s) (references_of s) who place op unbegun whats to) (sym (idle_place t who.actor behind)) shape)
 
 -- locks
 

@@ -1,6 +1,7 @@
--- Counts stay small: a frame that an actor has prepared has one reference; where nobody but pages' entries, handles and
--- running pins holds a frame, its count is at most the number of pages of all processes, and the weight of all pages that
--- may be pinned.
+-- Counts stay small: a frame that an actor has prepared has one reference; where nobody but pages' entries, moves, handles and
+-- running pins holds a frame, its count is at most the number of pages of all processes and of all references, that of all actors, and the weight
+-- of
+-- all pages that may be pinned.
 use Rattle.std.proofs.Common.{◌≡◌, ℕ, ◌+◌, ◌*◌, ◌≤◌, ◌<◌, ◌⊎◌, inl, inr, ◌==◌, Bool, true, false, if◌then◌else◌, List, [], ◌∷◌, slice_get, Contains, Option, Some, None, refl, ap, sym, subst, ◌∙◌, eqb-true, arith}
 use Rattle.std.specs.Prelude.{sum_by}
 use Rattle.std.proofs.lemmas.Bool.Decides.{nat_tests}
@@ -24,6 +25,10 @@ use Rattle.gup_law_turns.proofs.Sums.{sum_at, sum_both, sum_ones, sum_zero}
 abbrev pub HoldsNoFrame : Job → Type 0
 HoldsNoFrame job = (cleared_frame job ≡ None) × (grabbed_frame job ≡ None)
 
+-- the job of one of 81 actors, or of any other, which keeps none that a move has cleared; and no walk's
+abbrev pub HoldsFew : (a : ℕ) → Job → Type 0
+HoldsFew a job = ((cleared_frame job ≡ None) ⊎ (a < 81)) × (grabbed_frame job ≡ None)
+
 -- elements of lists
 
 first_element : {X : Type 0} (x : X) (xs : List X) → Contains (x ∷ xs) x
@@ -34,20 +39,30 @@ later_element x xs y has = Contains-append_right (x ∷ []) xs y has
 
 -- holders as numbers
 
--- an entry of a page of one of 16 processes, a page of one of 1,024 handles, or one that one of 81 actors has taken
+-- an entry of a page of one of 16 processes, one that one of 81 actors has cleared, a page of one of 1,024 handles, one that
+-- one of 81 actors has taken, or a
+-- reference got by one of 1,024 handles
 data IsPlace : Holder → Type 0 where
   of_entry : (p page : ℕ) → p < 16 → page < page_numbers → IsPlace (entry_of_page p page)
+  of_cleared : (a : ℕ) → a < 81 → IsPlace (cleared_by a)
   of_made : (h k : ℕ) → h < 1024 → k < 16 → IsPlace (page_of_pin h k)
   of_taken : (a k : ℕ) → a < 81 → k < 16 → IsPlace (page_taken a k)
+  of_got : (h : ℕ) → h < 1024 → IsPlace (got_as h)
 
 abbrev ArePlaces : List Holder → Type 0
 ArePlaces [] = Unit {0}
 ArePlaces (x ∷ xs) = IsPlace x × ArePlaces xs
 
--- an entry's number among the pages of those
+-- an entry's number among the pages of those, and that of a reference after them
 abbrev entry_number : Holder → Option ℕ
 entry_number (entry_of_page p page) = Some (page * 16 + p)
+entry_number (got_as h) = Some (16 * page_numbers + h)
 entry_number x = None
+
+-- a cleared one's is that of its actor
+abbrev cleared_number : Holder → Option ℕ
+cleared_number (cleared_by a) = Some a
+cleared_number x = None
 
 -- and a pinned page's among those of handles and those taken
 abbrev pin_number : Holder → Option ℕ
@@ -62,12 +77,38 @@ one_entry x y j (of_entry p page low below) (of_entry q other also under) here t
     let procs : p ≡ q = omega (arith, this, that, low, also) in
     let pages : page ≡ other = omega (arith, this, that, low, also) in
     ap (λ (k : ℕ). entry_of_page k page) procs ∙ ap (entry_of_page q) pages
+one_entry x y j (of_entry p page low below) (of_got h few) here there =
+    let this : page * 16 + p ≡ j = some_same here in
+    let that : 16 * page_numbers + h ≡ j = some_same there in
+    absurd (omega (arith, this, that, low, below))
 one_entry x y j (of_entry p page low below) other here there = absurd (cc there)
+one_entry x y j (of_got h few) (of_entry p page low below) here there =
+    let this : 16 * page_numbers + h ≡ j = some_same here in
+    let that : page * 16 + p ≡ j = some_same there in
+    absurd (omega (arith, this, that, low, below))
+one_entry x y j (of_got h few) (of_got g less) here there =
+    let this : 16 * page_numbers + h ≡ j = some_same here in
+    let that : 16 * page_numbers + g ≡ j = some_same there in
+    let same : h ≡ g = omega (arith, this, that) in
+    ap got_as same
+one_entry x y j (of_got h few) other here there = absurd (cc there)
 one_entry x y j place is here there = absurd (cc here)
+
+one_cleared : (x y : Holder) (j : ℕ) → IsPlace x → IsPlace y → cleared_number x ≡ Some j → cleared_number y ≡ Some j → x ≡ y
+one_cleared x y j (of_cleared a low) (of_cleared b also) here there =
+    let this : a ≡ j = some_same here in
+    let that : b ≡ j = some_same there in
+    ap cleared_by (this ∙ sym that)
+one_cleared x y j (of_cleared a low) other here there = absurd (cc there)
+one_cleared x y j place is here there = absurd (cc here)
 
 one_pin : (x y : Holder) (j : ℕ) → IsPlace x → IsPlace y → pin_number x ≡ Some j → pin_number y ≡ Some j → x ≡ y
 one_pin x y j (of_entry p page low below) is here there = absurd (cc here)
+one_pin x y j (of_got h few) is here there = absurd (cc here)
+one_pin x y j (of_cleared a low) is here there = absurd (cc here)
 one_pin x y j (of_made h k less few) (of_entry p page low below) here there = absurd (cc there)
+one_pin x y j (of_made h k less few) (of_got g low) here there = absurd (cc there)
+one_pin x y j (of_made h k less few) (of_cleared a low) here there = absurd (cc there)
 one_pin x y j (of_made h k less few) (of_made g l under low) here there =
     let this : h * 16 + k ≡ j = some_same here in
     let that : g * 16 + l ≡ j = some_same there in
@@ -79,6 +120,8 @@ one_pin x y j (of_made h k less few) (of_taken a l under low) here there =
     let that : 16384 + (a * 16 + l) ≡ j = some_same there in
     absurd (omega (arith, this, that, less, few))
 one_pin x y j (of_taken a k less few) (of_entry p page low below) here there = absurd (cc there)
+one_pin x y j (of_taken a k less few) (of_got g low) here there = absurd (cc there)
+one_pin x y j (of_taken a k less few) (of_cleared b low) here there = absurd (cc there)
 one_pin x y j (of_taken a k less few) (of_made h l under low) here there =
     let this : 16384 + (a * 16 + k) ≡ j = some_same here in
     let that : h * 16 + l ≡ j = some_same there in
@@ -90,12 +133,19 @@ one_pin x y j (of_taken a k less few) (of_taken b l under low) here there =
     let pages : k ≡ l = omega (arith, this, that, few, low) in
     ap (λ (n : ℕ). page_taken n k) actors ∙ ap (page_taken b) pages
 
-entry_below : (x : Holder) (j : ℕ) → IsPlace x → entry_number x ≡ Some j → j < 16 * page_numbers
+entry_below : (x : Holder) (j : ℕ) → IsPlace x → entry_number x ≡ Some j → j < 16 * page_numbers + 1024
 entry_below x j (of_entry p page low below) is = let this : page * 16 + p ≡ j = some_same is in omega (arith, this, low, below)
+entry_below x j (of_got h few) is = let this : 16 * page_numbers + h ≡ j = some_same is in omega (arith, this, few)
 entry_below x j place is = absurd (cc is)
+
+cleared_below : (x : Holder) (j : ℕ) → IsPlace x → cleared_number x ≡ Some j → j < 81
+cleared_below x j (of_cleared a low) is = let this : a ≡ j = some_same is in omega (arith, this, low)
+cleared_below x j place is = absurd (cc is)
 
 pin_below : (x : Holder) (j : ℕ) → IsPlace x → pin_number x ≡ Some j → j < 17680
 pin_below x j (of_entry p page low below) is = absurd (cc is)
+pin_below x j (of_got h few) is = absurd (cc is)
+pin_below x j (of_cleared a low) is = absurd (cc is)
 pin_below x j (of_made h k less few) is = let this : h * 16 + k ≡ j = some_same is in omega (arith, this, less, few)
 pin_below x j (of_taken a k less few) is = let this : 16384 + (a * 16 + k) ≡ j = some_same is in omega (arith, this, less, few)
 
@@ -104,10 +154,12 @@ abbrev one_of : Option ℕ → ℕ
 one_of None = 0
 one_of (Some k) = 1
 
-weighs : (x : Holder) → IsPlace x → weight x ≡ one_of (entry_number x) + bias * one_of (pin_number x)
+weighs : (x : Holder) → IsPlace x → weight x ≡ one_of (entry_number x) + one_of (cleared_number x) + bias * one_of (pin_number x)
 weighs x (of_entry p page low below) = refl
+weighs x (of_cleared a low) = refl
 weighs x (of_made h k less few) = refl
 weighs x (of_taken a k less few) = refl
+weighs x (of_got h few) = refl
 
 -- one where it is the number
 abbrev is_number : (o : Option ℕ) (j : ℕ) → ℕ
@@ -182,22 +234,24 @@ module _ (number : Holder → Option ℕ) (n : ℕ) (low : (x : Holder) (j : ℕ
       omega (arith, all, few)
 
 -- the weight of distinct places is at most that of all
-all_weigh : (xs : List Holder) → ArePlaces xs → sum_by weight xs ≡ sum_by (λ (x : Holder). one_of (entry_number x)) xs + bias * sum_by (λ (x : Holder). one_of (pin_number x)) xs
+all_weigh : (xs : List Holder) → ArePlaces xs → sum_by weight xs ≡ sum_by (λ (x : Holder). one_of (entry_number x)) xs + sum_by (λ (x : Holder). one_of (cleared_number x)) xs + bias * sum_by (λ (x : Holder). one_of (pin_number x)) xs
 all_weigh [] places = refl
 all_weigh (x ∷ xs) places =
     let rest = all_weigh xs places.1 in
     let first = weighs x places.0 in
     let all = sum_by-cons weight x xs in
     let entries = sum_by-cons (λ (y : Holder). one_of (entry_number y)) x xs in
+    let cleared = sum_by-cons (λ (y : Holder). one_of (cleared_number y)) x xs in
     let pins = sum_by-cons (λ (y : Holder). one_of (pin_number y)) x xs in
-    omega (arith, rest, first, all, entries, pins)
+    omega (arith, rest, first, all, entries, cleared, pins)
 
-places_weigh : (xs : List Holder) → ArePlaces xs → HasNoRepetition xs → sum_by weight xs ≤ 16 * page_numbers + bias * 17680
+places_weigh : (xs : List Holder) → ArePlaces xs → HasNoRepetition xs → sum_by weight xs ≤ 16 * page_numbers + 1024 + 81 + bias * 17680
 places_weigh xs places alone =
     let all = all_weigh xs places in
-    let entries = few_numbered entry_number (16 * page_numbers) entry_below one_entry xs places alone in
+    let entries = few_numbered entry_number (16 * page_numbers + 1024) entry_below one_entry xs places alone in
+    let cleared = few_numbered cleared_number 81 cleared_below one_cleared xs places alone in
     let pins = few_numbered pin_number 17680 pin_below one_pin xs places alone in
-    omega (arith, all, entries, pins)
+    omega (arith, all, entries, cleared, pins)
 
 -- the holders of a frame
 
@@ -214,7 +268,7 @@ pub record ArePinsFew (s : CoreState) : Type 0 where
   pub made : (h k f : ℕ) → slice_get (s.pinned h) k ≡ Some f → (h < 1024) × (k < 16)
   pub taken : (a k : ℕ) (t : Taken) → slice_get (s.taken a) k ≡ Some t → (a < 81) × (k < 16)
 
-module _ (s : CoreState) (sound : IsSound s) (calm : IsCalm s) (rest : (a : ℕ) → AtRest s a) (free : (a : ℕ) → HoldsNoFrame (s.job a)) (emptied : (p page : ℕ) → s.birth p ≡ failed → s.entry p page ≡ None) (few : (p page : ℕ) (e : Entry) → s.entry p page ≡ Some e → p < 16) (pins : ArePinsFew s) where
+module _ (s : CoreState) (sound : IsSound s) (calm : IsCalm s) (rest : (a : ℕ) → AtRest s a) (free : (a : ℕ) → HoldsFew a (s.job a)) (emptied : (p page : ℕ) → s.birth p ≡ failed → s.entry p page ≡ None) (few : (p page : ℕ) (e : Entry) → s.entry p page ≡ Some e → p < 16) (pins : ArePinsFew s) (gots : (h : ℕ) → (s.got h ≡ None → ⊥) → h < 1024) where
   abbrev holding : Holder → Option ℕ
   holding = held s.entry sound.0.moves s.prepared s.owed s.got s.pinned s.taken
 
@@ -240,16 +294,18 @@ module _ (s : CoreState) (sound : IsSound s) (calm : IsCalm s) (rest : (a : ℕ)
   abbrev IsOnce : ℕ → Type 0
   IsOnce f = sound.0.references f ≡ 1
 
-  -- nobody but a page's entry, a handle and a pin holds a frame that isn't prepared
+  -- nobody but a page's entry, a move, a handle and a pin holds a frame that isn't prepared
   holder_is_place : (x : Holder) (f : ℕ) → holding x ≡ Some f → IsPlace x ⊎ IsOnce f
   unfolding held
   holder_is_place (entry_of_page p page) f is = inl (entry_is p page f (s.entry p page) refl is)
   holder_is_place (cleared_by a) f is =
-      let none : moved_frame (sound.0.moves a) ≡ None = ap moved_frame (sound.1.moves_are a) ∙ moved_same (s.job a) ∙ (free a).0 in
-      absurd (cc)
+      elim (free a).0 [
+        | inl none ↦ absurd (let nothing : moved_frame (sound.0.moves a) ≡ None = ap moved_frame (sound.1.moves_are a) ∙ moved_same (s.job a) ∙ none in cc)
+        | inr low ↦ inl (of_cleared a low)
+      ]
   holder_is_place (prepared_by a) f is = inr (sound.1.prepared_once a f is)
   holder_is_place (owed_by a) f is = let none = (rest a).owed in absurd (cc)
-  holder_is_place (got_as k) f is = let none : got_frame (s.got k) ≡ None = ap got_frame (calm.no_gets k) in absurd (cc)
+  holder_is_place (got_as k) f is = inl (of_got k (gots k (λ none. let lacks : got_frame (s.got k) ≡ None = ap got_frame none in cc)))
   holder_is_place (page_of_pin h k) f is = inl (made_is h k f is)
   holder_is_place (page_taken a k) f is = inl (taken_is a k f (slice_get (s.taken a) k) refl is)
   holder_is_place (grabbed_by a) f is = absurd (cc)
@@ -277,7 +333,7 @@ module _ (s : CoreState) (sound : IsSound s) (calm : IsCalm s) (rest : (a : ℕ)
   none_listed f [] hold = refl
   none_listed f (x ∷ xs) hold = absurd (no_grab x f (hold x (first_element x xs)))
 
-  few_references : (f : ℕ) → sound.0.references f ≤ 16 * page_numbers + bias * 17680
+  few_references : (f : ℕ) → sound.0.references f ≤ 16 * page_numbers + 1024 + 81 + bias * 17680
   few_references f =
       let tally = sound.1.references f in
       elim (each_place f tally.0 (λ x. (tally.2 x).1)) [
@@ -285,7 +341,7 @@ module _ (s : CoreState) (sound : IsSound s) (calm : IsCalm s) (rest : (a : ℕ)
         | inr once ↦ omega (arith, once)
       ]
 
-  pub few_counts_by : (f : ℕ) → s.count f ≤ 16 * page_numbers + bias * 17680
+  pub few_counts_by : (f : ℕ) → s.count f ≤ 16 * page_numbers + 1024 + 81 + bias * 17680
   few_counts_by f =
       let grabs = sound.1.grabs f in
       let most = few_references f in
@@ -293,7 +349,7 @@ module _ (s : CoreState) (sound : IsSound s) (calm : IsCalm s) (rest : (a : ℕ)
       let sum = sound.1.count_is f in
       omega (arith, most, none, sum, grabs.3)
 
--- each frame's count is at most the number of pages of 16 processes, and the weight of the pages of 1,024 handles and of
--- those that 81 actors may have taken
-pub few_counts : (s : CoreState) → IsSound s → IsCalm s → ((a : ℕ) → AtRest s a) → ((a : ℕ) → HoldsNoFrame (s.job a)) → ((p page : ℕ) → s.birth p ≡ failed → s.entry p page ≡ None) → ((p page : ℕ) (e : Entry) → s.entry p page ≡ Some e → p < 16) → ArePinsFew s → (f : ℕ) → s.count f ≤ 16 * page_numbers + bias * 17680
-few_counts s sound calm rest free emptied few pins f = few_counts_by s sound calm rest free emptied few pins f
+-- each frame's count is at most the number of pages of 16 processes and of 1,024 references, that of 81 actors, and the weight of the pages of
+-- 1,024 handles and of those that 81 actors may have taken
+pub few_counts : (s : CoreState) → IsSound s → IsCalm s → ((a : ℕ) → AtRest s a) → ((a : ℕ) → HoldsFew a (s.job a)) → ((p page : ℕ) → s.birth p ≡ failed → s.entry p page ≡ None) → ((p page : ℕ) (e : Entry) → s.entry p page ≡ Some e → p < 16) → ArePinsFew s → ((h : ℕ) → (s.got h ≡ None → ⊥) → h < 1024) → (f : ℕ) → s.count f ≤ 16 * page_numbers + 1024 + 81 + bias * 17680
+few_counts s sound calm rest free emptied few pins gots f = few_counts_by s sound calm rest free emptied few pins gots f

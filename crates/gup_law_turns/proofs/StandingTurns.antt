@@ -1,42 +1,47 @@
 -- What stands between two turns of a run stands at its start, and each turn keeps it.
-use Rattle.std.proofs.Common.{◌≡◌, ℕ, ◌+◌, ◌<◌, ◌≤◌, ◌==◌, ◌&&◌, Bool, true, false, List, length, slice_get, Option, Some, None, IsSome, ◌⊎◌, inl, inr, refl, sym, ap, ◌∙◌, subst, eqb-true, if◌then◌else◌, arith}
+use Rattle.std.proofs.Common.{◌≡◌, ℕ, ◌+◌, ◌<◌, ◌≤◌, ◌==◌, ◌&&◌, Bool, true, false, List, map, length, slice_get, Option, Some, None, IsSome, ◌⊎◌, inl, inr, refl, sym, ap, ◌∙◌, subst, eqb-true, if◌then◌else◌, arith}
 use Rattle.std.proofs.Math.Path.{subst₂}
 use Rattle.std.proofs.lemmas.Bool.Decides.{nat_tests}
 use Rattle.std.proofs.lemmas.Option.{slice_get_within}
 use Rattle.gup_base.specs.declared.entry.Entry.{Entry}
 use Rattle.gup_base.specs.declared.entry.Rights.{Rights}
 use Rattle.gup_base.specs.declared.entry.Want.{Want}
-use Rattle.gup_script.specs.Valid.{IsScript, IsChild, ForksAt, PinsAt}
-use Rattle.gup_plain.specs.Denial.{is_held_by, transfer_denial, has_words, has_slots}
+use Rattle.gup_script.specs.Valid.{IsScript, IsChild, ForksAt, MakesAt, made_by}
+use Rattle.gup_base.specs.declared.entry.Zone.{Zone}
+use Rattle.gup_plain.specs.Denial.{is_held_by, transfer_denial, has_words, has_slots, pin_denial}
 use Rattle.gup_plain.specs.Event.{IsHeldBy, IsGivenTo, may_write}
-use Rattle.gup_plain.specs.State.{Birth, unborn, growing, born, failed, Handle, unmade, objects_of}
+use Rattle.gup_plain.specs.State.{PlainState, Birth, unborn, growing, born, failed, Handle, unmade, objects_of}
 use Rattle.gup_plain.specs.declared.event.PlainEvent.{PlainEvent}
 use Rattle.gup_plain.specs.declared.note.What.{What}
+use Rattle.gup_plain.specs.declared.note.Waiting.{Waiting}
 use Rattle.gup_script.specs.Script.{ScriptValue, Process, process_at}
 use Rattle.gup_script.specs.declared.op.Op.{Op}
-use Rattle.gup_script.specs.declared.op.Op.TheVariants.{Pin, Unpin, Transfer, Fork, Exit}
-use Rattle.gup_spec_events.specs.State.{CoreState, Job, idle, forking, between, counted, copying, plain_of, core_start}
+use Rattle.gup_script.specs.declared.op.Op.TheVariants.{Pin, Unpin, Get, Transfer, Fork, Exit, Move}
+use Rattle.gup_spec_events.specs.State.{CoreState, Job, idle, forking, between, counted, copying, plain_of, core_start, moving, Taken, pending_of}
 use Rattle.gup_spec_events.specs.Event.{run}
 use Rattle.gup_law_base.specs.Sound.{IsSound}
+use Rattle.gup_spec_journal.specs.Denial.{References}
 use Rattle.gup_spec_journal.specs.Order.{plain_behind}
-use Rattle.gup_spec_journal.specs.Place.{Place, Doer, doer, place_behind, process_of, ops_of, present_op, birth_by, birth_for, is_born, starts_born}
-use Rattle.gup_spec_turns.specs.JobPlace.{job_place, place_in, IsForking, HasCounted, KeepsFrame}
-use Rattle.gup_spec_turns.specs.PinPlace.{HasTaken, StandsPin}
-use Rattle.gup_law_turns.specs.Standing.{StandsHandle, given_back, back_in}
-use Rattle.gup_spec_turns.specs.Run.{RunState, run_start, run_after, op_in, waiting_in, core_turn_in}
+use Rattle.gup_spec_journal.specs.Place.{Place, Doer, doer, place_behind, process_of, ops_of, present_op, birth_by, birth_for, is_born, starts_born, doer_of, first_place}
+use Rattle.gup_spec_turns.specs.JobPlace.{JobPlace, job_place, place_in, IsForking, HasCounted, KeepsFrame, IsMoving}
+use Rattle.gup_spec_turns.specs.PinPlace.{StandsAtPage}
+use Rattle.gup_law_turns.specs.Standing.{StandsHandle, given_back, back_in, IsUnmade}
+use Rattle.gup_spec_turns.specs.Run.{RunState, run_start, run_after, op_in, waiting_in, core_turn_by, core_turn_in}
+use Rattle.gup_spec_journal.specs.Plain.{pages_got}
 use Rattle.gup_spec_turns.specs.CoreTurn.{CoreTurn}
-use Rattle.gup_law_turns.proofs.CalmStates.{starts_calm}
+use Rattle.gup_law_turns.proofs.CalmStates.{starts_calm, of_get}
 use Rattle.gup_law_turns.proofs.StandingStates.{IsFew, Stands, IsAhead, IsTaken}
 use Rattle.gup_law_turns.proofs.FewPages.{few_kept, few_handles, few_first}
-use Rattle.gup_law_turns.proofs.KeptParts.{OfProcess, of_process, Leaves, IsBarred, apart, same_or_apart, put_apart, leaves, stays_calm, stays_born, stays_barred, LeavesAll, handles_leave, LeavesPinsOf, leaves_pins, one_holder, held_ungiven, held_made}
-use Rattle.gup_law_turns.proofs.PinSubjects.{pins_here, about_or_not, handle_declared, is_holder, all_left, transfer_held}
+use Rattle.gup_law_turns.proofs.KeptParts.{OfProcess, of_process, Leaves, apart, same_or_apart, put_apart, leaves, stays_calm, stays_born, stays_barred, LeavesAll, handles_leave, LeavesPinsOf, leaves_pins, LeavesGot, leaves_got, one_holder, held_ungiven, held_made, KeepsPages, stays_locked, stays_flagged}
+use Rattle.gup_law_turns.proofs.PinSubjects.{pins_here, gets_here, gets_or_not, reference_declared, about_or_not, handle_declared, is_holder, all_left, transfer_held}
+use Rattle.gup_law_turns.proofs.KeptMarks.{stays_marked}
 use Rattle.gup_law_turns.proofs.TurnSubjects.{ahead_before, answered_least, IsGoing, IsAboutHandle, still_or_going, keeps_begun, keeps_fresh}
 use Rattle.gup_law_turns.proofs.PinChanges.{Change, changed_stands, first_back, turn_changes}
-use Rattle.gup_law_turns.proofs.ActorPlaces.{next_place, goes_on, is_over, IsBehindTurn, stays_there, goes_by, turn_behind}
-use Rattle.gup_law_turns.proofs.Puts.{some_same, put_same}
-use Rattle.gup_law_turns.proofs.ScriptLemmas.{child_is, child_declared, is_of_thread, thread_birth}
+use Rattle.gup_law_turns.proofs.ActorPlaces.{next_place, IsBehind, goes_on, is_over, op_behind, IsBehindTurn, stays_there, goes_by, turn_behind}
+use Rattle.gup_law_turns.proofs.Puts.{put_same, some_same}
+use Rattle.gup_law_turns.proofs.ScriptLemmas.{child_is, child_declared}
 use Rattle.gup_law_turns.proofs.ScriptPlaces.{fresh_place, fresh_fits}
-use Rattle.gup_law_turns.proofs.TurnShapes.{FitsFork, FitsAt, AtRest, Rests, HasLeft, child_of, strand_of}
+use Rattle.gup_law_turns.proofs.TurnShapes.{FitsFork, FitsAt, AtRest, Rests, HasLeft, child_of, strand_of, TurnAt, goes, unborn_refused, FitsMove, FitsPin}
 use Rattle.gup_law_turns.proofs.TurnSteps.{taken}
 use Rattle.gup_law_turns.proofs.EventLists.{Law, leads, plain_through, plain_behind-through, AllCanHappen, events_of}
 use Rattle.gup_law_turns.proofs.ShownTurns.{FitsNext}
@@ -59,31 +64,46 @@ at_others P a new places here there b = go (b == a) refl
 
 -- after its turn an actor stands where its present operation can: at the next turn of the same one, or at the first of
 -- the next
-turn_fits : (script : ScriptValue) (t : CoreState) (who : Doer) {op : Option Op} {place : Place} {whats : List What} → IsBehindTurn t who op place whats → FitsNext t who op place whats → present_op script who.actor place ≡ op → (place_behind place whats ≡ fresh_place (place.answered + 1) → Rests t who.actor → FitsAt t who (present_op script who.actor (fresh_place (place.answered + 1))) (fresh_place (place.answered + 1))) → FitsAt t who (present_op script who.actor (place_behind place whats)) (place_behind place whats)
-turn_fits script t who {place = place} (stays_there same fits) next is fresh =
-    subst (λ (q : Place). FitsAt t who (present_op script who.actor q) q) (sym same)
-    (subst (λ (o : Option Op). FitsAt t who o place) (sym is) (fits next))
-turn_fits script t who {place = place} (goes_by (goes_on had same fits)) next is fresh =
-    subst (λ (q : Place). FitsAt t who (present_op script who.actor q) q) (sym same)
-    (subst (λ (o : Option Op). FitsAt t who o (next_place place had)) (sym is) (fits next))
-turn_fits script t who (goes_by (is_over same rests)) next is fresh =
-    subst (λ (q : Place). FitsAt t who (present_op script who.actor q) q) (sym same) (fresh same (rests next))
+abbrev FitsHere : ScriptValue → CoreState → (a : ℕ) → Place → Type 0
+FitsHere script t a place = FitsAt t (doer_of script a (present_op script a place)) (present_op script a place) place
 
--- an actor is in the middle of nothing, or holds the structure of its process
+-- a get is answered in its turn, unless it waits, and then nothing is got
 
-fork_held : (s : CoreState) (a p child : ℕ) (place : Place) (job : Job) (prepared : Option ℕ) → s.job a ≡ job → FitsFork s a p child place job prepared → (s.job a ≡ idle) ⊎ (s.structure p ≡ Some a)
-fork_held s a p child place idle prepared is fits = inl is
-fork_held s a p child place (forking q c done between) prepared is fits = inr fits.1.locked
-fork_held s a p child place (forking q c done (counted page)) prepared is fits = inr fits.1.0.locked
-fork_held s a p child place (forking q c done (copying page n)) prepared is fits = inr fits.1.0.locked
-fork_held s a p child place (forking q c done step) prepared is fits = absurd fits.1
-fork_held s a p child place job prepared is fits = absurd fits
+get_behind : {t : CoreState} {who : Doer} {handle page : ℕ} {place : Place} {whats : List What} → IsBehind t who (Some (Get handle page)) place whats → FitsNext t who (Some (Get handle page)) place whats → (place_behind place whats).answered ≤ place.answered → ⊥
+get_behind (goes_on had is fits) next least = let first = (fits next).1.0 in omega (arith, first)
+get_behind (is_over is rests) next least = let more = ap (λ (q : Place). q.answered) is in omega (arith, more, least)
 
-idle_or_holds : (s : CoreState) (who : Doer) (op : Option Op) (place : Place) → FitsAt s who op place → (s.job who.actor ≡ idle) ⊎ (s.structure who.proc ≡ Some who.actor)
-idle_or_holds s who (Some (Pin handle page n want fast)) place fits = inl fits.0
-idle_or_holds s who (Some (Fork child)) place fits = fork_held s who.actor who.proc child place (s.job who.actor) (s.prepared who.actor) refl fits.1
-idle_or_holds s who (Some Exit) place fits = inl fits.0
-idle_or_holds s who op place fits = inl fits.0.0
+get_answered : {s : PlainState} {references : References} {who : Doer} {place : Place} {handle page : ℕ} {whats : List What} {from to : JobPlace} → TurnAt s references who place (Some (Get handle page)) None from whats to → (t : CoreState) → FitsNext t who (Some (Get handle page)) place whats → (place_behind place whats).answered ≤ place.answered → ⊥
+get_answered {handle = handle} {page = page} (goes op whats from to birth own turn) t next least = get_behind (op_behind t (Some (Get handle page)) turn) next least
+get_answered (unborn_refused op birth first refusal) t next least = omega (arith, least)
+
+-- the turn leaves references where it doesn't answer
+abbrev IsUngotBy : CoreState → Doer → Place → Option Op → Option Waiting → Type 0
+IsUngotBy s who place op waiting =
+    IsTaken s who place op waiting (core_turn_by s who place.far op waiting)
+    → (place_behind place (core_turn_by s who place.far op waiting).whats).answered ≤ place.answered
+    → (run s (core_turn_by s who place.far op waiting).events).got ≡ s.got
+
+unanswered_get : (s : CoreState) (who : Doer) (place : Place) (handle page : ℕ) (waiting : Option Waiting) → IsUngotBy s who place (Some (Get handle page)) waiting
+unanswered_get s who place handle page (Some waiting) turns least = refl
+unanswered_get s who place handle page None turns least =
+    absurd (get_answered turns.shape (run s (core_turn_by s who place.far (Some (Get handle page)) None).events) turns.next least)
+
+turn_fits : (script : ScriptValue) (t : CoreState) (a : ℕ) {op : Option Op} {place : Place} {whats : List What} → IsBehindTurn t (doer_of script a op) op place whats → FitsNext t (doer_of script a op) op place whats → present_op script a place ≡ op → (place_behind place whats ≡ fresh_place (place.answered + 1) → Rests t a → FitsHere script t a (fresh_place (place.answered + 1))) → FitsHere script t a (place_behind place whats)
+turn_fits script t a {place = place} (stays_there same fits) next is fresh =
+    subst (FitsHere script t a) (sym same)
+    (subst (λ (o : Option Op). FitsAt t (doer_of script a o) o place) (sym is) (fits next))
+turn_fits script t a {place = place} (goes_by (goes_on had same fits)) next is fresh =
+    subst (FitsHere script t a) (sym same)
+    (subst (λ (o : Option Op). FitsAt t (doer_of script a o) o (next_place place had)) (sym is) (fits next))
+turn_fits script t a (goes_by (is_over same rests)) next is fresh =
+    subst (FitsHere script t a) (sym same) (fresh same (rests next))
+
+-- an operation that has begun is the one of before the turn
+same_op : (script : ScriptValue) {t : CoreState} {who : Doer} {op : Option Op} {place : Place} {whats : List What} → IsBehindTurn t who op place whats → 0 < (place_behind place whats).far → present_op script who.actor (place_behind place whats) ≡ present_op script who.actor place
+same_op script {who = who} (stays_there same fits) far = ap (present_op script who.actor) same
+same_op script {who = who} (goes_by (goes_on had same fits)) far = ap (present_op script who.actor) same
+same_op script (goes_by (is_over same rests)) far = absurd (let none = ap (λ (q : Place). q.far) same in omega (arith, far, none))
 
 -- the child of a fork, begun or not, is not born
 fork_unborn : (s : CoreState) (a p child : ℕ) (place : Place) (job : Job) (prepared : Option ℕ) → FitsFork s a p child place job prepared → s.birth child ≡ born → ⊥
@@ -117,31 +137,25 @@ other_child script valid a p k (Some (Fork brought)) is b j child forks other tw
 other_child script valid a p k op is b j child forks other twice same = other same
 
 -- whoever waits for no birth waits for none later
-waits_no_more : (thread : Bool) (before behind : Birth) → (before ≡ born → behind ≡ born) → birth_by thread before ≡ born → birth_by thread behind ≡ born
+waits_no_more : (of_process : Bool) (before behind : Birth) → (before ≡ born → behind ≡ born) → birth_by of_process before ≡ born → birth_by of_process behind ≡ born
 waits_no_more true before behind stays is = stays is
 waits_no_more false before behind stays is = refl
-
--- what another actor's fork knows of its parent stays
-pub record IsParentKept (q : ℕ) (s t : CoreState) : Type 0 where
-  pub structure : t.structure q ≡ s.structure q
-  pub table : t.table q ≡ s.table q
-  pub entry : t.entry q ≡ s.entry q
 
 module _ (script : ScriptValue) (valid : IsScript script) (r : RunState) (h : Stands script r) (a : ℕ) where
   abbrev s : CoreState
   s = r.core
-
-  abbrev who : Doer
-  who = doer script a
-
-  abbrev p : ℕ
-  p = process_of script a
 
   abbrev place : Place
   place = r.places a
 
   abbrev op : Option Op
   op = op_in script r a
+
+  abbrev who : Doer
+  who = doer_of script a op
+
+  abbrev p : ℕ
+  p = who.proc
 
   abbrev c : ℕ
   c = child_of p op
@@ -169,6 +183,9 @@ module _ (script : ScriptValue) (valid : IsScript script) (r : RunState) (h : St
 
   pins : LeavesPinsOf a (strand_of op) s t
   pins = leaves_pins s a p c (strand_of op) turn.events turns.done.kinds turns.done.can
+
+  gots : LeavesGot (strand_of op) s t
+  gots = leaves_got s a p c (strand_of op) turn.events turns.done.kinds
 
   going : IsAboutHandle a turn.events ⊎ IsGoing place p s t turn.whats
   going = still_or_going s who place.far turns.shape
@@ -225,15 +242,27 @@ module _ (script : ScriptValue) (valid : IsScript script) (r : RunState) (h : St
 
   -- pins
 
-  -- the handle of a pin that isn't answered stays unmade, unless the turn is of that pin
-  yet_kept : (b k handle : ℕ) → PinsAt script b k handle → (r.places b).answered ≤ k → (b ≡ a → k ≡ place.answered → ⊥) → t.handle handle ≡ unmade
+  -- the handle of a pin or a reference that isn't answered stays unmade, unless the turn is of that
+  yet_kept : (b k handle : ℕ) → MakesAt script b k handle → (r.places b).answered ≤ k → (b ≡ a → k ≡ place.answered → ⊥) → IsUnmade t handle
   yet_kept b k handle makes least other =
-      let yet : s.handle handle ≡ unmade = h.yet_unmade b k handle makes least in
+      let unmade_yet = h.yet_unmade b k handle makes least in
+      let yet : s.handle handle ≡ unmade = unmade_yet.0 in
       let kept = pins.unheld handle
-      (λ is none. let once = valid.pins_once b a k place.answered handle makes (pins_here script a place.answered op refl handle is) in other once.0 once.1)
+      (λ is none. let once = valid.handles_once b a k place.answered handle makes (pins_here script a place.answered op refl handle is) in other once.0 once.1)
       (λ holds. subst (λ (x : Handle). IsHeldBy x a) yet holds)
       (λ is_given. subst (λ (x : Handle). IsGivenTo x a) yet is_given) in
-      kept.handle ∙ yet
+      let ungot = gots.ungot handle
+      (λ is. let once = valid.handles_once b a k place.answered handle makes (gets_here script a place.answered op refl handle is) in other once.0 once.1)
+      unmade_yet.1 in
+      (kept.handle ∙ yet, ungot)
+
+  -- references that are got are of declared handles
+  got_on : (handle : ℕ) → (t.got handle ≡ None → ⊥) → handle < length script.handles
+  got_on handle some =
+      elim (gets_or_not (strand_of op) handle) [
+        | inl gets ↦ reference_declared script valid a place.answered op refl handle gets
+        | inr other ↦ h.got handle (λ none. some (gots.ungot handle other none))
+      ]
 
   made_on : (handle : ℕ) → (t.handle handle ≡ unmade → ⊥) → handle < length script.handles
   made_on handle some =
@@ -264,33 +293,64 @@ module _ (script : ScriptValue) (valid : IsScript script) (r : RunState) (h : St
 
   -- the actor's own place
 
-  fits_own : FitsAt t who (present_op script a behind) behind
+  fits_own : FitsHere script t a behind
   fits_own =
-      turn_fits script t who behinds turns.next refl
-      (λ same rests. fresh_fits script valid t who a (place.answered + 1) rests
+      turn_fits script t a behinds turns.next refl
+      (λ same rests. fresh_fits script valid t (doer_of script a (present_op script a (fresh_place (place.answered + 1)))) a (place.answered + 1) rests
       (λ child forks. unforked_own (place.answered + 1) child forks (subst (λ (q : Place). IsAhead q (place.answered + 1)) (sym same) (inr (refl, refl))))
-      (λ handle makes. yet_kept a (place.answered + 1) handle makes (omega arith) (λ own beyond. omega (arith, beyond)))
+      (λ handle makes. (yet_kept a (place.answered + 1) handle makes (omega arith) (λ own beyond. omega (arith, beyond))).0)
       (left_fresh same))
 
-  yet_own : (k handle : ℕ) → PinsAt script a k handle → behind.answered ≤ k → t.handle handle ≡ unmade
+  -- a get that isn't answered in its turn has waited
+  get_waits : (handle page : ℕ) → op ≡ Some (Get handle page) → behind.answered ≤ place.answered → t.got ≡ s.got
+  get_waits handle page is least =
+      subst (λ (o : Option Op). IsUngotBy s who place o (waiting_in script r a)) (sym is)
+      (unanswered_get s who place handle page (waiting_in script r a)) turns least
+
+  yet_own : (k handle : ℕ) → MakesAt script a k handle → behind.answered ≤ k → IsUnmade t handle
   yet_own k handle makes least =
       elim (same_or_apart k behind.answered) [
-        | inl same ↦ at_pin same
+        | inl same ↦ (elim (same_or_apart k place.answered) [
+          | inl here ↦ at_op makes.0 refl same here
+          | inr later ↦ yet_kept a k handle makes (omega (arith, least, answered_least behinds)) (λ own here. later here)
+        ])
         | inr other ↦ yet_kept a k handle makes (omega (arith, least, answered_least behinds)) (λ own here. before other here)
       ]
     where
       before : (k ≡ behind.answered → ⊥) → k ≡ place.answered → ⊥
       before other here = let from = answered_least behinds in other (omega (arith, least, from, here))
 
-      at_pin : k ≡ behind.answered → t.handle handle ≡ unmade
-      at_pin same =
-          let page = makes.0 in
-          let n = makes.1 in
-          let want = makes.2 in
-          let fast = makes.3 in
-          let is : present_op script a behind ≡ Some (Pin handle page n want fast) = ap (λ (j : ℕ). slice_get (ops_of script a) j) (sym same) ∙ makes.4 in
-          let fits : FitsAt t who (Some (Pin handle page n want fast)) behind = subst (λ (o : Option Op). FitsAt t who o behind) is fits_own in
-          fits.2.yet
+      -- it was before the turn
+      was : k ≡ place.answered → IsUnmade s handle
+      was here = h.yet_unmade a k handle makes (omega (arith, here))
+
+      at_pin : (page n : ℕ) (want : Want) (fast : Bool) → makes.0 ≡ Pin handle page n want fast → k ≡ behind.answered → k ≡ place.answered → IsUnmade t handle
+      at_pin page n want fast pin same here =
+          let makes_it : slice_get (ops_of script a) k ≡ Some (Pin handle page n want fast) = makes.1 ∙ ap (λ (o : Op). Some o) pin in
+          let is : present_op script a behind ≡ Some (Pin handle page n want fast) = ap (λ (j : ℕ). slice_get (ops_of script a) j) (sym same) ∙ makes_it in
+          let before_it : op ≡ Some (Pin handle page n want fast) = ap (λ (j : ℕ). slice_get (ops_of script a) j) (sym here) ∙ makes_it in
+          let fits : FitsAt t (doer_of script a (Some (Pin handle page n want fast))) (Some (Pin handle page n want fast)) behind = subst (λ (o : Option Op). FitsAt t (doer_of script a o) o behind) is fits_own in
+          let no_get : strand_of op ≡ of_get handle → ⊥ = λ gets. cc (ap strand_of before_it, gets) in
+          (fits.yet, gots.ungot handle no_get (was here).1)
+
+      at_get : (page : ℕ) → makes.0 ≡ Get handle page → k ≡ behind.answered → k ≡ place.answered → IsUnmade t handle
+      at_get page get same here =
+          let before_it : op ≡ Some (Get handle page) = ap (λ (j : ℕ). slice_get (ops_of script a) j) (sym here) ∙ makes.1 ∙ ap (λ (o : Op). Some o) get in
+          let of_this : strand_of op ≡ of_get handle = ap strand_of before_it in
+          let kept = pins.others handle (λ is. cc (of_this, is)) (λ is. cc (of_this, is)) in
+          (kept.handle ∙ (was here).0, ap (λ (f : ℕ → Option (ℕ × ℕ)). f handle) (get_waits handle page before_it (omega (arith, same, here))) ∙ (was here).1)
+
+      at_op : (o : Op) → makes.0 ≡ o → k ≡ behind.answered → k ≡ place.answered → IsUnmade t handle
+      at_op (Pin h page n want fast) is same here =
+          let made : h ≡ handle = some_same (ap made_by (sym is) ∙ makes.2) in
+          at_pin page n want fast (is ∙ ap (λ (j : ℕ). Pin j page n want fast) made) same here
+      at_op (Get h page) is same here =
+          let made : h ≡ handle = some_same (ap made_by (sym is) ∙ makes.2) in
+          at_get page (is ∙ ap (λ (j : ℕ). Get j page) made) same here
+      at_op o is same here = absurd (let none : made_by o ≡ Some handle = ap made_by (sym is) ∙ makes.2 in cc none)
+
+  still_born : Law → (q : ℕ) → s.birth q ≡ born → t.birth q ≡ born
+  still_born law q lives = stays_born law s a p c (strand_of op) turn.events turns.done.kinds h.sound turns.done.can q lives
 
   -- another actor
 
@@ -298,44 +358,36 @@ module _ (script : ScriptValue) (valid : IsScript script) (r : RunState) (h : St
     abbrev q : ℕ
     q = process_of script b
 
-    parent_same : of_process t q ≡ of_process s q → IsParentKept q s t
-    parent_same same =
-        record {
-          structure = ap (λ (o : OfProcess). o.structure) same;
-          table = ap (λ (o : OfProcess). o.table) same;
-          entry = ap (λ (o : OfProcess). o.entry) same;
-        }
+    pub structure_kept : Law → (k : ℕ) → s.structure k ≡ Some b → t.structure k ≡ s.structure k
+    structure_kept law k locked = stays_locked law s a p c (strand_of op) turn.events turns.done.kinds h.sound turns.done.can b k other locked ∙ sym locked
 
-    parent_kept : s.birth q ≡ born → s.structure q ≡ Some b → IsParentKept q s t
-    parent_kept lives locked =
+    -- where an actor has locked the table of a process its pages stay
+    pub pages_kept : Law → (k : ℕ) → s.table k ≡ Some b → KeepsPages k s t
+    pages_kept law k locked =
         elim going [
-          | inl about ↦ parent_same ((quiet about).process q)
-          | inr moves ↦ by_process (same_or_apart q p)
+          | inl about ↦ same_pages ((quiet about).process k)
+          | inr moves ↦ by_process (same_or_apart k p)
         ]
       where
-        idle_here : q ≡ p → s.job a ≡ idle
-        idle_here same =
-            elim (idle_or_holds s who op place (h.fits a)) [
-              | inl job ↦ job
-              | inr holds ↦ absurd (let two : Some a ≡ Some b = sym holds ∙ ap s.structure (sym same) ∙ locked in other (sym (some_same two)))
-            ]
-
-        barred : q ≡ p → IsBarred a p s t
-        barred same = stays_barred s a p c b (strand_of op) turn.events turns.done.kinds turns.done.can (ap s.structure (sym same) ∙ locked) (idle_here same)
-
-        by_process : (q ≡ p) ⊎ (q ≡ p → ⊥) → IsParentKept q s t
-        by_process (inl same) =
-            let bars = barred same in
+        same_pages : of_process t k ≡ of_process s k → KeepsPages k s t
+        same_pages same =
             record {
-              structure = subst (λ (k : ℕ). t.structure k ≡ s.structure k) (sym same) bars.structure;
-              table = subst (λ (k : ℕ). t.table k ≡ s.table k) (sym same) bars.table;
-              entry = subst (λ (k : ℕ). t.entry k ≡ s.entry k) (sym same) bars.entry;
+              right = ap (λ (o : OfProcess). o.right) same;
+              entry = ap (λ (o : OfProcess). o.entry) same;
+              table = ap (λ (o : OfProcess). o.table) same;
+              unforked = λ free. ap (λ (o : OfProcess). o.structure) same ∙ free;
             }
+
+        barred : k ≡ p → KeepsPages p s t
+        barred same = stays_barred law s a p c (strand_of op) turn.events turns.done.kinds h.sound turns.done.can b other (ap s.table (sym same) ∙ locked)
+
+        by_process : (k ≡ p) ⊎ (k ≡ p → ⊥) → KeepsPages k s t
+        by_process (inl same) = subst (λ (j : ℕ). KeepsPages j s t) (sym same) (barred same)
         by_process (inr away) =
-            parent_same (left.process q (apart q p away) (apart q c (born_apart s who q op place (h.fits a) lives away)))
+            same_pages (left.process k (apart k p away) (apart k c (born_apart s who k op place (h.fits a) (h.sound.1.table_born k b locked) away)))
 
     -- a growing child is not the process that has a turn, and not the child that this brings
-    child_kept : (k child : ℕ) → ForksAt script b k child → s.birth child ≡ growing q → of_process t child ≡ of_process s child
+    pub child_kept : (k child : ℕ) → ForksAt script b k child → s.birth child ≡ growing q → of_process t child ≡ of_process s child
     child_kept k child forks grows =
         elim going [
           | inl about ↦ (quiet about).process child
@@ -345,25 +397,24 @@ module _ (script : ScriptValue) (valid : IsScript script) (r : RunState) (h : St
         away : IsGoing place p s t turn.whats → child ≡ p → ⊥
         away moves same = (brought moves).1 q (ap s.birth (sym same) ∙ grows)
 
-    forking_kept : (k child u v : ℕ) (done : List ℕ) → ForksAt script b k child → s.birth q ≡ born → IsForking s b q child u v done → IsForking t b q child u v done
-    forking_kept k child u v done forks lives at =
+    forking_kept : Law → (k child u v : ℕ) (done : List ℕ) → ForksAt script b k child → IsForking s b q child u v done → IsForking t b q child u v done
+    forking_kept law k child u v done forks at =
         let same = child_kept k child forks at.birth in
-        let kept = parent_kept lives at.locked in
         let rights : t.right child ≡ s.right child = ap (λ (o : OfProcess). o.right) same in
         record {
           parent = at.parent;
           into = at.into;
           birth = ap (λ (o : OfProcess). o.birth) same ∙ at.birth;
-          locked = kept.structure ∙ at.locked;
+          locked = structure_kept law q at.locked ∙ at.locked;
           below = at.below;
           done_all = λ g less named. at.done_all g less (subst (λ (f : ℕ → Option Rights). IsSome (f g)) rights named);
           fresh = λ g least. ap (λ (o : OfProcess). o.entry g) same ∙ at.fresh g least;
         }
 
-    counted_kept : (k child : ℕ) (done : List ℕ) (page u v : ℕ) → ForksAt script b k child → s.birth q ≡ born → IsForking s b q child u v done → HasCounted s b q child done page → HasCounted t b q child done page
-    counted_kept k child done page u v forks lives at has =
+    counted_kept : Law → (k child : ℕ) (done : List ℕ) (page u v : ℕ) → ForksAt script b k child → IsForking s b q child u v done → HasCounted s b q child done page → HasCounted t b q child done page
+    counted_kept law k child done page u v forks at has =
         let same = child_kept k child forks at.birth in
-        let kept = parent_kept lives at.locked in
+        let kept = pages_kept law q has.locked in
         let rights : t.right child ≡ s.right child = ap (λ (o : OfProcess). o.right) same in
         record {
           above = has.above;
@@ -373,14 +424,31 @@ module _ (script : ScriptValue) (valid : IsScript script) (r : RunState) (h : St
           mapped = subst (λ (f : ℕ → Option Rights). IsSome (f page)) (sym rights) has.mapped;
         }
 
-    fork_kept : (k child : ℕ) (its : Place) (job : Job) (prepared : Option ℕ) → ForksAt script b k child → (0 < its.far → s.birth q ≡ born) → (its.far ≡ 0 → t.birth child ≡ unborn) → FitsFork s b q child its job prepared → FitsFork t b q child its job prepared
-    fork_kept k child its idle prepared forks begun yet fits = (fits.0, yet fits.0.0)
-    fork_kept k child its (forking u v done between) prepared forks begun yet fits = (fits.0, forking_kept k child u v done forks (begun fits.0.0) fits.1)
-    fork_kept k child its (forking u v done (counted page)) prepared forks begun yet fits =
-        (fits.0, (forking_kept k child u v done forks (begun fits.0.0) fits.1.0, counted_kept k child done page u v forks (begun fits.0.0) fits.1.0 fits.1.1))
-    fork_kept k child its (forking u v done (copying page n)) prepared forks begun yet fits =
-        (fits.0, (forking_kept k child u v done forks (begun fits.0.0) fits.1.0, counted_kept k child done page u v forks (begun fits.0.0) fits.1.0 fits.1.1, fits.1.2))
-    fork_kept k child its job prepared forks begun yet fits = fits
+    fork_kept : Law → (k child : ℕ) (its : Place) (job : Job) (prepared : Option ℕ) → ForksAt script b k child → (its.far ≡ 0 → t.birth child ≡ unborn) → FitsFork s b q child its job prepared → FitsFork t b q child its job prepared
+    fork_kept law k child its idle prepared forks yet fits = (fits.0, yet fits.0.0)
+    fork_kept law k child its (forking u v done between) prepared forks yet fits = (fits.0, forking_kept law k child u v done forks fits.1)
+    fork_kept law k child its (forking u v done (counted page)) prepared forks yet fits =
+        (fits.0, (forking_kept law k child u v done forks fits.1.0, counted_kept law k child done page u v forks fits.1.0 fits.1.1))
+    fork_kept law k child its (forking u v done (copying page n)) prepared forks yet fits =
+        (fits.0, (forking_kept law k child u v done forks fits.1.0, counted_kept law k child done page u v forks fits.1.0 fits.1.1, fits.1.2))
+    fork_kept law k child its job prepared forks yet fits = fits
+
+    -- a move has locked the table
+    moving_kept : Law → (k page : ℕ) → IsMoving s b k page → IsMoving t b k page
+    moving_kept law k page at =
+        let kept = pages_kept law k at.locked in
+        record {
+          birth = still_born law k at.birth;
+          mapped = subst (λ (f : ℕ → Option Rights). IsSome (f page)) (sym kept.right) at.mapped;
+          absent = ap (λ (f : ℕ → Option Entry). f page) kept.entry ∙ at.absent;
+          locked = kept.table ∙ at.locked;
+        }
+
+    move_kept : Law → (k page : ℕ) (zone : Zone) (its : Place) (job : Job) → FitsMove s b k page zone its job → FitsMove t b k page zone its job
+    move_kept law k page zone its idle fits = fits
+    move_kept law k page zone its (moving u g e allowed count) fits =
+        (fits.0, (fits.1.0, fits.1.1, fits.1.2, fits.1.3, moving_kept law k page fits.1.4))
+    move_kept law k page zone its job fits = absurd fits
 
     job_kept : t.job b ≡ s.job b
     job_kept = left.job b (apart b a other)
@@ -415,38 +483,70 @@ module _ (script : ScriptValue) (valid : IsScript script) (r : RunState) (h : St
         let kept = pins.held_then handle b other (is_holder (t.handle handle) b is) in
         subst₂ (λ (x : Handle) (xs : List ℕ). is_held_by x b ≡ true → (0 < length xs) × (length xs + far ≡ length (objects_of x))) (sym kept.handle) (sym kept.pinned) has is
 
-    pin_kept : (handle page n far : ℕ) (want : Want) → t.handle handle ≡ unmade → StandsPin s b q handle page n want far → StandsPin t b q handle page n want far
-    pin_kept handle page n far want yet at =
-        record { within = at.within; yet = yet; taken = subst (HasTaken q page want far) (sym taken_kept) at.taken }
+    -- a long pin has locked it, too, and what it has found of its page stays
+    page_kept : Law → (page : ℕ) (want : Want) (job : Job) → s.job b ≡ job → StandsAtPage s b q page want job → StandsAtPage t b q page want job
+    page_kept law page want idle is at = at
+    page_kept law page want (moving u g e allowed count) is at =
+        let here = at.4 in
+        let kept = pages_kept law q here.moving.locked in (
+          at.0,
+          at.1,
+          at.2,
+          at.3,
+          record {
+            long = here.long;
+            moving = moving_kept law q page here.moving;
+            unforked = kept.unforked here.unforked;
+            flag = stays_flagged s a p c q (strand_of op) turn.events turns.done.kinds here.flag;
+            undenied = ap (λ (f : ℕ → Option Rights). pin_denial want.write (f page)) kept.right ∙ here.undenied;
+            marked = stays_marked law s a p c (strand_of op) turn.events turns.done.kinds h.sound turns.done.can b u g e allowed count other is here.marked;
+            may = here.may;
+          },
+        )
+    page_kept law page want job is at = absurd at
 
-    op_kept : (its : Place) (o : Option Op) → present_op script b its ≡ o → (0 < its.far → birth_for s.birth (doer script b) ≡ born) → ((child : ℕ) → ForksAt script b its.answered child → its.far ≡ 0 → t.birth child ≡ unborn) → ((handle : ℕ) → PinsAt script b its.answered handle → t.handle handle ≡ unmade) → FitsAt s (doer script b) o its → FitsAt t (doer script b) o its
-    op_kept its (Some (Pin handle page n want fast)) is begun unforked yet fits =
-        (job_kept ∙ fits.0, fits.1, pin_kept handle page n its.far want (yet handle (page, n, want, fast, is)) fits.2)
-    op_kept its (Some (Unpin handle)) is begun unforked yet fits = (
+    pin_kept : Law → (handle page n : ℕ) (want : Want) (its : Place) → t.handle handle ≡ unmade → FitsPin s b q handle page n want its (s.taken b) (s.job b) → FitsPin t b q handle page n want its (t.taken b) (t.job b)
+    pin_kept law handle page n want its yet fits =
+        subst₂ (FitsPin t b q handle page n want its) (sym taken_kept) (sym job_kept)
+        (record {
+          had_none = fits.had_none;
+          had_some = fits.had_some;
+          least = fits.least;
+          most = fits.most;
+          within = fits.within;
+          yet = yet;
+          has = fits.has;
+          at = page_kept law (page + length (s.taken b)) want (s.job b) refl fits.at;
+        })
+
+    op_kept : Law → (its : Place) (o : Option Op) → present_op script b its ≡ o → ((child : ℕ) → ForksAt script b its.answered child → its.far ≡ 0 → t.birth child ≡ unborn) → ((handle : ℕ) → MakesAt script b its.answered handle → t.handle handle ≡ unmade) → FitsAt s (doer_of script b o) o its → FitsAt t (doer_of script b o) o its
+    op_kept law its (Some (Pin handle page n want fast)) is unforked yet fits =
+        pin_kept law handle page n want its (yet handle (Pin handle page n want fast, is, refl)) fits
+    op_kept law its (Some (Unpin handle)) is unforked yet fits = (
       rests_kept fits.0,
       fits.1,
       (λ far. subst (λ (x : Handle). is_held_by x b ≡ true) (sym (held_kept handle (fits.2 far))) (fits.2 far)),
       left_kept handle its.far fits.3,
     )
-    op_kept its (Some (Transfer handle outward slot parts)) is begun unforked yet fits =
+    op_kept law its (Some (Transfer handle outward slot parts)) is unforked yet fits =
         (rests_kept fits.0, fits.1, fits.2, (λ far. transfers (fits.3 far)), left_kept handle 0 fits.4)
       where
         transfers : transfer_denial (s.handle handle) b outward (doer script b).slots slot parts ≡ None → transfer_denial (t.handle handle) b outward (doer script b).slots slot parts ≡ None
         transfers none =
             let holds = transfer_held (is_held_by (s.handle handle) b) outward (may_write (s.handle handle)) (has_words (length (objects_of (s.handle handle))) parts && has_slots (doer script b).slots slot parts) none in
             subst (λ (x : Handle). transfer_denial x b outward (doer script b).slots slot parts ≡ None) (sym (held_kept handle holds)) none
-    op_kept its (Some (Fork child)) is begun unforked yet fits =
-        let thread = is_of_thread script valid b its.answered (Fork child) is (λ none. none) in
-        let lives : 0 < its.far → s.birth q ≡ born = λ far. sym (thread_birth (doer script b) s.birth thread) ∙ begun far in
-        (taken_kept ∙ fits.0, subst₂ (FitsFork t b q child its) (sym job_kept) (sym prepared_kept) (fork_kept its.answered child its (s.job b) (s.prepared b) is lives (unforked child is) fits.1))
-    op_kept its (Some Exit) is begun unforked yet fits = rests_kept fits
-    op_kept its o is begun unforked yet fits = (rests_kept fits.0, fits.1)
+    op_kept law its (Some (Move proc page zone)) is unforked yet fits =
+        (taken_kept ∙ fits.0, fits.1, subst (FitsMove t b proc page zone its) (sym job_kept) (move_kept law proc page zone its (s.job b) fits.2))
+    op_kept law its (Some (Fork child)) is unforked yet fits =
+        (taken_kept ∙ fits.0, subst₂ (FitsFork t b q child its) (sym job_kept) (sym prepared_kept) (fork_kept law its.answered child its (s.job b) (s.prepared b) is (unforked child is) fits.1))
+    op_kept law its (Some Exit) is unforked yet fits = rests_kept fits
+    op_kept law its o is unforked yet fits = (rests_kept fits.0, fits.1)
 
-  fits_other : (b : ℕ) → (b ≡ a → ⊥) → FitsAt t (doer script b) (present_op script b (r.places b)) (r.places b)
-  fits_other b other =
-      op_kept b other (r.places b) (present_op script b (r.places b)) refl (h.begun b)
+  fits_other : Law → (b : ℕ) → (b ≡ a → ⊥) → FitsHere script t b (r.places b)
+  fits_other law b other =
+      op_kept b other law (r.places b) (present_op script b (r.places b)) refl
       (λ child forks far. unforked_other b other (r.places b).answered child forks (inr (refl, far)))
-      (λ handle makes. yet_kept b (r.places b).answered handle makes (omega arith) (λ own here. other own))
+      (λ handle makes. (yet_kept b (r.places b).answered handle makes (omega arith) (λ own here. other own)).0)
       (h.fits b)
 
   -- an actor is at rest after its own turn, and others stay so
@@ -456,9 +556,6 @@ module _ (script : ScriptValue) (valid : IsScript script) (r : RunState) (h : St
         | inl same ↦ subst (AtRest t) (sym same) turns.done.rest
         | inr other ↦ rest_kept b other
       ]
-
-  still_born : Law → (q : ℕ) → s.birth q ≡ born → t.birth q ≡ born
-  still_born law q lives = stays_born law s a p c (strand_of op) turn.events turns.done.kinds h.sound turns.done.can q lives
 
   -- a process that failed in the turn is the child of its fork; one that had failed before has no entries still
   emptied_on : Law → (q page : ℕ) → t.birth q ≡ failed → t.entry q page ≡ None
@@ -484,10 +581,13 @@ module _ (script : ScriptValue) (valid : IsScript script) (r : RunState) (h : St
             | inr other ↦ unchanged (left.process q (apart q p away) (apart q c other))
           ]
 
-  born_on : Law → (b : ℕ) → birth_for s.birth (doer script b) ≡ born → birth_for t.birth (doer script b) ≡ born
-  born_on law b is =
-      waits_no_more (doer script b).thread (s.birth (process_of script b)) (t.birth (process_of script b))
-      (still_born law (process_of script b)) is
+  born_on : Law → (w : Doer) → birth_for s.birth w ≡ born → birth_for t.birth w ≡ born
+  born_on law w is = waits_no_more w.of_process (s.birth w.proc) (t.birth w.proc) (still_born law w.proc) is
+
+  begun_own : Law → 0 < behind.far → birth_for t.birth (doer_of script a (present_op script a behind)) ≡ born
+  begun_own law far =
+      subst (λ (o : Option Op). birth_for t.birth (doer_of script a o) ≡ born) (sym (same_op script behinds far))
+      (born_on law who (keeps_begun turns.shape (h.begun a) far))
 
   stands : Law → Stands script (run_after script r a)
   stands law =
@@ -498,17 +598,18 @@ module _ (script : ScriptValue) (valid : IsScript script) (r : RunState) (h : St
         few = few_on law;
         emptied = emptied_on law;
         declared = declared_on;
-        fits = at_others (λ (b : ℕ) (k : Place). FitsAt t (doer script b) (present_op script b k) k) a behind r.places fits_own fits_other;
-        begun = at_each (λ (b : ℕ) (k : Place). 0 < k.far → birth_for t.birth (doer script b) ≡ born) a behind r.places
-            (λ far. born_on law a (keeps_begun turns.shape (h.begun a) far)) (λ b far. born_on law b (h.begun b far));
+        fits = at_others (FitsHere script t) a behind r.places fits_own (fits_other law);
+        begun = at_each (λ (b : ℕ) (k : Place). 0 < k.far → birth_for t.birth (doer_of script b (present_op script b k)) ≡ born) a behind r.places
+            (begun_own law) (λ b far. born_on law (doer_of script b (op_in script r b)) (h.begun b far));
         fresh = at_each (λ (b : ℕ) (k : Place). k.far ≡ 0 → k.had ≡ false) a behind r.places (keeps_fresh behinds (h.fresh a)) h.fresh;
         unforked = λ b k child forks.
             at_others (λ (d : ℕ) (j : Place). ForksAt script d k child → IsAhead j k → t.birth child ≡ unborn) a behind r.places
             (λ here. unforked_own k child here) (λ d other here. unforked_other d other k child here) b forks;
         yet_unmade = λ b k handle makes.
-            at_others (λ (d : ℕ) (j : Place). PinsAt script d k handle → j.answered ≤ k → t.handle handle ≡ unmade) a behind r.places
+            at_others (λ (d : ℕ) (j : Place). MakesAt script d k handle → j.answered ≤ k → IsUnmade t handle) a behind r.places
             (λ here least. yet_own k handle here least) (λ d other here least. yet_kept d k handle here least (λ own same. other own)) b makes;
         made = made_on;
+        got = got_on;
         handles = handles_on;
       }
 
@@ -520,10 +621,19 @@ pub places_stay : (script : ScriptValue) → IsScript script → (r : RunState) 
 places_stay script valid r h a b other =
     let turn = taken script valid r h a in
     let op : Option Op = op_in script r a in
-    let p : ℕ = (doer script a).proc in
+    let p : ℕ = (doer_of script a op).proc in
     let left = leaves r.core a p (child_of p op) (strand_of op) (core_turn_in script r a).events turn.done.kinds in
     ap (λ (j : Job). job_place j ((run_after script r a).core.prepared b)) (left.job b (apart b a other))
     ∙ ap (job_place (r.core.job b)) (left.prepared b (apart b a other))
+
+-- and what others have taken
+pub takes_stay : (script : ScriptValue) → IsScript script → (r : RunState) → Stands script r → (a b : ℕ) → (b ≡ a → ⊥) → pages_got (plain_of (run_after script r a).core) b ≡ pages_got (plain_of r.core) b
+takes_stay script valid r h a b other =
+    let turn = taken script valid r h a in
+    let op : Option Op = op_in script r a in
+    let p : ℕ = (doer_of script a op).proc in
+    let kept = leaves_pins r.core a p (child_of p op) (strand_of op) (core_turn_in script r a).events turn.done.kinds turn.done.can in
+    ap (λ (ts : List Taken). length (map pending_of ts)) (kept.taken b other)
 
 -- the plain state after a turn is the one that its notes lead to
 pub same_plain : Law → (script : ScriptValue) → IsScript script → (r : RunState) → Stands script r → (a : ℕ) → plain_of (run_after script r a).core ≡ plain_behind (plain_of r.core) (core_turn_in script r a).whats
@@ -567,11 +677,12 @@ stands_first starts script valid =
       few = few_first (length script.processes) script.frames.movable script.frames.normal (starts_born script);
       emptied = λ p page is. refl;
       declared = λ p. starts_declared script p (process_at script p) refl;
-      fits = λ a. fresh_fits script valid (run_start script).core (doer script a) a 0 (refl, refl) (unforked a 0) (λ h makes. refl) (λ h holds. absurd (cc holds));
+      fits = λ a. fresh_fits script valid (run_start script).core (doer_of script a (present_op script a first_place)) a 0 (refl, refl) (unforked a 0) (λ h makes. refl) (λ h holds. absurd (cc holds));
       begun = λ a far. absurd (omega arith);
       fresh = λ a none. refl;
       unforked = λ a k child forks ahead. unforked a k child forks;
-      yet_unmade = λ a k h makes least. refl;
+      yet_unmade = λ a k h makes least. (refl, refl);
       made = λ h some. absurd (some refl);
+      got = λ h some. absurd (some refl);
       handles = λ h. refl;
     }

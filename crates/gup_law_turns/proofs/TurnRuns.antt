@@ -1,5 +1,6 @@
 -- Facts of whole runs, and of turns in any order, by induction over them.
 use Rattle.std.proofs.Common.{◌≡◌, ℕ, ◌+◌, List, [], ◌∷◌, refl, sym, ap, ◌∙◌, subst}
+use Rattle.std.proofs.Math.Path.{subst₂}
 use Rattle.gup_script.specs.Valid.{IsScript}
 use Rattle.gup_plain.specs.State.{PlainState}
 use Rattle.gup_script.specs.Script.{ScriptValue}
@@ -8,12 +9,13 @@ use Rattle.gup_spec_journal.specs.Order.{Turn, journal_of}
 use Rattle.gup_spec_journal.specs.Place.{doer, ops_of}
 use Rattle.gup_spec_journal.specs.Denial.{References}
 use Rattle.gup_spec_journal.specs.Plain.{Judged, AreSo}
-use Rattle.gup_spec_turns.specs.Run.{turned, actors_of, RunState, Runs, AreTurns, turn_in, run_after, core_turn_in, op_in}
+use Rattle.gup_spec_turns.specs.Run.{turned, actors_of, RunState, Runs, AreTurns, turn_in, run_after, core_turn_in}
 use Rattle.gup_law_turns.proofs.Puts.{some_same}
-use Rattle.gup_law_turns.proofs.NoteRightness.{IsBothAt, had_in_pin, turn_right, plain_append}
-use Rattle.gup_law_turns.proofs.ScriptLemmas.{op_is_op}
+use Rattle.gup_law_turns.proofs.NoteRightness.{IsBothAt, turn_right, plain_append}
+use Rattle.gup_law_turns.proofs.ReferenceNotes.{same_references}
 use Rattle.gup_law_turns.proofs.StandingTurns.{stands_on, same_plain, plain_can}
 use Rattle.gup_law_turns.proofs.StandingStates.{Stands}
+use Rattle.gup_law_turns.proofs.TurnShapes.{references_of}
 use Rattle.gup_law_turns.proofs.TurnSteps.{taken}
 use Rattle.gup_law_turns.proofs.EventLists.{Law}
 
@@ -56,20 +58,20 @@ stands_turns law script valid [] r end h are = subst (Stands script) are h
 stands_turns law script valid (turn ∷ turns) r end h are =
     stands_turns law script valid turns (run_after script r turn.actor) end (stands_on law script valid r h turn.actor) are.1
 
--- what turns have led to, as the judge of plain journals sees it, whoever has got references
-abbrev pub judged_of : References → RunState → Judged
-judged_of references r = record { plain = plain_of r.core; references = references; places = r.places }
+-- what turns have led to, as the judge of plain journals sees it
+abbrev pub judged_of : RunState → Judged
+judged_of r = record { plain = plain_of r.core; references = references_of r.core; places = r.places }
 
 -- the journal of turns is plain, and misses no page
-pub plain_turns : Law → (script : ScriptValue) → IsScript script → (references : References) (turns : List Turn) (number : ℕ) (r end : RunState) → Stands script r → AreTurns script r turns end → AreSo IsBothAt script (judged_of references r) (journal_of number r.places turns)
-plain_turns law script valid references [] number r end h are = tt
-plain_turns law script valid references (turn ∷ turns) number r end h are =
+pub plain_turns : Law → (script : ScriptValue) → IsScript script → (turns : List Turn) (number : ℕ) (r end : RunState) → Stands script r → AreTurns script r turns end → AreSo IsBothAt script (judged_of r) (journal_of number r.places turns)
+plain_turns law script valid [] number r end h are = tt
+plain_turns law script valid (turn ∷ turns) number r end h are =
     let a = turn.actor in
     let here = taken script valid r h a in
     let whats = (core_turn_in script r a).whats in
-    let right = turn_right (ops_of script a) references here.shape refl (op_is_op script valid a (r.places a).answered) (had_in_pin r.core (doer script a) (op_in script r a) (r.places a) (h.fits a)) h.sound.1.failed_unmapped (plain_can law script valid r h a) in
+    let right = turn_right (ops_of script a) (doer script a) (references_of r.core) here.shape refl refl h.sound.1.failed_unmapped (plain_can law script valid r h a) in
     let next = run_after script r a in
-    let later = plain_turns law script valid references turns (number + 1) next end (stands_on law script valid r h a) are.1 in
-    let after = subst (λ (s : PlainState). AreSo IsBothAt script (record { plain = s; references = references; places = next.places }) (journal_of (number + 1) next.places turns)) (same_plain law script valid r h a) later in
-    let both = plain_append script valid number a ((r.places a).answered + 1) whats (journal_of (number + 1) next.places turns) (judged_of references r) right after in
-    subst (λ (t : Turn). AreSo IsBothAt script (judged_of references r) (journal_of number r.places (t ∷ turns))) (sym are.0) both
+    let later = plain_turns law script valid turns (number + 1) next end (stands_on law script valid r h a) are.1 in
+    let after = subst₂ (λ (s : PlainState) (references : References). AreSo IsBothAt script (record { plain = s; references = references; places = next.places }) (journal_of (number + 1) next.places turns)) (same_plain law script valid r h a) (sym (same_references script valid r h a)) later in
+    let both = plain_append script number a ((r.places a).answered + 1) whats (journal_of (number + 1) next.places turns) (judged_of r) right after in
+    subst (λ (t : Turn). AreSo IsBothAt script (judged_of r) (journal_of number r.places (t ∷ turns))) (sym are.0) both

@@ -1,22 +1,25 @@
 -- A run's turns: each can be done and has one of the shapes.
-use Rattle.std.proofs.Common.{◌≡◌, ℕ, ◌≤◌, ◌<◌, Bool, true, false, IsTrue, [], ◌∷◌, Option, Some, None, refl, ap, sym, subst, ◌∙◌, zero, suc, arith}
+use Rattle.std.proofs.Common.{◌≡◌, ℕ, ◌+◌, length, ◌≤◌, ◌<◌, Bool, true, false, IsTrue, [], ◌∷◌, Option, Some, None, refl, ap, sym, subst, ◌∙◌, zero, suc, arith}
 use Rattle.gup_plain.specs.State.{Birth, unborn, born, failed}
 use Rattle.gup_plain.specs.declared.answer.Answer.TheVariants as answers
 use Rattle.gup_plain.specs.declared.event.PlainEvent.TheVariants as events
 use Rattle.gup_plain.specs.declared.note.What.TheVariants.{Event, Done}
 use Rattle.gup_plain.specs.declared.note.Waiting.{Waiting}
-use Rattle.gup_script.specs.Valid.{IsScript, IsOp, IsOfDevice, IsOfThread, FitsKind}
+use Rattle.gup_script.specs.Valid.{IsScript, IsOp, IsOfDevice, IsOfThread, FitsKind, made_by}
 use Rattle.gup_base.specs.Counts.{most_slots}
+use Rattle.gup_base.specs.declared.entry.Want.{Want}
+use Rattle.gup_base.specs.declared.entry.Zone.{Zone}
+use Rattle.gup_spec_turns.specs.PinPlace.{StandsAtPage, turns_over}
 use Rattle.gup_script.specs.Script.{ScriptValue, Actor, actor_at, is_thread}
 use Rattle.gup_script.specs.declared.op.Kind.{Kind}
 use Rattle.gup_script.specs.declared.op.Kind.TheVariants.{Thread, Device, Mover}
 use Rattle.gup_script.specs.declared.op.Op.{Op}
-use Rattle.gup_script.specs.declared.op.Op.TheVariants.{Map, Unmap, Protect, Discard, Load, Store, Pin, Unpin, Give, Take, Transfer, Fork, Exit}
-use Rattle.gup_spec_events.specs.State.{CoreState, Job, idle, forking, plain_of}
+use Rattle.gup_script.specs.declared.op.Op.TheVariants.{Map, Unmap, Protect, Discard, Load, Store, Pin, Unpin, Give, Take, Get, Put, Transfer, Fork, Exit, Move}
+use Rattle.gup_spec_events.specs.State.{CoreState, Job, idle, forking, plain_of, moving, unread, one, more}
 use Rattle.gup_spec_events.specs.Event.{run}
 use Rattle.gup_spec_journal.specs.Follows.{refuses}
 use Rattle.gup_spec_journal.specs.Order.{handle_waits}
-use Rattle.gup_spec_journal.specs.Place.{Place, Doer, doer, thread_in, birth_by, birth_for}
+use Rattle.gup_spec_journal.specs.Place.{Place, Doer, doer_of, thread_in, is_of_process, birth_by, birth_for}
 use Rattle.gup_spec_turns.specs.JobPlace.{JobPlace, place_in}
 use Rattle.gup_spec_turns.specs.Run.{RunState, op_in, waiting_with, waiting_in, core_turn_by, core_turn_in}
 use Rattle.gup_spec_turns.specs.CoreTurn.{CoreTurn, answers_with}
@@ -26,12 +29,14 @@ use Rattle.gup_spec_turns.specs.Turn.{failed_turn, turn_at, op_turn}
 use Rattle.gup_law_turns.proofs.CalmStates.{failing_unborn}
 use Rattle.gup_law_turns.proofs.ForkFails.{unborn_empty}
 use Rattle.gup_law_turns.proofs.ForkOps.{IsEmptied, fork_turned, fork_emptied}
+use Rattle.gup_law_turns.proofs.MoveOps.{move_turned}
 use Rattle.gup_law_turns.proofs.HandleOps.{unpin_turned, give_turned, take_turned, transfer_turned}
 use Rattle.gup_law_turns.proofs.PageOps.{map_turned, unmap_turned, load_turned, store_turned, protect_turned, discard_turned, exit_turned}
 use Rattle.gup_law_turns.proofs.PinOps.{none_taken, pin_turned}
 use Rattle.gup_law_turns.proofs.Puts.{some_same}
-use Rattle.gup_law_turns.proofs.ScriptLemmas.{FitsIn, op_is_op, op_fits_kind, is_of_thread, thread_birth, few_slots}
-use Rattle.gup_law_turns.proofs.TurnShapes.{AtFirst, FitsFork, FitsOp, FitsAt, Rests, IsOfProcess, TurnAt, idles, waits, goes, unborn_refused, unborn_fork}
+use Rattle.gup_law_turns.proofs.ReferenceOps.{get_turned, put_turned}
+use Rattle.gup_law_turns.proofs.ScriptLemmas.{FitsIn, op_is_op, op_fits_kind, thread_birth, few_slots, has_own_process}
+use Rattle.gup_law_turns.proofs.TurnShapes.{references_of, AtFirst, FitsFork, FitsOp, FitsAt, Rests, IsOfProcess, TurnAt, idles, waits, goes, unborn_refused, unborn_fork, FitsMove, has_begun}
 use Rattle.gup_law_turns.proofs.StandingStates.{Stands, IsTaken}
 use Rattle.gup_law_turns.proofs.ShownTurns.{IsOpen, IsQuiet, MakesPin, IsTurned, idle_place}
 
@@ -52,14 +57,23 @@ of_no_device op own device = device
 of_kind : (kind : Kind) (op : Op) → FitsKind kind op → is_thread kind ≡ true → IsOfThread op
 of_kind (Thread p) op fits is = fits
 of_kind (Device slots) op fits is = absurd (cc is)
-of_kind Mover op fits is = absurd fits
+of_kind Mover op fits is = absurd (cc is)
 
 of_actor : (actor : Option Actor) (op : Op) → FitsIn actor op → thread_in actor ≡ true → IsOfThread op
 of_actor None op fits is = absurd fits
 of_actor (Some actor) op fits is = of_kind actor.kind op fits is
 
--- whoever is no thread waits for no birth, so a process that failed is a thread's
-failed_proc : (thread : Bool) (birth : Birth) → birth_by thread birth ≡ failed → (thread ≡ true) × (birth ≡ failed)
+-- one that is of a process is no transfer
+abbrev IsNoTransfer : Op → Type 0
+IsNoTransfer (Transfer handle outward slot parts) = ⊥
+IsNoTransfer op = Unit {0}
+
+no_transfer : (actor : Option Actor) (op : Op) → FitsIn actor op → is_of_process (thread_in actor) (Some op) ≡ true → IsNoTransfer op
+no_transfer actor (Transfer handle outward slot parts) fits is = of_actor actor (Transfer handle outward slot parts) fits is
+no_transfer actor op fits is = tt
+
+-- whatever is of no process waits for no birth
+failed_proc : (of_process : Bool) (birth : Birth) → birth_by of_process birth ≡ failed → (of_process ≡ true) × (birth ≡ failed)
 failed_proc true birth is = (refl, is)
 failed_proc false birth is = absurd (cc is)
 
@@ -69,12 +83,13 @@ not_failed is lost = cc (sym is ∙ lost)
 same_child : {c d : ℕ} → Some (Fork c) ≡ Some (Fork d) → d ≡ c
 same_child is = cc
 
--- What the turn of an operation needs: its numbers are in range, its process is born if it is of one, and whoever does it
--- waits for nothing.
+-- What the turn of an operation needs: its numbers are in range, its process is born if it is of one, the reference that it
+-- gets isn't got, and whoever does it waits for nothing.
 record CanTake (s : CoreState) (who : Doer) (place : Place) (op : Op) : Type 0 where
   range : IsOp op
   birth : IsOfProcess op → s.birth who.proc ≡ born
   slots : who.slots ≤ most_slots
+  ungot : (handle : ℕ) → made_by op ≡ Some handle → s.got handle ≡ None
   fits : FitsOp s who op place
   free : waits_born s who.actor who.proc op ≡ None
 
@@ -96,7 +111,10 @@ module _ (s : CoreState) (who : Doer) (place : Place) (quiet : IsQuiet s who.act
   op_turned (Take handle) h =
       take_turned s who place quiet handle h.fits
       (first_of_both (handle_waits s.handle who.actor (Some (Take handle))) (waits_for_locks no_lock who.actor (s.structure who.proc) (s.table who.proc)) h.free)
+  op_turned (Get handle page) h = get_turned s who place (opened (h.birth tt)) handle page (h.ungot handle refl) h.fits h.free
+  op_turned (Put handle) h = put_turned s who place quiet handle h.fits
   op_turned (Transfer handle outward slot parts) h = transfer_turned s who place quiet handle outward slot parts h.slots h.fits
+  op_turned (Move proc page zone) h = move_turned s who proc page zone place (opened (h.birth tt)) h.fits h.free
   op_turned (Fork child) h = fork_turned s who child place (opened (h.birth tt)) h.fits h.free
   op_turned Exit h = exit_turned s who place (opened (h.birth tt)) h.fits h.free
   op_turned op h = absurd h.range
@@ -108,13 +126,32 @@ module _ (s : CoreState) (who : Doer) (place : Place) (first : place.far ≡ 0) 
   idle_fork child (forking q c done step) is fits = absurd (let more = fits.0.0 in omega (arith, more, first))
   idle_fork child job is fits = absurd fits
 
+  idle_move : (proc page : ℕ) (zone : Zone) (job : Job) → s.job who.actor ≡ job → FitsMove s who.actor who.proc page zone place job → s.job who.actor ≡ idle
+  idle_move proc page zone idle is fits = is
+  idle_move proc page zone (moving q g e allowed count) is fits = absurd (let more = has_begun g place.far e count fits.0 in omega (arith, more, first))
+  idle_move proc page zone job is fits = absurd fits
+
+  idle_pin : (page : ℕ) (want : Want) (job : Job) → s.job who.actor ≡ job → StandsAtPage s who.actor who.proc page want job → turns_over job ≡ 0 → s.job who.actor ≡ idle
+  idle_pin page want idle is at none = is
+  idle_pin page want (moving q g e allowed unread) is at none = absurd (omega (arith, none))
+  idle_pin page want (moving q g e allowed one) is at none = absurd (omega (arith, none))
+  idle_pin page want (moving q g e allowed (more count)) is at none = absurd (omega (arith, none))
+  idle_pin page want job is at none = absurd at
+
   rests_first : (op : Op) → FitsOp s who op place → Rests s who.actor
-  rests_first (Pin handle page n want fast) fits = (fits.0, none_taken (s.taken who.actor) (fits.2.taken.many ∙ first))
+  rests_first (Pin handle page n want fast) fits =
+      let least = fits.least in
+      (idle_pin (page + length (s.taken who.actor)) want (s.job who.actor) refl fits.at (omega (arith, least, first)), none_taken (s.taken who.actor) (omega (arith, least, first)))
+  rests_first (Move proc page zone) fits = (idle_move proc page zone (s.job who.actor) refl fits.2, fits.0)
   rests_first (Fork child) fits = ((idle_fork child (s.job who.actor) refl fits.1).0, fits.0)
   rests_first Exit fits = fits
   rests_first op fits = fits.0
 
--- a thread of a failed process, at the first turn of an operation
+  pub rests_at : (op : Option Op) → FitsAt s who op place → Rests s who.actor
+  rests_at None fits = fits.0
+  rests_at (Some op) fits = rests_first op fits
+
+-- an operation of a failed process, at its first turn
 module _ (s : CoreState) (who : Doer) (place : Place) (quiet : IsQuiet s who.actor) (lost : birth_for s.birth who ≡ failed) (first : AtFirst place) where
   -- its operation is refused
   refuses_op : (op : Op) → IsTrue (refuses op answers.Unborn) → ((child : ℕ) → Some op ≡ Some (Fork child) → ⊥) → FitsOp s who op place → IsTaken s who place (Some op) None (answers_with answers.Unborn)
@@ -122,7 +159,7 @@ module _ (s : CoreState) (who : Doer) (place : Place) (quiet : IsQuiet s who.act
       let still = rests_first s who place first.0 op fits in
       record {
         done = record { kinds = tt; can = tt; rest = quiet.rest; told = refl };
-        shape = subst (λ (at : JobPlace). TurnAt (plain_of s) who place (Some op) None at (Done answers.Unborn ∷ []) at) (sym (idle_place s who.actor still.0)) (unborn_refused op lost first refusal);
+        shape = subst (λ (at : JobPlace). TurnAt (plain_of s) (references_of s) who place (Some op) None at (Done answers.Unborn ∷ []) at) (sym (idle_place s who.actor still.0)) (unborn_refused op lost first refusal);
         next = still;
         pin = λ o same free birth. absurd (not_failed birth lost);
         emptied = λ child page same gone. absurd (no_fork child same);
@@ -131,7 +168,7 @@ module _ (s : CoreState) (who : Doer) (place : Place) (quiet : IsQuiet s who.act
   -- its fork makes the child failed, too, which has no entries
   fails_child : (child : ℕ) → FitsOp s who (Fork child) place → IsTaken s who place (Some (Fork child)) None (failed_turn who.actor who.proc (Fork child))
   fails_child child fits =
-      let proc : s.birth who.proc ≡ failed = (failed_proc who.thread (s.birth who.proc) lost).1 in
+      let proc : s.birth who.proc ≡ failed = (failed_proc who.of_process (s.birth who.proc) lost).1 in
       let still = idle_fork s who place first.0 child (s.job who.actor) refl fits.1 in
       record {
         done = record {
@@ -140,13 +177,13 @@ module _ (s : CoreState) (who : Doer) (place : Place) (quiet : IsQuiet s who.act
           rest = record { prepared = quiet.rest.prepared; owed = quiet.rest.owed };
           told = refl;
         };
-        shape = subst (λ (at : JobPlace). TurnAt (plain_of s) who place (Some (Fork child)) None at (Event (events.ForkFail child) ∷ Done answers.Unborn ∷ []) at) (sym (idle_place s who.actor still.0)) (unborn_fork child lost proc first);
+        shape = subst (λ (at : JobPlace). TurnAt (plain_of s) (references_of s) who place (Some (Fork child)) None at (Event (events.ForkFail child) ∷ Done answers.Unborn ∷ []) at) (sym (idle_place s who.actor still.0)) (unborn_fork child lost proc first);
         next = (still.0, fits.0);
         pin = λ o same free birth. absurd (not_failed birth lost);
         emptied = λ c page same gone. ap (λ (k : ℕ). s.entry k page) (same_child same) ∙ unborn_empty s child page quiet.sound still.1;
       }
 
-  failed_step : (op : Op) → IsOfThread op → FitsOp s who op place → IsTaken s who place (Some op) None (failed_turn who.actor who.proc op)
+  failed_step : (op : Op) → IsNoTransfer op → FitsOp s who op place → IsTaken s who place (Some op) None (failed_turn who.actor who.proc op)
   failed_step (Transfer handle outward slot parts) own fits = absurd own
   failed_step (Fork child) own fits = fails_child child fits
   failed_step op own fits = refuses_op op refl (λ child same. cc same) fits
@@ -154,9 +191,10 @@ module _ (s : CoreState) (who : Doer) (place : Place) (quiet : IsQuiet s who.act
 -- What is known of whoever has this operation, or none.
 record IsKnown (s : CoreState) (who : Doer) (place : Place) (op : Option Op) : Type 0 where
   range : (o : Op) → op ≡ Some o → IsOp o
-  thread : (o : Op) → op ≡ Some o → IsOfProcess o → who.thread ≡ true
-  of_thread : (o : Op) → op ≡ Some o → who.thread ≡ true → IsOfThread o
+  thread : (o : Op) → op ≡ Some o → IsOfProcess o → who.of_process ≡ true
+  unlike_transfer : (o : Op) → op ≡ Some o → who.of_process ≡ true → IsNoTransfer o
   slots : who.slots ≤ most_slots
+  ungot : (o : Op) → op ≡ Some o → (handle : ℕ) → made_by o ≡ Some handle → s.got handle ≡ None
   fits : FitsAt s who op place
   begun : 0 < place.far → birth_for s.birth who ≡ born
   fresh : place.far ≡ 0 → place.had ≡ false
@@ -168,7 +206,7 @@ module _ (s : CoreState) (who : Doer) (place : Place) (quiet : IsQuiet s who.act
   born_step birth free =
       let own_birth : IsOfProcess op → s.birth who.proc ≡ born = λ own. sym (thread_birth who s.birth (h.thread op refl own)) ∙ birth in
       let turn : CoreTurn = op_turn s who.actor who.proc who.slots place.far op in
-      let at : IsTurned s who place op turn = op_turned s who place quiet op (record { range = h.range op refl; birth = own_birth; slots = h.slots; fits = h.fits; free = free }) in
+      let at : IsTurned s who place op turn = op_turned s who place quiet op (record { range = h.range op refl; birth = own_birth; slots = h.slots; ungot = h.ungot op refl; fits = h.fits; free = free }) in
       record {
         done = at.done;
         shape = goes op turn.whats (place_in s who.actor) (place_in (run s turn.events) who.actor) birth own_birth at.shape;
@@ -195,7 +233,7 @@ module _ (s : CoreState) (who : Doer) (place : Place) (quiet : IsQuiet s who.act
   step_by : (birth : Birth) → birth_for s.birth who ≡ birth → waits_at birth who.proc (waits_born s who.actor who.proc op) ≡ None → IsTaken s who place (Some op) None (turn_at birth (failed_turn who.actor who.proc op) (op_turn s who.actor who.proc who.slots place.far op))
   step_by born is free = born_step is free
   step_by failed is free =
-      failed_step s who place quiet is (at_first is) op (h.of_thread op refl (failed_proc who.thread (s.birth who.proc) is).0) h.fits
+      failed_step s who place quiet is (at_first is) op (h.unlike_transfer op refl (failed_proc who.of_process (s.birth who.proc) is).0) h.fits
   step_by birth is free = absurd (cc free)
 
 take : (s : CoreState) (who : Doer) (place : Place) (op : Option Op) (waiting : Option Waiting) → IsQuiet s who.actor → IsKnown s who place op → waiting_with s who op ≡ waiting → IsTaken s who place op waiting (core_turn_by s who place.far op waiting)
@@ -218,16 +256,17 @@ take s who place (Some op) (Some waiting) quiet h is =
 take s who place (Some op) None quiet h is = step_by s who place quiet op h (birth_for s.birth who) refl is
 
 -- the turn of an actor
-pub taken : (script : ScriptValue) → IsScript script → (r : RunState) → Stands script r → (a : ℕ) → IsTaken r.core (doer script a) (r.places a) (op_in script r a) (waiting_in script r a) (core_turn_in script r a)
+pub taken : (script : ScriptValue) → IsScript script → (r : RunState) → Stands script r → (a : ℕ) → IsTaken r.core (doer_of script a (op_in script r a)) (r.places a) (op_in script r a) (waiting_in script r a) (core_turn_in script r a)
 taken script valid r h a =
     let k : ℕ = (r.places a).answered in
-    take r.core (doer script a) (r.places a) (op_in script r a) (waiting_in script r a)
+    take r.core (doer_of script a (op_in script r a)) (r.places a) (op_in script r a) (waiting_in script r a)
     (record { sound = h.sound; calm = h.calm; rest = h.rest a })
     (record {
       range = op_is_op script valid a k;
-      thread = λ o is own. is_of_thread script valid a k o is (of_no_device o own);
-      of_thread = λ o is own. of_actor (actor_at script a) o (op_fits_kind script valid a k o is) own;
+      thread = λ o is own. subst (λ (x : Option Op). (doer_of script a x).of_process ≡ true) (sym is) (has_own_process script valid a k o is (of_no_device o own));
+      unlike_transfer = λ o is own. no_transfer (actor_at script a) o (op_fits_kind script valid a k o is) (subst (λ (x : Option Op). (doer_of script a x).of_process ≡ true) is own);
       slots = few_slots script valid a;
+      ungot = λ o is handle makes. (h.yet_unmade a k handle (o, is, makes) (omega arith)).1;
       fits = h.fits a;
       begun = h.begun a;
       fresh = h.fresh a;

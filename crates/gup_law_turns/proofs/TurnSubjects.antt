@@ -11,6 +11,7 @@ use Rattle.gup_script.specs.declared.op.Op.{Op}
 use Rattle.gup_script.specs.declared.op.Op.TheVariants.{Unpin, Give, Take, Transfer, Fork}
 use Rattle.gup_spec_events.specs.State.{CoreState, plain_of}
 use Rattle.gup_spec_events.specs.Event.{CoreEvent, run}
+use Rattle.gup_spec_journal.specs.Denial.{References}
 use Rattle.gup_spec_journal.specs.Follows.{refuses}
 use Rattle.gup_spec_journal.specs.Place.{Place, Doer, place_behind, birth_for}
 use Rattle.gup_spec_turns.specs.JobPlace.{JobPlace}
@@ -23,7 +24,7 @@ use Rattle.gup_spec_turns.specs.DeviceTurns.{transfer_turn, word_turn, frame_at,
 use Rattle.gup_law_turns.proofs.CalmStates.{AreHandleEvents, unpinning, giving, taking_over, moving_out, moving_in}
 use Rattle.gup_law_turns.proofs.ActorPlaces.{IsBehind, goes_on, is_over, IsBehindTurn, stays_there, goes_by, op_behind}
 use Rattle.gup_law_turns.proofs.ScriptPlaces.{fresh_place}
-use Rattle.gup_law_turns.proofs.TurnShapes.{IsOfProcess, TurnAt, idles, waits, goes, unborn_refused, unborn_fork}
+use Rattle.gup_law_turns.proofs.TurnShapes.{references_of, IsOfProcess, TurnAt, idles, waits, goes, unborn_refused, unborn_fork}
 use Rattle.gup_law_turns.proofs.StandingStates.{IsAhead}
 
 -- what is ahead at the first turn of the next operation, or in the middle of the present one, is after the present one
@@ -122,7 +123,7 @@ failed_taken : (s : CoreState) (who : Doer) (far : ℕ) (op : Op) → birth_for 
 failed_taken s who far op birth =
     ap (λ (b : Birth). turn_at b (failed_turn who.actor who.proc op) (op_turn s who.actor who.proc who.slots far op)) (sym birth)
 
-pub still_or_going : {place : Place} {from to : JobPlace} {whats : List What} {op : Option Op} {waiting : Option Waiting} (s : CoreState) (who : Doer) (far : ℕ) → TurnAt (plain_of s) who place op waiting from whats to → IsTurnGoing s who place (core_turn_by s who far op waiting) whats
+pub still_or_going : {place : Place} {from to : JobPlace} {whats : List What} {op : Option Op} {waiting : Option Waiting} (s : CoreState) (who : Doer) (far : ℕ) → TurnAt (plain_of s) (references_of s) who place op waiting from whats to → IsTurnGoing s who place (core_turn_by s who far op waiting) whats
 still_or_going s who far (idles waiting at) = inl (0, tt)
 still_or_going s who far (waits op waiting at) = inl (0, tt)
 still_or_going s who far (goes op whats from to birth own turn) = going_by s who far op own (ahead_on (op_behind s (Some op) turn))
@@ -134,7 +135,7 @@ still_or_going {place = place} s who far (unborn_fork child birth own first) =
     inr (record { birth = inr (own, kept); later = λ k ahead. ahead_next place.answered k ahead })
 
 -- only an actor that waits for no birth comes into the middle of an operation
-pub keeps_begun : {s : PlainState} {who : Doer} {place : Place} {op : Option Op} {waiting : Option Waiting} {whats : List What} {from to : JobPlace} → TurnAt s who place op waiting from whats to → (0 < place.far → birth_for s.birth who ≡ born) → 0 < (place_behind place whats).far → birth_for s.birth who ≡ born
+pub keeps_begun : {s : PlainState} {references : References} {who : Doer} {place : Place} {op : Option Op} {waiting : Option Waiting} {whats : List What} {from to : JobPlace} → TurnAt s references who place op waiting from whats to → (0 < place.far → birth_for s.birth who ≡ born) → 0 < (place_behind place whats).far → birth_for s.birth who ≡ born
 keeps_begun (idles waiting at) begun = begun
 keeps_begun (waits op waiting at) begun = begun
 keeps_begun (goes op whats from to birth own turn) begun = λ _. birth

@@ -3,21 +3,24 @@ use Rattle.std.specs.Prelude.{◌≡◌, ℕ, ◌+◌, ◌*◌, ◌≤◌, ◌<�
 use Rattle.gup_base.specs.Parts.{Part, words_of}
 use Rattle.gup_base.specs.declared.entry.Entry.{Entry}
 use Rattle.gup_base.specs.declared.entry.Want.{Want}
+use Rattle.gup_base.specs.declared.entry.Zone.{Zone}
 use Rattle.gup_plain.specs.Event.{page_numbers}
 use Rattle.gup_plain.specs.State.{unborn, Handle, unmade, held, given, gone}
 use Rattle.gup_script.specs.declared.op.Op.{Op}
-use Rattle.gup_script.specs.declared.op.Op.TheVariants.{Unmap, Discard, Pin, Unpin, Transfer, Fork}
-use Rattle.gup_script.specs.Limits.{most_pinned}
+use Rattle.gup_script.specs.declared.op.Op.TheVariants.{Unmap, Discard, Pin, Unpin, Transfer, Fork, Move}
+use Rattle.gup_script.specs.Limits.{most_pinned, most_handles}
 use Rattle.gup_script.specs.Script.{ScriptValue}
-use Rattle.gup_spec_events.specs.State.{idle}
+use Rattle.gup_script.specs.Valid.{made_by}
+use Rattle.gup_spec_events.specs.State.{CoreState, idle}
 use Rattle.gup_spec_events.specs.Event.{bias}
 use Rattle.gup_spec_events.specs.Invariant.{Holds}
 use Rattle.gup_law_base.specs.Sound.{IsSound}
 use Rattle.gup_spec_journal.specs.Place.{ops_of, present_op, process_of}
 use Rattle.gup_plain.specs.Pages.{mapped_pages}
 use Rattle.gup_spec_turns.specs.Run.{RunState}
-use Rattle.gup_spec_turns.specs.JobPlace.{StandsFork, KeepsFrame, IsPrepared, IsNoFork}
-use Rattle.gup_spec_turns.specs.PinPlace.{IsNoPin, StandsPin}
+use Rattle.gup_spec_turns.specs.JobPlace.{StandsFork, StandsMove, KeepsFrame, IsPrepared, KeepsNoJob}
+use Rattle.gup_spec_turns.specs.PinPlace.{IsNoPin, StandsPin, turns_over}
+use Rattle.gup_spec_turns.specs.Cost.{pin_turns}
 
 -- how many pages of a pin its holder has given back: those of the unpin that it is in the middle of
 abbrev pub given_back : Option Op → (handle far : ℕ) → ℕ
@@ -36,12 +39,18 @@ StandsHandle back pinned (given to objects write) =
 abbrev pub back_in : ScriptValue → RunState → (handle a : ℕ) → ℕ
 back_in script r handle a = given_back (present_op script a (r.places a)) handle (r.places a).far
 
+-- a handle of which neither a pin is made nor a reference is got
+abbrev pub IsUnmade : CoreState → (handle : ℕ) → Type 0
+IsUnmade s handle = (s.handle handle ≡ unmade) × (s.got handle ≡ None)
+
 -- The core state is sound, and all that is published of core states holds of it. Those that are not unborn are declared. Each
--- entry is of a mapped page, and its frame has a reference. No actor but one that forks is in the middle of anything, none but
--- one that pins has taken pages, and none but one that copies a page has prepared a frame. An operation that goes over pages or
+-- entry is of a mapped page, and its frame has a reference. No actor but one that forks, moves or pins for long is in the middle of anything, none but
+-- one that pins has taken pages, and none but one that copies a page has prepared a frame. A pin has had no more
+-- turns than its pages take. An operation that goes over pages or
 -- words stands at one of them, an unpin has given back fewer than the most pages of a pin, and no actor has answered more
--- operations than it has. Pins are of declared handles, and the weight of each of their pages is in the count of its
--- frame. Counts and sequences stay small.
+-- operations than it has. Pins and references are of declared handles, the weight of each page of a pin is in the count of its
+-- frame, and so is that of a reference; the handle of a pin or a reference that isn't answered is unmade. Counts and sequences
+-- stay small.
 pub record IsStanding (script : ScriptValue) (r : RunState) : Type 0 where
   pub sound : IsSound r.core
   pub holds : Holds r.core
@@ -49,19 +58,23 @@ pub record IsStanding (script : ScriptValue) (r : RunState) : Type 0 where
   pub mapped : (p page : ℕ) (e : Entry) → r.core.entry p page ≡ Some e → IsSome (r.core.right p page)
   pub counted : (p page : ℕ) (e : Entry) → r.core.entry p page ≡ Some e → r.core.count e.frame ≡ 0 → ⊥
   pub few_pages : (p : ℕ) → mapped_pages (r.core.right p) ≤ 1024
-  pub few_counts : (f : ℕ) → r.core.count f ≤ 16 * page_numbers + bias * 17680
+  pub few_counts : (f : ℕ) → r.core.count f ≤ 16 * page_numbers + most_handles + 81 + bias * 17680
   pub few_forks : (p : ℕ) → r.core.sequence p ≤ 32
-  pub idle_jobs : (a : ℕ) → IsNoFork (present_op script a (r.places a)) → r.core.job a ≡ idle
+  pub idle_jobs : (a : ℕ) → KeepsNoJob (present_op script a (r.places a)) → r.core.job a ≡ idle
   pub forks : (a child : ℕ) → present_op script a (r.places a) ≡ Some (Fork child) → StandsFork r.core a (process_of script a) child (r.core.job a) (r.core.prepared a)
+  pub moves : (a proc page : ℕ) (zone : Zone) → present_op script a (r.places a) ≡ Some (Move proc page zone) → StandsMove r.core a proc page zone (r.core.job a)
   pub keeps : (a : ℕ) → KeepsFrame (r.core.job a) (r.core.prepared a)
   pub prepared : (a f : ℕ) → r.core.prepared a ≡ Some f → IsPrepared r.core f
   pub untaken : (a : ℕ) → IsNoPin (present_op script a (r.places a)) → r.core.taken a ≡ []
-  pub pins : (a handle page n : ℕ) (want : Want) (fast : Bool) → present_op script a (r.places a) ≡ Some (Pin handle page n want fast) → StandsPin r.core a (process_of script a) handle page n want (r.places a).far
+  pub pins : (a handle page n : ℕ) (want : Want) (fast : Bool) → present_op script a (r.places a) ≡ Some (Pin handle page n want fast) → StandsPin r.core a (process_of script a) handle page n want (length (r.core.taken a))
+  pub paced : (a handle page n : ℕ) (want : Want) (fast : Bool) → present_op script a (r.places a) ≡ Some (Pin handle page n want fast) → (r.places a).far ≤ pin_turns want.long (length (r.core.taken a)) + turns_over (r.core.job a)
   pub flagged : (a handle page n : ℕ) (want : Want) (fast : Bool) → present_op script a (r.places a) ≡ Some (Pin handle page n want fast) → 0 < (r.places a).far → r.core.has_pinned (process_of script a) ≡ true
   pub handles : (h : ℕ) → StandsHandle (back_in script r h) (r.core.pinned h) (r.core.handle h)
   pub made : (h : ℕ) → (r.core.handle h ≡ unmade → ⊥) → h < length script.handles
   pub weighed : (h k f : ℕ) → slice_get (r.core.pinned h) k ≡ Some f → bias ≤ r.core.count f
-  pub ungot : (h : ℕ) → r.core.got h ≡ None
+  pub got : (h : ℕ) → (r.core.got h ≡ None → ⊥) → h < length script.handles
+  pub referred : (h a f : ℕ) → r.core.got h ≡ Some (a, f) → r.core.count f ≡ 0 → ⊥
+  pub yet_unmade : (a handle : ℕ) (op : Op) → present_op script a (r.places a) ≡ Some op → made_by op ≡ Some handle → IsUnmade r.core handle
   pub unmaps : (a page n : ℕ) → present_op script a (r.places a) ≡ Some (Unmap page n) → (r.places a).far < n
   pub discards : (a page n : ℕ) → present_op script a (r.places a) ≡ Some (Discard page n) → (r.places a).far < n
   pub unpins : (a handle : ℕ) → present_op script a (r.places a) ≡ Some (Unpin handle) → (r.places a).far < most_pinned

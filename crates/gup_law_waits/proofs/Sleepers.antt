@@ -1,34 +1,34 @@
 -- Whoever can't go, can't go after the turn of another actor, unless this wakes it.
-use Rattle.std.proofs.Common.{◌≡◌, ℕ, ◌<◌, ◌⊎◌, inl, inr, Bool, true, false, not, List, [], ◌∷◌, Option, Some, None, is_some, is_none, refl, sym, ap, ◌∙◌, subst}
+use Rattle.std.proofs.Common.{◌≡◌, ℕ, ◌⊎◌, inl, inr, Bool, true, false, not, List, [], ◌∷◌, Option, Some, None, is_some, is_none, refl, sym, ap, ◌∙◌, subst}
 use Rattle.gup_base.specs.declared.entry.Entry.{Entry}
+use Rattle.gup_base.specs.declared.entry.Rights.{Rights}
+use Rattle.gup_law_base.specs.Sound.{keeps_structure}
 use Rattle.gup_plain.specs.Event.{IsUnbornOrGrowing}
 use Rattle.gup_plain.specs.State.{PlainState, Birth, unborn, growing, born, failed, Handle}
 use Rattle.gup_plain.specs.declared.note.Waiting.{Waiting}
-use Rattle.gup_plain.specs.declared.note.Waiting.TheVariants as waitings
 use Rattle.gup_script.specs.Script.{ScriptValue}
 use Rattle.gup_script.specs.Valid.{IsScript}
 use Rattle.gup_script.specs.declared.op.Op.{Op}
-use Rattle.gup_script.specs.declared.op.Op.TheVariants.{Map, Unmap, Protect, Discard, Load, Store, Pin, Take, Fork, Exit}
-use Rattle.gup_spec_events.specs.State.{CoreState, Job, idle, plain_of}
+use Rattle.gup_script.specs.declared.op.Op.TheVariants.{Map, Unmap, Protect, Discard, Load, Store, Pin, Take, Get, Fork, Exit, Move}
+use Rattle.gup_spec_events.specs.State.{CoreState, Job, idle, plain_of, forking, between}
 use Rattle.gup_spec_journal.specs.Order.{handle_waits, taking_waits, is_given_to, plain_behind}
-use Rattle.gup_spec_journal.specs.Place.{Place, Doer, doer, place_behind, birth_by, birth_for, present_op, process_of}
+use Rattle.gup_spec_journal.specs.Place.{Place, Doer, doer_of, place_behind, birth_by, birth_for, present_op, process_of}
 use Rattle.gup_spec_turns.specs.CoreTurn.{allows_store}
 use Rattle.gup_spec_turns.specs.JobPlace.{place_in}
 use Rattle.gup_spec_turns.specs.Run.{RunState, run_start, run_after, op_in, waiting_with, waiting_in, core_turn_in, is_ready, can_go, turned}
-use Rattle.gup_spec_turns.specs.Waits.{Locks, fork_locks, locks_needed, first_waiting, waits_for_locks, waits_born, waiting_for}
+use Rattle.gup_spec_turns.specs.Waits.{Locks, both_if, move_locks, fork_locks, locks_needed, first_waiting, waits_for_lock, waits_for_locks, waits_born, waiting_for}
 use Rattle.gup_spec_turns.proofs.TurnParts.{waits_at}
 use Rattle.gup_law_turns.proofs.EventLists.{Law}
-use Rattle.gup_law_turns.proofs.KeptParts.{apart, same_or_apart, put_apart, leaves, stays_born}
-use Rattle.gup_law_turns.proofs.Puts.{some_same}
-use Rattle.gup_law_turns.proofs.ScriptLemmas.{is_of_thread, thread_birth}
+use Rattle.gup_law_turns.proofs.KeptParts.{OfProcess, KeepsPages, apart, same_or_apart, put_apart, leaves, stays_born}
+use Rattle.gup_law_turns.proofs.ScriptLemmas.{thread_birth}
 use Rattle.gup_law_turns.proofs.StandingStates.{Stands, IsTaken}
-use Rattle.gup_law_turns.proofs.StandingTurns.{Starts, stands_first, stands_on, same_plain}
-use Rattle.gup_law_turns.proofs.TurnShapes.{child_of, strand_of}
+use Rattle.gup_law_turns.proofs.StandingTurns.{Starts, child_kept, pages_kept, stands_first, stands_on, same_plain}
+use Rattle.gup_law_turns.proofs.TurnShapes.{FitsFork, FitsAt, child_of, strand_of}
 use Rattle.gup_law_turns.proofs.TurnSteps.{taken}
-use Rattle.gup_law_journal.proofs.LockHolders.{IsInFork, waits_for_fork}
+use Rattle.gup_law_journal.proofs.LockHolders.{held_lock}
 use Rattle.gup_law_waits.specs.Woken.{Woken, one, everybody, wakes, MayWake}
 use Rattle.gup_law_waits.proofs.PlainWaits.{answers_it, still_to_come, still_ungiven, over_unbegun}
-use Rattle.gup_law_waits.proofs.LocksKept.{KeepsOut, idle_or_holds, others_keep, own_keeps}
+use Rattle.gup_law_waits.proofs.LocksKept.{KeepsOut, structure_born, forks_by, others_keep, own_keeps, table_keeps}
 
 -- waiting
 
@@ -44,16 +44,38 @@ value_of : (waiting : Option Waiting) → is_some waiting ≡ true → (w : Wait
 value_of None is = absurd (cc is)
 value_of (Some w) is = (w, refl)
 
--- whoever needs a lock that another holds waits
-held_waits : (locks : Locks) (b d : ℕ) (structure table : Option ℕ) → locks.structure ≡ true → structure ≡ Some d → (b ≡ d → ⊥) → is_some (waits_for_locks locks b structure table) ≡ true
-held_waits locks b d structure table needed locked other = rw (needed, locked, apart b d other) refl
+-- a lock that another actor holds is needed
+abbrev pub IsNeeded : (b : ℕ) (needed : Bool) (holder : Option ℕ) → Type 0
+IsNeeded b needed holder = (needed ≡ true) × (d : ℕ) × (b ≡ d → ⊥) × (holder ≡ Some d)
 
--- an operation that waits for the structure lock of a fork that is another's, does so while that keeps others out
-module _ (s t : CoreState) (b q d : ℕ) (other : b ≡ d → ⊥) (kept : KeepsOut s t q d) (waiting : Waiting) where
-  by_structure : (needed : Bool) → waits_for_locks (record { structure = needed; table = needed }) b (s.structure q) (s.table q) ≡ Some waiting → needed ≡ true
-  by_structure true is = refl
-  by_structure false is = absurd (cc is)
+lock_needed : (needed : Bool) (b : ℕ) (holder : Option ℕ) (w : Waiting) → waits_for_lock needed b holder ≡ Some w → IsNeeded b needed holder
+lock_needed true b holder w is = let held = held_lock true b holder w is in (refl, held.0, held.2, held.3)
+lock_needed false b holder w is = absurd (cc is)
 
+-- whoever waits for locks needs one that another holds
+locks_needed_of : (locks : Locks) (b : ℕ) (structure table : Option ℕ) (w : Waiting) → waits_for_locks locks b structure table ≡ Some w → IsNeeded b locks.structure structure ⊎ IsNeeded b locks.table table
+locks_needed_of locks b structure table w is = go (waits_for_lock locks.structure b structure) refl is
+  where
+    go : (first : Option Waiting) → waits_for_lock locks.structure b structure ≡ first → first_waiting first (waits_for_lock locks.table b table) ≡ Some w → IsNeeded b locks.structure structure ⊎ IsNeeded b locks.table table
+    go None none second = inr (lock_needed locks.table b table w second)
+    go (Some v) first same = inl (lock_needed locks.structure b structure v first)
+
+-- and whoever does waits
+held_waits : (needed : Bool) (b : ℕ) (holder : Option ℕ) → IsNeeded b needed holder → is_some (waits_for_lock needed b holder) ≡ true
+held_waits needed b holder is = rw (is.0, is.3, apart b is.1 is.2) refl
+
+-- which locks the next turn of a fork needs, by the rights of its child
+fork_structure : (f g : ℕ → Option Rights) (job : Job) → (fork_locks f job).structure ≡ (fork_locks g job).structure
+fork_structure f g (forking q c done between) = refl
+fork_structure f g idle = refl
+fork_structure f g job = refl
+
+move_structure : (job : Job) → (move_locks job).structure ≡ true → ⊥
+move_structure idle is = cc is
+move_structure job is = cc is
+
+-- An operation that needs the structure lock of another's fork needs it while that keeps others out.
+module _ (s t : CoreState) (b q d : ℕ) (kept : KeepsOut s t q d) where
   absent_still : (page : ℕ) (entry : Option Entry) → s.entry q page ≡ entry → is_none entry ≡ true → is_none (t.entry q page) ≡ true
   absent_still page None is none = ap is_none (kept.absent page is)
   absent_still page (Some e) is none = absurd (cc none)
@@ -62,18 +84,28 @@ module _ (s t : CoreState) (b q d : ℕ) (other : b ≡ d → ⊥) (kept : Keeps
   denied true is = absurd (cc is)
   denied false is = refl
 
-  needs_still : (op : Op) → (s.job b ≡ idle) → (t.job b ≡ s.job b) → waits_for_locks (locks_needed s b q op) b (s.structure q) (s.table q) ≡ Some waiting → (locks_needed t b q op).structure ≡ true
-  needs_still (Load page word) rests job is = absent_still page (s.entry q page) refl (by_structure (is_none (s.entry q page)) is)
-  needs_still (Store page word value) rests job is =
-      ap not (kept.barred page (denied (allows_store (s.entry q page)) (by_structure (not (allows_store (s.entry q page))) is)))
-  needs_still (Fork child) rests job is = ap (λ (j : Job). (fork_locks (t.right child) j).structure) (job ∙ rests)
-  needs_still (Map page n rights) rests job is = refl
-  needs_still (Unmap page n) rests job is = refl
-  needs_still (Protect page n rights) rests job is = refl
-  needs_still (Discard page n) rests job is = refl
-  needs_still (Pin handle page n want fast) rests job is = refl
-  needs_still Exit rests job is = refl
-  needs_still op rests job is = absurd (cc is)
+  needs_still : (op : Op) → t.job b ≡ s.job b → (locks_needed s b q op).structure ≡ true → (locks_needed t b q op).structure ≡ true
+  needs_still (Load page word) job is = absent_still page (s.entry q page) refl is
+  needs_still (Store page word value) job is = ap not (kept.barred page (denied (allows_store (s.entry q page)) is))
+  needs_still (Fork child) job is =
+      ap (λ (j : Job). (fork_locks (t.right child) j).structure) job ∙ fork_structure (t.right child) (s.right child) (s.job b) ∙ is
+  needs_still (Move proc page zone) job is = absurd (move_structure (s.job b) is)
+  needs_still (Map page n rights) job is = refl
+  needs_still (Unmap page n) job is = refl
+  needs_still (Protect page n rights) job is = refl
+  needs_still (Discard page n) job is = refl
+  needs_still (Pin handle page n want fast) job is = refl
+  needs_still (Get handle page) job is = refl
+  needs_still Exit job is = refl
+  needs_still op job is = absurd (cc is)
+
+-- The locks that an operation needs stay, if the entries of its process do, the job, and the rights of the child that it brings.
+same_locks : (s t : CoreState) (b q : ℕ) (op : Op) → t.entry q ≡ s.entry q → t.job b ≡ s.job b → ((child : ℕ) → op ≡ Fork child → fork_locks (t.right child) (s.job b) ≡ fork_locks (s.right child) (s.job b)) → locks_needed t b q op ≡ locks_needed s b q op
+same_locks s t b q (Load page word) entry job rights = ap (λ (f : ℕ → Option Entry). both_if (is_none (f page))) entry
+same_locks s t b q (Store page word value) entry job rights = ap (λ (f : ℕ → Option Entry). both_if (not (allows_store (f page)))) entry
+same_locks s t b q (Move proc page zone) entry job rights = ap move_locks job
+same_locks s t b q (Fork child) entry job rights = ap (fork_locks (t.right child)) job ∙ rights child refl
+same_locks s t b q op entry job rights = refl
 
 -- whoever is to take a pin that isn't given to it waits
 ungiven_waits : (given : Bool) (handle : ℕ) → is_some (taking_waits given handle) ≡ true → given ≡ false
@@ -103,11 +135,11 @@ coming_waits born p others coming = absurd coming
 coming_waits failed p others coming = absurd coming
 
 -- one that waits for a birth, waits for that of its process
-coming_for : (thread : Bool) (birth : Birth) → IsUnbornOrGrowing (birth_by thread birth) → (thread ≡ true) × IsUnbornOrGrowing birth
+coming_for : (of_process : Bool) (birth : Birth) → IsUnbornOrGrowing (birth_by of_process birth) → (of_process ≡ true) × IsUnbornOrGrowing birth
 coming_for true birth coming = (refl, coming)
 coming_for false birth coming = absurd coming
 
-born_by : (thread : Bool) (before behind : Birth) → (before ≡ born → behind ≡ born) → birth_by thread before ≡ born → birth_by thread behind ≡ born
+born_by : (of_process : Bool) (before behind : Birth) → (before ≡ born → behind ≡ born) → birth_by of_process before ≡ born → birth_by of_process behind ≡ born
 born_by true before behind stays is = stays is
 born_by false before behind stays is = refl
 
@@ -119,18 +151,12 @@ module _ (law : Law) (script : ScriptValue) (valid : IsScript script) (r : RunSt
   t = (run_after script r a).core
 
   abbrev p : ℕ
-  p = process_of script a
-
-  abbrev who : Doer
-  who = doer script b
-
-  abbrev q : ℕ
-  q = process_of script b
+  p = (doer_of script a (op_in script r a)).proc
 
   abbrev woken : Woken
   woken = wakes (op_in script r a) (place_in t a)
 
-  turns : IsTaken s (doer script a) (r.places a) (op_in script r a) (waiting_in script r a) (core_turn_in script r a)
+  turns : IsTaken s (doer_of script a (op_in script r a)) (r.places a) (op_in script r a) (waiting_in script r a) (core_turn_in script r a)
   turns = taken script valid r h a
 
   plain : plain_of t ≡ plain_behind (plain_of s) (core_turn_in script r a).whats
@@ -149,92 +175,128 @@ module _ (law : Law) (script : ScriptValue) (valid : IsScript script) (r : RunSt
     never_it : woken ≡ one b → ⊥
     never_it is = sleeps (subst (λ (w : Woken). MayWake w b) (sym is) refl)
 
-    coming_on : IsUnbornOrGrowing (s.birth q) → IsUnbornOrGrowing (t.birth q)
-    coming_on coming =
+    coming_on : (q : ℕ) → IsUnbornOrGrowing (s.birth q) → IsUnbornOrGrowing (t.birth q)
+    coming_on q coming =
         subst (λ (x : PlainState). IsUnbornOrGrowing (x.birth q)) (sym plain) (still_to_come q turns.shape never_all coming)
 
     ungiven_on : (k : ℕ) → is_given_to (s.handle k) b ≡ false → is_given_to (t.handle k) b ≡ false
     ungiven_on k yet =
         subst (λ (x : PlainState). is_given_to (x.handle k) b ≡ false) (sym plain) (still_ungiven k b turns.shape never_it yet)
 
-    -- the fork of which a lock is waited for
-    module _ (op : Op) (waiting : Waiting) (has : op_in script r b ≡ Some op) (waits : waits_for_locks (locks_needed s b q op) b (s.structure q) (s.table q) ≡ Some waiting) where
-      holder : (d : ℕ) × (waiting ≡ waitings.Holder d) × (b ≡ d → ⊥) × IsInFork script r d q
-      holder = waits_for_fork script r h b op waiting waits
+    -- where the actor does this operation
+    module _ (op : Op) (has : op_in script r b ≡ Some op) where
+      abbrev who : Doer
+      who = doer_of script b (Some op)
 
-      abbrev d : ℕ
-      d = holder.0
+      abbrev q : ℕ
+      q = who.proc
 
-      fork : IsInFork script r d q
-      fork = holder.3
+      abbrev IsWaiting : CoreState → Type 0
+      IsWaiting u = is_some (waits_for_locks (locks_needed u b q op) b (u.structure q) (u.table q)) ≡ true
 
-      -- its process is born, since it has begun
-      lives : s.birth q ≡ born
-      lives =
-          ap s.birth (sym fork.of)
-          ∙ (sym (thread_birth (doer script d) s.birth (is_of_thread script valid d (r.places d).answered (Fork fork.child) fork.forks (λ none. none)))
-          ∙ h.begun d fork.begun)
+      -- the structure lock stays with the fork that has it, and lets in nobody
+      out_kept : (d : ℕ) → s.structure q ≡ Some d → KeepsOut s t q d
+      out_kept d locked = by_actor (same_or_apart d a)
+        where
+          keeps : keeps_structure (s.job d) ≡ Some q
+          keeps = h.sound.1.structure_held q d locked
 
-      kept_by : (d ≡ a) ⊎ (d ≡ a → ⊥) → KeepsOut s t q d
-      kept_by (inl same) =
-          let forks : op_in script r a ≡ Some (Fork fork.child) = ap (op_in script r) (sym same) ∙ fork.forks in
-          let far : 0 < (r.places a).far = subst (λ (k : ℕ). 0 < (r.places k).far) same fork.begun in
-          let of : p ≡ q = ap (process_of script) (sym same) ∙ fork.of in
-          let over : answers_it (core_turn_in script r a).whats ≡ true → ⊥ =
-          λ answers. never_all (ap (λ (o : Option Op). wakes o (place_in t a)) forks ∙ ap (wakes (Some (Fork fork.child))) (over_unbegun turns.shape answers)) in
-          let own = own_keeps script valid r h a fork.child forks far (ap s.birth of ∙ lives) over in
-          subst (λ (k : ℕ). KeepsOut s t q k) (sym same) (subst (λ (k : ℕ). KeepsOut s t k a) of own)
-      kept_by (inr away) = others_keep script valid r h a d q away lives fork.locked
+          own : s.structure q ≡ Some a → keeps_structure (s.job a) ≡ Some q → KeepsOut s t q a
+          own here mine =
+              let forks = forks_by s (doer_of script a (op_in script r a)) q (op_in script r a) (r.places a) (h.fits a) mine in
+              let same : process_of script a ≡ q = ap (λ (o : Option Op). (doer_of script a o).proc) (sym forks.1) ∙ forks.2 in
+              let over : answers_it (core_turn_in script r a).whats ≡ true → ⊥ =
+              λ answers. never_all (ap (λ (o : Option Op). wakes o (place_in t a)) forks.1 ∙ ap (wakes (Some (Fork forks.0))) (over_unbegun turns.shape answers)) in
+              subst (λ (k : ℕ). KeepsOut s t k a) same
+              (own_keeps law script valid r h a forks.0 forks.1 forks.3 (structure_born s (process_of script a) a h.sound (ap s.structure same ∙ here)) (ap s.structure same ∙ here) over)
 
-      kept : KeepsOut s t q d
-      kept = kept_by (same_or_apart d a)
+          by_actor : (d ≡ a) ⊎ (d ≡ a → ⊥) → KeepsOut s t q d
+          by_actor (inl same) =
+              subst (λ (k : ℕ). KeepsOut s t q k) (sym same)
+              (own (locked ∙ ap (λ (k : ℕ). Some k) same) (ap (λ (k : ℕ). keeps_structure (s.job k)) (sym same) ∙ keeps))
+          by_actor (inr away) = others_keep law script valid r h a never_all d q away locked
 
-      rests : s.job b ≡ idle
-      rests =
-          elim (idle_or_holds s who (op_in script r b) (r.places b) (h.fits b)) [
-            | inl job ↦ job
-            | inr holds ↦ absurd (holder.2 (some_same (sym holds ∙ fork.locked)))
+      -- the table lock stays with whoever has it, and the process has its pages
+      table_kept : (d : ℕ) → s.table q ≡ Some d → KeepsPages q s t
+      table_kept d locked = by_actor (same_or_apart d a)
+        where
+          by_actor : (d ≡ a) ⊎ (d ≡ a → ⊥) → KeepsPages q s t
+          by_actor (inl same) = table_keeps law script valid r h a never_all q (locked ∙ ap (λ (k : ℕ). Some k) same)
+          by_actor (inr away) = pages_kept script valid r h a d away law q locked
+
+      -- the rights of a child that the operation brings stay too
+      fork_same : (child : ℕ) → op ≡ Fork child → fork_locks (t.right child) (s.job b) ≡ fork_locks (s.right child) (s.job b)
+      fork_same child is = go (s.job b) refl (fits is)
+        where
+          there : Op → Type 0
+          there o = op_in script r b ≡ Some o
+
+          here : op ≡ Fork child → op_in script r b ≡ Some (Fork child)
+          here same = has ∙ ap (λ (o : Op). Some o) same
+
+          fits : op ≡ Fork child → FitsFork s b (process_of script b) child (r.places b) (s.job b) (s.prepared b)
+          fits same = (subst (λ (o : Option Op). FitsAt s (doer_of script b o) o (r.places b)) (here same) (h.fits b)).1
+
+          go : (job : Job) → s.job b ≡ job → FitsFork s b (process_of script b) child (r.places b) job (s.prepared b) → fork_locks (t.right child) job ≡ fork_locks (s.right child) job
+          go (forking u v done between) is_forking fits =
+              let same = child_kept script valid r h a b other (r.places b).answered child (here is) fits.1.birth in
+              ap (λ (o : OfProcess). fork_locks o.right (forking u v done between)) same
+          go idle is_idle fits = refl
+          go job is_job fits = refl
+
+      locks_wait : IsWaiting s → IsWaiting t
+      locks_wait waits =
+          let held = value_of (waits_for_locks (locks_needed s b q op) b (s.structure q) (s.table q)) waits in
+          elim (locks_needed_of (locks_needed s b q op) b (s.structure q) (s.table q) held.0 held.1) [
+            | inl structure ↦ by_structure structure
+            | inr table ↦ by_table table
           ]
+        where
+          by_structure : IsNeeded b (locks_needed s b q op).structure (s.structure q) → IsWaiting t
+          by_structure needs =
+              let kept = out_kept needs.1 needs.3 in
+              either_waits (waits_for_lock (locks_needed t b q op).structure b (t.structure q)) (waits_for_lock (locks_needed t b q op).table b (t.table q))
+              (inl (held_waits (locks_needed t b q op).structure b (t.structure q) (needs_still s t b q needs.1 kept op job_kept needs.0, needs.1, needs.2, kept.locked)))
 
-      locks_wait : is_some (waits_for_locks (locks_needed t b q op) b (t.structure q) (t.table q)) ≡ true
-      locks_wait =
-          held_waits (locks_needed t b q op) b d (t.structure q) (t.table q)
-          (needs_still s t b q d holder.2 kept waiting op rests job_kept waits) kept.locked holder.2
+          by_table : IsNeeded b (locks_needed s b q op).table (s.table q) → IsWaiting t
+          by_table needs =
+              let kept = table_kept needs.1 needs.3 in
+              let same = same_locks s t b q op kept.entry job_kept fork_same in
+              either_waits (waits_for_lock (locks_needed t b q op).structure b (t.structure q)) (waits_for_lock (locks_needed t b q op).table b (t.table q))
+              (inr (held_waits (locks_needed t b q op).table b (t.table q) (ap (λ (x : Locks). x.table) same ∙ needs.0, needs.1, needs.2, kept.table ∙ needs.3)))
 
-    -- once it waits for no birth
-    born_wait : (op : Op) → op_in script r b ≡ Some op → is_some (waits_born s b q op) ≡ true → is_some (waits_born t b q op) ≡ true
-    born_wait op has is =
-        either_waits (handle_waits t.handle b (Some op)) (waits_for_locks (locks_needed t b q op) b (t.structure q) (t.table q))
-        (elim (waits_either (handle_waits s.handle b (Some op)) (waits_for_locks (locks_needed s b q op) b (s.structure q) (s.table q)) is) [
-          | inl pin ↦ inl (handles_wait s.handle t.handle b op ungiven_on pin)
-          | inr locks ↦ inr (by_lock (value_of (waits_for_locks (locks_needed s b q op) b (s.structure q) (s.table q)) locks))
-        ])
-      where
-        by_lock : (w : Waiting) × (waits_for_locks (locks_needed s b q op) b (s.structure q) (s.table q) ≡ Some w) → is_some (waits_for_locks (locks_needed t b q op) b (t.structure q) (t.table q)) ≡ true
-        by_lock held = locks_wait op held.0 has held.1
+      -- once it waits for no birth
+      born_wait : is_some (waits_born s b q op) ≡ true → is_some (waits_born t b q op) ≡ true
+      born_wait is =
+          either_waits (handle_waits t.handle b (Some op)) (waits_for_locks (locks_needed t b q op) b (t.structure q) (t.table q))
+          (elim (waits_either (handle_waits s.handle b (Some op)) (waits_for_locks (locks_needed s b q op) b (s.structure q) (s.table q)) is) [
+            | inl pin ↦ inl (handles_wait s.handle t.handle b op ungiven_on pin)
+            | inr locks ↦ inr (locks_wait locks)
+          ])
 
-    -- while it waits for one
-    wait_coming : (op : Op) → IsUnbornOrGrowing (birth_for s.birth who) → is_some (waiting_for t who op) ≡ true
-    wait_coming op coming =
-        let thread = coming_for who.thread (s.birth q) coming in
-        let grows : IsUnbornOrGrowing (birth_for t.birth who) = subst IsUnbornOrGrowing (sym (thread_birth who t.birth thread.0)) (coming_on thread.1) in
-        coming_waits (birth_for t.birth who) q (waits_born t b q op) grows
+      -- while it waits for one
+      wait_coming : IsUnbornOrGrowing (birth_for s.birth who) → is_some (waiting_for t who op) ≡ true
+      wait_coming coming =
+          let thread = coming_for who.of_process (s.birth q) coming in
+          let grows : IsUnbornOrGrowing (birth_for t.birth who) = subst IsUnbornOrGrowing (sym (thread_birth who t.birth thread.0)) (coming_on q thread.1) in
+          coming_waits (birth_for t.birth who) q (waits_born t b q op) grows
 
-    wait_by : (op : Op) → op_in script r b ≡ Some op → (birth : Birth) → birth_for s.birth who ≡ birth → is_some (waits_at birth q (waits_born s b q op)) ≡ true → is_some (waiting_for t who op) ≡ true
-    wait_by op has born is waits =
-        ap (λ (x : Birth). is_some (waits_at x q (waits_born t b q op))) (born_by who.thread (s.birth q) (t.birth q) (still_born q) is) ∙ born_wait op has waits
-    wait_by op has failed is waits = absurd (cc waits)
-    wait_by op has unborn is waits = wait_coming op (subst IsUnbornOrGrowing (sym is) tt)
-    wait_by op has (growing parent) is waits = wait_coming op (subst IsUnbornOrGrowing (sym is) tt)
+      wait_by : (birth : Birth) → birth_for s.birth who ≡ birth → is_some (waits_at birth q (waits_born s b q op)) ≡ true → is_some (waiting_for t who op) ≡ true
+      wait_by born is waits =
+          ap (λ (x : Birth). is_some (waits_at x q (waits_born t b q op))) (born_by who.of_process (s.birth q) (t.birth q) (still_born q) is) ∙ born_wait waits
+      wait_by failed is waits = absurd (cc waits)
+      wait_by unborn is waits = wait_coming (subst IsUnbornOrGrowing (sym is) tt)
+      wait_by (growing parent) is waits = wait_coming (subst IsUnbornOrGrowing (sym is) tt)
 
-    go_by : (op : Option Op) → op_in script r b ≡ op → is_ready op (waiting_with s who op) ≡ false → is_ready op (waiting_with t who op) ≡ false
+    go_by : (o : Option Op) → op_in script r b ≡ o → is_ready o (waiting_with s (doer_of script b o) o) ≡ false → is_ready o (waiting_with t (doer_of script b o) o) ≡ false
     go_by None has is = refl
     go_by (Some op) has is =
+        let who : Doer = doer_of script b (Some op) in
         waits_asleep op (waiting_for t who op) (wait_by op has (birth_for s.birth who) refl (asleep_waits op (waiting_for s who op) is))
 
     asleep : can_go script r b ≡ false → can_go script (run_after script r a) b ≡ false
     asleep is =
-        subst (λ (k : Place). is_ready (present_op script b k) (waiting_with t who (present_op script b k)) ≡ false)
+        subst (λ (k : Place). is_ready (present_op script b k) (waiting_with t (doer_of script b (present_op script b k)) (present_op script b k)) ≡ false)
         (sym (put_apart a b (place_behind (r.places a) (core_turn_in script r a).whats) r.places other)) (go_by (op_in script r b) refl is)
 
 -- it holds of each state that turns lead to

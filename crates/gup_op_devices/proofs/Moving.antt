@@ -27,7 +27,8 @@ use Rattle.gup_spec_turns.proofs.TurnParts.{transfer_turn_by}
 use Rattle.gup_op_base.specs.Said.{Said, whats_of}
 use Rattle.gup_op_base.specs.Turns.{Leads, IsTurnOf}
 use Rattle.gup_op_base.proofs.Leading.{leads_alike, notes_alike}
-use Rattle.gup_op_pins.specs.Pins.{IsPin, ShowsPins, frames_in}
+use Rattle.gup_op_pins.specs.Pins.{frames_in}
+use Rattle.gup_handles.specs.Shows.{IsShown, ShowsHandles}
 use Rattle.gup_op_pins.specs.Held.{ShowsStore, HeldView, ShowsHeld, slots_in}
 use Rattle.gup_op_devices.specs.Transfers.{IsWhole, HasMoved, IsMoved, IsFound, is_pin_of, writes_in, fits_in, refusal_in, words_in}
 
@@ -37,13 +38,13 @@ view F H W = record { frames = F; pins = H; store = W }
 -- ---- what refuses it
 
 -- a state refuses a transfer as the pin that is kept does
-denial_same : (v : HandleValue) (handle : plain.Handle) (pinned : List ℕ) (a : ℕ) (outward : Bool) (slots slot : ℕ) (parts : List Part) → IsPin v handle pinned
+denial_same : (v : HandleValue) (handle : plain.Handle) (pinned : List ℕ) (a : ℕ) (outward : Bool) (slots slot : ℕ) (parts : List Part) (reference : Option (ℕ × ℕ)) → IsShown v handle pinned reference
     → (is_held_by handle a ≡ true → length pinned ≡ length (plain.objects_of handle)) → transfer_denial handle a outward slots slot parts ≡ refusal_in v a outward slots slot parts
-denial_same unmade handle pinned a outward slots slot parts pin whole = ap (λ h. transfer_denial h a outward slots slot parts) pin
-denial_same gone handle pinned a outward slots slot parts pin whole = ap (λ h. transfer_denial h a outward slots slot parts) pin
-denial_same (got by frame) handle pinned a outward slots slot parts none whole = absurd none
-denial_same (given to frames write) handle pinned a outward slots slot parts pin whole = ap (λ h. transfer_denial h a outward slots slot parts) pin.0.1
-denial_same (held by frames write) handle pinned a outward slots slot parts pin whole =
+denial_same unmade handle pinned a outward slots slot parts reference pin whole = ap (λ h. transfer_denial h a outward slots slot parts) pin.0
+denial_same gone handle pinned a outward slots slot parts reference pin whole = ap (λ h. transfer_denial h a outward slots slot parts) pin.0
+denial_same (got by frame) handle pinned a outward slots slot parts reference pin whole = ap (λ h. transfer_denial h a outward slots slot parts) pin.0
+denial_same (given to frames write) handle pinned a outward slots slot parts reference pin whole = ap (λ h. transfer_denial h a outward slots slot parts) pin.0.1
+denial_same (held by frames write) handle pinned a outward slots slot parts reference pin whole =
     ap (λ h. transfer_denial h a outward slots slot parts) pin.0.1 ∙ go (by == a) refl
   where
     objects : List ℕ
@@ -60,10 +61,10 @@ denial_same (held by frames write) handle pinned a outward slots slot parts pin 
 
 -- the turn by what refuses it
 turn_by : (W : Option (List ℕ)) (H : HandlesValue) (a h : ℕ) (outward : Bool) (slot : ℕ) (parts : List Part) (far : ℕ) (denied : Option Answer) (s : CoreState) → refusal_in (H h) a outward (slots_in W) slot parts ≡ denied
-    → ShowsPins H s → IsWhole s a h → transfer_turn s a (slots_in W) h outward slot parts far ≡ transfer_turn_by denied s a h outward (far + 1 == words_of parts) (word_at parts far) (slot + far)
+    → ShowsHandles H s → IsWhole s a h → transfer_turn s a (slots_in W) h outward slot parts far ≡ transfer_turn_by denied s a h outward (far + 1 == words_of parts) (word_at parts far) (slot + far)
 turn_by W H a h outward slot parts far denied s is shown whole =
     ap (λ d. transfer_turn_by d s a h outward (far + 1 == words_of parts) (word_at parts far) (slot + far))
-    (denial_same (H h) (s.handle h) (s.pinned h) a outward (slots_in W) slot parts (shown h) whole ∙ is)
+    (denial_same (H h) (s.handle h) (s.pinned h) a outward (slots_in W) slot parts (s.got h) (shown h) whole ∙ is)
 
 pub transfer_refused : (F : FramesValue) (H : HandlesValue) (W : Option (List ℕ)) (a h : ℕ) (outward : Bool) (slot : ℕ) (parts : List Part) (far : ℕ) (denied : Answer) → refusal_in (H h) a outward (slots_in W) slot parts ≡ Some denied
     → IsTurnOf (ShowsHeld a) (λ s. IsWhole s a h) (view F H W) (view F H W) (λ s. transfer_turn s a (slots_in W) h outward slot parts far) (Done denied ∷ [])
@@ -124,12 +125,12 @@ leads_word F F' H W W' a h f index slot value false last s moved shown =
     }
 
 -- what is kept of a pin with pages that the state has
-pages_same : (v : HandleValue) (handle : plain.Handle) (pinned : List ℕ) (k f : ℕ) → slice_get (frames_in v) k ≡ Some f → IsPin v handle pinned → pinned ≡ frames_in v
-pages_same (held by frames write) handle pinned k f at pin = pin.1
-pages_same (given to frames write) handle pinned k f at pin = pin.1
-pages_same (got by frame) handle pinned k f at none = absurd none
-pages_same unmade handle pinned k f none pin = absurd (cc)
-pages_same gone handle pinned k f none pin = absurd (cc)
+pages_same : (v : HandleValue) (handle : plain.Handle) (pinned : List ℕ) (k f : ℕ) (reference : Option (ℕ × ℕ)) → slice_get (frames_in v) k ≡ Some f → IsShown v handle pinned reference → pinned ≡ frames_in v
+pages_same (held by frames write) handle pinned k f reference at pin = pin.1
+pages_same (given to frames write) handle pinned k f reference at pin = pin.1
+pages_same (got by frame) handle pinned k f reference none pin = absurd (cc)
+pages_same unmade handle pinned k f reference none pin = absurd (cc)
+pages_same gone handle pinned k f reference none pin = absurd (cc)
 
 word_moved : (F F' : FramesValue) (H : HandlesValue) (W W' : List ℕ) (a h f slot : ℕ) (parts : List Part) (far value : ℕ) (outward : Bool)
     → refusal_in (H h) a outward (length W) slot parts ≡ None → slice_get (frames_in (H h)) (word_at parts far / 512) ≡ Some f → slot + far < length W
@@ -140,7 +141,7 @@ word_moved F F' H W W' a h f slot parts far value outward unrefused at within mo
     let i : ℕ = word_at parts far in
     let j : ℕ = slot + far in
     let last : Bool = far + 1 == words_of parts in
-    let pages_is : s.pinned h ≡ frames_in (H h) = pages_same (H h) (s.handle h) (s.pinned h) (i / 512) f at (shown.pins h) in
+    let pages_is : s.pinned h ≡ frames_in (H h) = pages_same (H h) (s.handle h) (s.pinned h) (i / 512) f (s.got h) at (shown.pins h) in
     let f_is : frame_at (s.pinned h) i ≡ f = ap (λ ps. frame_at ps i) pages_is ∙ get_or_from_slice_get (frames_in (H h)) (i / 512) f 0 at in
     leads_alike
     (turn_by (Some W) H a h outward slot parts far None s unrefused shown.pins whole

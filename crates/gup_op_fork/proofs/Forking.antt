@@ -22,8 +22,11 @@ use Rattle.gup_spec_events.specs.State.{CoreState, Job, idle, marking, moving, f
 use Rattle.gup_spec_events.specs.Event.{CoreEvent, bias, begin_fork, count_page, pass_page, end_fork, copies_page, run}
 use Rattle.gup_spec_turns.specs.CoreTurn.{CoreTurn}
 use Rattle.gup_spec_turns.specs.ForkTurns.{first_behind, next_page, next_turn, page_turn, share_turn, fork_turn}
-use Rattle.gup_spec_turns.specs.JobPlace.{JobPlace, copying_place, job_place, place_in, KeepsFrame, StandsFork, unbegun, from_page, at_page, wants_frame, at_word}
-use Rattle.gup_op_fork.specs.Forked.{ForkingView, ShowsForking, StandsAsFork}
+use Rattle.gup_spec_turns.specs.JobPlace.{JobPlace, copying_place, job_place, place_in, KeepsFrame, StandsFork, unbegun, from_page, at_page, wants_frame, at_word, moving_page}
+use Rattle.gup_op_base.specs.declared.jobs.JobPlace.{JobPlace as KeptPlace}
+use Rattle.gup_op_base.specs.declared.jobs.JobPlace.TheVariants.{Unbegun, From, At, Wanting, Copying}
+use Rattle.gup_op_base.specs.Jobs.{place_of}
+use Rattle.gup_op_fork.specs.Forked.{ForkingView, ShowsForking, StandsAsFork, IsReadyAt}
 use Rattle.gup_op_base.specs.Turns.{Leads, IsTurnOf}
 use Rattle.gup_op_base.proofs.Leading.{leads_alike}
 use Rattle.gup_maps.specs.Maps.{IsNextPage, IsLastPage}
@@ -66,12 +69,23 @@ is_copying (from_page page) = false
 is_copying (at_page page) = false
 is_copying (wants_frame page) = true
 is_copying (at_word page word to) = true
+is_copying (moving_page page e count) = false
 
 not_copying : (page word : ℕ) (prepared : Option ℕ) (place : JobPlace) → is_copying place ≡ false → copying_place page word prepared ≡ place → ⊥
 not_copying page word None place other is = false≢true (sym other ∙ ap is_copying (sym is))
 not_copying page word (Some to) place other is = false≢true (sym other ∙ ap is_copying (sym is))
 
 -- ---- the beginning
+
+-- a fork stands at no place of a move, and at the beginning where it stands at no other
+pub first_place : (F : FramesValue) (a : ℕ) (P S : SpaceValue) (place : KeptPlace) → ((from : ℕ) → place ≡ From from → ⊥) → ((page : ℕ) → place ≡ At page → ⊥) → ((page : ℕ) → place ≡ Wanting page → ⊥)
+    → ((word to page : ℕ) → place ≡ Copying word to page → ⊥) → IsReadyAt F a (place_of place) P S → place_of place ≡ unbegun
+first_place F a P S Unbegun from at wanting copied ready = refl
+first_place F a P S (From page) from at wanting copied ready = absurd (from page refl)
+first_place F a P S (At page) from at wanting copied ready = absurd (at page refl)
+first_place F a P S (Wanting page) from at wanting copied ready = absurd (wanting page refl)
+first_place F a P S (Copying word to page) from at wanting copied ready = absurd (copied word to page refl)
+first_place F a P S place from at wanting copied ready = absurd ready
 
 pub begun : (k : ForkChange) (a p c : ℕ) → AreForkEvents k (λ q d. begin_fork a q d ∷ []) → IsForking k a p c unbegun (from_page 0) (growing p) (Event (events.ForkBegin p c) ∷ [])
 begun k a p c made birth s shown fork = go (s.job a) fork.at shown.place

@@ -75,9 +75,6 @@ pub fn fork(
         (λ s. fork_turn s head.now.actor proc child_no (s.job head.now.actor)) (whats_of said)) }
 {
     match place {
-        JobPlace::Unbegun => {
-            Forked::Goes(first_turn(parent, child, journal, head, proc, child_no))
-        }
         JobPlace::From(from) => {
             next_turn(parent, child, frames, journal, head, proc, child_no, from)
         }
@@ -90,6 +87,7 @@ pub fn fork(
         JobPlace::Copying { page, word, to } => Forked::Goes(copy_turn(
             parent, child, frames, journal, head, proc, child_no, page, word, to,
         )),
+        _ => Forked::Goes(first_turn(parent, child, journal, head, proc, child_no)),
     }
 }
 

@@ -82,9 +82,8 @@ pub fn needs_table(space: &Space, op: &Op) -> bool
         Op::Load { page, .. } => space.entry(*page).is_none(),
         Op::Store { page, .. } => !allows_store(space.entry(*page)),
         Op::Map { .. } | Op::Unmap { .. } | Op::Protect { .. } | Op::Discard { .. } => true,
-        Op::Pin { .. } | Op::Fork { .. } | Op::Exit => true,
+        Op::Pin { .. } | Op::Get { .. } | Op::Fork { .. } | Op::Exit => true,
         Op::Unpin { .. } | Op::Give { .. } | Op::Take { .. } | Op::Transfer { .. } => false,
-        Op::Get { .. } | Op::Put { .. } | Op::Mirror { .. } => false,
-        Op::Look { .. } | Op::Move { .. } => false,
+        Op::Put { .. } | Op::Mirror { .. } | Op::Look { .. } | Op::Move { .. } => false,
     }
 }

@@ -1,5 +1,5 @@
 -- What an unpin, a give or a take makes of frames and pins is the turn's.
-use Rattle.std.proofs.Common.{◌≡◌, ℕ, ◌-◌, ◌≤◌, ◌==◌, Bool, true, false, cond, List, [], ◌∷◌, ◌++◌, length, slice_get, slice_index, Some, None, Result, Ok, Err, IsOk, OnOk, is_err, is_ok, refl, sym, ap, ◌∙◌, subst, eqb-true, length-append, arith}
+use Rattle.std.proofs.Common.{◌≡◌, ℕ, ◌-◌, ◌≤◌, ◌==◌, Bool, true, false, cond, List, [], ◌∷◌, ◌++◌, length, slice_get, slice_index, Option, Some, None, Result, Ok, Err, IsOk, OnOk, is_err, is_ok, refl, sym, ap, ◌∙◌, subst, eqb-true, length-append, arith}
 use Rattle.std.proofs.Math.Seq.{get_or-append_seam}
 use Rattle.std.proofs.lemmas.Bool.Decides.{nat_tests}
 use Rattle.gup_plain.specs.Denial.{is_held_by}
@@ -21,7 +21,8 @@ use Rattle.gup_spec_turns.specs.PinTurns.{last_of, unpinned, unpin_turn, give_tu
 use Rattle.gup_spec_turns.proofs.TurnParts.{unpin_turn_by, give_turn_by}
 use Rattle.gup_op_base.specs.Turns.{IsTurnOf, Anywhere}
 use Rattle.gup_op_base.proofs.Leading.{leads_alike}
-use Rattle.gup_op_pins.specs.Pins.{IsPin, ShowsPins, IsWeighed}
+use Rattle.gup_handles.specs.Shows.{IsShown, ShowsHandles}
+use Rattle.gup_op_pins.specs.Pins.{IsWeighed}
 use Rattle.gup_op_base.specs.Said.{silent_said, done_said}
 use Rattle.gup_op_pins.specs.Held.{HeldView, ShowsHeld, unpin_said}
 
@@ -41,27 +42,27 @@ failed (Ok value) is ok = absurd (cc)
 failed (Err e) is ok = absurd (cc)
 
 -- one handle changes
-pins_changed : (H : HandlesValue) (h : ℕ) (v : HandleValue) (handle : plain.Handle) (pages : ℕ → List ℕ) (s : CoreState) → IsPin v handle (pages h)
-    → ((k : ℕ) → (k ≡ h → ⊥) → pages k ≡ s.pinned k) → ShowsPins H s → (k : ℕ) → IsPin (put h v H k) (put h handle s.handle k) (pages k)
+pins_changed : (H : HandlesValue) (h : ℕ) (v : HandleValue) (handle : plain.Handle) (pages : ℕ → List ℕ) (s : CoreState) → IsShown v handle (pages h) (s.got h)
+    → ((k : ℕ) → (k ≡ h → ⊥) → pages k ≡ s.pinned k) → ShowsHandles H s → (k : ℕ) → IsShown (put h v H k) (put h handle s.handle k) (pages k) (s.got k)
 pins_changed H h v handle pages s pin others shown k = go (k == h) refl
   where
-    go : (here : Bool) → (k == h) ≡ here → IsPin (cond here v (H k)) (cond here handle (s.handle k)) (pages k)
-    go true is = subst (λ j. IsPin v handle (pages j)) (sym (eqb-true k h is)) pin
+    go : (here : Bool) → (k == h) ≡ here → IsShown (cond here v (H k)) (cond here handle (s.handle k)) (pages k) (s.got k)
+    go true is = subst (λ j. IsShown v handle (pages j) (s.got j)) (sym (eqb-true k h is)) pin
     go false is =
         let apart : k ≡ h → ⊥ = λ same. grind (arith, nat_tests) in
-        subst (λ (ps : List ℕ). IsPin (H k) (s.handle k) ps) (sym (others k apart)) (shown k)
+        subst (λ (ps : List ℕ). IsShown (H k) (s.handle k) ps (s.got k)) (sym (others k apart)) (shown k)
 
 -- a pin that an actor holds is held in the state
-held_there : (v : HandleValue) (handle : plain.Handle) (pinned : List ℕ) (a : ℕ) → IsPinOf v a → IsPin v handle pinned → is_held_by handle a ≡ true
-held_there (held by frames write) handle pinned a is pin =
+held_there : (v : HandleValue) (handle : plain.Handle) (pinned : List ℕ) (reference : Option (ℕ × ℕ)) (a : ℕ) → IsPinOf v a → IsShown v handle pinned reference → is_held_by handle a ≡ true
+held_there (held by frames write) handle pinned reference a is pin =
     let same : (by == a) ≡ true = grind (arith, nat_tests) in ap (λ h. is_held_by h a) pin.0.1 ∙ same
-held_there v handle pinned a none pin = absurd none
+held_there v handle pinned reference a none pin = absurd none
 
 -- ---- give
 
-given_shown : (v : HandleValue) (handle : plain.Handle) (pinned : List ℕ) (a to : ℕ) → IsPinOf v a → IsPin v handle pinned → IsPin (given_to to v) (given_in_state handle to) pinned
-given_shown (held by frames write) handle pinned a to is pin = ((pin.0.0, ap (λ h. given_in_state h to) pin.0.1), pin.1)
-given_shown v handle pinned a to none pin = absurd none
+given_shown : (v : HandleValue) (handle : plain.Handle) (pinned : List ℕ) (reference : Option (ℕ × ℕ)) (a to : ℕ) → IsPinOf v a → IsShown v handle pinned reference → IsShown (given_to to v) (given_in_state handle to) pinned reference
+given_shown (held by frames write) handle pinned reference a to is pin = ((pin.0.0, ap (λ h. given_in_state h to) pin.0.1), pin.1, pin.2)
+given_shown v handle pinned reference a to none pin = absurd none
 
 abbrev pub given_whats : (a handle to : ℕ) → List What
 given_whats a handle to = Event (events.Give a handle to) ∷ Done answers.Plain ∷ []
@@ -70,23 +71,23 @@ pub pin_given : (F : FramesValue) (H H' : HandlesValue) (a h to : ℕ) → IsPin
     → IsTurnOf (ShowsHeld a) Anywhere (view F H) (view F H') (λ s. give_turn s a h to) (given_whats a h to)
 pin_given F H H' a h to is new_pins s shown stands =
     let t : CoreState = happens s (give_handle a h to) in
-    leads_alike (ap (λ b. give_turn_by b a h to) (held_there (H h) (s.handle h) (s.pinned h) a is (shown.pins h)))
+    leads_alike (ap (λ b. give_turn_by b a h to) (held_there (H h) (s.handle h) (s.pinned h) (s.got h) a is (shown.pins h)))
     (record {
       says = refl;
       shown = record {
         frames = shows_frames 0 F s (giving a h to) shown.frames;
         pins =
-            subst (λ (x : HandlesValue). ShowsPins x t) (sym new_pins)
-            (pins_changed H h (given_to to (H h)) (given_in_state (s.handle h) to) s.pinned s (given_shown (H h) (s.handle h) (s.pinned h) a to is (shown.pins h)) (λ k apart. refl) shown.pins);
+            subst (λ (x : HandlesValue). ShowsHandles x t) (sym new_pins)
+            (pins_changed H h (given_to to (H h)) (given_in_state (s.handle h) to) s.pinned s (given_shown (H h) (s.handle h) (s.pinned h) (s.got h) a to is (shown.pins h)) (λ k apart. refl) shown.pins);
         store = tt;
       };
     })
 
 -- ---- take
 
-taken_shown : (v : HandleValue) (handle : plain.Handle) (pinned : List ℕ) (a : ℕ) → IsGivenTo v a → IsPin v handle pinned → IsPin (taken_by a v) (held_in_state handle a) pinned
-taken_shown (given to frames write) handle pinned a is pin = ((pin.0.0, ap (λ h. held_in_state h a) pin.0.1), pin.1)
-taken_shown v handle pinned a none pin = absurd none
+taken_shown : (v : HandleValue) (handle : plain.Handle) (pinned : List ℕ) (reference : Option (ℕ × ℕ)) (a : ℕ) → IsGivenTo v a → IsShown v handle pinned reference → IsShown (taken_by a v) (held_in_state handle a) pinned reference
+taken_shown (given to frames write) handle pinned reference a is pin = ((pin.0.0, ap (λ h. held_in_state h a) pin.0.1), pin.1, pin.2)
+taken_shown v handle pinned reference a none pin = absurd none
 
 abbrev pub taken_whats : (a handle : ℕ) → List What
 taken_whats a handle = Event (events.Take a handle) ∷ Done answers.Plain ∷ []
@@ -100,8 +101,8 @@ pin_taken F H H' a h true is took new_pins s shown stands =
       shown = record {
         frames = shows_frames 0 F s (taking_over a h) shown.frames;
         pins =
-            subst (λ (x : HandlesValue). ShowsPins x t) (sym new_pins)
-            (pins_changed H h (taken_by a (H h)) (held_in_state (s.handle h) a) s.pinned s (taken_shown (H h) (s.handle h) (s.pinned h) a is (shown.pins h)) (λ k apart. refl) shown.pins);
+            subst (λ (x : HandlesValue). ShowsHandles x t) (sym new_pins)
+            (pins_changed H h (taken_by a (H h)) (held_in_state (s.handle h) a) s.pinned s (taken_shown (H h) (s.handle h) (s.pinned h) (s.got h) a is (shown.pins h)) (λ k apart. refl) shown.pins);
         store = tt;
       };
     }
@@ -136,10 +137,10 @@ unpin_says by a h [] write false is some none = refl
 unpin_says by a h (f ∷ left) write true is some none = refl
 unpin_says by a h (f ∷ left) write false is some none = absurd (none refl is)
 
-unpinned_shown : (by : ℕ) (frames left : List ℕ) (write : Bool) (handle : plain.Handle) (pinned : List ℕ) → IsPin (held by frames write) handle pinned
-    → IsPin (held_or_gone by left write) (elim left [ [] ↦ plain.gone | g ∷ gs ↦ handle ]) left
-unpinned_shown by frames [] write handle pinned pin = refl
-unpinned_shown by frames (f ∷ left) write handle pinned pin = (pin.0, refl)
+unpinned_shown : (by : ℕ) (frames left : List ℕ) (write : Bool) (handle : plain.Handle) (pinned : List ℕ) (reference : Option (ℕ × ℕ)) → IsShown (held by frames write) handle pinned reference
+    → IsShown (held_or_gone by left write) (elim left [ [] ↦ plain.gone | g ∷ gs ↦ handle ]) left reference
+unpinned_shown by frames [] write handle pinned reference pin = (refl, pin.2)
+unpinned_shown by frames (f ∷ left) write handle pinned reference pin = (pin.0, refl, pin.2)
 
 unpin_by : (F F' : FramesValue) (H H' : HandlesValue) (by a h frame : ℕ) (frames : List ℕ) (write still : Bool) → H h ≡ held by frames write → by ≡ a → frames ≡ but_last frames ++ frame ∷ []
     → F' ≡ without_references frame 1024 F → H' ≡ put h (held_or_gone by (but_last frames) write) H
@@ -147,8 +148,8 @@ unpin_by : (F F' : FramesValue) (H H' : HandlesValue) (by a h frame : ℕ) (fram
     → IsTurnOf (ShowsHeld a) Anywhere (view F H) (view F' H') (λ s. unpin_turn s a h) (unpinned_whats still a h)
 unpin_by F F' H H' by a h frame frames write still is mine last new_frames new_pins some none s shown stands =
     let left : List ℕ = but_last frames in
-    let pin : IsPin (held by frames write) (s.handle h) (s.pinned h) = subst (λ (v : HandleValue). IsPin v (s.handle h) (s.pinned h)) is (shown.pins h) in
-    let held_so : is_held_by (s.handle h) a ≡ true = held_there (held by frames write) (s.handle h) (s.pinned h) a mine pin in
+    let pin : IsShown (held by frames write) (s.handle h) (s.pinned h) (s.got h) = subst (λ (v : HandleValue). IsShown v (s.handle h) (s.pinned h) (s.got h)) is (shown.pins h) in
+    let held_so : is_held_by (s.handle h) a ≡ true = held_there (held by frames write) (s.handle h) (s.pinned h) (s.got h) a mine pin in
     let f_is : last_of frames ≡ frame = ap last_of last ∙ last_is left frame in
     let t : CoreState = happens s (unpin_page a h (last_of frames) left) in
     leads_alike (ap (λ b. unpin_turn_by b a h (s.pinned h)) held_so ∙ ap (λ (ps : List ℕ). unpin_turn_by true a h ps) pin.1)
@@ -159,10 +160,10 @@ unpin_by F F' H H' by a h frame frames write still is mine last new_frames new_p
             subst (λ (x : FramesValue). ShowsFrames x t) (ap (λ f. without_references f 1024 F) f_is ∙ sym new_frames)
             (shows_frames 0 F s (unpinning a h (last_of frames) left) shown.frames);
         pins =
-            subst (λ (x : HandlesValue). ShowsPins x t) (sym new_pins)
+            subst (λ (x : HandlesValue). ShowsHandles x t) (sym new_pins)
             (pins_changed H h (held_or_gone by left write) (elim left [ [] ↦ plain.gone | g ∷ gs ↦ s.handle h ]) (put h left s.pinned) s
-            (subst (λ (ps : List ℕ). IsPin (held_or_gone by left write) (elim left [ [] ↦ plain.gone | g ∷ gs ↦ s.handle h ]) ps) (sym (here s))
-            (unpinned_shown by frames left write (s.handle h) (s.pinned h) pin))
+            (subst (λ (ps : List ℕ). IsShown (held_or_gone by left write) (elim left [ [] ↦ plain.gone | g ∷ gs ↦ s.handle h ]) ps (s.got h)) (sym (here s))
+            (unpinned_shown by frames left write (s.handle h) (s.pinned h) (s.got h) pin))
             (λ k apart. others s k apart) shown.pins);
         store = tt;
       };
@@ -174,7 +175,7 @@ unpin_by F F' H H' by a h frame frames write still is mine last new_frames new_p
     others : (s : CoreState) (k : ℕ) → (k ≡ h → ⊥) → put h (but_last frames) s.pinned k ≡ s.pinned k
     others s k apart = grind (arith, nat_tests)
 
-put_at : (h : ℕ) (v : HandleValue) (H : HandlesValue) → put h v H h ≡ v
+pub put_at : (h : ℕ) (v : HandleValue) (H : HandlesValue) → put h v H h ≡ v
 put_at h v H = grind (arith, nat_tests)
 
 -- a pin of one page leaves none behind, and one of more pages is still the actor's

@@ -2,3 +2,4 @@ pub mod Pinning
 pub mod Readying
 pub mod Holding
 pub mod Telling
+pub mod Referring

@@ -1,32 +1,40 @@
 -- What a turn of a pin makes of frames, a process, pins and what was taken is the turn's.
-use Rattle.std.proofs.Common.{◌≡◌, ℕ, ◌+◌, ◌<◌, ◌==◌, Bool, true, false, cond, List, [], ◌∷◌, ◌++◌, length, slice_get, Option, Some, None, Ok, Err, zero, suc, refl, sym, ap, ◌∙◌, subst, arith}
+use Rattle.std.proofs.Common.{◌≡◌, ℕ, ◌+◌, ◌<◌, ◌==◌, Bool, true, false, cond, List, [], ◌∷◌, ◌++◌, length, slice_get, Option, Some, None, Ok, Err, zero, suc, refl, sym, ap, ◌∙◌, subst, eqb-true, arith, ◌&&◌, nat_lt, not, is_none, if◌then◌else◌}
 use Rattle.std.proofs.lemmas.List.{map-append}
 use Rattle.std.proofs.lemmas.Bool.Decides.{nat_tests}
+use Rattle.gup_base.specs.declared.entry.Allowed.{Allowed}
+use Rattle.gup_base.specs.declared.entry.Allowed.TheVariants.{Any, Only}
 use Rattle.gup_base.specs.declared.entry.Entry.{Entry}
 use Rattle.gup_base.specs.declared.entry.Want.{Want}
+use Rattle.gup_base.specs.declared.entry.Zone.TheVariants.{Normal}
 use Rattle.gup_plain.specs.Put.{put}
 use Rattle.gup_plain.specs.State as plain
 use Rattle.gup_plain.specs.declared.answer.Answer.{Answer}
 use Rattle.gup_plain.specs.declared.answer.Answer.TheVariants as answers
-use Rattle.gup_plain.specs.declared.event.PlainEvent.TheVariants as events
 use Rattle.gup_plain.specs.declared.note.What.{What}
-use Rattle.gup_plain.specs.declared.note.What.TheVariants.{Event, Done}
-use Rattle.gup_frames.specs.Frames.{FramesValue, with_references}
-use Rattle.gup_space.specs.Space.{SpaceValue}
+use Rattle.gup_plain.specs.declared.note.What.TheVariants.{Silent}
+use Rattle.gup_frames.specs.Frames.{FramesValue, free_frame, with_references}
+use Rattle.gup_space.specs.Space.{SpaceValue, with_entry}
 use Rattle.gup_space.proofs.After.{flagging, pinning, making}
-use Rattle.gup_space.specs.Shows.{ShowsFrames, ShowsSpace}
+use Rattle.gup_space.specs.Shows.{Change, ShowsFrames, ShowsSpace}
 use Rattle.gup_space.proofs.ShowsLemmas.{shows_frames, shows_space, events_lead}
-use Rattle.gup_handles.specs.Handles.{HandlesValue, held}
-use Rattle.gup_spec_events.specs.State.{CoreState, Taken as TakenPage}
-use Rattle.gup_spec_events.specs.Event.{CoreEvent, happens, pin_page, make_handle, writes_taken, objects_taken, taken_frames as frames_taken, run}
+use Rattle.gup_handles.specs.Handles.{HandleValue, HandlesValue, unmade, held}
+use Rattle.gup_spec_events.specs.State.{CoreState, Taken as TakenPage, Job, idle, moving, Counted, unread, one, more}
+use Rattle.gup_spec_events.specs.Event.{CoreEvent, happens, pin_page, make_handle, writes_taken, objects_taken, taken_frames as frames_taken, run, entry_of, counted_as, take_frame, put_entry, clear_entry, count_moved, place_frame, restore_entry}
 use Rattle.gup_spec_events.specs.Invariant.{frame_of}
 use Rattle.gup_spec_events.specs.Fault.{Fault, events_of, refusal_of}
 use Rattle.gup_fault.specs.Faults.{IsFault}
 use Rattle.gup_spec_turns.specs.CoreTurn.{zones_of, entry_in}
-use Rattle.gup_spec_turns.specs.PinTurns.{raises, makes_if, pinned_if, pins, cause_of, ends_pin, pin_turn, pin_turn_at, pin_turn_by}
-use Rattle.gup_op_pins.specs.Pins.{IsPin, ShowsPins, PinningView, ShowsPinning, StandsAtPage, raised, fault_to_pin}
+use Rattle.gup_spec_turns.specs.PinTurns.{raises, makes_if, pins, ends_pin, pin_turn, pin_turn_by, moves_first, pins_behind, clears_behind, clears_or_pins, ends_moved, pins_moved, moved_turn, pin_turn_in}
+use Rattle.gup_handles.specs.Shows.{IsShown, ShowsHandles}
+use Rattle.gup_op_pins.specs.Pins.{PinningView, ShowsPinning, StandsAtPage, raised, fault_to_pin, IsMade, IsEnded, IsTaken, tried_whats, ended_whats}
+use Rattle.gup_spec_turns.specs.MoveTurns.{count_turn}
+use Rattle.gup_spec_turns.specs.JobPlace.{job_place, unbegun, moving_page}
+use Rattle.gup_spec_turns.specs.PinPlace.{StandsAtPage as IsAtPage}
+use Rattle.gup_move.specs.Moves.{with_table, AreMoveEvents, places}
+use Rattle.gup_op_base.proofs.Searching.{free_agrees}
 use Rattle.gup_op_base.specs.Tidy.{IsTidy}
-use Rattle.gup_op_base.specs.Turns.{Leads, IsTurnOf}
+use Rattle.gup_op_base.specs.Turns.{Leads}
 use Rattle.gup_op_base.proofs.Leading.{ch, leads_alike, run_behind}
 use Rattle.gup_op_pins.proofs.Readying.{IsLeft, pin_fault_same, fault_raised, pin_fault_leaves}
 
@@ -60,15 +68,27 @@ raise_pinned : (a p far : ℕ) (s : CoreState) → (run s (raises a p far)).pinn
 raise_pinned a p zero s = refl
 raise_pinned a p (suc far) s = refl
 
+raise_got : (a p far : ℕ) (s : CoreState) → (run s (raises a p far)).got ≡ s.got
+raise_got a p zero s = refl
+raise_got a p (suc far) s = refl
+
 raise_taken : (a p far : ℕ) (s : CoreState) → (run s (raises a p far)).taken ≡ s.taken
 raise_taken a p zero s = refl
 raise_taken a p (suc far) s = refl
 
--- pins are shown by the same handles and pinned pages
-shows_same : (H : HandlesValue) (s t : CoreState) → t.handle ≡ s.handle → t.pinned ≡ s.pinned → ShowsPins H s → ShowsPins H t
-shows_same H s t handles pages h k =
-    subst (λ (f : ℕ → plain.Handle). IsPin (H k) (f k) (t.pinned k)) (sym handles)
-    (subst (λ (f : ℕ → List ℕ). IsPin (H k) (s.handle k) (f k)) (sym pages) (h k))
+put_own : {X : Type 0} (k : ℕ) (x : X) (f : ℕ → X) → put k x f k ≡ x
+put_own k x f = grind (arith, nat_tests)
+
+-- handles are shown by the same pins, pinned pages and references
+pub shows_same : (H : HandlesValue) (s t : CoreState) → t.handle ≡ s.handle → t.pinned ≡ s.pinned → t.got ≡ s.got → ShowsHandles H s → ShowsHandles H t
+shows_same H s t handles pages gots h k =
+    subst (λ (f : ℕ → plain.Handle). IsShown (H k) (f k) (t.pinned k) (t.got k)) (sym handles)
+    (subst (λ (f : ℕ → List ℕ). IsShown (H k) (s.handle k) (f k) (t.got k)) (sym pages)
+    (subst (λ (f : ℕ → Option (ℕ × ℕ)). IsShown (H k) (s.handle k) (s.pinned k) (f k)) (sym gots) (h k)))
+
+-- of a handle that is unmade the state has no pin, and no reference
+pub unmade_shown : (v : HandleValue) (handle : plain.Handle) (pinned : List ℕ) (reference : Option (ℕ × ℕ)) → v ≡ unmade → IsShown v handle pinned reference → (handle ≡ plain.unmade) × (reference ≡ None)
+unmade_shown v handle pinned reference is shown = subst (λ (x : HandleValue). IsShown x handle pinned reference) is shown
 
 -- ---- a handle is made of what was taken
 
@@ -81,27 +101,24 @@ writes_some : (taken : List TakenPage) (write : Bool) → 0 < length taken → (
 writes_some [] write some each = absurd (omega arith)
 writes_some (t ∷ taken) write some each = each 0 t refl
 
-pins_made : (H : HandlesValue) (a h : ℕ) (frames : List ℕ) (write : Bool) (s : CoreState) → frames_taken (s.taken a) ≡ frames → writes_taken (s.taken a) ≡ write → ShowsPins H s
-    → ShowsPins (put h (held a frames write) H) (happens s (make_handle a h))
-pins_made H a h frames write s taken writes shown k = go (k == h)
+pins_made : (H : HandlesValue) (a h : ℕ) (frames : List ℕ) (write : Bool) (s : CoreState) → frames_taken (s.taken a) ≡ frames → writes_taken (s.taken a) ≡ write → H h ≡ unmade → ShowsHandles H s
+    → ShowsHandles (put h (held a frames write) H) (happens s (make_handle a h))
+pins_made H a h frames write s taken writes yet shown k = go (k == h) refl
   where
     objects : List ℕ
     objects = objects_taken (s.taken a)
 
-    go : (here : Bool) → IsPin (cond here (held a frames write) (H k)) (cond here (plain.held a objects (writes_taken (s.taken a))) (s.handle k)) (cond here (frames_taken (s.taken a)) (s.pinned k))
-    go true = ((objects, ap (λ w. plain.held a objects w) writes), taken)
-    go false = shown k
+    ungot : s.got h ≡ None
+    ungot = (unmade_shown (H h) (s.handle h) (s.pinned h) (s.got h) yet (shown h)).1
+
+    go : (here : Bool) → (k == h) ≡ here → IsShown (cond here (held a frames write) (H k)) (cond here (plain.held a objects (writes_taken (s.taken a))) (s.handle k)) (cond here (frames_taken (s.taken a)) (s.pinned k)) (s.got k)
+    go true is = ((objects, ap (λ w. plain.held a objects w) writes), taken, ap s.got (eqb-true k h is) ∙ ungot)
+    go false is = shown k
 
 none_taken : (a h : ℕ) (s : CoreState) → frames_taken ((happens s (make_handle a h)).taken a) ≡ []
 none_taken a h s = grind (arith, nat_tests)
 
 -- ---- a page is taken
-
--- what a turn makes of pins and what was taken: the last page's is the handle's
-abbrev pub IsMade : (last : Bool) → (old new : PinningView) → (a handle frame : ℕ) → (write : Bool) → Type 0
-IsMade true old new a handle frame write =
-    (new.pins ≡ put handle (held a (old.taken ++ frame ∷ []) write) old.pins) × (new.taken ≡ [])
-IsMade false old new a handle frame write = (new.pins ≡ old.pins) × (new.taken ≡ old.taken ++ frame ∷ [])
 
 abbrev taken_page : CoreState → (p page : ℕ) → Entry → Want → TakenPage
 taken_page s p page e want =
@@ -113,7 +130,7 @@ page_taken a p page e want s = grind (arith, nat_tests)
 frames_behind : (taken : List TakenPage) (last : TakenPage) (frames : List ℕ) → frames_taken taken ≡ frames → frames_taken (taken ++ last ∷ []) ≡ frames ++ last.frame ∷ []
 frames_behind taken last frames is = map-append (λ (t : TakenPage). t.frame) taken (last ∷ []) ∙ ap (λ (fs : List ℕ). fs ++ last.frame ∷ []) is
 
-frame_is : (entry : Option Entry) (frame : ℕ) → frame_of entry ≡ Some frame → (entry_in entry).frame ≡ frame
+pub frame_is : (entry : Option Entry) (frame : ℕ) → frame_of entry ≡ Some frame → (entry_in entry).frame ≡ frame
 frame_is None frame is = absurd (cc)
 frame_is (Some e) frame is = cc
 
@@ -123,11 +140,11 @@ flag_again p S s flag h =
     record { right = h.right; pages = h.pages; entry = h.entry; sequence = h.sequence; has_pinned = flag; structure = h.structure; table = h.table }
 
 take_page : (old new : PinningView) (F1 : FramesValue) (S2 : SpaceValue) (a p handle page frame : ℕ) (want : Want) (last : Bool) (e : Entry) (s : CoreState)
-    → e.frame ≡ frame → new.frames ≡ with_references frame 1024 F1 → new.space ≡ record S2 { has_pinned = true } → IsMade last old new a handle frame want.write
-    → ShowsFrames F1 s → ShowsSpace p S2 s → ShowsPins old.pins s → frames_taken (s.taken a) ≡ old.taken → s.has_pinned p ≡ true
-    → ((k : ℕ) (t : TakenPage) → slice_get (s.taken a) k ≡ Some t → t.write ≡ want.write)
+    → e.frame ≡ frame → new.frames ≡ with_references frame 1024 F1 → new.space ≡ record S2 { has_pinned = true } → IsMade last old.pins new.pins old.taken new.taken a handle frame want.write
+    → ShowsFrames F1 s → ShowsSpace p S2 s → ShowsHandles old.pins s → frames_taken (s.taken a) ≡ old.taken → s.has_pinned p ≡ true
+    → ((k : ℕ) (t : TakenPage) → slice_get (s.taken a) k ≡ Some t → t.write ≡ want.write) → s.job a ≡ idle → new.place ≡ unbegun
     → ShowsPinning a p new (run s (pin_page a p page e want.write want.long ∷ makes_if last a handle))
-take_page old new F1 S2 a p handle page frame want last e s is new_frames new_space made frames space shown taken flag writes = go last made
+take_page old new F1 S2 a p handle page frame want last e s is new_frames new_space made frames space shown taken flag writes rests over = go last made
   where
     t : CoreState
     t = happens s (pin_page a p page e want.write want.long)
@@ -153,161 +170,352 @@ take_page old new F1 S2 a p handle page frame want last e s is new_frames new_sp
     writes_now : writes_taken (t.taken a) ≡ want.write
     writes_now = ap writes_taken pages ∙ writes_behind (s.taken a) (taken_page s p page e want) want.write writes refl
 
-    go : (more : Bool) → IsMade more old new a handle frame want.write → ShowsPinning a p new (run t (makes_if more a handle))
+    place_now : job_place (s.job a) (s.prepared a) ≡ new.place
+    place_now = ap (λ (j : Job). job_place j (s.prepared a)) rests ∙ sym over
+
+    go : (more : Bool) → IsMade more old.pins new.pins old.taken new.taken a handle frame want.write → ShowsPinning a p new (run t (makes_if more a handle))
     go true by =
         record {
           frames = shows_frames p new.frames t (making a handle) frames_now;
           space = shows_space p new.space t (making a handle) space_now;
           pins =
-              subst (λ (x : HandlesValue). ShowsPins x (happens t (make_handle a handle))) (sym by.0)
-              (pins_made old.pins a handle (old.taken ++ frame ∷ []) want.write t taken_now writes_now shown);
-          taken = none_taken a handle t ∙ sym by.1;
+              subst (λ (x : HandlesValue). ShowsHandles x (happens t (make_handle a handle))) (sym by.1)
+              (pins_made old.pins a handle (old.taken ++ frame ∷ []) want.write t taken_now writes_now by.0 shown);
+          taken = none_taken a handle t ∙ sym by.2;
+          place = place_now;
         }
     go false by =
         record {
           frames = frames_now;
           space = space_now;
-          pins = subst (λ (x : HandlesValue). ShowsPins x t) (sym by.0) shown;
+          pins = subst (λ (x : HandlesValue). ShowsHandles x t) (sym by.0) shown;
           taken = taken_now ∙ sym by.1;
+          place = place_now;
         }
 
--- what the turn of a page that is pinned says
-abbrev pub tried_whats : (last : Bool) → (a p handle page n : ℕ) → (write : Bool) → List What
-tried_whats last a p handle page n write = Event (events.PinTry a p page write) ∷ pinned_if last a handle n
-
 -- the pin after events that lead there
-pins_lead : (new : PinningView) (es : List CoreEvent) (a p handle page n : ℕ) (want : Want) (last : Bool) (s t : CoreState) → run s es ≡ t
-    → ShowsPinning a p new (run t (pin_page a p page (entry_in (t.entry p page)) want.write want.long ∷ makes_if last a handle))
-    → Leads (ShowsPinning a p) new s (pins s es a p handle page n want last) (tried_whats last a p handle page n want.write)
-pins_lead new es a p handle page n want last s t same behind =
-    let rest : CoreState → List CoreEvent = λ u. pin_page a p page (entry_in (u.entry p page)) want.write want.long ∷ makes_if last a handle in
-    let here : ShowsPinning a p new (run (run s es) (rest (run s es))) = subst (λ (u : CoreState). ShowsPinning a p new (run u (rest u))) (sym same) behind in
-    let all : ShowsPinning a p new (run s (es ++ rest (run s es))) = subst (ShowsPinning a p new) (sym (run_behind s es (rest (run s es)))) here in
-    record { says = refl; shown = all }
+pins_lead : (new : PinningView) (es : List CoreEvent) (a p handle page n : ℕ) (want : Want) (last : Bool) (e : Entry) (s t : CoreState) → run s es ≡ t
+    → ShowsPinning a p new (run t (pin_page a p page e want.write want.long ∷ makes_if last a handle))
+    → Leads (ShowsPinning a p) new s (pins_behind es a p handle page n want last e) (tried_whats last a p handle page n want.write)
+pins_lead new es a p handle page n want last e s t same behind =
+    let rest : List CoreEvent = pin_page a p page e want.write want.long ∷ makes_if last a handle in
+    let here : ShowsPinning a p new (run (run s es) rest) = subst (λ (u : CoreState). ShowsPinning a p new (run u rest)) (sym same) behind in
+    record { says = refl; shown = subst (ShowsPinning a p new) (sym (run_behind s es rest)) here }
 
--- what a fault of a pin comes to
-pin_after : (new : PinningView) (fault : Fault) (a p handle page n far : ℕ) (want : Want) (last : Bool) (s : CoreState) → (far + 1 == n) ≡ last → refusal_of fault ≡ None
-    → ((t : CoreState) → t ≡ run (run s (raises a p far)) (events_of fault)
-    → ShowsPinning a p new (run t (pin_page a p page (entry_in (t.entry p page)) want.write want.long ∷ makes_if last a handle)))
-    → Leads (ShowsPinning a p) new s (pin_turn_by fault s a p handle page n far want) (tried_whats last a p handle page n want.write)
-pin_after new (Err answer) a p handle page n far want last s is refused behind = absurd (cc)
-pin_after new (Ok before) a p handle page n far want last s is unrefused behind =
-    leads_alike (ap (λ b. pins s (raises a p far ++ before) a p handle page n want b) is)
-    (pins_lead new (raises a p far ++ before) a p handle page n want last s (run (run s (raises a p far)) before) (run_behind s (raises a p far) before)
-    (behind (run (run s (raises a p far)) before) refl))
+-- ---- a page is refused
+
+-- what is left of a pin after events that leave it in the middle of nothing
+ends_lead : (old new : PinningView) (es : List CoreEvent) (a p handle n far : ℕ) (want : Want) (answer : Answer) (s t : CoreState) → run s es ≡ t
+    → ShowsFrames new.frames t → ShowsSpace p new.space t → ShowsHandles old.pins t → frames_taken (t.taken a) ≡ old.taken → length (t.taken a) ≡ far
+    → ((k : ℕ) (x : TakenPage) → slice_get (t.taken a) k ≡ Some x → x.write ≡ want.write) → t.job a ≡ idle → new.place ≡ unbegun
+    → IsEnded far old.pins new.pins old.taken new.taken a handle want.write
+    → Leads (ShowsPinning a p) new s (ends_pin es a handle n far answer) (ended_whats a handle n far answer)
+ends_lead old new es a p handle n zero want answer s t same frames space shown taken many writes rests over ended =
+    let here : ShowsPinning a p new t = record {
+      frames = frames;
+      space = space;
+      pins = subst (λ (x : HandlesValue). ShowsHandles x t) (sym ended.0) shown;
+      taken = taken ∙ sym ended.1;
+      place = ap (λ (j : Job). job_place j (t.prepared a)) rests ∙ sym over;
+    } in
+    record { says = refl; shown = subst (ShowsPinning a p new) (sym same) here }
+ends_lead old new es a p handle n (suc far) want answer s t same frames space shown taken many writes rests over ended =
+    let made : CoreState = happens t (make_handle a handle) in
+    let write : writes_taken (t.taken a) ≡ want.write = writes_some (t.taken a) want.write (omega (arith, many)) writes in
+    let here : ShowsPinning a p new made = record {
+      frames = shows_frames p new.frames t (making a handle) frames;
+      space = shows_space p new.space t (making a handle) space;
+      pins = subst (λ (x : HandlesValue). ShowsHandles x made) (sym ended.1) (pins_made old.pins a handle old.taken want.write t taken write ended.0 shown);
+      taken = none_taken a handle t ∙ sym ended.2;
+      place = ap (λ (j : Job). job_place j (t.prepared a)) rests ∙ sym over;
+    } in
+    record {
+      says = refl;
+      shown = subst (ShowsPinning a p new) (sym (run_behind s es (make_handle a handle ∷ []) ∙ ap (λ (u : CoreState). happens u (make_handle a handle)) same)) here;
+    }
+
+-- ---- where the pin stands
+
+idle_job : (s : CoreState) (a p page : ℕ) (want : Want) (job : Job) (prepared : Option ℕ) → IsAtPage s a p page want job → job_place job prepared ≡ unbegun → job ≡ idle
+idle_job s a p page want idle prepared at place = refl
+idle_job s a p page want (moving q g e allowed count) prepared at place = absurd (cc)
+idle_job s a p page want job prepared at place = absurd at
+
+moving_job : (s : CoreState) (a p page g : ℕ) (want : Want) (e : Entry) (count : Counted) (job : Job) (prepared : Option ℕ) → IsAtPage s a p page want job → job_place job prepared ≡ moving_page g e count → job ≡ moving p page e (zones_of want) count
+moving_job s a p page g want e count idle prepared at place = absurd (cc)
+moving_job s a p page g want e count (moving q h d allowed n) prepared at place =
+    let entries : d ≡ e = cc in
+    let counts : n ≡ count = cc in
+    ap (λ (k : ℕ). moving k h d allowed n) at.0 ∙ ap (λ (k : ℕ). moving p k d allowed n) at.1
+    ∙ ap (λ (zones : Allowed). moving p page d zones n) at.2 ∙ ap (λ (x : Entry). moving p page x (zones_of want) n) entries
+    ∙ ap (λ (k : Counted). moving p page e (zones_of want) k) counts
+moving_job s a p page g want e count job prepared at place = absurd at
+
+-- of a page that it has cleared
+later_is : (view : PinningView) (a p handle page n far g : ℕ) (want : Want) (e : Entry) (count : Counted) (s : CoreState) → ShowsPinning a p view s → StandsAtPage a p handle page n want far s → view.place ≡ moving_page g e count
+    → pin_turn s a p handle page n want ≡ moved_turn s a p handle (page + far) n far want e count
+later_is view a p handle page n far g want e count s shown stands place =
+    ap (λ (got : ℕ). pin_turn_in s a p handle page n got want (s.job a)) stands.at.taken.many
+    ∙ ap (pin_turn_in s a p handle page n far want) (moving_job s a p (page + far) g want e count (s.job a) (s.prepared a) stands.at.at (shown.place ∙ place))
 
 -- a fault of a page of a pin that stands at this one
 abbrev pub PinFault : (F F1 : FramesValue) (S S2 : SpaceValue) (page far : ℕ) → Want → Option Answer → Type 0
 PinFault F F1 S S2 page far want denied =
     IsFault (ch F F1 (raised far S) S2) denied (λ b q. fault_to_pin F (raised far S) b q page want.write (zones_of want))
 
--- as the code names the process and the page
-pub fault_at : (F F1 : FramesValue) (S S1 S2 : SpaceValue) (page far at : ℕ) (want : Want) (denied : Option Answer) → S1 ≡ raised far S → at ≡ page + far
-    → IsFault (ch F F1 S1 S2) denied (λ b q. fault_to_pin F S1 b q at want.write (zones_of want)) → PinFault F F1 S S2 (page + far) far want denied
-fault_at F F1 S S1 S2 page far at want denied space is h =
-    subst (λ (x : SpaceValue). IsFault (ch F F1 x S2) denied (λ b q. fault_to_pin F x b q (page + far) want.write (zones_of want))) space
-    (subst (λ g. IsFault (ch F F1 S1 S2) denied (λ b q. fault_to_pin F S1 b q g want.write (zones_of want))) is h)
+-- as the code names the process
+pub fault_at : (F F1 : FramesValue) (S S1 S2 : SpaceValue) (page far : ℕ) (want : Want) (denied : Option Answer) → S1 ≡ raised far S
+    → IsFault (ch F F1 S1 S2) denied (λ b q. fault_to_pin F S1 b q page want.write (zones_of want)) → PinFault F F1 S S2 page far want denied
+fault_at F F1 S S1 S2 page far want denied space h =
+    subst (λ (x : SpaceValue). IsFault (ch F F1 x S2) denied (λ b q. fault_to_pin F x b q page want.write (zones_of want))) space h
 
 -- the pin stands at the page after those that it has taken
-turn_is : (F : FramesValue) (S : SpaceValue) (a p handle page n far : ℕ) (want : Want) (s : CoreState) → length (s.taken a) ≡ far → ShowsFrames F s → ShowsSpace p S s
+turn_is : (F : FramesValue) (S : SpaceValue) (a p handle page n far : ℕ) (want : Want) (s : CoreState) → length (s.taken a) ≡ far → s.job a ≡ idle → ShowsFrames F s → ShowsSpace p S s
     → pin_turn s a p handle page n want ≡ pin_turn_by (fault_to_pin F (raised far S) a p (page + far) want.write (zones_of want)) s a p handle (page + far) n far want
-turn_is F S a p handle page n far want s many frames space =
-    ap (λ (got : ℕ). pin_turn_at s a p handle page n got want) many
+turn_is F S a p handle page n far want s many job frames space =
+    ap (λ (got : ℕ). pin_turn_in s a p handle page n got want (s.job a)) many
+    ∙ ap (pin_turn_in s a p handle page n far want) job
     ∙ ap (λ (x : Fault). pin_turn_by x s a p handle (page + far) n far want)
     (pin_fault_same F S a p (page + far) want.write (zones_of want) s frames space ∙ sym (fault_raised F S a p (page + far) far want.write (zones_of want)))
 
--- the page is pinned
-pub pinned_page : (old new : PinningView) (F1 : FramesValue) (S2 : SpaceValue) (a p handle page n far frame : ℕ) (want : Want) (last : Bool) → (far + 1 == n) ≡ last → old.space.table ≡ None
-    → PinFault old.frames F1 old.space S2 (page + far) far want None → frame_of (S2.entry (page + far)) ≡ Some frame
-    → new.frames ≡ with_references frame 1024 F1 → new.space ≡ record S2 { has_pinned = true } → IsMade last old new a handle frame want.write
-    → IsTurnOf (ShowsPinning a p) (StandsAtPage a p handle page n want far) old new (λ s. pin_turn s a p handle page n want) (tried_whats last a p handle (page + far) n want.write)
-pinned_page old new F1 S2 a p handle page n far frame want last is unlocked fault at new_frames new_space made s shown stands =
-    leads_alike (turn_is old.frames old.space a p handle page n far want s stands.at.taken.many shown.frames shown.space)
-    (pin_after new (fault_to_pin F (raised far S) a p (page + far) want.write (zones_of want)) a p handle (page + far) n far want last s is (fault.refused a p) (λ t here. behind t here))
-  where
-    F : FramesValue
-    F = old.frames
+raise_job : (a p far : ℕ) (s : CoreState) → (run s (raises a p far)).job ≡ s.job
+raise_job a p zero s = refl
+raise_job a p (suc far) s = refl
 
-    S : SpaceValue
-    S = old.space
+-- ---- the first turn of a page
 
-    t0 : CoreState
-    t0 = run s (raises a p far)
+by_fault : (fault : Fault) (a p handle page n far : ℕ) (want : Want) (s : CoreState) (new : PinningView) (whats : List What) → refusal_of fault ≡ None
+    → Leads (ShowsPinning a p) new s (pins s (raises a p far ++ events_of fault) a p handle page n want (far + 1 == n)) whats
+    → Leads (ShowsPinning a p) new s (pin_turn_by fault s a p handle page n far want) whats
+by_fault (Err answer) a p handle page n far want s new whats refused h = absurd (cc)
+by_fault (Ok before) a p handle page n far want s new whats refused h = h
 
-    t1 : CoreState
-    t1 = run t0 (events_of (fault_to_pin F (raised far S) a p (page + far) want.write (zones_of want)))
+module _ (old new : PinningView) (F1 : FramesValue) (S2 : SpaceValue) (a p handle page n far g : ℕ) (here : g ≡ page + far) (want : Want) (unlocked : old.space.table ≡ None) (begun : old.place ≡ unbegun) (s : CoreState) (shown : ShowsPinning a p old s) (stands : StandsAtPage a p handle page n want far s) where
+  abbrev F : FramesValue
+  F = old.frames
+
+  abbrev S : SpaceValue
+  S = old.space
+
+  abbrev fault : Fault
+  fault = fault_to_pin F (raised far S) a p g want.write (zones_of want)
+
+  abbrev t0 : CoreState
+  t0 = run s (raises a p far)
+
+  abbrev t1 : CoreState
+  t1 = run t0 (events_of fault)
+
+  job_here : s.job a ≡ idle
+  job_here = idle_job s a p (page + far) want (s.job a) (s.prepared a) stands.at.at (shown.place ∙ begun)
+
+  turn_here : pin_turn s a p handle page n want ≡ pin_turn_by fault s a p handle g n far want
+  turn_here =
+      subst (λ (k : ℕ). pin_turn s a p handle page n want ≡ pin_turn_by (fault_to_pin F (raised far S) a p k want.write (zones_of want)) s a p handle k n far want) (sym here)
+      (turn_is F S a p handle page n far want s stands.at.taken.many job_here shown.frames shown.space)
+
+  -- after the events of the fault
+  module _ (faults : PinFault F F1 S S2 g far want None) where
+    same_run : run s (raises a p far ++ events_of fault) ≡ t1
+    same_run = run_behind s (raises a p far) (events_of fault)
 
     shows : ShowsFrames F1 t1 × ShowsSpace p S2 t1
     shows =
-        events_lead fault.events t0 a p (raise_frames F a p far s shown.frames) (raise_space S a p far s shown.space)
+        events_lead faults.events t0 a p (raise_frames F a p far s shown.frames) (raise_space S a p far s shown.space)
         ((raise_space S a p far s shown.space).table ∙ raised_unlocked S far unlocked)
 
-    same : IsLeft t0 t1
-    same = pin_fault_leaves F (raised far S) a p (page + far) want.write (zones_of want) t0
+    left : IsLeft a t0 t1
+    left = pin_fault_leaves F (raised far S) a p g want.write (zones_of want) t0
 
     taken_same : t1.taken a ≡ s.taken a
-    taken_same = ap (λ (f : ℕ → List TakenPage). f a) (same.taken ∙ raise_taken a p far s)
+    taken_same = ap (λ (f : ℕ → List TakenPage). f a) (left.taken ∙ raise_taken a p far s)
 
-    behind : (t : CoreState) → t ≡ t1 → ShowsPinning a p new (run t (pin_page a p (page + far) (entry_in (t.entry p (page + far))) want.write want.long ∷ makes_if last a handle))
-    behind t here =
-        subst (λ (u : CoreState). ShowsPinning a p new (run u (pin_page a p (page + far) (entry_in (u.entry p (page + far))) want.write want.long ∷ makes_if last a handle))) (sym here)
-        (take_page old new F1 S2 a p handle (page + far) frame want last (entry_in (t1.entry p (page + far))) t1
-        (ap (λ o. (entry_in o).frame) (shows.1.entry (page + far)) ∙ frame_is (S2.entry (page + far)) frame at) new_frames new_space made
-        shows.0 shows.1
-        (shows_same old.pins s t1 (same.handle ∙ raise_handle a p far s) (same.pinned ∙ raise_pinned a p far s) shown.pins)
+    job_then : t1.job a ≡ idle
+    job_then = left.idles (ap (λ (f : ℕ → Job). f a) (raise_job a p far s) ∙ job_here)
+
+    pins_then : ShowsHandles old.pins t1
+    pins_then = shows_same old.pins s t1 (left.handle ∙ raise_handle a p far s) (left.pinned ∙ raise_pinned a p far s) (left.got ∙ raise_got a p far s) shown.pins
+
+    -- which page is to be moved first, is read of the frames
+    moves_same : (m : Bool) → (want.long && nat_lt (entry_in (S2.entry g)).frame F1.movable) ≡ m → moves_first t1 want (entry_in (t1.entry p g)) ≡ m
+    moves_same m is =
+        ap (λ (o : Option Entry). want.long && nat_lt (entry_in o).frame t1.movable) (shows.1.entry g)
+        ∙ ap (λ (k : ℕ). want.long && nat_lt (entry_in (S2.entry g)).frame k) shows.0.movable ∙ is
+
+    goes : (whats : List What) (m : Bool) → (want.long && nat_lt (entry_in (S2.entry g)).frame F1.movable) ≡ m
+        → Leads (ShowsPinning a p) new s (clears_or_pins m (raises a p far ++ events_of fault) a p handle g n want (far + 1 == n) (entry_in ((run s (raises a p far ++ events_of fault)).entry p g))) whats
+        → Leads (ShowsPinning a p) new s (pin_turn s a p handle page n want) whats
+    goes whats m is h =
+        leads_alike turn_here
+        (by_fault fault a p handle g n far want s new whats (faults.refused a p)
+        (leads_alike
+        (ap (λ (b : Bool). clears_or_pins b (raises a p far ++ events_of fault) a p handle g n want (far + 1 == n) (entry_in ((run s (raises a p far ++ events_of fault)).entry p g)))
+        (ap (λ (u : CoreState). moves_first u want (entry_in (u.entry p g))) same_run ∙ moves_same m is)) h))
+
+    -- the page is pinned
+    pub page_pinned : (want.long && nat_lt (entry_in (S2.entry g)).frame F1.movable) ≡ false
+        → IsTaken F1 new.frames S2 new.space g (entry_in (S2.entry g)).frame
+        → IsMade (far + 1 == n) old.pins new.pins old.taken new.taken a handle (entry_in (S2.entry g)).frame want.write → new.place ≡ unbegun
+        → Leads (ShowsPinning a p) new s (pin_turn s a p handle page n want) (tried_whats (far + 1 == n) a p handle g n want.write)
+    page_pinned stays made handles over =
+        let es : List CoreEvent = raises a p far ++ events_of fault in
+        let at = ap (λ (u : CoreState). entry_in (u.entry p g)) same_run in
+        goes (tried_whats (far + 1 == n) a p handle g n want.write) false stays
+        (leads_alike (ap (pins_behind es a p handle g n want (far + 1 == n)) at)
+        (pins_lead new es a p handle g n want (far + 1 == n) (entry_in (t1.entry p g)) s t1 same_run
+        (take_page old new F1 S2 a p handle g (entry_in (S2.entry g)).frame want (far + 1 == n) (entry_in (t1.entry p g)) t1
+        (ap (λ (o : Option Entry). (entry_in o).frame) (shows.1.entry g)) made.frames_are made.space_is handles shows.0 shows.1 pins_then
         (ap frames_taken taken_same ∙ shown.taken)
-        (ap (λ (f : ℕ → Bool). f p) same.has_pinned ∙ raise_flags a p far s stands.flagged)
-        (λ k x found. (stands.at.taken.each k x (ap (λ (l : List TakenPage). slice_get l k) (sym taken_same) ∙ found)).2))
+        (ap (λ (f : ℕ → Bool). f p) left.has_pinned ∙ raise_flags a p far s stands.flagged)
+        (λ k x found. (stands.at.taken.each k x (ap (λ (l : List TakenPage). slice_get l k) (sym taken_same) ∙ found)).2) job_then over)))
 
--- ---- a page is refused
+    -- or its entry is cleared
+    pub page_cleared : (e : Entry) (S3 : SpaceValue) → (want.long && nat_lt (entry_in (S2.entry g)).frame F1.movable) ≡ true → S2.entry g ≡ Some e
+        → AreMoveEvents (with_table (Some a) (ch F1 F1 S2 S3)) (λ q. clear_entry a q g e (zones_of want) ∷ [])
+        → new.frames ≡ F1 → new.space ≡ record S3 { table = Some a } → new.pins ≡ old.pins → new.taken ≡ old.taken → new.place ≡ moving_page g e unread
+        → Leads (ShowsPinning a p) new s (pin_turn s a p handle page n want) (Silent ∷ [])
+    page_cleared e S3 first there events frames space pins taken place =
+        let es : List CoreEvent = raises a p far ++ events_of fault in
+        let d : Entry = entry_in ((run s es).entry p g) in
+        let is_e : d ≡ e = ap (λ (u : CoreState). entry_in (u.entry p g)) same_run ∙ ap entry_in (shows.1.entry g ∙ there) in
+        let t2 : CoreState = happens t1 (clear_entry a p g e (zones_of want)) in
+        let led = events t1 p shows.0 shows.1 in
+        let job : Job = moving p g e (zones_of want) unread in
+        let here : ShowsPinning a p new t2 = record {
+          frames = subst (λ (x : FramesValue). ShowsFrames x t2) (sym frames) led.0;
+          space = subst (λ (x : SpaceValue). ShowsSpace p x t2) (sym space) led.1;
+          pins = subst (λ (x : HandlesValue). ShowsHandles x t2) (sym pins) pins_then;
+          taken = ap frames_taken taken_same ∙ shown.taken ∙ sym taken;
+          place = ap (λ (j : Job). job_place j (t1.prepared a)) (put_own a job t1.job) ∙ sym place;
+        } in
+        goes (Silent ∷ []) true first
+        (leads_alike (ap (clears_behind es a p g want) is_e)
+        (record {
+          says = refl;
+          shown = subst (ShowsPinning a p new) (sym (run_behind s es (clear_entry a p g e (zones_of want) ∷ []) ∙ ap (λ (u : CoreState). happens u (clear_entry a p g e (zones_of want))) same_run)) here;
+        }))
 
-refused_after : (new : PinningView) (fault : Fault) (a p handle page n far : ℕ) (want : Want) (answer : Answer) (s : CoreState) (whats : List What) → refusal_of fault ≡ Some answer
-    → Leads (ShowsPinning a p) new s (ends_pin a p handle n far answer) whats → Leads (ShowsPinning a p) new s (pin_turn_by fault s a p handle page n far want) whats
-refused_after new (Ok before) a p handle page n far want answer s whats refused h = absurd (cc)
-refused_after new (Err denied) a p handle page n far want answer s whats refused h =
-    let same : denied ≡ answer = cc in
-    leads_alike (ap (λ (x : Answer). ends_pin a p handle n far x) same) h
+  -- a page that is denied
+  pub page_denied : (answer : Answer) → PinFault F F1 S S2 g far want (Some answer) → new.frames ≡ F1 → new.space ≡ S2
+      → IsEnded far old.pins new.pins old.taken new.taken a handle want.write → new.place ≡ unbegun
+      → Leads (ShowsPinning a p) new s (pin_turn s a p handle page n want) (ended_whats a handle n far answer)
+  page_denied answer faults frames space ended over = leads_alike turn_here (by_denied fault (faults.refused a p))
+    where
+      shown_then : Leads (ShowsPinning a p) new s (ends_pin (raises a p far) a handle n far answer) (ended_whats a handle n far answer)
+      shown_then =
+          ends_lead old new (raises a p far) a p handle n far want answer s t0 refl
+          (subst (λ (x : FramesValue). ShowsFrames x t0) (sym (frames ∙ (faults.unchanged answer refl).0)) (raise_frames F a p far s shown.frames))
+          (subst (λ (x : SpaceValue). ShowsSpace p x t0) (sym (space ∙ (faults.unchanged answer refl).1)) (raise_space S a p far s shown.space))
+          (shows_same old.pins s t0 (raise_handle a p far s) (raise_pinned a p far s) (raise_got a p far s) shown.pins)
+          (ap (λ (f : ℕ → List TakenPage). frames_taken (f a)) (raise_taken a p far s) ∙ shown.taken)
+          (ap (λ (f : ℕ → List TakenPage). length (f a)) (raise_taken a p far s) ∙ stands.at.taken.many)
+          (λ k x found. (stands.at.taken.each k x (ap (λ (f : ℕ → List TakenPage). slice_get (f a) k) (sym (raise_taken a p far s)) ∙ found)).2)
+          (ap (λ (f : ℕ → Job). f a) (raise_job a p far s) ∙ job_here) over ended
 
--- without a page the pin is refused
-pub pin_refused : (old new : PinningView) (F1 : FramesValue) (S2 : SpaceValue) (a p handle page n far : ℕ) (want : Want) (answer : Answer) → far ≡ 0
-    → PinFault old.frames F1 old.space S2 (page + far) far want (Some answer) → new.frames ≡ F1 → new.space ≡ S2 → new.pins ≡ old.pins → new.taken ≡ old.taken
-    → IsTurnOf (ShowsPinning a p) (StandsAtPage a p handle page n want far) old new (λ s. pin_turn s a p handle page n want) (Done answer ∷ [])
-pin_refused old new F1 S2 a p handle page n zero want answer first fault new_frames new_space new_pins new_taken s shown stands =
-    leads_alike (turn_is old.frames old.space a p handle page n 0 want s stands.at.taken.many shown.frames shown.space)
-    (refused_after new (fault_to_pin old.frames (raised 0 old.space) a p (page + 0) want.write (zones_of want)) a p handle (page + 0) n 0 want answer s (Done answer ∷ []) (fault.refused a p)
-    (record {
-      says = refl;
-      shown = record {
-        frames = subst (λ (x : FramesValue). ShowsFrames x (run s (raises a p 0))) (sym (new_frames ∙ (fault.unchanged answer refl).0)) (raise_frames old.frames a p 0 s shown.frames);
-        space = subst (λ (x : SpaceValue). ShowsSpace p x (run s (raises a p 0))) (sym (new_space ∙ (fault.unchanged answer refl).1)) (raise_space old.space a p 0 s shown.space);
-        pins = subst (λ (x : HandlesValue). ShowsPins x (run s (raises a p 0))) (sym new_pins) shown.pins;
-        taken = shown.taken ∙ sym new_taken;
-      };
-    }))
-pin_refused old new F1 S2 a p handle page n (suc far) want answer first fault new_frames new_space new_pins new_taken s shown stands = absurd (omega arith)
+      by_denied : (x : Fault) → refusal_of x ≡ Some answer → Leads (ShowsPinning a p) new s (pin_turn_by x s a p handle g n far want) (ended_whats a handle n far answer)
+      by_denied (Ok before) refused = absurd (cc)
+      by_denied (Err denied) refused =
+          let same : denied ≡ answer = cc in
+          leads_alike (ap (λ (y : Answer). ends_pin (raises a p far) a handle n far y) same) shown_then
 
--- what the turn of a short pin says
-abbrev pub short_whats : (a handle n far : ℕ) → Answer → List What
-short_whats a handle n far answer =
-    Event (events.PinOk a handle) ∷ Done (answers.Short far n (cause_of answer)) ∷ []
+-- ---- the turns after the first of a page that is moved
 
--- after others the pin has those
-pub pin_short : (old new : PinningView) (F1 : FramesValue) (S2 : SpaceValue) (a p handle page n far : ℕ) (want : Want) (answer : Answer) → (far ≡ 0 → ⊥)
-    → PinFault old.frames F1 old.space S2 (page + far) far want (Some answer) → new.frames ≡ F1 → new.space ≡ S2
-    → new.pins ≡ put handle (held a old.taken want.write) old.pins → new.taken ≡ []
-    → IsTurnOf (ShowsPinning a p) (StandsAtPage a p handle page n want far) old new (λ s. pin_turn s a p handle page n want) (short_whats a handle n far answer)
-pin_short old new F1 S2 a p handle page n zero want answer some fault new_frames new_space new_pins new_taken s shown stands = absurd (some refl)
-pin_short old new F1 S2 a p handle page n (suc far) want answer some fault new_frames new_space new_pins new_taken s shown stands =
-    let t : CoreState = happens s (make_handle a handle) in
-    let writes : writes_taken (s.taken a) ≡ want.write = writes_some (s.taken a) want.write (omega (arith, stands.at.taken.many)) (λ k x found. (stands.at.taken.each k x found).2) in
-    leads_alike (turn_is old.frames old.space a p handle page n (suc far) want s stands.at.taken.many shown.frames shown.space)
-    (refused_after new (fault_to_pin old.frames old.space a p (page + suc far) want.write (zones_of want)) a p handle (page + suc far) n (suc far) want answer s (short_whats a handle n (suc far) answer) (fault.refused a p)
-    (record {
-      says = refl;
-      shown = record {
-        frames = subst (λ (x : FramesValue). ShowsFrames x t) (sym (new_frames ∙ (fault.unchanged answer refl).0)) (shows_frames p old.frames s (making a handle) shown.frames);
-        space = subst (λ (x : SpaceValue). ShowsSpace p x t) (sym (new_space ∙ (fault.unchanged answer refl).1)) (shows_space p old.space s (making a handle) shown.space);
-        pins = subst (λ (x : HandlesValue). ShowsPins x t) (sym new_pins) (pins_made old.pins a handle old.taken want.write s shown.taken writes shown.pins);
-        taken = none_taken a handle s ∙ sym new_taken;
-      };
-    }))
+module _ (old new : PinningView) (a p handle page n far g : ℕ) (here : g ≡ page + far) (want : Want) (e : Entry) (s : CoreState) (shown : ShowsPinning a p old s) (stands : StandsAtPage a p handle page n want far s) where
+  writes_here : (k : ℕ) (x : TakenPage) → slice_get (s.taken a) k ≡ Some x → x.write ≡ want.write
+  writes_here k x found = (stands.at.taken.each k x found).2
+
+  later : (count : Counted) → old.place ≡ moving_page g e count → pin_turn s a p handle page n want ≡ moved_turn s a p handle g n far want e count
+  later count at =
+      subst (λ (k : ℕ). pin_turn s a p handle page n want ≡ moved_turn s a p handle k n far want e count) (sym here)
+      (later_is old a p handle page n far g want e count s shown stands at)
+
+  -- the count is read
+  pub page_counted : old.place ≡ moving_page g e unread → new.frames ≡ old.frames → new.space ≡ old.space → new.pins ≡ old.pins → new.taken ≡ old.taken
+      → new.place ≡ moving_page g e (counted_as (old.frames.count e.frame)) → Leads (ShowsPinning a p) new s (pin_turn s a p handle page n want) (Silent ∷ [])
+  page_counted at frames space pins taken place =
+      let t : CoreState = happens s (count_moved a p g e (zones_of want) (old.frames.count e.frame)) in
+      let job : Job = moving p g e (zones_of want) (counted_as (old.frames.count e.frame)) in
+      let f = shown.frames in
+      let sp = shown.space in
+      leads_alike (later unread at ∙ ap (count_turn a p g e (zones_of want)) (f.count e.frame))
+      (record {
+        says = refl;
+        shown = record {
+          frames = subst (λ (x : FramesValue). ShowsFrames x t) (sym frames) (record { movable = f.movable; normal = f.normal; count = f.count; mark = f.mark; word = f.word });
+          space = subst (λ (x : SpaceValue). ShowsSpace p x t) (sym space)
+              (record { right = sp.right; pages = sp.pages; entry = sp.entry; sequence = sp.sequence; has_pinned = sp.has_pinned; structure = sp.structure; table = sp.table });
+          pins = subst (λ (x : HandlesValue). ShowsHandles x t) (sym pins) shown.pins;
+          taken = shown.taken ∙ sym taken;
+          place = ap (λ (j : Job). job_place j (s.prepared a)) (put_own a job s.job) ∙ sym place;
+        };
+      })
+
+  -- the entry is put back, and the page refused
+  restored : (count : Counted) (answer : Answer) (S1 : SpaceValue) → AreMoveEvents (with_table None (ch old.frames old.frames old.space S1)) (λ q. restore_entry a q g e (zones_of want) count ∷ [])
+      → new.frames ≡ old.frames → new.space ≡ record S1 { table = None } → IsEnded far old.pins new.pins old.taken new.taken a handle want.write → new.place ≡ unbegun
+      → Leads (ShowsPinning a p) new s (ends_moved a p handle g n far want e count answer) (ended_whats a handle n far answer)
+  restored count answer S1 events frames space ended over =
+      let t : CoreState = happens s (restore_entry a p g e (zones_of want) count) in
+      let led = events s p shown.frames shown.space in
+      ends_lead old new (restore_entry a p g e (zones_of want) count ∷ []) a p handle n far want answer s t refl
+      (subst (λ (x : FramesValue). ShowsFrames x t) (sym frames) led.0) (subst (λ (x : SpaceValue). ShowsSpace p x t) (sym space) led.1)
+      shown.pins shown.taken stands.at.taken.many writes_here (put_own a idle s.job) over ended
+
+  pub page_restored : (count : ℕ) (S1 : SpaceValue) → old.place ≡ moving_page g e (more count) → AreMoveEvents (with_table None (ch old.frames old.frames old.space S1)) (λ q. restore_entry a q g e (zones_of want) (more count) ∷ [])
+      → new.frames ≡ old.frames → new.space ≡ record S1 { table = None } → IsEnded far old.pins new.pins old.taken new.taken a handle want.write → new.place ≡ unbegun
+      → Leads (ShowsPinning a p) new s (pin_turn s a p handle page n want) (ended_whats a handle n far (answers.Unmovable count))
+  page_restored count S1 at events frames space ended over =
+      leads_alike (later (more count) at) (restored (more count) (answers.Unmovable count) S1 events frames space ended over)
+
+  one_is : (free : Option ℕ) → old.place ≡ moving_page g e one → free_frame old.frames (zones_of want) ≡ free → pin_turn s a p handle page n want ≡ pins_moved a p handle g n far want e free
+  one_is free at is =
+      later one at
+      ∙ ap (pins_moved a p handle g n far want e) (free_agrees old.frames (zones_of want) s shown.frames ∙ is)
+
+  -- no frame is free
+  pub page_unplaced : (S1 : SpaceValue) → old.place ≡ moving_page g e one → free_frame old.frames (zones_of want) ≡ None → AreMoveEvents (with_table None (ch old.frames old.frames old.space S1)) (λ q. restore_entry a q g e (zones_of want) one ∷ [])
+      → new.frames ≡ old.frames → new.space ≡ record S1 { table = None } → IsEnded far old.pins new.pins old.taken new.taken a handle want.write → new.place ≡ unbegun
+      → Leads (ShowsPinning a p) new s (pin_turn s a p handle page n want) (ended_whats a handle n far answers.NoFrame)
+  page_unplaced S1 at none events frames space ended over =
+      leads_alike (one_is None at none) (restored one answers.NoFrame S1 events frames space ended over)
+
+  -- the page is placed in another frame, and pinned
+  pub page_placed : (f : ℕ) (F1 : FramesValue) (S1 S2 : SpaceValue) → old.place ≡ moving_page g e one → free_frame old.frames (zones_of want) ≡ Some f → AreMoveEvents (with_table None (ch old.frames F1 old.space S1)) (λ q. take_frame a f ∷ place_frame a q g f e (zones_of want) ∷ put_entry a e.frame ∷ [])
+      → S2 ≡ record S1 { table = None } → s.has_pinned p ≡ true → IsTaken F1 new.frames S2 new.space g f
+      → IsMade (far + 1 == n) old.pins new.pins old.taken new.taken a handle f want.write → new.place ≡ unbegun
+      → Leads (ShowsPinning a p) new s (pin_turn s a p handle page n want) (tried_whats (far + 1 == n) a p handle g n want.write)
+  page_placed f F1 S1 S2 at is events same flag made handles over =
+      let es : List CoreEvent = take_frame a f ∷ place_frame a p g f e (zones_of want) ∷ put_entry a e.frame ∷ [] in
+      let t : CoreState = run s es in
+      let led = events s p shown.frames shown.space in
+      leads_alike (one_is (Some f) at is)
+      (pins_lead new es a p handle g n want (far + 1 == n) (entry_of f e.writable) s t refl
+      (take_page old new F1 S2 a p handle g f want (far + 1 == n) (entry_of f e.writable) t refl made.frames_are made.space_is handles
+      led.0 (subst (λ (x : SpaceValue). ShowsSpace p x t) (sym same) led.1) shown.pins shown.taken flag writes_here (put_own a idle s.job) over))
+
+-- ---- whether a frame is free
+
+pub zones_long : (want : Want) → want.long ≡ true → zones_of want ≡ Only Normal
+zones_long want long = ap (λ (b : Bool). if b then Only Normal else Any) long
+
+-- the events of what was placed, in the zones of a long pin
+pub places_as : (F : FramesValue) (k : Change) (a g : ℕ) (e : Entry) (asked allowed : Allowed) (free : Option ℕ) → asked ≡ allowed → free_frame F allowed ≡ free
+    → AreMoveEvents k (λ q. places a q g e allowed (free_frame F allowed)) → AreMoveEvents k (λ q. places a q g e asked free)
+places_as F k a g e asked allowed free same is events =
+    subst (λ (o : Option ℕ). AreMoveEvents k (λ q. places a q g e asked o)) is
+    (subst (λ (z : Allowed). AreMoveEvents k (λ q. places a q g e z (free_frame F allowed))) (sym same) events)
+
+pub free_one : (free : Option ℕ) (placed : Bool) → not placed ≡ is_none free → placed ≡ true → (f : ℕ) × (free ≡ Some f)
+free_one None true is placed = absurd (cc)
+free_one None false is placed = absurd (cc)
+free_one (Some f) placed is so = (f, refl)
+
+pub free_none : (free : Option ℕ) (placed : Bool) → not placed ≡ is_none free → placed ≡ false → free ≡ None
+free_none None placed is so = refl
+free_none (Some f) true is so = absurd (cc)
+free_none (Some f) false is so = absurd (cc)
+
+-- the frame that was placed is the page's
+pub placed_frame : (S S1 S2 : SpaceValue) (g f : ℕ) (writable : Bool) → S1 ≡ with_entry g (Some (entry_of f writable)) S → S2 ≡ record S1 { table = None } → S2.entry g ≡ Some (entry_of f writable)
+placed_frame S S1 S2 g f writable placed same =
+    ap (λ (x : SpaceValue). x.entry g) (same ∙ ap (λ (x : SpaceValue). record x { table = None }) placed) ∙ put_own g (Some (entry_of f writable)) S.entry

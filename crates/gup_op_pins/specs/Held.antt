@@ -1,4 +1,5 @@
--- What stores are to a state of the core machine, and what a turn of an operation on a pin that is made is over.
+-- What stores are to a state of the core machine, and what a turn of an operation on a pin or a reference that is there is
+-- over.
 use Rattle.std.specs.Prelude.{◌≡◌, ℕ, ◌<◌, List, length, slice_index, Option, Some, None}
 use Rattle.gup_plain.specs.Event.{words}
 use Rattle.gup_plain.specs.Put.{put}
@@ -12,7 +13,7 @@ use Rattle.gup_handles.specs.Handles.{HandleValue, HandlesValue, handles_of, gon
 use Rattle.gup_spec_events.specs.State.{CoreState}
 use Rattle.gup_spec_events.specs.Event.{bias}
 use Rattle.gup_op_base.specs.Said.{Said, silent_said, done_said, answered_said}
-use Rattle.gup_op_pins.specs.Pins.{ShowsPins}
+use Rattle.gup_handles.specs.Shows.{ShowsHandles}
 
 -- the actor has these words, if it has a store
 abbrev pub ShowsStore : (a : ℕ) → Option (List ℕ) → CoreState → Type 0
@@ -35,7 +36,7 @@ held_view frames pins store = record { frames = frames_of frames; pins = handles
 -- the state has all that, of actor a
 pub record ShowsHeld (a : ℕ) (view : HeldView) (s : CoreState) : Type 0 where
   pub frames : ShowsFrames view.frames s
-  pub pins : ShowsPins view.pins s
+  pub pins : ShowsHandles view.pins s
   pub store : ShowsStore a view.store s
 
 -- ---- what such a turn changes, whatever state has all that, and whatever the other handles are

@@ -1,30 +1,26 @@
--- What pins are to a state of the core machine, and what a turn of a pin is over.
-use Rattle.std.specs.Prelude.{◌≡◌, ℕ, ◌<◌, ◌≤◌, Bool, true, false, List, [], slice_get, Some, zero, suc}
+-- What handles are of frames, and what a turn of a pin or of a get is over.
+use Rattle.std.specs.Prelude.{◌≡◌, ℕ, ◌<◌, ◌≤◌, Bool, true, false, List, [], ◌∷◌, ◌++◌, slice_get, Some, None, IsSome, zero, suc}
 use Rattle.gup_base.specs.declared.entry.Allowed.{Allowed}
+use Rattle.gup_base.specs.declared.entry.Entry.{Entry}
 use Rattle.gup_base.specs.declared.entry.Want.{Want}
-use Rattle.gup_plain.specs.State as plain
-use Rattle.gup_frames.specs.Frames.{FramesValue, FrameLists, frames_of, IsFrame, free_frame}
+use Rattle.gup_plain.specs.Put.{put}
+use Rattle.gup_plain.specs.declared.answer.Answer.{Answer}
+use Rattle.gup_plain.specs.declared.answer.Answer.TheVariants as answers
+use Rattle.gup_plain.specs.declared.event.PlainEvent.TheVariants as events
+use Rattle.gup_plain.specs.declared.note.What.{What}
+use Rattle.gup_plain.specs.declared.note.What.TheVariants.{Event, Done}
+use Rattle.gup_frames.specs.Frames.{FramesValue, FrameLists, frames_of, IsFrame, free_frame, with_references}
 use Rattle.gup_space.specs.Space.{SpaceValue, SpaceParts, space_of}
 use Rattle.gup_space.specs.Shows.{ShowsFrames, ShowsSpace}
 use Rattle.gup_handles.specs.Handles.{HandleValue, HandlesValue, handles_of, unmade, held, given, got, gone}
+use Rattle.gup_handles.specs.Shows.{ShowsHandles}
 use Rattle.gup_spec_events.specs.State.{CoreState}
 use Rattle.gup_spec_events.specs.Event.{bias, taken_frames as frames_taken}
 use Rattle.gup_spec_events.specs.Fault.{Fault, write_fault, unshare_fault}
+use Rattle.gup_spec_events.specs.Invariant.{frame_of}
+use Rattle.gup_spec_turns.specs.JobPlace.{JobPlace, place_in, unbegun, moving_page}
 use Rattle.gup_spec_turns.specs.PinPlace.{StandsPin}
-
--- what a state has of a handle: the plain pin, of some objects, and the frames of the pages that it still has
-abbrev pub IsPin : HandleValue → plain.Handle → (pinned : List ℕ) → Type 0
-IsPin unmade handle pinned = handle ≡ plain.unmade
-IsPin (held by frames write) handle pinned =
-    ((objects : List ℕ) × (handle ≡ plain.held by objects write)) × (pinned ≡ frames)
-IsPin (given to frames write) handle pinned =
-    ((objects : List ℕ) × (handle ≡ plain.given to objects write)) × (pinned ≡ frames)
-IsPin (got by frame) handle pinned = ⊥
-IsPin gone handle pinned = handle ≡ plain.gone
-
--- the state has these pins
-abbrev pub ShowsPins : HandlesValue → CoreState → Type 0
-ShowsPins handles s = (h : ℕ) → IsPin (handles h) (s.handle h) (s.pinned h)
+use Rattle.gup_spec_turns.specs.PinTurns.{pinned_if, cause_of}
 
 -- the frames of the pages that a pin still has
 abbrev pub frames_in : HandleValue → List ℕ
@@ -38,6 +34,11 @@ frames_in gone = []
 abbrev pub IsWeighed : FramesValue → HandleValue → Type 0
 IsWeighed frames handle =
     (k f : ℕ) → slice_get (frames_in handle) k ≡ Some f → IsFrame frames f × (bias ≤ frames.count f)
+
+-- the frame of a got reference is there, and has one
+abbrev pub IsReferred : FramesValue → HandleValue → Type 0
+IsReferred frames (got by frame) = IsFrame frames frame × (1 ≤ frames.count frame)
+IsReferred frames handle = Unit {0}
 
 -- has-pinned is set before the first page of a pin is tried
 abbrev pub raised : (far : ℕ) → SpaceValue → SpaceValue
@@ -55,23 +56,70 @@ fault_to_pin frames space a p page false allowed =
 abbrev pub want_of : (write : Bool) → Want
 want_of write = record { write = write; long = false }
 
--- frames, a process, pins, and what an actor's running pin has taken
+-- frames, a process, pins, what an actor's running pin has taken, and where that stands
 pub record PinningView : Type 0 where
   pub frames : FramesValue
   pub space : SpaceValue
   pub pins : HandlesValue
   pub taken : List ℕ
+  pub place : JobPlace
 
-abbrev pub pinning_view : FrameLists → SpaceParts → List HandleValue → (taken : List ℕ) → PinningView
-pinning_view frames space pins taken =
-    record { frames = frames_of frames; space = space_of space; pins = handles_of pins; taken = taken }
+abbrev pub pinning_view : FrameLists → SpaceParts → List HandleValue → (taken : List ℕ) → JobPlace → PinningView
+pinning_view frames space pins taken place =
+    record { frames = frames_of frames; space = space_of space; pins = handles_of pins; taken = taken; place = place }
 
 -- the state has all that, of actor a and process p
 pub record ShowsPinning (a p : ℕ) (view : PinningView) (s : CoreState) : Type 0 where
   pub frames : ShowsFrames view.frames s
   pub space : ShowsSpace p view.space s
-  pub pins : ShowsPins view.pins s
+  pub pins : ShowsHandles view.pins s
   pub taken : frames_taken (s.taken a) ≡ view.taken
+  pub place : place_in s a ≡ view.place
+
+-- What a pin finds where it stands at this page. One that has cleared its entry is for long, and the process has pinned; the page is
+-- mapped and has no entry, and the frame of the one that was cleared is there, not free, marked, and right for the pin.
+pub record IsCleared (frames : FramesValue) (page : ℕ) (want : Want) (e : Entry) (space : SpaceValue) : Type 0 where
+  pub long : want.long ≡ true
+  pub pinned : space.has_pinned ≡ true
+  pub mapped : IsSome (space.right page)
+  pub absent : space.entry page ≡ None
+  pub there : IsFrame frames e.frame
+  pub held : frames.count e.frame ≡ 0 → ⊥
+  pub marked : frames.mark e.frame ≡ true
+  pub may : want.write ≡ true → e.writable ≡ true
+
+abbrev pub IsReadyToPin : FramesValue → (page : ℕ) → Want → JobPlace → SpaceValue → Type 0
+IsReadyToPin frames page want unbegun space = space.table ≡ None
+IsReadyToPin frames page want (moving_page g e count) space = (g ≡ page) × IsCleared frames page want e space
+IsReadyToPin frames page want place space = ⊥
+
+-- what a page that is taken makes of pins and of what was taken: the last one's is the handle's
+abbrev pub IsMade : (last : Bool) → (old_pins new_pins : HandlesValue) → (old_taken new_taken : List ℕ) → (a handle frame : ℕ) → (write : Bool) → Type 0
+IsMade true old_pins new_pins old_taken new_taken a handle frame write =
+    (old_pins handle ≡ unmade) × (new_pins ≡ put handle (held a (old_taken ++ frame ∷ []) write) old_pins) × (new_taken ≡ [])
+IsMade false old_pins new_pins old_taken new_taken a handle frame write =
+    (new_pins ≡ old_pins) × (new_taken ≡ old_taken ++ frame ∷ [])
+
+-- and one that is refused: a pin that has pages has those
+abbrev pub IsEnded : (far : ℕ) → (old_pins new_pins : HandlesValue) → (old_taken new_taken : List ℕ) → (a handle : ℕ) → (write : Bool) → Type 0
+IsEnded zero old_pins new_pins old_taken new_taken a handle write = (new_pins ≡ old_pins) × (new_taken ≡ old_taken)
+IsEnded (suc far) old_pins new_pins old_taken new_taken a handle write =
+    (old_pins handle ≡ unmade) × (new_pins ≡ put handle (held a old_taken write) old_pins) × (new_taken ≡ [])
+
+-- what the turn of such a page says
+abbrev pub tried_whats : (last : Bool) → (a p handle page n : ℕ) → (write : Bool) → List What
+tried_whats last a p handle page n write = Event (events.PinTry a p page write) ∷ pinned_if last a handle n
+
+abbrev pub ended_whats : (a handle n far : ℕ) → Answer → List What
+ended_whats a handle n zero answer = Done answer ∷ []
+ended_whats a handle n (suc far) answer =
+    Event (events.PinOk a handle) ∷ Done (answers.Short (suc far) n (cause_of answer)) ∷ []
+
+-- the frame of a page that a pin takes
+pub record IsTaken (frames new_frames : FramesValue) (space new_space : SpaceValue) (page frame : ℕ) : Type 0 where
+  pub frame_is : frame_of (space.entry page) ≡ Some frame
+  pub frames_are : new_frames ≡ with_references frame 1024 frames
+  pub space_is : new_space ≡ record space { has_pinned = true }
 
 -- the pin stands at this page; after its first page the process has pinned
 pub record StandsAtPage (a p handle page n : ℕ) (want : Want) (far : ℕ) (s : CoreState) : Type 0 where

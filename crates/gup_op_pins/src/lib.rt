@@ -1,8 +1,11 @@
-//! The turns of operations on pins: a pin is made page by page, given from one actor to another, and given back page by page.
+//! The turns of operations on pins and references: a pin is made page by page, given from one actor to another, and given back
+//! page by page; a reference is got and put back.
 #![tactic(auto)]
 
 mod holds;
 mod pins;
+mod references;
 
 pub use holds::{give, take_over, unpin};
 pub use pins::pin;
+pub use references::{get, put};

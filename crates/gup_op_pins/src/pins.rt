@@ -1,36 +1,49 @@
 //! Pins: they are made page by page.
-ghost use Rattle.std.specs.Prelude.{◌≡◌, ℕ, ◌+◌, ◌≤◌, ◌<◌, ◌^◌, true, false, [], OnOk, Some, None};
+ghost use Rattle.std.specs.Prelude.{◌≡◌, ℕ, ◌+◌, ◌==◌, ◌≤◌, ◌<◌, ◌^◌, ◌&&◌, nat_lt, true, false, [], OnOk, Some, None, IsSome};
 ghost use Rattle.arrayvec.specs.ArrayVec.{array_vec_len};
+ghost use Rattle.gup_base.specs.declared.entry.Entry.{Entry as EntryValue};
 ghost use Rattle.gup_plain.specs.Put.{put};
-ghost use Rattle.gup_frames.specs.Frames.{frames_of};
+ghost use Rattle.gup_frames.specs.Frames.{frames_of, IsFrame};
 ghost use Rattle.gup_space.specs.Space.{space_of};
 ghost use Rattle.gup_space.specs.Shows.{change_of};
-ghost use Rattle.gup_fault.specs.Refused.{answer_of as answered, denial_of};
+ghost use Rattle.gup_fault.specs.Refused.{denial_of};
 ghost use Rattle.gup_fault.specs.Faults.{IsFault};
 ghost use Rattle.gup_slow.specs.Pins.{IsReady};
 ghost use Rattle.gup_handles.specs.Handles.{handles_of, unmade, held};
-ghost use Rattle.gup_spec_turns.specs.CoreTurn.{zones_of as zones};
+ghost use Rattle.gup_spec_events.specs.Event.{counted_as};
+ghost use Rattle.gup_spec_events.specs.State.{one, more};
+ghost use Rattle.gup_spec_turns.specs.CoreTurn.{zones_of as zones, entry_in};
+ghost use Rattle.gup_spec_turns.specs.JobPlace.{unbegun, moving_page};
 ghost use Rattle.gup_spec_turns.specs.PinTurns.{cause_of as cause, pin_turn};
+ghost use Rattle.gup_op_base.specs.Jobs.{place_of};
 ghost use Rattle.gup_op_base.specs.Tidy.{IsTidy};
-ghost use Rattle.gup_op_base.specs.Said.{TellsTurn, whats_of};
+ghost use Rattle.gup_op_base.specs.Said.{TellsTurn, whats_of, silent_said};
 ghost use Rattle.gup_op_base.specs.Turns.{IsTurnOf};
-ghost use Rattle.gup_op_pins.specs.Pins.{ShowsPinning, StandsAtPage, pinning_view, raised, fault_to_pin, want_of};
+ghost use Rattle.gup_op_pins.specs.Pins.{ShowsPinning, StandsAtPage, IsReadyToPin, IsCleared, IsMade, IsEnded, IsTaken, tried_whats, ended_whats, pinning_view, raised, fault_to_pin, want_of};
 
 use arrayvec::ArrayVec;
-use gup_base::{ActorNo, Allowed, FrameNo, HandleNo, PageNo, ProcNo, Want, Zone};
+use gup_base::{ActorNo, Allowed, Entry, FrameNo, HandleNo, PageNo, ProcNo, Want, Zone};
 use gup_fault::{Denied, answer_of, ready_write, unshare};
 use gup_frames::Frames;
 use gup_handles::Handles;
-use gup_op_base::{Head, page_behind};
+use gup_long::{LongStep, after_count, needs_move};
+use gup_move::{clear, count, place, restore};
+use gup_op_base::{Head, JobPlace, page_behind};
 use gup_plain::{Answer, Cause, Journal, PlainEvent};
 use gup_slow::pin_page;
 use gup_space::Space;
 
-/// One page of a pin of `n` pages from `page` on, of which `far` are taken. The page is made ready and its frame gets the
-/// weight of a pin (Linux's `__get_user_pages`, `mm/gup.c`). The last page's turn makes the handle, and so does the turn of
-/// a page that is refused after others: the pin then has those (this project's own: Linux leaves a short count to its
-/// caller). Where the first page is refused, the pin is. Has-pinned is set before the first page is tried. Answers whether
-/// the operation is over.
+/// A turn of a pin of `n` pages from `page` on, of which `far` are taken, and which stands there. It answers whether the
+/// operation is over, and where it stands then. Has-pinned is set before the first page is tried.
+///
+/// A page is made ready and its frame gets the weight of a pin (Linux's `__get_user_pages`, `mm/gup.c`). The last page's
+/// turn makes the handle, and so does the turn of a page that is refused after others: the pin then has those (this
+/// project's own: Linux leaves a short count to its caller). Where the first page is refused, the pin is.
+///
+/// A page of a long-term pin whose frame is of the movable zone is moved to the normal zone first, in three turns, between
+/// which the actor has the table lock (Linux's `__gup_longterm_locked`, `mm/gup.c`, pins the whole range, then moves and pins
+/// again): its entry is cleared, then its frame is counted, and then it is placed and pinned. The third turn refuses it with
+/// `NoFrame` where no frame of the normal zone is free, and with `Unmovable` where the count isn't 1; the entry is put back.
 #[inline]
 pub fn pin(
     space: &mut Space,
@@ -45,7 +58,63 @@ pub fn pin(
     n: u8,
     want: Want,
     far: u16,
-) -> bool
+    place: JobPlace,
+) -> (bool, JobPlace)
+    requires tidy { IsTidy (frames_of frames.old) (space_of space.old) }
+    requires ready { IsReadyToPin (frames_of frames.old) (page + far) want (place_of place) (space_of space.old) }
+    requires few { (f : ℕ) → (frames_of frames.old).count f < 2 ^ 40 }
+    requires unmade { handles_of handles.old handle ≡ unmade }
+    requires taken { array_vec_len taken.old ≡ far }
+    requires pinned { 0 < far → (space_of space.old).has_pinned ≡ true }
+    requires within { far < n }
+    requires most { n ≤ 16 }
+    requires range { page + n ≤ 2 ^ 35 }
+    requires room { 3 ≤ journal.old.room }
+    ensures { TellsTurn head.now journal.old journal.new result.0
+        (λ said. IsTurnOf (ShowsPinning head.now.actor proc) (StandsAtPage head.now.actor proc handle page n want far)
+        (pinning_view frames.old space.old handles.old taken.old.items (place_of place))
+        (pinning_view frames.new space.new handles.new taken.new.items (place_of result.1))
+        (λ s. pin_turn s head.now.actor proc handle page n want) (whats_of said)) }
+{
+    let here = page_behind(page, far);
+    match place {
+        JobPlace::Cleared { entry, .. } => (false, count_turn(frames, journal, head, here, &entry)),
+        JobPlace::Single { entry, .. } => {
+            let over = place_turn(
+                space, frames, handles, taken, journal, head, proc, handle, here, n, want, far,
+                entry,
+            );
+            (over, JobPlace::Unbegun)
+        }
+        JobPlace::Shared { entry, count, .. } => {
+            restore_turn(
+                space, frames, handles, taken, journal, head, handle, here, n, want, far, entry,
+                count,
+            );
+            (true, JobPlace::Unbegun)
+        }
+        _ => first_turn(
+            space, frames, handles, taken, journal, head, proc, handle, here, n, want, far,
+        ),
+    }
+}
+
+// The turn of a page that is not in the middle of a move: it is made ready, and then pinned, or cleared if it is to be moved
+// first; or it is refused.
+fn first_turn(
+    space: &mut Space,
+    frames: &mut Frames,
+    handles: &mut Handles,
+    taken: &mut ArrayVec<FrameNo, 16>,
+    journal: &mut Journal,
+    head: &Head,
+    proc: ProcNo,
+    handle: HandleNo,
+    page: PageNo,
+    n: u8,
+    want: Want,
+    far: u16,
+) -> (bool, JobPlace)
     requires tidy { IsTidy (frames_of frames.old) (space_of space.old) }
     requires table { (space_of space.old).table ≡ None }
     requires few { (f : ℕ) → (frames_of frames.old).count f < 2 ^ 40 }
@@ -54,52 +123,265 @@ pub fn pin(
     requires pinned { 0 < far → (space_of space.old).has_pinned ≡ true }
     requires within { far < n }
     requires most { n ≤ 16 }
-    requires range { page + n ≤ 2 ^ 35 }
-    requires short { want.long ≡ false }
     requires room { 3 ≤ journal.old.room }
-    ensures { TellsTurn head.now journal.old journal.new result
-        (λ said. IsTurnOf (ShowsPinning head.now.actor proc) (StandsAtPage head.now.actor proc handle page n want far)
-        (pinning_view frames.old space.old handles.old taken.old.items)
-        (pinning_view frames.new space.new handles.new taken.new.items)
-        (λ s. pin_turn s head.now.actor proc handle page n want) (whats_of said)) }
+    ensures { TellsTurn head.now journal.old journal.new result.0
+        (λ said. (first : ℕ) → page ≡ first + far
+        → IsTurnOf (ShowsPinning head.now.actor proc) (StandsAtPage head.now.actor proc handle first n want far)
+        (pinning_view frames.old space.old handles.old taken.old.items unbegun)
+        (pinning_view frames.new space.new handles.new taken.new.items (place_of result.1))
+        (λ s. pin_turn s head.now.actor proc handle first n want) (whats_of said)) }
 {
-    let actor = head.actor;
     raise_flag(space, far);
-    let page = page_behind(page, far);
     match ready(space, frames, page, want) {
         Ok(()) => {
-            taken.push(pin_page(space, frames, page, want));
-            let tried = PlainEvent::PinTry {
-                actor,
-                proc,
-                page,
-                write: want.write,
-            };
-            head.happened(journal, tried);
-            if far + 1 < u16::from(n) {
-                return false;
+            if moves_first(space, frames, page, want) {
+                let entry = clear(space, page);
+                space.set_table(Some(head.actor));
+                head.silent(journal);
+                return (false, JobPlace::Cleared { page, entry });
             }
-            hold(handles, taken, actor, handle, want.write);
-            head.done(
-                journal,
-                PlainEvent::PinOk { actor, handle },
-                Answer::Pinned(n),
+            let over = take_page(
+                space, frames, handles, taken, journal, head, proc, handle, page, n, want, far,
             );
-        }
-        Err(denied) if far == 0 => {
-            head.answered(journal, answer_of(denied));
+            (over, JobPlace::Unbegun)
         }
         Err(denied) => {
-            let answer = Answer::Short {
-                got: far as u8,
-                wanted: n,
-                cause: cause_of(denied),
-            };
-            hold(handles, taken, actor, handle, want.write);
-            head.done(journal, PlainEvent::PinOk { actor, handle }, answer);
+            end_pin(
+                handles,
+                taken,
+                journal,
+                head,
+                handle,
+                n,
+                want,
+                far,
+                answer_of(denied),
+            );
+            (true, JobPlace::Unbegun)
         }
     }
+}
+
+// The count of the frame of a page whose entry was cleared is read.
+fn count_turn(
+    frames: &Frames,
+    journal: &mut Journal,
+    head: &Head,
+    page: PageNo,
+    entry: &Entry,
+) -> JobPlace
+    requires there { IsFrame (frames_of frames.now) entry.now.frame }
+    requires room { 3 ≤ journal.old.room }
+    ensures tells { TellsTurn head.now journal.old journal.new false (λ said. said ≡ silent_said) }
+    ensures place { place_of result
+        ≡ moving_page page entry.now (counted_as ((frames_of frames.now).count entry.now.frame)) }
+{
+    let references = count(frames, *entry);
+    head.silent(journal);
+    match after_count(references) {
+        LongStep::Place => JobPlace::Single {
+            page,
+            entry: *entry,
+        },
+        LongStep::Restore(count) => JobPlace::Shared {
+            page,
+            entry: *entry,
+            count,
+        },
+    }
+}
+
+// After a count of 1 the page is placed in a frame of the normal zone, and pinned; where none is free, the entry is put back
+// and the page refused. The table lock is free again.
+fn place_turn(
+    space: &mut Space,
+    frames: &mut Frames,
+    handles: &mut Handles,
+    taken: &mut ArrayVec<FrameNo, 16>,
+    journal: &mut Journal,
+    head: &Head,
+    proc: ProcNo,
+    handle: HandleNo,
+    page: PageNo,
+    n: u8,
+    want: Want,
+    far: u16,
+    entry: Entry,
+) -> bool
+    requires tidy { IsTidy (frames_of frames.old) (space_of space.old) }
+    requires cleared { IsCleared (frames_of frames.old) page want entry (space_of space.old) }
+    requires unmade { handles_of handles.old handle ≡ unmade }
+    requires taken { array_vec_len taken.old ≡ far }
+    requires within { far < n }
+    requires most { n ≤ 16 }
+    requires room { 3 ≤ journal.old.room }
+    ensures { TellsTurn head.now journal.old journal.new result
+        (λ said. (first : ℕ) → page ≡ first + far
+        → IsTurnOf (ShowsPinning head.now.actor proc) (StandsAtPage head.now.actor proc handle first n want far)
+        (pinning_view frames.old space.old handles.old taken.old.items (moving_page page entry one))
+        (pinning_view frames.new space.new handles.new taken.new.items unbegun)
+        (λ s. pin_turn s head.now.actor proc handle first n want) (whats_of said)) }
+{
+    space.has_room(page);
+    let placed = place(space, frames, page, entry, Allowed::Only(Zone::Normal)).is_ok();
+    space.set_table(None);
+    if placed {
+        return take_page(
+            space, frames, handles, taken, journal, head, proc, handle, page, n, want, far,
+        );
+    }
+    end_pin(
+        handles,
+        taken,
+        journal,
+        head,
+        handle,
+        n,
+        want,
+        far,
+        Answer::NoFrame,
+    );
     true
+}
+
+// After any other count the entry is put back, and the page refused. The table lock is free again.
+fn restore_turn(
+    space: &mut Space,
+    frames: &Frames,
+    handles: &mut Handles,
+    taken: &mut ArrayVec<FrameNo, 16>,
+    journal: &mut Journal,
+    head: &Head,
+    handle: HandleNo,
+    page: PageNo,
+    n: u8,
+    want: Want,
+    far: u16,
+    entry: Entry,
+    count: u64,
+)
+    requires tidy { IsTidy (frames_of frames.now) (space_of space.old) }
+    requires cleared { IsCleared (frames_of frames.now) page want entry (space_of space.old) }
+    requires unmade { handles_of handles.old handle ≡ unmade }
+    requires taken { array_vec_len taken.old ≡ far }
+    requires within { far < n }
+    requires most { n ≤ 16 }
+    requires room { 3 ≤ journal.old.room }
+    ensures { TellsTurn head.now journal.old journal.new true
+        (λ said. (p first : ℕ) → page ≡ first + far
+        → IsTurnOf (ShowsPinning head.now.actor p) (StandsAtPage head.now.actor p handle first n want far)
+        (pinning_view frames.now space.old handles.old taken.old.items (moving_page page entry (more count)))
+        (pinning_view frames.now space.new handles.new taken.new.items unbegun)
+        (λ s. pin_turn s head.now.actor p handle first n want) (whats_of said)) }
+{
+    space.has_room(page);
+    restore(space, page, entry);
+    space.set_table(None);
+    end_pin(
+        handles,
+        taken,
+        journal,
+        head,
+        handle,
+        n,
+        want,
+        far,
+        Answer::Unmovable(count),
+    );
+}
+
+// Pins the page, which is ready. The last one's turn makes the handle.
+fn take_page(
+    space: &mut Space,
+    frames: &mut Frames,
+    handles: &mut Handles,
+    taken: &mut ArrayVec<FrameNo, 16>,
+    journal: &mut Journal,
+    head: &Head,
+    proc: ProcNo,
+    handle: HandleNo,
+    page: PageNo,
+    n: u8,
+    want: Want,
+    far: u16,
+) -> bool
+    requires ready { IsReady (frames_of frames.old) (space_of space.old) page want }
+    requires unmade { handles_of handles.old handle ≡ unmade }
+    requires taken { array_vec_len taken.old ≡ far }
+    requires within { far < n }
+    requires most { n ≤ 16 }
+    requires room { 3 ≤ journal.old.room }
+    ensures tells { TellsTurn head.now journal.old journal.new result
+        (λ said. whats_of said ≡ tried_whats (far + 1 == n) head.now.actor proc handle page n want.write) }
+    ensures taken { IsTaken (frames_of frames.old) (frames_of frames.new) (space_of space.old) (space_of space.new) page
+        (entry_in ((space_of space.old).entry page)).frame }
+    ensures made { IsMade (far + 1 == n) (handles_of handles.old) (handles_of handles.new) taken.old.items taken.new.items
+        head.now.actor handle (entry_in ((space_of space.old).entry page)).frame want.write }
+{
+    let actor = head.actor;
+    taken.push(pin_page(space, frames, page, want));
+    let tried = PlainEvent::PinTry {
+        actor,
+        proc,
+        page,
+        write: want.write,
+    };
+    head.happened(journal, tried);
+    if far + 1 < u16::from(n) {
+        return false;
+    }
+    hold(handles, taken, actor, handle, want.write);
+    head.done(
+        journal,
+        PlainEvent::PinOk { actor, handle },
+        Answer::Pinned(n),
+    );
+    true
+}
+
+// A page is refused: a pin that has pages has those, and one without any is refused.
+fn end_pin(
+    handles: &mut Handles,
+    taken: &mut ArrayVec<FrameNo, 16>,
+    journal: &mut Journal,
+    head: &Head,
+    handle: HandleNo,
+    n: u8,
+    want: Want,
+    far: u16,
+    answer: Answer,
+)
+    requires unmade { handles_of handles.old handle ≡ unmade }
+    requires taken { array_vec_len taken.old ≡ far }
+    requires within { far < n }
+    requires most { n ≤ 16 }
+    requires room { 3 ≤ journal.old.room }
+    ensures tells { TellsTurn head.now journal.old journal.new true
+        (λ said. whats_of said ≡ ended_whats head.now.actor handle n far answer) }
+    ensures ended { IsEnded far (handles_of handles.old) (handles_of handles.new) taken.old.items taken.new.items
+        head.now.actor handle want.write }
+{
+    if far == 0 {
+        head.answered(journal, answer);
+        return;
+    }
+    let actor = head.actor;
+    let short = Answer::Short {
+        got: far as u8,
+        wanted: n,
+        cause: cause_of(answer),
+    };
+    hold(handles, taken, actor, handle, want.write);
+    head.done(journal, PlainEvent::PinOk { actor, handle }, short);
+}
+
+// Whether the page, which is ready, is to be moved before it is pinned.
+fn moves_first(space: &Space, frames: &Frames, page: PageNo, want: Want) -> bool
+    requires ready { IsReady (frames_of frames.now) (space_of space.now) page (want_of want.write) }
+    ensures { result
+        ≡ (want.long && nat_lt (entry_in ((space_of space.now).entry page)).frame (frames_of frames.now).movable) }
+{
+    want.long && needs_move(space, frames, page)
 }
 
 // Before the first page is tried the process has pinned.
@@ -116,10 +398,9 @@ fn ready(space: &mut Space, frames: &mut Frames, page: PageNo, want: Want) -> Re
     requires tidy { IsTidy (frames_of frames.old) (space_of space.old) }
     requires table { (space_of space.old).table ≡ None }
     requires few { (f : ℕ) → (frames_of frames.old).count f < 2 ^ 40 }
-    requires short { want.long ≡ false }
     ensures fault { IsFault (change_of frames.old frames.new space.old space.new) (denial_of result)
         (λ a p. fault_to_pin (frames_of frames.old) (space_of space.old) a p page want.write (zones want)) }
-    ensures ready { OnOk result (IsReady (frames_of frames.new) (space_of space.new) page want) }
+    ensures ready { OnOk result (IsReady (frames_of frames.new) (space_of space.new) page (want_of want.write)) }
 {
     let allowed = zones_of(want);
     if want.write {
@@ -197,12 +478,13 @@ fn hold(
 }
 
 // Why a page ended a short pin.
-fn cause_of(denied: Denied) -> Cause
-    ensures { result ≡ cause (answered denied) }
+fn cause_of(answer: Answer) -> Cause
+    ensures { result ≡ cause answer }
 {
-    match denied {
-        Denied::Missing => Cause::Missing,
-        Denied::Forbidden => Cause::Forbidden,
-        Denied::NoFrame => Cause::NoFrame,
+    match answer {
+        Answer::Forbidden => Cause::Forbidden,
+        Answer::NoFrame => Cause::NoFrame,
+        Answer::Unmovable(count) => Cause::Unmovable(count),
+        _ => Cause::Missing,
     }
 }

@@ -13,7 +13,7 @@ use Rattle.gup_space.specs.Space.{SpaceValue, SpaceParts, space_of, no_space}
 use Rattle.gup_space.specs.Shows.{ShowsFrames, ShowsSpace}
 use Rattle.gup_spec_turns.specs.Run.{run_start}
 use Rattle.gup_law_turns.proofs.ScriptLemmas.{all_at}
-use Rattle.gup_op_pins.specs.Pins.{ShowsPins}
+use Rattle.gup_handles.specs.Shows.{ShowsHandles}
 use Rattle.gup_op_pins.specs.Held.{ShowsStore, slots_in as kept_slots}
 use Rattle.gup_op_waits.specs.declared.births.Birth.{Birth}
 use Rattle.gup_op_waits.specs.declared.births.Birth.TheVariants.{Unborn, Born}
@@ -74,7 +74,7 @@ parts_shown script parts none spaces many births handles taken stores =
           subst (λ (S : SpaceValue). ShowsSpace p S (run_start script).core) (sym (all_at (λ (s : SpaceParts). space_of s ≡ no_space) parts.spaces.items p space spaces here))
           (record { right = λ g. refl; pages = refl; entry = λ g. refl; sequence = refl; has_pinned = refl; structure = refl; table = refl });
       births = λ p birth here. first_birth (starts_born script p) birth (birth_found script parts.births.items p birth many births here);
-      pins = subst (λ (H : HandlesValue). ShowsPins H (run_start script).core) (sym handles) (λ h. refl);
+      pins = subst (λ (H : HandlesValue). ShowsHandles H (run_start script).core) (sym handles) (λ h. (refl, refl));
       taken = λ a pages here. no_pages pages.items (all_at (λ (x : ArrayVec ℕ). length x.items ≡ 0) parts.taken.items a pages taken here);
       stores = λ a store here. empty_shown a (doer script a).slots store (run_start script).core (λ slot. refl) (stores a store here);
     }

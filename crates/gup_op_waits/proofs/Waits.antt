@@ -1,34 +1,42 @@
 -- What an actor waits for is what the state says.
 use Rattle.std.proofs.Common.{◌≡◌, ℕ, ◌+◌, ◌-◌, ◌==◌, Bool, true, false, not, cond, Option, Some, None, is_some, is_none, List, zero, suc, refl, sym, ap, ◌∙◌, eqb-true}
+use Rattle.gup_base.specs.declared.entry.Zone.{Zone}
 use Rattle.gup_plain.specs.Event.{page_numbers}
 use Rattle.gup_plain.specs.Put.{lowest}
 use Rattle.gup_plain.specs.State.{Birth, Handle, unborn, growing, born, failed}
 use Rattle.gup_plain.specs.declared.note.Waiting.{Waiting}
 use Rattle.gup_plain.specs.declared.note.Waiting.TheVariants as waitings
 use Rattle.gup_script.specs.declared.op.Op.{Op}
-use Rattle.gup_script.specs.declared.op.Op.TheVariants.{Load, Store, Take, Fork}
+use Rattle.gup_script.specs.declared.op.Op.TheVariants.{Load, Store, Take, Move, Fork}
 use Rattle.gup_space.specs.Space.{SpaceValue}
 use Rattle.gup_space.specs.Shows.{ShowsSpace}
-use Rattle.gup_spec_events.specs.State.{CoreState, Job, idle, forking, between, counted, copying}
-use Rattle.gup_spec_turns.specs.Waits.{both_if, fork_locks, locks_needed, held_by_other, first_waiting, waits_for_locks, waits_born, waiting_for}
+use Rattle.gup_spec_events.specs.State.{CoreState, Job, idle, moving, forking, between, counted, copying}
+use Rattle.gup_spec_turns.specs.Waits.{both_if, fork_locks, move_locks, locks_needed, held_by_other, first_waiting, waits_for_locks, waits_born, waiting_for}
 use Rattle.gup_spec_turns.proofs.TurnParts.{waits_at}
 use Rattle.gup_spec_turns.specs.ForkTurns.{first_behind}
 use Rattle.gup_spec_turns.specs.CoreTurn.{allows_store}
-use Rattle.gup_spec_turns.specs.JobPlace.{JobPlace, job_place, place_in, IsNoFork, StandsFork}
+use Rattle.gup_spec_turns.specs.JobPlace.{JobPlace, job_place, place_in, StandsFork, StandsMove}
 use Rattle.gup_handles.specs.Handles.{HandleValue, IsGivenTo as IsKeptFor}
 use Rattle.gup_handles.specs.Handles as kept
 use Rattle.gup_spec_journal.specs.Order.{is_given_to, taking_waits, handle_waits}
 use Rattle.gup_spec_journal.specs.Place.{Doer, birth_by}
-use Rattle.gup_op_pins.specs.Pins.{IsPin}
+use Rattle.gup_handles.specs.Shows.{IsShown}
 use Rattle.gup_op_base.specs.Tidy.{needs_table}
-use Rattle.gup_op_waits.specs.Locks.{fork_needs, child_in}
+use Rattle.gup_op_waits.specs.Locks.{fork_needs, move_needs, child_in}
 use Rattle.gup_op_waits.specs.Stands.{StandsAt}
 
 -- ---- which operations are forks
 
-pub single : (op : Op) → child_in op ≡ None → IsNoFork (Some op)
-single (Fork child) none = absurd (cc)
-single op none = tt
+-- no fork and no move
+abbrev pub IsSingle : Op → Type 0
+IsSingle (Move q page zone) = ⊥
+IsSingle (Fork child) = ⊥
+IsSingle op = Unit {0}
+
+pub single : (op : Op) → child_in op ≡ None → ((q page : ℕ) (zone : Zone) → op ≡ Move q page zone → ⊥) → IsSingle op
+single (Move q page zone) none other = other q page zone refl
+single (Fork child) none other = absurd (cc)
+single op none other = tt
 
 pub forks_into : (op : Op) (child : ℕ) → child_in op ≡ Some child → op ≡ Fork child
 forks_into (Fork c) child is = cc
@@ -42,9 +50,10 @@ lowest_same first (suc n) test other same =
     ap (λ b. cond b (Some first) (lowest (first + 1) n test)) (same first)
     ∙ ap (λ rest. cond (other first) (Some first) rest) (lowest_same (first + 1) n test other same)
 
-pub single_needs : (S : SpaceValue) (s : CoreState) (a p : ℕ) (op : Op) → ShowsSpace p S s → IsNoFork (Some op) → both_if (needs_table S op) ≡ locks_needed s a p op
+pub single_needs : (S : SpaceValue) (s : CoreState) (a p : ℕ) (op : Op) → ShowsSpace p S s → IsSingle op → both_if (needs_table S op) ≡ locks_needed s a p op
 single_needs S s a p (Load page word) space none = ap (λ o. both_if (is_none o)) (sym (space.entry page))
 single_needs S s a p (Store page word value) space none = ap (λ o. both_if (not (allows_store o))) (sym (space.entry page))
+single_needs S s a p (Move q page zone) space none = absurd none
 single_needs S s a p (Fork child) space none = absurd none
 single_needs S s a p op space none = refl
 
@@ -106,33 +115,43 @@ pub forked_needs : (S : SpaceValue) (s : CoreState) (a p child far : ℕ) (place
 forked_needs S s a p child far place op same space is at =
     fork_needs_by S s a p child place space is (at.fork child same) ∙ ap (λ (x : Op). locks_needed s a p x) (sym same)
 
+-- a move's, by where it stands
+pub moved_needs : (s : CoreState) (a p far q page : ℕ) (zone : Zone) (place : JobPlace) (op : Op) → op ≡ Move q page zone → place ≡ place_in s a → StandsAt s a p far op → move_needs place ≡ locks_needed s a p op
+moved_needs s a p far q page zone place op same is at =
+    ap move_needs is ∙ go (s.job a) (s.prepared a) (at.move q page zone same) ∙ ap (λ (x : Op). locks_needed s a p x) (sym same)
+  where
+    go : (job : Job) (prepared : Option ℕ) → StandsMove s a p page zone job → move_needs (job_place job prepared) ≡ move_locks job
+    go idle prepared h = refl
+    go (moving r g e allowed count) prepared h = refl
+    go job prepared h = absurd h
+
 -- ---- a process that isn't born
 
 abbrev pub at_birth : CoreState → Doer → Op → Birth → Option Waiting
 at_birth s who op birth = waits_at birth who.proc (waits_born s who.actor who.proc op)
 
 -- the birth that a thread waits for
-pub thread_waits : (s : CoreState) (who : Doer) (op : Op) (p : ℕ) (b : Birth) → who.thread ≡ true → who.proc ≡ p → s.birth p ≡ b → waiting_for s who op ≡ at_birth s who op b
+pub thread_waits : (s : CoreState) (who : Doer) (op : Op) (p : ℕ) (b : Birth) → who.of_process ≡ true → who.proc ≡ p → s.birth p ≡ b → waiting_for s who op ≡ at_birth s who op b
 thread_waits s who op p b thread own is =
     ap (λ (t : Bool). at_birth s who op (birth_by t (s.birth who.proc))) thread
     ∙ ap (λ (q : ℕ). at_birth s who op (s.birth q)) own
     ∙ ap (λ (x : Birth). at_birth s who op x) is
 
-pub unborn_waits : (s : CoreState) (who : Doer) (op : Op) (p : ℕ) → who.thread ≡ true → who.proc ≡ p → s.birth p ≡ unborn → Some (waitings.Process p) ≡ waiting_for s who op
+pub unborn_waits : (s : CoreState) (who : Doer) (op : Op) (p : ℕ) → who.of_process ≡ true → who.proc ≡ p → s.birth p ≡ unborn → Some (waitings.Process p) ≡ waiting_for s who op
 unborn_waits s who op p thread own is = ap (λ (q : ℕ). Some (waitings.Process q)) (sym own) ∙ sym (thread_waits s who op p unborn thread own is)
 
-pub growing_waits : (s : CoreState) (who : Doer) (op : Op) (p parent : ℕ) → who.thread ≡ true → who.proc ≡ p → s.birth p ≡ growing parent → Some (waitings.Process p) ≡ waiting_for s who op
+pub growing_waits : (s : CoreState) (who : Doer) (op : Op) (p parent : ℕ) → who.of_process ≡ true → who.proc ≡ p → s.birth p ≡ growing parent → Some (waitings.Process p) ≡ waiting_for s who op
 growing_waits s who op p parent thread own is = ap (λ (q : ℕ). Some (waitings.Process q)) (sym own) ∙ sym (thread_waits s who op p (growing parent) thread own is)
 
-pub born_waits : (s : CoreState) (who : Doer) (op : Op) (p : ℕ) → who.thread ≡ true → who.proc ≡ p → s.birth p ≡ born → waits_born s who.actor who.proc op ≡ waiting_for s who op
+pub born_waits : (s : CoreState) (who : Doer) (op : Op) (p : ℕ) → who.of_process ≡ true → who.proc ≡ p → s.birth p ≡ born → waits_born s who.actor who.proc op ≡ waiting_for s who op
 born_waits s who op p thread own is = sym (thread_waits s who op p born thread own is)
 
 -- a thread of a failed process waits for nothing
-pub failed_waits : (s : CoreState) (who : Doer) (op : Op) (p : ℕ) → who.thread ≡ true → who.proc ≡ p → s.birth p ≡ failed → None ≡ waiting_for s who op
+pub failed_waits : (s : CoreState) (who : Doer) (op : Op) (p : ℕ) → who.of_process ≡ true → who.proc ≡ p → s.birth p ≡ failed → None ≡ waiting_for s who op
 failed_waits s who op p thread own is = sym (thread_waits s who op p failed thread own is)
 
 -- whoever is no thread waits for none
-pub other_waits : (s : CoreState) (who : Doer) (op : Op) → who.thread ≡ false → waits_born s who.actor who.proc op ≡ waiting_for s who op
+pub other_waits : (s : CoreState) (who : Doer) (op : Op) → who.of_process ≡ false → waits_born s who.actor who.proc op ≡ waiting_for s who op
 other_waits s who op other = sym (ap (λ (t : Bool). at_birth s who op (birth_by t (s.birth who.proc))) other)
 
 -- ---- pins that are given, and locks
@@ -155,9 +174,9 @@ lock_waits s a p op other =
     ap (λ w. first_waiting w (waits_for_locks (locks_needed s a p op) a (s.structure p) (s.table p))) (no_pin s.handle a op other)
 
 -- the machine has it so where a pin is given to the actor
-pub keeps_given : (K : HandleValue) (handle : Handle) (pinned : List ℕ) (a : ℕ) → IsPin K handle pinned → is_given_to handle a ≡ true → IsKeptFor K a
-keeps_given kept.unmade handle pinned a is given_so = absurd (let none : false ≡ true = ap (λ (h : Handle). is_given_to h a) (sym is) ∙ given_so in cc)
-keeps_given (kept.held by frames write) handle pinned a is given_so = absurd (let none : false ≡ true = ap (λ (h : Handle). is_given_to h a) (sym is.0.1) ∙ given_so in cc)
-keeps_given (kept.given to frames write) handle pinned a is given_so = eqb-true to a (ap (λ (h : Handle). is_given_to h a) (sym is.0.1) ∙ given_so)
-keeps_given (kept.got by frame) handle pinned a is given_so = absurd is
-keeps_given kept.gone handle pinned a is given_so = absurd (let none : false ≡ true = ap (λ (h : Handle). is_given_to h a) (sym is) ∙ given_so in cc)
+pub keeps_given : (K : HandleValue) (handle : Handle) (pinned : List ℕ) (reference : Option (ℕ × ℕ)) (a : ℕ) → IsShown K handle pinned reference → is_given_to handle a ≡ true → IsKeptFor K a
+keeps_given kept.unmade handle pinned reference a is given_so = absurd (let none : false ≡ true = ap (λ (h : Handle). is_given_to h a) (sym is.0) ∙ given_so in cc)
+keeps_given (kept.held by frames write) handle pinned reference a is given_so = absurd (let none : false ≡ true = ap (λ (h : Handle). is_given_to h a) (sym is.0.1) ∙ given_so in cc)
+keeps_given (kept.given to frames write) handle pinned reference a is given_so = eqb-true to a (ap (λ (h : Handle). is_given_to h a) (sym is.0.1) ∙ given_so)
+keeps_given (kept.got by frame) handle pinned reference a is given_so = absurd (let none : false ≡ true = ap (λ (h : Handle). is_given_to h a) (sym is.0) ∙ given_so in cc)
+keeps_given kept.gone handle pinned reference a is given_so = absurd (let none : false ≡ true = ap (λ (h : Handle). is_given_to h a) (sym is.0) ∙ given_so in cc)

@@ -11,7 +11,7 @@ HasProcess (Take handle) = ⊥
 HasProcess (Transfer handle outward slot parts) = ⊥
 HasProcess op = Unit {0}
 
--- the process of whoever is a thread
+-- the process of whoever is a thread or moves a page
 abbrev pub IsProcessOf : Doer → Option ℕ → Type 0
-IsProcessOf who (Some p) = (who.thread ≡ true) × (who.proc ≡ p)
-IsProcessOf who None = who.thread ≡ false
+IsProcessOf who (Some p) = (who.of_process ≡ true) × (who.proc ≡ p)
+IsProcessOf who None = who.of_process ≡ false

@@ -20,6 +20,11 @@ fork_needs right (from_page page) =
     record { structure = false; table = is_some (lowest page (page_numbers - page) (λ g. is_some (right g))) }
 fork_needs right other = no_lock
 
+-- the table lock alone at the beginning of a move
+abbrev pub move_needs : JobPlace → Locks
+move_needs unbegun = record { structure = false; table = true }
+move_needs other = no_lock
+
 -- the child that the operation brings, if it is a fork
 abbrev pub child_in : Op → Option ℕ
 child_in (Fork child) = Some child

@@ -10,7 +10,7 @@ use Rattle.gup_space.specs.Shows.{ShowsFrames, ShowsSpace}
 use Rattle.gup_handles.specs.Handles.{handles_of}
 use Rattle.gup_spec_events.specs.State.{CoreState}
 use Rattle.gup_spec_events.specs.Event.{taken_frames as frames_taken}
-use Rattle.gup_op_pins.specs.Pins.{ShowsPins}
+use Rattle.gup_handles.specs.Shows.{ShowsHandles}
 use Rattle.gup_op_pins.specs.Held.{ShowsStore, slots_in}
 use Rattle.gup_op_waits.specs.declared.births.Birth.{Birth as KeptBirth}
 use Rattle.gup_op_waits.specs.declared.births.Birth.TheVariants.{Unborn, Growing, Born, Failed}
@@ -49,7 +49,7 @@ pub record ShowsParts (parts : Parts) (s : CoreState) : Type 0 where
   pub frames : ShowsFrames (frames_of parts.frames) s
   pub spaces : ShowsSpaces parts.spaces.items s
   pub births : ShowsBirths parts.births.items s
-  pub pins : ShowsPins (handles_of parts.handles) s
+  pub pins : ShowsHandles (handles_of parts.handles) s
   pub taken : ShowsTaken parts.taken.items s
   pub stores : ShowsStores parts.stores.items s
 

@@ -1,21 +1,23 @@
 -- Where an actor stands before a turn of its operation.
-use Rattle.std.specs.Prelude.{◌≡◌, ℕ, ◌<◌, Bool, true, List, Some}
+use Rattle.std.specs.Prelude.{◌≡◌, ℕ, ◌<◌, Bool, true, List, length, Some}
 use Rattle.gup_base.specs.Parts.{Part}
 use Rattle.gup_base.specs.declared.entry.Want.{Want}
+use Rattle.gup_base.specs.declared.entry.Zone.{Zone}
 use Rattle.gup_script.specs.declared.op.Op.{Op}
-use Rattle.gup_script.specs.declared.op.Op.TheVariants.{Pin, Transfer, Fork}
+use Rattle.gup_script.specs.declared.op.Op.TheVariants.{Pin, Transfer, Move, Fork}
 use Rattle.gup_spec_events.specs.State.{CoreState, idle}
-use Rattle.gup_spec_turns.specs.JobPlace.{IsNoFork, KeepsFrame, StandsFork}
+use Rattle.gup_spec_turns.specs.JobPlace.{KeepsNoJob, KeepsFrame, StandsFork, StandsMove}
 use Rattle.gup_spec_turns.specs.PinPlace.{StandsPin}
 use Rattle.gup_op_devices.specs.Transfers.{IsWhole}
 
 -- The actor of process p stands before a turn of this operation, of which so many turns are over: it is in the middle of
--- nothing but, where the operation is one, a fork; a pin has taken its first pages, a pin that is taken is given to it, and
--- one whose words it moves has all its pages.
+-- nothing but, where the operation is one, a fork, a move or a long pin; a pin has taken its first pages, a pin that is taken is given
+-- to it, and one whose words it moves has all its pages.
 pub record StandsAt (s : CoreState) (a p far : ℕ) (op : Op) : Type 0 where
-  pub idle_job : IsNoFork (Some op) → s.job a ≡ idle
+  pub idle_job : KeepsNoJob (Some op) → s.job a ≡ idle
   pub keeps : KeepsFrame (s.job a) (s.prepared a)
   pub fork : (child : ℕ) → op ≡ Fork child → StandsFork s a p child (s.job a) (s.prepared a)
-  pub pin : (handle page n : ℕ) (want : Want) (fast : Bool) → op ≡ Pin handle page n want fast → StandsPin s a p handle page n want far
-  pub pinned : (handle page n : ℕ) (want : Want) (fast : Bool) → op ≡ Pin handle page n want fast → 0 < far → s.has_pinned p ≡ true
+  pub move : (q page : ℕ) (zone : Zone) → op ≡ Move q page zone → StandsMove s a p page zone (s.job a)
+  pub pin : (handle page n : ℕ) (want : Want) (fast : Bool) → op ≡ Pin handle page n want fast → StandsPin s a p handle page n want (length (s.taken a))
+  pub pinned : (handle page n : ℕ) (want : Want) (fast : Bool) → op ≡ Pin handle page n want fast → 0 < length (s.taken a) → s.has_pinned p ≡ true
   pub whole : (handle slot : ℕ) (outward : Bool) (parts : List Part) → op ≡ Transfer handle outward slot parts → IsWhole s a handle

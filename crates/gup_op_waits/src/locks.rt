@@ -8,9 +8,9 @@ ghost use Rattle.gup_spec_turns.specs.Waits.{waits_for_locks as locks_waited};
 ghost use Rattle.gup_spec_turns.specs.Waits.{both_if, held_by_other as other_holding, locks_needed as needed, waiting_for};
 ghost use Rattle.gup_spec_turns.specs.JobPlace.{place_in};
 ghost use Rattle.gup_op_base.specs.Jobs.{place_of};
-ghost use Rattle.gup_op_pins.specs.Pins.{ShowsPins};
+ghost use Rattle.gup_handles.specs.Shows.{ShowsHandles};
 ghost use Rattle.gup_op_base.specs.Tidy.{AreNumbered};
-ghost use Rattle.gup_op_waits.specs.Locks.{locks_of, fork_needs, child_in, waiting_if};
+ghost use Rattle.gup_op_waits.specs.Locks.{locks_of, fork_needs, move_needs, child_in, waiting_if};
 ghost use Rattle.gup_spec_journal.specs.Place.{Doer};
 ghost use Rattle.gup_spec_journal.specs.Order.{is_given_to, taking_waits};
 ghost use Rattle.gup_op_waits.specs.Doers.{HasProcess, IsProcessOf};
@@ -35,7 +35,7 @@ pub struct Locks {
     pub table: bool,
 }
 
-/// What the actor waits for before its next turn, if it waits: first that its process is born, if it is a thread, then
+/// What the actor waits for before its next turn, if it waits: first that its process is born, if it is of one, then
 /// that the pin is given to it which it is to take, then for the holder of the structure lock, then for that of the table
 /// lock. A thread of a failed process waits for nothing.
 #[inline(always)]
@@ -71,7 +71,7 @@ pub fn waits_for(
 
 // The actor waits until the pin is given to it.
 fn waits_for_pin(handles: &Handles, actor: ActorNo, handle: HandleNo) -> Option<Waiting>
-    ensures { (s : CoreState) → ShowsPins (handles_of handles.now) s
+    ensures { (s : CoreState) → ShowsHandles (handles_of handles.now) s
         → result ≡ taking_waits (is_given_to (s.handle handle) actor) handle }
 {
     if handles.given(handle, actor) {
@@ -141,6 +141,9 @@ fn locks_needed(spaces: &Vec<Space>, proc: ProcNo, place: JobPlace, op: &Op) -> 
     if let Some(child) = child_of(op) {
         return fork_locks(space_at(spaces, child), place);
     }
+    if let Op::Move { .. } = op {
+        return move_locks(place);
+    }
     both(needs_table(space_at(spaces, proc), op))
 }
 
@@ -155,7 +158,17 @@ fn fork_locks(child: &Space, place: JobPlace) -> Locks
             structure: false,
             table: next_page(child, from).is_some(),
         },
-        JobPlace::At(_) | JobPlace::Wanting(_) | JobPlace::Copying { .. } => both(false),
+        _ => both(false),
+    }
+}
+
+// A move needs the table lock at its beginning, and has it from then on.
+fn move_locks(place: JobPlace) -> Locks
+    ensures { locks_of result ≡ move_needs (place_of place) }
+{
+    Locks {
+        structure: false,
+        table: matches!(place, JobPlace::Unbegun),
     }
 }
 

@@ -2,19 +2,19 @@
 use Rattle.std.proofs.Common.{◌≡◌, ℕ, ◌<◌, false, List, [], ◌∷◌, Option, Some, unwrap_or, Result, Ok, Err, refl, sym, ap, subst, ◌∙◌, lit<}
 use Rattle.std.specs.Prelude.{nat_lt}
 use Rattle.std.proofs.lemmas.Bool.Decides.{Decides-ltb}
-use Rattle.gup_read_words.proofs.SpelledNumbers.{number_read, index_read, count_read}
+use Rattle.gup_read_words.proofs.SpelledNumbers.{number_read, page_read, index_read, count_read}
 use Rattle.gup_read_words.proofs.SpelledPlaces.{address_read, range_read}
-use Rattle.gup_read_words.specs.Text.{address_in, range_in, index_in, count_in}
+use Rattle.gup_read_words.specs.Text.{page_in, address_in, range_in, index_in, count_in}
 use Rattle.gup_script.specs.declared.op.Op.{Op}
 use Rattle.gup_spec_grammar.specs.declared.fault.Reason.{Reason}
 use Rattle.gup_spec_grammar.specs.declared.fault.Reason.TheVariants as reasons
-use Rattle.gup_spec_grammar.specs.Spelling.{IsRange, IsAddress, IsIndex, IsCount}
-use Rattle.gup_spec_grammar.specs.Said.{Word, Action, maps, unmaps, protects, discards, loads, stores, exits, pins, forks, unpins, takes, gives, transfers, write_word, action_words, IsShaped}
+use Rattle.gup_spec_grammar.specs.Spelling.{IsRange, IsPage, IsAddress, IsIndex, IsCount}
+use Rattle.gup_spec_grammar.specs.Said.{Word, Action, maps, unmaps, protects, discards, loads, stores, exits, pins, gets, puts, forks, unpins, takes, gives, transfers, write_word, action_words, IsShaped, moves, long_words}
 use Rattle.gup_spec_grammar.specs.Outline.{Outline, with_operation}
 use Rattle.gup_script.specs.Limits.{most_operations, most_pinned, most_words}
-use Rattle.gup_spec_grammar.specs.Grammar.{ActionNumbers, ActionNames, ActionOnce, ActionLimits, NamesPin, NamesActor, Means, IsBuilt, with_declared, Does}
+use Rattle.gup_spec_grammar.specs.Grammar.{ActionNumbers, ActionNames, ActionOnce, ActionLimits, NamesPin, NamesGot, NamesActor, Means, IsBuilt, with_declared, Does}
 use Rattle.gup_spec_grammar.specs.Fault.{ActionFault}
-use Rattle.gup_read.specs.Reading.{◌>>=◌, check, need, with_pinned}
+use Rattle.gup_read.specs.Reading.{◌>>=◌, check, need, with_made}
 use Rattle.gup_read.proofs.Chains.{Tried, stops, goes, checked, both, carried, tried_ok, tried_err, tried_pass, tried_stop}
 use Rattle.gup_read.proofs.Judged.{Ends, built, later, Judged}
 
@@ -46,6 +46,12 @@ one_count word m n h g =
 one_pin : (st : Outline) (word : Word) (m n : ℕ) → NamesPin st word m → NamesPin st word n → m ≡ n
 one_pin st word m n h g = cc
 
+one_got : (st : Outline) (word : Word) (m n : ℕ) → NamesGot st word m → NamesGot st word n → m ≡ n
+one_got st word m n h g = cc
+
+one_page : (word : Word) (m n : ℕ) → IsPage word m → IsPage word n → m ≡ n
+one_page word m n h g = one_number (page_in word) m n (page_read word m h) (page_read word n g)
+
 one_actor : (st : Outline) (word : Word) (m n : ℕ) → NamesActor st word m → NamesActor st word n → m ≡ n
 one_actor st word m n h g = cc
 
@@ -59,9 +65,12 @@ means_one st (stores address value) x y h g =
     let same = one_address address h.0 h.1 g.0 g.1 h.3 g.3 in
     cc (h.5, g.5, number_read value h.2 h.4, number_read value g.2 g.4)
 means_one st exits x y h g = h ∙ sym g
-means_one st (pins false handle first count write false) x y h g =
+means_one st (pins false handle first count write long) x y h g =
     let same = one_range most_pinned first count h.0 h.1 g.0 g.1 h.2 g.2 in cc (h.3, g.3)
+means_one st (gets handle page) x y h g = let same = one_page page h.0 g.0 h.1 g.1 in cc (h.2, g.2)
+means_one st (puts handle) x y h g = let same = one_got st handle h.0 g.0 h.1 g.1 in cc (h.2, g.2)
 means_one st (forks child) x y h g = cc (h.1, h.2, g.1, g.2)
+means_one st (moves process page zone) x y h g = let same = one_page page h.1 g.1 h.3 g.3 in cc (h.2, h.4, g.2, g.4)
 means_one st (unpins handle) x y h g = let same = one_pin st handle h.0 g.0 h.1 g.1 in cc (h.2, g.2)
 means_one st (takes handle) x y h g = let same = one_pin st handle h.0 g.0 h.1 g.1 in cc (h.2, g.2)
 means_one st (gives handle to) x y h g =
@@ -83,23 +92,28 @@ behind_first [] = []
 behind_first (word ∷ words) = words
 
 -- the name of its handle is the first word after the operation's own
-pub pinned_declared : (st : Outline) (action : Action) (op : Op) (word : Word) (fields : List Word) → Means st action op → word ∷ fields ≡ action_words action → with_pinned op fields st ≡ with_declared action st
-pinned_declared st (maps first count rights) op word fields m same = rw m.3 refl
-pinned_declared st (unmaps first count) op word fields m same = rw m.3 refl
-pinned_declared st (protects first count rights) op word fields m same = rw m.3 refl
-pinned_declared st (discards first count) op word fields m same = rw m.3 refl
-pinned_declared st (loads address) op word fields m same = rw m.3 refl
-pinned_declared st (stores address value) op word fields m same = rw m.5 refl
-pinned_declared st exits op word fields m same = rw m refl
-pinned_declared st (pins false handle first count write false) op word fields m same =
-    let behind : fields ≡ handle ∷ first ∷ count ∷ write_word write ∷ [] = ap behind_first same in
+pub made_declared : (st : Outline) (action : Action) (op : Op) (word : Word) (fields : List Word) → Means st action op → word ∷ fields ≡ action_words action → with_made op fields st ≡ with_declared action st
+made_declared st (maps first count rights) op word fields m same = rw m.3 refl
+made_declared st (unmaps first count) op word fields m same = rw m.3 refl
+made_declared st (protects first count rights) op word fields m same = rw m.3 refl
+made_declared st (discards first count) op word fields m same = rw m.3 refl
+made_declared st (loads address) op word fields m same = rw m.3 refl
+made_declared st (stores address value) op word fields m same = rw m.5 refl
+made_declared st exits op word fields m same = rw m refl
+made_declared st (pins false handle first count write long) op word fields m same =
+    let behind : fields ≡ handle ∷ first ∷ count ∷ write_word write ∷ long_words long = ap behind_first same in
     rw (m.3, behind) refl
-pinned_declared st (forks child) op word fields m same = rw m.2 refl
-pinned_declared st (unpins handle) op word fields m same = rw m.2 refl
-pinned_declared st (takes handle) op word fields m same = rw m.2 refl
-pinned_declared st (gives handle to) op word fields m same = rw m.4 refl
-pinned_declared st (transfers outward handle index slot count) op word fields m same = rw m.8 refl
-pinned_declared st _ op word fields m same = absurd m
+made_declared st (gets handle page) op word fields m same =
+    let behind : fields ≡ handle ∷ page ∷ [] = ap behind_first same in
+    rw (m.2, behind) refl
+made_declared st (puts handle) op word fields m same = rw m.2 refl
+made_declared st (forks child) op word fields m same = rw m.2 refl
+made_declared st (moves process page zone) op word fields m same = rw m.4 refl
+made_declared st (unpins handle) op word fields m same = rw m.2 refl
+made_declared st (takes handle) op word fields m same = rw m.2 refl
+made_declared st (gives handle to) op word fields m same = rw m.4 refl
+made_declared st (transfers outward handle index slot count) op word fields m same = rw m.8 refl
+made_declared st _ op word fields m same = absurd m
 
 -- ---- an action of an actor, with all its tests
 
@@ -119,12 +133,12 @@ Acts st a action =
 -- what is left to do once the words are judged
 abbrev pub placed : Outline → (actor : ℕ) → (fields : List Word) → Option Op → Result Outline Reason
 placed st a fields op =
-    check reasons.Limit (nat_lt st.operations most_operations) >>= λ _. need reasons.Later op >>= λ o. Ok (with_operation a o (with_pinned o fields st))
+    check reasons.Limit (nat_lt st.operations most_operations) >>= λ _. need reasons.Later op >>= λ o. Ok (with_operation a o (with_made o fields st))
 
 ended : (st : Outline) (a : ℕ) (action : Action) (word : Word) (fields : List Word) (result : Result (Option Op) Reason) → word ∷ fields ≡ action_words action → Ends st action result → Tried reasons.Limit (st.operations < most_operations) (Tried reasons.Later (IsBuilt action) (Done st a action)) (result >>= placed st a fields)
 ended st a action word fields result same (built op given now means) =
     subst (λ (r : Result (Option Op) Reason). Tried reasons.Limit (st.operations < most_operations) (Tried reasons.Later (IsBuilt action) (Done st a action)) (r >>= placed st a fields)) (sym given)
-    (checked _ (Decides-ltb st.operations most_operations) (λ l. goes now (op, means, ap (λ (next : Outline). Ok (with_operation a op next)) (pinned_declared st action op word fields means same))))
+    (checked _ (Decides-ltb st.operations most_operations) (λ l. goes now (op, means, ap (λ (next : Outline). Ok (with_operation a op next)) (made_declared st action op word fields means same))))
 ended st a action word fields result same (later given unbuilt) =
     subst (λ (r : Result (Option Op) Reason). Tried reasons.Limit (st.operations < most_operations) (Tried reasons.Later (IsBuilt action) (Done st a action)) (r >>= placed st a fields)) (sym given)
     (checked _ (Decides-ltb st.operations most_operations) (λ l. stops refl unbuilt))

@@ -7,7 +7,7 @@ use Rattle.gup_base.specs.declared.entry.Rights.TheVariants.{R, RW}
 use Rattle.gup_base.specs.declared.entry.Zone.{Zone}
 use Rattle.gup_base.specs.declared.entry.Zone.TheVariants.{Movable, Normal}
 use Rattle.gup_spec_grammar.specs.Said.{Word, Action, maps, unmaps, protects, discards, loads, stores, exits, pins, gets, puts, forks, unpins, takes, gives, transfers, transfers_parts, mirrors, looks, moves, action_words}
-use Rattle.gup_read.specs.Reading.{rights_in, way_in}
+use Rattle.gup_read.specs.Reading.{zone_in, rights_in, way_in}
 
 -- ---- the words after the operation's own, by how many there are
 
@@ -43,9 +43,6 @@ said_with say (Some x) = Some (say x)
 abbrev pub said_range : (Word → Word → Rights → Action) → List Word → Option Action
 said_range say (first ∷ count ∷ allowed ∷ []) = said_with (say first count) (rights_in allowed)
 said_range say _ = None
-
-abbrev pub zone_in : Word → Option Zone
-zone_in word = cond (bytes_eq word (codes "normal")) (Some Normal) (cond (bytes_eq word (codes "movable")) (Some Movable) None)
 
 abbrev pub said_move : List Word → Option Action
 said_move (process ∷ page ∷ zone ∷ []) = said_with (moves process page) (zone_in zone)

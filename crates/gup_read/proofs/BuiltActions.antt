@@ -1,18 +1,22 @@
 -- What the words of the operations that are built come to, but for those of handles.
+use Rattle.gup_base.specs.declared.entry.Zone.{Zone}
+use Rattle.gup_base.specs.declared.entry.Zone.TheVariants.{Movable, Normal}
 use Rattle.std.proofs.Common.{◌≡◌, ℕ, Bool, true, false, cond, List, [], ◌∷◌, Option, Some, None, Ok, refl, ap, ◌∙◌, inl, inr}
 use Rattle.std.specs.Prelude.{codes}
 use Rattle.std.specs.Str.{bytes_eq}
 use Rattle.gup_base.specs.declared.entry.Rights.{Rights}
 use Rattle.gup_base.specs.declared.entry.Rights.TheVariants.{R, RW}
-use Rattle.gup_read_words.specs.Text.{range_in}
+use Rattle.gup_read_words.specs.Text.{range_in, page_in}
 use Rattle.gup_script.specs.declared.op.Op.TheVariants as ops
 use Rattle.gup_spec_grammar.specs.declared.fault.Reason.TheVariants as reasons
-use Rattle.gup_spec_grammar.specs.Said.{Word, maps, unmaps, protects, discards, loads, stores, forks, exits, rights_word}
+use Rattle.gup_spec_grammar.specs.Said.{Word, maps, unmaps, protects, discards, loads, stores, forks, exits, rights_word, moves, zone_word}
 use Rattle.gup_spec_grammar.specs.Outline.{Outline}
-use Rattle.gup_read.specs.Reading.{◌>>=◌, need, rights_in, map_in, unmap_in, protect_in, discard_in, load_in, store_in, fork_in, exit_in}
+use Rattle.gup_spec_grammar.specs.Names.{find}
+use Rattle.gup_read_outline.specs.Named.{process_of}
+use Rattle.gup_read.specs.Reading.{◌>>=◌, need, rights_in, map_in, unmap_in, protect_in, discard_in, load_in, store_in, fork_in, exit_in, zone_in, move_in}
 use Rattle.gup_read.proofs.Chains.{goes, checked, both, same_word}
 use Rattle.gup_read.proofs.ActionWords.{said_with}
-use Rattle.gup_read.proofs.Judged.{built, Told, number_step, address_step, range_step, child_step, unforked_Decides}
+use Rattle.gup_read.proofs.Judged.{built, Told, number_step, address_step, range_step, child_step, unforked_Decides, page_step, process_step}
 
 -- ---- rights
 
@@ -96,3 +100,25 @@ pub exit_told : (st : Outline) (a : ℕ) (fields : List Word) → Told st a (cod
 unfolding exit_in
 exit_told st a [] = inl (exits, refl, goes tt (goes tt (goes tt (goes tt (goes tt (built ops.Exit refl tt refl))))))
 exit_told st a _ = inr (refl, refl)
+
+-- ---- moves
+
+zone_found : (word : Word) (zone : Zone) → zone_in word ≡ Some zone → word ≡ zone_word zone
+zone_found word zone e = way (bytes_eq word (codes "normal")) refl (bytes_eq word (codes "movable")) refl e where
+  way : (b : Bool) → bytes_eq word (codes "normal") ≡ b → (c : Bool) → bytes_eq word (codes "movable") ≡ c → cond b (Some Normal) (cond c (Some Movable) None) ≡ Some zone → word ≡ zone_word zone
+  way true n c m e = let same : Normal ≡ zone = cc in same_word word (codes "normal") n ∙ ap zone_word same
+  way false n true m e = let same : Movable ≡ zone = cc in same_word word (codes "movable") m ∙ ap zone_word same
+  way false n false m e = absurd cc
+
+pub move_told : (st : Outline) (a : ℕ) (fields : List Word) → Told st a (codes "move" ∷ fields) (move_in st fields)
+unfolding move_in
+move_told st a (process ∷ page ∷ word ∷ []) = way (zone_in word) refl where
+  way : (o : Option Zone) → zone_in word ≡ o → Told st a (codes "move" ∷ process ∷ page ∷ word ∷ []) (need reasons.Shape o >>= λ z. need reasons.Number (page_in page) >>= λ g. need reasons.Name (process_of (find st.names process)) >>= λ p. Ok (Some (ops.Move p g z)))
+  way None e = inr (refl, ap (said_with (moves process page)) e)
+  way (Some zone) e =
+      inl (
+        moves process page zone,
+        ap (λ (w : Word). codes "move" ∷ process ∷ page ∷ w ∷ []) (zone_found word zone e),
+        goes tt (page_step page _ (λ g h. process_step st process _ (λ p is. goes tt (goes tt (built (ops.Move p g zone) refl tt (p, g, is, h, refl)))))),
+      )
+move_told st a _ = inr (refl, refl)

@@ -1,14 +1,14 @@
--- The forks and the pins of a script: what they name is declared, no two forks bring one child, and no two pins make
+-- The forks, pins and gets of a script: what they name is declared, no two forks bring one child, and no two pins or gets make
 -- one handle. This stays so while lines add processes, actors, handles and operations.
-use Rattle.std.proofs.Common.{◌≡◌, ◌⊎◌, ◌==◌, ℕ, ◌<◌, ◌≤◌, zero, suc, Bool, true, false, List, [], ◌∷◌, ◌++◌, length, slice_get, All, Option, Some, None, refl, sym, ap, subst, ◌∙◌, inl, inr, arith}
+use Rattle.std.proofs.Common.{◌≡◌, ◌⊎◌, ◌==◌, ℕ, ◌<◌, ◌≤◌, zero, suc, true, false, List, [], ◌∷◌, ◌++◌, length, slice_get, All, Option, Some, None, refl, sym, ap, subst, ◌∙◌, inl, inr, arith}
 use Rattle.std.specs.List.{AllByRecursion, list_any}
 use Rattle.std.proofs.lemmas.Bool.{not-true}
+use Rattle.std.proofs.lemmas.List.{length-append}
 use Rattle.std.proofs.lemmas.Bool.Decides.{Decides-eqb}
-use Rattle.gup_base.specs.declared.entry.Want.{Want}
 use Rattle.gup_script.specs.declared.op.Op.{Op}
 use Rattle.gup_script.specs.declared.op.Op.TheVariants.{Map, Unmap, Protect, Discard, Load, Store, Pin, Unpin, Give, Take, Get, Put, Transfer, Mirror, Look, Move, Fork, Exit}
 use Rattle.gup_script.specs.Script.{ScriptValue, Process, Actor, ops_in}
-use Rattle.gup_script.specs.Valid.{IsChild, AreDeclared}
+use Rattle.gup_script.specs.Valid.{IsChild, AreDeclared, made_by}
 use Rattle.gup_spec_grammar.specs.Outline.{with_op, is_child_at, forks_child}
 use Rattle.gup_read.proofs.Lists.{each_like, all_at, none_passes}
 
@@ -39,11 +39,11 @@ still_declared s t more e handles actors (Discard page n) h = tt
 still_declared s t more e handles actors (Load page word) h = tt
 still_declared s t more e handles actors (Store page word value) h = tt
 still_declared s t more e handles actors Exit h = tt
-still_declared s t more e handles actors (Get handle page) h = tt
-still_declared s t more e handles actors (Put handle) h = tt
+still_declared s t more e handles actors (Get handle page) h = omega arith
+still_declared s t more e handles actors (Put handle) h = omega arith
 still_declared s t more e handles actors (Mirror mirror proc page) h = tt
 still_declared s t more e handles actors (Look mirror word) h = tt
-still_declared s t more e handles actors (Move proc page zone) h = tt
+still_declared s t more e handles actors (Move proc page zone) h = rw e (omega (arith, h, length-append s.processes more))
 
 pub declared_stay : (s t : ScriptValue) (more : List Process) → t.processes ≡ s.processes ++ more → length s.handles ≤ length t.handles → length s.actors ≤ length t.actors → (all : List Actor) → AllByRecursion (λ (a : Actor). All (AreDeclared s) a.ops) all → AllByRecursion (λ (a : Actor). All (AreDeclared t) a.ops) all
 declared_stay s t more e handles actors all h =
@@ -55,12 +55,12 @@ declared_stay s t more e handles actors all h =
 abbrev pub OpAt : List Actor → (a k : ℕ) → Op → Type 0
 OpAt actors a k op = slice_get (ops_in (slice_get actors a)) k ≡ Some op
 
--- the operation is a fork that brings this child, or a pin that makes this handle
+-- the operation is a fork that brings this child, or makes this handle
 abbrev pub IsForkOf : Op → (child : ℕ) → Type 0
 IsForkOf op child = op ≡ Fork child
 
-abbrev pub IsPinOf : Op → (handle : ℕ) → Type 0
-IsPinOf op handle = (page n : ℕ) × (want : Want) × (fast : Bool) × (op ≡ Pin handle page n want fast)
+abbrev pub IsMaking : Op → (handle : ℕ) → Type 0
+IsMaking op handle = made_by op ≡ Some handle
 
 -- the actor's operation at this place brings, or makes, what has this number
 abbrev pub At : (Op → ℕ → Type 0) → List Actor → (a k number : ℕ) → Type 0
@@ -128,8 +128,8 @@ op_once Brings actors c new fresh h a b j k number e f =
     way (inr x) (inl y) = absurd (fresh b k number x.2 y)
     way (inr x) (inr y) = (x.0 ∙ sym y.0, x.1 ∙ sym y.1)
 
-pub fork_no_pin : (op : Op) (child handle : ℕ) → IsForkOf op child → IsPinOf op handle → ⊥
-fork_no_pin op child handle f p = absurd (cc (f, p.4))
+pub fork_makes_none : (op : Op) (child handle : ℕ) → IsForkOf op child → IsMaking op handle → ⊥
+fork_makes_none op child handle f made = let none = ap made_by f in cc (none, made)
 
 -- what is true of each operation is true of one at its place
 op_is : (P : Op → Type 0) (actors : List Actor) → AllByRecursion (λ (a : Actor). All P a.ops) actors → (a k : ℕ) (op : Op) → OpAt actors a k op → P op
@@ -137,9 +137,15 @@ op_is P [] h a k op e = absurd cc
 op_is P (actor ∷ actors) h zero k op e = all_at P actor.ops k op e h.0
 op_is P (actor ∷ actors) h (suc a) k op e = op_is P actors h.1 a k op e
 
--- the handle of a pin is declared
-pub pin_declared : (s : ScriptValue) → AllByRecursion (λ (a : Actor). All (AreDeclared s) a.ops) s.actors → (a k handle : ℕ) → At IsPinOf s.actors a k handle → handle < length s.handles
-pin_declared s h a k handle p = subst (AreDeclared s) p.2.4 (op_is (AreDeclared s) s.actors h a k p.0 p.1)
+-- the handle of a pin or a reference is declared
+
+op_declared : (s : ScriptValue) (handle : ℕ) (op : Op) → made_by op ≡ Some handle → AreDeclared s op → handle < length s.handles
+op_declared s handle (Pin h page n want fast) is there = let same : h ≡ handle = cc in subst (λ (k : ℕ). k < length s.handles) same there
+op_declared s handle (Get h page) is there = let same : h ≡ handle = cc in subst (λ (k : ℕ). k < length s.handles) same there
+op_declared s handle op is there = absurd (cc is)
+
+pub made_below : (s : ScriptValue) → AllByRecursion (λ (a : Actor). All (AreDeclared s) a.ops) s.actors → (a k handle : ℕ) → At IsMaking s.actors a k handle → handle < length s.handles
+made_below s h a k handle p = op_declared s handle p.0 p.2 (op_is (AreDeclared s) s.actors h a k p.0 p.1)
 
 -- ---- a child that no fork brings so far
 

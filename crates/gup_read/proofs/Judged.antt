@@ -18,9 +18,9 @@ use Rattle.gup_spec_grammar.specs.declared.fault.Reason.TheVariants as reasons
 use Rattle.gup_spec_grammar.specs.Said.{Word, Action, action_words, IsShaped}
 use Rattle.gup_spec_grammar.specs.Outline.{Outline, is_child, is_forked, next_handle, is_receiver}
 use Rattle.gup_script.specs.Limits.{most_handles}
-use Rattle.gup_spec_grammar.specs.Grammar.{ActionNumbers, ActionNames, ActionOnce, HandleLimits, Means, IsBuilt, NamesProcess, NamesActor, NamesPin}
+use Rattle.gup_spec_grammar.specs.Grammar.{ActionNumbers, ActionNames, ActionOnce, HandleLimits, Means, IsBuilt, NamesProcess, NamesActor, NamesPin, NamesGot}
 use Rattle.gup_read.specs.Reading.{◌>>=◌, check, need}
-use Rattle.gup_read_outline.specs.Named.{process_of, actor_of, pin_of, is_got_name, is_mirror_of, may_mirror}
+use Rattle.gup_read_outline.specs.Named.{process_of, actor_of, pin_of, got_of, is_mirror_of, may_mirror}
 use Rattle.gup_read.proofs.Chains.{Tried, stops, goes, needed}
 use Rattle.gup_read.proofs.ActionWords.{action_in}
 
@@ -139,6 +139,18 @@ pin_step st word f next =
     ((h, is), next h is))
     (λ t none. absurd (cc (ap pin_of t.1)))
 
+got_found : (o : Option Named) (h : ℕ) → got_of o ≡ Some h → o ≡ Some (named.Got h)
+got_found (Some (named.Got q)) h e = cc
+got_found _ h e = absurd cc
+
+pub got_step : {B : Type 0} (st : Outline) (word : Word) (f : ℕ → Result B Reason) {behind : Result B Reason → Type 0} → ((h : ℕ) → NamesGot st word h → behind (f h)) → Tried reasons.Name ((h : ℕ) × NamesGot st word h) behind (need reasons.Name (got_of (find st.names word)) >>= f)
+got_step st word f next =
+    needed f
+    (λ h e.
+    let is = got_found (find st.names word) h e in
+    ((h, is), next h is))
+    (λ t none. absurd (cc (ap got_of t.1)))
+
 -- ---- one more handle
 
 pub handle_step : {B : Type 0} (st : Outline) (f : ℕ → Result B Reason) {behind : Result B Reason → Type 0} → behind (f (length st.script.handles)) → Tried reasons.Limit (length st.script.handles < most_handles) behind (need reasons.Limit (next_handle st) >>= f)
@@ -146,10 +158,6 @@ handle_step st f {behind} next = way (ltb (length st.script.handles) most_handle
   way : (b : Bool) → ltb (length st.script.handles) most_handles ≡ b → Tried reasons.Limit (length st.script.handles < most_handles) behind (need reasons.Limit (cond b (Some (length st.script.handles)) None) >>= f)
   way true e = goes (ltb-true _ _ e) next
   way false e = stops refl (λ lt. absurd (cc (e, lt-ltb _ _ lt)))
-
-pub got_Decides : (o : Option Named) → Decides (is_got_name o) ((h : ℕ) × (o ≡ Some (named.Got h)))
-got_Decides (Some (named.Got q)) = (λ e. (q, refl), λ h. refl)
-got_Decides _ = (λ e. absurd cc, λ h. absurd (cc h.1))
 
 pub mirror_Decides : (a : ℕ) (o : Option Named) → Decides (is_mirror_of a o) ((m : ℕ) × (o ≡ Some (named.Mirror m a)))
 mirror_Decides a (Some (named.Mirror m b)) = (λ e. (m, ap (λ (n : ℕ). Some (named.Mirror m n)) ((Decides-eqb b a).0 e)), λ h. (Decides-eqb b a).1 (cc h.1))

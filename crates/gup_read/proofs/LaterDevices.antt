@@ -1,5 +1,4 @@
--- What the words of a device's operations, and of the mover's, that come later come to: transfers of parts, mirrors,
--- moves.
+-- What the words of a device's operations that come later come to: transfers of parts, mirrors.
 use Rattle.std.proofs.Common.{◌≡◌, ℕ, ◌+◌, ◌≤◌, Bool, true, false, cond, List, [], ◌∷◌, length, Option, Some, None, refl, arith, sym, ap, subst, ◌∙◌, inl, inr}
 use Rattle.std.specs.Prelude.{codes}
 use Rattle.std.specs.Bool.{Decides}
@@ -13,9 +12,9 @@ use Rattle.gup_spec_grammar.specs.Names.{find}
 use Rattle.gup_spec_grammar.specs.Said.{Word, transfers_parts, mirrors, looks, moves, parts_word, zone_word}
 use Rattle.gup_spec_grammar.specs.Outline.{Outline}
 use Rattle.gup_spec_grammar.specs.Grammar.{AreSegments}
-use Rattle.gup_read.specs.Reading.{is_zone, segments_in, at_most_64, parts_in, mirror_in, look_in, move_in}
+use Rattle.gup_read.specs.Reading.{segments_in, at_most_64, parts_in, mirror_in, look_in}
 use Rattle.gup_read.proofs.Chains.{goes, checked, both, same_word}
-use Rattle.gup_read.proofs.ActionWords.{said_with, zone_in}
+use Rattle.gup_read.proofs.ActionWords.{said_with}
 use Rattle.gup_read.proofs.Judged.{later, Judged, Told, index_step, page_step, word_no_step, process_step, pin_step, mirror_Decides, slot_Decides}
 
 -- ---- the parts of a transfer
@@ -83,34 +82,3 @@ look_told st a (mirror ∷ word ∷ []) =
           checked _ (mirror_Decides a (find st.names mirror)) (λ m. goes tt (goes tt (later refl (λ b. b)))))),
     )
 look_told st a _ = inr (refl, refl)
-
--- ---- moves
-
-zone_found : (word : Word) (zone : Zone) → zone_in word ≡ Some zone → word ≡ zone_word zone
-zone_found word zone e = way (bytes_eq word (codes "normal")) refl (bytes_eq word (codes "movable")) refl e where
-  way : (b : Bool) → bytes_eq word (codes "normal") ≡ b → (c : Bool) → bytes_eq word (codes "movable") ≡ c → cond b (Some Normal) (cond c (Some Movable) None) ≡ Some zone → word ≡ zone_word zone
-  way true n c m e = let same : Normal ≡ zone = cc in same_word word (codes "normal") n ∙ ap zone_word same
-  way false n true m e = let same : Movable ≡ zone = cc in same_word word (codes "movable") m ∙ ap zone_word same
-  way false n false m e = absurd cc
-
-no_zone : (word : Word) → zone_in word ≡ None → is_zone word ≡ false
-no_zone word e = grind arith
-
-is_zone_word : (zone : Zone) → is_zone (zone_word zone) ≡ true
-is_zone_word Normal = refl
-is_zone_word Movable = refl
-
-pub move_told : (st : Outline) (a : ℕ) (fields : List Word) → Told st a (codes "move" ∷ fields) (move_in st fields)
-unfolding move_in
-move_told st a (process ∷ page ∷ word ∷ []) = way (zone_in word) refl where
-  way : (o : Option Zone) → zone_in word ≡ o → Told st a (codes "move" ∷ process ∷ page ∷ word ∷ []) (move_in st (process ∷ page ∷ word ∷ []))
-  way None e = inr (rw (no_zone word e) refl, ap (said_with (moves process page)) e)
-  way (Some zone) e =
-      let is = zone_found word zone e in
-      inl (
-        moves process page zone,
-        ap (λ (w : Word). codes "move" ∷ process ∷ page ∷ w ∷ []) is,
-        subst (λ (w : Word). Judged st a (moves process page zone) (move_in st (process ∷ page ∷ w ∷ []))) (sym is)
-            (rw (is_zone_word zone) (goes tt (page_step page _ (λ p h. process_step st process _ (λ q g. goes tt (goes tt (later refl (λ b. b)))))))),
-      )
-move_told st a _ = inr (refl, refl)

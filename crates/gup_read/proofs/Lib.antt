@@ -14,7 +14,6 @@ pub mod ActionWords
 pub mod Judged
 pub mod BuiltActions
 pub mod BuiltHandles
-pub mod LaterThreads
 pub mod LaterDevices
 pub mod Choices
 pub mod OpChoices

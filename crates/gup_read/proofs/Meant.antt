@@ -1,23 +1,22 @@
 -- The operation that an action means: its numbers are in range, what it names is declared, it brings no child and makes
 -- no handle that another does, and it is one of its actor's kind.
-use Rattle.std.proofs.Common.{◌≡◌, ℕ, ◌^◌, ◌<◌, ◌≤◌, Bool, true, false, List, [], ◌∷◌, length, slice_get, Contains, refl, sym, subst, Option, Some, None, arith}
+use Rattle.std.proofs.Common.{◌≡◌, ℕ, ◌^◌, ◌<◌, ◌≤◌, true, false, List, [], ◌∷◌, length, slice_get, Contains, refl, sym, ap, subst, Option, Some, None, arith}
 use Rattle.std.specs.Prelude.{codes}
 use Rattle.std.proofs.lemmas.List.{length_push}
 use Rattle.std.proofs.lemmas.List.Elements.{All-push, All-nil}
 use Rattle.gup_base.specs.Parts.{Part}
-use Rattle.gup_base.specs.declared.entry.Want.{Want}
 use Rattle.gup_script.specs.declared.op.Kind.{Kind}
 use Rattle.gup_script.specs.declared.op.Kind.TheVariants.{Thread, Device, Mover}
 use Rattle.gup_script.specs.declared.op.Op.{Op}
-use Rattle.gup_script.specs.declared.op.Op.TheVariants.{Pin, Fork}
+use Rattle.gup_script.specs.declared.op.Op.TheVariants.{Pin, Get, Fork}
 use Rattle.gup_script.specs.Limits.{most_words}
 use Rattle.gup_script.specs.Script.{Actor, process_at}
-use Rattle.gup_spec_grammar.specs.Outline.{Outline, with_handle, is_child, is_forked}
-use Rattle.gup_spec_grammar.specs.Said.{Word, Action, maps, unmaps, protects, discards, loads, stores, exits, pins, forks, unpins, takes, gives, transfers, action_words, op_words, op_words_of}
+use Rattle.gup_spec_grammar.specs.Outline.{Outline, with_handle, with_reference, is_child, is_forked}
+use Rattle.gup_spec_grammar.specs.Said.{Word, Action, maps, unmaps, protects, discards, loads, stores, exits, pins, gets, puts, forks, unpins, takes, gives, transfers, action_words, op_words, op_words_of, moves}
 use Rattle.gup_spec_grammar.specs.Grammar.{NamesProcess, ActionNames, ActionOnce, want_of, Means, with_declared, first_word}
-use Rattle.gup_script.specs.Valid.{IsOp, AreParts, FitsKind, IsOfThread, IsOfDevice, AreDeclared}
+use Rattle.gup_script.specs.Valid.{IsOp, AreParts, FitsKind, IsOfThread, IsOfDevice, AreDeclared, made_by, IsOfMover}
 use Rattle.gup_read.proofs.Following.{none_among}
-use Rattle.gup_read.proofs.Forking.{IsForkOf, IsPinOf, IsFresh, child_is, fork_no_pin, pin_declared, unforked}
+use Rattle.gup_read.proofs.Forking.{IsForkOf, IsMaking, IsFresh, child_is, fork_makes_none, made_below, unforked}
 use Rattle.gup_read.proofs.Standing.{Stands}
 
 -- ---- what is true of the operation
@@ -35,8 +34,11 @@ is_op st (discards first count) op m = subst IsOp (sym m.3) (m.2.2, m.2.3, m.2.4
 is_op st (loads address) op m = subst IsOp (sym m.3) (m.2.1, m.2.2)
 is_op st (stores address value) op m = subst IsOp (sym m.5) (m.3.1, m.3.2, m.4.1)
 is_op st exits op m = subst IsOp (sym m) tt
-is_op st (pins false handle first count write false) op m = subst IsOp (sym m.3) (m.2.2, m.2.3, m.2.4, record { short = refl; slow = refl })
+is_op st (pins false handle first count write long) op m = subst IsOp (sym m.3) (m.2.2, m.2.3, m.2.4, refl)
+is_op st (gets handle page) op m = subst IsOp (sym m.2) m.1.1
+is_op st (puts handle) op m = subst IsOp (sym m.2) tt
 is_op st (forks child) op m = subst IsOp (sym m.2) tt
+is_op st (moves process page zone) op m = subst IsOp (sym m.4) m.3.1
 is_op st (unpins handle) op m = subst IsOp (sym m.2) tt
 is_op st (takes handle) op m = subst IsOp (sym m.2) tt
 is_op st (gives handle to) op m = subst IsOp (sym m.4) tt
@@ -53,13 +55,18 @@ declared st a (discards first count) op h m names = subst (AreDeclared st.script
 declared st a (loads address) op h m names = subst (AreDeclared st.script) (sym m.3) tt
 declared st a (stores address value) op h m names = subst (AreDeclared st.script) (sym m.5) tt
 declared st a exits op h m names = subst (AreDeclared st.script) (sym m) tt
-declared st a (pins false handle first count write false) op h m names =
+declared st a (pins false handle first count write long) op h m names =
     let long = length_push st.script.handles handle in
     subst (AreDeclared (with_handle handle st).script) (sym m.3) (omega arith)
+declared st a (gets handle page) op h m names =
+    let long = length_push st.script.handles handle in
+    subst (AreDeclared (with_reference handle st).script) (sym m.2) (omega arith)
+declared st a (puts handle) op h m names = subst (AreDeclared st.script) (sym m.2) (h.gots_in handle m.0 m.1)
 declared st a (forks child) op h m names =
     let one : names.0 ≡ m.0 = cc (names.1, m.1) in
     let is = subst (λ (p : ℕ). is_child st p ≡ true) one names.2 in
     subst (AreDeclared st.script) (sym m.2) (child_is (process_at st.script m.0) is)
+declared st a (moves process page zone) op h m names = subst (AreDeclared st.script) (sym m.4) (h.processes_in process m.0 m.2)
 declared st a (unpins handle) op h m names = subst (AreDeclared st.script) (sym m.2) (h.pins_in handle m.0 m.1)
 declared st a (takes handle) op h m names = subst (AreDeclared st.script) (sym m.2) (h.pins_in handle m.0 m.1)
 declared st a (gives handle to) op h m names = subst (AreDeclared st.script) (sym m.4) (h.pins_in handle m.0 m.2, h.actors_in to m.1 m.3)
@@ -70,18 +77,18 @@ declared st a _ op h m names = absurd m
 
 -- an operation that brings no child and makes no handle
 abbrev IsOther : Op → Type 0
-IsOther op = ((child : ℕ) → IsForkOf op child → ⊥) × ((handle : ℕ) → IsPinOf op handle → ⊥)
+IsOther op = ((child : ℕ) → IsForkOf op child → ⊥) × ((handle : ℕ) → IsMaking op handle → ⊥)
 
 -- the operation is fresh among the actors' others
 pub record Fits (actors : List Actor) (op : Op) : Type 0 where
   pub fresh_fork : IsFresh IsForkOf actors op
-  pub fresh_pin : IsFresh IsPinOf actors op
+  pub fresh_handle : IsFresh IsMaking actors op
 
 other_fits : (actors : List Actor) (op : Op) → IsOther op → Fits actors op
 other_fits actors op h =
     record {
       fresh_fork = λ a k child is at. h.0 child is;
-      fresh_pin = λ a k handle is at. h.1 handle is;
+      fresh_handle = λ a k handle is at. h.1 handle is;
     }
 
 fork_fits : (st : Outline) (child : Word) (p : ℕ) → NamesProcess st child p → ActionOnce st (forks child) → Fits st.script.actors (Fork p)
@@ -90,34 +97,37 @@ fork_fits st child p named once =
       fresh_fork = λ a k number is at.
           let same : once.0 ≡ number = cc (once.1, named, is) in
           unforked st.script.actors number a k (subst (λ (q : ℕ). is_forked st q ≡ false) same once.2) (rw at.2 at at.1);
-      fresh_pin = λ a k handle is at. absurd (fork_no_pin (Fork p) p handle refl is);
+      fresh_handle = λ a k handle is at. absurd (fork_makes_none (Fork p) p handle refl is);
     }
 
-pin_fits : (st : Outline) (page n : ℕ) (want : Want) (fast : Bool) → Stands st → Fits st.script.actors (Pin (length st.script.handles) page n want fast)
-pin_fits st page n want fast h =
-    let pin : Op = Pin (length st.script.handles) page n want fast in
+-- one that makes the next handle
+handle_fits : (st : Outline) (op : Op) → made_by op ≡ Some (length st.script.handles) → Stands st → Fits st.script.actors op
+handle_fits st op makes h =
     record {
-      fresh_fork = λ a k child is at. absurd (fork_no_pin pin child (length st.script.handles) is (page, n, want, fast, refl));
-      fresh_pin = λ a k handle is at.
-          let same : length st.script.handles ≡ handle = cc is.4 in
-          let lt = pin_declared st.script h.declared a k handle at in
+      fresh_fork = λ a k child is at. absurd (fork_makes_none op child (length st.script.handles) is makes);
+      fresh_handle = λ a k handle is at.
+          let same : length st.script.handles ≡ handle = cc (makes, is) in
+          let lt = made_below st.script h.declared a k handle at in
           omega arith;
     }
 
 pub fits : (st : Outline) (action : Action) (op : Op) → Stands st → Means st action op → ActionOnce st action → Fits (with_declared action st).script.actors op
-fits st (maps first count rights) op h m once = other_fits st.script.actors op (λ child is. absurd (cc (m.3, is)), λ handle is. absurd (cc (m.3, is.4)))
-fits st (unmaps first count) op h m once = other_fits st.script.actors op (λ child is. absurd (cc (m.3, is)), λ handle is. absurd (cc (m.3, is.4)))
-fits st (protects first count rights) op h m once = other_fits st.script.actors op (λ child is. absurd (cc (m.3, is)), λ handle is. absurd (cc (m.3, is.4)))
-fits st (discards first count) op h m once = other_fits st.script.actors op (λ child is. absurd (cc (m.3, is)), λ handle is. absurd (cc (m.3, is.4)))
-fits st (loads address) op h m once = other_fits st.script.actors op (λ child is. absurd (cc (m.3, is)), λ handle is. absurd (cc (m.3, is.4)))
-fits st (stores address value) op h m once = other_fits st.script.actors op (λ child is. absurd (cc (m.5, is)), λ handle is. absurd (cc (m.5, is.4)))
-fits st exits op h m once = other_fits st.script.actors op (λ child is. absurd (cc (m, is)), λ handle is. absurd (cc (m, is.4)))
-fits st (pins false handle first count write false) op h m once = subst (Fits st.script.actors) (sym m.3) (pin_fits st m.0 m.1 (want_of write false) false h)
+fits st (maps first count rights) op h m once = other_fits st.script.actors op (λ child is. absurd (cc (m.3, is)), λ handle is. absurd (let none = ap made_by m.3 in cc (none, is)))
+fits st (unmaps first count) op h m once = other_fits st.script.actors op (λ child is. absurd (cc (m.3, is)), λ handle is. absurd (let none = ap made_by m.3 in cc (none, is)))
+fits st (protects first count rights) op h m once = other_fits st.script.actors op (λ child is. absurd (cc (m.3, is)), λ handle is. absurd (let none = ap made_by m.3 in cc (none, is)))
+fits st (discards first count) op h m once = other_fits st.script.actors op (λ child is. absurd (cc (m.3, is)), λ handle is. absurd (let none = ap made_by m.3 in cc (none, is)))
+fits st (loads address) op h m once = other_fits st.script.actors op (λ child is. absurd (cc (m.3, is)), λ handle is. absurd (let none = ap made_by m.3 in cc (none, is)))
+fits st (stores address value) op h m once = other_fits st.script.actors op (λ child is. absurd (cc (m.5, is)), λ handle is. absurd (let none = ap made_by m.5 in cc (none, is)))
+fits st exits op h m once = other_fits st.script.actors op (λ child is. absurd (cc (m, is)), λ handle is. absurd (let none = ap made_by m in cc (none, is)))
+fits st (pins false handle first count write long) op h m once = subst (Fits st.script.actors) (sym m.3) (handle_fits st (Pin (length st.script.handles) m.0 m.1 (want_of write long) false) refl h)
+fits st (gets handle page) op h m once = subst (Fits st.script.actors) (sym m.2) (handle_fits st (Get (length st.script.handles) m.0) refl h)
+fits st (puts handle) op h m once = other_fits st.script.actors op (λ child is. absurd (cc (m.2, is)), λ number is. absurd (let none = ap made_by m.2 in cc (none, is)))
 fits st (forks child) op h m once = subst (Fits st.script.actors) (sym m.2) (fork_fits st child m.0 m.1 once)
-fits st (unpins handle) op h m once = other_fits st.script.actors op (λ child is. absurd (cc (m.2, is)), λ number is. absurd (cc (m.2, is.4)))
-fits st (takes handle) op h m once = other_fits st.script.actors op (λ child is. absurd (cc (m.2, is)), λ number is. absurd (cc (m.2, is.4)))
-fits st (gives handle to) op h m once = other_fits st.script.actors op (λ child is. absurd (cc (m.4, is)), λ number is. absurd (cc (m.4, is.4)))
-fits st (transfers outward handle index slot count) op h m once = other_fits st.script.actors op (λ child is. absurd (cc (m.8, is)), λ number is. absurd (cc (m.8, is.4)))
+fits st (moves process page zone) op h m once = other_fits st.script.actors op (λ child is. absurd (cc (m.4, is)), λ number is. absurd (let none = ap made_by m.4 in cc (none, is)))
+fits st (unpins handle) op h m once = other_fits st.script.actors op (λ child is. absurd (cc (m.2, is)), λ number is. absurd (let none = ap made_by m.2 in cc (none, is)))
+fits st (takes handle) op h m once = other_fits st.script.actors op (λ child is. absurd (cc (m.2, is)), λ number is. absurd (let none = ap made_by m.2 in cc (none, is)))
+fits st (gives handle to) op h m once = other_fits st.script.actors op (λ child is. absurd (cc (m.4, is)), λ number is. absurd (let none = ap made_by m.4 in cc (none, is)))
+fits st (transfers outward handle index slot count) op h m once = other_fits st.script.actors op (λ child is. absurd (cc (m.8, is)), λ number is. absurd (let none = ap made_by m.8 in cc (none, is)))
 fits st _ op h m once = absurd m
 
 -- ---- the operation is one of its actor's kind
@@ -130,8 +140,11 @@ threads st (discards first count) op p m h = subst IsOfThread (sym m.3) tt
 threads st (loads address) op p m h = subst IsOfThread (sym m.3) tt
 threads st (stores address value) op p m h = subst IsOfThread (sym m.5) tt
 threads st exits op p m h = subst IsOfThread (sym m) tt
-threads st (pins false handle first count write false) op p m h = subst IsOfThread (sym m.3) tt
+threads st (pins false handle first count write long) op p m h = subst IsOfThread (sym m.3) tt
+threads st (gets handle page) op p m h = subst IsOfThread (sym m.2) tt
+threads st (puts handle) op p m h = subst IsOfThread (sym m.2) tt
 threads st (forks child) op p m h = subst IsOfThread (sym m.2) tt
+threads st (moves process page zone) op p m h = absurd (none_among (op_words (Thread p)) (codes "move") refl h)
 threads st (unpins handle) op p m h = subst IsOfThread (sym m.2) tt
 threads st (takes handle) op p m h = subst IsOfThread (sym m.2) tt
 threads st (gives handle to) op p m h = subst IsOfThread (sym m.4) tt
@@ -147,30 +160,36 @@ devices st (discards first count) op slots m h = absurd (none_among (op_words (D
 devices st (loads address) op slots m h = absurd (none_among (op_words (Device slots)) (codes "load") refl h)
 devices st (stores address value) op slots m h = absurd (none_among (op_words (Device slots)) (codes "store") refl h)
 devices st exits op slots m h = absurd (none_among (op_words (Device slots)) (codes "exit") refl h)
-devices st (pins false handle first count write false) op slots m h = absurd (none_among (op_words (Device slots)) (codes "pin") refl h)
+devices st (pins false handle first count write long) op slots m h = absurd (none_among (op_words (Device slots)) (codes "pin") refl h)
+devices st (gets handle page) op slots m h = absurd (none_among (op_words (Device slots)) (codes "get") refl h)
+devices st (puts handle) op slots m h = absurd (none_among (op_words (Device slots)) (codes "put") refl h)
 devices st (forks child) op slots m h = absurd (none_among (op_words (Device slots)) (codes "fork") refl h)
+devices st (moves process page zone) op slots m h = absurd (none_among (op_words (Device slots)) (codes "move") refl h)
 devices st (unpins handle) op slots m h = subst IsOfDevice (sym m.2) tt
 devices st (takes handle) op slots m h = subst IsOfDevice (sym m.2) tt
 devices st (gives handle to) op slots m h = subst IsOfDevice (sym m.4) tt
 devices st (transfers outward handle index slot count) op slots m h = subst IsOfDevice (sym m.8) tt
 devices st _ op slots m h = absurd m
 
-movers : (st : Outline) (action : Action) (op : Op) → Means st action op → Contains (op_words Mover) (first_word (action_words action)) → ⊥
-movers st (maps first count rights) op m h = none_among (op_words Mover) (codes "map") refl h
-movers st (unmaps first count) op m h = none_among (op_words Mover) (codes "unmap") refl h
-movers st (protects first count rights) op m h = none_among (op_words Mover) (codes "protect") refl h
-movers st (discards first count) op m h = none_among (op_words Mover) (codes "discard") refl h
-movers st (loads address) op m h = none_among (op_words Mover) (codes "load") refl h
-movers st (stores address value) op m h = none_among (op_words Mover) (codes "store") refl h
-movers st exits op m h = none_among (op_words Mover) (codes "exit") refl h
-movers st (pins false handle first count write false) op m h = none_among (op_words Mover) (codes "pin") refl h
-movers st (forks child) op m h = none_among (op_words Mover) (codes "fork") refl h
-movers st (unpins handle) op m h = none_among (op_words Mover) (codes "unpin") refl h
-movers st (takes handle) op m h = none_among (op_words Mover) (codes "take") refl h
-movers st (gives handle to) op m h = none_among (op_words Mover) (codes "give") refl h
-movers st (transfers true handle index slot count) op m h = none_among (op_words Mover) (codes "out") refl h
-movers st (transfers false handle index slot count) op m h = none_among (op_words Mover) (codes "in") refl h
-movers st _ op m h = m
+movers : (st : Outline) (action : Action) (op : Op) → Means st action op → Contains (op_words Mover) (first_word (action_words action)) → IsOfMover op
+movers st (maps first count rights) op m h = absurd (none_among (op_words Mover) (codes "map") refl h)
+movers st (unmaps first count) op m h = absurd (none_among (op_words Mover) (codes "unmap") refl h)
+movers st (protects first count rights) op m h = absurd (none_among (op_words Mover) (codes "protect") refl h)
+movers st (discards first count) op m h = absurd (none_among (op_words Mover) (codes "discard") refl h)
+movers st (loads address) op m h = absurd (none_among (op_words Mover) (codes "load") refl h)
+movers st (stores address value) op m h = absurd (none_among (op_words Mover) (codes "store") refl h)
+movers st exits op m h = absurd (none_among (op_words Mover) (codes "exit") refl h)
+movers st (pins false handle first count write long) op m h = absurd (none_among (op_words Mover) (codes "pin") refl h)
+movers st (gets handle page) op m h = absurd (none_among (op_words Mover) (codes "get") refl h)
+movers st (puts handle) op m h = absurd (none_among (op_words Mover) (codes "put") refl h)
+movers st (forks child) op m h = absurd (none_among (op_words Mover) (codes "fork") refl h)
+movers st (moves process page zone) op m h = subst IsOfMover (sym m.4) tt
+movers st (unpins handle) op m h = absurd (none_among (op_words Mover) (codes "unpin") refl h)
+movers st (takes handle) op m h = absurd (none_among (op_words Mover) (codes "take") refl h)
+movers st (gives handle to) op m h = absurd (none_among (op_words Mover) (codes "give") refl h)
+movers st (transfers true handle index slot count) op m h = absurd (none_among (op_words Mover) (codes "out") refl h)
+movers st (transfers false handle index slot count) op m h = absurd (none_among (op_words Mover) (codes "in") refl h)
+movers st _ op m h = absurd m
 
 kind_fits : (st : Outline) (action : Action) (op : Op) (kind : Kind) → Means st action op → Contains (op_words kind) (first_word (action_words action)) → FitsKind kind op
 kind_fits st action op (Thread p) m h = threads st action op p m h

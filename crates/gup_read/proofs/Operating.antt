@@ -9,13 +9,13 @@ use Rattle.gup_script.specs.declared.op.Op.{Op}
 use Rattle.gup_script.specs.Script.{Actor, actor_at, is_thread}
 use Rattle.gup_spec_grammar.specs.Outline.{Outline, with_op, with_operation, is_device, is_mover}
 use Rattle.gup_script.specs.Limits.{most_operations}
-use Rattle.gup_spec_grammar.specs.Said.{Action, pins, action_words}
+use Rattle.gup_spec_grammar.specs.Said.{Action, pins, gets, action_words}
 use Rattle.gup_spec_grammar.specs.Grammar.{HandleLimits, with_declared, IsOpOf, Does, first_word}
 use Rattle.gup_script.specs.Valid.{IsOp, KindFits, FitsKind, AreDeclared}
 use Rattle.gup_read.proofs.Verdicts.{same_given}
 use Rattle.gup_read.proofs.Lists.{each_like}
-use Rattle.gup_read.proofs.Forking.{IsForkOf, IsPinOf, declared_stay, op_once}
-use Rattle.gup_read.proofs.Standing.{Stands, kind_fits, stands_handle}
+use Rattle.gup_read.proofs.Forking.{IsForkOf, IsMaking, declared_stay, op_once}
+use Rattle.gup_read.proofs.Standing.{Stands, kind_fits, stands_handle, stands_reference}
 use Rattle.gup_read.proofs.Meant.{Fits, FitsAt, is_op, declared, fits, fits_at}
 
 -- ---- the actors with one more operation
@@ -68,6 +68,7 @@ stands_operation st k op h is here fit t few =
       processes_in = h.processes_in;
       actors_in = λ word a e. let lt = h.actors_in word a e in omega arith;
       pins_in = h.pins_in;
+      gots_in = h.gots_in;
       few_frames = h.few_frames;
       few_tables = h.few_tables;
       few_processes = h.few_processes;
@@ -80,7 +81,7 @@ stands_operation st k op h is here fit t few =
       ops_fit = with_op_fit k op actors t h.ops_fit;
       declared = declared_stay st.script next.script [] (sym (append-nil st.script.processes)) (omega arith) (omega arith) next.script.actors (with_op_ops (AreDeclared st.script) k op actors here h.declared);
       forks_once = op_once IsForkOf actors k op fit.fresh_fork h.forks_once;
-      pins_once = op_once IsPinOf actors k op fit.fresh_pin h.pins_once;
+      handles_once = op_once IsMaking actors k op fit.fresh_handle h.handles_once;
       counted = let sum = with_op_sum k op actors t in let old = h.counted in omega arith;
       few_ops = omega arith;
       turns = each_like (λ a. a < length actors) (λ a. a < length next.script.actors) st.script.turns (λ a lt. omega arith) h.turns;
@@ -91,14 +92,17 @@ stands_operation st k op h is here fit t few =
 
 handle_stands : (st : Outline) (action : Action) → Stands st → HandleLimits st action → Stands (with_declared action st)
 handle_stands st (pins fast handle first count write long) h few = stands_handle st handle h few
+handle_stands st (gets handle page) h few = stands_reference st handle h few
 handle_stands st _ h few = h
 
 pub same_actors : (st : Outline) (action : Action) → (with_declared action st).script.actors ≡ st.script.actors
 same_actors st (pins fast handle first count write long) = refl
+same_actors st (gets handle page) = refl
 same_actors st _ = refl
 
 pub same_operations : (st : Outline) (action : Action) → (with_declared action st).operations ≡ st.operations
 same_operations st (pins fast handle first count write long) = refl
+same_operations st (gets handle page) = refl
 same_operations st _ = refl
 
 pub stands_does : (st next : Outline) (a : ℕ) (action : Action) → Stands st → IsOpOf st a (first_word (action_words action)) → Does st a action next → Stands next

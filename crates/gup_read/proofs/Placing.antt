@@ -3,13 +3,13 @@ use Rattle.std.proofs.Common.{◌≡◌, ℕ, ◌<◌, false, List, [], ◌∷�
 use Rattle.std.specs.Prelude.{Contains}
 use Rattle.std.proofs.lemmas.Option.{slice_get_within}
 use Rattle.gup_script.specs.declared.op.Op.{Op}
-use Rattle.gup_script.specs.declared.op.Op.TheVariants.{Pin}
+use Rattle.gup_script.specs.declared.op.Op.TheVariants.{Pin, Get}
 use Rattle.gup_script.specs.Script.{Actor, actor_at}
 use Rattle.gup_spec_grammar.specs.declared.fault.Reason.{Reason}
-use Rattle.gup_spec_grammar.specs.Said.{Word, Action, maps, unmaps, protects, discards, loads, stores, exits, pins, forks, unpins, takes, gives, transfers, write_word, action_words, op_words_of}
+use Rattle.gup_spec_grammar.specs.Said.{Word, Action, maps, unmaps, protects, discards, loads, stores, exits, pins, gets, puts, forks, unpins, takes, gives, transfers, write_word, action_words, op_words_of, moves, long_words}
 use Rattle.gup_spec_grammar.specs.Outline.{Outline}
 use Rattle.gup_spec_grammar.specs.Grammar.{ActionOnce, HandleLimits, want_of, Means}
-use Rattle.gup_read.specs.Reading.{with_pinned, op_of_actor}
+use Rattle.gup_read.specs.Reading.{with_made, op_of_actor}
 use Rattle.gup_read.specs.Steps.{IsDeclarable}
 use Rattle.gup_read.proofs.Chains.{tried_ok, unused_Decides}
 use Rattle.gup_read.proofs.Judged.{Ends, built, later, Told}
@@ -28,7 +28,7 @@ actor_within st a word fields op e =
     let there = actor_there (actor_at st.script a) word t.0 in
     slice_get_within st.script.actors a there.0 there.1
 
--- ---- what a pin declares may be declared
+-- ---- what a pin or a get declares may be declared
 
 declarable_by : (st : Outline) (action : Action) (op : Op) (word : Word) (fields : List Word) → word ∷ fields ≡ action_words action → ActionOnce st action → HandleLimits st action → Means st action op → IsDeclarable op fields st
 declarable_by st (maps first count rights) op word fields same once few m = subst (λ (o : Op). IsDeclarable o fields st) (sym m.3) tt
@@ -38,12 +38,19 @@ declarable_by st (discards first count) op word fields same once few m = subst (
 declarable_by st (loads address) op word fields same once few m = subst (λ (o : Op). IsDeclarable o fields st) (sym m.3) tt
 declarable_by st (stores address value) op word fields same once few m = subst (λ (o : Op). IsDeclarable o fields st) (sym m.5) tt
 declarable_by st exits op word fields same once few m = subst (λ (o : Op). IsDeclarable o fields st) (sym m) tt
-declarable_by st (pins false handle first count write false) op word fields same once few m =
-    let behind : fields ≡ handle ∷ first ∷ count ∷ write_word write ∷ [] = ap behind_first same in
-    let pin : Op = Pin (length st.script.handles) m.0 m.1 (want_of write false) false in
+declarable_by st (pins false handle first count write long) op word fields same once few m =
+    let behind : fields ≡ handle ∷ first ∷ count ∷ write_word write ∷ long_words long = ap behind_first same in
+    let pin : Op = Pin (length st.script.handles) m.0 m.1 (want_of write long) false in
     subst (λ (o : Op). IsDeclarable o fields st) (sym m.3)
     (subst (λ (words : List Word). IsDeclarable pin words st) (sym behind) ((unused_Decides st.names handle).1 once, few))
+declarable_by st (gets handle page) op word fields same once few m =
+    let behind : fields ≡ handle ∷ page ∷ [] = ap behind_first same in
+    let get : Op = Get (length st.script.handles) m.0 in
+    subst (λ (o : Op). IsDeclarable o fields st) (sym m.2)
+    (subst (λ (words : List Word). IsDeclarable get words st) (sym behind) ((unused_Decides st.names handle).1 once, few))
+declarable_by st (puts handle) op word fields same once few m = subst (λ (o : Op). IsDeclarable o fields st) (sym m.2) tt
 declarable_by st (forks child) op word fields same once few m = subst (λ (o : Op). IsDeclarable o fields st) (sym m.2) tt
+declarable_by st (moves process page zone) op word fields same once few m = subst (λ (o : Op). IsDeclarable o fields st) (sym m.4) tt
 declarable_by st (unpins handle) op word fields same once few m = subst (λ (o : Op). IsDeclarable o fields st) (sym m.2) tt
 declarable_by st (takes handle) op word fields same once few m = subst (λ (o : Op). IsDeclarable o fields st) (sym m.2) tt
 declarable_by st (gives handle to) op word fields same once few m = subst (λ (o : Op). IsDeclarable o fields st) (sym m.4) tt
@@ -78,7 +85,9 @@ declarable st a word fields op e =
 
 -- ---- the actors stay
 
-pub still_within : (op : Op) (fields : List Word) (st : Outline) (a : ℕ) → a < length st.script.actors → a < length (with_pinned op fields st).script.actors
+pub still_within : (op : Op) (fields : List Word) (st : Outline) (a : ℕ) → a < length st.script.actors → a < length (with_made op fields st).script.actors
 still_within (Pin handle page n want fast) [] st a lt = lt
 still_within (Pin handle page n want fast) (name ∷ fields) st a lt = lt
+still_within (Get handle page) [] st a lt = lt
+still_within (Get handle page) (name ∷ fields) st a lt = lt
 still_within _ fields st a lt = lt

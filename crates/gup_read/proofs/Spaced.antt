@@ -1,4 +1,6 @@
 -- No word of a line that is right is empty, since no name is.
+use Rattle.gup_base.specs.declared.entry.Zone.{Zone}
+use Rattle.gup_base.specs.declared.entry.Zone.TheVariants.{Movable, Normal}
 use Rattle.std.proofs.Common.{◌≡◌, ℕ, ◌^◌, ◌<◌, Bool, true, false, cond, List, [], ◌∷◌, ◌++◌, length, refl, sym, ap, subst, ◌∙◌, Option, Some, None, inl, inr, arith}
 use Rattle.std.specs.Prelude.{codes, bytes_eq, decimal}
 use Rattle.std.specs.List.{AllByRecursion}
@@ -9,7 +11,7 @@ use Rattle.gup_spec_grammar.specs.Spelling.{parts, IsName, turn_word, address}
 use Rattle.gup_spec_grammar.specs.Names.{NamedEntry, find, declared}
 use Rattle.gup_spec_grammar.specs.declared.named.Named.{Named}
 use Rattle.gup_spec_grammar.specs.Outline.{Outline}
-use Rattle.gup_spec_grammar.specs.Said.{Word, Said, a_process, a_child, a_thread, a_device, a_mover, a_seed, some_turns, random_turns, said_words, Action, maps, unmaps, protects, discards, loads, stores, exits, pins, forks, unpins, takes, gives, transfers, action_words, rights_word, write_word, transfer_word}
+use Rattle.gup_spec_grammar.specs.Said.{Word, Said, a_process, a_child, a_thread, a_device, a_mover, a_seed, some_turns, random_turns, said_words, Action, maps, unmaps, protects, discards, loads, stores, exits, pins, gets, puts, forks, unpins, takes, gives, transfers, action_words, rights_word, write_word, transfer_word, moves, zone_word}
 use Rattle.gup_spec_grammar.specs.Grammar.{TurnsAnActor, Declares, ActionNames, with_declared, Does, IsNext, IsSaid, IsRightLine, Stage, before_head, before_frames, open_at}
 use Rattle.gup_spec_grammar.specs.Fault.{AreSpaced}
 use Rattle.gup_read.proofs.Verdicts.{given}
@@ -52,6 +54,7 @@ stays_declared st next (random_turns start count) h d = subst AreNamed (sym d.4.
 
 stays_handle : (st : Outline) (a : ℕ) (action : Action) → AreNamed st → ActionNames st a action → AreNamed (with_declared action st)
 stays_handle st a (pins fast handle first count write long) h names = unnamed_declared st.names handle _ (some_name handle names) h
+stays_handle st a (gets handle page) h names = unnamed_declared st.names handle _ (some_name handle names) h
 stays_handle st a _ h names = h
 
 stays_next : (st next : Outline) (words : List Word) → AreNamed st → IsNext st words next → AreNamed next
@@ -107,6 +110,10 @@ some_way : (write : Bool) → write_word write ≡ [] → ⊥
 some_way true e = cc
 some_way false e = cc
 
+some_zone : (zone : Zone) → zone_word zone ≡ [] → ⊥
+some_zone Normal e = cc
+some_zone Movable e = cc
+
 some_transfer : (outward : Bool) → transfer_word outward ≡ [] → ⊥
 some_transfer true e = cc
 some_transfer false e = cc
@@ -125,8 +132,12 @@ spaced_action st next a (discards first count) h d = let n = d.1 in (λ e. cc, (
 spaced_action st next a (loads at) h d = let n = d.1 in (λ e. cc, (λ e. some_address n.0 n.1 (sym n.2.0 ∙ e), tt))
 spaced_action st next a (stores at value) h d = let n = d.1.0 in let v = d.1.1 in (λ e. cc, (λ e. some_address n.0 n.1 (sym n.2.0 ∙ e), (some_decimal value v.0 v.1.0 v.1.1, tt)))
 spaced_action st next a exits h d = (λ e. cc, tt)
+spaced_action st next a (pins false handle first count write true) h d = let n = d.1 in (λ e. cc, (some_name handle d.2, (some_decimal first n.0 n.2.0 (omega (arith, n.2.4)), (some_decimal count n.1 n.2.1 (omega (arith, n.2.3)), (some_way write, (λ e. cc, tt))))))
 spaced_action st next a (pins false handle first count write false) h d = let n = d.1 in (λ e. cc, (some_name handle d.2, (some_decimal first n.0 n.2.0 (omega (arith, n.2.4)), (some_decimal count n.1 n.2.1 (omega (arith, n.2.3)), (some_way write, tt)))))
+spaced_action st next a (gets handle page) h d = let n = d.1 in (λ e. cc, (some_name handle d.2, (some_decimal page n.0 n.1.0 (omega (arith, n.1.1)), tt)))
+spaced_action st next a (puts handle) h d = (λ e. cc, (found_name st handle _ h d.2.1, tt))
 spaced_action st next a (forks child) h d = (λ e. cc, (found_name st child _ h d.2.1, tt))
+spaced_action st next a (moves process page zone) h d = let n = d.1 in (λ e. cc, (found_name st process _ h d.2.1, (some_decimal page n.0 n.1.0 (omega (arith, n.1.1)), (some_zone zone, tt))))
 spaced_action st next a (unpins handle) h d = (λ e. cc, (found_name st handle _ h d.2.1, tt))
 spaced_action st next a (takes handle) h d = (λ e. cc, (found_name st handle _ h d.2.1, tt))
 spaced_action st next a (gives handle to) h d = let n = d.2 in (λ e. cc, (found_name st handle _ h n.0.1, (found_name st to _ h n.1.1, tt)))

@@ -12,19 +12,20 @@ use Rattle.gup_script.specs.declared.op.Kind.{Kind}
 use Rattle.gup_script.specs.declared.op.Kind.TheVariants.{Thread, Device, Mover}
 use Rattle.gup_script.specs.declared.op.Op.{Op}
 use Rattle.gup_script.specs.Script.{ScriptValue, Process, Actor, FrameCounts, is_thread}
-use Rattle.gup_spec_grammar.specs.Outline.{Outline, empty_outline, with_process, with_actor, with_handle, with_turns, with_seed, is_device, is_mover, how_many}
+use Rattle.gup_spec_grammar.specs.Outline.{Outline, empty_outline, with_process, with_actor, with_named, with_handle, with_reference, with_turns, with_seed, is_device, is_mover, how_many}
 use Rattle.gup_script.specs.Limits.{most_handles, most_operations, most_turns}
 use Rattle.gup_spec_grammar.specs.Said.{Word}
-use Rattle.gup_spec_grammar.specs.Grammar.{NamesProcess, NamesActor, NamesPin, AreFrameCounts}
+use Rattle.gup_spec_grammar.specs.Grammar.{NamesProcess, NamesActor, NamesPin, NamesGot, AreFrameCounts}
 use Rattle.gup_script.specs.Valid.{IsOp, KindFits, FitsKind, AreDeclared}
 use Rattle.gup_read.proofs.Verdicts.{given, same_given}
 use Rattle.gup_read.proofs.Lists.{each_append, each_like}
-use Rattle.gup_read.proofs.Forking.{OpAt, IsForkOf, IsPinOf, AreOnce, declared_stay, actor_once}
+use Rattle.gup_read.proofs.Forking.{OpAt, IsForkOf, IsMaking, AreOnce, declared_stay, actor_once}
 
 pub record Stands (st : Outline) : Type 0 where
   pub processes_in : (word : Word) (p : ℕ) → NamesProcess st word p → p < length st.script.processes
   pub actors_in : (word : Word) (a : ℕ) → NamesActor st word a → a < length st.script.actors
   pub pins_in : (word : Word) (h : ℕ) → NamesPin st word h → h < length st.script.handles
+  pub gots_in : (word : Word) (h : ℕ) → NamesGot st word h → h < length st.script.handles
   pub few_frames : st.script.frames.movable + st.script.frames.normal ≤ 1024
   pub few_tables : st.script.frames.tables ≤ 8192
   pub few_processes : length st.script.processes ≤ 16
@@ -37,7 +38,7 @@ pub record Stands (st : Outline) : Type 0 where
   pub ops_fit : AllByRecursion (λ (a : Actor). All (FitsKind a.kind) a.ops) st.script.actors
   pub declared : AllByRecursion (λ (a : Actor). All (AreDeclared st.script) a.ops) st.script.actors
   pub forks_once : AreOnce IsForkOf st.script.actors
-  pub pins_once : AreOnce IsPinOf st.script.actors
+  pub handles_once : AreOnce IsMaking st.script.actors
   pub counted : sum_by (λ (a : Actor). length a.ops) st.script.actors ≡ st.operations
   pub few_ops : st.operations ≤ most_operations
   pub turns : AllByRecursion (λ a. a < length st.script.actors) st.script.turns
@@ -48,6 +49,7 @@ stands_empty counts h = record {
   processes_in = λ word p e. absurd cc;
   actors_in = λ word a e. absurd cc;
   pins_in = λ word n e. absurd cc;
+  gots_in = λ word n e. absurd cc;
   few_frames = h.0;
   few_tables = h.1;
   few_processes = omega arith;
@@ -60,7 +62,7 @@ stands_empty counts h = record {
   ops_fit = tt;
   declared = tt;
   forks_once = λ a b j k child e f. absurd (nothing a j e.0 e.1);
-  pins_once = λ a b j k handle e f. absurd (nothing a j e.0 e.1);
+  handles_once = λ a b j k handle e f. absurd (nothing a j e.0 e.1);
   counted = refl;
   few_ops = omega arith;
   turns = tt;
@@ -103,6 +105,18 @@ process_no_pin p h e = cc
 actor_no_pin : (a h : ℕ) → named.Actor a ≡ named.Pin h → ⊥
 actor_no_pin a h e = cc
 
+process_no_got : (p h : ℕ) → named.Process p ≡ named.Got h → ⊥
+process_no_got p h e = cc
+
+actor_no_got : (a h : ℕ) → named.Actor a ≡ named.Got h → ⊥
+actor_no_got a h e = cc
+
+pin_no_got : (g h : ℕ) → named.Pin g ≡ named.Got h → ⊥
+pin_no_got g h e = cc
+
+same_got : (h g : ℕ) → named.Got h ≡ named.Got g → h ≡ g
+same_got h g e = cc
+
 -- ---- one more process
 
 pub kind_fits : (s t : ScriptValue) → length s.processes ≤ length t.processes → (k : Kind) → KindFits s k → KindFits t k
@@ -128,6 +142,10 @@ stands_process st name born h few =
         | inl old ↦ h.pins_in word n old
         | inr new ↦ absurd (process_no_pin (length st.script.processes) n new)
       ];
+      gots_in = λ word n e. elim (found_behind st.names name word (named.Process (length st.script.processes)) (named.Got n) e) [
+        | inl old ↦ h.gots_in word n old
+        | inr new ↦ absurd (process_no_got (length st.script.processes) n new)
+      ];
       few_frames = h.few_frames;
       few_tables = h.few_tables;
       few_processes = omega arith;
@@ -140,7 +158,7 @@ stands_process st name born h few =
       ops_fit = h.ops_fit;
       declared = declared_stay st.script next.script (process ∷ []) refl (omega arith) (omega arith) st.script.actors h.declared;
       forks_once = h.forks_once;
-      pins_once = h.pins_once;
+      handles_once = h.handles_once;
       counted = h.counted;
       few_ops = h.few_ops;
       turns = h.turns;
@@ -168,6 +186,10 @@ stands_actor st name kind h fits threads devices movers =
         | inl old ↦ h.pins_in word n old
         | inr new ↦ absurd (actor_no_pin (length actors) n new)
       ];
+      gots_in = λ word n e. elim (found_behind st.names name word (named.Actor (length actors)) (named.Got n) e) [
+        | inl old ↦ h.gots_in word n old
+        | inr new ↦ absurd (actor_no_got (length actors) n new)
+      ];
       few_frames = h.few_frames;
       few_tables = h.few_tables;
       few_processes = h.few_processes;
@@ -180,7 +202,7 @@ stands_actor st name kind h fits threads devices movers =
       ops_fit = each_append (λ (a : Actor). All (FitsKind a.kind) a.ops) actors (actor ∷ []) h.ops_fit (All-nil (FitsKind kind), tt);
       declared = declared_stay st.script next.script [] (sym (append-nil st.script.processes)) (omega arith) (omega arith) next.script.actors (each_append (λ (a : Actor). All (AreDeclared st.script) a.ops) actors (actor ∷ []) h.declared (All-nil (AreDeclared st.script), tt));
       forks_once = actor_once IsForkOf actors actor refl h.forks_once;
-      pins_once = actor_once IsPinOf actors actor refl h.pins_once;
+      handles_once = actor_once IsMaking actors actor refl h.handles_once;
       counted = let sum = sum_by_push (λ (a : Actor). length a.ops) actors actor in let old = h.counted in omega arith;
       few_ops = h.few_ops;
       turns = each_like (λ a. a < length actors) (λ a. a < length next.script.actors) st.script.turns (λ a lt. omega arith) h.turns;
@@ -189,23 +211,34 @@ stands_actor st name kind h fits threads devices movers =
 
 -- ---- one more handle
 
-pub stands_handle : (st : Outline) (name : Word) → Stands st → length st.script.handles < most_handles → Stands (with_handle name st)
-stands_handle st name h few =
-    let next = with_handle name st in
+-- of a pin, or of a reference
+record IsNextHandle (st : Outline) (what : Named) : Type 0 where
+  no_process : (p : ℕ) → what ≡ named.Process p → ⊥
+  no_actor : (a : ℕ) → what ≡ named.Actor a → ⊥
+  pin : (h : ℕ) → what ≡ named.Pin h → length st.script.handles ≡ h
+  got : (h : ℕ) → what ≡ named.Got h → length st.script.handles ≡ h
+
+stands_named : (st : Outline) (name : Word) (what : Named) → IsNextHandle st what → Stands st → length st.script.handles < most_handles → Stands (with_named name what st)
+stands_named st name what is h few =
+    let next = with_named name what st in
     let handles = st.script.handles in
     let long : length next.script.handles ≡ length handles + 1 = length_push handles name in
     record {
-      processes_in = λ word p e. elim (found_behind st.names name word (named.Pin (length handles)) (named.Process p) e) [
+      processes_in = λ word p e. elim (found_behind st.names name word what (named.Process p) e) [
         | inl old ↦ h.processes_in word p old
-        | inr new ↦ absurd (process_no_pin p (length handles) (sym new))
+        | inr new ↦ absurd (is.no_process p new)
       ];
-      actors_in = λ word a e. elim (found_behind st.names name word (named.Pin (length handles)) (named.Actor a) e) [
+      actors_in = λ word a e. elim (found_behind st.names name word what (named.Actor a) e) [
         | inl old ↦ h.actors_in word a old
-        | inr new ↦ absurd (actor_no_pin a (length handles) (sym new))
+        | inr new ↦ absurd (is.no_actor a new)
       ];
-      pins_in = λ word n e. elim (found_behind st.names name word (named.Pin (length handles)) (named.Pin n) e) [
+      pins_in = λ word n e. elim (found_behind st.names name word what (named.Pin n) e) [
         | inl old ↦ let lt = h.pins_in word n old in omega arith
-        | inr new ↦ let same = same_pin (length handles) n new in omega arith
+        | inr new ↦ let same = is.pin n new in omega arith
+      ];
+      gots_in = λ word n e. elim (found_behind st.names name word what (named.Got n) e) [
+        | inl old ↦ let lt = h.gots_in word n old in omega arith
+        | inr new ↦ let same = is.got n new in omega arith
       ];
       few_frames = h.few_frames;
       few_tables = h.few_tables;
@@ -219,12 +252,34 @@ stands_handle st name h few =
       ops_fit = h.ops_fit;
       declared = declared_stay st.script next.script [] (sym (append-nil st.script.processes)) (omega arith) (omega arith) st.script.actors h.declared;
       forks_once = h.forks_once;
-      pins_once = h.pins_once;
+      handles_once = h.handles_once;
       counted = h.counted;
       few_ops = h.few_ops;
       turns = h.turns;
       few_turns = h.few_turns;
     }
+
+pub stands_handle : (st : Outline) (name : Word) → Stands st → length st.script.handles < most_handles → Stands (with_handle name st)
+stands_handle st name h few =
+    stands_named st name (named.Pin (length st.script.handles))
+    (record {
+      no_process = λ p e. process_no_pin p (length st.script.handles) (sym e);
+      no_actor = λ a e. actor_no_pin a (length st.script.handles) (sym e);
+      pin = λ n e. same_pin (length st.script.handles) n e;
+      got = λ n e. absurd (pin_no_got (length st.script.handles) n e);
+    })
+    h few
+
+pub stands_reference : (st : Outline) (name : Word) → Stands st → length st.script.handles < most_handles → Stands (with_reference name st)
+stands_reference st name h few =
+    stands_named st name (named.Got (length st.script.handles))
+    (record {
+      no_process = λ p e. process_no_got p (length st.script.handles) (sym e);
+      no_actor = λ a e. actor_no_got a (length st.script.handles) (sym e);
+      pin = λ n e. absurd (pin_no_got n (length st.script.handles) (sym e));
+      got = λ n e. same_got (length st.script.handles) n e;
+    })
+    h few
 
 -- ---- the seed, and more turns
 
@@ -233,6 +288,7 @@ stands_seed st seed h = record {
   processes_in = h.processes_in;
   actors_in = h.actors_in;
   pins_in = h.pins_in;
+  gots_in = h.gots_in;
   few_frames = h.few_frames;
   few_tables = h.few_tables;
   few_processes = h.few_processes;
@@ -245,7 +301,7 @@ stands_seed st seed h = record {
   ops_fit = h.ops_fit;
   declared = h.declared;
   forks_once = h.forks_once;
-  pins_once = h.pins_once;
+  handles_once = h.handles_once;
   counted = h.counted;
   few_ops = h.few_ops;
   turns = h.turns;
@@ -257,6 +313,7 @@ stands_turns st turns h of_actors few = record {
   processes_in = h.processes_in;
   actors_in = h.actors_in;
   pins_in = h.pins_in;
+  gots_in = h.gots_in;
   few_frames = h.few_frames;
   few_tables = h.few_tables;
   few_processes = h.few_processes;
@@ -269,7 +326,7 @@ stands_turns st turns h of_actors few = record {
   ops_fit = h.ops_fit;
   declared = h.declared;
   forks_once = h.forks_once;
-  pins_once = h.pins_once;
+  handles_once = h.handles_once;
   counted = h.counted;
   few_ops = h.few_ops;
   turns = each_append (λ a. a < length st.script.actors) st.script.turns turns h.turns of_actors;

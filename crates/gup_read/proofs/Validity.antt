@@ -8,17 +8,16 @@ use Rattle.gup_read_words.proofs.SpelledNumbers.{number_read}
 use Rattle.gup_read_words.specs.Text.{number_in}
 use Rattle.gup_script.specs.declared.op.Kind.{Kind}
 use Rattle.gup_script.specs.declared.op.Kind.TheVariants.{Thread, Device, Mover}
-use Rattle.gup_script.specs.declared.op.Op.TheVariants.{Pin, Fork}
+use Rattle.gup_script.specs.declared.op.Op.TheVariants.{Fork}
 use Rattle.gup_script.specs.Script.{ScriptValue, Actor, is_thread}
 use Rattle.gup_spec_grammar.specs.Outline.{Outline, is_device, is_mover, draws, next_state}
 use Rattle.gup_spec_grammar.specs.Said.{Word, Said, a_process, a_child, a_thread, a_device, a_mover, a_seed, some_turns, random_turns}
 use Rattle.gup_spec_grammar.specs.Grammar.{AreTurnWords, Declares, IsNext, IsSaid, Stage, before_head, before_frames, open_at, IsRightLine, AreRightLines, Accepts}
 use Rattle.gup_read.specs.Reading.{reading}
-use Rattle.gup_script.specs.Valid.{IsOp, KindFits, FitsKind, AreDeclared, PinsAt, IsScript}
+use Rattle.gup_script.specs.Valid.{IsOp, KindFits, FitsKind, AreDeclared, IsScript}
 use Rattle.gup_read.proofs.Declaring.{one_found}
 use Rattle.gup_read.proofs.Turning.{turns_are}
 use Rattle.gup_read.proofs.Lists.{each_append, each_replicate, counts_add, none_count}
-use Rattle.gup_read.proofs.Forking.{IsPinOf, At}
 use Rattle.gup_read.proofs.Standing.{Stands, stands_empty, stands_process, stands_actor, stands_seed, stands_turns}
 use Rattle.gup_read.proofs.Operating.{stands_does}
 use Rattle.gup_read.proofs.Laws.{found}
@@ -114,9 +113,6 @@ one_kind actor = way actor.kind where
   way (Device slots) = refl
   way Mover = refl
 
-pin_at : (s : ScriptValue) (a k handle : ℕ) → PinsAt s a k handle → At IsPinOf s.actors a k handle
-pin_at s a k handle p = (Pin handle p.0 p.1 p.2 p.3, p.4, (p.0, p.1, p.2, p.3, refl))
-
 stands_script : (st : Outline) → Stands st → IsScript st.script
 stands_script st h =
     let actors = st.script.actors in
@@ -135,7 +131,7 @@ stands_script st h =
       ops_fit = All-from_recursion (λ (a : Actor). All (FitsKind a.kind) a.ops) actors h.ops_fit;
       declared = All-from_recursion (λ (a : Actor). All (AreDeclared st.script) a.ops) actors h.declared;
       forks_once = λ a b j k child e f. h.forks_once a b j k child (Fork child, e, refl) (Fork child, f, refl);
-      pins_once = λ a b j k handle e f. h.pins_once a b j k handle (pin_at st.script a j handle e) (pin_at st.script b k handle f);
+      handles_once = h.handles_once;
       few_ops = let counted = h.counted in let few = h.few_ops in omega arith;
       turns = All-from_recursion (λ a. a < length actors) st.script.turns h.turns;
       few_turns = h.few_turns;

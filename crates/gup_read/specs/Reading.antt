@@ -1,5 +1,7 @@
 -- The reader as functions on lists: the script in a text, or its first fault. Each is a chain of tests in the order of
 -- the reasons.
+use Rattle.gup_base.specs.declared.entry.Zone.{Zone}
+use Rattle.gup_base.specs.declared.entry.Zone.TheVariants.{Movable, Normal}
 use Rattle.std.specs.Prelude.{ℕ, ◌+◌, ◌==◌, ◌&&◌, ◌||◌, not, nat_lt, nat_le, Bool, true, false, if◌then◌else◌, List, [], ◌∷◌, ◌++◌, length, replicate, codes, Option, Some, None, is_some, Result, Ok, Err}
 use Rattle.std.specs.List.{list_all}
 use Rattle.std.specs.Str.{bytes_eq}
@@ -17,8 +19,8 @@ use Rattle.gup_spec_grammar.specs.declared.fault.Reason.TheVariants as reasons
 use Rattle.gup_spec_grammar.specs.declared.fault.ScriptFault.{ScriptFault}
 use Rattle.gup_script.specs.Script.{Actor, FrameCounts, actor_at, is_thread}
 use Rattle.gup_spec_grammar.specs.Grammar.{Stage, before_head, before_frames, open_at, most_bytes, want_of}
-use Rattle.gup_spec_grammar.specs.Outline.{Outline, frame_counts, empty_outline, with_process, with_actor, with_handle, with_operation, with_turns, with_seed, is_device, how_many, has_mover, is_child, is_forked, next_handle, is_receiver, draws}
-use Rattle.gup_read_outline.specs.Named.{process_of, actor_of, pin_of, is_got_name, is_mirror_of, may_mirror}
+use Rattle.gup_spec_grammar.specs.Outline.{Outline, frame_counts, empty_outline, with_process, with_actor, with_handle, with_reference, with_operation, with_turns, with_seed, is_device, how_many, has_mover, is_child, is_forked, next_handle, is_receiver, draws}
+use Rattle.gup_read_outline.specs.Named.{process_of, actor_of, pin_of, got_of, is_mirror_of, may_mirror}
 use Rattle.gup_script.specs.Limits.{most_processes, most_threads, most_devices, most_pinned, most_words, most_operations, most_turns, most_frames, most_tables}
 use Rattle.gup_base.specs.Counts.{most_slots}
 
@@ -51,8 +53,11 @@ way_in word =
     else if bytes_eq word (codes "write") then Some true
     else None
 
-abbrev pub is_zone : List ℕ → Bool
-is_zone word = bytes_eq word (codes "normal") || bytes_eq word (codes "movable")
+abbrev pub zone_in : List ℕ → Option Zone
+zone_in word =
+    if bytes_eq word (codes "normal") then Some Normal
+    else if bytes_eq word (codes "movable") then Some Movable
+    else None
 
 -- What an action's words say: an operation, or none where its kind comes later. The words stand after the
 -- operation's own.
@@ -100,36 +105,36 @@ unfoldable pub exit_in : List (List ℕ) → Result (Option Op) Reason
 exit_in [] = Ok (Some ops.Exit)
 exit_in _ = Err reasons.Shape
 
--- a pin, which comes later where it is fast or long
-unfoldable pub pinned_in : (built : Bool) → Outline → (handle first count way : List ℕ) → Result (Option Op) Reason
-pinned_in built st handle first count way = do
+-- a pin, which comes later where it is fast
+unfoldable pub pinned_in : (built long : Bool) → Outline → (handle first count way : List ℕ) → Result (Option Op) Reason
+pinned_in built long st handle first count way = do
   write ← need reasons.Shape (way_in way)
   range ← need reasons.Number (range_in most_pinned first count)
   _ ← check reasons.Name (is_name handle)
   _ ← check reasons.Twice (is_unused st.names handle)
   h ← need reasons.Limit (next_handle st)
-  Ok (if built then Some (ops.Pin h range.0 range.1 (want_of write false) false) else None)
+  Ok (if built then Some (ops.Pin h range.0 range.1 (want_of write long) false) else None)
 
 unfoldable pub pin_in : (fast : Bool) → Outline → List (List ℕ) → Result (Option Op) Reason
-pin_in fast st (handle ∷ first ∷ count ∷ way ∷ []) = pinned_in (not fast) st handle first count way
+pin_in fast st (handle ∷ first ∷ count ∷ way ∷ []) = pinned_in (not fast) false st handle first count way
 pin_in fast st (handle ∷ first ∷ count ∷ way ∷ long ∷ []) = do
   _ ← check reasons.Shape (bytes_eq long (codes "long"))
-  pinned_in false st handle first count way
+  pinned_in (not fast) true st handle first count way
 pin_in fast st _ = Err reasons.Shape
 
 unfoldable pub get_in : Outline → List (List ℕ) → Result (Option Op) Reason
 get_in st (handle ∷ page ∷ []) = do
-  _ ← need reasons.Number (page_in page)
+  p ← need reasons.Number (page_in page)
   _ ← check reasons.Name (is_name handle)
   _ ← check reasons.Twice (is_unused st.names handle)
-  _ ← need reasons.Limit (next_handle st)
-  Ok None
+  h ← need reasons.Limit (next_handle st)
+  Ok (Some (ops.Get h p))
 get_in st _ = Err reasons.Shape
 
 unfoldable pub put_in : Outline → List (List ℕ) → Result (Option Op) Reason
 put_in st (handle ∷ []) = do
-  _ ← check reasons.Name (is_got_name (find st.names handle))
-  Ok None
+  h ← need reasons.Name (got_of (find st.names handle))
+  Ok (Some (ops.Put h))
 put_in st _ = Err reasons.Shape
 
 unfoldable pub fork_in : Outline → List (List ℕ) → Result (Option Op) Reason
@@ -210,10 +215,10 @@ look_in st a _ = Err reasons.Shape
 
 unfoldable pub move_in : Outline → List (List ℕ) → Result (Option Op) Reason
 move_in st (process ∷ page ∷ zone ∷ []) = do
-  _ ← check reasons.Shape (is_zone zone)
-  _ ← need reasons.Number (page_in page)
-  _ ← need reasons.Name (process_of (find st.names process))
-  Ok None
+  z ← need reasons.Shape (zone_in zone)
+  g ← need reasons.Number (page_in page)
+  p ← need reasons.Name (process_of (find st.names process))
+  Ok (Some (ops.Move p g z))
 move_in st _ = Err reasons.Shape
 
 -- the operation with this word, by the kind of its actor
@@ -262,10 +267,11 @@ abbrev pub op_of_actor : Outline → (actor : ℕ) → Option Actor → (word : 
 op_of_actor st a None word fields = Err reasons.Word
 op_of_actor st a (Some actor) word fields = op_of_kind st a actor.kind word fields
 
--- the outline with the handle of a pin, whose name is the first word after the operation's own
-abbrev pub with_pinned : Op → List (List ℕ) → Outline → Outline
-with_pinned (ops.Pin handle page n want fast) (name ∷ fields) st = with_handle name st
-with_pinned op fields st = st
+-- the outline with the handle of a pin or of a reference, whose name is the first word after the operation's own
+abbrev pub with_made : Op → List (List ℕ) → Outline → Outline
+with_made (ops.Pin handle page n want fast) (name ∷ fields) st = with_handle name st
+with_made (ops.Get handle page) (name ∷ fields) st = with_reference name st
+with_made op fields st = st
 
 -- the words after `on`
 unfoldable pub on_in : Outline → List (List ℕ) → Result Outline Reason
@@ -274,7 +280,7 @@ on_in st (name ∷ word ∷ fields) = do
   built ← op_of_actor st a (actor_at st.script a) word fields
   _ ← check reasons.Limit (nat_lt st.operations most_operations)
   op ← need reasons.Later built
-  Ok (with_operation a op (with_pinned op fields st))
+  Ok (with_operation a op (with_made op fields st))
 on_in st _ = Err reasons.Shape
 
 -- declarations: the words after the first

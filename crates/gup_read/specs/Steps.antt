@@ -24,9 +24,11 @@ abbrev pub Makes : Result Outline Reason → Outline → Result Unit Trouble →
 Makes found next (Ok done) = found ≡ Ok next
 Makes found next (Err e) = IsTrouble found e
 
--- the handle of a pin, named by the first of the words, may be declared
+-- the handle of a pin or of a reference, named by the first of the words, may be declared
 abbrev pub IsDeclarable : Op → List (List ℕ) → Outline → Type 0
 IsDeclarable (ops.Pin handle page n want fast) (name ∷ fields) st =
+    (is_unused st.names name ≡ true) × (length st.script.handles < most_handles)
+IsDeclarable (ops.Get handle page) (name ∷ fields) st =
     (is_unused st.names name ≡ true) × (length st.script.handles < most_handles)
 IsDeclarable op fields st = Unit {0}
 

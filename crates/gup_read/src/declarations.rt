@@ -2,7 +2,7 @@
 //! for the first fault that it has.
 ghost use Rattle.std.specs.Prelude.{◌≡◌, map, OnOk};
 ghost use Rattle.gup_read.specs.Steps.{Makes, IsDeclarable};
-ghost use Rattle.gup_read.specs.Reading.{with_pinned, on_in, process_in, thread_in, device_in, mover_in, seed_in, next_in};
+ghost use Rattle.gup_read.specs.Reading.{with_made, on_in, process_in, thread_in, device_in, mover_in, seed_in, next_in};
 
 use crate::operations::actor_op;
 use crate::refusal::{Trouble, check};
@@ -22,13 +22,14 @@ const MAX_DEVICES: usize = 16;
 /// How many words the store of a device may have.
 const MAX_SLOTS: u64 = 4_096;
 
-/// Declares the handle of a pin, whose name is the first word after the operation's own.
-fn declare_pinned(reader: &mut Reader, op: &Op, fields: &[&str]) -> Result<(), AllocError>
+/// Declares the handle of a pin or of a reference, whose name is the first word after the operation's own.
+fn declare_made(reader: &mut Reader, op: &Op, fields: &[&str]) -> Result<(), AllocError>
     requires { IsDeclarable op.now (map (λ word. word.now) fields.now) reader.old }
-    ensures { OnOk result (reader.new ≡ with_pinned op.now (map (λ word. word.now) fields.now) reader.old) }
+    ensures { OnOk result (reader.new ≡ with_made op.now (map (λ word. word.now) fields.now) reader.old) }
 {
     match (op, fields) {
         (Op::Pin { .. }, [name, ..]) => reader.add_handle(name),
+        (Op::Get { .. }, [name, ..]) => reader.add_reference(name),
         _ => Ok(()),
     }
 }
@@ -44,7 +45,7 @@ fn on_line(reader: &mut Reader, fields: &[&str]) -> Result<(), Trouble>
     let op = actor_op(reader, actor, word, fields)?;
     check(reader.has_room(), Reason::Limit)?;
     let op = op.ok_or(Reason::Later)?;
-    declare_pinned(reader, &op, fields)?;
+    declare_made(reader, &op, fields)?;
     reader.add_operation(actor, op)?;
     Ok(())
 }

@@ -4,10 +4,10 @@ ghost use Rattle.std.specs.Prelude.{◌≡◌, map, Some};
 ghost use Rattle.std.specs.List.{list_all};
 ghost use Rattle.gup_read_words.specs.Text.{range_in};
 ghost use Rattle.gup_script.specs.Script.{Actor, actor_at};
-ghost use Rattle.gup_read.specs.Reading.{rights_in, map_in, unmap_in, protect_in, discard_in, load_in, store_in, exit_in, way_in, pinned_in, pin_in, get_in, put_in, fork_in, unpin_in, take_in, give_in, transfer_in, segments_in, at_most_64, parts_in, mirror_in, look_in, move_in, thread_op_in, device_op_in, mover_op_in, op_of_kind, op_of_actor};
+ghost use Rattle.gup_read.specs.Reading.{rights_in, zone_in, map_in, unmap_in, protect_in, discard_in, load_in, store_in, exit_in, way_in, pinned_in, pin_in, get_in, put_in, fork_in, unpin_in, take_in, give_in, transfer_in, segments_in, at_most_64, parts_in, mirror_in, look_in, move_in, thread_op_in, device_op_in, mover_op_in, op_of_kind, op_of_actor};
 
 use crate::refusal::check;
-use gup_base::{ActorNo, PageNo, Parts, Rights, Want};
+use gup_base::{ActorNo, PageNo, Parts, Rights, Want, Zone};
 use gup_read_outline::Reader;
 use gup_read_words::{address, count, index, is_name, number, page, range, segment, word_no};
 use gup_script::{Kind, Op};
@@ -135,17 +135,18 @@ fn pinned_range(first: &str, count: &str) -> Option<(PageNo, u8)>
     Some((page, n as u8))
 }
 
-/// The words of a pin but for `long`. A pin is built unless it is fast or long.
+/// The words of a pin but for `long`. A pin is built unless it is fast.
 #[tactic(auto, unfolding(crate::specs::Reading::pinned_in))]
 fn pinned_pages(
     reader: &Reader,
     built: bool,
+    long: bool,
     handle: &str,
     first: &str,
     count: &str,
     way_word: &str,
 ) -> Result<Option<Op>, Reason>
-    ensures { result ≡ pinned_in built reader.now handle.now first.now count.now way_word.now }
+    ensures { result ≡ pinned_in built long reader.now handle.now first.now count.now way_word.now }
 {
     let write = way(way_word).ok_or(Reason::Shape)?;
     let (page, n) = pinned_range(first, count).ok_or(Reason::Number)?;
@@ -157,7 +158,7 @@ fn pinned_pages(
             handle,
             page,
             n,
-            want: Want { write, long: false },
+            want: Want { write, long },
             fast: false,
         }))
     } else {
@@ -171,10 +172,12 @@ fn pin_op(reader: &Reader, fast: bool, fields: &[&str]) -> Result<Option<Op>, Re
     ensures { result ≡ pin_in fast reader.now (map (λ word. word.now) fields.now) }
 {
     match fields {
-        [handle, first, count, way] => pinned_pages(reader, !fast, handle, first, count, way),
+        [handle, first, count, way] => pinned_pages(
+            reader, !fast, false, handle, first, count, way,
+        ),
         [handle, first, count, way, long] => {
             check(*long == "long", Reason::Shape)?;
-            pinned_pages(reader, false, handle, first, count, way)
+            pinned_pages(reader, !fast, true, handle, first, count, way)
         }
         _ => Err(Reason::Shape),
     }
@@ -187,11 +190,11 @@ fn get_op(reader: &Reader, fields: &[&str]) -> Result<Option<Op>, Reason>
     let [handle, page_word] = fields else {
         return Err(Reason::Shape);
     };
-    page(page_word).ok_or(Reason::Number)?;
+    let page = page(page_word).ok_or(Reason::Number)?;
     check(is_name(handle), Reason::Name)?;
     check(reader.is_unused(handle), Reason::Twice)?;
-    reader.next_handle().ok_or(Reason::Limit)?;
-    Ok(None)
+    let handle = reader.next_handle().ok_or(Reason::Limit)?;
+    Ok(Some(Op::Get { handle, page }))
 }
 
 #[tactic(auto, unfolding(crate::specs::Reading::put_in))]
@@ -201,8 +204,8 @@ fn put_op(reader: &Reader, fields: &[&str]) -> Result<Option<Op>, Reason>
     let [handle] = fields else {
         return Err(Reason::Shape);
     };
-    check(reader.is_got(handle), Reason::Name)?;
-    Ok(None)
+    let handle = reader.got(handle).ok_or(Reason::Name)?;
+    Ok(Some(Op::Put { handle }))
 }
 
 #[tactic(auto, unfolding(crate::specs::Reading::fork_in))]
@@ -335,17 +338,27 @@ fn look_op(reader: &Reader, device: ActorNo, fields: &[&str]) -> Result<Option<O
     Ok(None)
 }
 
+fn zone(word: &str) -> Option<Zone>
+    ensures { result ≡ zone_in word.now }
+{
+    match word {
+        "normal" => Some(Zone::Normal),
+        "movable" => Some(Zone::Movable),
+        _ => None,
+    }
+}
+
 #[tactic(auto, unfolding(crate::specs::Reading::move_in))]
 fn move_op(reader: &Reader, fields: &[&str]) -> Result<Option<Op>, Reason>
     ensures { result ≡ move_in reader.now (map (λ word. word.now) fields.now) }
 {
-    let [process, page_word, zone] = fields else {
+    let [process, page_word, zone_word] = fields else {
         return Err(Reason::Shape);
     };
-    check(*zone == "normal" || *zone == "movable", Reason::Shape)?;
-    page(page_word).ok_or(Reason::Number)?;
-    reader.process(process).ok_or(Reason::Name)?;
-    Ok(None)
+    let zone = zone(zone_word).ok_or(Reason::Shape)?;
+    let page = page(page_word).ok_or(Reason::Number)?;
+    let proc = reader.process(process).ok_or(Reason::Name)?;
+    Ok(Some(Op::Move { proc, page, zone }))
 }
 
 #[tactic(auto, unfolding(crate::specs::Reading::thread_op_in))]

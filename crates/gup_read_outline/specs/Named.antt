@@ -16,9 +16,9 @@ abbrev pub pin_of : Option Named → Option ℕ
 pin_of (Some (named.Pin h)) = Some h
 pin_of _ = None
 
-abbrev pub is_got_name : Option Named → Bool
-is_got_name (Some (named.Got h)) = true
-is_got_name _ = false
+abbrev pub got_of : Option Named → Option ℕ
+got_of (Some (named.Got h)) = Some h
+got_of _ = None
 
 -- a mirror slot of this device
 abbrev pub is_mirror_of : ℕ → Option Named → Bool

@@ -3,10 +3,10 @@ ghost use Rattle.std.specs.Prelude.{◌≡◌, ◌↔◌, ◌<◌, ◌≤◌, �
 ghost use Rattle.std.specs.List.{list_any};
 ghost use Rattle.gup_spec_grammar.specs.Names.{find, is_unused};
 ghost use Rattle.gup_script.specs.Script.{actor_at, process_at};
-ghost use Rattle.gup_spec_grammar.specs.Outline.{frame_counts, empty_outline, with_process, with_actor, with_handle, with_operation, with_turns, with_seed, draws, is_device, is_mover, how_many, has_mover, is_child, forks_child, is_forked, next_handle, is_receiver};
+ghost use Rattle.gup_spec_grammar.specs.Outline.{frame_counts, empty_outline, with_process, with_actor, with_handle, with_reference, with_operation, with_turns, with_seed, draws, is_device, is_mover, how_many, has_mover, is_child, forks_child, is_forked, next_handle, is_receiver};
 ghost use Rattle.gup_script.specs.Script.{is_thread};
 ghost use Rattle.gup_read_outline.specs.Room.{HasRoomFor};
-ghost use Rattle.gup_read_outline.specs.Named.{process_of, actor_of, pin_of, is_got_name, is_mirror_of, may_mirror};
+ghost use Rattle.gup_read_outline.specs.Named.{process_of, actor_of, pin_of, got_of, is_mirror_of, may_mirror};
 
 use crate::drawing::{push_drawn, push_times};
 use gup_base::{ActorNo, HandleNo, ProcNo};
@@ -128,16 +128,14 @@ impl Reader {
         }
     }
 
-    /// Whether the word names a got reference.
-    pub fn is_got(&self, word: &str) -> bool
-        ensures { result ≡ is_got_name (find self.now.names word.now) }
+    /// The handle of a got reference that the word names.
+    pub fn got(&self, word: &str) -> Option<HandleNo>
+        ensures { result ≡ got_of (find self.now.names word.now) }
     {
-        let Some(named) = self.names.find(word) else {
-            return false;
-        };
+        let named = self.names.find(word)?;
         match named {
-            Named::Got(_) => true,
-            _ => false,
+            Named::Got(h) => Some(h),
+            _ => None,
         }
     }
 
@@ -314,6 +312,18 @@ impl Reader {
         let number = HandleNo::new(self.contents.handles.len() as u64).unwrap();
         self.contents.handles.push(String::from_str(alloc, name)?)?;
         self.names.declare(name, Named::Pin(number))
+    }
+
+    /// One more handle, of a got reference.
+    pub fn add_reference(&mut self, name: &str) -> Result<(), AllocError>
+        requires unused { is_unused self.old.names name.now ≡ true }
+        requires room { length self.old.script.handles < 1024 }
+        ensures { OnOk result (self.new ≡ with_reference name.now self.old) }
+    {
+        let alloc = *self.contents.handles.allocator();
+        let number = HandleNo::new(self.contents.handles.len() as u64).unwrap();
+        self.contents.handles.push(String::from_str(alloc, name)?)?;
+        self.names.declare(name, Named::Got(number))
     }
 
     /// One more operation of the actor.

@@ -15,11 +15,6 @@ use Rattle.gup_base.specs.Counts.{most_slots}
 abbrev pub IsPages : (page n : ℕ) → Type 0
 IsPages page n = (1 ≤ n) × (n ≤ 1024) × (page + n ≤ 2 ^ 35)
 
--- neither long-term nor lockless pins are built
-pub record IsBuiltPin (want : Want) (fast : Bool) : Type 0 where
-  pub short : want.long ≡ false
-  pub slow : fast ≡ false
-
 -- the parts of a transfer: each has at least one word
 abbrev pub AreParts : List Part → Type 0
 AreParts parts =
@@ -32,14 +27,14 @@ IsOp (Protect page n rights) = IsPages page n
 IsOp (Discard page n) = IsPages page n
 IsOp (Load page word) = (page < 2 ^ 35) × (word < 512)
 IsOp (Store page word value) = (page < 2 ^ 35) × (word < 512) × (value < 2 ^ 64)
-IsOp (Pin handle page n want fast) = (1 ≤ n) × (n ≤ most_pinned) × (page + n ≤ 2 ^ 35) × IsBuiltPin want fast
+-- lockless pins aren't built
+IsOp (Pin handle page n want fast) = (1 ≤ n) × (n ≤ most_pinned) × (page + n ≤ 2 ^ 35) × (fast ≡ false)
 IsOp (Transfer handle outward slot parts) = AreParts parts × (slot < 2 ^ 32)
--- references, mirrors and moves aren't built
-IsOp (Get handle page) = ⊥
-IsOp (Put handle) = ⊥
+IsOp (Get handle page) = page < 2 ^ 35
+IsOp (Move proc page zone) = page < 2 ^ 35
+-- mirrors aren't built
 IsOp (Mirror mirror proc page) = ⊥
 IsOp (Look mirror word) = ⊥
-IsOp (Move proc page zone) = ⊥
 IsOp op = Unit {0}
 
 -- a process that is declared, and not born at the start
@@ -47,8 +42,8 @@ abbrev pub IsChild : Option Process → Type 0
 IsChild None = ⊥
 IsChild (Some process) = process.born ≡ false
 
--- What an operation names, beside its own process, is declared: the child of a fork, the handle of a pin, and whom that
--- is given to.
+-- What an operation names, beside its own process, is declared: the child of a fork, the process of a move, the handle of a
+-- pin or of a reference, and whom that is given to.
 abbrev pub AreDeclared : ScriptValue → Op → Type 0
 AreDeclared s (Fork child) = IsChild (process_at s child)
 AreDeclared s (Pin handle page n want fast) = handle < length s.handles
@@ -56,16 +51,24 @@ AreDeclared s (Unpin handle) = handle < length s.handles
 AreDeclared s (Give handle to) = (handle < length s.handles) × (to < length s.actors)
 AreDeclared s (Take handle) = handle < length s.handles
 AreDeclared s (Transfer handle outward slot parts) = handle < length s.handles
+AreDeclared s (Get handle page) = handle < length s.handles
+AreDeclared s (Put handle) = handle < length s.handles
+AreDeclared s (Move proc page zone) = proc < length s.processes
 AreDeclared s op = Unit {0}
 
 -- the actor's operation at this place is a fork that brings the child
 abbrev pub ForksAt : ScriptValue → (a k child : ℕ) → Type 0
 ForksAt s a k child = slice_get (ops_of s a) k ≡ Some (Fork child)
 
--- the actor's operation at this place is a pin that makes the handle
-abbrev pub PinsAt : ScriptValue → (a k handle : ℕ) → Type 0
-PinsAt s a k handle =
-    (page : ℕ) × (n : ℕ) × (want : Want) × (fast : Bool) × (slice_get (ops_of s a) k ≡ Some (Pin handle page n want fast))
+-- the handle that an operation makes: that of a pin, or of a reference
+abbrev pub made_by : Op → Option ℕ
+made_by (Pin handle page n want fast) = Some handle
+made_by (Get handle page) = Some handle
+made_by op = None
+
+-- the actor's operation at this place makes the handle
+abbrev pub MakesAt : ScriptValue → (a k handle : ℕ) → Type 0
+MakesAt s a k handle = (op : Op) × (slice_get (ops_of s a) k ≡ Some op) × (made_by op ≡ Some handle)
 
 -- The process of a thread is declared.
 abbrev pub KindFits : ScriptValue → Kind → Type 0
@@ -73,9 +76,10 @@ KindFits s (Thread p) = p < length s.processes
 KindFits s (Device slots) = (1 ≤ slots) × (slots ≤ most_slots)
 KindFits s Mover = Unit {0}
 
--- only a device moves words
+-- only a device moves words, and only the mover pages
 abbrev pub IsOfThread : Op → Type 0
 IsOfThread (Transfer handle outward slot parts) = ⊥
+IsOfThread (Move proc page zone) = ⊥
 IsOfThread op = Unit {0}
 
 -- and beside that it gives, takes and unpins
@@ -86,11 +90,16 @@ IsOfDevice (Take handle) = Unit {0}
 IsOfDevice (Transfer handle outward slot parts) = Unit {0}
 IsOfDevice op = ⊥
 
--- the operation is one of this kind of actor (the mover has none so far)
+-- and that is all that the mover does
+abbrev pub IsOfMover : Op → Type 0
+IsOfMover (Move proc page zone) = Unit {0}
+IsOfMover op = ⊥
+
+-- the operation is one of this kind of actor
 abbrev pub FitsKind : Kind → Op → Type 0
 FitsKind (Thread p) op = IsOfThread op
 FitsKind (Device slots) op = IsOfDevice op
-FitsKind Mover op = ⊥
+FitsKind Mover op = IsOfMover op
 
 pub record IsScript (s : ScriptValue) : Type 0 where
   pub few_frames : s.frames.movable + s.frames.normal ≤ 1024
@@ -102,9 +111,9 @@ pub record IsScript (s : ScriptValue) : Type 0 where
   pub ops : All (λ (a : Actor). All IsOp a.ops) s.actors
   pub ops_fit : All (λ (a : Actor). All (FitsKind a.kind) a.ops) s.actors
   pub declared : All (λ (a : Actor). All (AreDeclared s) a.ops) s.actors
-  -- no two forks bring one child, and no two pins make one handle
+  -- no two forks bring one child, and no two pins or references make one handle
   pub forks_once : (a b j k child : ℕ) → ForksAt s a j child → ForksAt s b k child → (a ≡ b) × (j ≡ k)
-  pub pins_once : (a b j k handle : ℕ) → PinsAt s a j handle → PinsAt s b k handle → (a ≡ b) × (j ≡ k)
+  pub handles_once : (a b j k handle : ℕ) → MakesAt s a j handle → MakesAt s b k handle → (a ≡ b) × (j ≡ k)
   pub few_ops : sum_by (λ (a : Actor). length a.ops) s.actors ≤ most_operations
   pub turns : All (λ a. a < length s.actors) s.turns
   pub few_turns : length s.turns ≤ most_turns

@@ -1,7 +1,6 @@
 use gup_base::{ActorNo, HandleNo, MirrorNo, PageNo, Parts, ProcNo, Rights, Want, WordNo, Zone};
 
-/// An operation of an actor. Long and fast pins, references, transfers in several parts, mirrors and moves are not built
-/// yet: no script has them.
+/// An operation of an actor. Fast pins, transfers in several parts and mirrors are not built yet: no script has them.
 #[derive(Clone, Debug, Drop)]
 pub enum Op {
     /// `map p n r` or `map p n rw`: n pages from p on get these rights (`mmap`).

@@ -1,5 +1,5 @@
--- What a slow pin makes of frames and a process is what its events say.
-use Rattle.std.proofs.Common.{◌≡◌, ℕ, true, Option, Some, None, sym, ap, subst, Bool, ◌∙◌, arith}
+-- What a slow pin, or a reference that is got, makes of frames and a process is what its events say.
+use Rattle.std.proofs.Common.{◌≡◌, ℕ, true, Option, Some, None, refl, sym, ap, subst, Bool, ◌∙◌, arith}
 use Rattle.std.proofs.lemmas.Bool.Decides.{nat_tests}
 use Rattle.gup_base.specs.declared.entry.Entry.{Entry}
 use Rattle.gup_base.specs.declared.entry.Want.{Want}
@@ -7,8 +7,10 @@ use Rattle.gup_frames.specs.Frames.{FramesValue, with_references}
 use Rattle.gup_space.specs.Space.{SpaceValue}
 use Rattle.gup_space.specs.Shows.{Change, ShowsFrames, ShowsSpace, unlocked, AreEvents}
 use Rattle.gup_spec_events.specs.State.{CoreState}
-use Rattle.gup_spec_events.specs.Event.{happens, raise_flag, pin_page}
-use Rattle.gup_slow.specs.Pins.{pins}
+use Rattle.gup_spec_events.specs.Event.{happens, raise_flag, pin_page, get_reference}
+use Rattle.gup_space.proofs.After.{getting}
+use Rattle.gup_space.proofs.ShowsLemmas as spaces
+use Rattle.gup_slow.specs.Pins.{pins, gets}
 
 abbrev ch : (F F' : FramesValue) (S S' : SpaceValue) → Change
 ch F F' S S' = record { old_frames = F; new_frames = F'; old_space = S; new_space = S' }
@@ -33,5 +35,19 @@ pinned F F' S S' page want (Some d) e is space frames =
                 (shows_frames F s a p page d want.write want.long old_frames),
             subst (λ (x : SpaceValue). ShowsSpace p (unlocked x) after) (sym space)
                 (shows_space S s a p page d want.write want.long old_space),
+          );
+    }
+
+pub referred : (F F' : FramesValue) (S : SpaceValue) (page k : ℕ) (entry : Option Entry) (e : Entry) → entry ≡ Some e → F' ≡ with_references e.frame 1 F → AreEvents (ch F F' S S) (λ a p. gets a p page entry k)
+referred F F' S page k None e is frames = absurd (cc)
+referred F F' S page k (Some d) e is frames =
+    let same : d.frame ≡ e.frame = cc in
+    record {
+      table = refl;
+      lead = λ s a p old_frames old_space.
+          let after : CoreState = happens s (get_reference a p page d.frame k d.writable) in (
+            subst (λ (f : FramesValue). ShowsFrames f after) (sym (frames ∙ ap (λ f. with_references f 1 F) (sym same)))
+                (spaces.shows_frames p F s (getting a page d.frame k d.writable) old_frames),
+            spaces.shows_space p (unlocked S) s (getting a page d.frame k d.writable) old_space,
           );
     }

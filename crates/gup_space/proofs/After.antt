@@ -1,4 +1,4 @@
--- What the events of faults, mappings, pins and data make of frames and of one process.
+-- What the events of faults, mappings, pins, references and data make of frames and of one process.
 use Rattle.std.specs.Prelude.{◌≡◌, ℕ, ◌-◌, ◌%◌, Bool, true, false, List, [], ◌∷◌, Option, Some, None}
 use Rattle.gup_base.specs.declared.entry.Entry.{Entry}
 use Rattle.gup_base.specs.declared.entry.Rights.{Rights}
@@ -7,9 +7,9 @@ use Rattle.gup_plain.specs.Put.{put}
 use Rattle.gup_frames.specs.Frames.{FramesValue, taken, with_references, without_references, with_mark, with_word, copied}
 use Rattle.gup_space.specs.Shows.{Change, unlocked}
 use Rattle.gup_space.specs.Space.{SpaceValue, with_entry, with_rights, with_pages}
-use Rattle.gup_spec_events.specs.Event.{CoreEvent, entry_of, take_frame, fill, count_one, set_mark, upgrade, break_entry, put_entry, drop_entry, discard_entry, map_pages, lower_entry, protect_pages, load, store, raise_flag, pin_page, make_handle, unpin_page, give_handle, take_handle, move_out, move_in, bias}
+use Rattle.gup_spec_events.specs.Event.{CoreEvent, entry_of, take_frame, fill, count_one, set_mark, upgrade, break_entry, put_entry, drop_entry, discard_entry, map_pages, lower_entry, protect_pages, load, store, raise_flag, pin_page, make_handle, unpin_page, give_handle, take_handle, get_reference, put_reference, move_out, move_in, bias}
 
--- the event is one of faults, mappings, pins or data that concerns process p alone, or no process
+-- the event is one of faults, mappings, pins, references or data that concerns process p alone, or no process
 pub data IsOf (p : ℕ) : CoreEvent → Type 0 where
   taking : (a f : ℕ) → IsOf p (take_frame a f)
   filling : (a page f : ℕ) → IsOf p (fill a p page f)
@@ -31,6 +31,8 @@ pub data IsOf (p : ℕ) : CoreEvent → Type 0 where
   unpinning : (a h f : ℕ) (left : List ℕ) → IsOf p (unpin_page a h f left)
   giving : (a h to : ℕ) → IsOf p (give_handle a h to)
   taking_over : (a h : ℕ) → IsOf p (take_handle a h)
+  getting : (a page f k : ℕ) (writable : Bool) → IsOf p (get_reference a p page f k writable)
+  putting_back : (a f k : ℕ) → IsOf p (put_reference a f k)
   moving_out : (a h index slot f value : ℕ) → IsOf p (move_out a h index slot f value)
   moving_in : (a h index slot f value : ℕ) → IsOf p (move_in a h index slot f value)
 
@@ -49,6 +51,8 @@ frames_after (put_entry a f) frames = without_references f 1 frames
 frames_after (store a p page word f value) frames = with_word f word value frames
 frames_after (pin_page a p page e write long) frames = with_references e.frame bias frames
 frames_after (unpin_page a h f left) frames = without_references f bias frames
+frames_after (get_reference a p page f k writable) frames = with_references f 1 frames
+frames_after (put_reference a f k) frames = without_references f 1 frames
 frames_after (move_in a h index slot f value) frames = with_word f (index % words) value frames
 frames_after e frames = frames
 

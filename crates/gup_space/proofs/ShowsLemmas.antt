@@ -5,7 +5,7 @@ use Rattle.std.proofs.lemmas.Bool.Decides.{nat_tests}
 use Rattle.gup_space.specs.Space.{SpaceValue}
 use Rattle.gup_frames.specs.Frames.{FramesValue}
 use Rattle.gup_space.specs.Shows.{ShowsFrames, ShowsSpace, Change, unlocked, AreEvents}
-use Rattle.gup_space.proofs.After.{IsOf, taking, filling, counting, marking_it, upgrading, breaking, putting, dropping, discarding, mapping, lowering, protecting, loading, storing, flagging, pinning, making, unpinning, giving, taking_over, moving_out, moving_in, AreOf, frames_after, space_after, all_frames_after, all_space_after, IsShownAs, IsMadeBy}
+use Rattle.gup_space.proofs.After.{IsOf, taking, filling, counting, marking_it, upgrading, breaking, putting, dropping, discarding, mapping, lowering, protecting, loading, storing, flagging, pinning, making, unpinning, giving, taking_over, getting, putting_back, moving_out, moving_in, AreOf, frames_after, space_after, all_frames_after, all_space_after, IsShownAs, IsMadeBy}
 use Rattle.gup_spec_events.specs.State.{CoreState}
 use Rattle.gup_spec_events.specs.Event.{CoreEvent, happens, run}
 
@@ -48,6 +48,10 @@ leaves_other p q space s other (unpinning a k f left) h =
 leaves_other p q space s other (giving a k to) h =
     record { right = h.right; pages = h.pages; entry = h.entry; sequence = h.sequence; has_pinned = h.has_pinned; structure = h.structure; table = h.table }
 leaves_other p q space s other (taking_over a k) h =
+    record { right = h.right; pages = h.pages; entry = h.entry; sequence = h.sequence; has_pinned = h.has_pinned; structure = h.structure; table = h.table }
+leaves_other p q space s other (getting a page f k writable) h =
+    record { right = h.right; pages = h.pages; entry = h.entry; sequence = h.sequence; has_pinned = h.has_pinned; structure = h.structure; table = h.table }
+leaves_other p q space s other (putting_back a f k) h =
     record { right = h.right; pages = h.pages; entry = h.entry; sequence = h.sequence; has_pinned = h.has_pinned; structure = h.structure; table = h.table }
 leaves_other p q space s other (moving_out a k index slot f value) h =
     record { right = h.right; pages = h.pages; entry = h.entry; sequence = h.sequence; has_pinned = h.has_pinned; structure = h.structure; table = h.table }
@@ -103,6 +107,10 @@ shows_frames p frames s (giving a k to) h =
     record { movable = h.movable; normal = h.normal; count = h.count; mark = h.mark; word = h.word }
 shows_frames p frames s (taking_over a k) h =
     record { movable = h.movable; normal = h.normal; count = h.count; mark = h.mark; word = h.word }
+shows_frames p frames s (getting a page f k writable) h =
+    record { movable = h.movable; normal = h.normal; count = λ g. grind (arith, nat_tests, h.count g, h.count f); mark = h.mark; word = h.word }
+shows_frames p frames s (putting_back a f k) h =
+    record { movable = h.movable; normal = h.normal; count = λ g. grind (arith, nat_tests, h.count g, h.count f); mark = λ g. grind (arith, nat_tests, h.mark g, h.mark f, h.count f); word = h.word }
 shows_frames p frames s (moving_out a k index slot f value) h =
     record { movable = h.movable; normal = h.normal; count = h.count; mark = h.mark; word = h.word }
 shows_frames p frames s (moving_in a k index slot f value) h =
@@ -148,6 +156,10 @@ shows_space p space s (unpinning a k f left) h =
 shows_space p space s (giving a k to) h =
     record { right = h.right; pages = h.pages; entry = h.entry; sequence = h.sequence; has_pinned = h.has_pinned; structure = h.structure; table = h.table }
 shows_space p space s (taking_over a k) h =
+    record { right = h.right; pages = h.pages; entry = h.entry; sequence = h.sequence; has_pinned = h.has_pinned; structure = h.structure; table = h.table }
+shows_space p space s (getting a page f k writable) h =
+    record { right = h.right; pages = h.pages; entry = h.entry; sequence = h.sequence; has_pinned = h.has_pinned; structure = h.structure; table = h.table }
+shows_space p space s (putting_back a f k) h =
     record { right = h.right; pages = h.pages; entry = h.entry; sequence = h.sequence; has_pinned = h.has_pinned; structure = h.structure; table = h.table }
 shows_space p space s (moving_out a k index slot f value) h =
     record { right = h.right; pages = h.pages; entry = h.entry; sequence = h.sequence; has_pinned = h.has_pinned; structure = h.structure; table = h.table }

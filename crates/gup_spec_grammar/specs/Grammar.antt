@@ -12,7 +12,7 @@ use Rattle.gup_script.specs.declared.op.Op.{Op}
 use Rattle.gup_script.specs.declared.op.Op.TheVariants as ops
 use Rattle.gup_script.specs.Script.{ScriptValue, FrameCounts, actor_at, is_thread}
 use Rattle.gup_spec_grammar.specs.Said.{Word, Said, a_process, a_child, a_thread, a_device, a_mover, a_seed, some_turns, random_turns, said_words, Action, maps, unmaps, protects, discards, loads, stores, exits, pins, gets, puts, forks, unpins, takes, gives, transfers, transfers_parts, mirrors, looks, moves, action_words, IsShaped, op_words_of}
-use Rattle.gup_spec_grammar.specs.Outline.{Outline, empty_outline, with_process, with_actor, with_handle, with_operation, with_turns, with_seed, is_device, how_many, has_mover, is_child, is_forked, is_receiver, draws}
+use Rattle.gup_spec_grammar.specs.Outline.{Outline, empty_outline, with_process, with_actor, with_handle, with_reference, with_operation, with_turns, with_seed, is_device, how_many, has_mover, is_child, is_forked, is_receiver, draws}
 use Rattle.gup_script.specs.Limits.{most_processes, most_threads, most_devices, most_handles, most_pinned, most_words, most_operations, most_turns, most_frames, most_tables}
 use Rattle.gup_base.specs.Counts.{most_slots}
 
@@ -68,8 +68,11 @@ NamesPin st word h = find st.names word ≡ Some (named.Pin h)
 abbrev pub IsPinName : Outline → Word → Type 0
 IsPinName st word = (h : ℕ) × NamesPin st word h
 
+abbrev pub NamesGot : Outline → Word → ℕ → Type 0
+NamesGot st word h = find st.names word ≡ Some (named.Got h)
+
 abbrev pub IsGotName : Outline → Word → Type 0
-IsGotName st word = (h : ℕ) × (find st.names word ≡ Some (named.Got h))
+IsGotName st word = (h : ℕ) × NamesGot st word h
 
 -- a mirror slot of this device
 abbrev pub IsMirrorOf : Outline → ℕ → Word → Type 0
@@ -172,10 +175,15 @@ Means st (loads address) op = (page w : ℕ) × IsAddress address page w × (op 
 Means st (stores address value) op =
     (page w v : ℕ) × IsAddress address page w × IsNumber value v × (op ≡ ops.Store page w v)
 Means st exits op = op ≡ ops.Exit
-Means st (pins false handle first count write false) op =
+Means st (pins false handle first count write long) op =
     (page n : ℕ) × IsRange most_pinned first count page n
-    × (op ≡ ops.Pin (length st.script.handles) page n (want_of write false) false)
+    × (op ≡ ops.Pin (length st.script.handles) page n (want_of write long) false)
+Means st (gets handle page) op =
+    (p : ℕ) × IsPage page p × (op ≡ ops.Get (length st.script.handles) p)
+Means st (puts handle) op = (h : ℕ) × NamesGot st handle h × (op ≡ ops.Put h)
 Means st (forks child) op = (p : ℕ) × NamesProcess st child p × (op ≡ ops.Fork p)
+Means st (moves process page zone) op =
+    (p g : ℕ) × NamesProcess st process p × IsPage page g × (op ≡ ops.Move p g zone)
 Means st (unpins handle) op = (h : ℕ) × NamesPin st handle h × (op ≡ ops.Unpin h)
 Means st (takes handle) op = (h : ℕ) × NamesPin st handle h × (op ≡ ops.Take h)
 Means st (gives handle to) op = (h b : ℕ) × NamesPin st handle h × NamesActor st to b × (op ≡ ops.Give h b)
@@ -184,22 +192,19 @@ Means st (transfers outward handle index slot count) op =
     × (op ≡ ops.Transfer h outward s ((i, n) ∷ []))
 Means st action op = ⊥
 
--- The action is an operation that is built: all are but lockless and long-term pins, references, moves, mirrors, and
--- transfers of several parts.
+-- The action is an operation that is built: all are but lockless pins, mirrors, and transfers of several
+-- parts.
 abbrev pub IsBuilt : Action → Type 0
 IsBuilt (pins true handle first count write long) = ⊥
-IsBuilt (pins false handle first count write true) = ⊥
-IsBuilt (gets handle page) = ⊥
-IsBuilt (puts handle) = ⊥
-IsBuilt (moves process page zone) = ⊥
 IsBuilt (mirrors mirror process page) = ⊥
 IsBuilt (looks mirror word) = ⊥
 IsBuilt (transfers_parts outward handle slot first more) = ⊥
 IsBuilt action = Unit {0}
 
--- the outline with what the action declares: the handle of a pin
+-- the outline with what the action declares: the handle of a pin or of a reference
 abbrev pub with_declared : Action → Outline → Outline
 with_declared (pins fast handle first count write long) st = with_handle handle st
+with_declared (gets handle page) st = with_reference handle st
 with_declared action st = st
 
 abbrev pub Becomes : Outline → Said → Outline → Type 0

@@ -2,6 +2,7 @@
 use Rattle.std.specs.Prelude.{ℕ, ◌+◌, ◌*◌, ◌/◌, ◌%◌, ◌^◌, ◌==◌, nat_lt, Bool, true, false, not, if◌then◌else◌, List, [], ◌∷◌, ◌++◌, length, count_by, slice_get, Option, Some, None, zero, suc}
 use Rattle.std.specs.List.{list_any}
 use Rattle.gup_spec_grammar.specs.Names.{NamedEntry, declared}
+use Rattle.gup_spec_grammar.specs.declared.named.Named.{Named}
 use Rattle.gup_spec_grammar.specs.declared.named.Named.TheVariants as named
 use Rattle.gup_script.specs.declared.op.Kind.{Kind}
 use Rattle.gup_script.specs.declared.op.Kind.TheVariants.{Thread, Device, Mover}
@@ -48,13 +49,21 @@ with_actor name kind st =
       names = declared st.names name (named.Actor (length st.script.actors));
     }
 
--- the handle of a pin
-abbrev pub with_handle : List ℕ → Outline → Outline
-with_handle name st =
+-- a handle, whose name names this
+abbrev pub with_named : List ℕ → Named → Outline → Outline
+with_named name what st =
     record st {
       script = record st.script { handles = st.script.handles ++ name ∷ [] };
-      names = declared st.names name (named.Pin (length st.script.handles));
+      names = declared st.names name what;
     }
+
+-- the handle of a pin
+abbrev pub with_handle : List ℕ → Outline → Outline
+with_handle name st = with_named name (named.Pin (length st.script.handles)) st
+
+-- the handle of a reference
+abbrev pub with_reference : List ℕ → Outline → Outline
+with_reference name st = with_named name (named.Got (length st.script.handles)) st
 
 abbrev pub with_op : ℕ → Op → List Actor → List Actor
 with_op k op [] = []

@@ -14,9 +14,10 @@ use Rattle.gup_plain.specs.declared.event.PlainEvent.TheVariants as events
 use Rattle.gup_plain.specs.declared.note.What.{What}
 use Rattle.gup_plain.specs.declared.note.What.TheVariants.{Silent, Idle, Wait, Event, Done}
 use Rattle.gup_script.specs.declared.op.Op.{Op}
-use Rattle.gup_script.specs.declared.op.Op.TheVariants.{Map, Unmap, Protect, Discard, Load, Store, Pin, Unpin, Give, Take, Transfer, Fork, Exit}
+use Rattle.gup_script.specs.declared.op.Op.TheVariants.{Map, Unmap, Protect, Discard, Load, Store, Pin, Unpin, Give, Take, Get, Put, Transfer, Fork, Exit, Move}
 use Rattle.gup_script.specs.Script.{ScriptValue}
 use Rattle.gup_spec_journal.specs.Place.{process_of, ops_of}
+use Rattle.gup_spec_journal.specs.Plain.{refusal_by_cause}
 
 -- an operation: its actor, the actor's process, and its number in the actor, from 1
 pub record Who : Type 0 where
@@ -62,19 +63,52 @@ refuses (Protect page n rights) answers.Missing = true
 refuses (Pin handle page n want fast) answers.Missing = true
 refuses (Pin handle page n want fast) answers.Forbidden = true
 refuses (Pin handle page n want fast) answers.NoFrame = true
+refuses (Pin handle page n want fast) (answers.Unmovable count) = want.long
 refuses (Unpin handle) answers.NotHeld = true
 refuses (Give handle to) answers.NotHeld = true
+refuses (Get handle page) answers.Missing = true
+refuses (Get handle page) answers.NoFrame = true
+refuses (Put handle) answers.NotHeld = true
 refuses (Transfer handle outward slot parts) answers.NotHeld = true
 refuses (Transfer handle outward slot parts) answers.Forbidden = not outward
 refuses (Transfer handle outward slot parts) answers.Range = true
 refuses (Transfer handle outward slot parts) answers.Unborn = false
+refuses (Move proc page zone) answers.Missing = true
+refuses (Move proc page zone) answers.Untouched = true
+refuses (Move proc page zone) (answers.Busy count) = true
+refuses (Move proc page zone) answers.NoFrame = true
 -- a fork of a failed process has a shape of its own
 refuses (Fork child) answers.Unborn = false
 refuses op answers.Unborn = true
 refuses op answer = false
 
--- the turns of an operation that is refused, the last of which has these notes: one turn, so far
+-- two silent turns, and then one with these notes
+abbrev pub IsThirdTurn : Who → List What → List NoteValue → Type 0
+IsThirdTurn who whats notes =
+    Then (IsTurn who (Silent ∷ [])) (Then (IsTurn who (Silent ∷ [])) (IsTurn who whats)) notes
+
+-- a move that has cleared its entry and counted is refused in the turn after those, for what it counted or for want of a frame
+abbrev pub RefusesMove : Who → Answer → List NoteValue → Type 0
+RefusesMove who (answers.Busy count) notes = IsThirdTurn who (Done (answers.Busy count) ∷ []) notes
+RefusesMove who answers.NoFrame notes = IsThirdTurn who (Done answers.NoFrame ∷ []) notes
+RefusesMove who answer notes = IsTurn who (Done answer ∷ []) notes
+
+-- the turns of one page of a pin that is tried, the last of which has these notes: one turn, or of a long pin, which moves the
+-- page first, three
+abbrev pub TriesIn : Who → Want → List What → List NoteValue → Type 0
+TriesIn who want whats notes = IsTurn who whats notes ⊎ ((want.long ≡ true) × IsThirdTurn who whats notes)
+
+-- The same of a page that is refused so: what denies it comes in the first turn, what its frame's count says in the third, and
+-- want of a frame in either.
+abbrev pub RefusesPage : Who → Want → Answer → List What → List NoteValue → Type 0
+RefusesPage who want (answers.Unmovable count) whats notes = (want.long ≡ true) × IsThirdTurn who whats notes
+RefusesPage who want answers.NoFrame whats notes = TriesIn who want whats notes
+RefusesPage who want answer whats notes = IsTurn who whats notes
+
+-- the turns of an operation that is refused, the last of which has these notes: one turn, but of a move and of a pin
 abbrev pub RefusesIn : Who → Op → List What → List NoteValue → Type 0
+RefusesIn who (Pin handle page n want fast) (Done answer ∷ []) notes = RefusesPage who want answer (Done answer ∷ []) notes
+RefusesIn who (Move proc page zone) (Done answer ∷ []) notes = RefusesMove who answer notes
 RefusesIn who op whats notes = IsTurn who whats notes
 
 abbrev pub IsRefused : Who → Op → List NoteValue → Type 0
@@ -147,22 +181,19 @@ Forks who child notes =
     (pages : ℕ)
     × Then (IsTurn who (Event (events.ForkBegin who.proc child) ∷ [])) (ForksPages who child 0 pages) notes
 
--- the turns of one page of a pin that is tried, the last of which has these notes: one turn, so far
-abbrev pub TriesIn : Who → Want → List What → List NoteValue → Type 0
-TriesIn who want whats notes = IsTurn who whats notes
-
 -- what may refuse a page of a pin
 abbrev pub EndsPin : Want → Cause → Type 0
 EndsPin want causes.Missing = Unit {0}
 EndsPin want causes.Forbidden = Unit {0}
 EndsPin want causes.NoFrame = Unit {0}
-EndsPin want cause = ⊥
+EndsPin want (causes.Unmovable count) = want.long ≡ true
 
 -- the page after the first `got` of n is refused: the pin has those, where there are some
 abbrev pub EndsShort : Who → (handle n : ℕ) → Want → (got : ℕ) → List NoteValue → Type 0
 EndsShort who handle n want got notes =
     (0 < got) × (cause : Cause) × EndsPin want cause
-    × TriesIn who want (Event (events.PinOk who.actor handle) ∷ Done (answers.Short got n cause) ∷ []) notes
+    × RefusesPage who want (refusal_by_cause cause) (Event (events.PinOk who.actor handle) ∷ Done (answers.Short got n cause) ∷ [])
+    notes
 
 -- Of the n pages of a pin the first `got` are taken, and so many are left: they are tried in rising order, to the last one or to
 -- the first that is refused. The last turn makes the handle.
@@ -215,7 +246,11 @@ Completes who (Pin handle page n want fast) notes = PinsPages who handle page n 
 Completes who (Unpin handle) notes = (more : ℕ) × Unpins who handle more notes
 Completes who (Give handle to) notes = IsTurn who (Event (events.Give who.actor handle to) ∷ Done answers.Plain ∷ []) notes
 Completes who (Take handle) notes = IsTurn who (Event (events.Take who.actor handle) ∷ Done answers.Plain ∷ []) notes
+-- references change nothing of the plain state, so getting one and putting it back have no event
+Completes who (Get handle page) notes = IsTurn who (Done answers.Plain ∷ []) notes
+Completes who (Put handle) notes = IsTurn who (Done answers.Plain ∷ []) notes
 Completes who (Transfer handle outward slot parts) notes = MovesWords who handle outward slot parts 0 (words_of parts) notes
+Completes who (Move proc page zone) notes = IsThirdTurn who (Done answers.Plain ∷ []) notes
 Completes who (Fork child) notes =
     Forks who child notes ⊎ IsTurn who (Event (events.ForkFail child) ∷ Done answers.Unborn ∷ []) notes
 Completes who Exit notes = (pages : ℕ) × TakesDownWhole who pages notes

@@ -9,7 +9,7 @@ use Rattle.gup_plain.specs.declared.note.What.TheVariants.{Idle, Wait}
 use Rattle.gup_plain.specs.declared.note.Waiting.{Waiting}
 use Rattle.gup_plain.specs.declared.note.Waiting.TheVariants as waitings
 use Rattle.gup_script.specs.declared.op.Op.{Op}
-use Rattle.gup_script.specs.declared.op.Op.TheVariants.{Map, Unmap, Protect, Discard, Load, Store, Pin, Take, Fork, Exit}
+use Rattle.gup_script.specs.declared.op.Op.TheVariants.{Map, Unmap, Protect, Discard, Load, Store, Pin, Take, Get, Fork, Exit, Move}
 use Rattle.gup_script.specs.Script.{ScriptValue}
 use Rattle.gup_spec_journal.specs.Place.{Place, first_place, place_behind, doer_of, birth_for, present_op, has_finished, starts_born}
 use Rattle.gup_spec_journal.specs.Plain.{plain_after}
@@ -44,7 +44,7 @@ abbrev pub handle_waits : (ℕ → Handle) → (a : ℕ) → Option Op → Optio
 handle_waits handle a (Some (Take h)) = taking_waits (is_given_to (handle h) a) h
 handle_waits handle a op = None
 
--- before that, a thread whose process is yet to be born waits for it; where its process failed it waits for nothing
+-- before that, an operation of a process that is yet to be born waits for it; where that failed it waits for nothing
 abbrev pub waiting_at : ℕ → Birth → Option Waiting → Option Waiting
 waiting_at p born waits = waits
 waiting_at p failed waits = None
@@ -66,12 +66,14 @@ waiting_of script o a =
 abbrev pub finished_in : ScriptValue → Ordered → ℕ → Bool
 finished_in script o a = has_finished script a (o.places a)
 
--- the operations that keep a lock of their process between two turns
+-- the operations that keep a lock of their process between two turns, of pins those for long
 abbrev pub KeepsLock : Option Op → Type 0
+KeepsLock (Some (Pin handle page n want fast)) = want.long ≡ true
+KeepsLock (Some (Move proc page zone)) = Unit {0}
 KeepsLock (Some (Fork child)) = Unit {0}
 KeepsLock op = ⊥
 
--- the operations of which a turn may need a lock: what is done with a pin that is there needs none
+-- the operations of which a turn may need a lock: what is done with a pin or a reference that is there needs none
 abbrev pub MayNeedLock : Option Op → Type 0
 MayNeedLock (Some (Map page n rights)) = Unit {0}
 MayNeedLock (Some (Unmap page n)) = Unit {0}
@@ -80,6 +82,8 @@ MayNeedLock (Some (Discard page n)) = Unit {0}
 MayNeedLock (Some (Load page word)) = Unit {0}
 MayNeedLock (Some (Store page word value)) = Unit {0}
 MayNeedLock (Some (Pin handle page n want fast)) = Unit {0}
+MayNeedLock (Some (Get handle page)) = Unit {0}
+MayNeedLock (Some (Move proc page zone)) = Unit {0}
 MayNeedLock (Some (Fork child)) = Unit {0}
 MayNeedLock (Some Exit) = Unit {0}
 MayNeedLock op = ⊥

@@ -5,6 +5,7 @@ use Rattle.gup_plain.specs.declared.note.What.TheVariants.{Silent, Idle, Wait, E
 use Rattle.gup_script.specs.declared.op.Kind.{Kind}
 use Rattle.gup_script.specs.declared.op.Kind.TheVariants.{Thread, Device, Mover}
 use Rattle.gup_script.specs.declared.op.Op.{Op}
+use Rattle.gup_script.specs.declared.op.Op.TheVariants.{Move}
 pub use Rattle.gup_script.specs.Script.{ops_in, ops_of}
 use Rattle.gup_script.specs.Limits.{most_processes}
 use Rattle.gup_script.specs.Script.{ScriptValue, Process, Actor, actor_at, is_thread}
@@ -57,35 +58,45 @@ abbrev pub slots_in : Option Actor → ℕ
 slots_in None = 0
 slots_in (Some actor) = slots_of_kind actor.kind
 
--- Who does an operation: an actor, with the process that the operation is of, or names, if it is of one; or with a store of
--- so many slots.
+-- Who does an operation: an actor; whether the operation is of a process, its thread's own or one that it names, and of
+-- which; and how many slots the actor's store has.
 pub record Doer : Type 0 where
   pub actor : ℕ
-  pub thread : Bool
+  pub of_process : Bool
   pub proc : ℕ
   pub slots : ℕ
 
 abbrev pub doer_in : (a : ℕ) → Option Actor → Doer
-doer_in a actor = record { actor = a; thread = thread_in actor; proc = process_in actor; slots = slots_in actor }
+doer_in a actor = record { actor = a; of_process = thread_in actor; proc = process_in actor; slots = slots_in actor }
 
 abbrev pub doer : ScriptValue → ℕ → Doer
 doer script a = doer_in a (actor_at script a)
 
--- The same by the operation: which process this is of, or names. All operations so far are of their thread's own process.
+-- a move is of the process that it names; any other operation is of its thread's own, if it is one of a thread
+abbrev pub is_of_process : (own : Bool) → Option Op → Bool
+is_of_process own (Some (Move proc page zone)) = true
+is_of_process own op = own
+
+abbrev pub process_of_op : (own : ℕ) → Option Op → ℕ
+process_of_op own (Some (Move proc page zone)) = proc
+process_of_op own op = own
+
+-- The same by the operation: of the process that this is of. So a move waits for the birth of that, as a thread's operation does.
 abbrev pub concerned : Doer → Option Op → Doer
-concerned who op = who
+concerned who op =
+    record who { of_process = is_of_process who.of_process op; proc = process_of_op who.proc op }
 
 -- who does an actor's operation
 abbrev pub doer_of : ScriptValue → (a : ℕ) → Option Op → Doer
 doer_of script a op = concerned (doer script a) op
 
--- whether the process of a thread is born; whoever is no thread waits for no birth
-abbrev pub birth_by : (thread : Bool) → Birth → Birth
+-- the birth of the process that the operation is of; one that is of none waits for no birth
+abbrev pub birth_by : (of_process : Bool) → Birth → Birth
 birth_by true birth = birth
 birth_by false birth = born
 
 abbrev pub birth_for : (ℕ → Birth) → Doer → Birth
-birth_for birth who = birth_by who.thread (birth who.proc)
+birth_for birth who = birth_by who.of_process (birth who.proc)
 
 -- the operation of an actor after those that it has answered
 abbrev pub present_op : ScriptValue → ℕ → Place → Option Op

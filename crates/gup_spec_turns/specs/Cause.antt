@@ -2,28 +2,29 @@
 use Rattle.std.specs.Prelude.{◌≡◌, ℕ, ◌+◌, ◌<◌, ◌⊎◌, Bool, true, false, Option, Some, None, IsSome, List, [], ◌∷◌, length, map, Contains}
 use Rattle.std.specs.List.{AllByRecursion}
 use Rattle.gup_base.specs.declared.entry.Allowed.{Allowed}
-use Rattle.gup_base.specs.declared.entry.Allowed.TheVariants.{Any}
+use Rattle.gup_base.specs.declared.entry.Allowed.TheVariants.{Any, Only}
 use Rattle.gup_base.specs.declared.entry.Entry.{Entry}
 use Rattle.gup_base.specs.declared.entry.Rights.TheVariants.{RW}
+use Rattle.gup_base.specs.declared.entry.Want.{Want}
+use Rattle.gup_base.specs.declared.entry.Zone.{Zone}
 use Rattle.gup_plain.specs.Note.{NoteValue}
 use Rattle.gup_plain.specs.State.{born}
 use Rattle.gup_plain.specs.declared.answer.Answer.{Answer}
 use Rattle.gup_plain.specs.declared.answer.Answer.TheVariants as answers
-use Rattle.gup_plain.specs.declared.answer.Cause.{Cause}
 use Rattle.gup_plain.specs.declared.answer.Cause.TheVariants as causes
 use Rattle.gup_plain.specs.declared.note.What.{What}
 use Rattle.gup_plain.specs.declared.note.What.TheVariants.{Done}
 use Rattle.gup_plain.specs.declared.note.Waiting.{Waiting}
 use Rattle.gup_plain.specs.declared.note.Waiting.TheVariants as waitings
 use Rattle.gup_script.specs.declared.op.Op.{Op}
-use Rattle.gup_script.specs.declared.op.Op.TheVariants.{Load, Store, Pin, Fork}
+use Rattle.gup_script.specs.declared.op.Op.TheVariants.{Load, Store, Pin, Get, Fork, Move}
 use Rattle.gup_script.specs.Script.{ScriptValue}
-use Rattle.gup_spec_events.specs.State.{CoreState}
+use Rattle.gup_spec_events.specs.State.{CoreState, idle, one, more}
 use Rattle.gup_spec_events.specs.Event.{IsAllowed}
 use Rattle.gup_spec_journal.specs.Order.{Turn}
 use Rattle.gup_spec_journal.specs.Place.{doer_of, birth_for, has_finished}
 use Rattle.gup_spec_turns.specs.CoreTurn.{zones_of}
-use Rattle.gup_spec_turns.specs.JobPlace.{wants_frame, place_in}
+use Rattle.gup_spec_turns.specs.JobPlace.{JobPlace, wants_frame, moving_page, place_in}
 use Rattle.gup_spec_turns.specs.Run.{RunState, op_in, waiting_in}
 
 -- each frame of these zones has a reference
@@ -33,6 +34,7 @@ AreHeld s allowed = (f : ℕ) → f < s.movable + s.normal → IsAllowed s allow
 -- the zones from which the turns of an operation take frames
 abbrev pub allowed_of : Op → Allowed
 allowed_of (Pin handle page n want fast) = zones_of want
+allowed_of (Move proc page zone) = Only zone
 allowed_of op = Any
 
 -- others may have the frame of a page's entry too: it is unmarked, and its count isn't 1
@@ -48,8 +50,8 @@ abbrev pub NeedsWritable : CoreState → Option Entry → Type 0
 NeedsWritable s None = Unit {0}
 NeedsWritable s (Some e) = (e.writable ≡ false) × MayBeShared s e.frame
 
--- A page needs a frame for a load, a store or a pin, if its rights allow that: a load of a page needs one where it has no
--- entry, and a pin to read also where others may have its frame.
+-- A page needs a frame for a load, a store, a pin or a reference, if its rights allow that: a load of a page needs one where
+-- it has no entry, and so does a reference; and a pin to read also where others may have its frame.
 abbrev pub NeedsForLoad : CoreState → (p page : ℕ) → Type 0
 NeedsForLoad s p page = IsSome (s.right p page) × (s.entry p page ≡ None)
 
@@ -60,12 +62,20 @@ abbrev pub NeedsForPin : CoreState → (p page : ℕ) → (write : Bool) → Typ
 NeedsForPin s p page true = NeedsForStore s p page
 NeedsForPin s p page false = IsSome (s.right p page) × NeedsOwn s (s.entry p page)
 
--- An operation needs a frame at its next turn: a load, a store and a pin for their page, a pin's being the one after those
--- that it has taken, and a fork for the page that it copies, where it has none for it yet.
+-- the same of a page of a pin by where that stands: of one that it has cleared, to move it first, after a count of 1
+abbrev pub NeedsAtPage : CoreState → (p page : ℕ) → (write : Bool) → JobPlace → Type 0
+NeedsAtPage s p page write (moving_page g e one) = Unit {0}
+NeedsAtPage s p page write (moving_page g e count) = ⊥
+NeedsAtPage s p page write place = NeedsForPin s p page write
+
+-- An operation needs a frame at its next turn: a load, a store, a get and a pin for their page, a pin's being the one after
+-- those that it has taken, a fork for the page that it copies, where it has none for it yet, and a move after a count of 1.
 abbrev pub NeedsFor : CoreState → (a p : ℕ) → Op → Type 0
 NeedsFor s a p (Load page word) = NeedsForLoad s p page
 NeedsFor s a p (Store page word value) = NeedsForStore s p page
-NeedsFor s a p (Pin handle page n want fast) = NeedsForPin s p (page + length (s.taken a)) want.write
+NeedsFor s a p (Pin handle page n want fast) = NeedsAtPage s p (page + length (s.taken a)) want.write (place_in s a)
+NeedsFor s a p (Get handle page) = NeedsForLoad s p page
+NeedsFor s a p (Move proc page zone) = (g : ℕ) × (e : Entry) × (place_in s a ≡ moving_page g e one)
 NeedsFor s a p (Fork child) = (page : ℕ) × (place_in s a ≡ wants_frame page)
 NeedsFor s a p op = ⊥
 
@@ -81,10 +91,31 @@ NeedsFrame script r a op =
 abbrev pub FindsNoFrame : ScriptValue → RunState → (a : ℕ) → Type 0
 FindsNoFrame script r a = (op : Op) × NeedsFrame script r a op × AreHeld r.core (allowed_of op)
 
+-- the actor's next turn is the first of a move, which it waits for nothing to do, of a page that is mapped and has no entry
+abbrev pub FindsUntouched : ScriptValue → RunState → (a : ℕ) → Type 0
+FindsUntouched script r a =
+    (p page : ℕ) × (zone : Zone) × (op_in script r a ≡ Some (Move p page zone)) × (waiting_in script r a ≡ None)
+    × (r.core.birth p ≡ born) × (r.core.job a ≡ idle) × IsSome (r.core.right p page) × (r.core.entry p page ≡ None)
+
+-- the actor's next turn is one of a move that has read this count of its page's frame after it cleared the entry, and it isn't 1
+abbrev pub HasCountedMore : ScriptValue → RunState → (a count : ℕ) → Type 0
+HasCountedMore script r a count =
+    (p page g : ℕ) × (zone : Zone) × (e : Entry) × (op_in script r a ≡ Some (Move p page zone))
+    × (place_in r.core a ≡ moving_page g e (more count)) × (count ≡ 1 → ⊥)
+
+-- the same of the next page of a long pin, which is to be moved first
+abbrev pub HasPinnedMore : ScriptValue → RunState → (a count : ℕ) → Type 0
+HasPinnedMore script r a count =
+    (handle page n g : ℕ) × (want : Want) × (fast : Bool) × (e : Entry) × (op_in script r a ≡ Some (Pin handle page n want fast))
+    × (want.long ≡ true) × (place_in r.core a ≡ moving_page g e (more count)) × (count ≡ 1 → ⊥)
+
 -- what there must be in the state before an actor's turn that refuses its operation so, or a page of its pin, where it isn't
 -- the plain state that denies it: no other refusal of this kind comes so far
 abbrev pub CoreCause : ScriptValue → RunState → (a : ℕ) → Answer → Type 0
 CoreCause script r a answers.NoFrame = FindsNoFrame script r a
+CoreCause script r a answers.Untouched = FindsUntouched script r a
+CoreCause script r a (answers.Busy count) = HasCountedMore script r a count
+CoreCause script r a (answers.Unmovable count) = HasPinnedMore script r a count
 CoreCause script r a answer = ⊥
 
 -- the turn answers for want of a frame, or that is the cause of its short pin
@@ -99,16 +130,33 @@ LacksExactly script r turn =
     (LacksFrame turn.whats → FindsNoFrame script r turn.actor)
     × (FindsNoFrame script r turn.actor → LacksFrame turn.whats)
 
--- the answers that operations have so far, and the causes of short pins
-abbrev pub IsKnownCause : Cause → Type 0
-IsKnownCause (causes.Unmovable count) = ⊥
-IsKnownCause cause = Unit {0}
+-- the turn answers that a page can't be moved, whose frame has this count, or that is the cause of its short pin
+abbrev pub RefusesUnmovable : List What → (count : ℕ) → Type 0
+RefusesUnmovable whats count =
+    Contains whats (Done (answers.Unmovable count))
+    ⊎ ((got wanted : ℕ) × Contains whats (Done (answers.Short got wanted (causes.Unmovable count))))
 
+-- and it answers that a page is untouched exactly where it finds it so
+abbrev pub UntouchedExactly : ScriptValue → RunState → Turn → Type 0
+UntouchedExactly script r turn =
+    (Contains turn.whats (Done answers.Untouched) → FindsUntouched script r turn.actor)
+    × (FindsUntouched script r turn.actor → Contains turn.whats (Done answers.Untouched))
+
+-- it answers that a page is busy, or that it can't be moved, exactly where its operation has counted so many references
+abbrev pub BusyExactly : ScriptValue → RunState → Turn → Type 0
+BusyExactly script r turn =
+    (count : ℕ)
+    → (Contains turn.whats (Done (answers.Busy count)) → HasCountedMore script r turn.actor count)
+    × (HasCountedMore script r turn.actor count → Contains turn.whats (Done (answers.Busy count)))
+
+abbrev pub UnmovableExactly : ScriptValue → RunState → Turn → Type 0
+UnmovableExactly script r turn =
+    (count : ℕ)
+    → (RefusesUnmovable turn.whats count → HasPinnedMore script r turn.actor count)
+    × (HasPinnedMore script r turn.actor count → RefusesUnmovable turn.whats count)
+
+-- the answers that operations have so far; a short pin may have any cause
 abbrev pub IsKnownAnswer : Answer → Type 0
-IsKnownAnswer (answers.Short got wanted cause) = IsKnownCause cause
-IsKnownAnswer (answers.Unmovable count) = ⊥
-IsKnownAnswer (answers.Busy count) = ⊥
-IsKnownAnswer answers.Untouched = ⊥
 IsKnownAnswer answers.Stale = ⊥
 IsKnownAnswer answer = Unit {0}
 

@@ -1,20 +1,20 @@
 -- How many turns a run has at most still to take, those aside that wait or are idle.
-use Rattle.std.specs.Prelude.{◌≡◌, ℕ, ◌+◌, ◌-◌, ◌*◌, ◌<◌, ◌⊎◌, false, IsSome, List, [], ◌∷◌, length, sum_by, Option, None, zero, suc}
+use Rattle.std.specs.Prelude.{◌≡◌, ℕ, ◌+◌, ◌-◌, ◌*◌, ◌<◌, ◌⊎◌, Bool, true, false, IsSome, List, [], ◌∷◌, length, sum_by, Option, None, zero, suc}
 use Rattle.gup_base.specs.Parts.{words_of}
 use Rattle.gup_base.specs.declared.entry.Rights.{Rights}
 use Rattle.gup_plain.specs.Event.{most_pages, page_numbers, words}
 use Rattle.gup_plain.specs.Put.{put}
 use Rattle.gup_script.specs.declared.op.Op.{Op}
-use Rattle.gup_script.specs.declared.op.Op.TheVariants.{Map, Unmap, Discard, Pin, Unpin, Transfer, Fork, Exit}
+use Rattle.gup_script.specs.declared.op.Op.TheVariants.{Map, Unmap, Discard, Pin, Unpin, Transfer, Move, Fork, Exit}
 use Rattle.gup_plain.specs.State.{objects_of}
 use Rattle.gup_script.specs.Limits.{most_pinned}
 use Rattle.gup_script.specs.Script.{ScriptValue, Actor}
 use Rattle.gup_spec_journal.specs.Place.{Place, ops_of, process_of}
-use Rattle.gup_spec_events.specs.State.{CoreState}
+use Rattle.gup_spec_events.specs.State.{CoreState, unread}
 use Rattle.gup_plain.specs.Pages.{sum_below, mapped_pages}
 use Rattle.gup_spec_turns.specs.Pages.{pages_from}
 use Rattle.gup_spec_turns.specs.Run.{RunState, run_after}
-use Rattle.gup_spec_turns.specs.JobPlace.{JobPlace, place_in, unbegun, from_page, at_page, wants_frame, at_word}
+use Rattle.gup_spec_turns.specs.JobPlace.{JobPlace, place_in, unbegun, from_page, at_page, wants_frame, at_word, moving_page}
 
 -- the turns that a fork has at most still to take: 515 a page of the child that is copied, and its end
 abbrev pub fork_turns : (right : ℕ → Option Rights) → JobPlace → ℕ
@@ -23,6 +23,7 @@ fork_turns right (from_page page) = 515 * pages_from right page + 1
 fork_turns right (at_page page) = 515 * pages_from right (page + 1) + 2
 fork_turns right (wants_frame page) = 515 * pages_from right (page + 1) + 515
 fork_turns right (at_word page word to) = 515 * pages_from right (page + 1) + (words - word) + 2
+fork_turns right (moving_page page e count) = 515 * most_pages + 2
 
 -- those, with what the child's pages may cost an exit
 abbrev pub fork_left : (right : ℕ → Option Rights) → JobPlace → ℕ
@@ -31,15 +32,28 @@ fork_left right (from_page page) = fork_turns right (from_page page)
 fork_left right (at_page page) = fork_turns right (at_page page)
 fork_left right (wants_frame page) = fork_turns right (wants_frame page)
 fork_left right (at_word page word to) = fork_turns right (at_word page word to)
+fork_left right (moving_page page e count) = fork_turns right (moving_page page e count) + most_pages
+
+-- the turns that a move still takes, if it isn't refused: it clears, counts, and places
+abbrev pub move_turns : JobPlace → ℕ
+move_turns (moving_page page e unread) = 2
+move_turns (moving_page page e count) = 1
+move_turns place = 3
+
+-- the turns that so many pages of a pin take: one each, or three if they are kept for long, and so may have to be moved
+abbrev pub pin_turns : (long : Bool) → (pages : ℕ) → ℕ
+pin_turns true pages = 3 * pages
+pin_turns false pages = pages
 
 -- the turns of an operation, with those that the pages which it maps may cost an exit
 abbrev pub op_cost : Op → ℕ
 op_cost (Map page n rights) = n + 1
 op_cost (Unmap page n) = n
 op_cost (Discard page n) = n
-op_cost (Pin handle page n want fast) = n
+op_cost (Pin handle page n want fast) = pin_turns want.long n
 op_cost (Unpin handle) = most_pinned
 op_cost (Transfer handle outward slot parts) = words_of parts
+op_cost (Move proc page zone) = 3
 op_cost (Fork child) = 516 * most_pages + 2
 op_cost op = 1
 
@@ -48,9 +62,10 @@ abbrev pub op_left : CoreState → (a : ℕ) → Op → (far : ℕ) → ℕ
 op_left s a (Map page n rights) far = n + 1
 op_left s a (Unmap page n) far = n - far
 op_left s a (Discard page n) far = n - far
-op_left s a (Pin handle page n want fast) far = n - far
+op_left s a (Pin handle page n want fast) far = pin_turns want.long n - far
 op_left s a (Unpin handle) far = most_pinned - far
 op_left s a (Transfer handle outward slot parts) far = words_of parts - far
+op_left s a (Move proc page zone) far = move_turns (place_in s a)
 op_left s a (Fork child) far = fork_left (s.right child) (place_in s a)
 op_left s a op far = 1
 
@@ -90,15 +105,16 @@ mapped_by op = 0
 abbrev pub map_pages : ScriptValue → ℕ
 map_pages script = sum_by (λ (a : Actor). sum_by mapped_by a.ops) script.actors
 
--- How many turns an operation has at most, whoever takes turns in between: what goes over n pages or words n, a fork 515 a
--- page and its begin and end, an exit one for each page that its process has or that other threads map meanwhile, and its
+-- How many turns an operation has at most, whoever takes turns in between: what goes over n pages or words n, a long pin and a move
+-- 3 a page, a fork 515 a page and its begin and end, an exit one for each page that its process has or that other threads map meanwhile, and its
 -- answer.
 abbrev pub most_turns_of : ScriptValue → Op → ℕ
 most_turns_of script (Unmap page n) = n
 most_turns_of script (Discard page n) = n
-most_turns_of script (Pin handle page n want fast) = n
+most_turns_of script (Pin handle page n want fast) = pin_turns want.long n
 most_turns_of script (Unpin handle) = most_pinned
 most_turns_of script (Transfer handle outward slot parts) = words_of parts
+most_turns_of script (Move proc page zone) = 3
 most_turns_of script (Fork child) = 515 * most_pages + 2
 most_turns_of script Exit = map_pages script + most_pages + 1
 most_turns_of script op = 1
@@ -117,20 +133,22 @@ GoesOn place next = (next.answered ≡ place.answered) × (next.far ≡ place.fa
 abbrev pub LosesPage : (before after : ℕ → Option Rights) → Type 0
 LosesPage before after = (page : ℕ) × (page < page_numbers) × IsSome (before page) × (after ≡ put page None before)
 
--- A mapping, a protection, a load, a store, a give and a take are answered in one turn, what goes over n pages or words in
--- the n-th at the latest, and so is an unpin of n pages; each turn of an exit but the one that answers it takes a page of
--- its process; each of a fork takes of its turns.
+-- A mapping, a protection, a load, a store, a give, a take, a get and a put are answered in one turn, what goes over n pages or words in
+-- the n-th at the latest, of a long pin the 3n-th, and so is an unpin of n pages; each turn of an exit but the one that answers it takes a page of
+-- its process; each of a fork and of a move takes of its turns.
 abbrev pub IsWithinBound : Op → (a p : ℕ) → (place next : Place) → (before after : CoreState) → Type 0
 IsWithinBound (Unmap page n) a p place next before after =
     IsAnswered place next ⊎ (GoesOn place next × (next.far < n))
 IsWithinBound (Discard page n) a p place next before after =
     IsAnswered place next ⊎ (GoesOn place next × (next.far < n))
 IsWithinBound (Pin handle page n want fast) a p place next before after =
-    IsAnswered place next ⊎ (GoesOn place next × (next.far < n))
+    IsAnswered place next ⊎ (GoesOn place next × (next.far < pin_turns want.long n))
 IsWithinBound (Unpin handle) a p place next before after =
     IsAnswered place next ⊎ (GoesOn place next × (next.far < length (objects_of (before.handle handle))))
 IsWithinBound (Transfer handle outward slot parts) a p place next before after =
     IsAnswered place next ⊎ (GoesOn place next × (next.far < words_of parts))
+IsWithinBound (Move proc page zone) a p place next before after =
+    IsAnswered place next ⊎ (GoesOn place next × (move_turns (place_in after a) < move_turns (place_in before a)))
 IsWithinBound (Fork child) a p place next before after =
     IsAnswered place next
     ⊎ (GoesOn place next

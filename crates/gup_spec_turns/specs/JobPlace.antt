@@ -1,22 +1,26 @@
 -- Where an actor's job stands between two turns.
-use Rattle.std.specs.Prelude.{◌≡◌, ℕ, ◌+◌, ◌≤◌, ◌<◌, List, Contains, Option, Some, None, IsSome}
+use Rattle.std.specs.Prelude.{◌≡◌, ℕ, ◌+◌, ◌≤◌, ◌<◌, false, List, Contains, Option, Some, None, IsSome}
+use Rattle.gup_base.specs.declared.entry.Allowed.TheVariants.{Only}
 use Rattle.gup_base.specs.declared.entry.Entry.{Entry}
+use Rattle.gup_base.specs.declared.entry.Zone.{Zone}
 use Rattle.gup_plain.specs.Event.{words}
-use Rattle.gup_plain.specs.State.{unborn, growing}
+use Rattle.gup_plain.specs.State.{unborn, growing, born}
 use Rattle.gup_script.specs.declared.op.Op.{Op}
-use Rattle.gup_script.specs.declared.op.Op.TheVariants.{Fork}
-use Rattle.gup_spec_events.specs.State.{CoreState, Job, idle, forking, between, counted, copying}
+use Rattle.gup_script.specs.declared.op.Op.TheVariants.{Pin, Move, Fork}
+use Rattle.gup_spec_events.specs.State.{CoreState, Job, idle, moving, Counted, unread, one, more, forking, between, counted, copying}
 use Rattle.gup_spec_turns.specs.ForkTurns.{first_behind}
 
 -- Where an actor's operation stands between two turns. It has not begun, or keeps nothing. A fork looks for its next page
 -- from this one on; or it has counted this page, and is to share it, or to copy it and wants a frame for that; or it has
--- copied so many words of this page into that frame.
+-- copied so many words of this page into that frame. A move, or a long pin, has cleared this entry of this page, and has read
+-- so much of the frame's count.
 pub data JobPlace : Type 0 where
   unbegun : JobPlace
   from_page : (page : ℕ) → JobPlace
   at_page : (page : ℕ) → JobPlace
   wants_frame : (page : ℕ) → JobPlace
   at_word : (page word to : ℕ) → JobPlace
+  moving_page : (page : ℕ) (entry : Entry) (count : Counted) → JobPlace
 
 abbrev pub copying_place : (page word : ℕ) → (prepared : Option ℕ) → JobPlace
 copying_place page word None = wants_frame page
@@ -26,6 +30,7 @@ abbrev pub job_place : Job → (prepared : Option ℕ) → JobPlace
 job_place (forking p c done between) prepared = from_page (first_behind done)
 job_place (forking p c done (counted page)) prepared = at_page page
 job_place (forking p c done (copying page word)) prepared = copying_place page word prepared
+job_place (moving p page e allowed count) prepared = moving_page page e count
 job_place job prepared = unbegun
 
 -- where the operation of this actor stands
@@ -66,6 +71,27 @@ StandsFork s a p child (forking q c done (copying page word)) prepared =
     IsForking s a p child q c done × HasCounted s a p child done page × HasCopied word prepared
 StandsFork s a p child job prepared = ⊥
 
+-- Actor a is in the middle of a move of this page of process p. The process is born, the page is mapped and has no entry, and
+-- the actor holds the table lock.
+pub record IsMoving (s : CoreState) (a p page : ℕ) : Type 0 where
+  pub birth : s.birth p ≡ born
+  pub mapped : IsSome (s.right p page)
+  pub absent : s.entry p page ≡ None
+  pub locked : s.table p ≡ Some a
+
+-- a count that isn't 1 is kept as it was read
+abbrev pub IsCount : Counted → Type 0
+IsCount unread = Unit {0}
+IsCount one = Unit {0}
+IsCount (more count) = count ≡ 1 → ⊥
+
+-- where a move of process p stands between two turns, by the job of its actor
+abbrev pub StandsMove : CoreState → (a p page : ℕ) → Zone → Job → Type 0
+StandsMove s a p page zone idle = Unit {0}
+StandsMove s a p page zone (moving q g e allowed count) =
+    (q ≡ p) × (g ≡ page) × (allowed ≡ Only zone) × IsCount count × IsMoving s a p page
+StandsMove s a p page zone job = ⊥
+
 -- an actor keeps a frame only where its fork copies a page
 abbrev pub KeepsFrame : Job → (prepared : Option ℕ) → Type 0
 KeepsFrame (forking q c done (copying page word)) prepared = Unit {0}
@@ -77,7 +103,9 @@ pub record IsPrepared (s : CoreState) (f : ℕ) : Type 0 where
   pub counted : s.count f ≡ 0 → ⊥
   pub apart : (p page : ℕ) (e : Entry) → s.entry p page ≡ Some e → f ≡ e.frame → ⊥
 
--- an actor that has no fork to do, or none at present, is in the middle of nothing
-abbrev pub IsNoFork : Option Op → Type 0
-IsNoFork (Some (Fork child)) = ⊥
-IsNoFork op = Unit {0}
+-- an actor that has no fork, no move and no long pin to do, or none at present, is in the middle of nothing
+abbrev pub KeepsNoJob : Option Op → Type 0
+KeepsNoJob (Some (Pin handle page n want fast)) = want.long ≡ false
+KeepsNoJob (Some (Move proc page zone)) = ⊥
+KeepsNoJob (Some (Fork child)) = ⊥
+KeepsNoJob op = Unit {0}

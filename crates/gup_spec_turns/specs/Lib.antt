@@ -4,6 +4,7 @@ pub mod Cause
 pub mod Pages
 pub mod Cost
 pub mod JobPlace
+pub mod MoveTurns
 pub mod PinPlace
 pub mod PageTurns
 pub mod PinTurns

@@ -1,5 +1,6 @@
--- The turns of operations on pins: pin, unpin, give, take.
-use Rattle.std.specs.Prelude.{if◌then◌else◌, ℕ, ◌+◌, ◌-◌, ◌==◌, Bool, true, false, List, [], ◌∷◌, ◌++◌, length, take, slice_index, Option, Ok, Err, zero, suc}
+-- The turns of operations on pins and references: pin, unpin, give, take, get, put.
+use Rattle.std.specs.Prelude.{if◌then◌else◌, ℕ, ◌+◌, ◌-◌, ◌==◌, ◌&&◌, nat_lt, Bool, true, false, List, [], ◌∷◌, ◌++◌, length, take, slice_index, Option, Some, None, Ok, Err, zero, suc}
+use Rattle.std.specs.Option.{option_map}
 use Rattle.gup_base.specs.declared.entry.Entry.{Entry}
 use Rattle.gup_base.specs.declared.entry.Want.{Want}
 use Rattle.gup_plain.specs.declared.answer.Answer.{Answer}
@@ -9,13 +10,16 @@ use Rattle.gup_plain.specs.declared.answer.Cause.TheVariants as causes
 use Rattle.gup_plain.specs.declared.event.PlainEvent.TheVariants as events
 use Rattle.gup_plain.specs.declared.note.What.{What}
 use Rattle.gup_plain.specs.declared.note.What.TheVariants.{Silent, Event, Done}
-use Rattle.gup_spec_events.specs.State.{CoreState}
-use Rattle.gup_spec_events.specs.Event.{CoreEvent, raise_flag, pin_page, make_handle, unpin_page, give_handle, take_handle, run}
+use Rattle.gup_spec_events.specs.State.{CoreState, Job, moving, Counted, unread, one, more}
+use Rattle.gup_spec_events.specs.Event.{CoreEvent, raise_flag, pin_page, make_handle, unpin_page, give_handle, take_handle, get_reference, put_reference, run, entry_of, take_frame, put_entry, clear_entry, place_frame, restore_entry}
 use Rattle.gup_spec_events.specs.Fault.{Fault, write_fault, unshare_fault}
 use Rattle.gup_plain.specs.Denial.{is_held_by, holder_denial}
-use Rattle.gup_spec_turns.specs.CoreTurn.{CoreTurn, free_in, zones_of, entry_in, ends_with, denied_or}
+use Rattle.gup_spec_journal.specs.Denial.{has_reference}
+use Rattle.gup_spec_turns.specs.CoreTurn.{CoreTurn, free_in, zones_of, entry_in, ends_with, denied_or, after_fault}
+use Rattle.gup_spec_turns.specs.PageTurns.{load_fault}
+use Rattle.gup_spec_turns.specs.MoveTurns.{count_turn}
 
--- pin: one page a turn
+-- pin: one page a turn, but one that a long pin moves first in three
 
 -- has-pinned is set before the first page is tried
 abbrev pub raises : (a p got : ℕ) → List CoreEvent
@@ -42,9 +46,27 @@ pins_behind before a p handle page n want last e =
       whats = Event (events.PinTry a p page want.write) ∷ pinned_if last a handle n;
     }
 
+-- what is pinned for long is first moved out of the movable zone
+abbrev pub moves_first : CoreState → Want → Entry → Bool
+moves_first s want e = want.long && nat_lt e.frame s.movable
+
+-- after these events the page's entry is cleared
+abbrev pub clears_behind : List CoreEvent → (a p page : ℕ) → Want → Entry → CoreTurn
+clears_behind before a p page want e =
+    record { events = before ++ clear_entry a p page e (zones_of want) ∷ []; whats = Silent ∷ [] }
+
+abbrev pub clears_or_pins : (moves : Bool) → List CoreEvent → (a p handle page n : ℕ) → Want → (last : Bool) → Entry → CoreTurn
+clears_or_pins true before a p handle page n want last e = clears_behind before a p page want e
+clears_or_pins false before a p handle page n want last e = pins_behind before a p handle page n want last e
+
+-- by the entry that the page has after these events
+abbrev pub pins_in : (after : CoreState) → List CoreEvent → (a p handle page n : ℕ) → Want → (last : Bool) → Entry → CoreTurn
+pins_in after before a p handle page n want last e =
+    clears_or_pins (moves_first after want e) before a p handle page n want last e
+
 abbrev pub pins : CoreState → List CoreEvent → (a p handle page n : ℕ) → Want → (last : Bool) → CoreTurn
 pins s before a p handle page n want last =
-    pins_behind before a p handle page n want last (entry_in ((run s before).entry p page))
+    pins_in (run s before) before a p handle page n want last (entry_in ((run s before).entry p page))
 
 -- the answer that refuses a page, as the cause of a short pin
 abbrev pub cause_of : Answer → Cause
@@ -53,25 +75,48 @@ cause_of answers.NoFrame = causes.NoFrame
 cause_of (answers.Unmovable count) = causes.Unmovable count
 cause_of answer = causes.Missing
 
--- a page is refused: a pin that has pages has those, and one without any is refused
-abbrev pub ends_pin : (a p handle n got : ℕ) → Answer → CoreTurn
-ends_pin a p handle n zero answer = record { events = raises a p 0; whats = Done answer ∷ [] }
-ends_pin a p handle n (suc got) answer =
-    ends_with (make_handle a handle ∷ []) (events.PinOk a handle) (answers.Short (suc got) n (cause_of answer))
+-- after these events a page is refused: a pin that has pages has those, and one without any is refused
+abbrev pub ends_pin : List CoreEvent → (a handle n got : ℕ) → Answer → CoreTurn
+ends_pin before a handle n zero answer = record { events = before; whats = Done answer ∷ [] }
+ends_pin before a handle n (suc got) answer =
+    ends_with (before ++ make_handle a handle ∷ []) (events.PinOk a handle) (answers.Short (suc got) n (cause_of answer))
 
 abbrev pub pin_turn_by : Fault → CoreState → (a p handle page n got : ℕ) → Want → CoreTurn
-pin_turn_by (Err answer) s a p handle page n got want = ends_pin a p handle n got answer
+pin_turn_by (Err answer) s a p handle page n got want = ends_pin (raises a p got) a handle n got answer
 pin_turn_by (Ok before) s a p handle page n got want =
     pins s (raises a p got ++ before) a p handle page n want (got + 1 == n)
 
--- the turn of a pin that has got so many pages
+-- the turn of a pin that has got so many pages, and is in the middle of none
 abbrev pub pin_turn_at : CoreState → (a p handle page n got : ℕ) → Want → CoreTurn
 pin_turn_at s a p handle page n got want =
     pin_turn_by (pin_fault s a p (page + got) want.write (free_in s (zones_of want))) s a p handle (page + got) n got want
 
+-- the entry is put back, and the page refused
+abbrev pub ends_moved : (a p handle page n got : ℕ) → Want → Entry → Counted → Answer → CoreTurn
+ends_moved a p handle page n got want e count answer =
+    ends_pin (restore_entry a p page e (zones_of want) count ∷ []) a handle n got answer
+
+-- after a count of 1 the page is moved to a frame, if one is free, and pinned there
+abbrev pub pins_moved : (a p handle page n got : ℕ) → Want → Entry → (free : Option ℕ) → CoreTurn
+pins_moved a p handle page n got want e None = ends_moved a p handle page n got want e one answers.NoFrame
+pins_moved a p handle page n got want e (Some f) =
+    pins_behind (take_frame a f ∷ place_frame a p page f e (zones_of want) ∷ put_entry a e.frame ∷ []) a p handle page n want
+    (got + 1 == n) (entry_of f e.writable)
+
+-- of a page that it has cleared, by what was read of the count
+abbrev pub moved_turn : CoreState → (a p handle page n got : ℕ) → Want → Entry → Counted → CoreTurn
+moved_turn s a p handle page n got want e unread = count_turn a p page e (zones_of want) (s.count e.frame)
+moved_turn s a p handle page n got want e one = pins_moved a p handle page n got want e (free_in s (zones_of want))
+moved_turn s a p handle page n got want e (more count) =
+    ends_moved a p handle page n got want e (more count) (answers.Unmovable count)
+
+abbrev pub pin_turn_in : CoreState → (a p handle page n got : ℕ) → Want → Job → CoreTurn
+pin_turn_in s a p handle page n got want (moving q g e allowed count) = moved_turn s a p handle (page + got) n got want e count
+pin_turn_in s a p handle page n got want job = pin_turn_at s a p handle page n got want
+
 -- it has got those that it has taken
 abbrev pub pin_turn : CoreState → (a p handle page n : ℕ) → Want → CoreTurn
-pin_turn s a p handle page n want = pin_turn_at s a p handle page n (length (s.taken a)) want
+pin_turn s a p handle page n want = pin_turn_in s a p handle page n (length (s.taken a)) want (s.job a)
 
 -- unpin: the last page that the pin still has, one a turn
 
@@ -103,3 +148,36 @@ give_turn s a handle to =
 
 abbrev pub take_turn : (a handle : ℕ) → CoreTurn
 take_turn a handle = ends_with (take_handle a handle ∷ []) (events.Take a handle) answers.Plain
+
+-- get and put
+
+-- a reference of the page's frame is got after these events, of the entry that the page has then
+abbrev pub gets_by : List CoreEvent → (a p handle page : ℕ) → Entry → CoreTurn
+gets_by before a p handle page e =
+    record {
+      events = before ++ get_reference a p page e.frame handle e.writable ∷ [];
+      whats = Done answers.Plain ∷ [];
+    }
+
+abbrev pub gets : CoreState → List CoreEvent → (a p handle page : ℕ) → CoreTurn
+gets s before a p handle page = gets_by before a p handle page (entry_in ((run s before).entry p page))
+
+-- the page is made present as a load does it
+abbrev pub get_turn : CoreState → (a p handle page : ℕ) → Option Entry → CoreTurn
+get_turn s a p handle page entry = after_fault (load_fault s a p page entry) (λ before. gets s before a p handle page)
+
+-- the frame of a reference, and who got it
+abbrev pub got_frame : Option (ℕ × ℕ) → ℕ
+got_frame None = 0
+got_frame (Some got) = got.1
+
+abbrev pub got_by : Option (ℕ × ℕ) → Option ℕ
+got_by got = option_map (λ (reference : ℕ × ℕ). reference.0) got
+
+abbrev pub put_turn : CoreState → (a handle : ℕ) → CoreTurn
+put_turn s a handle =
+    denied_or (holder_denial (has_reference (got_by (s.got handle)) a))
+    (record {
+      events = put_reference a (got_frame (s.got handle)) handle ∷ [];
+      whats = Done answers.Plain ∷ [];
+    })

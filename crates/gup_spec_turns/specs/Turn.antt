@@ -4,17 +4,19 @@ use Rattle.gup_plain.specs.State.{Birth, failed}
 use Rattle.gup_plain.specs.declared.answer.Answer.TheVariants as answers
 use Rattle.gup_plain.specs.declared.event.PlainEvent.TheVariants as events
 use Rattle.gup_script.specs.declared.op.Op.{Op}
-use Rattle.gup_script.specs.declared.op.Op.TheVariants.{Map, Unmap, Protect, Discard, Load, Store, Pin, Unpin, Give, Take, Transfer, Fork, Exit}
+use Rattle.gup_script.specs.declared.op.Op.TheVariants.{Map, Unmap, Protect, Discard, Load, Store, Pin, Unpin, Give, Take, Get, Put, Transfer, Fork, Exit, Move}
 use Rattle.gup_spec_events.specs.State.{CoreState}
 use Rattle.gup_spec_events.specs.Event.{fail_unborn}
 use Rattle.gup_spec_journal.specs.Place.{Doer, birth_for}
 use Rattle.gup_spec_turns.specs.CoreTurn.{CoreTurn, answers_with, ends_with, unbuilt_turn}
 use Rattle.gup_spec_turns.specs.PageTurns.{load_turn, store_turn, map_turn, unmap_turn, protect_turn, discard_turn, exit_turn}
-use Rattle.gup_spec_turns.specs.PinTurns.{pin_turn, unpin_turn, give_turn, take_turn}
+use Rattle.gup_spec_turns.specs.PinTurns.{pin_turn, unpin_turn, give_turn, take_turn, get_turn, put_turn}
 use Rattle.gup_spec_turns.specs.DeviceTurns.{transfer_turn}
+use Rattle.gup_spec_turns.specs.MoveTurns.{move_turn}
 use Rattle.gup_spec_turns.specs.ForkTurns.{fork_turn}
 
--- the turn of an operation of a born process, or of a device with so many slots, of which so many turns are over
+-- the turn of an operation of a born process, its own or the one that it names, or of a device with so many slots, of which so
+-- many turns are over
 abbrev pub op_turn : CoreState → (a p slots far : ℕ) → Op → CoreTurn
 op_turn s a p slots far (Map page n rights) = map_turn s a p page n rights
 op_turn s a p slots far (Unmap page n) = unmap_turn s a p (page + far) (far + 1 == n)
@@ -26,8 +28,11 @@ op_turn s a p slots far (Pin handle page n want fast) = pin_turn s a p handle pa
 op_turn s a p slots far (Unpin handle) = unpin_turn s a handle
 op_turn s a p slots far (Give handle to) = give_turn s a handle to
 op_turn s a p slots far (Take handle) = take_turn a handle
+op_turn s a p slots far (Get handle page) = get_turn s a p handle page (s.entry p page)
+op_turn s a p slots far (Put handle) = put_turn s a handle
 op_turn s a p slots far (Transfer handle outward slot parts) =
     transfer_turn s a slots handle outward slot parts far
+op_turn s a p slots far (Move proc page zone) = move_turn s a p page zone (s.job a)
 op_turn s a p slots far (Fork child) = fork_turn s a p child (s.job a)
 op_turn s a p slots far Exit = exit_turn s a p
 -- no script has any other so far

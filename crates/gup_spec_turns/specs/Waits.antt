@@ -4,7 +4,7 @@ use Rattle.gup_base.specs.declared.entry.Rights.{Rights}
 use Rattle.gup_plain.specs.declared.note.Waiting.{Waiting}
 use Rattle.gup_plain.specs.declared.note.Waiting.TheVariants as waitings
 use Rattle.gup_script.specs.declared.op.Op.{Op}
-use Rattle.gup_script.specs.declared.op.Op.TheVariants.{Map, Unmap, Protect, Discard, Load, Store, Pin, Fork, Exit}
+use Rattle.gup_script.specs.declared.op.Op.TheVariants.{Map, Unmap, Protect, Discard, Load, Store, Pin, Get, Fork, Exit, Move}
 use Rattle.gup_spec_events.specs.State.{CoreState, Job, idle, forking, between}
 use Rattle.gup_spec_journal.specs.Order.{handle_waits, waiting_at}
 use Rattle.gup_spec_journal.specs.Place.{Doer, birth_for}
@@ -34,16 +34,24 @@ fork_locks right idle = both_locks
 fork_locks right (forking p c done between) = record { structure = false; table = is_some (next_page right done) }
 fork_locks right job = no_lock
 
--- A load or a store needs both where its entry doesn't allow it, and what is done with a pin that is there needs none.
+-- A move needs the table lock to clear the page's entry, and has it until it is done.
+abbrev pub move_locks : Job → Locks
+move_locks idle = record { structure = false; table = true }
+move_locks job = no_lock
+
+-- A load or a store needs both where its entry doesn't allow it, and what is done with a pin or a reference that is there
+-- needs none.
 abbrev pub locks_needed : CoreState → (a p : ℕ) → Op → Locks
 locks_needed s a p (Load page word) = both_if (is_none (s.entry p page))
 locks_needed s a p (Store page word value) = both_if (not (allows_store (s.entry p page)))
+locks_needed s a p (Move proc page zone) = move_locks (s.job a)
 locks_needed s a p (Fork child) = fork_locks (s.right child) (s.job a)
 locks_needed s a p (Map page n rights) = both_locks
 locks_needed s a p (Unmap page n) = both_locks
 locks_needed s a p (Protect page n rights) = both_locks
 locks_needed s a p (Discard page n) = both_locks
 locks_needed s a p (Pin handle page n want fast) = both_locks
+locks_needed s a p (Get handle page) = both_locks
 locks_needed s a p Exit = both_locks
 locks_needed s a p op = no_lock
 
@@ -69,7 +77,7 @@ waits_born s a p op =
     first_waiting (handle_waits s.handle a (Some op))
     (waits_for_locks (locks_needed s a p op) a (s.structure p) (s.table p))
 
--- What an actor waits for before its next turn, if it waits: first a thread that its process is born, then that a pin
--- is given to it, then for the structure lock, then for the table lock.
+-- What an actor waits for before its next turn, if it waits: first that the operation's process is born, then that a pin is
+-- given to it, then for the structure lock, then for the table lock.
 abbrev pub waiting_for : CoreState → Doer → Op → Option Waiting
 waiting_for s who op = waiting_at who.proc (birth_for s.birth who) (waits_born s who.actor who.proc op)

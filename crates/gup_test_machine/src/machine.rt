@@ -69,9 +69,10 @@ fn process(alloc: Global, born: bool) -> Result<Process, Fail>
 }
 
 // A script of three processes, of which the last is unborn, and of a thread of each. A fourth actor of process 0 pins page
-// 7 and then forks into the last process. There are a movable frame and a normal one.
+// 7 and then forks into the last process, a fifth one gets page 5 and puts it back twice, and a sixth one puts that back too.
+// There are a movable frame and a normal one.
 fn script(alloc: Global, first: Vec<Op>, second: Vec<Op>, third: Vec<Op>) -> Result<Script, Fail>
-    ensures { IfOk result (λ script. length script.actors ≡ 4) }
+    ensures { IfOk result (λ script. length script.actors ≡ 6) }
 {
     if !are_ops(&first) || !are_ops(&second) || !are_ops(&third) {
         return Err("an operation".into());
@@ -81,13 +82,18 @@ fn script(alloc: Global, first: Vec<Op>, second: Vec<Op>, third: Vec<Op>) -> Res
     processes.push(process(alloc, true)?)?;
     processes.push(process(alloc, false)?)?;
     let fork = Vec::from_array(alloc, [pin(), Op::Fork { child: proc(2) }])?;
+    let gets = Vec::from_array(alloc, [get(), put(), put()])?;
+    let puts = Vec::from_array(alloc, [put()])?;
     let mut actors = Vec::new(alloc);
     actors.push(thread(alloc, 0, first)?)?;
     actors.push(thread(alloc, 1, second)?)?;
     actors.push(thread(alloc, 2, third)?)?;
     actors.push(thread(alloc, 0, fork)?)?;
+    actors.push(thread(alloc, 0, gets)?)?;
+    actors.push(thread(alloc, 0, puts)?)?;
     let mut handles = Vec::new(alloc);
     handles.push("h".to_string(alloc)?)?;
+    handles.push("g".to_string(alloc)?)?;
     Ok(Script::new(Contents {
         movable: 1,
         normal: 1,
@@ -111,7 +117,7 @@ fn word() -> WordNo {
 }
 
 fn actor(number: u64) -> ActorNo
-    requires { number < 4 }
+    requires { number < 6 }
     ensures { result ≡ number }
 {
     ActorNo::new(number).unwrap()
@@ -127,6 +133,8 @@ fn proc(number: u64) -> ProcNo
 const DONE: What = What::Done(Answer::Plain);
 
 const MISSING: What = What::Done(Answer::Missing);
+
+const NOT_HELD: What = What::Done(Answer::NotHeld);
 
 // What the notes of process `p`'s thread, of the same number, say.
 
@@ -202,6 +210,20 @@ fn pin() -> Op
     }
 }
 
+fn get() -> Op
+    ensures { result ≡ Op.Get 1 5 }
+{
+    let (handle, page) = (HandleNo::new(1).unwrap(), page(5));
+    Op::Get { handle, page }
+}
+
+fn put() -> Op
+    ensures { result ≡ Op.Put 1 }
+{
+    let handle = HandleNo::new(1).unwrap();
+    Op::Put { handle }
+}
+
 fn unmap(first: u8, n: u16) -> Op {
     let page = page(first);
     Op::Unmap { page, n }
@@ -219,9 +241,9 @@ fn store(at: u8, value: u64) -> Op {
 
 // Takes a turn of the actor, whose notes must say this and no more.
 fn turn(rt: &impl Abort, machine: &mut Machine, number: u64, wanted: &[What])
-    requires number { number < 4 }
-    requires actors { length machine.old.script.actors ≡ 4 }
-    ensures { length machine.new.script.actors ≡ 4 }
+    requires number { number < 6 }
+    requires actors { length machine.old.script.actors ≡ 6 }
+    ensures { length machine.new.script.actors ≡ 6 }
 {
     let turn = machine.turn(actor(number));
     let notes = turn.notes();
@@ -233,7 +255,7 @@ fn turn(rt: &impl Abort, machine: &mut Machine, number: u64, wanted: &[What])
 }
 
 fn machine(alloc: Global, first: Vec<Op>, second: Vec<Op>, third: Vec<Op>) -> Result<Machine, Fail>
-    ensures { IfOk result (λ machine. length machine.script.actors ≡ 4) }
+    ensures { IfOk result (λ machine. length machine.script.actors ≡ 6) }
 {
     let script = script(alloc, first, second, third)?;
     match Machine::new(alloc, &script) {
@@ -339,5 +361,81 @@ fn forks_share_pages(rt: HostRuntime) -> Result<(), Fail> {
     assert_eq!(rt; machine.free_frames(Zone::Normal), 0);
     turn(&rt, &mut machine, 0, &[What::Done(Answer::NoFrame)]);
     turn(&rt, &mut machine, 0, &stored(0, 5, 2));
+    Ok(())
+}
+
+// A get makes its page present, and keeps the frame over an unmap until its own actor puts it back, once.
+#[test]
+fn references_keep_frames(rt: HostRuntime) -> Result<(), Fail> {
+    let alloc = rt.alloc();
+    let first = Vec::from_array(alloc, [map(5, 1), unmap(5, 1), map(5, 1), load(5)])?;
+    let mut machine = machine(alloc, first, Vec::new(alloc), Vec::new(alloc))?;
+    let _mapped = machine.turn(actor(0));
+    assert_eq!(rt; machine.free_frames(Zone::Movable), 1);
+    turn(&rt, &mut machine, 4, &[DONE]);
+    assert_eq!(rt; machine.free_frames(Zone::Movable), 0);
+    turn(&rt, &mut machine, 0, &[unmapped(0, 5), DONE]);
+    assert_eq!(rt; machine.free_frames(Zone::Movable), 0);
+    let _mapped = machine.turn(actor(0));
+    turn(&rt, &mut machine, 0, &loaded(0, 5, 0));
+    assert_eq!(rt; machine.free_frames(Zone::Normal), 0);
+    turn(&rt, &mut machine, 5, &[NOT_HELD]);
+    assert_eq!(rt; machine.free_frames(Zone::Movable), 0);
+    turn(&rt, &mut machine, 4, &[DONE]);
+    assert_eq!(rt; machine.free_frames(Zone::Movable), 1);
+    turn(&rt, &mut machine, 4, &[NOT_HELD]);
+    assert_eq!(rt; machine.free_frames(Zone::Movable), 1);
+    assert!(rt; machine.finished(actor(4)));
+    Ok(())
+}
+
+// A get that is refused has nothing to put back.
+#[test]
+fn references_are_refused(rt: HostRuntime) -> Result<(), Fail> {
+    let alloc = rt.alloc();
+    let second = Vec::from_array(alloc, [map(5, 2), store(5, 1), store(6, 1)])?;
+    let mut unmapped = machine(alloc, Vec::new(alloc), Vec::new(alloc), Vec::new(alloc))?;
+    turn(&rt, &mut unmapped, 4, &[MISSING]);
+    turn(&rt, &mut unmapped, 4, &[NOT_HELD]);
+    let first = Vec::from_array(alloc, [map(5, 1)])?;
+    let mut full = machine(alloc, first, second, Vec::new(alloc))?;
+    let _mapped = full.turn(actor(0));
+    let _mapped = full.turn(actor(1));
+    turn(&rt, &mut full, 1, &stored(1, 5, 1));
+    turn(&rt, &mut full, 1, &stored(1, 6, 1));
+    turn(&rt, &mut full, 4, &[What::Done(Answer::NoFrame)]);
+    turn(&rt, &mut full, 4, &[NOT_HELD]);
+    Ok(())
+}
+
+// A get waits for a fork of its process, and a put for nothing.
+#[test]
+fn references_wait_for_forks(rt: HostRuntime) -> Result<(), Fail> {
+    let alloc = rt.alloc();
+    let first = Vec::from_array(alloc, [map(5, 1), store(5, 1)])?;
+    let mut machine = machine(alloc, first, Vec::new(alloc), Vec::new(alloc))?;
+    let _mapped = machine.turn(actor(0));
+    turn(&rt, &mut machine, 0, &stored(0, 5, 1));
+    turn(&rt, &mut machine, 3, &[MISSING]);
+    turn(&rt, &mut machine, 3, &[begun()]);
+    assert_eq!(rt; machine.waits(actor(4)), Some(Waiting::Holder(actor(3))));
+    turn(
+        &rt,
+        &mut machine,
+        4,
+        &[What::Wait(Waiting::Holder(actor(3)))],
+    );
+    assert_eq!(rt; machine.waits(actor(5)), None);
+    turn(&rt, &mut machine, 5, &[NOT_HELD]);
+    turn(&rt, &mut machine, 3, &[What::Silent]);
+    turn(&rt, &mut machine, 3, &[forked(5)]);
+    let (parent, child) = (proc(0), proc(2));
+    let ended = What::Event(PlainEvent::ForkEnd { parent, child });
+    turn(&rt, &mut machine, 3, &[ended, DONE]);
+    assert_eq!(rt; machine.waits(actor(4)), None);
+    turn(&rt, &mut machine, 4, &[DONE]);
+    assert_eq!(rt; machine.free_frames(Zone::Normal), 1);
+    turn(&rt, &mut machine, 4, &[DONE]);
+    turn(&rt, &mut machine, 4, &[NOT_HELD]);
     Ok(())
 }

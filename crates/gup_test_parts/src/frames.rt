@@ -12,7 +12,7 @@ const MOVABLE: Allowed = Allowed::Only(Zone::Movable);
 const NORMAL: Allowed = Allowed::Only(Zone::Normal);
 
 // Whether the frame is there.
-fn has(frames: &Frames, frame: FrameNo) -> bool
+pub(crate) fn has(frames: &Frames, frame: FrameNo) -> bool
     ensures { IsTrue result ↔ IsFrame (frames_of frames.now) frame }
 {
     frame.get() < u64::from(frames.movable()) + u64::from(frames.normal())

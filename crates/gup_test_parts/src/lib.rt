@@ -1,4 +1,4 @@
-//! Tests of what a machine keeps its state in: mappings, frames, handles, processes and stores.
+//! Tests of what a machine keeps its state in: mappings, frames, handles, processes and stores, and of moves over them.
 #![tactic(auto)]
 
 #[cfg(test)]
@@ -7,6 +7,8 @@ mod frames;
 mod handles;
 #[cfg(test)]
 mod maps;
+#[cfg(test)]
+mod moves;
 #[cfg(test)]
 mod spaces;
 #[cfg(test)]

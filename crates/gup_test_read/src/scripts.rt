@@ -11,7 +11,7 @@ const DECLARED: &str =
     "gup 1\nframes 8 8 64\nprocess p\nchild c\nthread t p\ndevice d 64\nmover m\n";
 
 /// What stands after the seven lines, and its first fault. Where a line has a second fault, the first goes before it.
-const LINES: [(&str, u32, Reason); 143] = [
+const LINES: [(&str, u32, Reason); 158] = [
     ("process q\t\n", 8, Reason::Byte),
     ("# \u{e9}\n", 8, Reason::Byte),
     (" \u{7f}wrong\n", 8, Reason::Byte),
@@ -137,9 +137,7 @@ const LINES: [(&str, u32, Reason); 143] = [
     ("random 1 1000001\n", 8, Reason::Limit),
     ("turns t\nrandom 1 1000000\n", 9, Reason::Limit),
     ("random 1 18446744073709551615\n", 8, Reason::Limit),
-    ("on t pin h 0 16 write long\n", 8, Reason::Later),
     ("on t pinfast h 34359738366 2 read\n", 8, Reason::Later),
-    ("on t get g 0\n", 8, Reason::Later),
     ("on d mirror s c 0\n", 8, Reason::Later),
     ("on t pin h 0 1 read\non d outv h 0 0:1\n", 9, Reason::Later),
     (
@@ -169,15 +167,28 @@ const LINES: [(&str, u32, Reason); 143] = [
     ("on t pin h 0 1 read\non t give h m\n", 9, Reason::Name),
     ("on t pin h 0 1 read\non d give h p\n", 9, Reason::Name),
     ("on t pin h 0 1 read\non t put h\n", 9, Reason::Name),
+    ("on t get\n", 8, Reason::Shape),
+    ("on t get g\n", 8, Reason::Shape),
+    ("on t get g 0 1\n", 8, Reason::Shape),
+    ("on t get g 0\non t put\n", 9, Reason::Shape),
+    ("on d get g 0\n", 8, Reason::Word),
+    ("on t get g 0\non d put g\n", 9, Reason::Word),
+    ("on t get g 0\non t put h\n", 9, Reason::Name),
+    ("on t get g 0\non t unpin g\n", 9, Reason::Name),
+    ("on t get g 0\non t give g d\n", 9, Reason::Name),
+    ("on t get g 0\non t get g 1\n", 9, Reason::Twice),
+    ("on t get g 0\non t pin g 1 1 read\n", 9, Reason::Twice),
     ("on t pin h 0 1 read\non d out h 0 0 0\n", 9, Reason::Number),
     ("on t pin h 0 1 read\non t in h 0 0 1\n", 9, Reason::Word),
     ("on t pin h 0 1 read\non m take h\n", 9, Reason::Word),
-    ("on m move c 0 movable\n", 8, Reason::Later),
-    (
-        "# x\n\n#\non m move p 34359738367 normal\n",
-        11,
-        Reason::Later,
-    ),
+    ("on m move p 0\n", 8, Reason::Shape),
+    ("on m move p 0 high\n", 8, Reason::Shape),
+    ("on m move p 34359738368 normal\n", 8, Reason::Number),
+    ("on m move t 0 normal\n", 8, Reason::Name),
+    ("on t move p 0 normal\n", 8, Reason::Word),
+    ("on d move p 0 movable\n", 8, Reason::Word),
+    ("on m get g 0\n", 8, Reason::Word),
+    ("# x\n\n#\non d mirror s p 34359738367\n", 11, Reason::Later),
     ("process q\n\nwrong\nwrong  too\n", 10, Reason::Word),
     ("process q\nprocess q\nprocess q\n", 9, Reason::Twice),
     ("on u exit\nthread u p\n", 8, Reason::Name),
@@ -225,9 +236,10 @@ const TEXTS: [(&str, u32, Reason); 24] = [
 const WHOLE: &str =
     "# all\ngup 1\n\nframes 512 512 8192\nrandom 3 0\nprocess p\nchild c\nthread t p\ndevice d 4096\nthread u c\nmover m\nseed 18446744073709551615\non t map 5 1024 r\non u discard 0 3\non t protect 34359738367 1 rw\non t fork c\non t store 5.511 7\non t exit\nturns t u*3 d m*2\nrandom 7 6\nturns d\n";
 
-/// A thread and a device that pin, give, take and unpin handles, and move words of one.
+/// A thread and a device that pin, give, take and unpin handles, and move words of one; a pin for long, a reference that is got
+/// and put back, and a move.
 const HELD: &str =
-    "gup 1\nframes 8 8 64\nprocess p\nthread t p\ndevice d 64\nmover m\non t pin h 5 16 write\non t pin g 34359738367 1 read\non t give h d\non d take h\non d out h 4294967295 0 64\non d in g 0 4294967295 1\non d give g t\non t take g\non t unpin h\non d unpin g\n";
+    "gup 1\nframes 8 8 64\nprocess p\nthread t p\ndevice d 64\nmover m\non t pin h 5 16 write\non t pin g 34359738367 1 read\non t give h d\non d take h\non d out h 4294967295 0 64\non d in g 0 4294967295 1\non d give g t\non t take g\non t unpin h\non d unpin g\non t pin k 7 2 read long\non t get f 9\non t put f\non m move p 34359738367 movable\n";
 
 /// The fault for which the text is refused.
 fn fault(alloc: Global, text: &[u8]) -> Result<ScriptFault, Fail> {
@@ -410,7 +422,7 @@ fn whole_script(rt: HostRuntime) -> Result<(), Fail> {
 }
 
 const HELD_TOLD: &str =
-    "(8, 8, 64) 0\np true\nt Thread(ProcNo { number: 0 })\nPin { handle: HandleNo { number: 0 }, page: PageNo { number: 5 }, n: 16, want: Want { write: true, long: false }, fast: false }\nPin { handle: HandleNo { number: 1 }, page: PageNo { number: 34359738367 }, n: 1, want: Want { write: false, long: false }, fast: false }\nGive { handle: HandleNo { number: 0 }, to: ActorNo { number: 1 } }\nTake { handle: HandleNo { number: 1 } }\nUnpin { handle: HandleNo { number: 0 } }\nd Device(64)\nTake { handle: HandleNo { number: 0 } }\nTransfer { handle: HandleNo { number: 0 }, outward: true, slot: 0, parts: Parts { parts: [(4294967295, 64)] } }\nTransfer { handle: HandleNo { number: 1 }, outward: false, slot: 4294967295, parts: Parts { parts: [(0, 1)] } }\nGive { handle: HandleNo { number: 1 }, to: ActorNo { number: 0 } }\nUnpin { handle: HandleNo { number: 1 } }\nm Mover\nh\ng\n";
+    "(8, 8, 64) 0\np true\nt Thread(ProcNo { number: 0 })\nPin { handle: HandleNo { number: 0 }, page: PageNo { number: 5 }, n: 16, want: Want { write: true, long: false }, fast: false }\nPin { handle: HandleNo { number: 1 }, page: PageNo { number: 34359738367 }, n: 1, want: Want { write: false, long: false }, fast: false }\nGive { handle: HandleNo { number: 0 }, to: ActorNo { number: 1 } }\nTake { handle: HandleNo { number: 1 } }\nUnpin { handle: HandleNo { number: 0 } }\nPin { handle: HandleNo { number: 2 }, page: PageNo { number: 7 }, n: 2, want: Want { write: false, long: true }, fast: false }\nGet { handle: HandleNo { number: 3 }, page: PageNo { number: 9 } }\nPut { handle: HandleNo { number: 3 } }\nd Device(64)\nTake { handle: HandleNo { number: 0 } }\nTransfer { handle: HandleNo { number: 0 }, outward: true, slot: 0, parts: Parts { parts: [(4294967295, 64)] } }\nTransfer { handle: HandleNo { number: 1 }, outward: false, slot: 4294967295, parts: Parts { parts: [(0, 1)] } }\nGive { handle: HandleNo { number: 1 }, to: ActorNo { number: 0 } }\nUnpin { handle: HandleNo { number: 1 } }\nm Mover\nMove { proc: ProcNo { number: 0 }, page: PageNo { number: 34359738367 }, zone: Movable }\nh\ng\nk\nf\n";
 
 #[test]
 fn script_with_handles(rt: HostRuntime) -> Result<(), Fail> {

@@ -2,7 +2,6 @@
 use Rattle.std.proofs.Common.{List, sym, subst}
 use Rattle.gup_script.specs.Script.{ScriptValue}
 use Rattle.gup_script.specs.Valid.{IsScript}
-use Rattle.gup_spec_journal.specs.Denial.{no_references}
 use Rattle.gup_spec_journal.specs.Order.{Turn, journal_of}
 use Rattle.gup_spec_journal.specs.Place.{first_place}
 use Rattle.gup_spec_journal.specs.Plain.{IsPlain, judged_first}
@@ -15,7 +14,7 @@ use Rattle.gup_law_journal.proofs.core_run_is_plain.Goals as goal
 
 plain : Law → Starts → (script : ScriptValue) (turns : List Turn) (end : RunState) → IsScript script → AreTurns script (run_start script) turns end → IsPlain script (journal_of 1 (λ _. first_place) turns)
 plain law starts script turns end valid are =
-    let both = plain_turns law script valid no_references turns 1 (run_start script) end (stands_first starts script valid) are in
+    let both = plain_turns law script valid turns 1 (run_start script) end (stands_first starts script valid) are in
     are_plain script (judged_first script) (journal_of 1 (λ _. first_place) turns) both
 
 pub returns-clause-turns : goal.returns-clause-turns

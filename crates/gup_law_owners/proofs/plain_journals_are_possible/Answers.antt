@@ -10,7 +10,7 @@ use Rattle.gup_script.specs.declared.op.Op.{Op}
 use Rattle.gup_script.specs.Script.{ScriptValue}
 use Rattle.gup_exec_plain.specs.LastWrite.{ArePossible}
 use Rattle.gup_spec_journal.specs.Denial.{References}
-use Rattle.gup_spec_journal.specs.Place.{Place, Doer, doer, present_op}
+use Rattle.gup_spec_journal.specs.Place.{Place, Doer, doer_of, present_op}
 use Rattle.gup_spec_journal.specs.Plain.{Judged, judged_first, judged_after, AreSo, IsRightAt, plain_after}
 use Rattle.gup_law_owners.specs.Owners.{event_in, journal_events}
 use Rattle.gup_law_owners.proofs.plain_journals_are_possible.Goals as goal
@@ -28,7 +28,7 @@ all_possible : (script : ScriptValue) (j : Judged) (notes : List NoteValue) → 
 all_possible script j [] plain = tt
 all_possible script j (note ∷ notes) plain =
     let place = j.places note.actor in
-    first_possible j.plain j.references (doer script note.actor) place (present_op script note.actor place) note.what (journal_events notes) plain.0
+    first_possible j.plain j.references (doer_of script note.actor (present_op script note.actor (j.places note.actor))) place (present_op script note.actor place) note.what (journal_events notes) plain.0
     (all_possible script (judged_after script j note) notes plain.1)
 
 pub returns : goal.returns

@@ -1,4 +1,4 @@
-use Rattle.std.proofs.Common.{◌≡◌, ℕ, ◌+◌, ◌*◌, ◌≤◌, ◌++◌, Bool, false, List, Some, length, sym, ap, subst, ◌∙◌}
+use Rattle.std.proofs.Common.{◌≡◌, ℕ, ◌+◌, ◌*◌, ◌≤◌, ◌++◌, Bool, false, refl, List, [], Some, length, sym, ap, subst, ◌∙◌}
 use Rattle.gup_plain.specs.Note.{NoteValue}
 use Rattle.gup_plain.specs.declared.note.Waiting.{Waiting}
 use Rattle.gup_script.specs.Script.{ScriptValue}
@@ -11,7 +11,7 @@ use Rattle.gup_core.specs.Machine.{MachineValue, Shows}
 use Rattle.gup_lines.specs.Text.{text_of}
 use Rattle.gup_sched.specs.Ran.{SaysStuck}
 use Rattle.gup.specs.Stuck.{stuck_text}
-use Rattle.gup.proofs.Causes.{caused, outcomes_answered}
+use Rattle.gup.proofs.Causes.{AreExact, caused, outcomes_answered}
 use Rattle.gup.proofs.RunEnd.{all_wait}
 use Rattle.gup.proofs.top.run_script.Goals as goal
 
@@ -54,6 +54,7 @@ returns c =
     let stays = c.runs_end_at_waits.ensures.ends script core.0 end core.2 in
     let named = c.runs_end_at_waits.ensures.waits script core.0 end valid core.2 in
     let outcomes = outcomes_answered notes in
+    let exact : AreExact = record { lacks = c.no_frame_has_its_cause.ensures; untouched = c.moves_have_their_causes.ensures.untouched; busy = c.moves_have_their_causes.ensures.busy; unmovable = c.pins_have_their_causes.ensures } in
     let of_lines : c.script.result.now ≡ script = c.script.ensures ∙ c.in_ok-ran.ensures.script ∙ made in
     let of_stuck : c.script-2.result.now ≡ script = c.script-2.ensures ∙ c.in_ok-ran.ensures.script ∙ made in
     record {
@@ -63,7 +64,7 @@ returns c =
       thorough = c.core_run_is_thorough.ensures.run script notes end valid core;
       owned = c.plain_journals_are_owned.ensures script notes plain;
       causes =
-          (core.0, end, core.1, core.2, caused c.no_frame_has_its_cause.ensures script (judged_first script) 1 (λ _. first_place) core.0 (run_start script) end core.2 (subst (AreSo IsRightAt script (judged_first script)) core.1 plain) (subst AreKnown core.1 known));
+          (core.0, end, core.1, core.2, caused exact script valid (judged_first script) 1 (λ _. first_place) core.0 (run_start script) end ([], refl) core.2 (subst (AreSo IsRightAt script (judged_first script)) core.1 plain) (subst AreKnown core.1 known));
       end = end;
       core = core;
       ends = run.3;

@@ -15,10 +15,6 @@ overflow_add-result c =
       | inr other ↦
           elim other [
             | inl discard ↦ let few = fits _ discard.2 refl in omega arith
-            | inr later ↦
-                elim later [
-                  | inl pin ↦ let few = fits _ pin.5 refl in omega arith
-                  | inr transfer ↦ let few = fits _ transfer.4 refl in omega arith
-                ]
+            | inr transfer ↦ let few = fits _ transfer.4 refl in omega arith
           ]
     ]

@@ -1,105 +1,72 @@
 use Rattle.std.proofs.Common.{◌≡◌, ℕ, List, Option, refl, sym, ap, subst, arith}
 use Rattle.gup_script.specs.declared.op.Op.{Op}
-use Rattle.gup_script.specs.declared.op.Op.TheVariants.{Pin, Unpin, Give, Take, Transfer}
-use Rattle.gup_script.specs.Valid.{IsOp}
-use Rattle.gup_space.specs.Space.{space_of}
+use Rattle.gup_script.specs.declared.op.Op.TheVariants.{Unpin, Give, Take, Get, Put, Transfer}
+use Rattle.gup_script.specs.Valid.{IsOp, made_by}
 use Rattle.gup_spec_turns.specs.Turn.{op_turn}
 use Rattle.gup_op_base.specs.Far.{HasFar}
+use Rattle.gup_op_base.specs.Tidy.{needs_table}
+use Rattle.gup_space.specs.Space.{space_of}
+use Rattle.gup_op_waits.specs.Doers.{HasProcess}
 use Rattle.gup_spec_events.specs.State.{CoreState}
 use Rattle.gup_op_pins.specs.Held.{ShowsHeld, held_view, slots_in}
 use Rattle.gup_op_base.specs.Said.{whats_of}
 use Rattle.gup_op_base.specs.Turns.{Leads}
-use Rattle.gup_op_base.specs.Tidy.{needs_table}
-use Rattle.gup_op_waits.specs.Doers.{HasProcess}
 use Rattle.gup_op_waits.specs.Parts.{ShowsParts}
 use Rattle.gup_op_waits.specs.Stands.{StandsAt}
-use Rattle.gup_core.proofs.Pinning.{unpin_is_handling, give_is_handling, take_is_handling, transfer_is_handling, unpin_leaves_stores, give_leaves_stores, take_leaves_stores}
+use Rattle.gup_core.proofs.Pinning.{unpin_is_handling, give_is_handling, take_is_handling, put_is_handling, transfer_is_handling, unpin_leaves_stores, give_leaves_stores, take_leaves_stores, put_leaves_stores}
 use Rattle.gup_core.proofs.Parting.{all_kept}
 use Rattle.gup_op_waits.proofs.ScriptSlots.{some_is}
-use Rattle.gup_core.proofs.Singles.{process_is, any_process, is_alone, alone_process}
-use Rattle.gup_core.proofs.Turning.{IsTurnAmong, there, alone, pinned, handled, leads_part, leads_store}
-use Rattle.gup_op_waits.proofs.Waits.{single}
+use Rattle.gup_core.proofs.Singles.{process_is, any_process, is_alone, alone_process, single_keeps}
+use Rattle.gup_core.proofs.Turning.{IsTurnAmong, there, alone, got, handled, leads_part, leads_store}
 use Rattle.gup_core.proofs.takes.take_single.Goals as goal
 
--- ---- a pin
+-- ---- a get
 
-pub take_pin-requires-clause-there : goal.take_pin-requires-clause-there
-take_pin-requires-clause-there c =
+pub take_get-requires-clause-there : goal.take_get-requires-clause-there
+take_get-requires-clause-there c =
     let ready = (c.requires.ready c.unwrap.result (process_is c.args.proc c.unwrap.result c.unwrap.ensures)).1 in
-    ready.there (subst HasProcess (sym c.in-Pin.is) tt)
+    ready.there (subst HasProcess (sym c.in-Get.is) tt)
 
-pub take_pin-requires-clause-actor : goal.take_pin-requires-clause-actor
-take_pin-requires-clause-actor c = (c.requires.ready c.unwrap.result (process_is c.args.proc c.unwrap.result c.unwrap.ensures)).1.actor_taken
+pub take_get-requires-clause-tidy : goal.take_get-requires-clause-tidy
+take_get-requires-clause-tidy c = (c.requires.ready c.unwrap.result (process_is c.args.proc c.unwrap.result c.unwrap.ensures)).1.tidy
 
-pub take_pin-requires-clause-tidy : goal.take_pin-requires-clause-tidy
-take_pin-requires-clause-tidy c = (c.requires.ready c.unwrap.result (process_is c.args.proc c.unwrap.result c.unwrap.ensures)).1.tidy
-
-pub take_pin-requires-clause-table : goal.take_pin-requires-clause-table
-take_pin-requires-clause-table c space here =
+pub take_get-requires-clause-table : goal.take_get-requires-clause-table
+take_get-requires-clause-table c space here =
     let ready = (c.requires.ready c.unwrap.result (process_is c.args.proc c.unwrap.result c.unwrap.ensures)).1 in
-    ready.table space here (single c.args.op.now c.requires.single) (ap (λ (op : Op). needs_table (space_of space) op) c.in-Pin.is)
+    ready.table space here (single_keeps c.args.op.now c.requires.single) (ap (λ (op : Op). needs_table (space_of space) op) c.in-Get.is)
 
-pub take_pin-requires-clause-few : goal.take_pin-requires-clause-few
-take_pin-requires-clause-few c = (c.requires.ready c.unwrap.result (process_is c.args.proc c.unwrap.result c.unwrap.ensures)).1.few_counts
+pub take_get-requires-clause-few : goal.take_get-requires-clause-few
+take_get-requires-clause-few c = (c.requires.ready c.unwrap.result (process_is c.args.proc c.unwrap.result c.unwrap.ensures)).1.few_counts
 
-pub take_pin-requires-clause-unmade : goal.take_pin-requires-clause-unmade
-take_pin-requires-clause-unmade c =
+pub take_get-requires-clause-unmade : goal.take_get-requires-clause-unmade
+take_get-requires-clause-unmade c =
     let ready = (c.requires.ready c.unwrap.result (process_is c.args.proc c.unwrap.result c.unwrap.ensures)).1 in
-    ready.yet c.in-Pin.handle c.in-Pin.page c.in-Pin.n c.in-Pin.want c.in-Pin.fast c.in-Pin.is
+    ready.yet c.in-Get.handle (ap made_by c.in-Get.is)
 
-pub take_pin-requires-clause-taken : goal.take_pin-requires-clause-taken
-take_pin-requires-clause-taken c pages here =
-    let ready = (c.requires.ready c.unwrap.result (process_is c.args.proc c.unwrap.result c.unwrap.ensures)).1 in
-    ready.taken pages c.in-Pin.handle c.in-Pin.page c.in-Pin.n c.in-Pin.want c.in-Pin.fast here c.in-Pin.is
-
-pub take_pin-requires-clause-pinned : goal.take_pin-requires-clause-pinned
-take_pin-requires-clause-pinned c space here some =
-    let ready = (c.requires.ready c.unwrap.result (process_is c.args.proc c.unwrap.result c.unwrap.ensures)).1 in
-    ready.pinned space c.in-Pin.handle c.in-Pin.page c.in-Pin.n c.in-Pin.want c.in-Pin.fast here c.in-Pin.is some
-
-pub take_pin-requires-clause-within : goal.take_pin-requires-clause-within
-take_pin-requires-clause-within c =
-    let ready = (c.requires.ready c.unwrap.result (process_is c.args.proc c.unwrap.result c.unwrap.ensures)).1 in
-    subst (λ (op : Op). HasFar op c.args.far) c.in-Pin.is ready.far
-
-pub take_pin-requires-clause-most : goal.take_pin-requires-clause-most
-take_pin-requires-clause-most c =
-    let ready = (c.requires.ready c.unwrap.result (process_is c.args.proc c.unwrap.result c.unwrap.ensures)).1 in
-    (subst (λ (op : Op). IsOp op) c.in-Pin.is ready.in_range).1
-
-pub take_pin-requires-clause-range : goal.take_pin-requires-clause-range
-take_pin-requires-clause-range c =
-    let ready = (c.requires.ready c.unwrap.result (process_is c.args.proc c.unwrap.result c.unwrap.ensures)).1 in
-    (subst (λ (op : Op). IsOp op) c.in-Pin.is ready.in_range).2
-
-pub take_pin-requires-clause-short : goal.take_pin-requires-clause-short
-take_pin-requires-clause-short c =
-    let ready = (c.requires.ready c.unwrap.result (process_is c.args.proc c.unwrap.result c.unwrap.ensures)).1 in
-    (subst (λ (op : Op). IsOp op) c.in-Pin.is ready.in_range).3.short
-
-pub returns-in-Pin-clause-turn : goal.returns-in-Pin-clause-turn
-returns-in-Pin-clause-turn c =
+pub returns-in-Get-clause-turn : goal.returns-in-Get-clause-turn
+returns-in-Get-clause-turn c =
     let a = c.args in
     let actor = a.head.now.actor in
-    let t = c.take_pin in
+    let t = c.take_get in
     let told = t.ensures.turn in
-    let pin = c.in-Pin in
-    let within = (c.requires.ready c.unwrap.result (process_is a.proc c.unwrap.result c.unwrap.ensures)).1.there (subst HasProcess (sym pin.is) tt) in
+    let x = c.in-Get in
+    let own = c.unwrap.result in
+    let ready_own = (c.requires.ready own (process_is a.proc own c.unwrap.ensures)).1 in
+    let within = ready_own.there (subst HasProcess (sym x.is) tt) in
     record {
       said = told.said;
       tells = told.tells;
       ends = told.ends;
       is_so = λ p slots place of_p has.
-          let ready = (c.requires.ready p of_p).1 in
-          let same : c.unwrap.result ≡ p = some_is a.proc c.unwrap.result p c.unwrap.ensures of_p in
+          let same : own ≡ p = some_is a.proc own p c.unwrap.ensures of_p in
           let turn =
-          pinned a.parts.now t.new.parts actor c.unwrap.result slots a.far pin.handle pin.page pin.n pin.want pin.fast place (whats_of told.said)
-          within t.ensures.spaces ready.actor_taken t.ensures.taken t.ensures.births t.ensures.stores t.ensures.other_spaces t.ensures.others_taken told.is_so in
-          subst (λ (op : Op). IsTurnAmong a.parts.now t.new.parts actor p slots a.far op place (whats_of told.said) place) (sym pin.is)
-          (subst (λ (q : ℕ). IsTurnAmong a.parts.now t.new.parts actor q slots a.far (Pin pin.handle pin.page pin.n pin.want pin.fast) place (whats_of told.said) place) same turn);
+          got a.parts.now t.new.parts actor own slots a.far x.handle x.page place (whats_of told.said)
+          within t.ensures.spaces ready_own.actor_taken t.ensures.births t.ensures.taken t.ensures.stores t.ensures.other_spaces told.is_so in
+          subst (λ (op : Op). IsTurnAmong a.parts.now t.new.parts actor p slots a.far op place (whats_of told.said) place) (sym x.is)
+          (subst (λ (q : ℕ). IsTurnAmong a.parts.now t.new.parts actor q slots a.far (Get x.handle x.page) place (whats_of told.said) place) same turn);
     }
 
--- ---- operations on a pin
+-- ---- operations on a pin or a reference
 
 pub unpin-requires-clause-weighed : goal.unpin-requires-clause-weighed
 unpin-requires-clause-weighed c =
@@ -172,6 +139,31 @@ returns-in-Take-clause-turn c =
           subst (λ (op : Op). IsTurnAmong old new actor p slots a.far op place (whats_of told.said) place) (sym c.in-Take.is) turn;
     }
 
+pub put-requires-clause-referred : goal.put-requires-clause-referred
+put-requires-clause-referred c =
+    let any = any_process c.args.proc in
+    (c.requires.ready any.0 any.1).1.referred c.in-Put.handle
+
+pub returns-in-Put-clause-turn : goal.returns-in-Put-clause-turn
+returns-in-Put-clause-turn c =
+    let a = c.args in
+    let actor = a.head.now.actor in
+    let old = a.parts.now in
+    let new = record old { frames = c.put.new.frames; handles = c.put.new.handles } in
+    let told = c.put.ensures in
+    let h = c.in-Put.handle in
+    record {
+      said = told.said;
+      tells = told.tells;
+      ends = told.ends;
+      is_so = λ p slots place of_p has.
+          let turn =
+          handled old new actor p slots a.far (Put h) place (whats_of told.said) tt refl refl refl
+          (λ s k. put_is_handling s actor h)
+          (λ s k shown stands far_is. leads_part old new actor s (op_turn s actor p slots k (Put h)) (whats_of told.said) refl (put_leaves_stores s actor h) shown (told.is_so s (record { frames = shown.frames; pins = shown.pins; store = tt }) tt)) in
+          subst (λ (op : Op). IsTurnAmong old new actor p slots a.far op place (whats_of told.said) place) (sym c.in-Put.is) turn;
+    }
+
 -- ---- a transfer
 
 pub take_transfer-requires-clause-actor : goal.take_transfer-requires-clause-actor
@@ -229,12 +221,12 @@ returns-in-Transfer-clause-turn c =
 pub take_alone-requires : goal.take_alone-requires
 take_alone-requires c =
     let op = c.args.op.now in
-    let alone_so = is_alone op (single op c.requires.single) c.in_default.not-Pin c.in_default.not-Unpin c.in_default.not-Give c.in_default.not-Take c.in_default.not-Transfer in
+    let alone_so = is_alone op c.requires.single c.in_default.not-Unpin c.in_default.not-Give c.in_default.not-Take c.in_default.not-Get c.in_default.not-Put c.in_default.not-Transfer in
     let ready = (c.requires.ready c.unwrap-in_default.result (process_is c.args.proc c.unwrap-in_default.result c.unwrap-in_default.ensures)).1 in
     record {
       there = ready.there (alone_process op alone_so);
       tidy = ready.tidy;
-      table = λ space here needed. ready.table space here (single op c.requires.single) needed;
+      table = λ space here needed. ready.table space here (single_keeps op c.requires.single) needed;
       op = ready.in_range;
       far = ready.far;
       alone = alone_so;
@@ -250,7 +242,7 @@ returns-in_default c =
     let t = c.take_alone in
     let told = t.ensures.turn in
     let new = record old { frames = t.new.frames; spaces = t.new.spaces } in
-    let alone_so = is_alone op (single op c.requires.single) c.in_default.not-Pin c.in_default.not-Unpin c.in_default.not-Give c.in_default.not-Take c.in_default.not-Transfer in
+    let alone_so = is_alone op c.requires.single c.in_default.not-Unpin c.in_default.not-Give c.in_default.not-Take c.in_default.not-Get c.in_default.not-Put c.in_default.not-Transfer in
     let q = c.unwrap-in_default.result in
     let within = (c.requires.ready q (process_is a.proc q c.unwrap-in_default.ensures)).1.there (alone_process op alone_so) in
     record {
@@ -265,6 +257,6 @@ returns-in_default c =
         ends = told.ends;
         is_so = λ p slots place of_p has.
             subst (λ (k : ℕ). IsTurnAmong old new actor k slots a.far op place (whats_of told.said) place) (some_is a.proc q p c.unwrap-in_default.ensures of_p)
-            (alone old new actor q slots a.far op place (whats_of told.said) alone_so (single op c.requires.single) within t.ensures.many refl refl refl refl t.ensures.others (λ was now k. told.is_so was now slots k));
+            (alone old new actor q slots a.far op place (whats_of told.said) alone_so (single_keeps op c.requires.single) within t.ensures.many refl refl refl refl t.ensures.others (λ was now k. told.is_so was now slots k));
       };
     }

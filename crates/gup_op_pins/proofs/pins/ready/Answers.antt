@@ -7,9 +7,9 @@ use Rattle.gup_op_pins.proofs.pins.ready.Goals as goal
 pub returns-then-want-clause-ready : goal.returns-then-want-clause-ready
 returns-then-want-clause-ready c =
     let t = c.ready_to_write in
-    as_wanted c.args.want true (frames_of t.new.frames) (space_of t.new.space) c.args.page t.result c.if-want.true c.requires.short t.ensures.ready
+    as_wanted true c.args.want.write (frames_of t.new.frames) (space_of t.new.space) c.args.page t.result c.if-want.true t.ensures.ready
 
 pub returns-else-want-clause-ready : goal.returns-else-want-clause-ready
 returns-else-want-clause-ready c =
     let t = c.ready_to_read in
-    as_wanted c.args.want false (frames_of t.new.frames) (space_of t.new.space) c.args.page t.result c.if-want.false c.requires.short t.ensures.ready
+    as_wanted false c.args.want.write (frames_of t.new.frames) (space_of t.new.space) c.args.page t.result c.if-want.false t.ensures.ready

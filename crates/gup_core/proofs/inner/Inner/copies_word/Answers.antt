@@ -96,7 +96,7 @@ turn-taken c =
     (c.seat_after-next.ensures ∙ ap (λ (o : Op). seat_behind seat o false (copied copy)) (sym is.is_fork) ∙ ap (λ b. seat_behind seat op b (copied copy)) told.ends)
     c.set_seat.ensures.here c.set_seat.ensures.others
     (of_born i.parts new a proc seat.far op seat.job (copied copy) whats
-    (copy_unfailed i.parts.births.items proc seat.job op copy is) (process_within m a proc rest c.process-proc.ensures).1
+    (copy_unfailed i.parts.births.items proc seat.job op copy is) (process_within m a proc seat op rest c.process-proc.ensures present).1
     (λ p slots of_p has.
     subst (λ (q : ℕ). IsTurnAmong i.parts new a q slots seat.far op seat.job whats (copied copy)) (some_is proc copy.proc p is.proc_is of_p)
     (subst (λ (o : Op). IsTurnAmong i.parts new a copy.proc slots seat.far o seat.job whats (copied copy)) (sym is.is_fork)

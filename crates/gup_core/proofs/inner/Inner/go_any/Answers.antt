@@ -26,7 +26,8 @@ waits_at-requires-clause-space c =
     let a = c.args.actor in
     let m = machine_of i.script i.parts i.seats.items i.turns in
     let rest = subst (λ (x : MachineValue). IsAtRest x) (sym c.self.view_is) c.rests.ensures in
-    (process_within m a c.process.result rest c.process.ensures).0
+    let op = sym (ap (λ ops. slice_get ops c.seat-seat.result.answered) c.ops.ensures) ∙ c.in-Some.ensures in
+    (process_within m a c.process.result c.seat-seat.result c.in-Some.op.now rest c.process.ensures op).0
 
 pub waits_at-requires-clause-birth : goal.waits_at-requires-clause-birth
 waits_at-requires-clause-birth c =
@@ -34,7 +35,8 @@ waits_at-requires-clause-birth c =
     let a = c.args.actor in
     let m = machine_of i.script i.parts i.seats.items i.turns in
     let rest = subst (λ (x : MachineValue). IsAtRest x) (sym c.self.view_is) c.rests.ensures in
-    (process_within m a c.process.result rest c.process.ensures).1
+    let op = sym (ap (λ ops. slice_get ops c.seat-seat.result.answered) c.ops.ensures) ∙ c.in-Some.ensures in
+    (process_within m a c.process.result c.seat-seat.result c.in-Some.op.now rest c.process.ensures op).1
 
 pub waits_at-requires-clause-child : goal.waits_at-requires-clause-child
 waits_at-requires-clause-child c child same =
@@ -60,7 +62,8 @@ take_at-over-requires-clause-birth c =
     let a = c.args.actor in
     let m = machine_of i.script i.parts i.seats.items i.turns in
     let rest = subst (λ (x : MachineValue). IsAtRest x) (sym c.self.view_is) c.rests.ensures in
-    (process_within m a c.process-proc.result rest c.process-proc.ensures).1
+    let op = sym (ap (λ ops. slice_get ops c.seat-seat.result.answered) c.ops.ensures) ∙ c.in-Some.ensures in
+    (process_within m a c.process-proc.result c.seat-seat.result c.in-Some.op.now rest c.process-proc.ensures op).1
 
 pub take_at-over-requires-clause-child : goal.take_at-over-requires-clause-child
 take_at-over-requires-clause-child c child same =

@@ -9,7 +9,7 @@ returns-in-Any c =
     let s = frames_of c.args.self.now in
     let e : c.lowest.result ≡ free_frame s c.args.allowed =
     rw (← c.self.view_is, c.in-Any.is)
-    (c.lowest.ensures ∙ lowest_free_is _ _ _ _ c.self.invariant 0 (c.self.inside.movable + c.self.inside.normal) (omega arith)) in record {
+    (c.lowest.ensures ∙ lowest_free_is _ _ _ _ _ c.self.invariant 0 (c.self.inside.movable + c.self.inside.normal) (omega arith)) in record {
       frame = e;
       there = found_there s c.args.allowed _ e;
       free = found_count s c.args.allowed _ e;

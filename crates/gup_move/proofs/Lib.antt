@@ -1,0 +1,3 @@
+pub mod MoveAfter
+pub mod MoveLemmas
+pub mod MoveSteps
