@@ -100,48 +100,15 @@ pub fn take_at(
         (all_view parts.old seat.now.job others) (all_view parts.new result.1 others)
         (λ s. turn_of s who k op.now) (whats_of said)) }
 {
-    take_op(parts, journal, head, proc, seat.far, seat.job, op)
-}
-
-// Takes a turn of the operation, which is of this process if it is of one, puts its notes on at the journal's end, and answers
-// whether the operation is over and where the actor's job stands then. Where the process has failed, the operation is refused.
-#[inline(always)]
-fn take_op(
-    parts: &mut Parts,
-    journal: &mut Journal,
-    head: &Head,
-    proc: Option<ProcNo>,
-    far: u16,
-    place: JobPlace,
-    op: &Op,
-) -> (bool, JobPlace)
-    requires process { HasProcess op.now → IsSome proc }
-    requires birth { IfSome proc (λ p. p < length parts.old.births.items) }
-    requires child { (child : ℕ) → op.now ≡ Fork child → child < length parts.old.births.items }
-    requires ready { (p : ℕ) → (HasFailed parts.old.births.items proc → ⊥) → IfSome proc (λ q. q ≡ p)
-        → IsReady parts.old head.now.actor p op.now far place }
-    requires room { 3 ≤ journal.old.room }
-    ensures spaces { length parts.new.spaces.items ≡ length parts.old.spaces.items }
-    ensures births { length parts.new.births.items ≡ length parts.old.births.items }
-    ensures taken { length parts.new.taken.items ≡ length parts.old.taken.items }
-    ensures stores { length parts.new.stores.items ≡ length parts.old.stores.items }
-    ensures slots { KeepsSlots parts.old.stores.items parts.new.stores.items }
-    ensures turn { TellsTurn head.now journal.old journal.new result.0
-        (λ said. (who : Doer) (k : ℕ) (others : ℕ → Place) → who.actor ≡ head.now.actor → IsProcessOf who proc
-        → HasSlots parts.old head.now.actor who.slots → far ≡ far_in (Some op.now) k
-        → IsTurnOf (ShowsAll head.now.actor) (StandsFree head.now.actor who k op.now)
-        (all_view parts.old place others) (all_view parts.new result.1 others)
-        (λ s. turn_of s who k op.now) (whats_of said)) }
-{
     if has_failed(&parts.births, &proc) {
         refuse(&mut parts.births, journal, head, op);
-        return (true, place);
+        return (true, seat.job);
     }
     if let Some(child) = child_of(op) {
-        return take_fork(parts, journal, head, proc.unwrap(), child, place);
+        return take_fork(parts, journal, head, proc.unwrap(), child, seat.job);
     }
     if let Op::Move { page, zone, .. } = op {
-        return move_page(parts, journal, head, proc.unwrap(), *page, *zone, place);
+        return move_page(parts, journal, head, proc.unwrap(), *page, *zone, seat.job);
     }
     if let Op::Pin {
         handle,
@@ -160,11 +127,11 @@ fn take_op(
             *page,
             *n,
             *want,
-            place,
+            seat.job,
         );
     }
-    let over = take_single(parts, journal, head, proc, far, op);
-    (over, place)
+    let over = take_single(parts, journal, head, proc, seat.far, op);
+    (over, seat.job)
 }
 
 // Refuses an operation of a failed process. The child of a fork fails too.

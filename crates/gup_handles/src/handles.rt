@@ -33,8 +33,8 @@ impl fmt::Display for NotHeld {
 impl Error for NotHeld {}
 
 /// The handles, each the name of a pin (`pin_user_pages`) or of one got reference (`get_user_pages`). Each is made at
-/// most once, and no pin is made again once it is gone; a reference that is put back is as one that was never got. They are this project's own: in Linux a caller keeps the pages
-/// that it pinned in an array.
+/// most once, and no pin is made again once it is gone; a reference that is put back is as one that was never got. They
+/// are this project's own: in Linux a caller keeps the pages that it pinned in an array.
 #[derive(Drop)]
 pub struct Handles {
     handles: Vec<Handle>,

@@ -77,9 +77,9 @@ pub fn no_frame_has_its_cause()
     ensures { (script : ScriptValue) (r : RunState) (a : ℕ) → LacksExactly script r (turn_in script r a) }
 {}
 
-/// Whichever actors have taken turns: a turn answers that a page is untouched exactly where it is the first of a move, which waits
-/// for nothing, of a page that is mapped and has no entry. It answers that the frame of a page is busy exactly where a move has
-/// cleared the page's entry, and has read that count, which isn't 1.
+/// Whichever actors have taken turns: a turn answers that a page is untouched exactly where it is the first of a move, which
+/// waits for nothing, of a page that is mapped and has no entry. It answers that the frame of a page is busy exactly where a
+/// move has cleared the page's entry, and has read that count, which isn't 1.
 pub fn moves_have_their_causes()
     ensures untouched { (script : ScriptValue) (actors : List ℕ) (a : ℕ) → IsScript script →
         let r : RunState = turned script (run_start script) actors in

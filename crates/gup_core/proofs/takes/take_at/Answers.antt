@@ -9,7 +9,7 @@ use Rattle.gup_op_waits.proofs.ScriptSlots.{some_is}
 use Rattle.gup_core.proofs.Singles.{process_is, single_op}
 use Rattle.gup_core.proofs.Turning.{IsTurnAmong, pinned}
 use Rattle.gup_op_waits.proofs.Waits.{forks_into}
-use Rattle.gup_core.proofs.takes.take_op.Goals as goal
+use Rattle.gup_core.proofs.takes.take_at.Goals as goal
 
 -- ---- of a failed process
 
@@ -23,7 +23,7 @@ returns-then-has_failed-clause-turn c =
       said = told.said;
       tells = told.tells;
       ends = told.ends;
-      is_so = refused old new a.head.now.actor a.proc a.far a.op.now a.place (whats_of told.said) (c.has_failed.ensures.failed c.if-has_failed.true) refl refl refl refl refl told.is_so;
+      is_so = refused old new a.head.now.actor a.proc a.seat.now.far a.op.now a.seat.now.job (whats_of told.said) (c.has_failed.ensures.failed c.if-has_failed.true) refl refl refl refl refl told.is_so;
     }
 
 -- ---- a fork
@@ -58,11 +58,11 @@ returns-in-Some-clause-turn c =
       tells = told.tells;
       ends = told.ends;
       is_so =
-          of_born a.parts.now t.new.parts actor a.proc a.far a.op.now a.place t.result.1 (whats_of told.said)
+          of_born a.parts.now t.new.parts actor a.proc a.seat.now.far a.op.now a.seat.now.job t.result.1 (whats_of told.said)
           (λ has. absurd (cc (c.has_failed.ensures.other has))) c.requires.birth
           (λ p slots of_p has.
-          subst (λ (q : ℕ). IsTurnAmong a.parts.now t.new.parts actor q slots a.far a.op.now a.place (whats_of told.said) t.result.1) (some_is a.proc c.unwrap.result p c.unwrap.ensures of_p)
-          (subst (λ (op : Op). IsTurnAmong a.parts.now t.new.parts actor c.unwrap.result slots a.far op a.place (whats_of told.said) t.result.1) (sym is) (λ k rest far_is. told.is_so slots k rest)));
+          subst (λ (q : ℕ). IsTurnAmong a.parts.now t.new.parts actor q slots a.seat.now.far a.op.now a.seat.now.job (whats_of told.said) t.result.1) (some_is a.proc c.unwrap.result p c.unwrap.ensures of_p)
+          (subst (λ (op : Op). IsTurnAmong a.parts.now t.new.parts actor c.unwrap.result slots a.seat.now.far op a.seat.now.job (whats_of told.said) t.result.1) (sym is) (λ k rest far_is. told.is_so slots k rest)));
     }
 
 -- ---- a move
@@ -95,11 +95,11 @@ returns-in-Move-clause-turn c =
       tells = told.tells;
       ends = told.ends;
       is_so =
-          of_born a.parts.now t.new.parts actor a.proc a.far a.op.now a.place t.result.1 (whats_of told.said)
+          of_born a.parts.now t.new.parts actor a.proc a.seat.now.far a.op.now a.seat.now.job t.result.1 (whats_of told.said)
           (λ has. absurd (cc (c.has_failed.ensures.other has))) c.requires.birth
           (λ p slots of_p has.
-          subst (λ (q : ℕ). IsTurnAmong a.parts.now t.new.parts actor q slots a.far a.op.now a.place (whats_of told.said) t.result.1) (some_is a.proc of p c.unwrap-in-Move.ensures of_p)
-          (subst (λ (op : Op). IsTurnAmong a.parts.now t.new.parts actor of slots a.far op a.place (whats_of told.said) t.result.1) (sym move.is) (λ k rest far_is. told.is_so move.proc slots k rest)));
+          subst (λ (q : ℕ). IsTurnAmong a.parts.now t.new.parts actor q slots a.seat.now.far a.op.now a.seat.now.job (whats_of told.said) t.result.1) (some_is a.proc of p c.unwrap-in-Move.ensures of_p)
+          (subst (λ (op : Op). IsTurnAmong a.parts.now t.new.parts actor of slots a.seat.now.far op a.seat.now.job (whats_of told.said) t.result.1) (sym move.is) (λ k rest far_is. told.is_so move.proc slots k rest)));
     }
 
 -- ---- a pin
@@ -178,12 +178,12 @@ returns-in-Pin-clause-turn c =
       tells = told.tells;
       ends = told.ends;
       is_so =
-          of_born a.parts.now t.new.parts actor a.proc a.far a.op.now a.place t.result.1 (whats_of told.said)
+          of_born a.parts.now t.new.parts actor a.proc a.seat.now.far a.op.now a.seat.now.job t.result.1 (whats_of told.said)
           (λ has. absurd (cc (c.has_failed.ensures.other has))) c.requires.birth
           (λ p slots of_p has.
-          subst (λ (q : ℕ). IsTurnAmong a.parts.now t.new.parts actor q slots a.far a.op.now a.place (whats_of told.said) t.result.1) (some_is a.proc of p c.unwrap-in-Pin.ensures of_p)
-          (subst (λ (op : Op). IsTurnAmong a.parts.now t.new.parts actor of slots a.far op a.place (whats_of told.said) t.result.1) (sym pin.is)
-          (pinned a.parts.now t.new.parts actor of slots a.far pin.handle pin.page pin.n pin.want pin.fast a.place t.result.1 (whats_of told.said)
+          subst (λ (q : ℕ). IsTurnAmong a.parts.now t.new.parts actor q slots a.seat.now.far a.op.now a.seat.now.job (whats_of told.said) t.result.1) (some_is a.proc of p c.unwrap-in-Pin.ensures of_p)
+          (subst (λ (op : Op). IsTurnAmong a.parts.now t.new.parts actor of slots a.seat.now.far op a.seat.now.job (whats_of told.said) t.result.1) (sym pin.is)
+          (pinned a.parts.now t.new.parts actor of slots a.seat.now.far pin.handle pin.page pin.n pin.want pin.fast a.seat.now.job t.result.1 (whats_of told.said)
           (ready.there (subst HasProcess (sym pin.is) tt)) t.ensures.spaces ready.actor_taken t.ensures.taken t.ensures.births t.ensures.stores t.ensures.other_spaces t.ensures.others_taken told.is_so)));
     }
 
@@ -193,7 +193,7 @@ pub take_single-over-requires-clause-single : goal.take_single-over-requires-cla
 take_single-over-requires-clause-single c = single_op c.args.op.now (sym c.child_of.ensures ∙ c.in_default.is) c.in_default-op.not-Move c.in_default-op-2.not-Pin
 
 pub take_single-over-requires-clause-ready : goal.take_single-over-requires-clause-ready
-take_single-over-requires-clause-ready c p of_p = (c.args.place, c.requires.ready p (λ has. absurd (cc (c.has_failed.ensures.other has))) of_p)
+take_single-over-requires-clause-ready c p of_p = (c.args.seat.now.job, c.requires.ready p (λ has. absurd (cc (c.has_failed.ensures.other has))) of_p)
 
 pub returns-clause-turn : goal.returns-clause-turn
 returns-clause-turn c =
@@ -204,6 +204,6 @@ returns-clause-turn c =
       tells = told.tells;
       ends = told.ends;
       is_so =
-          of_born a.parts.now c.take_single-over.new.parts a.head.now.actor a.proc a.far a.op.now a.place a.place (whats_of told.said)
-          (λ has. absurd (cc (c.has_failed.ensures.other has))) c.requires.birth (λ p slots of_p has. told.is_so p slots a.place of_p has);
+          of_born a.parts.now c.take_single-over.new.parts a.head.now.actor a.proc a.seat.now.far a.op.now a.seat.now.job a.seat.now.job (whats_of told.said)
+          (λ has. absurd (cc (c.has_failed.ensures.other has))) c.requires.birth (λ p slots of_p has. told.is_so p slots a.seat.now.job of_p has);
     }

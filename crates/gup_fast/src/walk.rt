@@ -1,0 +1,383 @@
+//! A walk, step by step.
+ghost use Rattle.std.specs.Prelude.{◌≡◌, ℕ, ◌+◌, ◌<◌, ◌≤◌, ◌^◌, [], ◌∷◌, true, is_some, length, Some, None, IfSome};
+ghost use Rattle.gup_base.specs.declared.entry.Entry.{Entry as EntryValue};
+ghost use Rattle.gup_frames.specs.Frames.{FrameLists, frames_of, IsFrame};
+ghost use Rattle.gup_space.specs.Space.{SpaceParts, space_of};
+ghost use Rattle.gup_space.specs.Shows.{change_of};
+ghost use Rattle.gup_spec_events.specs.State.{WalkStep, entered, ready, read, grabbed, rechecked};
+ghost use Rattle.gup_spec_events.specs.Event.{read_entry, read_mark};
+ghost use Rattle.gup_fast.specs.Stages.{stage_of};
+ghost use Rattle.gup_fast.specs.Walks.{unbegun, at, new_walk, at_stage, next_page, kept_at, MayGrab, MayRecheck, MayReadMark, MayReadAgain, sequence_found, entry_found, count_found, entry_again, mark_found, sequence_again, after_sequence, step_after_read, grabbed_frames, step_after_grab, after_recheck, step_after_mark, after_again, stage_left as stage_left_of, dropped_at, dropped_frames, after_drop, flags, reads_sequence, grabs, rechecks, reads_again, drops, AreWalkEvents, IsWalk};
+
+use arrayvec::ArrayVec;
+use gup_base::{Entry, FrameNo, PIN_BIAS, PageNo, Want, Zone, pack};
+use gup_frames::Frames;
+use gup_space::Space;
+use std::marker::Model;
+
+/// What a walk read, for which it has no page, stops before one, or keeps none. The slow way goes on from there.
+#[derive(Clone, Copy, Debug, PartialEq, Eq)]
+pub enum GiveUp {
+    /// The sequence was this odd number: a fork of the process was running.
+    Odd(u64),
+    /// The sequence was the first of these at the beginning of the walk, and the last at its end: a fork has begun in
+    /// between.
+    Changed { first: u64, last: u64 },
+    /// The page had no entry.
+    Absent,
+    /// The page's entry was read-only, and the pin is one to write.
+    Rights,
+    /// The page's frame was this one of the movable zone, and the pin is for long.
+    MovableFrame(FrameNo),
+    /// The frame of the page's entry was free when its count was read.
+    CountZero,
+    /// The page's entry was another when it was read again. These are the words of the page table.
+    EntryChanged { first: u64, second: u64 },
+    /// The page's entry was read-only and its frame unmarked, so others may share it.
+    Unmarked,
+}
+
+// Where a walk stands.
+#[derive(Clone, Copy, Debug)]
+enum Stage {
+    Unbegun,
+    Entered,
+    Ready,
+    Read { page: PageNo, entry: Entry },
+    Grabbed { page: PageNo, entry: Entry },
+    Rechecked { page: PageNo, entry: Entry },
+    Differed(FrameNo),
+    Refused,
+    Stopped,
+    Dropping,
+    Left,
+}
+
+/// The lockless walk of one pin. Each call is a step, and others may act between any two of them; each has the
+/// condition that it is the walk's next step.
+///
+/// First [`Walk::flag`] and [`Walk::sequence`]; then for each page [`Walk::read`], [`Walk::grab`], [`Walk::recheck`]
+/// and [`Walk::mark`]; after the last page, or where the walk stops before one, [`Walk::again`]. While
+/// [`Walk::drop_one`] has something to drop, it is the next step.
+#[derive(Drop)]
+pub struct Walk {
+    page: PageNo,
+    n: u8,
+    want: Want,
+    sequence: u64,
+    stage: Stage,
+    taken: ArrayVec<FrameNo, 16>,
+}
+
+impl Model for Walk {
+    ghost use Rattle.gup_fast.specs.Walks.{WalkValue, IsWalk};
+    ghost use Rattle.gup_fast.specs.Stages.{stage_of};
+
+    ghost Value = { WalkValue };
+
+    ghost view = { λ w. record {
+      page = w.page;
+      n = w.n;
+      want = w.want;
+      sequence = w.sequence;
+      stage = stage_of w.stage;
+      taken = w.taken.items;
+    } };
+
+    ghost invariant = { λ w. IsWalk (record {
+      page = w.page;
+      n = w.n;
+      want = w.want;
+      sequence = w.sequence;
+      stage = stage_of w.stage;
+      taken = w.taken.items;
+    }) };
+}
+
+impl Walk {
+    /// The walk of a pin of `n` pages from `page` on, which has not begun.
+    #[inline]
+    pub fn new(page: PageNo, n: u8, want: Want) -> Walk
+        requires some { 1 ≤ n }
+        requires most { n ≤ 16 }
+        requires range { page + n ≤ 2 ^ 35 }
+        ensures { result ≡ new_walk page n want }
+    {
+        Walk {
+            page,
+            n,
+            want,
+            sequence: 0,
+            stage: Stage::Unbegun,
+            taken: ArrayVec::new(),
+        }
+    }
+
+    /// The process has pinned from now on, and the walk runs (Linux's `mm_set_has_pinned_flag` in `gup_fast_fallback`;
+    /// and interrupts are off from then on, which keeps page tables from being freed).
+    #[inline]
+    pub fn flag(&mut self, space: &mut Space)
+        requires at { self.old.stage ≡ unbegun }
+        ensures walk { self.new ≡ at_stage (at entered) self.old }
+        ensures space { space_of space.new ≡ record (space_of space.old) { has_pinned = true } }
+        ensures events { (frames : FrameLists) → AreWalkEvents (change_of frames frames space.old space.new) self.old self.new
+            (λ s a p. flags a p self.old) }
+    {
+        space.set_pinned();
+        self.stage = Stage::Entered;
+    }
+
+    /// Reads the sequence. `Odd` exactly where it is odd, since a fork runs then; the walk is over, without a page
+    /// (Linux's `raw_seqcount_begin` of `write_protect_seq` in `gup_fast`).
+    #[inline]
+    pub fn sequence(&mut self, space: &Space) -> Option<GiveUp>
+        requires at { self.old.stage ≡ at entered }
+        ensures found { result ≡ sequence_found (space_of space.now).sequence }
+        ensures walk { self.new ≡ after_sequence (space_of space.now).sequence self.old }
+        ensures events { (frames : FrameLists) → AreWalkEvents (change_of frames frames space.now space.now) self.old self.new
+            (λ s a p. reads_sequence a p (space_of space.now).sequence self.old) }
+    {
+        let sequence = space.sequence();
+        self.sequence = sequence;
+        if sequence % 2 == 1 {
+            self.stage = Stage::Left;
+            return Some(GiveUp::Odd(sequence));
+        }
+        self.stage = Stage::Ready;
+        None
+    }
+
+    /// Reads the entry of the next page. The walk stops before it exactly where it is absent, read-only for a pin to
+    /// write, or where its frame is movable for a pin that is for long, in this order (Linux's `gup_fast_pte_range`:
+    /// `pte_access_permitted`, and `folio_is_longterm_pinnable` in `try_grab_folio_fast`; that the zone is looked at
+    /// before the frame is grabbed is this project's own).
+    pub fn read(&mut self, space: &Space, frames: &Frames) -> Option<GiveUp>
+        requires at { self.old.stage ≡ at ready }
+        requires more { length self.old.taken < self.old.n }
+        requires there { IfSome ((space_of space.now).entry (next_page self.old)) (λ e. IsFrame (frames_of frames.now) e.frame) }
+        ensures found { result ≡ entry_found (frames_of frames.now) self.old.want ((space_of space.now).entry (next_page self.old)) }
+        ensures walk { self.new ≡ at_stage (at (step_after_read (frames_of frames.now) self.old.want (next_page self.old)
+            ((space_of space.now).entry (next_page self.old)))) self.old }
+        ensures events { AreWalkEvents (change_of frames.now frames.now space.now space.now) self.old self.new
+            (λ s a p. read_entry a p self.old.want.write self.old.want.long self.old.sequence (next_page self.old)
+            ((space_of space.now).entry (next_page self.old)) ∷ []) }
+    {
+        let page = self.next_page();
+        let Some(entry) = space.entry(page) else {
+            self.stage = Stage::Stopped;
+            return Some(GiveUp::Absent);
+        };
+        if self.want.write && !entry.writable {
+            self.stage = Stage::Stopped;
+            return Some(GiveUp::Rights);
+        }
+        if self.want.long && frames.zone(entry.frame) == Zone::Movable {
+            self.stage = Stage::Stopped;
+            return Some(GiveUp::MovableFrame(entry.frame));
+        }
+        self.stage = Stage::Read { page, entry };
+        None
+    }
+
+    /// Gives the frame of the entry that was read the weight of a pin. Where its count is 0 nothing is done and the
+    /// walk stops: the frame is free, and somebody may be about to take it (Linux's `try_get_folio`,
+    /// `folio_ref_try_add`; that the weight is added in one step is this project's own, Linux adds 1 and then 1,023).
+    pub fn grab(&mut self, frames: &mut Frames) -> Option<GiveUp>
+        requires at { MayGrab self.old.stage }
+        requires there { (page : ℕ) (e : EntryValue) → self.old.stage ≡ at (read page e)
+            → IsFrame (frames_of frames.old) e.frame }
+        requires few { (f : ℕ) → (frames_of frames.old).count f < 2 ^ 40 }
+        ensures found { (page : ℕ) (e : EntryValue) → self.old.stage ≡ at (read page e)
+            → result ≡ count_found ((frames_of frames.old).count e.frame) }
+        ensures frames { (page : ℕ) (e : EntryValue) → self.old.stage ≡ at (read page e)
+            → frames_of frames.new ≡ grabbed_frames e.frame ((frames_of frames.old).count e.frame) (frames_of frames.old) }
+        ensures walk { (page : ℕ) (e : EntryValue) → self.old.stage ≡ at (read page e)
+            → self.new ≡ at_stage (at (step_after_grab page e ((frames_of frames.old).count e.frame))) self.old }
+        ensures events { (space : SpaceParts) (page : ℕ) (e : EntryValue) → self.old.stage ≡ at (read page e)
+            → AreWalkEvents (change_of frames.old frames.new space space) self.old self.new
+            (λ s a p. grabs a p page ((frames_of frames.old).count e.frame) e self.old) }
+    {
+        let stage = self.stage;
+        let Stage::Read { page, entry } = stage else {
+            return None;
+        };
+        if frames.count(entry.frame) == 0 {
+            self.stage = Stage::Stopped;
+            return Some(GiveUp::CountZero);
+        }
+        frames.grab(entry.frame, PIN_BIAS);
+        self.stage = Stage::Grabbed { page, entry };
+        None
+    }
+
+    /// Reads the page's entry again. Where it is the same the page is taken: the pin names what the page names now.
+    /// Where it is another, the grabbed frame is to be dropped, and the walk stops (Linux's
+    /// `pte_val(pte) != pte_val(ptep_get(ptep))` in `gup_fast_pte_range`).
+    pub fn recheck(&mut self, space: &Space) -> Option<GiveUp>
+        requires at { MayRecheck self.old.stage }
+        ensures found { (page : ℕ) (e : EntryValue) → self.old.stage ≡ at (grabbed page e)
+            → result ≡ entry_again e ((space_of space.now).entry page) }
+        ensures walk { (page : ℕ) (e : EntryValue) → self.old.stage ≡ at (grabbed page e)
+            → self.new ≡ after_recheck page e ((space_of space.now).entry page) self.old }
+        ensures events { (frames : FrameLists) (page : ℕ) (e : EntryValue) → self.old.stage ≡ at (grabbed page e)
+            → AreWalkEvents (change_of frames frames space.now space.now) self.old self.new
+            (λ s a p. rechecks a p page e ((space_of space.now).entry page) self.old) }
+    {
+        let stage = self.stage;
+        let Stage::Grabbed { page, entry } = stage else {
+            return None;
+        };
+        let changed = entry_changed(&entry, space.entry(page));
+        if changed.is_some() {
+            self.stage = Stage::Differed(entry.frame);
+            return changed;
+        }
+        self.taken.push(entry.frame);
+        self.stage = Stage::Rechecked { page, entry };
+        None
+    }
+
+    /// Reads the mark of the frame, where the entry was read-only. An unmarked frame may be shared, so the page is to
+    /// be dropped and the walk stops; else the page is kept (Linux's `gup_must_unshare` in `gup_fast_pte_range`).
+    pub fn mark(&mut self, frames: &Frames) -> Option<GiveUp>
+        requires at { MayReadMark self.old.stage }
+        requires there { (page : ℕ) (e : EntryValue) → self.old.stage ≡ at (rechecked page e)
+            → IsFrame (frames_of frames.now) e.frame }
+        ensures found { (page : ℕ) (e : EntryValue) → self.old.stage ≡ at (rechecked page e)
+            → result ≡ mark_found e.writable ((frames_of frames.now).mark e.frame) }
+        ensures walk { (page : ℕ) (e : EntryValue) → self.old.stage ≡ at (rechecked page e)
+            → self.new ≡ at_stage (at (step_after_mark e.writable ((frames_of frames.now).mark e.frame))) self.old }
+        ensures events { (space : SpaceParts) (page : ℕ) (e : EntryValue) → self.old.stage ≡ at (rechecked page e)
+            → AreWalkEvents (change_of frames.now frames.now space space) self.old self.new
+            (λ s a p. read_mark a p self.old.want.write self.old.want.long self.old.sequence page e
+            ((frames_of frames.now).mark e.frame) ∷ []) }
+    {
+        let Stage::Rechecked { entry, .. } = self.stage else {
+            return None;
+        };
+        if !entry.writable && !frames.mark(entry.frame) {
+            self.stage = Stage::Refused;
+            return Some(GiveUp::Unmarked);
+        }
+        self.stage = Stage::Ready;
+        None
+    }
+
+    /// Reads the sequence again, after the last page or where the walk stopped. Where it is as it was the walk is over,
+    /// and keeps its pages. `Changed` exactly where it isn't: a fork has begun, which may have counted the frames
+    /// before they were grabbed. Then no page is kept, and each is to be dropped (Linux's `read_seqcount_retry` in
+    /// `gup_fast`).
+    pub fn again(&mut self, space: &Space) -> Option<GiveUp>
+        requires at { MayReadAgain self.old self.old.stage }
+        ensures found { result ≡ sequence_again self.old.sequence (space_of space.now).sequence }
+        ensures walk { self.new ≡ after_again (space_of space.now).sequence self.old }
+        ensures events { (frames : FrameLists) (step : WalkStep) → self.old.stage ≡ at step
+            → AreWalkEvents (change_of frames frames space.now space.now) self.old self.new
+            (λ s a p. reads_again a p (space_of space.now).sequence step self.old) }
+    {
+        let last = space.sequence();
+        let first = self.sequence;
+        if last == first {
+            self.stage = Stage::Left;
+            return None;
+        }
+        self.stage = stage_left(&self.taken);
+        Some(GiveUp::Changed { first, last })
+    }
+
+    /// Drops one frame that the walk grabbed and doesn't keep, if there is one: it loses the weight of a pin. Of a walk
+    /// that keeps nothing, the pages are dropped one a call, in rising order, and the walk is over with the last
+    /// (Linux's `gup_put_folio`, and `gup_fast_unpin_user_pages`). False exactly where nothing is to be dropped, and
+    /// nothing changes then.
+    pub fn drop_one(&mut self, frames: &mut Frames) -> bool
+        requires there { IfSome (dropped_at self.old.stage self.old.taken) (IsFrame (frames_of frames.old)) }
+        requires held { IfSome (dropped_at self.old.stage self.old.taken) (λ f. 1024 ≤ (frames_of frames.old).count f) }
+        ensures drops { result ≡ is_some (dropped_at self.old.stage self.old.taken) }
+        ensures frames { frames_of frames.new
+            ≡ dropped_frames (dropped_at self.old.stage self.old.taken) (frames_of frames.old) }
+        ensures walk { self.new ≡ after_drop self.old.stage self.old }
+        ensures events { (space : SpaceParts) → AreWalkEvents (change_of frames.old frames.new space space) self.old self.new
+            (λ s a p. drops a p self.old self.old.stage (s.taken a)) }
+    {
+        let Some(frame) = self.take_dropped() else {
+            return false;
+        };
+        frames.put(frame, PIN_BIAS);
+        true
+    }
+
+    /// The frames of the pages that the walk keeps so far, in the order of their pages. A page whose mark isn't read
+    /// yet, or was found missing, is none of them; and a walk that keeps nothing has none, also while pages are left to
+    /// be dropped.
+    pub fn kept(&self) -> &[FrameNo]
+        ensures { result.now ≡ kept_at self.now.stage self.now.taken }
+    {
+        let taken = self.taken.as_slice();
+        match self.stage {
+            Stage::Rechecked { .. } | Stage::Refused => &taken[..taken.len() - 1],
+            Stage::Dropping => &taken[..0],
+            _ => taken,
+        }
+    }
+
+    // Takes out the frame that is to be dropped next, where there is one.
+    fn take_dropped(&mut self) -> Option<FrameNo>
+        ensures frame { result ≡ dropped_at self.old.stage self.old.taken }
+        ensures walk { self.new ≡ after_drop self.old.stage self.old }
+        ensures was { IsWalk self.old }
+    {
+        let stage = self.stage;
+        match stage {
+            Stage::Differed(frame) => {
+                self.stage = Stage::Stopped;
+                Some(frame)
+            }
+            Stage::Refused => {
+                self.stage = Stage::Stopped;
+                self.taken.pop()
+            }
+            Stage::Dropping => {
+                if self.taken.is_empty() {
+                    return None;
+                }
+                let frame = self.taken.remove(0);
+                self.stage = stage_left(&self.taken);
+                Some(frame)
+            }
+            _ => None,
+        }
+    }
+
+    // The page after those that it has taken.
+    fn next_page(&self) -> PageNo
+        requires { length self.now.taken < self.now.n }
+        ensures { result ≡ next_page self.now }
+    {
+        PageNo::new(self.page.get() + self.taken.len() as u64).unwrap()
+    }
+}
+
+// What a walk that read this entry finds where the page has this one now: nothing, if it is the same.
+fn entry_changed(was: &Entry, now: Option<Entry>) -> Option<GiveUp>
+    ensures { result ≡ entry_again was.now now }
+{
+    let was = Some(*was);
+    if now == was {
+        return None;
+    }
+    Some(GiveUp::EntryChanged {
+        first: pack(was),
+        second: pack(now),
+    })
+}
+
+// Where a walk that keeps nothing stands: pages are left to be dropped, or it is over.
+fn stage_left(taken: &ArrayVec<FrameNo, 16>) -> Stage
+    ensures { stage_of result ≡ stage_left_of taken.now.items }
+{
+    if taken.is_empty() {
+        Stage::Left
+    } else {
+        Stage::Dropping
+    }
+}
