@@ -116,7 +116,7 @@ enum Op {
     Protect { page: u64, n: u64, write: bool },
     Load { page: u64, word: usize },
     Store { page: u64, word: usize, value: u64 },
-    Pin { handle: usize, page: u64, n: u64, write: bool },
+    Pin { handle: usize, page: u64, n: u64, write: bool, long: bool },
     Unpin { handle: usize },
     Give { handle: usize, to: usize },
     Take { handle: usize },
@@ -181,12 +181,13 @@ struct Machine<'s> {
     out: Vec<u8>,
 }
 
-/// Whether a fault leaves the page as the access wants it; `None` says that it needs a frame and finds none.
-fn ready(frames: &mut Frames, page: &mut Page, write: bool, pinned: bool) -> Option<()> {
+/// Whether a fault leaves the page as the access wants it; `None` says that it needs a frame, of this zone or of both, and finds
+/// none.
+fn ready(frames: &mut Frames, page: &mut Page, write: bool, pinned: bool, zone: Option<Zone>) -> Option<()> {
     let entry = match page.entry {
         Some(entry) => entry,
         None => {
-            let frame = frames.take(None)?;
+            let frame = frames.take(zone)?;
             frames.marks[frame] = true;
             Entry { frame, writable: false }
         }
@@ -200,7 +201,7 @@ fn ready(frames: &mut Frames, page: &mut Page, write: bool, pinned: bool) -> Opt
         if frames.counts[frame] == 1 {
             frames.marks[frame] = true;
         } else {
-            let copy = frames.take(None)?;
+            let copy = frames.take(zone)?;
             frames.copy(frame, copy);
             frames.marks[copy] = true;
             frames.put(frame, 1);
@@ -208,6 +209,16 @@ fn ready(frames: &mut Frames, page: &mut Page, write: bool, pinned: bool) -> Opt
         }
     }
     page.entry = Some(Entry { frame, writable: write });
+    Some(())
+}
+
+/// Moves the page of this entry to a frame of the zone; `None` where none is free.
+fn relocate(frames: &mut Frames, page: &mut Page, entry: Entry, zone: Zone) -> Option<()> {
+    let to = frames.take(Some(zone))?;
+    frames.copy(entry.frame, to);
+    frames.marks[to] = frames.marks[entry.frame];
+    frames.put(entry.frame, 1);
+    page.entry = Some(Entry { frame: to, ..entry });
     Some(())
 }
 
@@ -297,7 +308,13 @@ impl<'s> Machine<'s> {
                 names.insert(name, Named::Handle(handle));
                 self.handles.push(Handle::Unmade);
                 self.handle_names.push(name);
-                Op::Pin { handle, page: number(words.next()), n: number(words.next()), write: words.next() == Some("write") }
+                Op::Pin {
+                    handle,
+                    page: number(words.next()),
+                    n: number(words.next()),
+                    write: words.next() == Some("write"),
+                    long: words.next() == Some("long"),
+                }
             }
             "unpin" => Op::Unpin { handle: handle(names, words.next().unwrap()) },
             "give" => Op::Give { handle: handle(names, words.next().unwrap()), to: actor(names, words.next().unwrap()) },
@@ -354,6 +371,11 @@ impl<'s> Machine<'s> {
             Op::Load { page, .. } => entry(*page).is_none(),
             Op::Store { page, .. } => !entry(*page).is_some_and(|entry| entry.writable),
             Op::Move { .. } => held(process.table),
+            Op::Fork { .. } => match self.actors[a].job {
+                Job::Idle => true,
+                Job::From(from) => held(process.table) && process.pages.back().is_some_and(|row| row.0 >= from),
+                _ => false,
+            },
             Op::Put { .. } | Op::Unpin { .. } | Op::Give { .. } | Op::Take { .. } | Op::Transfer { .. } => return self.waits_for_pin(a, op),
             _ => true,
         };
@@ -389,7 +411,7 @@ impl<'s> Machine<'s> {
             Op::Protect { page, n, write } => self.protect(a, page, n, write),
             Op::Load { page, word } => self.access(a, page, word, None),
             Op::Store { page, word, value } => self.access(a, page, word, Some(value)),
-            Op::Pin { handle, page, n, write } => self.pin(a, handle, page, n, write),
+            Op::Pin { handle, page, n, write, long } => self.pin(a, handle, page, n, write, long),
             Op::Unpin { handle } => self.unpin(a, handle),
             Op::Give { handle, to } => self.give(a, handle, to),
             Op::Take { handle } => {
@@ -489,7 +511,7 @@ impl<'s> Machine<'s> {
             if write && !row.write {
                 return self.answer(a, "forbidden");
             }
-            if ready(&mut self.frames, row, write, false).is_none() {
+            if ready(&mut self.frames, row, write, false, None).is_none() {
                 return self.answer(a, "noframe");
             }
         }
@@ -506,25 +528,51 @@ impl<'s> Machine<'s> {
         }
     }
 
-    fn pin(&mut self, a: usize, handle: usize, page: u64, n: u64, write: bool) {
+    /// A page of a pin: it is made ready and pinned, or refused, or, where it is to be kept for long and its frame is movable, cleared.
+    fn pin(&mut self, a: usize, handle: usize, page: u64, n: u64, write: bool, long: bool) {
         let p = self.own(a);
-        let far = self.actors[a].far;
-        self.processes[p].has_pinned = true;
-        let refused = match self.processes[p].page(page + far) {
-            None => Some("missing"),
-            Some(row) if write && !row.write => Some("forbidden"),
-            Some(row) => match ready(&mut self.frames, row, write, true) {
-                None => Some("noframe"),
-                Some(()) => {
-                    let frame = row.entry.unwrap().frame;
-                    self.frames.counts[frame] += PIN;
-                    self.actors[a].taken.push(frame);
-                    None
+        let process = &mut self.processes[p];
+        process.has_pinned = true;
+        let at = page + self.actors[a].taken.len() as u64;
+        let zone = long.then_some(Zone::Normal);
+        let refused = match self.actors[a].job {
+            Job::Count(entry) => {
+                self.actors[a].job = Job::Place(entry, self.frames.counts[entry.frame]);
+                return;
+            }
+            Job::Place(entry, count) => {
+                self.actors[a].job = Job::Idle;
+                process.table = None;
+                let row = process.page(at).unwrap();
+                row.entry = Some(entry);
+                match count {
+                    1 => match relocate(&mut self.frames, row, entry, Zone::Normal) {
+                        Some(()) => None,
+                        None => Some("noframe".to_string()),
+                    },
+                    count => Some(format!("unmovable {count}")),
                 }
+            }
+            _ => match process.page(at) {
+                None => Some("missing".to_string()),
+                Some(row) if write && !row.write => Some("forbidden".to_string()),
+                Some(row) => match ready(&mut self.frames, row, write, true, zone) {
+                    None => Some("noframe".to_string()),
+                    Some(()) if long && row.entry.unwrap().frame < self.frames.movable => {
+                        self.actors[a].job = Job::Count(row.entry.take().unwrap());
+                        process.table = Some(a);
+                        return;
+                    }
+                    Some(()) => None,
+                },
             },
         };
+        if refused.is_none() {
+            let frame = process.page(at).unwrap().entry.unwrap().frame;
+            self.frames.counts[frame] += PIN;
+            self.actors[a].taken.push(frame);
+        }
         let got = self.actors[a].taken.len() as u64;
-        self.actors[a].far = far + 1;
         if refused.is_none() && got < n {
             return;
         }
@@ -534,7 +582,7 @@ impl<'s> Machine<'s> {
         }
         let text = match refused {
             None => format!("ok {n}"),
-            Some(cause) if got == 0 => cause.to_string(),
+            Some(cause) if got == 0 => cause,
             Some(cause) => format!("ok {got} of {n} {cause}"),
         };
         self.answer(a, &text);
@@ -571,7 +619,7 @@ impl<'s> Machine<'s> {
         let Some(row) = self.processes[p].page(page) else {
             return self.answer(a, "missing");
         };
-        if ready(&mut self.frames, row, false, false).is_none() {
+        if ready(&mut self.frames, row, false, false, None).is_none() {
             return self.answer(a, "noframe");
         }
         let frame = row.entry.unwrap().frame;
@@ -602,16 +650,10 @@ impl<'s> Machine<'s> {
             Job::Count(entry) => self.actors[a].job = Job::Place(entry, self.frames.counts[entry.frame]),
             Job::Place(entry, count) => {
                 row.entry = Some(entry);
-                let to = if count == 1 { self.frames.take(Some(zone)) } else { None };
-                if let Some(to) = to {
-                    self.frames.copy(entry.frame, to);
-                    self.frames.marks[to] = self.frames.marks[entry.frame];
-                    self.frames.put(entry.frame, 1);
-                    row.entry = Some(Entry { frame: to, ..entry });
-                }
+                let moved = if count == 1 { relocate(&mut self.frames, row, entry, zone) } else { None };
                 process.table = None;
-                match to {
-                    Some(_) => self.answer(a, "ok"),
+                match moved {
+                    Some(()) => self.answer(a, "ok"),
                     None if count == 1 => self.answer(a, "noframe"),
                     None => self.answer(a, &format!("busy {count}")),
                 }
