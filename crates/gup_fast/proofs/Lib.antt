@@ -1,3 +1,4 @@
 pub mod Begins
 pub mod Pages
 pub mod Ends
+pub mod Leaving

@@ -8,6 +8,8 @@ use Rattle.gup_space.specs.Shows.{Change, ShowsFrames, ShowsSpace}
 use Rattle.gup_spec_events.specs.State.{CoreState, Job, idle, walking, Taken, WalkStep, entered, ready, read, grabbed, rechecked, differed, refused, stopped, dropping}
 use Rattle.gup_spec_events.specs.Event.{CoreEvent, is_odd, taken_frames, run, raise_flag, enter_walk, read_sequence, grab_frame, miss_frame, recheck_same, recheck_other, read_again, drop_grab, drop_last, drop_first, leave_walk}
 use Rattle.gup_fast.specs.declared.walk.GiveUp.{GiveUp}
+use Rattle.gup_fast.specs.declared.walk.Step.{Step}
+use Rattle.gup_fast.specs.declared.walk.Step.TheVariants.{Flag, Sequence, Read, Grab, Recheck, Mark, Again, Drop, Nothing}
 use Rattle.gup_fast.specs.declared.walk.GiveUp.TheVariants.{Odd, Changed, Absent, Rights, MovableFrame, CountZero, EntryChanged, Unmarked}
 
 -- A walk has not begun, stands at a step, or is over.
@@ -166,6 +168,20 @@ after_drop (at (differed f)) w = at_stage (at stopped) w
 after_drop (at refused) w = record w { taken = take (length w.taken - 1) w.taken; stage = at stopped }
 after_drop (at dropping) w = record w { taken = but_first w.taken; stage = stage_left (but_first w.taken) }
 after_drop stage w = w
+
+-- ---- its next step
+
+-- this step comes next
+abbrev pub IsNext : WalkValue → Step → Type 0
+IsNext w Flag = w.stage ≡ unbegun
+IsNext w Sequence = w.stage ≡ at entered
+IsNext w (Read page) = (w.stage ≡ at ready) × (length w.taken < w.n) × (page ≡ next_page w)
+IsNext w (Grab page e) = w.stage ≡ at (read page e)
+IsNext w (Recheck page e) = w.stage ≡ at (grabbed page e)
+IsNext w (Mark page e) = w.stage ≡ at (rechecked page e)
+IsNext w Again = MayReadAgain w w.stage
+IsNext w (Drop f) = dropped_at w.stage w.taken ≡ Some f
+IsNext w Nothing = w.stage ≡ left
 
 -- ---- its core events, of actor a and process p
 

@@ -4,4 +4,4 @@
 
 mod walk;
 
-pub use walk::{GiveUp, Walk};
+pub use walk::{GiveUp, Step, Walk};

@@ -7,7 +7,7 @@ ghost use Rattle.gup_space.specs.Shows.{change_of};
 ghost use Rattle.gup_spec_events.specs.State.{WalkStep, entered, ready, read, grabbed, rechecked};
 ghost use Rattle.gup_spec_events.specs.Event.{read_entry, read_mark};
 ghost use Rattle.gup_fast.specs.Stages.{stage_of};
-ghost use Rattle.gup_fast.specs.Walks.{unbegun, at, new_walk, at_stage, next_page, kept_at, MayGrab, MayRecheck, MayReadMark, MayReadAgain, sequence_found, entry_found, count_found, entry_again, mark_found, sequence_again, after_sequence, step_after_read, grabbed_frames, step_after_grab, after_recheck, step_after_mark, after_again, stage_left as stage_left_of, dropped_at, dropped_frames, after_drop, flags, reads_sequence, grabs, rechecks, reads_again, drops, AreWalkEvents, IsWalk};
+ghost use Rattle.gup_fast.specs.Walks.{unbegun, at, new_walk, at_stage, next_page, kept_at, MayGrab, MayRecheck, MayReadMark, MayReadAgain, sequence_found, entry_found, count_found, entry_again, mark_found, sequence_again, IsNext, after_sequence, step_after_read, grabbed_frames, step_after_grab, after_recheck, step_after_mark, after_again, stage_left as stage_left_of, dropped_at, dropped_frames, after_drop, flags, reads_sequence, grabs, rechecks, reads_again, drops, AreWalkEvents, IsWalk};
 
 use arrayvec::ArrayVec;
 use gup_base::{Entry, FrameNo, PIN_BIAS, PageNo, Want, Zone, pack};
@@ -37,6 +37,29 @@ pub enum GiveUp {
     Unmarked,
 }
 
+/// The next step of a walk, and what it is of.
+#[derive(Clone, Copy, Debug, PartialEq, Eq)]
+pub enum Step {
+    /// [`Walk::flag`].
+    Flag,
+    /// [`Walk::sequence`].
+    Sequence,
+    /// [`Walk::read`] of this page.
+    Read(PageNo),
+    /// [`Walk::grab`] of the frame of this entry, which the page had.
+    Grab { page: PageNo, entry: Entry },
+    /// [`Walk::recheck`] of this entry, which the page had.
+    Recheck { page: PageNo, entry: Entry },
+    /// [`Walk::mark`] of the frame of this entry, which the page has twice had.
+    Mark { page: PageNo, entry: Entry },
+    /// [`Walk::again`].
+    Again,
+    /// [`Walk::drop_one`] of this frame.
+    Drop(FrameNo),
+    /// None: the walk is over.
+    Nothing,
+}
+
 // Where a walk stands.
 #[derive(Clone, Copy, Debug)]
 enum Stage {
@@ -54,7 +77,7 @@ enum Stage {
 }
 
 /// The lockless walk of one pin. Each call is a step, and others may act between any two of them; each has the
-/// condition that it is the walk's next step.
+/// condition that it is the walk's next step, which [`Walk::next`] names.
 ///
 /// First [`Walk::flag`] and [`Walk::sequence`]; then for each page [`Walk::read`], [`Walk::grab`], [`Walk::recheck`]
 /// and [`Walk::mark`]; after the last page, or where the walk stops before one, [`Walk::again`]. While
@@ -110,6 +133,28 @@ impl Walk {
             sequence: 0,
             stage: Stage::Unbegun,
             taken: ArrayVec::new(),
+        }
+    }
+
+    /// Which call is the walk's next step, and what it is of.
+    #[inline]
+    pub fn next(&self) -> Step
+        ensures { IsNext self.now result }
+    {
+        let stage = self.stage;
+        let taken = self.taken.as_slice();
+        match stage {
+            Stage::Unbegun => Step::Flag,
+            Stage::Entered => Step::Sequence,
+            Stage::Ready if taken.len() < usize::from(self.n) => Step::Read(self.next_page()),
+            Stage::Ready | Stage::Stopped => Step::Again,
+            Stage::Read { page, entry } => Step::Grab { page, entry },
+            Stage::Grabbed { page, entry } => Step::Recheck { page, entry },
+            Stage::Rechecked { page, entry } => Step::Mark { page, entry },
+            Stage::Differed(frame) => Step::Drop(frame),
+            Stage::Refused => Step::Drop(taken[taken.len() - 1]),
+            Stage::Dropping => Step::Drop(taken[0]),
+            Stage::Left => Step::Nothing,
         }
     }
 
@@ -318,6 +363,13 @@ impl Walk {
             Stage::Dropping => &taken[..0],
             _ => taken,
         }
+    }
+
+    /// A law: the walk is of 1 to 16 pages, and what it has taken is no more than these and fits where it stands.
+    pub fn is_in_order(&self)
+        ensures { IsWalk self.now }
+    {
+        let _taken = &self.taken;
     }
 
     // Takes out the frame that is to be dropped next, where there is one.

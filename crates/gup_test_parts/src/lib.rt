@@ -1,4 +1,5 @@
-//! Tests of what a machine keeps its state in: mappings, frames, handles, processes and stores, and of moves over them.
+//! Tests of what a machine keeps its state in: mappings, frames, handles, processes and stores, and of moves and walks
+//! over them.
 #![tactic(auto)]
 
 #[cfg(test)]
@@ -13,3 +14,5 @@ mod moves;
 mod spaces;
 #[cfg(test)]
 mod stores;
+#[cfg(test)]
+mod walks;
