@@ -174,8 +174,8 @@ stands_at script valid r h a op is = go op is
 goes_by : (script : ScriptValue) (r : RunState) (a : ℕ) (op : Op) → op_in script r a ≡ Some op → waiting_in script r a ≡ None → (birth_for r.core.birth (doer_of script a (Some op)) ≡ born) ⊎ (birth_for r.core.birth (doer_of script a (Some op)) ≡ failed)
 goes_by script r a op is free =
     let who : Doer = doer_of script a (Some op) in
-    let unwaiting : waiting_with r.core who (Some op) ≡ None = subst (λ (o : Option Op). waiting_with r.core (doer_of script a o) o ≡ None) is free in
-    waits_no_birth (birth_for r.core.birth who) who.proc (waits_born r.core who.actor who.proc op) unwaiting
+    let unwaiting : waiting_with r.core who (r.places a).far (Some op) ≡ None = subst (λ (o : Option Op). waiting_with r.core (doer_of script a o) (r.places a).far o ≡ None) is free in
+    waits_no_birth (birth_for r.core.birth who) who.proc (waits_born r.core who.actor who.proc (r.places a).far op) unwaiting
 
 -- the process that an actor forks is born
 forked_born : (script : ScriptValue) (r : RunState) → IsStanding script r → (a : ℕ) (k : Forking) → forking_of (r.core.job a) ≡ Some k → r.core.birth k.proc ≡ born

@@ -451,7 +451,7 @@ module _ (s : CoreState) (a p : ℕ) where
       copies (Some to) = uncleared handle page n got want
   pin_in_exact handle page n got want job = uncleared handle page n got want
 
-  op_exact : (slots far : ℕ) (op : Op) → IsExact s (allowed_of op) (NeedsFor s a p op) (op_turn s a p slots far op)
+  op_exact : (slots far : ℕ) (op : Op) → IsExact s (allowed_of op) (NeedsFor s a p far op) (op_turn s a p slots far op)
   op_exact slots far (Map page n rights) =
       never s Any (op_turn s a p slots far (Map page n rights)) (map_cause page n rights (map_denial (any_mapped (s.right p) page n) (s.pages p) n) refl)
   op_exact slots far (Unmap page n) =
@@ -495,13 +495,13 @@ none_held : (s : CoreState) (allowed : Allowed) → free_in s allowed ≡ None �
 none_held s allowed none f below there free = none_free_in s allowed none f below there free
 
 -- what a turn needs, by the operation and what the actor waits for
-abbrev NeedsAt : CoreState → Doer → Option Op → Option Waiting → Op → Type 0
-NeedsAt s who present waiting op = (present ≡ Some op) × (waiting ≡ None) × (birth_for s.birth who ≡ born) × NeedsFor s who.actor who.proc op
+abbrev NeedsAt : CoreState → Doer → (far : ℕ) → Option Op → Option Waiting → Op → Type 0
+NeedsAt s who far present waiting op = (present ≡ Some op) × (waiting ≡ None) × (birth_for s.birth who ≡ born) × NeedsFor s who.actor who.proc far op
 
-finds_only : (s : CoreState) (who : Doer) (far : ℕ) (present : Option Op) (waiting : Option Waiting) → waiting_with s who present ≡ waiting → LacksFrame (core_turn_by s who far present waiting).whats → (op : Op) × NeedsAt s who present waiting op × AreHeld s (allowed_of op)
+finds_only : (s : CoreState) (who : Doer) (far : ℕ) (present : Option Op) (waiting : Option Waiting) → waiting_with s who far present ≡ waiting → LacksFrame (core_turn_by s who far present waiting).whats → (op : Op) × NeedsAt s who far present waiting op × AreHeld s (allowed_of op)
 finds_only s who far None waiting is lacks = absurd (lacking ⊥ (Idle ∷ []) ((λ e. e), tt) lacks)
 finds_only s who far (Some op) (Some waiting) is lacks = absurd (lacking ⊥ (Wait waiting ∷ []) ((λ e. e), tt) lacks)
-finds_only s who far (Some op) None is lacks = go (waits_no_birth (birth_for s.birth who) who.proc (waits_born s who.actor who.proc op) is)
+finds_only s who far (Some op) None is lacks = go (waits_no_birth (birth_for s.birth who) who.proc (waits_born s who.actor who.proc far op) is)
   where
     refused : CoreTurn
     refused = failed_turn who.actor who.proc op
@@ -509,15 +509,15 @@ finds_only s who far (Some op) None is lacks = go (waits_no_birth (birth_for s.b
     turn : CoreTurn
     turn = op_turn s who.actor who.proc who.slots far op
 
-    go : (birth_for s.birth who ≡ born) ⊎ (birth_for s.birth who ≡ failed) → (o : Op) × NeedsAt s who (Some op) None o × AreHeld s (allowed_of o)
+    go : (birth_for s.birth who ≡ born) ⊎ (birth_for s.birth who ≡ failed) → (o : Op) × NeedsAt s who far (Some op) None o × AreHeld s (allowed_of o)
     go (inl birth) =
         let exact = op_exact s who.actor who.proc who.slots far op in
-        let finds = lacking (Finds s (allowed_of op) (NeedsFor s who.actor who.proc op)) turn.whats exact.only (subst (λ (b : Birth). LacksFrame (turn_at b refused turn).whats) birth lacks) in
+        let finds = lacking (Finds s (allowed_of op) (NeedsFor s who.actor who.proc far op)) turn.whats exact.only (subst (λ (b : Birth). LacksFrame (turn_at b refused turn).whats) birth lacks) in
         (op, (refl, refl, birth, finds.0), none_held s (allowed_of op) finds.1)
     go (inr birth) =
         absurd (lacking ⊥ refused.whats (failed_cause s who.actor who.proc op) (subst (λ (b : Birth). LacksFrame (turn_at b refused turn).whats) birth lacks))
 
-finds_always : (s : CoreState) (who : Doer) (far : ℕ) (present : Option Op) (waiting : Option Waiting) (op : Op) → NeedsAt s who present waiting op → AreHeld s (allowed_of op) → LacksFrame (core_turn_by s who far present waiting).whats
+finds_always : (s : CoreState) (who : Doer) (far : ℕ) (present : Option Op) (waiting : Option Waiting) (op : Op) → NeedsAt s who far present waiting op → AreHeld s (allowed_of op) → LacksFrame (core_turn_by s who far present waiting).whats
 finds_always s who far present waiting op needs held =
     let exact = op_exact s who.actor who.proc who.slots far op in
     let lacks : LacksFrame (op_turn s who.actor who.proc who.slots far op).whats = exact.always needs.3 (held_none s (allowed_of op) held) in
@@ -528,13 +528,13 @@ finds_always s who far present waiting op needs held =
     subst (λ (o : Option Op). LacksFrame (core_turn_by s who far o waiting).whats) (sym needs.0) free
 
 -- the same of the process that its operation is of
-needs_so : (script : ScriptValue) (r : RunState) (a : ℕ) (op : Op) → NeedsAt r.core (doer_of script a (op_in script r a)) (op_in script r a) (waiting_in script r a) op → NeedsFrame script r a op
+needs_so : (script : ScriptValue) (r : RunState) (a : ℕ) (op : Op) → NeedsAt r.core (doer_of script a (op_in script r a)) (r.places a).far (op_in script r a) (waiting_in script r a) op → NeedsFrame script r a op
 needs_so script r a op needs =
-    (needs.0, needs.1, subst (λ (o : Option Op). birth_for r.core.birth (doer_of script a o) ≡ born) needs.0 needs.2, subst (λ (o : Option Op). NeedsFor r.core a (doer_of script a o).proc op) needs.0 needs.3)
+    (needs.0, needs.1, subst (λ (o : Option Op). birth_for r.core.birth (doer_of script a o) ≡ born) needs.0 needs.2, subst (λ (o : Option Op). NeedsFor r.core a (doer_of script a o).proc (r.places a).far op) needs.0 needs.3)
 
-needs_at : (script : ScriptValue) (r : RunState) (a : ℕ) (op : Op) → NeedsFrame script r a op → NeedsAt r.core (doer_of script a (op_in script r a)) (op_in script r a) (waiting_in script r a) op
+needs_at : (script : ScriptValue) (r : RunState) (a : ℕ) (op : Op) → NeedsFrame script r a op → NeedsAt r.core (doer_of script a (op_in script r a)) (r.places a).far (op_in script r a) (waiting_in script r a) op
 needs_at script r a op needs =
-    (needs.0, needs.1, subst (λ (o : Option Op). birth_for r.core.birth (doer_of script a o) ≡ born) (sym needs.0) needs.2, subst (λ (o : Option Op). NeedsFor r.core a (doer_of script a o).proc op) (sym needs.0) needs.3)
+    (needs.0, needs.1, subst (λ (o : Option Op). birth_for r.core.birth (doer_of script a o) ≡ born) (sym needs.0) needs.2, subst (λ (o : Option Op). NeedsFor r.core a (doer_of script a o).proc (r.places a).far op) (sym needs.0) needs.3)
 
 -- of any actor's turn, from any state
 pub lacks_exactly : (script : ScriptValue) (r : RunState) (a : ℕ) → LacksExactly script r (turn_in script r a)

@@ -50,8 +50,8 @@ held_locks locks a structure table waiting is =
     elim (first_of (waits_for_lock locks.structure a structure) (waits_for_lock locks.table a table) waiting is) [ inl first ↦ inl (held_lock locks.structure a structure waiting first) | inr second ↦ inr (held_lock locks.table a table waiting second) ]
 
 -- an operation that waits for a lock is one that may need one
-pub needs_lock : (s : CoreState) (a p : ℕ) (op : Op) (structure table : Option ℕ) (waiting : Waiting) → waits_for_locks (locks_needed s a p op) a structure table ≡ Some waiting → MayNeedLock (Some op)
-needs_lock s a p op structure table waiting is = grind arith
+pub needs_lock : (s : CoreState) (a p far : ℕ) (op : Op) (structure table : Option ℕ) (waiting : Waiting) → waits_for_locks (locks_needed s a p far op) a structure table ≡ Some waiting → MayNeedLock (Some op)
+needs_lock s a p far op structure table waiting is = grind arith
 
 -- who holds a lock
 
@@ -171,21 +171,21 @@ module _ (script : ScriptValue) (r : RunState) (h : Stands script r) where
   abbrev pub locks_of : (a : ℕ) → Op → Option Waiting
   locks_of a op =
       let p = (doer_of script a (Some op)).proc in
-      waits_for_locks (locks_needed r.core a p op) a (r.core.structure p) (r.core.table p)
+      waits_for_locks (locks_needed r.core a p (r.places a).far op) a (r.core.structure p) (r.core.table p)
 
   -- an actor that waits for a lock waits for another one in the middle of an operation that keeps one of its process
   pub waits_for_keeper : (a : ℕ) (op : Op) (waiting : Waiting) → locks_of a op ≡ Some waiting → (b : ℕ) × (waiting ≡ waitings.Holder b) × (a ≡ b → ⊥) × IsKeeper script r b (doer_of script a (Some op)).proc
   waits_for_keeper a op waiting is =
       let p = (doer_of script a (Some op)).proc in
-      elim (held_locks (locks_needed r.core a p op) a (r.core.structure p) (r.core.table p) waiting is) [ inl held ↦ (held.0, held.1, held.2, keeper held.0 p (inl (h.sound.1.structure_held p held.0 held.3))) | inr held ↦ (held.0, held.1, held.2, keeper held.0 p (inr (h.sound.1.table_held p held.0 held.3))) ]
+      elim (held_locks (locks_needed r.core a p (r.places a).far op) a (r.core.structure p) (r.core.table p) waiting is) [ inl held ↦ (held.0, held.1, held.2, keeper held.0 p (inl (h.sound.1.structure_held p held.0 held.3))) | inr held ↦ (held.0, held.1, held.2, keeper held.0 p (inr (h.sound.1.table_held p held.0 held.3))) ]
 
   -- an operation in the middle waits for locks alone
   waits_locked : (b : ℕ) (op : Op) → op_in script r b ≡ Some op → 0 < (r.places b).far → handle_waits r.core.handle b (Some op) ≡ None → waiting_in script r b ≡ locks_of b op
   waits_locked b op is far none =
       let who : Doer = doer_of script b (Some op) in
       let birth : birth_for r.core.birth who ≡ born = subst (λ (o : Option Op). birth_for r.core.birth (doer_of script b o) ≡ born) is (h.begun b far) in
-      ap (λ (o : Option Op). waiting_with r.core (doer_of script b o) o) is
-      ∙ ap (λ (x : Birth). waits_at x who.proc (waits_born r.core b who.proc op)) birth
+      ap (λ (o : Option Op). waiting_with r.core (doer_of script b o) (r.places b).far o) is
+      ∙ ap (λ (x : Birth). waits_at x who.proc (waits_born r.core b who.proc (r.places b).far op)) birth
       ∙ ap (λ (w : Option Waiting). first_waiting w (locks_of b op)) none
 
   fits_as : (b : ℕ) (op : Op) → op_in script r b ≡ Some op → FitsAt r.core (doer_of script b (Some op)) (Some op) (r.places b)

@@ -200,7 +200,7 @@ module _ (script : ScriptValue) (valid : IsScript script) (r : RunState) (h : St
   -- a move that has counted waits for nothing
   counted_goes : (p page q g : ℕ) (zone : Zone) (e : Entry) (allowed : Allowed) (c : Counted) → op_in script r a ≡ Some (Move p page zone) → s.birth p ≡ born → s.job a ≡ moving q g e allowed c → waiting_in script r a ≡ None
   counted_goes p page q g zone e allowed c is birth job =
-      ap (λ (o : Option Op). waiting_with s (doer_of script a o) o) is
+      ap (λ (o : Option Op). waiting_with s (doer_of script a o) (r.places a).far o) is
       ∙ ap (λ (b : Birth). waiting_at p b (waits_for_locks (move_locks (s.job a)) a (s.structure p) (s.table p))) birth
       ∙ ap (λ (j : Job). waits_for_locks (move_locks j) a (s.structure p) (s.table p)) job
 

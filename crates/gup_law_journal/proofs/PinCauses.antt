@@ -169,7 +169,7 @@ module _ (script : ScriptValue) (r : RunState) (h : Stands script r) (a handle p
 
   free : waiting_in script r a ≡ None
   free =
-      ap (λ (o : Option Op). waiting_with s (doer_of script a o) o) is
+      ap (λ (o : Option Op). waiting_with s (doer_of script a o) (r.places a).far o) is
       ∙ ap (λ (b : Birth). waiting_at who.proc b (waits_for_locks both_locks a (s.structure who.proc) (s.table who.proc))) birth
       ∙ ap (λ (l : Option ℕ). waits_for_locks both_locks a l (s.table who.proc)) at.4.unforked
       ∙ ap (λ (l : Option ℕ). waits_for_locks both_locks a None l) at.4.moving.locked

@@ -108,9 +108,9 @@ module _ (script : ScriptValue) (r : RunState) (h : IsStanding script r) (stuck 
       go o is = absurd (jobless o is tt)
 
   -- none that waits for nothing is stuck
-  free_goes : (b : ℕ) (op : Op) → op_in script r b ≡ Some op → waiting_for r.core (doer_of script b (Some op)) op ≡ None → ⊥
+  free_goes : (b : ℕ) (op : Op) → op_in script r b ≡ Some op → waiting_for r.core (doer_of script b (Some op)) (r.places b).far op ≡ None → ⊥
   free_goes b op is free =
-      let waiting : waiting_in script r b ≡ None = ap (λ (o : Option Op). waiting_with r.core (doer_of script b o) o) is ∙ free in
+      let waiting : waiting_in script r b ≡ None = ap (λ (o : Option Op). waiting_with r.core (doer_of script b o) (r.places b).far o) is ∙ free in
       let ready : can_go script r b ≡ true = ap (λ (o : Option Op). is_ready o (waiting_in script r b)) is ∙ ap (is_ready (Some op)) waiting in
       cc (sym (stuck b (has_ops_declared script b (r.places b).answered op is)) ∙ ready)
 
@@ -197,17 +197,17 @@ module _ (script : ScriptValue) (r : RunState) (h : IsStanding script r) (stuck 
       no_holder p holds.0 holds.1
 
   -- once it waits for no birth, it waits for a pin of the script
-  waits_born_by : IsScript script → (a p : ℕ) (op : Op) (w : Waiting) → op_in script r a ≡ Some op → waits_born r.core a p op ≡ Some w → WaitsForBirthOrPin script w
+  waits_born_by : IsScript script → (a p : ℕ) (op : Op) (w : Waiting) → op_in script r a ≡ Some op → waits_born r.core a p (r.places a).far op ≡ Some w → WaitsForBirthOrPin script w
   waits_born_by valid a p op w is waits = go (handle_waits r.core.handle a (Some op)) refl waits
     where
-      go : (given : Option Waiting) → handle_waits r.core.handle a (Some op) ≡ given → first_waiting given (waits_for_locks (locks_needed r.core a p op) a (r.core.structure p) (r.core.table p)) ≡ Some w → WaitsForBirthOrPin script w
-      go None none locks = absurd (no_lock_waits a p (locks_needed r.core a p op) w locks)
+      go : (given : Option Waiting) → handle_waits r.core.handle a (Some op) ≡ given → first_waiting given (waits_for_locks (locks_needed r.core a p (r.places a).far op) a (r.core.structure p) (r.core.table p)) ≡ Some w → WaitsForBirthOrPin script w
+      go None none locks = absurd (no_lock_waits a p (locks_needed r.core a p (r.places a).far op) w locks)
       go (Some v) some now =
           let take = waits_to_take r.core.handle a op v some in
           let there = is ∙ ap (λ (o : Op). Some o) take.1 in
           inr (take.0, handle_declared script valid a (r.places a).answered take.0 there, sym (same_waiting now) ∙ take.2)
 
-  waits_by : IsScript script → (a : ℕ) (o : Option Op) (w : Waiting) → op_in script r a ≡ o → waiting_with r.core (doer_of script a o) o ≡ Some w → WaitsForBirthOrPin script w
+  waits_by : IsScript script → (a : ℕ) (o : Option Op) (w : Waiting) → op_in script r a ≡ o → waiting_with r.core (doer_of script a o) (r.places a).far o ≡ Some w → WaitsForBirthOrPin script w
   waits_by valid a None w is waits = absurd (cc waits)
   waits_by valid a (Some op) w is waits = go (birth_for r.core.birth who) refl waits
     where
@@ -218,7 +218,7 @@ module _ (script : ScriptValue) (r : RunState) (h : IsStanding script r) (stuck 
       process unborn_yet now =
           inl (who.proc, op_has_process script valid a (r.places a).answered op is (waits_as_thread who r.core.birth unborn_yet), sym (same_waiting now))
 
-      go : (b : Birth) → birth_for r.core.birth who ≡ b → waits_at b who.proc (waits_born r.core a who.proc op) ≡ Some w → WaitsForBirthOrPin script w
+      go : (b : Birth) → birth_for r.core.birth who ≡ b → waits_at b who.proc (waits_born r.core a who.proc (r.places a).far op) ≡ Some w → WaitsForBirthOrPin script w
       go unborn birth now = process (λ e. cc (sym birth ∙ e)) now
       go (growing parent) birth now = process (λ e. cc (sym birth ∙ e)) now
       go failed birth now = absurd (cc now)

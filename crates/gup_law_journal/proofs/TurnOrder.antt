@@ -119,7 +119,7 @@ module _ (script : ScriptValue) (valid : IsScript script) (r : RunState) (h : St
   sees_locks a op present (Some waiting) is =
       let keeper = waits_for_keeper script r h a op waiting is in
       let p = (doer_of script a (Some op)).proc in
-      let needs : MayNeedLock (op_in script r a) = subst MayNeedLock (sym present) (needs_lock r.core a p op (r.core.structure p) (r.core.table p) waiting is) in
+      let needs : MayNeedLock (op_in script r a) = subst MayNeedLock (sym present) (needs_lock r.core a p (r.places a).far op (r.core.structure p) (r.core.table p) waiting is) in
       let here : IsKeeper script r keeper.0 (doer_of script a (op_in script r a)).proc = subst (λ (o : Option Op). IsKeeper script r keeper.0 (doer_of script a o).proc) (sym present) keeper.3 in
       inr (refl, keeper.0, may_hold a keeper.0 needs keeper.2 here, ap (λ (w : Waiting). Some w) keeper.1)
 
@@ -127,7 +127,7 @@ module _ (script : ScriptValue) (valid : IsScript script) (r : RunState) (h : St
   sees_born a op present (Some waiting) = inl refl
   sees_born a op present None = sees_locks a op present (locks_of script r h a op) refl
 
-  sees_waiting : (a : ℕ) (op : Op) → op_in script r a ≡ Some op → (b : Birth) → SeesWaiting (MayHold script (ordered_of r) a) (waiting_at (doer_of script a (Some op)).proc b (handle_waits r.core.handle a (Some op))) (waits_at b (doer_of script a (Some op)).proc (waits_born r.core a (doer_of script a (Some op)).proc op))
+  sees_waiting : (a : ℕ) (op : Op) → op_in script r a ≡ Some op → (b : Birth) → SeesWaiting (MayHold script (ordered_of r) a) (waiting_at (doer_of script a (Some op)).proc b (handle_waits r.core.handle a (Some op))) (waits_at b (doer_of script a (Some op)).proc (waits_born r.core a (doer_of script a (Some op)).proc (r.places a).far op))
   sees_waiting a op present born = sees_born a op present (handle_waits r.core.handle a (Some op))
   sees_waiting a op present birth = inl refl
 
@@ -136,7 +136,7 @@ module _ (script : ScriptValue) (valid : IsScript script) (r : RunState) (h : St
       let seen : Option Op → Option Waiting = λ o. waiting_at (doer_of script a o).proc (birth_for r.core.birth (doer_of script a o)) (handle_waits r.core.handle a o) in
       record {
         finishes = finished_is (ops_of script a) (r.places a).answered;
-        waits_so = λ o is. subst (λ (x : Option Op). SeesWaiting (MayHold script (ordered_of r) a) (seen x) (waiting_with r.core (doer_of script a x) x)) (sym is) (sees_waiting a o is (birth_for r.core.birth (doer_of script a (Some o))));
+        waits_so = λ o is. subst (λ (x : Option Op). SeesWaiting (MayHold script (ordered_of r) a) (seen x) (waiting_with r.core (doer_of script a x) (r.places a).far x)) (sym is) (sees_waiting a o is (birth_for r.core.birth (doer_of script a (Some o))));
       }
 
   turn_written : (a : ℕ) → IsWrittenTurn (finished_in script (ordered_of r) a) (waiting_of script (ordered_of r) a) (MayHold script (ordered_of r) a) (core_turn_in script r a).whats

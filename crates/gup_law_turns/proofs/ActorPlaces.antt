@@ -4,12 +4,12 @@ use Rattle.gup_plain.specs.State.{PlainState}
 use Rattle.gup_plain.specs.declared.note.What.{What}
 use Rattle.gup_plain.specs.declared.note.Waiting.{Waiting}
 use Rattle.gup_script.specs.declared.op.Op.{Op}
-use Rattle.gup_spec_events.specs.State.{CoreState}
+use Rattle.gup_spec_events.specs.State.{CoreState, WalkStep}
 use Rattle.gup_spec_journal.specs.Denial.{References}
 use Rattle.gup_spec_journal.specs.Place.{Place, Doer, place_behind}
 use Rattle.gup_spec_turns.specs.JobPlace.{JobPlace}
 use Rattle.gup_law_turns.proofs.ScriptPlaces.{fresh_place}
-use Rattle.gup_law_turns.proofs.TurnShapes.{FitsAt, Rests, TurnOf, took, passed, took_lowest, cleared_page, counted_cleared, pinned_page, unpinned_page, moved_word, cleared_entry, counted_frame, began, passed_page, counted_page, shared_page, counted_copy, took_frame, copied_word, placed_copy, TurnAt, idles, waits, goes, unborn_refused, unborn_fork}
+use Rattle.gup_law_turns.proofs.TurnShapes.{FitsAt, Rests, TurnOf, WalksTo, took_page, dropped_page, dropped_first, dropped_last, began_walk, walked, took, passed, took_lowest, cleared_page, counted_cleared, pinned_page, unpinned_page, moved_word, cleared_entry, counted_frame, began, passed_page, counted_page, shared_page, counted_copy, took_frame, copied_word, placed_copy, TurnAt, idles, waits, goes, unborn_refused, unborn_fork}
 use Rattle.gup_law_turns.proofs.ShownTurns.{FitsNext}
 
 -- at the next turn of the same operation
@@ -26,13 +26,23 @@ pub data IsBehindTurn (t : CoreState) (who : Doer) (op : Option Op) (place : Pla
   stays_there : place_behind place whats ≡ place → (FitsNext t who op place whats → FitsAt t who op place) → IsBehindTurn t who op place whats
   goes_by : IsBehind t who op place whats → IsBehindTurn t who op place whats
 
+-- a walk goes on with each of its turns but the one that makes the handle
+walk_behind : (t : CoreState) (o : Option Op) {s : PlainState} {who : Doer} {page n got sequence : ℕ} {write : Bool} {step : WalkStep} {whats : List What} {to : JobPlace} (place : Place) → WalksTo s who page n got write sequence step whats to → IsBehind t who o place whats
+walk_behind t o place (took_page g e less) = goes_on true refl (λ next. next)
+walk_behind t o place (dropped_page g last some most from) = goes_on true refl (λ next. next)
+walk_behind t o place (dropped_first g more from) = goes_on true refl (λ next. next)
+walk_behind t o place (dropped_last g one from) = goes_on true refl (λ next. next)
+walk_behind t o place turn = goes_on place.had refl (λ next. next)
+
 pub op_behind : (t : CoreState) (o : Option Op) {s : PlainState} {references : References} {who : Doer} {place : Place} {op : Op} {whats : List What} {from to : JobPlace} → TurnOf s references who place op from whats to → IsBehind t who o place whats
 op_behind t o (took op page n event over more) = goes_on true refl (λ next. next)
 op_behind t o {place = place} (passed op page n event over more none) = goes_on place.had refl (λ next. next)
 op_behind t o (took_lowest page none) = goes_on true refl (λ next. next)
-op_behind t o {place = place} (cleared_page handle page n want fast g e long first less more) = goes_on place.had refl (λ next. next)
+op_behind t o {place = place} (cleared_page handle page n want fast g e long slow first less more) = goes_on place.had refl (λ next. next)
 op_behind t o {place = place} (counted_cleared handle page n want fast g e count read long begun less more) = goes_on place.had refl (λ next. next)
-op_behind t o (pinned_page handle page n want fast from tries less more undenied) = goes_on true refl (λ next. next)
+op_behind t o (pinned_page handle page n want fast from slow tries less more undenied) = goes_on true refl (λ next. next)
+op_behind t o {place = place} (began_walk handle page n want first more) = goes_on place.had refl (λ next. next)
+op_behind t o {place = place} (walked handle page n want sequence step whats to walk more undenied) = walk_behind t o place walk
 op_behind t o {place = place} (unpinned_page handle undenied more) = goes_on place.had refl (λ next. next)
 op_behind t o (moved_word handle outward slot parts value more undenied) = goes_on true refl (λ next. next)
 op_behind t o {place = place} (cleared_entry proc page zone e first) = goes_on place.had refl (λ next. next)

@@ -1,10 +1,10 @@
--- What is true beside soundness while no operation mirrors or walks, and of which events turns are made.
+-- What is true beside soundness while no operation mirrors, and of which events turns are made.
 use Rattle.std.proofs.Common.{◌≡◌, ℕ, Bool, List, [], ◌∷◌, Option, None, refl}
 use Rattle.gup_base.specs.declared.entry.Allowed.{Allowed}
 use Rattle.gup_base.specs.declared.entry.Entry.{Entry}
 use Rattle.gup_base.specs.declared.entry.Rights.{Rights}
-use Rattle.gup_spec_events.specs.State.{CoreState, ForkStep, core_start, Counted}
-use Rattle.gup_spec_events.specs.Event.{CoreEvent, take_frame, fill, count_one, set_mark, upgrade, break_entry, put_entry, map_pages, lower_entry, protect_pages, drop_entry, discard_entry, load, store, raise_flag, pin_page, make_handle, unpin_page, give_handle, take_handle, get_reference, put_reference, move_out, move_in, begin_fork, count_page, share_entry, share_mark, share_child, copy_word, place_child, pass_page, end_fork, fail_fork, put_child, fail_unborn, clear_entry, count_moved, place_frame, restore_entry}
+use Rattle.gup_spec_events.specs.State.{CoreState, ForkStep, core_start, Counted, WalkStep, Taken}
+use Rattle.gup_spec_events.specs.Event.{CoreEvent, take_frame, fill, count_one, set_mark, upgrade, break_entry, put_entry, map_pages, lower_entry, protect_pages, drop_entry, discard_entry, load, store, raise_flag, pin_page, make_handle, unpin_page, give_handle, take_handle, get_reference, put_reference, move_out, move_in, begin_fork, count_page, share_entry, share_mark, share_child, copy_word, place_child, pass_page, end_fork, fail_fork, put_child, fail_unborn, clear_entry, count_moved, place_frame, restore_entry, enter_walk, read_sequence, read_entry, grab_frame, miss_frame, recheck_same, recheck_other, read_mark, read_again, drop_grab, drop_last, drop_first, leave_walk}
 
 -- no mirror is filled
 pub record IsCalm (s : CoreState) : Type 0 where
@@ -69,6 +69,19 @@ pub data IsTurnEvent (a p c : ℕ) (strand : Strand) : CoreEvent → Type 0 wher
   counting_moved : MayMove strand → (page : ℕ) (e : Entry) (allowed : Allowed) (count : ℕ) → IsTurnEvent a p c strand (count_moved a p page e allowed count)
   placing_frame : MayMove strand → (page f : ℕ) (e : Entry) (allowed : Allowed) → IsTurnEvent a p c strand (place_frame a p page f e allowed)
   restoring : MayMove strand → (page : ℕ) (e : Entry) (allowed : Allowed) (count : Counted) → IsTurnEvent a p c strand (restore_entry a p page e allowed count)
+  entering : (h : ℕ) → strand ≡ of_pin h → (write long : Bool) → IsTurnEvent a p c strand (enter_walk a p write long)
+  reading_sequence : (h : ℕ) → strand ≡ of_pin h → (write long : Bool) (sequence : ℕ) → IsTurnEvent a p c strand (read_sequence a p write long sequence)
+  reading_entry : (h : ℕ) → strand ≡ of_pin h → (write long : Bool) (sequence page : ℕ) (was : Option Entry) → IsTurnEvent a p c strand (read_entry a p write long sequence page was)
+  grabbing : (h : ℕ) → strand ≡ of_pin h → (write long : Bool) (sequence page : ℕ) (e : Entry) → IsTurnEvent a p c strand (grab_frame a p write long sequence page e)
+  missing_frame : (h : ℕ) → strand ≡ of_pin h → (write long : Bool) (sequence page : ℕ) (e : Entry) → IsTurnEvent a p c strand (miss_frame a p write long sequence page e)
+  finding_same : (h : ℕ) → strand ≡ of_pin h → (write long : Bool) (sequence page : ℕ) (e : Entry) → IsTurnEvent a p c strand (recheck_same a p write long sequence page e)
+  finding_other : (h : ℕ) → strand ≡ of_pin h → (write long : Bool) (sequence page : ℕ) (e : Entry) → IsTurnEvent a p c strand (recheck_other a p write long sequence page e)
+  reading_mark : (h : ℕ) → strand ≡ of_pin h → (write long : Bool) (sequence page : ℕ) (e : Entry) (mark : Bool) → IsTurnEvent a p c strand (read_mark a p write long sequence page e mark)
+  reading_again : (h : ℕ) → strand ≡ of_pin h → (write long : Bool) (sequence : ℕ) (step : WalkStep) (now : ℕ) → IsTurnEvent a p c strand (read_again a p write long sequence step now)
+  dropping_grab : (h : ℕ) → strand ≡ of_pin h → (write long : Bool) (sequence f : ℕ) → IsTurnEvent a p c strand (drop_grab a p write long sequence f)
+  dropping_last : (h : ℕ) → strand ≡ of_pin h → (write long : Bool) (sequence : ℕ) (left : List Taken) (last : Taken) → IsTurnEvent a p c strand (drop_last a p write long sequence left last)
+  dropping_first : (h : ℕ) → strand ≡ of_pin h → (write long : Bool) (sequence : ℕ) (first : Taken) (left : List Taken) → IsTurnEvent a p c strand (drop_first a p write long sequence first left)
+  leaving : (h : ℕ) → strand ≡ of_pin h → (write long : Bool) (sequence : ℕ) → IsTurnEvent a p c strand (leave_walk a p write long sequence)
   beginning : IsTurnEvent a p c strand (begin_fork a p c)
   counting : (done : List ℕ) (page : ℕ) (e : Entry) (copies : Bool) → IsTurnEvent a p c strand (count_page a p c done page e copies)
   sharing_entry : (done : List ℕ) (page f : ℕ) (writable : Bool) → IsTurnEvent a p c strand (share_entry a p c done page f writable)

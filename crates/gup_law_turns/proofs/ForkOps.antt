@@ -488,7 +488,7 @@ module _ (s : CoreState) (who : Doer) (child : ℕ) (place : Place) (h : IsOpen 
   emptied_by (forking q c done step) is fits = absurd fits.1
   emptied_by job is fits = absurd fits
 
-pub fork_turned : (s : CoreState) (who : Doer) (child : ℕ) (place : Place) → IsOpen s who.actor who.proc → FitsOp s who (Fork child) place → waits_for_locks (locks_needed s who.actor who.proc (Fork child)) who.actor (s.structure who.proc) (s.table who.proc) ≡ None → IsTurned s who place (Fork child) (op_turn s who.actor who.proc who.slots place.far (Fork child))
+pub fork_turned : (s : CoreState) (who : Doer) (child : ℕ) (place : Place) → IsOpen s who.actor who.proc → FitsOp s who (Fork child) place → waits_for_locks (locks_needed s who.actor who.proc place.far (Fork child)) who.actor (s.structure who.proc) (s.table who.proc) ≡ None → IsTurned s who place (Fork child) (op_turn s who.actor who.proc who.slots place.far (Fork child))
 fork_turned s who child place h fits free =
     fork_by s who child place h fits.0 (s.job who.actor) refl fits.1 free
 

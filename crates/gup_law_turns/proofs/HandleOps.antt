@@ -34,7 +34,7 @@ use Rattle.gup_spec_turns.proofs.TurnParts.{unpin_turn_by, give_turn_by, transfe
 use Rattle.gup_spec_turns.specs.DeviceTurns.{frame_at, moves_value, transfer_turn}
 use Rattle.gup_law_turns.proofs.CalmStates.{of_handle, IsHandleEvent, unpinning, giving, taking_over, moving_out, moving_in, handling}
 use Rattle.gup_law_turns.proofs.Puts.{put_same, some_same}
-use Rattle.gup_law_turns.proofs.TurnShapes.{references_of, AtFirst, HasLeft, FitsOp, TurnOf, refused, gave, took_over, unpinned_page, unpinned_last, moved_word, moved_last, AtRest, Rests, strand_of, IsAtOnce}
+use Rattle.gup_law_turns.proofs.TurnShapes.{references_of, AtFirst, HasLeft, FitsOp, TurnOf, refused, gave, took_over, unpinned_page, unpinned_last, moved_word, moved_last, AtRest, Rests, strand_of, IsAtOnce, IsAlwaysSlow}
 use Rattle.gup_law_turns.proofs.EventLists.{events_of}
 use Rattle.gup_law_turns.proofs.ShownTurns.{IsQuiet, FitsNext, MakesPin, IsTurned, shape_idle}
 
@@ -105,11 +105,11 @@ module _ (s : CoreState) (who : Doer) (place : Place) (h : IsQuiet s who.actor) 
   a = who.actor
 
   -- an operation is refused
-  answered : (op : Op) (answer : Answer) → AtFirst place → IsTrue (refuses op answer) → IsAtOnce op answer → IsAnswerOf (op_denial (plain_of s) (references_of s) who (pages_got (plain_of s) who.actor) op) answer → Passes (plain_of s) who.proc op place.far → MakesPin s s a op → IsTurned s who place op (answers_with answer)
-  answered op answer first refusal at_once right passes pin =
+  answered : (op : Op) (answer : Answer) → AtFirst place → IsTrue (refuses op answer) → IsAtOnce op answer → IsAlwaysSlow op → IsAnswerOf (op_denial (plain_of s) (references_of s) who (pages_got (plain_of s) who.actor) op) answer → Passes (plain_of s) who.proc op place.far → MakesPin s s a op → IsTurned s who place op (answers_with answer)
+  answered op answer first refusal at_once slow right passes pin =
       record {
         done = record { kinds = tt; can = tt; rest = h.rest; told = refl };
-        shape = shape_idle s s who place op (Done answer ∷ []) still.0 still.0 (refused op answer first refusal at_once right passes);
+        shape = shape_idle s s who place op (Done answer ∷ []) still.0 still.0 (refused op answer first refusal at_once slow right passes);
         next = still;
         pin = pin;
       }
@@ -165,7 +165,7 @@ module _ (s : CoreState) (who : Doer) (place : Place) (h : IsQuiet s who.actor) 
   unpin_by : (handle : ℕ) (holding : Bool) → is_held_by (s.handle handle) a ≡ holding → FitsOp s who (Unpin handle) place → IsTurned s who place (Unpin handle) (unpin_turn_by holding a handle (s.pinned handle))
   unpin_by handle true is fits = unpins handle fits.1 is fits.3 (but_last (s.pinned handle)) refl
   unpin_by handle false is fits =
-      answered (Unpin handle) answers.NotHeld (at_first place.far refl, fits.1) refl tt (rw is refl) tt (inl (refl, refl, is))
+      answered (Unpin handle) answers.NotHeld (at_first place.far refl, fits.1) refl tt tt (rw is refl) tt (inl (refl, refl, is))
     where
       at_first : (far : ℕ) → place.far ≡ far → far ≡ 0
       at_first zero begun = refl
@@ -180,7 +180,7 @@ module _ (s : CoreState) (who : Doer) (place : Place) (h : IsQuiet s who.actor) 
       (gave handle to first (ap holder_denial is)) still
       (refl, inr (holds (s.handle handle) a is, put_same handle (given_to (s.handle handle) to) s.handle))
   give_by handle to false is first =
-      answered (Give handle to) answers.NotHeld first refl tt (rw is refl) tt (refl, inl refl)
+      answered (Give handle to) answers.NotHeld first refl tt tt (rw is refl) tt (refl, inl refl)
 
   -- take
 
@@ -269,7 +269,7 @@ module _ (s : CoreState) (who : Doer) (place : Place) (h : IsQuiet s who.actor) 
     transfer_by outward (Some answer) is fits =
         let first = denied_first outward answer place.far refl is fits in
         answered (Transfer handle outward slot parts) answer (first, fits.1.0 first)
-        (denied_by handle outward slot parts (is_held_by (s.handle handle) a) (may_write (s.handle handle)) has_all answer is) tt (rw is refl) tt (refl, refl)
+        (denied_by handle outward slot parts (is_held_by (s.handle handle) a) (may_write (s.handle handle)) has_all answer is) tt tt (rw is refl) tt (refl, refl)
 
 pub unpin_turned : (s : CoreState) (who : Doer) (place : Place) → IsQuiet s who.actor → (handle : ℕ) → FitsOp s who (Unpin handle) place → IsTurned s who place (Unpin handle) (unpin_turn s who.actor handle)
 unpin_turned s who place h handle fits = unpin_by s who place h fits.0 handle (is_held_by (s.handle handle) who.actor) refl fits

@@ -3,12 +3,12 @@ use Rattle.std.proofs.Common.{◌≡◌, ℕ, ◌==◌, Bool, true, false, if◌
 use Rattle.std.proofs.lemmas.Bool.Decides.{nat_tests}
 use Rattle.gup_base.specs.declared.entry.Allowed.{Allowed}
 use Rattle.gup_base.specs.declared.entry.Entry.{Entry}
-use Rattle.gup_spec_events.specs.State.{CoreState, moving, Counted, forking, lowered}
+use Rattle.gup_spec_events.specs.State.{CoreState, moving, Counted, forking, lowered, Taken}
 use Rattle.gup_spec_events.specs.Event.{CoreEvent, Can, entry_of, happens, run}
-use Rattle.gup_spec_events.specs.Invariant.{AllCan, got_frame}
-use Rattle.gup_law_base.specs.Sound.{IsSound, IsSoundBy, View, Forking, moving_of, forking_of}
-use Rattle.gup_law_base.proofs.Lonely.{whole_counts, whole_alone, once_wholes, owed_alone, owed_whole, got_alone, got_whole, pin_alone, pin_whole, prepared_whole}
-use Rattle.gup_law_turns.proofs.CalmStates.{Strand, IsHandleEvent, IsTurnEvent, AreTurnEvents, taking, putting, putting_back, handling, unpinning, placing_frame, sharing_mark, putting_child, filling, marking_it, breaking, placing}
+use Rattle.gup_spec_events.specs.Invariant.{AllCan, got_frame, page_taken, taken_frame}
+use Rattle.gup_law_base.specs.Sound.{IsSound, IsSoundBy, View, Forking, moving_of, forking_of, walking_of, walk_frame, held}
+use Rattle.gup_law_base.proofs.Lonely.{whole_counts, no_whole, taken_alone, grab_alone, whole_alone, once_wholes, owed_alone, owed_whole, got_alone, got_whole, pin_alone, pin_whole, prepared_whole}
+use Rattle.gup_law_turns.proofs.CalmStates.{Strand, IsHandleEvent, IsTurnEvent, AreTurnEvents, taking, putting, putting_back, handling, unpinning, placing_frame, sharing_mark, putting_child, filling, marking_it, breaking, placing, dropping_grab, dropping_last, dropping_first}
 use Rattle.gup_law_turns.proofs.EventLists.{Law}
 use Rattle.gup_law_turns.proofs.KeptParts.{leaves, apart}
 use Rattle.gup_law_turns.proofs.Puts.{some_same}
@@ -37,9 +37,23 @@ kept_unless f k count n mark other is = grind (arith, nat_tests)
 kept_more : (f k : ℕ) (mark : ℕ → Bool) → mark k ≡ true → (if k == f then true else mark k) ≡ true
 kept_more f k mark is = grind (arith, nat_tests)
 
-at_end : (left : List ℕ) (f : ℕ) → slice_get (left ++ f ∷ []) (length left) ≡ Some f
+at_end : {X : Type 0} (left : List X) (f : X) → slice_get (left ++ f ∷ []) (length left) ≡ Some f
 at_end [] f = refl
 at_end (x ∷ left) f = at_end left f
+
+-- nor that of a page that a pin has taken, which is the whole count
+taken_whole : (v : View) (s : CoreState) → IsSoundBy v s → (a k q g : ℕ) (t : Taken) (e : Entry) → slice_get (s.taken a) k ≡ Some t → s.count t.frame ≡ 1024 → v.whole q g ≡ Some e → e.frame ≡ t.frame → ⊥
+unfolding held
+taken_whole v s h a k q g t e is all there same =
+    no_whole v s h (page_taken a k) t.frame q g e (ap taken_frame is) (taken_alone v s h a k t is all).0 (omega arith) there same
+
+-- or one that a walk has grabbed
+grab_whole : (v : View) (s : CoreState) → IsSoundBy v s → (a f q g : ℕ) (e : Entry) → walk_frame (v.walks a) ≡ Some f → s.count f ≡ 1024 → v.whole q g ≡ Some e → f ≡ e.frame → ⊥
+grab_whole v s h a f q g e is all there same =
+    let none = (grab_alone v s h a f is all).0 in
+    let some = whole_counts v s h q g e there in
+    let frames = ap v.references same in
+    omega (arith, none, some, frames)
 
 module _ (s : CoreState) (a p c : ℕ) (strand : Strand) (sound : IsSound s) (b q g : ℕ) (e : Entry) (allowed : Allowed) (count : Counted) (other : b ≡ a → ⊥) (job : s.job b ≡ moving q g e allowed count) (marked : s.mark e.frame ≡ true) where
   abbrev v : View
@@ -100,6 +114,14 @@ module _ (s : CoreState) (a p c : ℕ) (strand : Strand) (sound : IsSound s) (b 
       kept_mark f e.frame (s.mark d.frame) s.mark (λ same. prepared_whole v s h a f q g e can.1 there (sym same)) marked
   marks_event (sharing_mark done page f writable) can = kept_mark f e.frame false s.mark (λ same. unshared done page f writable can.0 can.1 same) marked
   marks_event (putting_child done page d ends) can = kept_unless d.frame e.frame (s.count d.frame) 1 s.mark (λ same once. ungiven page d can.1 same once) marked
+  marks_event (dropping_grab k is write long sequence f) can =
+      kept_unless f e.frame (s.count f) 1024 s.mark (λ same all. grab_whole v s h a f q g e (ap walk_frame (h.walks_are a ∙ ap walking_of can)) all there same) marked
+  marks_event (dropping_last k is write long sequence left last) can =
+      let has : slice_get (s.taken a) (length left) ≡ Some last = subst (λ (xs : List Taken). slice_get xs (length left) ≡ Some last) (sym can.1) (at_end left last) in
+      kept_unless last.frame e.frame (s.count last.frame) 1024 s.mark (λ same all. taken_whole v s h a (length left) q g last e has all there (sym same)) marked
+  marks_event (dropping_first k is write long sequence first left) can =
+      let has : slice_get (s.taken a) 0 ≡ Some first = ap (λ (xs : List Taken). slice_get xs 0) can.1 in
+      kept_unless first.frame e.frame (s.count first.frame) 1024 s.mark (λ same all. taken_whole v s h a 0 q g first e has all there (sym same)) marked
   marks_event event can = marked
 
 pub stays_marked : Law → (s : CoreState) (a p c : ℕ) (strand : Strand) (es : List CoreEvent) → AreTurnEvents a p c strand es → IsSound s → AllCan s es → (b q g : ℕ) (e : Entry) (allowed : Allowed) (count : Counted) → (b ≡ a → ⊥) → s.job b ≡ moving q g e allowed count → s.mark e.frame ≡ true → (run s es).mark e.frame ≡ true

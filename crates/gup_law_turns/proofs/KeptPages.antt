@@ -2,7 +2,7 @@
 use Rattle.std.proofs.Common.{◌≡◌, ℕ, List, [], ◌∷◌, refl, ◌∙◌}
 use Rattle.gup_spec_events.specs.State.{CoreState}
 use Rattle.gup_spec_events.specs.Event.{CoreEvent, happens, run}
-use Rattle.gup_law_turns.proofs.CalmStates.{of_pages, IsTurnEvent, AreTurnEvents, raising, pinning, making, handling}
+use Rattle.gup_law_turns.proofs.CalmStates.{of_pages, IsTurnEvent, AreTurnEvents, raising, pinning, making, handling, finding_same, dropping_last, dropping_first}
 
 -- the pins and what actors have taken are as they were
 pub record LeavesPins (s t : CoreState) : Type 0 where
@@ -16,6 +16,9 @@ pages_event s a p c (raising h is) = absurd (cc is)
 pages_event s a p c (pinning h is page e write long) = absurd (cc is)
 pages_event s a p c (making h is) = absurd (cc is)
 pages_event s a p c (handling h is event) = absurd (cc is)
+pages_event s a p c (finding_same h is write long sequence page e) = absurd (cc is)
+pages_event s a p c (dropping_last h is write long sequence left last) = absurd (cc is)
+pages_event s a p c (dropping_first h is write long sequence first left) = absurd (cc is)
 pages_event s a p c event = record { handle = refl; pinned = refl; taken = refl; has_pinned = refl }
 
 pub pages_leave : (s : CoreState) (a p c : ℕ) (es : List CoreEvent) → AreTurnEvents a p c of_pages es → LeavesPins s (run s es)

@@ -8,10 +8,10 @@ use Rattle.gup_plain.specs.Event.{IsHeldBy, IsGivenTo, given_to, held_by, words}
 use Rattle.gup_plain.specs.Put.{put, put2}
 use Rattle.gup_plain.specs.State.{Birth, unborn, growing, born, failed, Handle, unmade, held, gone}
 use Rattle.gup_spec_events.specs.State.{CoreState, Taken, marking, moving, Counted, one, forking, ForkStep, between, counted, lowered, cleared, copying, failing}
-use Rattle.gup_spec_events.specs.Event.{CoreEvent, Can, MayFail, happens, put_child, fail_fork, raise_flag, pin_page, make_handle, unpin_page, give_handle, take_handle, taken_frames, objects_taken, writes_taken, run}
+use Rattle.gup_spec_events.specs.Event.{CoreEvent, Can, MayFail, happens, put_child, fail_fork, raise_flag, pin_page, make_handle, unpin_page, give_handle, take_handle, taken_frames, objects_taken, writes_taken, run, recheck_same, drop_last, drop_first}
 use Rattle.gup_spec_events.specs.Invariant.{AllCan}
 use Rattle.gup_law_base.specs.Sound.{IsSound, Forking, forking_of, birth_of_child, is_failing, moving_of, marking_of, step_page}
-use Rattle.gup_law_turns.proofs.CalmStates.{IsCalm, Strand, of_pin, of_handle, of_get, of_put, getting, putting_back, IsTurnEvent, AreTurnEvents, raising, pinning, making, handling, IsHandleEvent, AreHandleEvents, unpinning, giving, taking_over, beginning, ending, failing_at, putting_child, failing_unborn, marking_it, clearing, placing_frame, restoring, sharing_entry, sharing_child, placing, MayMove}
+use Rattle.gup_law_turns.proofs.CalmStates.{IsCalm, Strand, of_pin, of_handle, of_get, of_put, getting, putting_back, IsTurnEvent, AreTurnEvents, raising, pinning, making, handling, IsHandleEvent, AreHandleEvents, unpinning, giving, taking_over, beginning, ending, failing_at, putting_child, failing_unborn, marking_it, clearing, placing_frame, restoring, sharing_entry, sharing_child, placing, MayMove, finding_same, dropping_last, dropping_first}
 use Rattle.gup_law_turns.proofs.Puts.{put_same, put_other, some_same}
 use Rattle.gup_law_turns.proofs.EventLists.{Law}
 
@@ -411,6 +411,18 @@ module _ (s : CoreState) (a : ℕ) (strand : Strand) where
         held_then = λ h b other is. record { handle = refl; pinned = refl };
       }
 
+  -- it has taken these pages then
+  pins_took : (p : ℕ) (now : List Taken) (t : CoreState) → t.taken ≡ put a now s.taken → t.has_pinned ≡ s.has_pinned → t.handle ≡ s.handle → t.pinned ≡ s.pinned → LeavesPinsOf a strand s t
+  pins_took p now t taken flags handle pinned =
+      let kept : (h : ℕ) → KeepsPin h s t = λ h. record { handle = ap (λ (f : ℕ → Handle). f h) handle; pinned = ap (λ (f : ℕ → List ℕ). f h) pinned } in
+      record {
+        taken = λ b other. ap (λ (f : ℕ → List Taken). f b) taken ∙ put_apart a b now s.taken other;
+        flags = λ none. flags;
+        others = λ h no_pin no_handle. kept h;
+        unheld = λ h making holding taking. kept h;
+        held_then = λ h b other is. kept h;
+      }
+
   pins_raising : (h p : ℕ) → strand ≡ of_pin h → LeavesPinsOf a strand s (happens s (raise_flag a p))
   pins_raising h p is =
       record {
@@ -425,6 +437,12 @@ module _ (s : CoreState) (a : ℕ) (strand : Strand) where
   pins_event p c e (raising h is) can = pins_raising h p is
   pins_event p c e (pinning h is page entry write long) can = pins_pinning p page entry write long
   pins_event p c e (making h is) can = pins_making h is can
+  pins_event p c e (finding_same h is write long sequence page entry) can =
+      pins_took p (s.taken a ++ record { proc = p; page = page; frame = entry.frame; object = s.object p page; write = write; long = long } ∷ []) (happens s (recheck_same a p write long sequence page entry)) refl refl refl refl
+  pins_event p c e (dropping_last h is write long sequence left last) can =
+      pins_took p left (happens s (drop_last a p write long sequence left last)) refl refl refl refl
+  pins_event p c e (dropping_first h is write long sequence first left) can =
+      pins_took p left (happens s (drop_first a p write long sequence first left)) refl refl refl refl
   pins_event p c e (handling h is (unpinning f left)) can = pins_unpinning h f left is can
   pins_event p c e (handling h is (giving to)) can = pins_giving h to is can
   pins_event p c e (handling h is taking_over) can = pins_taking h is can

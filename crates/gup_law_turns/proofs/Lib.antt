@@ -5,7 +5,9 @@ pub mod ForkFails
 pub mod ForkOps
 pub mod HandleOps
 pub mod MoveOps
+pub mod PinPace
 pub mod PinOps
+pub mod WalkOps
 pub mod ReferenceOps
 pub mod ReferenceNotes
 pub mod Sums

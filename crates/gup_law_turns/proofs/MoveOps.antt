@@ -94,7 +94,7 @@ module _ (s : CoreState) (who : Doer) (proc page : ℕ) (zone : Zone) (place : P
     answers_first answer refusal at_once right =
         record {
           done = record { kinds = tt; can = tt; rest = h.rest; told = refl };
-          shape = shape_idle s s who place op (Done answer ∷ []) job job (refused op answer (first, silent) refusal at_once right tt);
+          shape = shape_idle s s who place op (Done answer ∷ []) job job (refused op answer (first, silent) refusal at_once tt right tt);
           next = (job, untaken);
           pin = tt;
         }
@@ -224,6 +224,6 @@ module _ (s : CoreState) (who : Doer) (proc page : ℕ) (zone : Zone) (place : P
       goes_on e (has_begun g place.far e count fits.0) stands.4 count fits.0 (is ∙ ap (λ (k : ℕ). moving k g e allowed count) stands.0 ∙ ap (λ (k : ℕ). moving p k e allowed count) stands.1 ∙ ap (λ (zones : Allowed). moving p page e zones count) stands.2)
   move_by job is fits free = absurd fits
 
-pub move_turned : (s : CoreState) (who : Doer) (proc page : ℕ) (zone : Zone) (place : Place) → IsOpen s who.actor who.proc → FitsOp s who (Move proc page zone) place → waits_for_locks (locks_needed s who.actor who.proc (Move proc page zone)) who.actor (s.structure who.proc) (s.table who.proc) ≡ None → IsTurned s who place (Move proc page zone) (op_turn s who.actor who.proc who.slots place.far (Move proc page zone))
+pub move_turned : (s : CoreState) (who : Doer) (proc page : ℕ) (zone : Zone) (place : Place) → IsOpen s who.actor who.proc → FitsOp s who (Move proc page zone) place → waits_for_locks (locks_needed s who.actor who.proc place.far (Move proc page zone)) who.actor (s.structure who.proc) (s.table who.proc) ≡ None → IsTurned s who place (Move proc page zone) (op_turn s who.actor who.proc who.slots place.far (Move proc page zone))
 move_turned s who proc page zone place h fits free =
     move_by s who proc page zone place h fits.0 fits.1 (s.job who.actor) refl fits.2 free

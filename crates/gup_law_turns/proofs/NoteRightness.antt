@@ -15,7 +15,9 @@ use Rattle.gup_plain.specs.declared.note.What.TheVariants.{Silent, Idle, Wait, E
 use Rattle.gup_plain.specs.declared.note.Waiting.{Waiting}
 use Rattle.gup_script.specs.Script.{ScriptValue}
 use Rattle.gup_script.specs.declared.op.Op.{Op}
-use Rattle.gup_script.specs.declared.op.Op.TheVariants.{Unmap, Discard, Get, Put, Fork, Exit}
+use Rattle.gup_base.specs.declared.entry.Want.{Want}
+use Rattle.gup_script.specs.declared.op.Op.TheVariants.{Unmap, Discard, Get, Put, Fork, Exit, Pin}
+use Rattle.gup_spec_events.specs.State.{WalkStep}
 use Rattle.gup_plain.specs.Denial.{denial_at, is_denial}
 use Rattle.gup_spec_journal.specs.Denial.{References, denial, op_denial}
 use Rattle.gup_spec_journal.specs.Follows.{refuses, moves_word, notes_of_turn, note_of}
@@ -25,7 +27,7 @@ use Rattle.gup_spec_journal.specs.Plain.{Judgement, Judged, AreSo, references_af
 use Rattle.gup_spec_journal.specs.Thorough.{Passes, IsDue, IsThoroughAt, IsThoroughOf}
 use Rattle.gup_law_turns.proofs.Puts.{put_same, put_twice, put_own}
 use Rattle.gup_spec_turns.specs.JobPlace.{JobPlace}
-use Rattle.gup_law_turns.proofs.TurnShapes.{TurnOf, refused, mapped, protected, loaded, stored, gave, took_over, got_one, put_back, took, took_last, passed, passed_last, took_lowest, took_all, pinned_page, pinned_all, pinned_short, unpinned_last, moved_word, moved_last, began, passed_page, shared_page, ended, copied_word, failed_fork, GoesOver, unmaps, discards, TurnAt, idles, waits, goes, unborn_refused, unborn_fork, AtFirst, placed_frame, found_no_frame, found_busy, lacked_frame, found_unmovable}
+use Rattle.gup_law_turns.proofs.TurnShapes.{WalksTo, took_page, dropped_page, dropped_first, dropped_last, walked, kept_all, refused_slowly, TurnOf, refused, mapped, protected, loaded, stored, gave, took_over, got_one, put_back, took, took_last, passed, passed_last, took_lowest, took_all, pinned_page, pinned_all, pinned_short, unpinned_last, moved_word, moved_last, began, passed_page, shared_page, ended, copied_word, failed_fork, GoesOver, unmaps, discards, TurnAt, idles, waits, goes, unborn_refused, unborn_fork, AtFirst, placed_frame, found_no_frame, found_busy, lacked_frame, found_unmovable}
 use Rattle.gup_law_turns.proofs.EventLists.{events_of, AllCanHappen}
 
 -- a note is right, and misses no page
@@ -255,9 +257,37 @@ module _ (ops : List Op) (actor : Doer) (s : PlainState) (references : Reference
   still_born handle true k l value = refl
   still_born handle false k l value = refl
 
+  -- the walk of a pin: a page that it names is the first one, and not denied, or comes after one that was not
+
+  stands_by : (op : Op) → (place.had ≡ false → op_denial s references who (pages_got s who.actor) op ≡ None) → (had : Bool) → place.had ≡ had → IsUndeniedAt place.had (denial s references who (pages_got s who.actor) op)
+  stands_by op free true is = subst (λ (b : Bool). IsUndeniedAt b (denial s references who (pages_got s who.actor) op)) (sym is) tt
+  stands_by op free false is =
+      subst (λ (b : Bool). IsUndeniedAt b (denial s references who (pages_got s who.actor) op)) (sym is)
+      (denial_born s references who (pages_got s who.actor) op birth ∙ free is)
+
+  walk_right : {first m got sequence : ℕ} {write : Bool} {step : WalkStep} {to : JobPlace} (handle page n : ℕ) (want : Want) (whats : List What) → WalksTo s who first m got write sequence step whats to → (place.had ≡ false → op_denial s references who (pages_got s who.actor) (Pin handle page n want true) ≡ None) → IsPresent ops actor who place (Pin handle page n want true) → AllCanHappen s (events_of whats) → AreRight ops actor s references place whats
+  walk_right {first = first} {got = got} {write = write} handle page n want whats (took_page g e less) free is can =
+      let op : Op = Pin handle page n want true in
+      one_right op (Event (events.PinTry who.actor who.proc (first + got) write)) is ((can.0, inl (stands_by op free place.had refl)), tt)
+  walk_right handle page n want whats (dropped_page g last some most from) free is can =
+      let op : Op = Pin handle page n want true in
+      one_right op (Event (events.PinDrop who.actor g)) is ((can.0, inl (stands_by op free place.had refl)), tt)
+  walk_right handle page n want whats (dropped_first g more from) free is can =
+      let op : Op = Pin handle page n want true in
+      one_right op (Event (events.PinDrop who.actor g)) is ((can.0, inl (stands_by op free place.had refl)), tt)
+  walk_right handle page n want whats (dropped_last g one from) free is can =
+      let op : Op = Pin handle page n want true in
+      one_right op (Event (events.PinDrop who.actor g)) is ((can.0, inl (stands_by op free place.had refl)), tt)
+  walk_right handle page n want whats turn free is can = one_right (Pin handle page n want true) Silent is (tt, tt)
+
+  -- a pin that is refused is judged at its answer
+  judged_pin : (handle page n : ℕ) (want : Want) (answer : Answer) → IsTrue (refuses (Pin handle page n want true) answer) → judged_before (Pin handle page n want true) place.had answer ≡ false
+  judged_pin handle page n want (answers.Pinned pages) refusal = absurd (cc refusal)
+  judged_pin handle page n want answer refusal = refl
+
   -- a turn of each shape
   op_right : (op : Op) {from to : JobPlace} (whats : List What) → TurnOf s references who place op from whats to → IsPresent ops actor who place op → AllCanHappen s (events_of whats) → AreRight ops actor s references place whats
-  op_right op whats (refused o answer first refusal at_once right passes) is can =
+  op_right op whats (refused o answer first refusal at_once slow right passes) is can =
       let got : ℕ = pages_got s who.actor in
       let judged : IsAnswerOf (denial s references who got op) answer = subst (λ (d : Option Answer). IsAnswerOf d answer) (sym (denial_born s references who got op birth)) right in
       let here = refused_here op answer s who.actor refusal in
@@ -285,9 +315,9 @@ module _ (ops : List Op) (actor : Doer) (s : PlainState) (references : Reference
   op_right op whats (took_lowest page none) is can =
       let e = events.Unmap who.actor who.proc page in one_right op (Event e) is (event_right op e can.0 refl none)
   op_right op whats (took_all none) is can = plain_right op is refl none
-  op_right op whats (pinned_page handle page n want fast from tries less more free) is can =
+  op_right op whats (pinned_page handle page n want fast from slow tries less more free) is can =
       let e = events.PinTry who.actor who.proc (page + pages_got s who.actor) want.write in one_right op (Event e) is (event_right op e can.0 free tt)
-  op_right op whats (pinned_all handle page n want fast from tries last free) is can =
+  op_right op whats (pinned_all handle page n want fast from slow tries last free) is can =
       let e : PlainEvent = events.PinTry who.actor who.proc (page + pages_got s who.actor) want.write in
       let t : PlainState = happened s e in
       let ok : PlainEvent = events.PinOk who.actor handle in
@@ -298,6 +328,17 @@ module _ (ops : List Op) (actor : Doer) (s : PlainState) (references : Reference
       let third = at_present ops actor who place op is u references (place_after then (Event ok)) (Done (answers.Pinned n)) ((settled (birth_for s.birth who) birth, refl), tt) in
       let behind = right_behind ops actor u references then ok (Done (answers.Pinned n) ∷ []) (third, tt) in
       (first, right_behind ops actor t references place e (Event ok ∷ Done (answers.Pinned n) ∷ []) (second, behind))
+  op_right op whats (walked handle page n want sequence step ws to walk more free) is can = walk_right handle page n want whats walk free is can
+  op_right op whats (kept_all handle page n want sequence all had) is can =
+      let stands : IsUndeniedAt place.had (denial s references who (pages_got s who.actor) op) = subst (λ (b : Bool). IsUndeniedAt b (denial s references who (pages_got s who.actor) op)) (sym had) tt in
+      then_right op (events.PinOk who.actor handle) (answers.Pinned n) is ((can.0, inl stands), tt) birth refl tt
+  op_right op whats (refused_slowly handle page n want answer begun none refusal known at_once right) is can =
+      let got : ℕ = pages_got s who.actor in
+      let judged : IsAnswerOf (denial s references who got op) answer = subst (λ (d : Option Answer). IsAnswerOf d answer) (sym (denial_born s references who got op birth)) right in
+      let here = refused_here op answer s who.actor refusal in
+      let at : IsAnswerOf (denial s references who (got_at s who.actor answer) op) (refusal_in answer) =
+      subst (λ (k : ℕ). IsAnswerOf (denial s references who k op) (refusal_in answer)) (sym here.0) (subst (λ (x : Answer). IsAnswerOf (denial s references who got op) x) (sym here.1) judged) in
+      done_right op answer is (subst (λ (b : Bool). IsAnswerAfter b (denial s references who (got_at s who.actor answer) op) (refusal_in answer)) (sym (judged_pin handle page n want answer refusal)) at) tt
   op_right op whats (pinned_short handle page n want fast got cause from had same some less end refuses right) is can =
       let e : PlainEvent = events.PinOk who.actor handle in
       let judged : IsAnswerOf (denial s references who got op) (refusal_by_cause cause) = subst (λ (d : Option Answer). IsAnswerOf d (refusal_by_cause cause)) (sym (denial_born s references who got op birth)) right in

@@ -38,7 +38,7 @@ use Rattle.gup_law_turns.proofs.FaultTurns.{IsReady, MayFault, may_fault, Refuse
 use Rattle.gup_law_turns.proofs.KeptPages.{pages_leave}
 use Rattle.gup_law_turns.proofs.Puts.{put_same, put2_same, some_same, none_of}
 use Rattle.gup_law_turns.proofs.PageSearches.{free_frame_free, lowest_some, lowest_none, none_below, undenied_map, denied_map, undenied_protect, denied_protect}
-use Rattle.gup_law_turns.proofs.TurnShapes.{references_of, AtFirst, FitsOp, TurnOf, refused, mapped, protected, loaded, stored, took, took_last, passed, passed_last, took_lowest, took_all, GoesOver, unmaps, discards, AtRest, unprepared, at_rest, IsDone, Rests, child_of, strand_of, IsAtOnce}
+use Rattle.gup_law_turns.proofs.TurnShapes.{references_of, AtFirst, FitsOp, TurnOf, refused, mapped, protected, loaded, stored, took, took_last, passed, passed_last, took_lowest, took_all, GoesOver, unmaps, discards, AtRest, unprepared, at_rest, IsDone, Rests, child_of, strand_of, IsAtOnce, IsAlwaysSlow}
 use Rattle.gup_law_turns.proofs.EventLists.{events_of}
 use Rattle.gup_law_turns.proofs.ShownTurns.{IsOpen, FitsNext, MakesPin, IsTurned, shape_idle, both_free, kinds_behind, run_behind, can_behind, told_behind}
 
@@ -76,10 +76,10 @@ module _ (s : CoreState) (who : Doer) (place : Place) (h : IsOpen s who.actor wh
       }
 
   -- an operation is answered without an event
-  answered : (op : Op) (answer : Answer) → IsOfPages op s → AtFirst place → IsTrue (refuses op answer) → IsAtOnce op answer → IsAnswerOf (op_denial (plain_of s) (references_of s) who (pages_got (plain_of s) who.actor) op) answer → Passes (plain_of s) p op place.far → IsTurned s who place op (answers_with answer)
-  answered op answer alone first refusal at_once right passes =
+  answered : (op : Op) (answer : Answer) → IsOfPages op s → AtFirst place → IsTrue (refuses op answer) → IsAtOnce op answer → IsAlwaysSlow op → IsAnswerOf (op_denial (plain_of s) (references_of s) who (pages_got (plain_of s) who.actor) op) answer → Passes (plain_of s) p op place.far → IsTurned s who place op (answers_with answer)
+  answered op answer alone first refusal at_once slow right passes =
       done_turn op (answers_with answer) (record { kinds = tt; can = tt; rest = h.rest; told = refl }) alone job
-      (refused op answer first refusal at_once right passes) (λ still. still)
+      (refused op answer first refusal at_once slow right passes) (λ still. still)
 
   -- an entry of a born process is of a mapped page, and a writable one of a page that may be written
 
@@ -116,8 +116,8 @@ module _ (s : CoreState) (who : Doer) (place : Place) (h : IsOpen s who.actor wh
       (λ still. still)
 
   load_fills : (page word : ℕ) (rights : Option Rights) (free : Option ℕ) → AreUnlocked s p → word < words → AtFirst place → s.right p page ≡ rights → free_frame s ≡ free → s.entry p page ≡ None → IsTurned s who place (Load page word) (loads_after s (read_fault a p page rights None free) a p page word)
-  load_fills page word None free unlocked within first is found none = answered (Load page word) answers.Missing (refl, refl, tt) first refl tt (rw is refl) tt
-  load_fills page word (Some rights) None unlocked within first is found none = answered (Load page word) answers.NoFrame (refl, refl, tt) first refl tt (rw is refl) tt
+  load_fills page word None free unlocked within first is found none = answered (Load page word) answers.Missing (refl, refl, tt) first refl tt tt (rw is refl) tt
+  load_fills page word (Some rights) None unlocked within first is found none = answered (Load page word) answers.NoFrame (refl, refl, tt) first refl tt tt (rw is refl) tt
   load_fills page word (Some rights) (Some f) unlocked within first is found none =
       let before = take_frame a f ∷ fill a p page f ∷ [] in
       load_ready page word before within first (rw is refl) (filled s a p may unlocked page (free_frame s) (free_frame_free s) f found (rw is refl) none)
@@ -156,7 +156,7 @@ module _ (s : CoreState) (who : Doer) (place : Place) (h : IsOpen s who.actor wh
 
   store_leads : (page word value : ℕ) (fault : Fault) → word < words → AtFirst place → LeadsTo s a p page true (store_denial (s.right p page)) fault → IsTurned s who place (Store page word value) (stores_after s fault a p page word value)
   store_leads page word value (Err answer) within first to =
-      answered (Store page word value) answer (refl, refl, tt) first (refused_store page word value to.0) tt to.1 tt
+      answered (Store page word value) answer (refl, refl, tt) first (refused_store page word value to.0) tt tt to.1 tt
   store_leads page word value (Ok before) within first to =
       store_ready page word value before within first to.0 to.1 (ap allows_store to.2.there ∙ to.2.may refl)
 
@@ -175,7 +175,7 @@ module _ (s : CoreState) (who : Doer) (place : Place) (h : IsOpen s who.actor wh
 
     map_by : (page n : ℕ) (rights : Rights) (denied : Option Answer) → AtFirst place → IsOp (Map page n rights) → map_denial (any_mapped (s.right p) page n) (s.pages p) n ≡ denied → IsTurned s who place (Map page n rights) (map_turn_by denied a p page n rights)
     map_by page n rights (Some answer) first fits is =
-        answered (Map page n rights) answer (refl, refl, tt) first (denied_map page n rights (any_mapped (s.right p) page n) (s.pages p) answer is) tt (rw is refl) tt
+        answered (Map page n rights) answer (refl, refl, tt) first (denied_map page n rights (any_mapped (s.right p) page n) (s.pages p) answer is) tt tt (rw is refl) tt
     map_by page n rights None first fits is =
         let free = undenied_map (any_mapped (s.right p) page n) (s.pages p) n is in
         let unmapped = none_below n (λ k. is_some (s.right p (page + k))) free.0 in
@@ -273,7 +273,7 @@ module _ (s : CoreState) (who : Doer) (place : Place) (h : IsOpen s who.actor wh
 
     protect_by : (page n : ℕ) (rights : Rights) (denied : Option Answer) → AtFirst place → protect_denial (any_unmapped (s.right p) page n) ≡ denied → IsTurned s who place (Protect page n rights) (protect_turn_by denied s a p page n rights)
     protect_by page n rights (Some answer) first is =
-        answered (Protect page n rights) answer (refl, refl, tt) first (denied_protect page n rights (any_unmapped (s.right p) page n) answer is) tt (rw is refl) tt
+        answered (Protect page n rights) answer (refl, refl, tt) first (denied_protect page n rights (any_unmapped (s.right p) page n) answer is) tt tt (rw is refl) tt
     protect_by page n rights None first is =
         let done = protect_done page n rights (undenied_protect (s.right p) page n is) in
         done_turn (Protect page n rights) (protect_turn_by None s a p page n rights) done.0 (refl, refl, tt) done.1 (protected page n rights first is) (λ still. still)
@@ -393,7 +393,7 @@ module _ (s : CoreState) (who : Doer) (place : Place) (h : IsOpen s who.actor wh
 module _ (s : CoreState) (who : Doer) (place : Place) (h : IsOpen s who.actor who.proc) where
   -- the actor waits for none of the locks that this operation needs
   abbrev IsFree : Op → Type 0
-  IsFree op = waits_for_locks (locks_needed s who.actor who.proc op) who.actor (s.structure who.proc) (s.table who.proc) ≡ None
+  IsFree op = waits_for_locks (locks_needed s who.actor who.proc place.far op) who.actor (s.structure who.proc) (s.table who.proc) ≡ None
 
   pub map_turned : (page n : ℕ) (rights : Rights) → IsOp (Map page n rights) → FitsOp s who (Map page n rights) place → IsFree (Map page n rights) → IsTurned s who place (Map page n rights) (op_turn s who.actor who.proc who.slots place.far (Map page n rights))
   map_turned page n rights range fits free = map_by s who place h fits.0 (both_free s who.actor who.proc h.sound fits.0.0 free) page n rights (map_denial (any_mapped (s.right who.proc) page n) (s.pages who.proc) n) fits.1 range refl

@@ -21,7 +21,7 @@ use Rattle.gup_script.specs.Limits.{most_pinned}
 use Rattle.gup_script.specs.Valid.{IsOp}
 use Rattle.gup_script.specs.declared.op.Op.TheVariants.{Pin}
 use Rattle.gup_spec_events.specs.State.{CoreState, Taken, Job, idle, moving, Counted, unread, one, more, pending_of, plain_of}
-use Rattle.gup_spec_events.specs.Event.{CoreEvent, Can, MayPrepare, IsAllowed, IsNormal, counted_as, entry_of, happens, IsUntaken, AreAlike, taken_frames, objects_taken, writes_taken, take_frame, put_entry, raise_flag, pin_page, make_handle, clear_entry, count_moved, place_frame, restore_entry, run}
+use Rattle.gup_spec_events.specs.Event.{CoreEvent, Can, AreUnlocked, MayPrepare, IsAllowed, IsNormal, counted_as, entry_of, happens, IsUntaken, AreAlike, taken_frames, objects_taken, writes_taken, take_frame, put_entry, raise_flag, pin_page, make_handle, clear_entry, count_moved, place_frame, restore_entry, run}
 use Rattle.gup_spec_events.specs.Fault.{Fault}
 use Rattle.gup_spec_events.specs.Invariant.{AllCan}
 use Rattle.gup_law_events.specs.Law.{all_told}
@@ -30,21 +30,22 @@ use Rattle.gup_spec_journal.specs.Place.{Place, Doer}
 use Rattle.gup_spec_journal.specs.Denial.{op_denial}
 use Rattle.gup_spec_journal.specs.Plain.{IsAnswerOf, pages_got, refusal_by_cause}
 use Rattle.gup_spec_turns.specs.JobPlace.{JobPlace, job_place, place_in, KeepsFrame, unbegun, moving_page}
-use Rattle.gup_spec_turns.specs.PinPlace.{HasTaken, IsTakenPage, IsMovingPin, StandsAtPage, turns_over}
+use Rattle.gup_spec_turns.specs.PinPlace.{HasTaken, IsTakenPage, IsMovingPin, turns_over, most_over}
 use Rattle.gup_law_turns.specs.Standing.{StandsHandle}
 use Rattle.gup_spec_turns.specs.CoreTurn.{free_in, zones_of, entry_in}
-use Rattle.gup_spec_turns.specs.PinTurns.{raises, cause_of, pin_fault, moves_first, pins, pins_in, clears_behind, clears_or_pins, pins_behind, ends_pin, ends_moved, pins_moved, moved_turn, pin_turn_by, pin_turn_in, pin_turn}
+use Rattle.gup_spec_turns.specs.PinTurns.{raises, cause_of, pin_fault, moves_first, pins, pins_in, clears_behind, clears_or_pins, pins_behind, ends_pin, ends_moved, pins_moved, moved_turn, pin_turn_by}
 use Rattle.gup_script.specs.declared.op.Op.{Op}
-use Rattle.gup_spec_turns.specs.Cost.{pin_turns}
+use Rattle.gup_spec_turns.specs.Cost.{pin_turns, walk_turns}
 use Rattle.gup_spec_turns.specs.MoveTurns.{count_turn}
-use Rattle.gup_spec_turns.specs.Waits.{waits_for_locks, locks_needed}
+use Rattle.gup_spec_turns.specs.Waits.{waits_for_locks, both_locks}
 use Rattle.gup_law_turns.proofs.CalmStates.{of_pages, of_pin, AreTurnEvents, taking, putting, raising, pinning, making, clearing, counting_moved, placing_frame, restoring}
 use Rattle.gup_law_turns.proofs.FaultTurns.{IsReady, Allows, MayFault, may_fault, IsFree, RefusesPage, missing, forbidden, no_frame, LeadsTo, pin_leads, no_mirror_at, differ}
 use Rattle.gup_law_turns.proofs.KeptPages.{pages_leave}
 use Rattle.gup_law_turns.proofs.PageSearches.{free_in_free, free_in_allowed}
 use Rattle.gup_law_turns.proofs.Puts.{put_same, put_other, put2_same}
-use Rattle.gup_law_turns.proofs.TurnShapes.{references_of, FitsOp, TurnOf, refused, pinned_page, pinned_all, pinned_short, AtRest, unprepared, Rests, FitsPin, TriesAt, RefusesAt, IsAtOnce, cleared_page, counted_cleared, lacked_frame, found_unmovable, at_rest}
+use Rattle.gup_law_turns.proofs.TurnShapes.{references_of, FitsOp, TurnOf, refused, pinned_page, pinned_all, pinned_short, AtRest, unprepared, Rests, FitsPin, TriesAt, IsSlowTurn, refused_slowly, RefusesAt, IsAtOnce, cleared_page, counted_cleared, lacked_frame, found_unmovable, at_rest}
 use Rattle.gup_law_turns.proofs.ShownTurns.{IsOpen, MakesPin, IsTurned, both_free, kinds_behind, run_behind, can_behind, told_behind, idle_place}
+use Rattle.gup_law_turns.proofs.PinPace.{FewOver, none_over, room_page, room_behind, room_move, few_idle, few_moved}
 use Rattle.gup_law_turns.proofs.KeptParts.{stays_calm}
 use Rattle.gup_law_turns.proofs.KeptMarks.{moved_counted}
 use Rattle.gup_law_turns.proofs.MoveOps.{counted_is, counted_read}
@@ -113,56 +114,12 @@ held_whole a write taken some few handle pinned made has =
     (subst (λ (fs : List ℕ). IsHeldBy (held a (objects_taken taken) write) a × StandsHandle (λ b. 0) fs (held a (objects_taken taken) write)) (sym has)
     (refl, (omega (arith, frames, some), omega (arith, objects, few), omega (arith, objects, frames))))
 
--- how many turns a pin has had
-
--- one that has no page, and is in the middle of none, has had none
-none_over : (long : Bool) (got far : ℕ) → got ≡ 0 → far ≤ pin_turns long got + 0 → far ≡ 0
-none_over true got far none most = omega (arith, none, most)
-none_over false got far none most = omega (arith, none, most)
-
--- short pins are in the middle of none
-abbrev pub FewOver : (long : Bool) → ℕ → Type 0
-FewOver true over = over ≤ 2
-FewOver false over = over ≡ 0
-
-pub room_page : (long : Bool) (got n far over : ℕ) → FewOver long over → far ≤ pin_turns long got + over → got + 1 < n → far + 1 < pin_turns long n
-room_page true got n far over few most less = omega (arith, few, most, less)
-room_page false got n far over few most less = omega (arith, few, most, less)
-
-room_behind : (long : Bool) (got far over : ℕ) → FewOver long over → far ≤ pin_turns long got + over → far + 1 ≤ pin_turns long (got + 1) + 0
-room_behind true got far over few most = omega (arith, few, most)
-room_behind false got far over few most = omega (arith, few, most)
-
-pub room_move : (long : Bool) (got n far over : ℕ) → long ≡ true → over ≤ 1 → far ≤ pin_turns long got + over → got < n → far + 1 < pin_turns long n
-room_move true got n far over is few most less = omega (arith, few, most, less)
-room_move false got n far over is few most less = absurd (cc is)
-
-pub few_idle : (long : Bool) → FewOver long 0
-few_idle true = omega arith
-few_idle false = refl
-
-pub few_moved : (long : Bool) → long ≡ true → FewOver long 2
-few_moved true is = omega arith
-few_moved false is = absurd (cc is)
-
 counted_over : (q g : ℕ) (e : Entry) (allowed : Allowed) (count : ℕ) → turns_over (moving q g e allowed (counted_as count)) ≡ 2
 counted_over q g e allowed count = go (count == 1)
   where
     go : (b : Bool) → turns_over (moving q g e allowed (if b then one else more count)) ≡ 2
     go true = refl
     go false = refl
-
--- so one that stands at a page has more
-pub room_left : (long : Bool) (got n far over : ℕ) → FewOver long over → far ≤ pin_turns long got + over → got < n → far < pin_turns long n
-room_left true got n far over few most less = omega (arith, few, most, less)
-room_left false got n far over few most less = omega (arith, few, most, less)
-
-pub few_over : (s : CoreState) (a p page : ℕ) (want : Want) (job : Job) → StandsAtPage s a p page want job → FewOver want.long (turns_over job)
-few_over s a p page want idle at = few_idle want.long
-few_over s a p page want (moving q g e allowed unread) at = subst (λ (l : Bool). FewOver l 1) (sym at.4.long) (omega arith)
-few_over s a p page want (moving q g e allowed one) at = few_moved want.long at.4.long
-few_over s a p page want (moving q g e allowed (more count)) at = few_moved want.long at.4.long
-few_over s a p page want job at = absurd at
 
 -- what a pin may have is mapped
 undenied_mapped : (write : Bool) (right : Option Rights) → pin_denial write right ≡ None → IsSome right
@@ -222,7 +179,7 @@ record IsPinReady (s : CoreState) (a p handle page : ℕ) (want : Want) (es : Li
   right : (run s es).right p page ≡ s.right p page
   allows : Allows (run s es) p page want.write
 
-module _ (s : CoreState) (who : Doer) (place : Place) (h : IsOpen s who.actor who.proc) (handle page n : ℕ) (want : Want) (fast : Bool) (range : IsOp (Pin handle page n want fast)) (fits : FitsOp s who (Pin handle page n want fast) place) where
+module _ (s : CoreState) (who : Doer) (place : Place) (h : IsOpen s who.actor who.proc) (handle page n : ℕ) (want : Want) (fast : Bool) (range : IsOp (Pin handle page n want fast)) (fits : FitsOp s who (Pin handle page n want fast) place) (within : length (s.taken who.actor) < n) (has : HasTaken who.proc page want (length (s.taken who.actor)) (s.taken who.actor)) (slow : IsSlowTurn fast place.far) where
   abbrev a : ℕ
   a = who.actor
 
@@ -235,6 +192,10 @@ module _ (s : CoreState) (who : Doer) (place : Place) (h : IsOpen s who.actor wh
   -- the pages that it has
   abbrev got : ℕ
   got = length (s.taken a)
+
+  -- the turns of its walk, if it walks
+  abbrev walked : ℕ
+  walked = walk_turns fast n
 
   -- the page of this turn
   abbrev here : ℕ
@@ -259,10 +220,10 @@ module _ (s : CoreState) (who : Doer) (place : Place) (h : IsOpen s who.actor wh
   stands_at : (t : CoreState) (job : Job) → t.job a ≡ job → place_in t a ≡ job_place job (t.prepared a)
   stands_at t job is = ap (λ (j : Job). job_place j (t.prepared a)) is
 
-  fits_on : (t : CoreState) (next : Place) (taken : List Taken) (job : Job) → t.taken a ≡ taken → t.job a ≡ job → FitsPin t a p handle page n want next taken job → FitsOp t who op next
+  fits_on : (t : CoreState) (next : Place) (taken : List Taken) (job : Job) → t.taken a ≡ taken → t.job a ≡ job → FitsPin t a p handle page n want fast next taken job → FitsOp t who op next
   fits_on t next taken job has is fits_then =
-      subst (λ (ts : List Taken). FitsPin t a p handle page n want next ts (t.job a)) (sym has)
-      (subst (λ (j : Job). FitsPin t a p handle page n want next taken j) (sym is) fits_then)
+      subst (λ (ts : List Taken). FitsPin t a p handle page n want fast next ts (t.job a)) (sym has)
+      (subst (λ (j : Job). FitsPin t a p handle page n want fast next taken j) (sym is) fits_then)
 
   -- what is made of the handle of pages that are taken
   makes_it : (t made : CoreState) → made ≡ happens t (make_handle a handle) → 0 < length (t.taken a) → length (t.taken a) ≤ n → MakesPin s made a op
@@ -273,7 +234,7 @@ module _ (s : CoreState) (who : Doer) (place : Place) (h : IsOpen s who.actor wh
       (inr (held_whole a (writes_taken (t.taken a)) (t.taken a) some (omega (arith, few, most)) (makes.handle handle) (makes.pinned handle) (put_same handle (held a (objects_taken (t.taken a)) (writes_taken (t.taken a))) t.handle) (put_same handle (taken_frames (t.taken a)) t.pinned)))
 
   -- These events come first; so many turns of the page are over.
-  module _ (es : List CoreEvent) (led : IsPinLed s a p handle es) (from : JobPlace) (before : place_in s a ≡ from) (over : ℕ) (few : FewOver want.long over) (least : got + over ≤ place.far) (most : place.far ≤ pin_turns want.long got + over) where
+  module _ (es : List CoreEvent) (led : IsPinLed s a p handle es) (from : JobPlace) (before : place_in s a ≡ from) (over : ℕ) (few : FewOver want.long over) (least : got + over ≤ place.far) (most : place.far ≤ walked + pin_turns want.long got + over) where
     abbrev t : CoreState
     t = run s es
 
@@ -290,7 +251,6 @@ module _ (s : CoreState) (who : Doer) (place : Place) (h : IsOpen s who.actor wh
     ends_short : (k : ℕ) (answer : Answer) → got ≡ suc k → EndsPin want (cause_of answer) → RefusesAt want from (refusal_by_cause (cause_of answer)) → IsAnswerOf (pin_denial want.write (s.right p here)) (refusal_by_cause (cause_of answer)) → IsTurned s who place op (ends_pin es a handle n (suc k) answer)
     ends_short k answer is end refusal right =
         let same : run s (es ++ make_handle a handle ∷ []) ≡ ended = run_behind s es (make_handle a handle ∷ []) in
-        let within = fits.within in
         let many : length (t.taken a) ≡ got = ap (λ (ts : List Taken). length ts) same_taken in
         let some : t.taken a ≡ [] → ⊥ = some_taken (t.taken a) k (many ∙ is) in
         let right_then : IsAnswerOf (op_denial (plain_of s) (references_of s) who (suc k) op) (refusal_by_cause (cause_of answer)) = subst (λ (j : ℕ). IsAnswerOf (pin_denial want.write (s.right p (page + j))) (refusal_by_cause (cause_of answer))) is right in
@@ -331,7 +291,7 @@ module _ (s : CoreState) (who : Doer) (place : Place) (h : IsOpen s who.actor wh
         new = record { proc = p; page = here; frame = entry.frame; object = t.object p here; write = want.write; long = want.long }
 
         has_taken : HasTaken p page want got (t.taken a)
-        has_taken = subst (HasTaken p page want got) (sym same_taken) fits.has
+        has_taken = subst (HasTaken p page want got) (sym same_taken) has
 
         can_pin : Can t pinning_it
         can_pin = (
@@ -372,13 +332,14 @@ module _ (s : CoreState) (who : Doer) (place : Place) (h : IsOpen s who.actor wh
               shape = shape_from (run s (es ++ pinning_it ∷ [])) (Event (events.PinTry a p here want.write) ∷ []) from unbegun before (idle_place (run s (es ++ pinning_it ∷ [])) a (ap (λ (x : CoreState). x.job a) same ∙ led.job)) (page_shape less undenied);
               next = subst (λ (x : CoreState). FitsOp x who op (record place { far = place.far + 1; had = true })) (sym same)
                   (fits_on u (record place { far = place.far + 1; had = true }) (t.taken a ++ new ∷ []) idle now_taken led.job (record {
-                    had_none = λ none. absurd (omega (arith, many, none));
+                    had_none = λ never none. absurd (omega (arith, many, none));
                     had_some = λ some. refl;
                     least = omega (arith, many, least);
-                    most = subst (λ (k : ℕ). place.far + 1 ≤ pin_turns want.long k + 0) (sym many) (room_behind want.long got place.far over few most);
+                    most = subst (λ (k : ℕ). place.far + 1 ≤ walked + pin_turns want.long k + 0) (sym many) (room_behind walked want.long got place.far over few most);
                     within = omega (arith, many, less);
                     yet = handle_unmade;
                     has = subst (λ (k : ℕ). HasTaken p page want k (t.taken a ++ new ∷ [])) (sym many) more_taken;
+                    flag = λ walks some. ready.flag;
                     at = tt;
                   }));
               pin = subst (λ (x : CoreState). MakesPin s x a op) (sym same)
@@ -388,7 +349,7 @@ module _ (s : CoreState) (who : Doer) (place : Place) (h : IsOpen s who.actor wh
             page_shape : got + 1 < n → pin_denial want.write (s.right p here) ≡ None → TurnOf (plain_of s) (references_of s) who place op from (Event (events.PinTry a p here want.write) ∷ []) unbegun
             page_shape less undenied =
                 subst (λ (k : ℕ). TurnOf (plain_of s) (references_of s) who place op from (Event (events.PinTry a p (page + k) want.write) ∷ []) unbegun) got_here
-                (pinned_page handle page n want fast from tries (subst (λ (k : ℕ). k + 1 < n) (sym got_here) less) (room_page want.long got n place.far over few most less) (denied_here undenied))
+                (pinned_page handle page n want fast from slow tries (subst (λ (k : ℕ). k + 1 < n) (sym got_here) less) (room_page walked want.long got n place.far over few most less) (denied_here undenied))
 
         abbrev making_it : List CoreEvent
         making_it = pinning_it ∷ make_handle a handle ∷ []
@@ -410,14 +371,14 @@ module _ (s : CoreState) (who : Doer) (place : Place) (h : IsOpen s who.actor wh
               };
               shape = shape_from (run s (es ++ making_it)) (Event (events.PinTry a p here want.write) ∷ Event (events.PinOk a handle) ∷ Done (answers.Pinned n) ∷ []) from unbegun before (idle_place (run s (es ++ making_it)) a (ap (λ (x : CoreState). x.job a) same ∙ led.job))
                   (subst (λ (k : ℕ). TurnOf (plain_of s) (references_of s) who place op from (Event (events.PinTry a p (page + k) want.write) ∷ Event (events.PinOk a handle) ∷ Done (answers.Pinned n) ∷ []) unbegun) got_here
-                  (pinned_all handle page n want fast from tries (ap (λ (k : ℕ). k + 1) got_here ∙ last) (denied_here undenied)));
+                  (pinned_all handle page n want fast from slow tries (ap (λ (k : ℕ). k + 1) got_here ∙ last) (denied_here undenied)));
               next = subst (λ (x : CoreState). Rests x a) (sym same) (led.job, put_same a [] u.taken);
               pin = makes_it u (run s (es ++ making_it)) same (omega (arith, many)) (omega (arith, many, last));
             }
 
         pins_by : (last : Bool) → (got + 1 == n) ≡ last → pin_denial want.write (s.right p here) ≡ None → IsTurned s who place op (pins_behind es a p handle here n want last entry)
         pins_by true test undenied = pins_last (grind (arith, nat_tests)) undenied
-        pins_by false test undenied = let within = fits.within in pins_one (grind (arith, nat_tests, within)) undenied
+        pins_by false test undenied = pins_one (grind (arith, nat_tests, within)) undenied
 
   -- A page that is to be moved first is cleared.
   module _ (es : List CoreEvent) (ready : IsPinReady s a p handle here want es) (job : s.job a ≡ idle) (long : want.long ≡ true) (undenied : pin_denial want.write (s.right p here) ≡ None) where
@@ -444,9 +405,8 @@ module _ (s : CoreState) (who : Doer) (place : Place) (h : IsOpen s who.actor wh
         let behind : behind_it.job a ≡ moves = put_same a moves cleared_in.job in
         let free : pin_denial want.write (behind_it.right p here) ≡ None = ap (pin_denial want.write) ready.right ∙ undenied in
         let calm = stays_calm s a p p (of_pin handle) es led.kinds h.calm in
-        let within = fits.within in
         let least : got + 0 ≤ place.far = subst (λ (j : Job). got + turns_over j ≤ place.far) job fits.least in
-        let most : place.far ≤ pin_turns want.long got + 0 = subst (λ (j : Job). place.far ≤ pin_turns want.long got + turns_over j) job fits.most in
+        let most : place.far ≤ walked + pin_turns want.long got + 0 = subst (λ (j : Job). place.far ≤ most_over fast want.long n got j) job fits.most in
         let page_then : IsMovingPin behind_it a p here want gone = record {
           long = long;
           moving = record { birth = ready.birth; mapped = undenied_mapped want.write (behind_it.right p here) free; absent = put2_same p here None cleared_in.entry; locked = put_same p (Some a) cleared_in.table };
@@ -464,7 +424,7 @@ module _ (s : CoreState) (who : Doer) (place : Place) (h : IsOpen s who.actor wh
             told = told_behind es (clearing_it ∷ []) led.told;
           };
           shape = shape_from (run s (es ++ clearing_it ∷ [])) (Silent ∷ []) unbegun (moving_page here gone unread) (idle_place s a job) (ap (λ (x : CoreState). place_in x a) same ∙ stands_at behind_it moves behind)
-              (cleared_page handle page n want fast here gone long (λ no_page. none_over want.long got place.far (sym got_here ∙ no_page) most) (subst (λ (k : ℕ). k < n) (sym got_here) within) (room_move want.long got n place.far 0 long (omega arith) most within));
+              (cleared_page handle page n want fast here gone long slow (λ never no_page. none_over fast want.long n got place.far never (sym got_here ∙ no_page) most) (subst (λ (k : ℕ). k < n) (sym got_here) within) (room_move walked want.long got n place.far 0 long (omega arith) most within));
           next = subst (λ (x : CoreState). FitsOp x who op (record place { far = place.far + 1 })) (sym same)
               (fits_on behind_it (record place { far = place.far + 1 }) (s.taken a) moves (ap (λ (f : ℕ → List Taken). f a) led.taken) behind (record {
                 had_none = fits.had_none;
@@ -473,7 +433,8 @@ module _ (s : CoreState) (who : Doer) (place : Place) (h : IsOpen s who.actor wh
                 most = omega (arith, most);
                 within = within;
                 yet = ap (λ (f : ℕ → Handle). f handle) led.handles ∙ fits.yet;
-                has = fits.has;
+                has = has;
+                flag = λ walks some. ready.flag;
                 at = (refl, refl, refl, tt, page_then);
               }));
           pin = subst (λ (x : CoreState). MakesPin s x a op) (sym same)
@@ -485,8 +446,8 @@ module _ (s : CoreState) (who : Doer) (place : Place) (h : IsOpen s who.actor wh
     idle_least : got + 0 ≤ place.far
     idle_least = subst (λ (j : Job). got + turns_over j ≤ place.far) job fits.least
 
-    idle_most : place.far ≤ pin_turns want.long got + 0
-    idle_most = subst (λ (j : Job). place.far ≤ pin_turns want.long got + turns_over j) job fits.most
+    idle_most : place.far ≤ walked + pin_turns want.long got + 0
+    idle_most = subst (λ (j : Job). place.far ≤ most_over fast want.long n got j) job fits.most
 
     -- by the entry that the page has then
     pins_or_clears : (es : List CoreEvent) (ready : IsPinReady s a p handle here want es) (last : Bool) → (got + 1 == n) ≡ last → pin_denial want.write (s.right p here) ≡ None → (moves : Bool) → moves_first (run s es) want ready.allows.entry ≡ moves → IsTurned s who place op (clears_or_pins moves es a p handle here n want last ready.allows.entry)
@@ -551,14 +512,14 @@ module _ (s : CoreState) (who : Doer) (place : Place) (h : IsOpen s who.actor wh
           taken = refl;
         }
 
-    refused_first : (answer : Answer) → got ≡ 0 → RefusesPage answer → IsAnswerOf (pin_denial want.write (s.right p here)) answer → IsTurned s who place op (ends_pin (raises a p 0) a handle n 0 answer)
-    refused_first answer first refusal right =
+    refused_first : (answer : Answer) → fast ≡ false → got ≡ 0 → RefusesPage answer → IsAnswerOf (pin_denial want.write (s.right p here)) answer → IsTurned s who place op (ends_pin (raise_flag a p ∷ []) a handle n 0 answer)
+    refused_first answer never first refusal right =
         ends_none (raise_flag a p ∷ []) led_raised unbegun (idle_place s a job) 0 (few_idle want.long) idle_least idle_most answer first
-        (refused op answer (none_over want.long got place.far first idle_most, fits.had_none first) (refuses_pin handle page n want fast refusal) (at_once handle page n want fast refusal) (answered_here answer right) tt)
+        (refused op answer (none_over fast want.long n got place.far never first idle_most, fits.had_none never first) (refuses_pin handle page n want fast refusal) (at_once handle page n want fast refusal) never (answered_here answer right) tt)
 
-    first_by : (fault : Fault) → got ≡ 0 → LeadsTo raised a p here want.write (pin_denial want.write (s.right p here)) fault → IsTurned s who place op (pin_turn_by fault s a p handle here n 0 want)
-    first_by (Err answer) first to = refused_first answer first to.0 to.1
-    first_by (Ok es) first to =
+    first_by : (fault : Fault) → fast ≡ false → got ≡ 0 → LeadsTo raised a p here want.write (pin_denial want.write (s.right p here)) fault → IsTurned s who place op (pin_turn_by fault s a p handle here n 0 want false)
+    first_by (Err answer) never first to = refused_first answer never first to.0 to.1
+    first_by (Ok es) never first to =
         pins_here (raise_flag a p ∷ es) (ready_first es to.1 to.2) (0 + 1 == n) (ap (λ (k : ℕ). k + 1 == n) first) to.0
 
     -- a later one: the pages that are taken say that the flag is set
@@ -566,10 +527,10 @@ module _ (s : CoreState) (who : Doer) (place : Place) (h : IsOpen s who.actor wh
     flag_set : (k : ℕ) → got ≡ suc k → s.has_pinned p ≡ true
     flag_set k later =
         let first = first_taken (s.taken a) k later in
-        subst (λ (q : ℕ). s.has_pinned q ≡ true) (fits.has.each 0 first.0 first.1).0 (h.sound.1.taken_flag a 0 first.0 first.1)
+        subst (λ (q : ℕ). s.has_pinned q ≡ true) (has.each 0 first.0 first.1).0 (h.sound.1.taken_flag a 0 first.0 first.1)
 
-    ready_later : (k : ℕ) (es : List CoreEvent) → got ≡ suc k → IsReady s a p es → Allows (run s es) p here want.write → IsPinReady s a p handle here want es
-    ready_later k es later ready allows =
+    ready_later : (es : List CoreEvent) → s.has_pinned p ≡ true → IsReady s a p es → Allows (run s es) p here want.write → IsPinReady s a p handle here want es
+    ready_later es set ready allows =
         let left = pages_leave s a p p es (ready.kinds of_pages) in
         record {
           led = record {
@@ -583,7 +544,7 @@ module _ (s : CoreState) (who : Doer) (place : Place) (h : IsOpen s who.actor wh
             taken = left.taken;
           };
           birth = ready.birth;
-          flag = ap (λ (f : ℕ → Bool). f p) left.has_pinned ∙ flag_set k later;
+          flag = ap (λ (f : ℕ → Bool). f p) left.has_pinned ∙ set;
           right = ap (λ (f : ℕ → ℕ → Option Rights). f p here) ready.right;
           allows = allows;
         }
@@ -591,16 +552,37 @@ module _ (s : CoreState) (who : Doer) (place : Place) (h : IsOpen s who.actor wh
     led_none : IsPinLed s a p handle []
     led_none = record { kinds = tt; can = tt; rest = h.rest; job = job; told = refl; handles = refl; pinned = refl; taken = refl }
 
-    refused_later : (k : ℕ) (answer : Answer) → got ≡ suc k → RefusesPage answer → IsAnswerOf (pin_denial want.write (s.right p here)) answer → IsTurned s who place op (ends_pin (raises a p (suc k)) a handle n (suc k) answer)
+    refused_later : (k : ℕ) (answer : Answer) → got ≡ suc k → RefusesPage answer → IsAnswerOf (pin_denial want.write (s.right p here)) answer → IsTurned s who place op (ends_pin [] a handle n (suc k) answer)
     refused_later k answer later refusal right =
         let ends = ends_with want refusal in
         ends_short [] led_none unbegun (idle_place s a job) 0 (few_idle want.long) idle_least idle_most k answer later ends.0 ends.2
         (subst (IsAnswerOf (pin_denial want.write (s.right p here))) (sym ends.1) right)
 
-    later_by : (k : ℕ) (fault : Fault) → got ≡ suc k → LeadsTo s a p here want.write (pin_denial want.write (s.right p here)) fault → IsTurned s who place op (pin_turn_by fault s a p handle here n (suc k) want)
+    later_by : (k : ℕ) (fault : Fault) → got ≡ suc k → LeadsTo s a p here want.write (pin_denial want.write (s.right p here)) fault → IsTurned s who place op (pin_turn_by fault s a p handle here n (suc k) want fast)
     later_by k (Err answer) later to = refused_later k answer later to.0 to.1
     later_by k (Ok es) later to =
-        pins_here es (ready_later k es later to.1 to.2) (suc k + 1 == n) (ap (λ (j : ℕ). j + 1 == n) later) to.0
+        pins_here es (ready_later es (flag_set k later) to.1 to.2) (suc k + 1 == n) (ap (λ (j : ℕ). j + 1 == n) later) to.0
+
+    -- the first page of one that has walked, which has set the flag
+
+    walked_before : fast ≡ true → 0 < place.far
+    walked_before walks = subst (λ (b : Bool). IsSlowTurn b place.far) walks slow
+
+    refused_behind : (answer : Answer) → fast ≡ true → got ≡ 0 → RefusesPage answer → IsAnswerOf (pin_denial want.write (s.right p here)) answer → IsTurned s who place op (ends_pin [] a handle n 0 answer)
+    refused_behind answer walks first refusal right =
+        ends_none [] led_none unbegun (idle_place s a job) 0 (few_idle want.long) idle_least idle_most answer first
+        (subst (λ (b : Bool). TurnOf (plain_of s) (references_of s) who place (Pin handle page n want b) unbegun (Done answer ∷ []) unbegun) (sym walks)
+        (refused_slowly handle page n want answer (walked_before walks) (got_here ∙ first) (refuses_pin handle page n want true refusal) (known refusal) (at_once handle page n want true refusal) (answered_here answer right)))
+      where
+        known : {x : Answer} → RefusesPage x → x ≡ answers.Unborn → ⊥
+        known missing is = cc is
+        known forbidden is = cc is
+        known no_frame is = cc is
+
+    behind_by : (fault : Fault) → fast ≡ true → got ≡ 0 → LeadsTo s a p here want.write (pin_denial want.write (s.right p here)) fault → IsTurned s who place op (pin_turn_by fault s a p handle here n 0 want true)
+    behind_by (Err answer) walks first to = refused_behind answer walks first to.0 to.1
+    behind_by (Ok es) walks first to =
+        pins_here es (ready_later es (fits.flag walks (walked_before walks)) to.1 to.2) (0 + 1 == n) (ap (λ (k : ℕ). k + 1 == n) first) to.0
 
     -- the free frame that its turn takes, of the zones that the pin may have
     abbrev frame : Option ℕ
@@ -609,12 +591,16 @@ module _ (s : CoreState) (who : Doer) (place : Place) (h : IsOpen s who.actor wh
     is_free : IsFree s frame
     is_free = free_in_free s (zones_of want)
 
-    pin_by : (k : ℕ) → got ≡ k → waits_for_locks (locks_needed s a p op) a (s.structure p) (s.table p) ≡ None → IsTurned s who place op (pin_turn_by (pin_fault s a p here want.write frame) s a p handle here n k want)
-    pin_by zero is free = first_by (pin_fault s a p here want.write frame) is (pin_leads raised a p raised_may (both_free s a p h.sound job free) here frame is_free want.write)
+    none_by : (walks : Bool) → fast ≡ walks → got ≡ 0 → AreUnlocked s p → IsTurned s who place op (pin_turn_by (pin_fault s a p here want.write frame) s a p handle here n 0 want walks)
+    none_by false never is free = first_by (pin_fault s a p here want.write frame) never is (pin_leads raised a p raised_may free here frame is_free want.write)
+    none_by true walks is free = behind_by (pin_fault s a p here want.write frame) walks is (pin_leads s a p (may_fault s a p h job) free here frame is_free want.write)
+
+    pub pin_by : (k : ℕ) → got ≡ k → waits_for_locks both_locks a (s.structure p) (s.table p) ≡ None → IsTurned s who place op (pin_turn_by (pin_fault s a p here want.write frame) s a p handle here n k want fast)
+    pin_by zero is free = none_by fast refl is (both_free s a p h.sound job free)
     pin_by (suc k) is free = later_by k (pin_fault s a p here want.write frame) is (pin_leads s a p (may_fault s a p h job) (both_free s a p h.sound job free) here frame is_free want.write)
 
   -- Where it has cleared this page.
-  module _ (e : Entry) (over : ℕ) (least : got + over ≤ place.far) (most : place.far ≤ pin_turns want.long got + over) (at : IsMovingPin s a p here want e) where
+  module _ (e : Entry) (over : ℕ) (least : got + over ≤ place.far) (most : place.far ≤ walked + pin_turns want.long got + over) (at : IsMovingPin s a p here want e) where
     abbrev allowed : Allowed
     allowed = zones_of want
 
@@ -628,7 +614,6 @@ module _ (s : CoreState) (who : Doer) (place : Place) (h : IsOpen s who.actor wh
         let t : CoreState = happens s (count_moved a p here e allowed count) in
         let behind : t.job a ≡ moving p here e allowed (counted_as count) = put_same a (moving p here e allowed (counted_as count)) s.job in
         let was = at.moving in
-        let within = fits.within in
         let two = counted_over p here e allowed count in
         let stands : IsMovingPin t a p here want e = record {
           long = at.long;
@@ -647,7 +632,7 @@ module _ (s : CoreState) (who : Doer) (place : Place) (h : IsOpen s who.actor wh
             told = refl;
           };
           shape = shape_from t (Silent ∷ []) (moving_page here e unread) (moving_page here e (counted_as count)) (stands_at s (moving p here e allowed unread) job) (stands_at t (moving p here e allowed (counted_as count)) behind)
-              (counted_cleared handle page n want fast here e (counted_as count) (counted_read count) at.long (omega (arith, least, once)) (subst (λ (k : ℕ). k < n) (sym got_here) within) (room_move want.long got n place.far over at.long (omega (arith, once)) most within));
+              (counted_cleared handle page n want fast here e (counted_as count) (counted_read count) at.long (omega (arith, least, once)) (subst (λ (k : ℕ). k < n) (sym got_here) within) (room_move walked want.long got n place.far over at.long (omega (arith, once)) most within));
           next = fits_on t (record place { far = place.far + 1 }) (s.taken a) (moving p here e allowed (counted_as count)) refl behind (record {
             had_none = fits.had_none;
             had_some = fits.had_some;
@@ -655,7 +640,8 @@ module _ (s : CoreState) (who : Doer) (place : Place) (h : IsOpen s who.actor wh
             most = omega (arith, most, once, two);
             within = within;
             yet = fits.yet;
-            has = fits.has;
+            has = has;
+            flag = λ walks some. at.flag;
             at = (refl, refl, refl, counted_is count, stands);
           });
           pin = inl (refl, refl);
@@ -778,23 +764,9 @@ module _ (s : CoreState) (who : Doer) (place : Place) (h : IsOpen s who.actor wh
         (λ none. lacked_frame handle page n want fast here e at.long (begun twice) (got_here ∙ none) undenied) got refl
     places_by (Some f) found twice job = places f found job twice
 
-    moved_by : (count : Counted) → over ≡ turns_over (moving p here e allowed count) → s.job a ≡ moving p here e allowed count → IsTurned s who place op (moved_turn s a p handle here n got want e count)
+    pub moved_by : (count : Counted) → over ≡ turns_over (moving p here e allowed count) → s.job a ≡ moving p here e allowed count → IsTurned s who place op (moved_turn s a p handle here n got want e count)
     moved_by unread is job = counts is job
     moved_by one is job = places_by (free_in s allowed) refl is job
     moved_by (more count) is job =
         refuses_moved (more count) (answers.Unmovable count) is (λ same. cc same) job at.long (at.long, refl) refl
         (λ none. found_unmovable handle page n want fast here e count at.long (begun is) (got_here ∙ none) undenied) got refl
-
-  pin_in : (job : Job) → s.job a ≡ job → StandsAtPage s a p here want job → waits_for_locks (locks_needed s a p op) a (s.structure p) (s.table p) ≡ None → IsTurned s who place op (pin_turn_in s a p handle page n got want job)
-  pin_in idle is stands free = pin_by is got refl free
-  pin_in (moving q g e allowed count) is stands free =
-      let job : s.job a ≡ moving p here e (zones_of want) count = is ∙ ap (λ (k : ℕ). moving k g e allowed count) stands.0 ∙ ap (λ (k : ℕ). moving p k e allowed count) stands.1 ∙ ap (λ (zones : Allowed). moving p here e zones count) stands.2 in
-      moved_by e (turns_over (moving p here e (zones_of want) count))
-      (subst (λ (j : Job). got + turns_over j ≤ place.far) job fits.least)
-      (subst (λ (j : Job). place.far ≤ pin_turns want.long got + turns_over j) job fits.most)
-      stands.4 count refl job
-  pin_in job is stands free = absurd stands
-
-pub pin_turned : (s : CoreState) (who : Doer) (place : Place) → IsOpen s who.actor who.proc → (handle page n : ℕ) (want : Want) (fast : Bool) → IsOp (Pin handle page n want fast) → FitsOp s who (Pin handle page n want fast) place → waits_for_locks (locks_needed s who.actor who.proc (Pin handle page n want fast)) who.actor (s.structure who.proc) (s.table who.proc) ≡ None → IsTurned s who place (Pin handle page n want fast) (pin_turn s who.actor who.proc handle page n want)
-pin_turned s who place h handle page n want fast range fits free =
-    pin_in s who place h handle page n want fast range fits (s.job who.actor) refl fits.at free

@@ -14,7 +14,7 @@ use Rattle.gup_script.specs.declared.op.Op.{Op}
 use Rattle.gup_script.specs.declared.op.Op.TheVariants.{Unmap, Discard, Pin, Unpin, Transfer, Move, Fork, Exit}
 use Rattle.gup_script.specs.Script.{ScriptValue}
 use Rattle.gup_script.specs.Valid.{IsScript, IsOp}
-use Rattle.gup_spec_events.specs.State.{CoreState, Taken, Job, idle, moving, forking, between, counted, copying}
+use Rattle.gup_spec_events.specs.State.{CoreState, Taken, Job, idle, marking, moving, walking, forking, between, counted, copying}
 use Rattle.gup_spec_events.specs.Event.{bias}
 use Rattle.gup_spec_events.specs.Invariant.{Holds, entry_of_page, page_of_pin, got_as, got_frame, weight, frame_of, grabbed_frame}
 use Rattle.gup_law_base.specs.Sound.{IsSound}
@@ -22,8 +22,8 @@ use Rattle.gup_law_base.specs.Sound as sounds
 use Rattle.gup_spec_journal.specs.Denial.{References}
 use Rattle.gup_spec_journal.specs.Place.{Place, Doer, place_behind, ops_of, present_op, process_of, doer_of}
 use Rattle.gup_plain.specs.Pages.{mapped_pages}
-use Rattle.gup_spec_turns.specs.PinPlace.{IsNoPin, StandsAtPage, StandsPin, turns_over}
-use Rattle.gup_spec_turns.specs.Cost.{pin_turns}
+use Rattle.gup_spec_turns.specs.PinPlace.{IsNoPin, HasTaken, HasPages, IsWithin, StandsAtPage, StandsPin, most_over}
+use Rattle.gup_spec_turns.specs.Cost.{pin_turns, walk_turns}
 use Rattle.gup_spec_turns.specs.JobPlace.{JobPlace, StandsFork, StandsMove, KeepsNoJob}
 use Rattle.gup_law_turns.specs.Standing.{StandsHandle, back_in, IsStanding}
 use Rattle.gup_spec_turns.specs.Run.{turned, RunState, run_start, run_after, op_in, core_turn_in}
@@ -99,33 +99,43 @@ idle_stands job is = rw is (refl, refl)
 few_frame : (a : ℕ) (job : Job) → HoldsNoFrame job → HoldsFew a job
 few_frame a job none = (inl none.0, none.1)
 
--- a long pin keeps no walk's frame
-ungrabbed : (s : CoreState) (a p page : ℕ) (want : Want) (job : Job) → StandsAtPage s a p page want job → grabbed_frame job ≡ None
-ungrabbed s a p page want idle at = refl
-ungrabbed s a p page want (moving q g e allowed count) at = refl
-ungrabbed s a p page want job at = absurd at
+-- a slow pin keeps no walk's frame
+ungrabbed : (s : CoreState) (a p page n got : ℕ) (want : Want) (fast : Bool) (job : Job) → fast ≡ false → StandsAtPage s a p page n got want fast job → grabbed_frame job ≡ None
+ungrabbed s a p page n got want fast idle never at = refl
+ungrabbed s a p page n got want fast (moving q g e allowed count) never at = refl
+ungrabbed s a p page n got want fast (walking q write long sequence step) never at = absurd (let walks = at.walks in cc)
+ungrabbed s a p page n got want fast job never at = absurd at
 
--- a short pin is in the middle of nothing
-short_idle : (s : CoreState) (a p page : ℕ) (want : Want) (job : Job) → s.job a ≡ job → want.long ≡ false → StandsAtPage s a p page want job → s.job a ≡ idle
-short_idle s a p page want idle is short at = is
-short_idle s a p page want (moving q g e allowed count) is short at = absurd (let long = at.4.long in cc)
-short_idle s a p page want job is short at = absurd at
+-- a short pin that doesn't walk is in the middle of nothing
+short_idle : (s : CoreState) (a p page n got : ℕ) (want : Want) (fast : Bool) (job : Job) → s.job a ≡ job → want.long ≡ false → fast ≡ false → StandsAtPage s a p page n got want fast job → s.job a ≡ idle
+short_idle s a p page n got want fast idle is short never at = is
+short_idle s a p page n got want fast (moving q g e allowed count) is short never at = absurd (let long = at.4.long in cc)
+short_idle s a p page n got want fast (walking q write long sequence step) is short never at = absurd (let walks = at.walks in cc)
+short_idle s a p page n got want fast job is short never at = absurd at
 
-no_frame : (s : CoreState) (who : Doer) (op : Option Op) (place : Place) → ((o : Op) → op ≡ Some o → who.actor < 81) → FitsAt s who op place → HoldsFew who.actor (s.job who.actor)
-no_frame s who (Some (Pin handle page n want fast)) place few fits = (inr (few (Pin handle page n want fast) refl), ungrabbed s who.actor who.proc (page + length (s.taken who.actor)) want (s.job who.actor) fits.at)
-no_frame s who (Some (Move proc page zone)) place few fits = (inr (few (Move proc page zone) refl), (move_stands s who.actor who.proc page zone place (s.job who.actor) fits.2).1)
-no_frame s who (Some (Fork child)) place few fits = few_frame who.actor (s.job who.actor) (fork_stands s who.actor who.proc child place (s.job who.actor) (s.prepared who.actor) fits.1).1
-no_frame s who (Some Exit) place few fits = few_frame who.actor (s.job who.actor) (idle_stands (s.job who.actor) fits.0)
-no_frame s who op place few fits = few_frame who.actor (s.job who.actor) (idle_stands (s.job who.actor) fits.0.0)
+no_frame : (s : CoreState) (who : Doer) (op : Option Op) (place : Place) → ((o : Op) → op ≡ Some o → who.actor < 81) → ((o : Op) → op ≡ Some o → IsOp o) → FitsAt s who op place → HoldsFew who.actor (s.job who.actor)
+no_frame s who (Some (Pin handle page n want fast)) place few range fits = (inr (few (Pin handle page n want fast) refl), ungrabbed s who.actor who.proc (page + length (s.taken who.actor)) n (length (s.taken who.actor)) want fast (s.job who.actor) (range (Pin handle page n want fast) refl).3 fits.at)
+no_frame s who (Some (Move proc page zone)) place few range fits = (inr (few (Move proc page zone) refl), (move_stands s who.actor who.proc page zone place (s.job who.actor) fits.2).1)
+no_frame s who (Some (Fork child)) place few range fits = few_frame who.actor (s.job who.actor) (fork_stands s who.actor who.proc child place (s.job who.actor) (s.prepared who.actor) fits.1).1
+no_frame s who (Some Exit) place few range fits = few_frame who.actor (s.job who.actor) (idle_stands (s.job who.actor) fits.0)
+no_frame s who op place few range fits = few_frame who.actor (s.job who.actor) (idle_stands (s.job who.actor) fits.0.0)
 
 idle_job : (s : CoreState) (who : Doer) (op : Option Op) (place : Place) → KeepsNoJob op → FitsAt s who op place → s.job who.actor ≡ idle
-idle_job s who (Some (Pin handle page n want fast)) place short fits = short_idle s who.actor who.proc (page + length (s.taken who.actor)) want (s.job who.actor) refl short fits.at
+idle_job s who (Some (Pin handle page n want fast)) place short fits = short_idle s who.actor who.proc (page + length (s.taken who.actor)) n (length (s.taken who.actor)) want fast (s.job who.actor) refl short.0 short.1 fits.at
 idle_job s who (Some (Move proc page zone)) place no_fork fits = absurd no_fork
 idle_job s who (Some (Fork child)) place no_fork fits = absurd no_fork
 idle_job s who (Some Exit) place no_fork fits = fits.0
 idle_job s who op place no_fork fits = fits.0.0
 
 -- pins
+
+-- no more pages are taken than the pin has
+within_most : (n got : ℕ) (job : Job) → IsWithin n got job → got ≤ n
+within_most n got (walking q write long sequence step) within = within
+within_most n got idle within = omega (arith, within)
+within_most n got (marking q g f) within = omega (arith, within)
+within_most n got (moving q g e allowed count) within = omega (arith, within)
+within_most n got (forking q c done step) within = omega (arith, within)
 
 untaken : (s : CoreState) (who : Doer) (op : Option Op) (place : Place) → IsNoPin op → FitsAt s who op place → s.taken who.actor ≡ []
 untaken s who (Some (Pin handle page n want fast)) place no_pin fits = absurd no_pin
@@ -173,7 +183,7 @@ few_pins script valid r h =
         let fits : FitsOp r.core (doer_of script a (Some op)) op (r.places a) = subst (λ (o : Option Op). FitsAt r.core (doer_of script a o) o (r.places a)) pin.5 (h.fits a) in
         let range : IsOp op = op_is_op script valid a (r.places a).answered op pin.5 in
         let within = slice_get_within (r.core.taken a) k t there in
-        let one = fits.within in
+        let one = within_most pin.2 (length (r.core.taken (doer_of script a (Some op)).actor)) (r.core.job (doer_of script a (Some op)).actor) fits.within in
         let most = range.1 in
         let declared = has_ops_declared script a (r.places a).answered op pin.5 in
         let actors = valid.few_actors in
@@ -211,22 +221,31 @@ first_taken : (xs : List Taken) → 0 < length xs → (t : Taken) × (slice_get 
 first_taken [] some = absurd (omega (arith, some))
 first_taken (t ∷ xs) some = (t, refl)
 
-pin_flagged : (s : CoreState) (a p handle page n : ℕ) (want : Want) (place : Place) → IsSound s → FitsPin s a p handle page n want place (s.taken a) (s.job a) → (job : Job) → s.job a ≡ job → 0 < place.far → s.has_pinned p ≡ true
-pin_flagged s a p handle page n want place sound fits job is some = by_job job is (subst (StandsAtPage s a p (page + length (s.taken a)) want) is fits.at)
+pin_flagged : (s : CoreState) (a p handle page n : ℕ) (want : Want) (fast : Bool) (place : Place) → IsSound s → FitsPin s a p handle page n want fast place (s.taken a) (s.job a) → (walks : Bool) → fast ≡ walks → (job : Job) → s.job a ≡ job → 0 < place.far → s.has_pinned p ≡ true
+pin_flagged s a p handle page n want fast place sound fits true walks job is some = fits.flag walks some
+pin_flagged s a p handle page n want fast place sound fits false never job is some = by_job job is (subst (StandsAtPage s a p (page + length (s.taken a)) n (length (s.taken a)) want fast) is fits.at)
   where
-    by_pages : 0 < length (s.taken a) → s.has_pinned p ≡ true
-    by_pages any =
+    by_pages : HasTaken p page want (length (s.taken a)) (s.taken a) → 0 < length (s.taken a) → s.has_pinned p ≡ true
+    by_pages has any =
         let first = first_taken (s.taken a) any in
-        let proc = (fits.has.each 0 first.0 first.1).0 in
+        let proc = (has.each 0 first.0 first.1).0 in
         ap s.has_pinned (sym proc) ∙ sound.1.taken_flag a 0 first.0 first.1
 
-    by_job : (job : Job) → s.job a ≡ job → StandsAtPage s a p (page + length (s.taken a)) want job → s.has_pinned p ≡ true
-    by_job idle same at = by_pages (taken_some want.long (length (s.taken a)) place.far (subst (λ (j : Job). place.far ≤ pin_turns want.long (length (s.taken a)) + turns_over j) same fits.most) some)
+    idle_most : s.job a ≡ idle → place.far ≤ pin_turns want.long (length (s.taken a)) + 0
+    idle_most same =
+        let most = subst (λ (b : Bool). place.far ≤ walk_turns b n + pin_turns want.long (length (s.taken a)) + 0) never
+            (subst (λ (j : Job). place.far ≤ most_over fast want.long n (length (s.taken a)) j) same fits.most) in
+        omega (arith, most)
+
+    by_job : (job : Job) → s.job a ≡ job → StandsAtPage s a p (page + length (s.taken a)) n (length (s.taken a)) want fast job → s.has_pinned p ≡ true
+    by_job idle same at =
+        by_pages (subst (HasPages p page want (length (s.taken a)) (s.taken a)) same fits.has) (taken_some want.long (length (s.taken a)) place.far (idle_most same) some)
     by_job (moving q g e allowed count) same at = at.4.flag
+    by_job (walking q write long sequence step) same at = at.flag
     by_job job same at = absurd at
 
-pin_stands : (s : CoreState) (a p handle page n : ℕ) (want : Want) (place : Place) → FitsPin s a p handle page n want place (s.taken a) (s.job a) → StandsPin s a p handle page n want (length (s.taken a))
-pin_stands s a p handle page n want place fits = record { within = fits.within; yet = fits.yet; taken = fits.has; at = fits.at }
+pin_stands : (s : CoreState) (a p handle page n : ℕ) (want : Want) (fast : Bool) (place : Place) → FitsPin s a p handle page n want fast place (s.taken a) (s.job a) → StandsPin s a p handle page n want fast (length (s.taken a))
+pin_stands s a p handle page n want fast place fits = record { within = fits.within; yet = fits.yet; taken = fits.has; at = fits.at }
 
 -- what is published of core states
 abbrev pub Published : Type 0
@@ -259,7 +278,7 @@ is_standing published script valid r h =
       mapped = λ p page e is. entry_mapped s p page e k.sound (k.emptied p page) is (s.right p page) refl;
       counted = λ p page e is none. entry_counted s p page e k.sound is none;
       few_pages = λ p. few_mapped s p (k.few.mapped p) (k.few.pages p);
-      few_counts = few_counts s k.sound k.calm k.rest (λ a. no_frame s (doer_of script a (present_op script a (r.places a))) (present_op script a (r.places a)) (r.places a) (λ op is. few_actor a op is) (k.fits a)) k.emptied few (few_pins script valid r k) (λ handle got. let below = k.got handle got in let most = valid.few_handles in omega (arith, below, most));
+      few_counts = few_counts s k.sound k.calm k.rest (λ a. no_frame s (doer_of script a (present_op script a (r.places a))) (present_op script a (r.places a)) (r.places a) (λ op is. few_actor a op is) (λ op is. op_is_op script valid a (r.places a).answered op is) (k.fits a)) k.emptied few (few_pins script valid r k) (λ handle got. let below = k.got handle got in let most = valid.few_handles in omega (arith, below, most));
       few_forks = few_sequence (length script.processes) valid.few_processes s k.few;
       idle_jobs = λ a no_fork. idle_job s (doer_of script a (present_op script a (r.places a))) (present_op script a (r.places a)) (r.places a) no_fork (k.fits a);
       forks = λ a child is. (fork_stands s a (process_of script a) child (r.places a) (s.job a) (s.prepared a) (at a (Fork child) is).1).0;
@@ -267,9 +286,9 @@ is_standing published script valid r h =
       prepared = λ a f is. is_prepared s k.sound h.there a f is;
       keeps = λ a. (k.rest a).prepared;
       untaken = λ a no_pin. untaken s (doer_of script a (present_op script a (r.places a))) (present_op script a (r.places a)) (r.places a) no_pin (k.fits a);
-      pins = λ a handle page n want fast is. pin_stands s a (process_of script a) handle page n want (r.places a) (at a (Pin handle page n want fast) is);
+      pins = λ a handle page n want fast is. pin_stands s a (process_of script a) handle page n want fast (r.places a) (at a (Pin handle page n want fast) is);
       paced = λ a handle page n want fast is. (at a (Pin handle page n want fast) is).most;
-      flagged = λ a handle page n want fast is. pin_flagged s a (process_of script a) handle page n want (r.places a) k.sound (at a (Pin handle page n want fast) is) (s.job a) refl;
+      flagged = λ a handle page n want fast is. pin_flagged s a (process_of script a) handle page n want fast (r.places a) k.sound (at a (Pin handle page n want fast) is) fast refl (s.job a) refl;
       unpins = λ a handle is. unpin_short (back_in script r handle) (s.pinned handle) (s.handle handle) a (r.places a).far (k.handles handle) (at a (Unpin handle) is).2 (at a (Unpin handle) is).3;
       handles = k.handles;
       made = k.made;

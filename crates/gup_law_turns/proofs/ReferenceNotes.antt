@@ -12,7 +12,7 @@ use Rattle.gup_script.specs.Script.{ScriptValue}
 use Rattle.gup_script.specs.Valid.{IsScript}
 use Rattle.gup_script.specs.declared.op.Op.{Op}
 use Rattle.gup_script.specs.declared.op.Op.TheVariants.{Get, Put}
-use Rattle.gup_spec_events.specs.State.{CoreState}
+use Rattle.gup_spec_events.specs.State.{CoreState, WalkStep}
 use Rattle.gup_spec_events.specs.Event.{take_frame, fill, run}
 use Rattle.gup_spec_events.specs.Fault.{read_fault}
 use Rattle.gup_spec_journal.specs.Denial.{References, has_reference}
@@ -29,7 +29,7 @@ use Rattle.gup_law_turns.proofs.KeptParts.{leaves_got}
 use Rattle.gup_law_turns.proofs.NoteRightness.{references_stay, references_behind}
 use Rattle.gup_law_turns.proofs.Puts.{by_points}
 use Rattle.gup_law_turns.proofs.StandingStates.{Stands, IsTaken}
-use Rattle.gup_law_turns.proofs.TurnShapes.{references_of, TurnOf, refused, TurnAt, goes, child_of, strand_of}
+use Rattle.gup_law_turns.proofs.TurnShapes.{references_of, WalksTo, walked, TurnOf, refused, TurnAt, goes, child_of, strand_of}
 use Rattle.gup_law_turns.proofs.TurnSteps.{taken}
 
 -- a turn says nothing after an answer
@@ -39,8 +39,12 @@ EndsAtAnswer [] = Unit {0}
 EndsAtAnswer (Done answer ∷ whats) = whats ≡ []
 EndsAtAnswer (what ∷ whats) = EndsAtAnswer whats
 
+walk_ends : {s : PlainState} {who : Doer} {page n got sequence : ℕ} {write : Bool} {step : WalkStep} {whats : List What} {to : JobPlace} → WalksTo s who page n got write sequence step whats to → EndsAtAnswer whats
+walk_ends turn = search rules
+
 op_ends : {s : PlainState} {references : References} {who : Doer} {place : Place} {op : Op} {from to : JobPlace} {whats : List What} → TurnOf s references who place op from whats to → EndsAtAnswer whats
-op_ends (refused op answer first refusal at_once right passes) = refl
+op_ends (refused op answer first refusal at_once slow right passes) = refl
+op_ends (walked handle page n want sequence step whats to walk more free) = walk_ends walk
 op_ends turn = search rules
 
 turn_ends : {s : PlainState} {references : References} {who : Doer} {place : Place} {op : Option Op} {waiting : Option Waiting} {from to : JobPlace} {whats : List What} → TurnAt s references who place op waiting from whats to → EndsAtAnswer whats

@@ -48,7 +48,7 @@ module _ (s : CoreState) (who : Doer) (place : Place) (h : IsOpen s who.actor wh
   get_refused answer refusal right =
       record {
         done = record { kinds = tt; can = tt; rest = h.rest; told = refl };
-        shape = shape_idle s s who place (Get handle page) (Done answer ∷ []) rests.0 rests.0 (refused (Get handle page) answer first refusal tt right tt);
+        shape = shape_idle s s who place (Get handle page) (Done answer ∷ []) rests.0 rests.0 (refused (Get handle page) answer first refusal tt tt right tt);
         next = rests;
         pin = tt;
       }
@@ -100,7 +100,7 @@ module _ (s : CoreState) (who : Doer) (place : Place) (h : IsOpen s who.actor wh
         (record { ready = needs_none s a p may; unlocked = unlocked; there = rw is refl; got = refl; taken = refl })
     get_by None is = get_fills (s.right p page) (free_frame s) refl refl is
 
-pub get_turned : (s : CoreState) (who : Doer) (place : Place) → IsOpen s who.actor who.proc → (handle page : ℕ) → s.got handle ≡ None → FitsOp s who (Get handle page) place → waits_for_locks (locks_needed s who.actor who.proc (Get handle page)) who.actor (s.structure who.proc) (s.table who.proc) ≡ None → IsTurned s who place (Get handle page) (get_turn s who.actor who.proc handle page (s.entry who.proc page))
+pub get_turned : (s : CoreState) (who : Doer) (place : Place) → IsOpen s who.actor who.proc → (handle page : ℕ) → s.got handle ≡ None → FitsOp s who (Get handle page) place → waits_for_locks (locks_needed s who.actor who.proc place.far (Get handle page)) who.actor (s.structure who.proc) (s.table who.proc) ≡ None → IsTurned s who place (Get handle page) (get_turn s who.actor who.proc handle page (s.entry who.proc page))
 get_turned s who place h handle page ungot fits free =
     get_by s who place h fits.0 handle page fits.1 ungot (both_free s who.actor who.proc h.sound fits.0.0 free) (s.entry who.proc page) refl
 
@@ -115,7 +115,7 @@ put_by : (s : CoreState) (who : Doer) (place : Place) → IsQuiet s who.actor �
 put_by s who place h rests handle first false is =
     record {
       done = record { kinds = tt; can = tt; rest = h.rest; told = refl };
-      shape = shape_idle s s who place (Put handle) (Done answers.NotHeld ∷ []) rests.0 rests.0 (refused (Put handle) answers.NotHeld first refl tt (rw is refl) tt);
+      shape = shape_idle s s who place (Put handle) (Done answers.NotHeld ∷ []) rests.0 rests.0 (refused (Put handle) answers.NotHeld first refl tt tt (rw is refl) tt);
       next = rests;
       pin = tt;
     }

@@ -27,16 +27,17 @@ fresh_op : (t : CoreState) (who : Doer) (k : ℕ) (op : Op) → Rests t who.acto
 fresh_op t who k (Unmap page n) rests range births yet left = (rests, (let some : 1 ≤ n = range.0 in omega arith))
 fresh_op t who k (Discard page n) rests range births yet left = (rests, (let some : 1 ≤ n = range.0 in omega arith))
 fresh_op t who k (Pin handle page n want fast) rests range births yet left =
-    subst (λ (ts : List Taken). FitsPin t who.actor who.proc handle page n want (fresh_place k) ts (t.job who.actor)) (sym rests.1)
-    (subst (λ (j : Job). FitsPin t who.actor who.proc handle page n want (fresh_place k) [] j) (sym rests.0)
+    subst (λ (ts : List Taken). FitsPin t who.actor who.proc handle page n want fast (fresh_place k) ts (t.job who.actor)) (sym rests.1)
+    (subst (λ (j : Job). FitsPin t who.actor who.proc handle page n want fast (fresh_place k) [] j) (sym rests.0)
     (record {
-      had_none = λ none. refl;
+      had_none = λ never none. refl;
       had_some = λ some. absurd (omega (arith, some));
       least = omega arith;
       most = omega arith;
       within = let some : 1 ≤ n = range.0 in omega arith;
       yet = yet handle page n want fast refl;
       has = none_taken who.proc page want;
+      flag = λ walks some. absurd (omega (arith, some));
       at = tt;
     }))
 fresh_op t who k (Unpin handle) rests range births yet left = (rests, refl, (λ far. absurd (omega arith)), left handle)

@@ -17,7 +17,7 @@ use Rattle.gup_plain.specs.declared.note.Waiting.{Waiting}
 use Rattle.gup_script.specs.Script.{ScriptValue, Process, process_at}
 use Rattle.gup_script.specs.declared.op.Op.{Op}
 use Rattle.gup_script.specs.declared.op.Op.TheVariants.{Pin, Unpin, Get, Transfer, Fork, Exit, Move}
-use Rattle.gup_spec_events.specs.State.{CoreState, Job, idle, forking, between, counted, copying, plain_of, core_start, moving, Taken, pending_of}
+use Rattle.gup_spec_events.specs.State.{CoreState, Job, idle, forking, between, counted, copying, plain_of, core_start, moving, Taken, pending_of, walking}
 use Rattle.gup_spec_events.specs.Event.{run}
 use Rattle.gup_law_base.specs.Sound.{IsSound}
 use Rattle.gup_spec_journal.specs.Denial.{References}
@@ -484,9 +484,9 @@ module _ (script : ScriptValue) (valid : IsScript script) (r : RunState) (h : St
         subst₂ (λ (x : Handle) (xs : List ℕ). is_held_by x b ≡ true → (0 < length xs) × (length xs + far ≡ length (objects_of x))) (sym kept.handle) (sym kept.pinned) has is
 
     -- a long pin has locked it, too, and what it has found of its page stays
-    page_kept : Law → (page : ℕ) (want : Want) (job : Job) → s.job b ≡ job → StandsAtPage s b q page want job → StandsAtPage t b q page want job
-    page_kept law page want idle is at = at
-    page_kept law page want (moving u g e allowed count) is at =
+    page_kept : Law → (page n got : ℕ) (want : Want) (fast : Bool) (job : Job) → s.job b ≡ job → StandsAtPage s b q page n got want fast job → StandsAtPage t b q page n got want fast job
+    page_kept law page n got want fast idle is at = at
+    page_kept law page n got want fast (moving u g e allowed count) is at =
         let here = at.4 in
         let kept = pages_kept law q here.moving.locked in (
           at.0,
@@ -503,11 +503,20 @@ module _ (script : ScriptValue) (valid : IsScript script) (r : RunState) (h : St
             may = here.may;
           },
         )
-    page_kept law page want job is at = absurd at
+    page_kept law page n got want fast (walking u write long sequence step) is at =
+        record {
+          walks = at.walks;
+          of = at.of;
+          writes = at.writes;
+          keeps = at.keeps;
+          flag = stays_flagged s a p c q (strand_of op) turn.events turns.done.kinds at.flag;
+          here = at.here;
+        }
+    page_kept law page n got want fast job is at = absurd at
 
-    pin_kept : Law → (handle page n : ℕ) (want : Want) (its : Place) → t.handle handle ≡ unmade → FitsPin s b q handle page n want its (s.taken b) (s.job b) → FitsPin t b q handle page n want its (t.taken b) (t.job b)
-    pin_kept law handle page n want its yet fits =
-        subst₂ (FitsPin t b q handle page n want its) (sym taken_kept) (sym job_kept)
+    pin_kept : Law → (handle page n : ℕ) (want : Want) (fast : Bool) (its : Place) → t.handle handle ≡ unmade → FitsPin s b q handle page n want fast its (s.taken b) (s.job b) → FitsPin t b q handle page n want fast its (t.taken b) (t.job b)
+    pin_kept law handle page n want fast its yet fits =
+        subst₂ (FitsPin t b q handle page n want fast its) (sym taken_kept) (sym job_kept)
         (record {
           had_none = fits.had_none;
           had_some = fits.had_some;
@@ -516,12 +525,13 @@ module _ (script : ScriptValue) (valid : IsScript script) (r : RunState) (h : St
           within = fits.within;
           yet = yet;
           has = fits.has;
-          at = page_kept law (page + length (s.taken b)) want (s.job b) refl fits.at;
+          flag = λ walks some. stays_flagged s a p c q (strand_of op) turn.events turns.done.kinds (fits.flag walks some);
+          at = page_kept law (page + length (s.taken b)) n (length (s.taken b)) want fast (s.job b) refl fits.at;
         })
 
     op_kept : Law → (its : Place) (o : Option Op) → present_op script b its ≡ o → ((child : ℕ) → ForksAt script b its.answered child → its.far ≡ 0 → t.birth child ≡ unborn) → ((handle : ℕ) → MakesAt script b its.answered handle → t.handle handle ≡ unmade) → FitsAt s (doer_of script b o) o its → FitsAt t (doer_of script b o) o its
     op_kept law its (Some (Pin handle page n want fast)) is unforked yet fits =
-        pin_kept law handle page n want its (yet handle (Pin handle page n want fast, is, refl)) fits
+        pin_kept law handle page n want fast its (yet handle (Pin handle page n want fast, is, refl)) fits
     op_kept law its (Some (Unpin handle)) is unforked yet fits = (
       rests_kept fits.0,
       fits.1,

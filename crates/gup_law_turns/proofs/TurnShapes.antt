@@ -1,5 +1,5 @@
 -- The shapes of a turn: what its notes say, by the operation and the plain state before it.
-use Rattle.std.proofs.Common.{◌≡◌, ℕ, ◌+◌, ◌<◌, ◌≤◌, Bool, true, false, IsTrue, List, [], ◌∷◌, length, Option, Some, None, subst, arith}
+use Rattle.std.proofs.Common.{◌≡◌, ℕ, ◌+◌, ◌<◌, ◌≤◌, Bool, true, false, IsTrue, List, [], ◌∷◌, length, slice_get, Option, Some, None, subst, arith}
 use Rattle.gup_base.specs.Parts.{Part, words_of, word_at}
 use Rattle.gup_base.specs.declared.entry.Entry.{Entry}
 use Rattle.gup_base.specs.declared.entry.Rights.{Rights}
@@ -7,7 +7,7 @@ use Rattle.gup_base.specs.declared.entry.Want.{Want}
 use Rattle.gup_base.specs.declared.entry.Zone.{Zone}
 use Rattle.gup_plain.specs.Denial.{is_held_by, transfer_denial}
 use Rattle.gup_plain.specs.Event.{words}
-use Rattle.gup_plain.specs.State.{PlainState, born, failed, unmade, objects_of}
+use Rattle.gup_plain.specs.State.{PlainState, Pending, born, failed, unmade, objects_of}
 use Rattle.gup_plain.specs.declared.answer.Answer.{Answer}
 use Rattle.gup_plain.specs.declared.answer.Answer.TheVariants as answers
 use Rattle.gup_plain.specs.declared.answer.Cause.{Cause}
@@ -18,7 +18,7 @@ use Rattle.gup_plain.specs.declared.note.What.TheVariants.{Silent, Idle, Wait, E
 use Rattle.gup_plain.specs.declared.note.Waiting.{Waiting}
 use Rattle.gup_script.specs.declared.op.Op.{Op}
 use Rattle.gup_script.specs.declared.op.Op.TheVariants.{Map, Unmap, Protect, Discard, Load, Store, Pin, Unpin, Give, Take, Get, Put, Transfer, Fork, Exit, Move}
-use Rattle.gup_spec_events.specs.State.{CoreState, Job, idle, forking, copying, moving, Counted, unread, one, more, Taken}
+use Rattle.gup_spec_events.specs.State.{CoreState, Job, idle, forking, copying, moving, Counted, unread, one, more, Taken, WalkStep, entered, ready, read, grabbed, rechecked, differed, refused as refused_step, stopped, dropping}
 use Rattle.gup_spec_events.specs.Invariant.{AllCan}
 use Rattle.gup_spec_events.specs.Event.{run}
 use Rattle.gup_law_events.specs.Law.{all_told}
@@ -27,9 +27,9 @@ use Rattle.gup_spec_journal.specs.Place.{Place, Doer, birth_for}
 use Rattle.gup_spec_journal.specs.Plain.{IsAnswerOf, pages_got, refusal_by_cause}
 use Rattle.gup_spec_journal.specs.Thorough.{Passes}
 use Rattle.gup_spec_journal.specs.Follows.{refuses, EndsPin, moves_word}
-use Rattle.gup_spec_turns.specs.JobPlace.{JobPlace, KeepsFrame, StandsFork, StandsMove, unbegun, from_page, at_page, wants_frame, at_word, moving_page}
-use Rattle.gup_spec_turns.specs.PinPlace.{HasTaken, StandsAtPage, turns_over}
-use Rattle.gup_spec_turns.specs.Cost.{move_turns, pin_turns}
+use Rattle.gup_spec_turns.specs.JobPlace.{JobPlace, KeepsFrame, StandsFork, StandsMove, unbegun, from_page, at_page, wants_frame, at_word, moving_page, in_walk}
+use Rattle.gup_spec_turns.specs.PinPlace.{HasPages, StandsAtPage, IsWithin, turns_over, most_over}
+use Rattle.gup_spec_turns.specs.Cost.{move_turns, pins_turns}
 use Rattle.gup_spec_turns.specs.CoreTurn.{CoreTurn}
 use Rattle.gup_spec_turns.specs.PinTurns.{got_by}
 use Rattle.gup_law_turns.proofs.EventLists.{events_of}
@@ -79,24 +79,26 @@ HasLeft s a handle back =
     is_held_by (s.handle handle) a ≡ true
     → (0 < length (s.pinned handle)) × (length (s.pinned handle) + back ≡ length (objects_of (s.handle handle)))
 
--- Where a pin may stand, by the pages that it has taken and its actor's job. It had an event exactly if it has taken a page, and
--- of its turns no fewer are over than pages, and no more than these and the page that it is in the middle of take.
-pub record FitsPin (s : CoreState) (a p handle page n : ℕ) (want : Want) (place : Place) (taken : List Taken) (job : Job) : Type 0 where
-  pub had_none : length taken ≡ 0 → place.had ≡ false
+-- Where a pin may stand, by the pages that it has taken and its actor's job. It had an event if it has taken a page, and if it
+-- doesn't walk only then; of its turns no fewer are over than pages, and no more than these, its walk and the page that it is in
+-- the middle of take.
+pub record FitsPin (s : CoreState) (a p handle page n : ℕ) (want : Want) (fast : Bool) (place : Place) (taken : List Taken) (job : Job) : Type 0 where
+  pub had_none : fast ≡ false → length taken ≡ 0 → place.had ≡ false
   pub had_some : 0 < length taken → place.had ≡ true
   pub least : length taken + turns_over job ≤ place.far
-  pub most : place.far ≤ pin_turns want.long (length taken) + turns_over job
-  pub within : length taken < n
+  pub most : place.far ≤ most_over fast want.long n (length taken) job
+  pub within : IsWithin n (length taken) job
   pub yet : s.handle handle ≡ unmade
-  pub has : HasTaken p page want (length taken) taken
-  pub at : StandsAtPage s a p (page + length taken) want job
+  pub has : HasPages p page want (length taken) taken job
+  pub flag : fast ≡ true → 0 < place.far → s.has_pinned p ≡ true
+  pub at : StandsAtPage s a p (page + length taken) n (length taken) want fast job
 
 -- where whoever does it may stand in its present operation
 abbrev pub FitsOp : CoreState → Doer → Op → Place → Type 0
 FitsOp s who (Unmap page n) place = Rests s who.actor × (place.far < n)
 FitsOp s who (Discard page n) place = Rests s who.actor × (place.far < n)
 FitsOp s who (Pin handle page n want fast) place =
-    FitsPin s who.actor who.proc handle page n want place (s.taken who.actor) (s.job who.actor)
+    FitsPin s who.actor who.proc handle page n want fast place (s.taken who.actor) (s.job who.actor)
 FitsOp s who (Unpin handle) place =
     Rests s who.actor × (place.had ≡ false) × (0 < place.far → is_held_by (s.handle handle) who.actor ≡ true)
     × HasLeft s who.actor handle place.far
@@ -128,6 +130,11 @@ IsOfProcess (Take handle) = ⊥
 IsOfProcess (Transfer handle outward slot parts) = ⊥
 IsOfProcess op = Unit {0}
 
+-- no pin that walks
+abbrev pub IsAlwaysSlow : Op → Type 0
+IsAlwaysSlow (Pin handle page n want fast) = fast ≡ false
+IsAlwaysSlow op = Unit {0}
+
 -- the refusal comes in the operation's first turn: all do but those of a move and of a long pin that have counted
 abbrev pub IsAtOnce : Op → Answer → Type 0
 IsAtOnce (Pin handle page n want fast) (answers.Unmovable count) = ⊥
@@ -135,11 +142,16 @@ IsAtOnce (Move proc page zone) (answers.Busy count) = ⊥
 IsAtOnce (Move proc page zone) answers.NoFrame = ⊥
 IsAtOnce op answer = Unit {0}
 
--- from where a pin stands its next turn may pin a page
+-- from where a pin stands its next slow turn may pin a page
 abbrev pub TriesAt : Want → JobPlace → Type 0
 TriesAt want unbegun = Unit {0}
 TriesAt want (moving_page g e one) = want.long ≡ true
 TriesAt want at = ⊥
+
+-- a pin that walks goes slowly only after its walk
+abbrev pub IsSlowTurn : (fast : Bool) → (far : ℕ) → Type 0
+IsSlowTurn true far = 0 < far
+IsSlowTurn false far = Unit {0}
 
 -- or refuse it so
 abbrev pub RefusesAt : Want → JobPlace → Answer → Type 0
@@ -149,11 +161,39 @@ RefusesAt want (moving_page g e one) answers.NoFrame = want.long ≡ true
 RefusesAt want (moving_page g e (more count)) (answers.Unmovable c) = (want.long ≡ true) × (c ≡ count)
 RefusesAt want at answer = ⊥
 
+-- pages that are pending, one after another, the first of them this one
+abbrev pub AreFrom : (page : ℕ) → List Pending → Type 0
+AreFrom page pending = (k : ℕ) (t : Pending) → slice_get pending k ≡ Some t → t.page ≡ page + k
+
+-- The turns of the walk of a pin that has got so many pages, by the step at which it stands: what their notes say, and where it
+-- stands then.
+pub data WalksTo (s : PlainState) (who : Doer) (page n got : ℕ) (write : Bool) (sequence : ℕ) : WalkStep → List What → JobPlace → Type 0 where
+  -- the sequence: a fork runs, or the first page is next
+  found_fork : WalksTo s who page n got write sequence entered (Silent ∷ []) unbegun
+  found_sequence : (now : ℕ) → WalksTo s who page n got write sequence entered (Silent ∷ []) (in_walk now ready)
+  -- a page: its entry is right, its frame is grabbed, its entry is the same, and its frame is marked; or the walk stops
+  found_entry : (g : ℕ) (e : Entry) → got < n → WalksTo s who page n got write sequence ready (Silent ∷ []) (in_walk sequence (read g e))
+  found_wrong : got < n → WalksTo s who page n got write sequence ready (Silent ∷ []) (in_walk sequence stopped)
+  grabbed_frame : (g : ℕ) (e : Entry) → got < n → WalksTo s who page n got write sequence (read g e) (Silent ∷ []) (in_walk sequence (grabbed g e))
+  found_free : (g : ℕ) (e : Entry) → got < n → WalksTo s who page n got write sequence (read g e) (Silent ∷ []) (in_walk sequence stopped)
+  took_page : (g : ℕ) (e : Entry) → got < n → WalksTo s who page n got write sequence (grabbed g e) (Event (events.PinTry who.actor who.proc (page + got) write) ∷ []) (in_walk sequence (rechecked g e))
+  found_other : (g : ℕ) (e : Entry) → got < n → WalksTo s who page n got write sequence (grabbed g e) (Silent ∷ []) (in_walk sequence (differed e.frame))
+  found_mark : (g : ℕ) (e : Entry) → 0 < got → WalksTo s who page n got write sequence (rechecked g e) (Silent ∷ []) (in_walk sequence ready)
+  found_unmarked : (g : ℕ) (e : Entry) → 0 < got → WalksTo s who page n got write sequence (rechecked g e) (Silent ∷ []) (in_walk sequence refused_step)
+  dropped_frame : (f : ℕ) → got < n → WalksTo s who page n got write sequence (differed f) (Silent ∷ []) (in_walk sequence stopped)
+  dropped_page : (g : ℕ) → g + 1 ≡ page + got → 0 < got → got ≤ n → AreFrom page (s.pending who.actor) → WalksTo s who page n got write sequence refused_step (Event (events.PinDrop who.actor g) ∷ []) (in_walk sequence stopped)
+  -- the sequence again: it is as it was, or all pages are dropped
+  found_same : got < n → WalksTo s who page n got write sequence stopped (Silent ∷ []) unbegun
+  found_changed : got < n → 0 < got → AreFrom page (s.pending who.actor) → WalksTo s who page n got write sequence stopped (Silent ∷ []) (in_walk sequence dropping)
+  lost_all : got ≡ n → 0 < got → AreFrom page (s.pending who.actor) → WalksTo s who page n got write sequence ready (Silent ∷ []) (in_walk sequence dropping)
+  dropped_first : (g : ℕ) → 1 < got → AreFrom g (s.pending who.actor) → WalksTo s who page n got write sequence dropping (Event (events.PinDrop who.actor g) ∷ []) (in_walk sequence dropping)
+  dropped_last : (g : ℕ) → got ≡ 1 → AreFrom g (s.pending who.actor) → WalksTo s who page n got write sequence dropping (Event (events.PinDrop who.actor g) ∷ []) unbegun
+
 -- The turns of an operation that stands at this place, of a device or of a born process; a fork, a move and a long pin go from where they
 -- stand to where they stand then.
 pub data TurnOf (s : PlainState) (references : References) (who : Doer) (place : Place) : Op → JobPlace → List What → JobPlace → Type 0 where
   -- its only turn: it is refused, or has its event
-  refused : (op : Op) (answer : Answer) → AtFirst place → IsTrue (refuses op answer) → IsAtOnce op answer → IsAnswerOf (op_denial s references who (pages_got s who.actor) op) answer → Passes s who.proc op place.far → TurnOf s references who place op unbegun (Done answer ∷ []) unbegun
+  refused : (op : Op) (answer : Answer) → AtFirst place → IsTrue (refuses op answer) → IsAtOnce op answer → IsAlwaysSlow op → IsAnswerOf (op_denial s references who (pages_got s who.actor) op) answer → Passes s who.proc op place.far → TurnOf s references who place op unbegun (Done answer ∷ []) unbegun
   mapped : (page n : ℕ) (rights : Rights) → AtFirst place → op_denial s references who (pages_got s who.actor) (Map page n rights) ≡ None → TurnOf s references who place (Map page n rights) unbegun (Event (events.Map who.actor who.proc page n rights) ∷ Done answers.Plain ∷ []) unbegun
   protected : (page n : ℕ) (rights : Rights) → AtFirst place → op_denial s references who (pages_got s who.actor) (Protect page n rights) ≡ None → TurnOf s references who place (Protect page n rights) unbegun (Event (events.Protect who.actor who.proc page n rights) ∷ Done answers.Plain ∷ []) unbegun
   loaded : (page word value : ℕ) → AtFirst place → op_denial s references who (pages_got s who.actor) (Load page word) ≡ None → TurnOf s references who place (Load page word) unbegun (Event (events.Load who.actor who.proc page word value) ∷ Done (answers.Value value) ∷ []) unbegun
@@ -172,13 +212,18 @@ pub data TurnOf (s : PlainState) (references : References) (who : Doer) (place :
   took_lowest : (page : ℕ) → ((g : ℕ) → g < page → s.right who.proc g ≡ None) → TurnOf s references who place Exit unbegun (Event (events.Unmap who.actor who.proc page) ∷ []) unbegun
   took_all : ((g : ℕ) → s.right who.proc g ≡ None) → TurnOf s references who place Exit unbegun (Done answers.Plain ∷ []) unbegun
   -- a pin: one page of several, the last one, or one that is refused; before that a long pin may clear the page, and count
-  cleared_page : (handle page n : ℕ) (want : Want) (fast : Bool) (g : ℕ) (e : Entry) → want.long ≡ true → (pages_got s who.actor ≡ 0 → place.far ≡ 0) → pages_got s who.actor < n → place.far + 1 < pin_turns want.long n → TurnOf s references who place (Pin handle page n want fast) unbegun (Silent ∷ []) (moving_page g e unread)
-  counted_cleared : (handle page n : ℕ) (want : Want) (fast : Bool) (g : ℕ) (e : Entry) (count : Counted) → (count ≡ unread → ⊥) → want.long ≡ true → 0 < place.far → pages_got s who.actor < n → place.far + 1 < pin_turns want.long n → TurnOf s references who place (Pin handle page n want fast) (moving_page g e unread) (Silent ∷ []) (moving_page g e count)
+  cleared_page : (handle page n : ℕ) (want : Want) (fast : Bool) (g : ℕ) (e : Entry) → want.long ≡ true → IsSlowTurn fast place.far → (fast ≡ false → pages_got s who.actor ≡ 0 → place.far ≡ 0) → pages_got s who.actor < n → place.far + 1 < pins_turns fast want.long n → TurnOf s references who place (Pin handle page n want fast) unbegun (Silent ∷ []) (moving_page g e unread)
+  counted_cleared : (handle page n : ℕ) (want : Want) (fast : Bool) (g : ℕ) (e : Entry) (count : Counted) → (count ≡ unread → ⊥) → want.long ≡ true → 0 < place.far → pages_got s who.actor < n → place.far + 1 < pins_turns fast want.long n → TurnOf s references who place (Pin handle page n want fast) (moving_page g e unread) (Silent ∷ []) (moving_page g e count)
   lacked_frame : (handle page n : ℕ) (want : Want) (fast : Bool) (g : ℕ) (e : Entry) → want.long ≡ true → 0 < place.far → pages_got s who.actor ≡ 0 → op_denial s references who (pages_got s who.actor) (Pin handle page n want fast) ≡ None → TurnOf s references who place (Pin handle page n want fast) (moving_page g e one) (Done answers.NoFrame ∷ []) unbegun
   found_unmovable : (handle page n : ℕ) (want : Want) (fast : Bool) (g : ℕ) (e : Entry) (count : ℕ) → want.long ≡ true → 0 < place.far → pages_got s who.actor ≡ 0 → op_denial s references who (pages_got s who.actor) (Pin handle page n want fast) ≡ None → TurnOf s references who place (Pin handle page n want fast) (moving_page g e (more count)) (Done (answers.Unmovable count) ∷ []) unbegun
-  pinned_page : (handle page n : ℕ) (want : Want) (fast : Bool) (from : JobPlace) → TriesAt want from → pages_got s who.actor + 1 < n → place.far + 1 < pin_turns want.long n → op_denial s references who (pages_got s who.actor) (Pin handle page n want fast) ≡ None → TurnOf s references who place (Pin handle page n want fast) from (Event (events.PinTry who.actor who.proc (page + pages_got s who.actor) want.write) ∷ []) unbegun
-  pinned_all : (handle page n : ℕ) (want : Want) (fast : Bool) (from : JobPlace) → TriesAt want from → pages_got s who.actor + 1 ≡ n → op_denial s references who (pages_got s who.actor) (Pin handle page n want fast) ≡ None → TurnOf s references who place (Pin handle page n want fast) from (Event (events.PinTry who.actor who.proc (page + pages_got s who.actor) want.write) ∷ Event (events.PinOk who.actor handle) ∷ Done (answers.Pinned n) ∷ []) unbegun
+  pinned_page : (handle page n : ℕ) (want : Want) (fast : Bool) (from : JobPlace) → IsSlowTurn fast place.far → TriesAt want from → pages_got s who.actor + 1 < n → place.far + 1 < pins_turns fast want.long n → op_denial s references who (pages_got s who.actor) (Pin handle page n want fast) ≡ None → TurnOf s references who place (Pin handle page n want fast) from (Event (events.PinTry who.actor who.proc (page + pages_got s who.actor) want.write) ∷ []) unbegun
+  pinned_all : (handle page n : ℕ) (want : Want) (fast : Bool) (from : JobPlace) → IsSlowTurn fast place.far → TriesAt want from → pages_got s who.actor + 1 ≡ n → op_denial s references who (pages_got s who.actor) (Pin handle page n want fast) ≡ None → TurnOf s references who place (Pin handle page n want fast) from (Event (events.PinTry who.actor who.proc (page + pages_got s who.actor) want.write) ∷ Event (events.PinOk who.actor handle) ∷ Done (answers.Pinned n) ∷ []) unbegun
   pinned_short : (handle page n : ℕ) (want : Want) (fast : Bool) (got : ℕ) (cause : Cause) (from : JobPlace) → place.had ≡ true → pages_got s who.actor ≡ got → 0 < got → got < n → EndsPin want cause → RefusesAt want from (refusal_by_cause cause) → IsAnswerOf (op_denial s references who got (Pin handle page n want fast)) (refusal_by_cause cause) → TurnOf s references who place (Pin handle page n want fast) from (Event (events.PinOk who.actor handle) ∷ Done (answers.Short got n cause) ∷ []) unbegun
+  -- a pin that walks: it begins, goes from step to step, keeps all pages, or is refused behind its walk
+  began_walk : (handle page n : ℕ) (want : Want) → AtFirst place → 1 < pins_turns true want.long n → TurnOf s references who place (Pin handle page n want true) unbegun (Silent ∷ []) (in_walk 0 entered)
+  walked : (handle page n : ℕ) (want : Want) (sequence : ℕ) (step : WalkStep) (whats : List What) (to : JobPlace) → WalksTo s who page n (pages_got s who.actor) want.write sequence step whats to → place.far + 1 < pins_turns true want.long n → (place.had ≡ false → op_denial s references who (pages_got s who.actor) (Pin handle page n want true) ≡ None) → TurnOf s references who place (Pin handle page n want true) (in_walk sequence step) whats to
+  kept_all : (handle page n : ℕ) (want : Want) (sequence : ℕ) → pages_got s who.actor ≡ n → place.had ≡ true → TurnOf s references who place (Pin handle page n want true) (in_walk sequence ready) (Event (events.PinOk who.actor handle) ∷ Done (answers.Pinned n) ∷ []) unbegun
+  refused_slowly : (handle page n : ℕ) (want : Want) (answer : Answer) → 0 < place.far → pages_got s who.actor ≡ 0 → IsTrue (refuses (Pin handle page n want true) answer) → (answer ≡ answers.Unborn → ⊥) → IsAtOnce (Pin handle page n want true) answer → IsAnswerOf (op_denial s references who (pages_got s who.actor) (Pin handle page n want true)) answer → TurnOf s references who place (Pin handle page n want true) unbegun (Done answer ∷ []) unbegun
   -- an unpin: one page of several, and the last one
   unpinned_page : (handle : ℕ) → op_denial s references who (pages_got s who.actor) (Unpin handle) ≡ None → place.far + 1 < length (objects_of (s.handle handle)) → TurnOf s references who place (Unpin handle) unbegun (Silent ∷ []) unbegun
   unpinned_last : (handle : ℕ) → place.had ≡ false → op_denial s references who (pages_got s who.actor) (Unpin handle) ≡ None → place.far + 1 ≡ length (objects_of (s.handle handle)) → TurnOf s references who place (Unpin handle) unbegun (Event (events.Unpin who.actor handle) ∷ Done answers.Plain ∷ []) unbegun

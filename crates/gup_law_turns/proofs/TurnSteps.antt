@@ -15,7 +15,7 @@ use Rattle.gup_script.specs.declared.op.Kind.{Kind}
 use Rattle.gup_script.specs.declared.op.Kind.TheVariants.{Thread, Device, Mover}
 use Rattle.gup_script.specs.declared.op.Op.{Op}
 use Rattle.gup_script.specs.declared.op.Op.TheVariants.{Map, Unmap, Protect, Discard, Load, Store, Pin, Unpin, Give, Take, Get, Put, Transfer, Fork, Exit, Move}
-use Rattle.gup_spec_events.specs.State.{CoreState, Job, idle, forking, plain_of, moving, unread, one, more}
+use Rattle.gup_spec_events.specs.State.{CoreState, Job, idle, forking, plain_of, moving, unread, one, more, walking}
 use Rattle.gup_spec_events.specs.Event.{run}
 use Rattle.gup_spec_journal.specs.Follows.{refuses}
 use Rattle.gup_spec_journal.specs.Order.{handle_waits}
@@ -32,7 +32,8 @@ use Rattle.gup_law_turns.proofs.ForkOps.{IsEmptied, fork_turned, fork_emptied}
 use Rattle.gup_law_turns.proofs.MoveOps.{move_turned}
 use Rattle.gup_law_turns.proofs.HandleOps.{unpin_turned, give_turned, take_turned, transfer_turned}
 use Rattle.gup_law_turns.proofs.PageOps.{map_turned, unmap_turned, load_turned, store_turned, protect_turned, discard_turned, exit_turned}
-use Rattle.gup_law_turns.proofs.PinOps.{none_taken, pin_turned}
+use Rattle.gup_law_turns.proofs.PinOps.{none_taken}
+use Rattle.gup_law_turns.proofs.WalkOps.{pin_turned}
 use Rattle.gup_law_turns.proofs.Puts.{some_same}
 use Rattle.gup_law_turns.proofs.ReferenceOps.{get_turned, put_turned}
 use Rattle.gup_law_turns.proofs.ScriptLemmas.{FitsIn, op_is_op, op_fits_kind, thread_birth, few_slots, has_own_process}
@@ -91,7 +92,7 @@ record CanTake (s : CoreState) (who : Doer) (place : Place) (op : Op) : Type 0 w
   slots : who.slots ≤ most_slots
   ungot : (handle : ℕ) → made_by op ≡ Some handle → s.got handle ≡ None
   fits : FitsOp s who op place
-  free : waits_born s who.actor who.proc op ≡ None
+  free : waits_born s who.actor who.proc place.far op ≡ None
 
 module _ (s : CoreState) (who : Doer) (place : Place) (quiet : IsQuiet s who.actor) where
   opened : s.birth who.proc ≡ born → IsOpen s who.actor who.proc
@@ -131,17 +132,18 @@ module _ (s : CoreState) (who : Doer) (place : Place) (first : place.far ≡ 0) 
   idle_move proc page zone (moving q g e allowed count) is fits = absurd (let more = has_begun g place.far e count fits.0 in omega (arith, more, first))
   idle_move proc page zone job is fits = absurd fits
 
-  idle_pin : (page : ℕ) (want : Want) (job : Job) → s.job who.actor ≡ job → StandsAtPage s who.actor who.proc page want job → turns_over job ≡ 0 → s.job who.actor ≡ idle
-  idle_pin page want idle is at none = is
-  idle_pin page want (moving q g e allowed unread) is at none = absurd (omega (arith, none))
-  idle_pin page want (moving q g e allowed one) is at none = absurd (omega (arith, none))
-  idle_pin page want (moving q g e allowed (more count)) is at none = absurd (omega (arith, none))
-  idle_pin page want job is at none = absurd at
+  idle_pin : (page n got : ℕ) (want : Want) (fast : Bool) (job : Job) → s.job who.actor ≡ job → StandsAtPage s who.actor who.proc page n got want fast job → turns_over job ≡ 0 → s.job who.actor ≡ idle
+  idle_pin page n got want fast idle is at none = is
+  idle_pin page n got want fast (moving q g e allowed unread) is at none = absurd (omega (arith, none))
+  idle_pin page n got want fast (moving q g e allowed one) is at none = absurd (omega (arith, none))
+  idle_pin page n got want fast (moving q g e allowed (more count)) is at none = absurd (omega (arith, none))
+  idle_pin page n got want fast (walking q write long sequence step) is at none = absurd (omega (arith, none))
+  idle_pin page n got want fast job is at none = absurd at
 
   rests_first : (op : Op) → FitsOp s who op place → Rests s who.actor
   rests_first (Pin handle page n want fast) fits =
       let least = fits.least in
-      (idle_pin (page + length (s.taken who.actor)) want (s.job who.actor) refl fits.at (omega (arith, least, first)), none_taken (s.taken who.actor) (omega (arith, least, first)))
+      (idle_pin (page + length (s.taken who.actor)) n (length (s.taken who.actor)) want fast (s.job who.actor) refl fits.at (omega (arith, least, first)), none_taken (s.taken who.actor) (omega (arith, least, first)))
   rests_first (Move proc page zone) fits = (idle_move proc page zone (s.job who.actor) refl fits.2, fits.0)
   rests_first (Fork child) fits = ((idle_fork child (s.job who.actor) refl fits.1).0, fits.0)
   rests_first Exit fits = fits
@@ -202,7 +204,7 @@ record IsKnown (s : CoreState) (who : Doer) (place : Place) (op : Option Op) : T
 
 module _ (s : CoreState) (who : Doer) (place : Place) (quiet : IsQuiet s who.actor) (op : Op) (h : IsKnown s who place (Some op)) where
   -- of a born process, or of a device
-  born_step : birth_for s.birth who ≡ born → waits_born s who.actor who.proc op ≡ None → IsTaken s who place (Some op) None (op_turn s who.actor who.proc who.slots place.far op)
+  born_step : birth_for s.birth who ≡ born → waits_born s who.actor who.proc place.far op ≡ None → IsTaken s who place (Some op) None (op_turn s who.actor who.proc who.slots place.far op)
   born_step birth free =
       let own_birth : IsOfProcess op → s.birth who.proc ≡ born = λ own. sym (thread_birth who s.birth (h.thread op refl own)) ∙ birth in
       let turn : CoreTurn = op_turn s who.actor who.proc who.slots place.far op in
@@ -230,13 +232,13 @@ module _ (s : CoreState) (who : Doer) (place : Place) (quiet : IsQuiet s who.act
       by_far (suc far) is = absurd (not_failed (h.begun (omega (arith, is))) lost)
 
   -- by the birth that it waits for
-  step_by : (birth : Birth) → birth_for s.birth who ≡ birth → waits_at birth who.proc (waits_born s who.actor who.proc op) ≡ None → IsTaken s who place (Some op) None (turn_at birth (failed_turn who.actor who.proc op) (op_turn s who.actor who.proc who.slots place.far op))
+  step_by : (birth : Birth) → birth_for s.birth who ≡ birth → waits_at birth who.proc (waits_born s who.actor who.proc place.far op) ≡ None → IsTaken s who place (Some op) None (turn_at birth (failed_turn who.actor who.proc op) (op_turn s who.actor who.proc who.slots place.far op))
   step_by born is free = born_step is free
   step_by failed is free =
       failed_step s who place quiet is (at_first is) op (h.unlike_transfer op refl (failed_proc who.of_process (s.birth who.proc) is).0) h.fits
   step_by birth is free = absurd (cc free)
 
-take : (s : CoreState) (who : Doer) (place : Place) (op : Option Op) (waiting : Option Waiting) → IsQuiet s who.actor → IsKnown s who place op → waiting_with s who op ≡ waiting → IsTaken s who place op waiting (core_turn_by s who place.far op waiting)
+take : (s : CoreState) (who : Doer) (place : Place) (op : Option Op) (waiting : Option Waiting) → IsQuiet s who.actor → IsKnown s who place op → waiting_with s who place.far op ≡ waiting → IsTaken s who place op waiting (core_turn_by s who place.far op waiting)
 take s who place None waiting quiet h is =
     record {
       done = record { kinds = tt; can = tt; rest = quiet.rest; told = refl };

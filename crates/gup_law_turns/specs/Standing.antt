@@ -19,8 +19,7 @@ use Rattle.gup_spec_journal.specs.Place.{ops_of, present_op, process_of}
 use Rattle.gup_plain.specs.Pages.{mapped_pages}
 use Rattle.gup_spec_turns.specs.Run.{RunState}
 use Rattle.gup_spec_turns.specs.JobPlace.{StandsFork, StandsMove, KeepsFrame, IsPrepared, KeepsNoJob}
-use Rattle.gup_spec_turns.specs.PinPlace.{IsNoPin, StandsPin, turns_over}
-use Rattle.gup_spec_turns.specs.Cost.{pin_turns}
+use Rattle.gup_spec_turns.specs.PinPlace.{IsNoPin, StandsPin, most_over}
 
 -- how many pages of a pin its holder has given back: those of the unpin that it is in the middle of
 abbrev pub given_back : Option Op → (handle far : ℕ) → ℕ
@@ -66,8 +65,8 @@ pub record IsStanding (script : ScriptValue) (r : RunState) : Type 0 where
   pub keeps : (a : ℕ) → KeepsFrame (r.core.job a) (r.core.prepared a)
   pub prepared : (a f : ℕ) → r.core.prepared a ≡ Some f → IsPrepared r.core f
   pub untaken : (a : ℕ) → IsNoPin (present_op script a (r.places a)) → r.core.taken a ≡ []
-  pub pins : (a handle page n : ℕ) (want : Want) (fast : Bool) → present_op script a (r.places a) ≡ Some (Pin handle page n want fast) → StandsPin r.core a (process_of script a) handle page n want (length (r.core.taken a))
-  pub paced : (a handle page n : ℕ) (want : Want) (fast : Bool) → present_op script a (r.places a) ≡ Some (Pin handle page n want fast) → (r.places a).far ≤ pin_turns want.long (length (r.core.taken a)) + turns_over (r.core.job a)
+  pub pins : (a handle page n : ℕ) (want : Want) (fast : Bool) → present_op script a (r.places a) ≡ Some (Pin handle page n want fast) → StandsPin r.core a (process_of script a) handle page n want fast (length (r.core.taken a))
+  pub paced : (a handle page n : ℕ) (want : Want) (fast : Bool) → present_op script a (r.places a) ≡ Some (Pin handle page n want fast) → (r.places a).far ≤ most_over fast want.long n (length (r.core.taken a)) (r.core.job a)
   pub flagged : (a handle page n : ℕ) (want : Want) (fast : Bool) → present_op script a (r.places a) ≡ Some (Pin handle page n want fast) → 0 < (r.places a).far → r.core.has_pinned (process_of script a) ≡ true
   pub handles : (h : ℕ) → StandsHandle (back_in script r h) (r.core.pinned h) (r.core.handle h)
   pub made : (h : ℕ) → (r.core.handle h ≡ unmade → ⊥) → h < length script.handles

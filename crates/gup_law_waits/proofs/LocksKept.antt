@@ -328,7 +328,7 @@ module _ (law : Law) (script : ScriptValue) (valid : IsScript script) (r : RunSt
           let here : s.structure k ≡ Some d = ap s.structure (sym own) ∙ locked in
           let birth = born_for (doer script a) s.birth (structure_born s k d h.sound here) in
           let waits : waiting_in script r a ≡ Some (waitings.Holder d) =
-          ap (λ (o : Option Op). waiting_with s (doer_of script a o) o) is
+          ap (λ (o : Option Op). waiting_with s (doer_of script a o) place.far o) is
           ∙ ap (λ (b : Birth). waits_at b k (waits_for_locks both_locks a (s.structure k) (s.table k))) birth
           ∙ ap (λ (x : Option ℕ). first_waiting (held_by_other a x) (held_by_other a (s.table k))) here
           ∙ ap (λ (c : Bool). first_waiting (if c then None else Some (waitings.Holder d)) (held_by_other a (s.table k))) (apart a d (λ e. other (sym e))) in

@@ -75,7 +75,7 @@ move_structure idle is = cc is
 move_structure job is = cc is
 
 -- An operation that needs the structure lock of another's fork needs it while that keeps others out.
-module _ (s t : CoreState) (b q d : ℕ) (kept : KeepsOut s t q d) where
+module _ (s t : CoreState) (b q d far : ℕ) (kept : KeepsOut s t q d) where
   absent_still : (page : ℕ) (entry : Option Entry) → s.entry q page ≡ entry → is_none entry ≡ true → is_none (t.entry q page) ≡ true
   absent_still page None is none = ap is_none (kept.absent page is)
   absent_still page (Some e) is none = absurd (cc none)
@@ -84,7 +84,7 @@ module _ (s t : CoreState) (b q d : ℕ) (kept : KeepsOut s t q d) where
   denied true is = absurd (cc is)
   denied false is = refl
 
-  needs_still : (op : Op) → t.job b ≡ s.job b → (locks_needed s b q op).structure ≡ true → (locks_needed t b q op).structure ≡ true
+  needs_still : (op : Op) → t.job b ≡ s.job b → (locks_needed s b q far op).structure ≡ true → (locks_needed t b q far op).structure ≡ true
   needs_still (Load page word) job is = absent_still page (s.entry q page) refl is
   needs_still (Store page word value) job is = ap not (kept.barred page (denied (allows_store (s.entry q page)) is))
   needs_still (Fork child) job is =
@@ -100,12 +100,12 @@ module _ (s t : CoreState) (b q d : ℕ) (kept : KeepsOut s t q d) where
   needs_still op job is = absurd (cc is)
 
 -- The locks that an operation needs stay, if the entries of its process do, the job, and the rights of the child that it brings.
-same_locks : (s t : CoreState) (b q : ℕ) (op : Op) → t.entry q ≡ s.entry q → t.job b ≡ s.job b → ((child : ℕ) → op ≡ Fork child → fork_locks (t.right child) (s.job b) ≡ fork_locks (s.right child) (s.job b)) → locks_needed t b q op ≡ locks_needed s b q op
-same_locks s t b q (Load page word) entry job rights = ap (λ (f : ℕ → Option Entry). both_if (is_none (f page))) entry
-same_locks s t b q (Store page word value) entry job rights = ap (λ (f : ℕ → Option Entry). both_if (not (allows_store (f page)))) entry
-same_locks s t b q (Move proc page zone) entry job rights = ap move_locks job
-same_locks s t b q (Fork child) entry job rights = ap (fork_locks (t.right child)) job ∙ rights child refl
-same_locks s t b q op entry job rights = refl
+same_locks : (s t : CoreState) (b q far : ℕ) (op : Op) → t.entry q ≡ s.entry q → t.job b ≡ s.job b → ((child : ℕ) → op ≡ Fork child → fork_locks (t.right child) (s.job b) ≡ fork_locks (s.right child) (s.job b)) → locks_needed t b q far op ≡ locks_needed s b q far op
+same_locks s t b q far (Load page word) entry job rights = ap (λ (f : ℕ → Option Entry). both_if (is_none (f page))) entry
+same_locks s t b q far (Store page word value) entry job rights = ap (λ (f : ℕ → Option Entry). both_if (not (allows_store (f page)))) entry
+same_locks s t b q far (Move proc page zone) entry job rights = ap move_locks job
+same_locks s t b q far (Fork child) entry job rights = ap (fork_locks (t.right child)) job ∙ rights child refl
+same_locks s t b q far op entry job rights = refl
 
 -- whoever is to take a pin that isn't given to it waits
 ungiven_waits : (given : Bool) (handle : ℕ) → is_some (taking_waits given handle) ≡ true → given ≡ false
@@ -191,8 +191,11 @@ module _ (law : Law) (script : ScriptValue) (valid : IsScript script) (r : RunSt
       abbrev q : ℕ
       q = who.proc
 
+      abbrev far : ℕ
+      far = (r.places b).far
+
       abbrev IsWaiting : CoreState → Type 0
-      IsWaiting u = is_some (waits_for_locks (locks_needed u b q op) b (u.structure q) (u.table q)) ≡ true
+      IsWaiting u = is_some (waits_for_locks (locks_needed u b q far op) b (u.structure q) (u.table q)) ≡ true
 
       -- the structure lock stays with the fork that has it, and lets in nobody
       out_kept : (d : ℕ) → s.structure q ≡ Some d → KeepsOut s t q d
@@ -246,57 +249,58 @@ module _ (law : Law) (script : ScriptValue) (valid : IsScript script) (r : RunSt
 
       locks_wait : IsWaiting s → IsWaiting t
       locks_wait waits =
-          let held = value_of (waits_for_locks (locks_needed s b q op) b (s.structure q) (s.table q)) waits in
-          elim (locks_needed_of (locks_needed s b q op) b (s.structure q) (s.table q) held.0 held.1) [
+          let held = value_of (waits_for_locks (locks_needed s b q far op) b (s.structure q) (s.table q)) waits in
+          elim (locks_needed_of (locks_needed s b q far op) b (s.structure q) (s.table q) held.0 held.1) [
             | inl structure ↦ by_structure structure
             | inr table ↦ by_table table
           ]
         where
-          by_structure : IsNeeded b (locks_needed s b q op).structure (s.structure q) → IsWaiting t
+          by_structure : IsNeeded b (locks_needed s b q far op).structure (s.structure q) → IsWaiting t
           by_structure needs =
               let kept = out_kept needs.1 needs.3 in
-              either_waits (waits_for_lock (locks_needed t b q op).structure b (t.structure q)) (waits_for_lock (locks_needed t b q op).table b (t.table q))
-              (inl (held_waits (locks_needed t b q op).structure b (t.structure q) (needs_still s t b q needs.1 kept op job_kept needs.0, needs.1, needs.2, kept.locked)))
+              either_waits (waits_for_lock (locks_needed t b q far op).structure b (t.structure q)) (waits_for_lock (locks_needed t b q far op).table b (t.table q))
+              (inl (held_waits (locks_needed t b q far op).structure b (t.structure q) (needs_still s t b q needs.1 far kept op job_kept needs.0, needs.1, needs.2, kept.locked)))
 
-          by_table : IsNeeded b (locks_needed s b q op).table (s.table q) → IsWaiting t
+          by_table : IsNeeded b (locks_needed s b q far op).table (s.table q) → IsWaiting t
           by_table needs =
               let kept = table_kept needs.1 needs.3 in
-              let same = same_locks s t b q op kept.entry job_kept fork_same in
-              either_waits (waits_for_lock (locks_needed t b q op).structure b (t.structure q)) (waits_for_lock (locks_needed t b q op).table b (t.table q))
-              (inr (held_waits (locks_needed t b q op).table b (t.table q) (ap (λ (x : Locks). x.table) same ∙ needs.0, needs.1, needs.2, kept.table ∙ needs.3)))
+              let same = same_locks s t b q far op kept.entry job_kept fork_same in
+              either_waits (waits_for_lock (locks_needed t b q far op).structure b (t.structure q)) (waits_for_lock (locks_needed t b q far op).table b (t.table q))
+              (inr (held_waits (locks_needed t b q far op).table b (t.table q) (ap (λ (x : Locks). x.table) same ∙ needs.0, needs.1, needs.2, kept.table ∙ needs.3)))
 
       -- once it waits for no birth
-      born_wait : is_some (waits_born s b q op) ≡ true → is_some (waits_born t b q op) ≡ true
+      born_wait : is_some (waits_born s b q far op) ≡ true → is_some (waits_born t b q far op) ≡ true
       born_wait is =
-          either_waits (handle_waits t.handle b (Some op)) (waits_for_locks (locks_needed t b q op) b (t.structure q) (t.table q))
-          (elim (waits_either (handle_waits s.handle b (Some op)) (waits_for_locks (locks_needed s b q op) b (s.structure q) (s.table q)) is) [
+          either_waits (handle_waits t.handle b (Some op)) (waits_for_locks (locks_needed t b q far op) b (t.structure q) (t.table q))
+          (elim (waits_either (handle_waits s.handle b (Some op)) (waits_for_locks (locks_needed s b q far op) b (s.structure q) (s.table q)) is) [
             | inl pin ↦ inl (handles_wait s.handle t.handle b op ungiven_on pin)
             | inr locks ↦ inr (locks_wait locks)
           ])
 
       -- while it waits for one
-      wait_coming : IsUnbornOrGrowing (birth_for s.birth who) → is_some (waiting_for t who op) ≡ true
+      wait_coming : IsUnbornOrGrowing (birth_for s.birth who) → is_some (waiting_for t who far op) ≡ true
       wait_coming coming =
           let thread = coming_for who.of_process (s.birth q) coming in
           let grows : IsUnbornOrGrowing (birth_for t.birth who) = subst IsUnbornOrGrowing (sym (thread_birth who t.birth thread.0)) (coming_on q thread.1) in
-          coming_waits (birth_for t.birth who) q (waits_born t b q op) grows
+          coming_waits (birth_for t.birth who) q (waits_born t b q far op) grows
 
-      wait_by : (birth : Birth) → birth_for s.birth who ≡ birth → is_some (waits_at birth q (waits_born s b q op)) ≡ true → is_some (waiting_for t who op) ≡ true
+      wait_by : (birth : Birth) → birth_for s.birth who ≡ birth → is_some (waits_at birth q (waits_born s b q far op)) ≡ true → is_some (waiting_for t who far op) ≡ true
       wait_by born is waits =
-          ap (λ (x : Birth). is_some (waits_at x q (waits_born t b q op))) (born_by who.of_process (s.birth q) (t.birth q) (still_born q) is) ∙ born_wait waits
+          ap (λ (x : Birth). is_some (waits_at x q (waits_born t b q far op))) (born_by who.of_process (s.birth q) (t.birth q) (still_born q) is) ∙ born_wait waits
       wait_by failed is waits = absurd (cc waits)
       wait_by unborn is waits = wait_coming (subst IsUnbornOrGrowing (sym is) tt)
       wait_by (growing parent) is waits = wait_coming (subst IsUnbornOrGrowing (sym is) tt)
 
-    go_by : (o : Option Op) → op_in script r b ≡ o → is_ready o (waiting_with s (doer_of script b o) o) ≡ false → is_ready o (waiting_with t (doer_of script b o) o) ≡ false
+    go_by : (o : Option Op) → op_in script r b ≡ o → is_ready o (waiting_with s (doer_of script b o) (r.places b).far o) ≡ false → is_ready o (waiting_with t (doer_of script b o) (r.places b).far o) ≡ false
     go_by None has is = refl
     go_by (Some op) has is =
         let who : Doer = doer_of script b (Some op) in
-        waits_asleep op (waiting_for t who op) (wait_by op has (birth_for s.birth who) refl (asleep_waits op (waiting_for s who op) is))
+        let far : ℕ = (r.places b).far in
+        waits_asleep op (waiting_for t who far op) (wait_by op has (birth_for s.birth who) refl (asleep_waits op (waiting_for s who far op) is))
 
     asleep : can_go script r b ≡ false → can_go script (run_after script r a) b ≡ false
     asleep is =
-        subst (λ (k : Place). is_ready (present_op script b k) (waiting_with t (doer_of script b (present_op script b k)) (present_op script b k)) ≡ false)
+        subst (λ (k : Place). is_ready (present_op script b k) (waiting_with t (doer_of script b (present_op script b k)) k.far (present_op script b k)) ≡ false)
         (sym (put_apart a b (place_behind (r.places a) (core_turn_in script r a).whats) r.places other)) (go_by (op_in script r b) refl is)
 
 -- it holds of each state that turns lead to

@@ -50,6 +50,11 @@ abbrev pub Then : (First Second : List NoteValue → Type 0) → List NoteValue 
 Then First Second notes =
     (front rest : List NoteValue) × (notes ≡ front ++ rest) × AreBefore front rest × First front × Second rest
 
+-- turns with these notes, one after another, and then the rest
+abbrev pub Turns : Who → List (List What) → (Rest : List NoteValue → Type 0) → List NoteValue → Type 0
+Turns who [] Rest notes = Rest notes
+Turns who (whats ∷ turns) Rest notes = Then (IsTurn who whats) (Turns who turns Rest) notes
+
 -- which refusals an operation has
 abbrev pub refuses : Op → Answer → Bool
 refuses (Load page word) answers.Missing = true
@@ -105,9 +110,72 @@ RefusesPage who want (answers.Unmovable count) whats notes = (want.long ≡ true
 RefusesPage who want answers.NoFrame whats notes = TriesIn who want whats notes
 RefusesPage who want answer whats notes = IsTurn who whats notes
 
+-- The lockless walk of a pin.
+
+-- the turns of a page that it takes and keeps: its entry is read, its frame is grabbed, the entry is read again, and the mark
+abbrev pub takes_page : Who → (page : ℕ) → (write : Bool) → List (List What)
+takes_page who page write =
+    (Silent ∷ []) ∷ (Silent ∷ []) ∷ (Event (events.PinTry who.actor who.proc page write) ∷ []) ∷ (Silent ∷ []) ∷ []
+
+-- what it looks at where it stops
+pub data Stop : Type 0 where
+  at_entry : Stop
+  at_frame : Stop
+  at_entry_again : Stop
+  at_mark : Stop
+
+-- The turns of a page at which it stops: it has read the entry, has found the frame free, has found another entry and dropped
+-- the frame, or has found no mark and dropped the page.
+abbrev pub stops_at : Who → (page : ℕ) → (write : Bool) → Stop → List (List What)
+stops_at who page write at_entry = (Silent ∷ []) ∷ []
+stops_at who page write at_frame = (Silent ∷ []) ∷ (Silent ∷ []) ∷ []
+stops_at who page write at_entry_again = (Silent ∷ []) ∷ (Silent ∷ []) ∷ (Silent ∷ []) ∷ (Silent ∷ []) ∷ []
+stops_at who page write at_mark = takes_page who page write ++ (Event (events.PinDrop who.actor page) ∷ []) ∷ []
+
+-- the turns in which it drops so many pages, in rising order from this one on
+abbrev pub drops_pages : (actor page pages : ℕ) → List (List What)
+drops_pages actor page zero = []
+drops_pages actor page (suc pages) = (Event (events.PinDrop actor page) ∷ []) ∷ drops_pages actor (page + 1) pages
+
+-- it has read another sequence than at first: each of the pages is dropped, and all are left to the slow turns
+abbrev pub DropsAll : Who → (page n kept : ℕ) → (Slowly : (got left : ℕ) → List NoteValue → Type 0) → List NoteValue → Type 0
+DropsAll who page n kept Slowly notes = Turns who ((Silent ∷ []) ∷ drops_pages who.actor page kept) (Slowly 0 n) notes
+
+-- A walk that stopped reads the sequence again. Where that is as it was the pages so far are kept, and the others left to the slow
+-- turns.
+abbrev pub StopsWalk : Who → (page n : ℕ) → (Slowly : (got left : ℕ) → List NoteValue → Type 0) → (kept left : ℕ) → List NoteValue → Type 0
+StopsWalk who page n Slowly kept left notes =
+    Turns who ((Silent ∷ []) ∷ []) (Slowly kept left) notes ⊎ DropsAll who page n kept Slowly notes
+
+-- A walk that has kept so many pages, so many of which are left: it keeps the next one, or stops at it. After the last one it
+-- reads the sequence again.
+abbrev pub WalksOn : Who → (page n : ℕ) → (write : Bool) → (All : List NoteValue → Type 0) → (Slowly : (got left : ℕ) → List NoteValue → Type 0) → (kept left : ℕ) → List NoteValue → Type 0
+WalksOn who page n write All Slowly kept zero notes = All notes ⊎ DropsAll who page n kept Slowly notes
+WalksOn who page n write All Slowly kept (suc left) notes =
+    Turns who (takes_page who (page + kept) write) (WalksOn who page n write All Slowly (kept + 1) left) notes
+    ⊎ ((stop : Stop) × Turns who (stops_at who (page + kept) write stop) (StopsWalk who page n Slowly kept (suc left)) notes)
+
+-- The walk of a pin of n pages, and what comes behind it: nothing but its answer where it has kept all, and slow turns of those
+-- that it hasn't. First has-pinned is set, and the sequence read: where that is odd no page is walked.
+abbrev pub Walks : Who → (page n : ℕ) → (write : Bool) → (All : List NoteValue → Type 0) → (Slowly : (got left : ℕ) → List NoteValue → Type 0) → List NoteValue → Type 0
+Walks who page n write All Slowly notes =
+    Turns who ((Silent ∷ []) ∷ (Silent ∷ []) ∷ []) (λ rest. Slowly 0 n rest ⊎ WalksOn who page n write All Slowly 0 n rest) notes
+
+-- a pin that walks is refused at its first page, in its slow turns; one of a failed process at once
+abbrev pub RefusesFirst : Who → Want → Answer → (got left : ℕ) → List NoteValue → Type 0
+RefusesFirst who want answer got left notes = (got ≡ 0) × RefusesPage who want answer (Done answer ∷ []) notes
+
+abbrev pub RefusesFast : Who → (page n : ℕ) → Want → Answer → List NoteValue → Type 0
+RefusesFast who page n want answers.Unborn notes = IsTurn who (Done answers.Unborn ∷ []) notes
+RefusesFast who page n want answer notes = Walks who page n want.write (λ rest. ⊥) (RefusesFirst who want answer) notes
+
+abbrev pub RefusesPin : Who → (page n : ℕ) → Want → (fast : Bool) → Answer → List NoteValue → Type 0
+RefusesPin who page n want false answer notes = RefusesPage who want answer (Done answer ∷ []) notes
+RefusesPin who page n want true answer notes = RefusesFast who page n want answer notes
+
 -- the turns of an operation that is refused, the last of which has these notes: one turn, but of a move and of a pin
 abbrev pub RefusesIn : Who → Op → List What → List NoteValue → Type 0
-RefusesIn who (Pin handle page n want fast) (Done answer ∷ []) notes = RefusesPage who want answer (Done answer ∷ []) notes
+RefusesIn who (Pin handle page n want fast) (Done answer ∷ []) notes = RefusesPin who page n want fast answer notes
 RefusesIn who (Move proc page zone) (Done answer ∷ []) notes = RefusesMove who answer notes
 RefusesIn who op whats notes = IsTurn who whats notes
 
@@ -208,6 +276,16 @@ PinsPages who handle page n want got (suc (suc left)) notes =
     (PinsPages who handle page n want (got + 1) (suc left)) notes
     ⊎ EndsShort who handle n want got notes
 
+-- a walk that has kept all pages makes the handle
+abbrev pub PinsAll : Who → (handle n : ℕ) → List NoteValue → Type 0
+PinsAll who handle n notes = IsTurn who (Event (events.PinOk who.actor handle) ∷ Done (answers.Pinned n) ∷ []) notes
+
+-- a pin of n pages, that walks first or goes slowly from the first page on
+abbrev pub Pins : Who → (handle page n : ℕ) → Want → (fast : Bool) → List NoteValue → Type 0
+Pins who handle page n want false notes = PinsPages who handle page n want 0 n notes
+Pins who handle page n want true notes =
+    Walks who page n want.write (PinsAll who handle n) (PinsPages who handle page n want) notes
+
 -- an unpin gives back so many pages, one a turn, and then the last, with which the pin is gone
 abbrev pub Unpins : Who → (handle more : ℕ) → List NoteValue → Type 0
 Unpins who handle zero notes = IsTurn who (Event (events.Unpin who.actor handle) ∷ Done answers.Plain ∷ []) notes
@@ -242,7 +320,7 @@ Completes who (Protect page n rights) notes =
     IsTurn who (Event (events.Protect who.actor who.proc page n rights) ∷ Done answers.Plain ∷ []) notes
 Completes who (Unmap page n) notes = TakesDownAll who (events.Unmap who.actor who.proc) page n notes
 Completes who (Discard page n) notes = TakesDownAll who (events.Discard who.actor who.proc) page n notes
-Completes who (Pin handle page n want fast) notes = PinsPages who handle page n want 0 n notes
+Completes who (Pin handle page n want fast) notes = Pins who handle page n want fast notes
 Completes who (Unpin handle) notes = (more : ℕ) × Unpins who handle more notes
 Completes who (Give handle to) notes = IsTurn who (Event (events.Give who.actor handle to) ∷ Done answers.Plain ∷ []) notes
 Completes who (Take handle) notes = IsTurn who (Event (events.Take who.actor handle) ∷ Done answers.Plain ∷ []) notes

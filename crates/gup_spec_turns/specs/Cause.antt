@@ -1,5 +1,5 @@
 -- Why an operation of a core run finds no frame, which answers it has at all, and what an actor waits for.
-use Rattle.std.specs.Prelude.{◌≡◌, ℕ, ◌+◌, ◌<◌, ◌⊎◌, Bool, true, false, Option, Some, None, IsSome, List, [], ◌∷◌, length, map, Contains}
+use Rattle.std.specs.Prelude.{◌≡◌, ℕ, ◌+◌, ◌<◌, ◌==◌, ◌&&◌, ◌⊎◌, Bool, true, false, Option, Some, None, IsSome, List, [], ◌∷◌, length, map, Contains}
 use Rattle.std.specs.List.{AllByRecursion}
 use Rattle.gup_base.specs.declared.entry.Allowed.{Allowed}
 use Rattle.gup_base.specs.declared.entry.Allowed.TheVariants.{Any, Only}
@@ -24,7 +24,7 @@ use Rattle.gup_spec_events.specs.Event.{IsAllowed}
 use Rattle.gup_spec_journal.specs.Order.{Turn}
 use Rattle.gup_spec_journal.specs.Place.{doer_of, birth_for, has_finished}
 use Rattle.gup_spec_turns.specs.CoreTurn.{zones_of}
-use Rattle.gup_spec_turns.specs.JobPlace.{JobPlace, wants_frame, moving_page, place_in}
+use Rattle.gup_spec_turns.specs.JobPlace.{JobPlace, wants_frame, moving_page, in_walk, place_in}
 use Rattle.gup_spec_turns.specs.Run.{RunState, op_in, waiting_in}
 
 -- each frame of these zones has a reference
@@ -66,18 +66,25 @@ NeedsForPin s p page false = IsSome (s.right p page) × NeedsOwn s (s.entry p pa
 abbrev pub NeedsAtPage : CoreState → (p page : ℕ) → (write : Bool) → JobPlace → Type 0
 NeedsAtPage s p page write (moving_page g e one) = Unit {0}
 NeedsAtPage s p page write (moving_page g e count) = ⊥
+NeedsAtPage s p page write (in_walk sequence step) = ⊥
 NeedsAtPage s p page write place = NeedsForPin s p page write
 
+-- and of a pin that doesn't begin its walk with this turn
+abbrev pub NeedsIfSlow : (begins : Bool) → CoreState → (p page : ℕ) → (write : Bool) → JobPlace → Type 0
+NeedsIfSlow true s p page write place = ⊥
+NeedsIfSlow false s p page write place = NeedsAtPage s p page write place
+
 -- An operation needs a frame at its next turn: a load, a store, a get and a pin for their page, a pin's being the one after
--- those that it has taken, a fork for the page that it copies, where it has none for it yet, and a move after a count of 1.
-abbrev pub NeedsFor : CoreState → (a p : ℕ) → Op → Type 0
-NeedsFor s a p (Load page word) = NeedsForLoad s p page
-NeedsFor s a p (Store page word value) = NeedsForStore s p page
-NeedsFor s a p (Pin handle page n want fast) = NeedsAtPage s p (page + length (s.taken a)) want.write (place_in s a)
-NeedsFor s a p (Get handle page) = NeedsForLoad s p page
-NeedsFor s a p (Move proc page zone) = (g : ℕ) × (e : Entry) × (place_in s a ≡ moving_page g e one)
-NeedsFor s a p (Fork child) = (page : ℕ) × (place_in s a ≡ wants_frame page)
-NeedsFor s a p op = ⊥
+-- those that it has taken, and none while it walks, a fork for the page that it copies, where it has none for it yet, and a move after a count of 1.
+abbrev pub NeedsFor : CoreState → (a p far : ℕ) → Op → Type 0
+NeedsFor s a p far (Load page word) = NeedsForLoad s p page
+NeedsFor s a p far (Store page word value) = NeedsForStore s p page
+NeedsFor s a p far (Pin handle page n want fast) =
+    NeedsIfSlow (fast && far == 0) s p (page + length (s.taken a)) want.write (place_in s a)
+NeedsFor s a p far (Get handle page) = NeedsForLoad s p page
+NeedsFor s a p far (Move proc page zone) = (g : ℕ) × (e : Entry) × (place_in s a ≡ moving_page g e one)
+NeedsFor s a p far (Fork child) = (page : ℕ) × (place_in s a ≡ wants_frame page)
+NeedsFor s a p far op = ⊥
 
 -- the actor's next turn is one of this operation, which it waits for nothing to do, in a process that is born; and it
 -- needs a frame
@@ -85,7 +92,7 @@ abbrev pub NeedsFrame : ScriptValue → RunState → (a : ℕ) → Op → Type 0
 NeedsFrame script r a op =
     let who = doer_of script a (Some op) in
     (op_in script r a ≡ Some op) × (waiting_in script r a ≡ None) × (birth_for r.core.birth who ≡ born)
-    × NeedsFor r.core a who.proc op
+    × NeedsFor r.core a who.proc (r.places a).far op
 
 -- it needs one, and none that its operation may take is free
 abbrev pub FindsNoFrame : ScriptValue → RunState → (a : ℕ) → Type 0

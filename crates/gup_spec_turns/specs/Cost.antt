@@ -14,25 +14,23 @@ use Rattle.gup_spec_events.specs.State.{CoreState, unread}
 use Rattle.gup_plain.specs.Pages.{sum_below, mapped_pages}
 use Rattle.gup_spec_turns.specs.Pages.{pages_from}
 use Rattle.gup_spec_turns.specs.Run.{RunState, run_after}
-use Rattle.gup_spec_turns.specs.JobPlace.{JobPlace, place_in, unbegun, from_page, at_page, wants_frame, at_word, moving_page}
+use Rattle.gup_spec_turns.specs.JobPlace.{JobPlace, place_in, from_page, at_page, wants_frame, at_word, moving_page}
 
 -- the turns that a fork has at most still to take: 515 a page of the child that is copied, and its end
 abbrev pub fork_turns : (right : ℕ → Option Rights) → JobPlace → ℕ
-fork_turns right unbegun = 515 * most_pages + 2
 fork_turns right (from_page page) = 515 * pages_from right page + 1
 fork_turns right (at_page page) = 515 * pages_from right (page + 1) + 2
 fork_turns right (wants_frame page) = 515 * pages_from right (page + 1) + 515
 fork_turns right (at_word page word to) = 515 * pages_from right (page + 1) + (words - word) + 2
-fork_turns right (moving_page page e count) = 515 * most_pages + 2
+fork_turns right place = 515 * most_pages + 2
 
 -- those, with what the child's pages may cost an exit
 abbrev pub fork_left : (right : ℕ → Option Rights) → JobPlace → ℕ
-fork_left right unbegun = fork_turns right unbegun + most_pages
 fork_left right (from_page page) = fork_turns right (from_page page)
 fork_left right (at_page page) = fork_turns right (at_page page)
 fork_left right (wants_frame page) = fork_turns right (wants_frame page)
 fork_left right (at_word page word to) = fork_turns right (at_word page word to)
-fork_left right (moving_page page e count) = fork_turns right (moving_page page e count) + most_pages
+fork_left right place = fork_turns right place + most_pages
 
 -- the turns that a move still takes, if it isn't refused: it clears, counts, and places
 abbrev pub move_turns : JobPlace → ℕ
@@ -45,12 +43,22 @@ abbrev pub pin_turns : (long : Bool) → (pages : ℕ) → ℕ
 pin_turns true pages = 3 * pages
 pin_turns false pages = pages
 
+-- those of the walk of a pin of n pages, if it walks: two before the first page, four a page, one after the last, and one for each
+-- page that is dropped
+abbrev pub walk_turns : (fast : Bool) → (n : ℕ) → ℕ
+walk_turns true n = 5 * n + 3
+walk_turns false n = 0
+
+-- those of a pin of n pages
+abbrev pub pins_turns : (fast long : Bool) → (n : ℕ) → ℕ
+pins_turns fast long n = walk_turns fast n + pin_turns long n
+
 -- the turns of an operation, with those that the pages which it maps may cost an exit
 abbrev pub op_cost : Op → ℕ
 op_cost (Map page n rights) = n + 1
 op_cost (Unmap page n) = n
 op_cost (Discard page n) = n
-op_cost (Pin handle page n want fast) = pin_turns want.long n
+op_cost (Pin handle page n want fast) = pins_turns fast want.long n
 op_cost (Unpin handle) = most_pinned
 op_cost (Transfer handle outward slot parts) = words_of parts
 op_cost (Move proc page zone) = 3
@@ -62,7 +70,7 @@ abbrev pub op_left : CoreState → (a : ℕ) → Op → (far : ℕ) → ℕ
 op_left s a (Map page n rights) far = n + 1
 op_left s a (Unmap page n) far = n - far
 op_left s a (Discard page n) far = n - far
-op_left s a (Pin handle page n want fast) far = pin_turns want.long n - far
+op_left s a (Pin handle page n want fast) far = pins_turns fast want.long n - far
 op_left s a (Unpin handle) far = most_pinned - far
 op_left s a (Transfer handle outward slot parts) far = words_of parts - far
 op_left s a (Move proc page zone) far = move_turns (place_in s a)
@@ -106,12 +114,12 @@ abbrev pub map_pages : ScriptValue → ℕ
 map_pages script = sum_by (λ (a : Actor). sum_by mapped_by a.ops) script.actors
 
 -- How many turns an operation has at most, whoever takes turns in between: what goes over n pages or words n, a long pin and a move
--- 3 a page, a fork 515 a page and its begin and end, an exit one for each page that its process has or that other threads map meanwhile, and its
+-- 3 a page, the walk of a pin 5 a page and 3 before that, a fork 515 a page and its begin and end, an exit one for each page that its process has or that other threads map meanwhile, and its
 -- answer.
 abbrev pub most_turns_of : ScriptValue → Op → ℕ
 most_turns_of script (Unmap page n) = n
 most_turns_of script (Discard page n) = n
-most_turns_of script (Pin handle page n want fast) = pin_turns want.long n
+most_turns_of script (Pin handle page n want fast) = pins_turns fast want.long n
 most_turns_of script (Unpin handle) = most_pinned
 most_turns_of script (Transfer handle outward slot parts) = words_of parts
 most_turns_of script (Move proc page zone) = 3
@@ -134,7 +142,7 @@ abbrev pub LosesPage : (before after : ℕ → Option Rights) → Type 0
 LosesPage before after = (page : ℕ) × (page < page_numbers) × IsSome (before page) × (after ≡ put page None before)
 
 -- A mapping, a protection, a load, a store, a give, a take, a get and a put are answered in one turn, what goes over n pages or words in
--- the n-th at the latest, of a long pin the 3n-th, and so is an unpin of n pages; each turn of an exit but the one that answers it takes a page of
+-- the n-th at the latest, of a long pin the 3n-th, of one that walks 5n + 3 turns later, and so is an unpin of n pages; each turn of an exit but the one that answers it takes a page of
 -- its process; each of a fork and of a move takes of its turns.
 abbrev pub IsWithinBound : Op → (a p : ℕ) → (place next : Place) → (before after : CoreState) → Type 0
 IsWithinBound (Unmap page n) a p place next before after =
@@ -142,7 +150,7 @@ IsWithinBound (Unmap page n) a p place next before after =
 IsWithinBound (Discard page n) a p place next before after =
     IsAnswered place next ⊎ (GoesOn place next × (next.far < n))
 IsWithinBound (Pin handle page n want fast) a p place next before after =
-    IsAnswered place next ⊎ (GoesOn place next × (next.far < pin_turns want.long n))
+    IsAnswered place next ⊎ (GoesOn place next × (next.far < pins_turns fast want.long n))
 IsWithinBound (Unpin handle) a p place next before after =
     IsAnswered place next ⊎ (GoesOn place next × (next.far < length (objects_of (before.handle handle))))
 IsWithinBound (Transfer handle outward slot parts) a p place next before after =

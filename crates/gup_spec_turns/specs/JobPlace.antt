@@ -7,13 +7,13 @@ use Rattle.gup_plain.specs.Event.{words}
 use Rattle.gup_plain.specs.State.{unborn, growing, born}
 use Rattle.gup_script.specs.declared.op.Op.{Op}
 use Rattle.gup_script.specs.declared.op.Op.TheVariants.{Pin, Move, Fork}
-use Rattle.gup_spec_events.specs.State.{CoreState, Job, idle, moving, Counted, unread, one, more, forking, between, counted, copying}
+use Rattle.gup_spec_events.specs.State.{CoreState, Job, idle, moving, Counted, unread, one, more, forking, between, counted, copying, walking, WalkStep}
 use Rattle.gup_spec_turns.specs.ForkTurns.{first_behind}
 
 -- Where an actor's operation stands between two turns. It has not begun, or keeps nothing. A fork looks for its next page
 -- from this one on; or it has counted this page, and is to share it, or to copy it and wants a frame for that; or it has
 -- copied so many words of this page into that frame. A move, or a long pin, has cleared this entry of this page, and has read
--- so much of the frame's count.
+-- so much of the frame's count. The walk of a pin has read this sequence, and stands at this step.
 pub data JobPlace : Type 0 where
   unbegun : JobPlace
   from_page : (page : ℕ) → JobPlace
@@ -21,6 +21,7 @@ pub data JobPlace : Type 0 where
   wants_frame : (page : ℕ) → JobPlace
   at_word : (page word to : ℕ) → JobPlace
   moving_page : (page : ℕ) (entry : Entry) (count : Counted) → JobPlace
+  in_walk : (sequence : ℕ) (step : WalkStep) → JobPlace
 
 abbrev pub copying_place : (page word : ℕ) → (prepared : Option ℕ) → JobPlace
 copying_place page word None = wants_frame page
@@ -31,6 +32,7 @@ job_place (forking p c done between) prepared = from_page (first_behind done)
 job_place (forking p c done (counted page)) prepared = at_page page
 job_place (forking p c done (copying page word)) prepared = copying_place page word prepared
 job_place (moving p page e allowed count) prepared = moving_page page e count
+job_place (walking p write long sequence step) prepared = in_walk sequence step
 job_place job prepared = unbegun
 
 -- where the operation of this actor stands
@@ -103,9 +105,9 @@ pub record IsPrepared (s : CoreState) (f : ℕ) : Type 0 where
   pub counted : s.count f ≡ 0 → ⊥
   pub apart : (p page : ℕ) (e : Entry) → s.entry p page ≡ Some e → f ≡ e.frame → ⊥
 
--- an actor that has no fork, no move and no long pin to do, or none at present, is in the middle of nothing
+-- an actor that has no fork, no move, and no pin that is long or walks to do, or none at present, is in the middle of nothing
 abbrev pub KeepsNoJob : Option Op → Type 0
-KeepsNoJob (Some (Pin handle page n want fast)) = want.long ≡ false
+KeepsNoJob (Some (Pin handle page n want fast)) = (want.long ≡ false) × (fast ≡ false)
 KeepsNoJob (Some (Move proc page zone)) = ⊥
 KeepsNoJob (Some (Fork child)) = ⊥
 KeepsNoJob op = Unit {0}

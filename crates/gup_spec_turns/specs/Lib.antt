@@ -7,6 +7,7 @@ pub mod JobPlace
 pub mod MoveTurns
 pub mod PinPlace
 pub mod PageTurns
+pub mod WalkTurns
 pub mod PinTurns
 pub mod DeviceTurns
 pub mod ForkTurns

@@ -1,13 +1,14 @@
 -- Where a pin stands between two turns.
-use Rattle.std.specs.Prelude.{◌≡◌, ℕ, ◌+◌, ◌<◌, true, List, length, slice_get, Option, Some, None}
+use Rattle.std.specs.Prelude.{◌≡◌, ℕ, ◌+◌, ◌-◌, ◌*◌, ◌<◌, ◌≤◌, Bool, true, false, List, length, slice_get, Option, Some, None}
 use Rattle.gup_base.specs.declared.entry.Entry.{Entry}
 use Rattle.gup_base.specs.declared.entry.Want.{Want}
 use Rattle.gup_plain.specs.Denial.{pin_denial}
 use Rattle.gup_plain.specs.State.{unmade}
 use Rattle.gup_script.specs.declared.op.Op.{Op}
 use Rattle.gup_script.specs.declared.op.Op.TheVariants.{Pin}
-use Rattle.gup_spec_events.specs.State.{CoreState, Taken, Job, idle, moving, unread}
+use Rattle.gup_spec_events.specs.State.{CoreState, Taken, Job, idle, moving, unread, walking, WalkStep, entered, ready, read, grabbed, rechecked, differed, refused, stopped, dropping, over}
 use Rattle.gup_spec_turns.specs.CoreTurn.{zones_of}
+use Rattle.gup_spec_turns.specs.Cost.{pin_turns, walk_turns}
 use Rattle.gup_spec_turns.specs.JobPlace.{IsCount, IsMoving}
 
 -- an actor that has no pin to do has taken no page
@@ -34,22 +35,76 @@ pub record IsMovingPin (s : CoreState) (a p page : ℕ) (want : Want) (e : Entry
   pub marked : s.mark e.frame ≡ true
   pub may : want.write ≡ true → e.writable ≡ true
 
--- where a pin stands at this page, by the job of its actor
-abbrev pub StandsAtPage : CoreState → (a p page : ℕ) → Want → Job → Type 0
-StandsAtPage s a p page want idle = Unit {0}
-StandsAtPage s a p page want (moving q g e allowed count) =
-    (q ≡ p) × (g ≡ page) × (allowed ≡ zones_of want) × IsCount count × IsMovingPin s a p page want e
-StandsAtPage s a p page want job = ⊥
+-- where the walk of a pin of n pages stands, which has taken so many, the next one after which is this page
+abbrev pub IsAtStep : (page n got : ℕ) → WalkStep → Type 0
+IsAtStep page n got entered = got ≡ 0
+IsAtStep page n got ready = Unit {0}
+IsAtStep page n got (read g e) = (g ≡ page) × (got < n)
+IsAtStep page n got (grabbed g e) = (g ≡ page) × (got < n)
+IsAtStep page n got (rechecked g e) = (0 < got) × (g + 1 ≡ page)
+IsAtStep page n got (differed f) = got < n
+IsAtStep page n got refused = 0 < got
+IsAtStep page n got stopped = got < n
+IsAtStep page n got dropping = 0 < got
+IsAtStep page n got over = ⊥
 
--- how many turns are over of a page that a pin moves first
+-- the walk is one of this pin of process p, which has pinned
+pub record IsWalkingPin (s : CoreState) (p page n got : ℕ) (want : Want) (fast : Bool) (q : ℕ) (write long : Bool) (step : WalkStep) : Type 0 where
+  pub walks : fast ≡ true
+  pub of : q ≡ p
+  pub writes : write ≡ want.write
+  pub keeps : long ≡ want.long
+  pub flag : s.has_pinned p ≡ true
+  pub here : IsAtStep page n got step
+
+-- where a pin of n pages stands that has taken so many, by the job of its actor; the next one is this page
+abbrev pub StandsAtPage : CoreState → (a p page n got : ℕ) → Want → (fast : Bool) → Job → Type 0
+StandsAtPage s a p page n got want fast idle = Unit {0}
+StandsAtPage s a p page n got want fast (moving q g e allowed count) =
+    (q ≡ p) × (g ≡ page) × (allowed ≡ zones_of want) × IsCount count × IsMovingPin s a p page want e
+StandsAtPage s a p page n got want fast (walking q write long sequence step) =
+    IsWalkingPin s p page n got want fast q write long step
+StandsAtPage s a p page n got want fast job = ⊥
+
+-- all pages are taken in a walk alone
+abbrev pub IsWithin : (n got : ℕ) → Job → Type 0
+IsWithin n got (walking q write long sequence step) = got ≤ n
+IsWithin n got job = got < n
+
+-- the pages that are taken are the first ones, but where a walk drops them from the first one on
+abbrev pub HasPages : (p page : ℕ) → Want → (got : ℕ) → List Taken → Job → Type 0
+HasPages p page want got taken (walking q write long sequence dropping) =
+    (dropped : ℕ) × HasTaken p (page + dropped) want got taken
+HasPages p page want got taken job = HasTaken p page want got taken
+
+-- how many turns are over of a page that a pin moves first, and of its walk at least
 abbrev pub turns_over : Job → ℕ
 turns_over (moving q g e allowed unread) = 1
 turns_over (moving q g e allowed count) = 2
+turns_over (walking q write long sequence step) = 1
 turns_over job = 0
 
+-- How many turns of a pin of n pages are over at most, which has taken so many, by the job of its actor: of one that walks, by the
+-- step of its walk, or those of the whole walk and of its slow pages.
+abbrev pub steps_over : (n got : ℕ) → WalkStep → ℕ
+steps_over n got entered = 1
+steps_over n got ready = 4 * got + 2
+steps_over n got (read g e) = 4 * got + 3
+steps_over n got (grabbed g e) = 4 * got + 4
+steps_over n got (rechecked g e) = 4 * got + 1
+steps_over n got (differed f) = 4 * got + 5
+steps_over n got refused = 4 * got + 2
+steps_over n got stopped = 4 * got + 7
+steps_over n got dropping = walk_turns true n - got
+steps_over n got over = walk_turns true n
+
+abbrev pub most_over : (fast long : Bool) → (n got : ℕ) → Job → ℕ
+most_over fast long n got (walking q write kept sequence step) = steps_over n got step
+most_over fast long n got job = walk_turns fast n + pin_turns long got + turns_over job
+
 -- a pin of n pages has got so many, stands at the next one, and its handle is yet to be made
-pub record StandsPin (s : CoreState) (a p handle page n : ℕ) (want : Want) (got : ℕ) : Type 0 where
-  pub within : got < n
+pub record StandsPin (s : CoreState) (a p handle page n : ℕ) (want : Want) (fast : Bool) (got : ℕ) : Type 0 where
+  pub within : IsWithin n got (s.job a)
   pub yet : s.handle handle ≡ unmade
-  pub taken : HasTaken p page want got (s.taken a)
-  pub at : StandsAtPage s a p (page + got) want (s.job a)
+  pub taken : HasPages p page want got (s.taken a) (s.job a)
+  pub at : StandsAtPage s a p (page + got) n got want fast (s.job a)

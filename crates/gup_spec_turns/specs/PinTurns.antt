@@ -10,7 +10,7 @@ use Rattle.gup_plain.specs.declared.answer.Cause.TheVariants as causes
 use Rattle.gup_plain.specs.declared.event.PlainEvent.TheVariants as events
 use Rattle.gup_plain.specs.declared.note.What.{What}
 use Rattle.gup_plain.specs.declared.note.What.TheVariants.{Silent, Event, Done}
-use Rattle.gup_spec_events.specs.State.{CoreState, Job, moving, Counted, unread, one, more}
+use Rattle.gup_spec_events.specs.State.{CoreState, Job, moving, walking, Counted, unread, one, more}
 use Rattle.gup_spec_events.specs.Event.{CoreEvent, raise_flag, pin_page, make_handle, unpin_page, give_handle, take_handle, get_reference, put_reference, run, entry_of, take_frame, put_entry, clear_entry, place_frame, restore_entry}
 use Rattle.gup_spec_events.specs.Fault.{Fault, write_fault, unshare_fault}
 use Rattle.gup_plain.specs.Denial.{is_held_by, holder_denial}
@@ -18,13 +18,14 @@ use Rattle.gup_spec_journal.specs.Denial.{has_reference}
 use Rattle.gup_spec_turns.specs.CoreTurn.{CoreTurn, free_in, zones_of, entry_in, ends_with, denied_or, after_fault}
 use Rattle.gup_spec_turns.specs.PageTurns.{load_fault}
 use Rattle.gup_spec_turns.specs.MoveTurns.{count_turn}
+use Rattle.gup_spec_turns.specs.WalkTurns.{begin_turn, walk_turn}
 
--- pin: one page a turn, but one that a long pin moves first in three
+-- pin: one page a turn, but one that a long pin moves first in three; of one that walks, first the turns of that
 
--- has-pinned is set before the first page is tried
-abbrev pub raises : (a p got : ℕ) → List CoreEvent
-raises a p zero = raise_flag a p ∷ []
-raises a p (suc got) = []
+-- has-pinned is set before the first page is tried; one that walks has set it before its walk
+abbrev pub raises : (a p got : ℕ) → (fast : Bool) → List CoreEvent
+raises a p zero false = raise_flag a p ∷ []
+raises a p got fast = []
 
 -- a page of a write pin needs a writable entry, one of a read pin an exclusive frame
 abbrev pub pin_fault : CoreState → (a p page : ℕ) → (write : Bool) → (free : Option ℕ) → Fault
@@ -81,15 +82,20 @@ ends_pin before a handle n zero answer = record { events = before; whats = Done 
 ends_pin before a handle n (suc got) answer =
     ends_with (before ++ make_handle a handle ∷ []) (events.PinOk a handle) (answers.Short (suc got) n (cause_of answer))
 
-abbrev pub pin_turn_by : Fault → CoreState → (a p handle page n got : ℕ) → Want → CoreTurn
-pin_turn_by (Err answer) s a p handle page n got want = ends_pin (raises a p got) a handle n got answer
-pin_turn_by (Ok before) s a p handle page n got want =
-    pins s (raises a p got ++ before) a p handle page n want (got + 1 == n)
+abbrev pub pin_turn_by : Fault → CoreState → (a p handle page n got : ℕ) → Want → (fast : Bool) → CoreTurn
+pin_turn_by (Err answer) s a p handle page n got want fast = ends_pin (raises a p got fast) a handle n got answer
+pin_turn_by (Ok before) s a p handle page n got want fast =
+    pins s (raises a p got fast ++ before) a p handle page n want (got + 1 == n)
 
--- the turn of a pin that has got so many pages, and is in the middle of none
-abbrev pub pin_turn_at : CoreState → (a p handle page n got : ℕ) → Want → CoreTurn
-pin_turn_at s a p handle page n got want =
-    pin_turn_by (pin_fault s a p (page + got) want.write (free_in s (zones_of want))) s a p handle (page + got) n got want
+-- the slow turn of a pin that has got so many pages, and is in the middle of none
+abbrev pub pin_turn_at : CoreState → (a p handle page n got : ℕ) → Want → (fast : Bool) → CoreTurn
+pin_turn_at s a p handle page n got want fast =
+    pin_turn_by (pin_fault s a p (page + got) want.write (free_in s (zones_of want))) s a p handle (page + got) n got want fast
+
+-- one that walks begins with that
+abbrev pub begins_or_pins : (begins : Bool) → CoreState → (a p handle page n got : ℕ) → Want → (fast : Bool) → CoreTurn
+begins_or_pins true s a p handle page n got want fast = begin_turn a p want
+begins_or_pins false s a p handle page n got want fast = pin_turn_at s a p handle page n got want fast
 
 -- the entry is put back, and the page refused
 abbrev pub ends_moved : (a p handle page n got : ℕ) → Want → Entry → Counted → Answer → CoreTurn
@@ -110,13 +116,18 @@ moved_turn s a p handle page n got want e one = pins_moved a p handle page n got
 moved_turn s a p handle page n got want e (more count) =
     ends_moved a p handle page n got want e (more count) (answers.Unmovable count)
 
-abbrev pub pin_turn_in : CoreState → (a p handle page n got : ℕ) → Want → Job → CoreTurn
-pin_turn_in s a p handle page n got want (moving q g e allowed count) = moved_turn s a p handle (page + got) n got want e count
-pin_turn_in s a p handle page n got want job = pin_turn_at s a p handle page n got want
+abbrev pub pin_turn_in : CoreState → (a p handle page n got : ℕ) → Want → (fast : Bool) → (far : ℕ) → Job → CoreTurn
+pin_turn_in s a p handle page n got want fast far (moving q g e allowed count) =
+    moved_turn s a p handle (page + got) n got want e count
+pin_turn_in s a p handle page n got want fast far (walking q write long sequence step) =
+    walk_turn s a p handle page n want sequence step
+pin_turn_in s a p handle page n got want fast far job =
+    begins_or_pins (fast && far == 0) s a p handle page n got want fast
 
 -- it has got those that it has taken
-abbrev pub pin_turn : CoreState → (a p handle page n : ℕ) → Want → CoreTurn
-pin_turn s a p handle page n want = pin_turn_in s a p handle page n (length (s.taken a)) want (s.job a)
+abbrev pub pin_turn : CoreState → (a p handle page n : ℕ) → Want → (fast : Bool) → (far : ℕ) → CoreTurn
+pin_turn s a p handle page n want fast far =
+    pin_turn_in s a p handle page n (length (s.taken a)) want fast far (s.job a)
 
 -- unpin: the last page that the pin still has, one a turn
 

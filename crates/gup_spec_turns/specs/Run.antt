@@ -33,13 +33,13 @@ run_start script =
 abbrev pub op_in : ScriptValue → RunState → ℕ → Option Op
 op_in script r a = present_op script a (r.places a)
 
-abbrev pub waiting_with : CoreState → Doer → Option Op → Option Waiting
-waiting_with s who None = None
-waiting_with s who (Some op) = waiting_for s who op
+abbrev pub waiting_with : CoreState → Doer → (far : ℕ) → Option Op → Option Waiting
+waiting_with s who far None = None
+waiting_with s who far (Some op) = waiting_for s who far op
 
 -- what the actor waits for, if it waits
 abbrev pub waiting_in : ScriptValue → RunState → ℕ → Option Waiting
-waiting_in script r a = waiting_with r.core (doer_of script a (op_in script r a)) (op_in script r a)
+waiting_in script r a = waiting_with r.core (doer_of script a (op_in script r a)) (r.places a).far (op_in script r a)
 
 -- the turn of an actor: idle where it has finished, without an event where it waits, else that of its operation
 abbrev pub core_turn_by : CoreState → Doer → (far : ℕ) → Option Op → Option Waiting → CoreTurn

@@ -24,7 +24,7 @@ op_turn s a p slots far (Load page word) = load_turn s a p page word (s.entry p 
 op_turn s a p slots far (Store page word value) = store_turn s a p page word value (s.entry p page)
 op_turn s a p slots far (Protect page n rights) = protect_turn s a p page n rights
 op_turn s a p slots far (Discard page n) = discard_turn s a p (page + far) (far + 1 == n)
-op_turn s a p slots far (Pin handle page n want fast) = pin_turn s a p handle page n want
+op_turn s a p slots far (Pin handle page n want fast) = pin_turn s a p handle page n want fast far
 op_turn s a p slots far (Unpin handle) = unpin_turn s a handle
 op_turn s a p slots far (Give handle to) = give_turn s a handle to
 op_turn s a p slots far (Take handle) = take_turn a handle

@@ -1,11 +1,11 @@
 -- What an actor waits for before its next turn.
-use Rattle.std.specs.Prelude.{ℕ, ◌==◌, Bool, true, false, not, if◌then◌else◌, Option, Some, None, is_some, is_none}
+use Rattle.std.specs.Prelude.{ℕ, ◌==◌, ◌&&◌, Bool, true, false, not, if◌then◌else◌, Option, Some, None, is_some, is_none}
 use Rattle.gup_base.specs.declared.entry.Rights.{Rights}
 use Rattle.gup_plain.specs.declared.note.Waiting.{Waiting}
 use Rattle.gup_plain.specs.declared.note.Waiting.TheVariants as waitings
 use Rattle.gup_script.specs.declared.op.Op.{Op}
 use Rattle.gup_script.specs.declared.op.Op.TheVariants.{Map, Unmap, Protect, Discard, Load, Store, Pin, Get, Fork, Exit, Move}
-use Rattle.gup_spec_events.specs.State.{CoreState, Job, idle, forking, between}
+use Rattle.gup_spec_events.specs.State.{CoreState, Job, idle, forking, between, walking}
 use Rattle.gup_spec_journal.specs.Order.{handle_waits, waiting_at}
 use Rattle.gup_spec_journal.specs.Place.{Doer, birth_for}
 use Rattle.gup_spec_turns.specs.CoreTurn.{allows_store}
@@ -39,21 +39,26 @@ abbrev pub move_locks : Job → Locks
 move_locks idle = record { structure = false; table = true }
 move_locks job = no_lock
 
+-- The walk of a pin needs none, and so its first turn, which begins it. Any other turn of a pin needs both.
+abbrev pub pin_locks : (fast : Bool) → (far : ℕ) → Job → Locks
+pin_locks fast far (walking p write long sequence step) = no_lock
+pin_locks fast far job = both_if (not (fast && far == 0))
+
 -- A load or a store needs both where its entry doesn't allow it, and what is done with a pin or a reference that is there
 -- needs none.
-abbrev pub locks_needed : CoreState → (a p : ℕ) → Op → Locks
-locks_needed s a p (Load page word) = both_if (is_none (s.entry p page))
-locks_needed s a p (Store page word value) = both_if (not (allows_store (s.entry p page)))
-locks_needed s a p (Move proc page zone) = move_locks (s.job a)
-locks_needed s a p (Fork child) = fork_locks (s.right child) (s.job a)
-locks_needed s a p (Map page n rights) = both_locks
-locks_needed s a p (Unmap page n) = both_locks
-locks_needed s a p (Protect page n rights) = both_locks
-locks_needed s a p (Discard page n) = both_locks
-locks_needed s a p (Pin handle page n want fast) = both_locks
-locks_needed s a p (Get handle page) = both_locks
-locks_needed s a p Exit = both_locks
-locks_needed s a p op = no_lock
+abbrev pub locks_needed : CoreState → (a p far : ℕ) → Op → Locks
+locks_needed s a p far (Load page word) = both_if (is_none (s.entry p page))
+locks_needed s a p far (Store page word value) = both_if (not (allows_store (s.entry p page)))
+locks_needed s a p far (Move proc page zone) = move_locks (s.job a)
+locks_needed s a p far (Fork child) = fork_locks (s.right child) (s.job a)
+locks_needed s a p far (Map page n rights) = both_locks
+locks_needed s a p far (Unmap page n) = both_locks
+locks_needed s a p far (Protect page n rights) = both_locks
+locks_needed s a p far (Discard page n) = both_locks
+locks_needed s a p far (Pin handle page n want fast) = pin_locks fast far (s.job a)
+locks_needed s a p far (Get handle page) = both_locks
+locks_needed s a p far Exit = both_locks
+locks_needed s a p far op = no_lock
 
 -- a needed lock that another actor holds
 abbrev pub held_by_other : ℕ → Option ℕ → Option Waiting
@@ -72,12 +77,12 @@ abbrev pub waits_for_locks : Locks → (a : ℕ) → (structure table : Option �
 waits_for_locks locks a structure table =
     first_waiting (waits_for_lock locks.structure a structure) (waits_for_lock locks.table a table)
 
-abbrev pub waits_born : CoreState → (a p : ℕ) → Op → Option Waiting
-waits_born s a p op =
+abbrev pub waits_born : CoreState → (a p far : ℕ) → Op → Option Waiting
+waits_born s a p far op =
     first_waiting (handle_waits s.handle a (Some op))
-    (waits_for_locks (locks_needed s a p op) a (s.structure p) (s.table p))
+    (waits_for_locks (locks_needed s a p far op) a (s.structure p) (s.table p))
 
 -- What an actor waits for before its next turn, if it waits: first that the operation's process is born, then that a pin is
 -- given to it, then for the structure lock, then for the table lock.
-abbrev pub waiting_for : CoreState → Doer → Op → Option Waiting
-waiting_for s who op = waiting_at who.proc (birth_for s.birth who) (waits_born s who.actor who.proc op)
+abbrev pub waiting_for : CoreState → Doer → (far : ℕ) → Op → Option Waiting
+waiting_for s who far op = waiting_at who.proc (birth_for s.birth who) (waits_born s who.actor who.proc far op)
