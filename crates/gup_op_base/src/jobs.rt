@@ -1,7 +1,30 @@
 //! Where an operation of several turns stands between two of them.
 use gup_base::{Entry, FrameNo, PageNo};
 
-/// What an actor is in the middle of between two turns, and how far that is. Forks, moves and pages that a long pin moves
+/// Where the lockless walk of a pin stands between two turns.
+#[derive(Clone, Copy, Debug, PartialEq, Eq)]
+pub enum WalkPlace {
+    /// The process has pinned, and the sequence is to be read.
+    Entered,
+    /// The entry of the page is to be read, or after the last page the sequence again.
+    Ready,
+    /// The page had this entry; its frame is to be grabbed.
+    Read(Entry),
+    /// The frame is grabbed, and the entry is to be read again.
+    Grabbed(Entry),
+    /// The entry was the same, and the page is taken; the frame's mark is to be read.
+    Rechecked(Entry),
+    /// The page had another entry than this frame's, which is to be dropped.
+    Differed(FrameNo),
+    /// The frame of the last page taken wasn't marked, and is to be dropped.
+    Refused,
+    /// The walk stopped at the page, and the sequence is to be read again.
+    Stopped,
+    /// The sequence was another, and the pages that are left are to be dropped.
+    Dropping,
+}
+
+/// What an actor is in the middle of between two turns, and how far that is. Forks, moves, and pins that walk or move a page
 /// are alone in the middle of anything that counting pages and words doesn't show.
 ///
 /// It goes through each turn, so it is kept small: fields lie as they are written, the small ones first, and it takes 24
@@ -37,5 +60,11 @@ pub enum JobPlace {
         entry: Entry,
         page: PageNo,
         count: u64,
+    },
+    /// The walk of a pin stands there, at this page, and has read this sequence.
+    Walking {
+        place: WalkPlace,
+        page: PageNo,
+        sequence: u64,
     },
 }

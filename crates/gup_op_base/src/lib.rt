@@ -5,6 +5,6 @@ mod jobs;
 mod page;
 mod said;
 
-pub use jobs::JobPlace;
+pub use jobs::{JobPlace, WalkPlace};
 pub use page::page_behind;
 pub use said::Head;
