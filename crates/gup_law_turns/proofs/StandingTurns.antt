@@ -510,6 +510,7 @@ module _ (script : ScriptValue) (valid : IsScript script) (r : RunState) (h : St
           writes = at.writes;
           keeps = at.keeps;
           flag = stays_flagged s a p c q (strand_of op) turn.events turns.done.kinds at.flag;
+          unread = at.unread;
           here = at.here;
         }
     page_kept law page n got want fast job is at = absurd at

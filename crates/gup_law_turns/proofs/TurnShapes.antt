@@ -221,7 +221,7 @@ pub data TurnOf (s : PlainState) (references : References) (who : Doer) (place :
   pinned_short : (handle page n : ℕ) (want : Want) (fast : Bool) (got : ℕ) (cause : Cause) (from : JobPlace) → place.had ≡ true → pages_got s who.actor ≡ got → 0 < got → got < n → EndsPin want cause → RefusesAt want from (refusal_by_cause cause) → IsAnswerOf (op_denial s references who got (Pin handle page n want fast)) (refusal_by_cause cause) → TurnOf s references who place (Pin handle page n want fast) from (Event (events.PinOk who.actor handle) ∷ Done (answers.Short got n cause) ∷ []) unbegun
   -- a pin that walks: it begins, goes from step to step, keeps all pages, or is refused behind its walk
   began_walk : (handle page n : ℕ) (want : Want) → AtFirst place → 1 < pins_turns true want.long n → TurnOf s references who place (Pin handle page n want true) unbegun (Silent ∷ []) (in_walk 0 entered)
-  walked : (handle page n : ℕ) (want : Want) (sequence : ℕ) (step : WalkStep) (whats : List What) (to : JobPlace) → WalksTo s who page n (pages_got s who.actor) want.write sequence step whats to → place.far + 1 < pins_turns true want.long n → (place.had ≡ false → op_denial s references who (pages_got s who.actor) (Pin handle page n want true) ≡ None) → TurnOf s references who place (Pin handle page n want true) (in_walk sequence step) whats to
+  walked : (handle page n : ℕ) (want : Want) (sequence : ℕ) (step : WalkStep) (whats : List What) (to : JobPlace) → WalksTo s who page n (pages_got s who.actor) want.write sequence step whats to → place.far + 1 < pins_turns true want.long n → ((e : PlainEvent) → whats ≡ Event e ∷ [] → place.had ≡ false → op_denial s references who (pages_got s who.actor) (Pin handle page n want true) ≡ None) → TurnOf s references who place (Pin handle page n want true) (in_walk sequence step) whats to
   kept_all : (handle page n : ℕ) (want : Want) (sequence : ℕ) → pages_got s who.actor ≡ n → place.had ≡ true → TurnOf s references who place (Pin handle page n want true) (in_walk sequence ready) (Event (events.PinOk who.actor handle) ∷ Done (answers.Pinned n) ∷ []) unbegun
   refused_slowly : (handle page n : ℕ) (want : Want) (answer : Answer) → 0 < place.far → pages_got s who.actor ≡ 0 → IsTrue (refuses (Pin handle page n want true) answer) → (answer ≡ answers.Unborn → ⊥) → IsAtOnce (Pin handle page n want true) answer → IsAnswerOf (op_denial s references who (pages_got s who.actor) (Pin handle page n want true)) answer → TurnOf s references who place (Pin handle page n want true) unbegun (Done answer ∷ []) unbegun
   -- an unpin: one page of several, and the last one

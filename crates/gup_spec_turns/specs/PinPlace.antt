@@ -48,13 +48,14 @@ IsAtStep page n got stopped = got < n
 IsAtStep page n got dropping = 0 < got
 IsAtStep page n got over = ⊥
 
--- the walk is one of this pin of process p, which has pinned
-pub record IsWalkingPin (s : CoreState) (p page n got : ℕ) (want : Want) (fast : Bool) (q : ℕ) (write long : Bool) (step : WalkStep) : Type 0 where
+-- the walk is one of this pin of process p, which has pinned; before it reads the sequence, that is 0
+pub record IsWalkingPin (s : CoreState) (p page n got : ℕ) (want : Want) (fast : Bool) (q : ℕ) (write long : Bool) (sequence : ℕ) (step : WalkStep) : Type 0 where
   pub walks : fast ≡ true
   pub of : q ≡ p
   pub writes : write ≡ want.write
   pub keeps : long ≡ want.long
   pub flag : s.has_pinned p ≡ true
+  pub unread : step ≡ entered → sequence ≡ 0
   pub here : IsAtStep page n got step
 
 -- where a pin of n pages stands that has taken so many, by the job of its actor; the next one is this page
@@ -63,7 +64,7 @@ StandsAtPage s a p page n got want fast idle = Unit {0}
 StandsAtPage s a p page n got want fast (moving q g e allowed count) =
     (q ≡ p) × (g ≡ page) × (allowed ≡ zones_of want) × IsCount count × IsMovingPin s a p page want e
 StandsAtPage s a p page n got want fast (walking q write long sequence step) =
-    IsWalkingPin s p page n got want fast q write long step
+    IsWalkingPin s p page n got want fast q write long sequence step
 StandsAtPage s a p page n got want fast job = ⊥
 
 -- all pages are taken in a walk alone
