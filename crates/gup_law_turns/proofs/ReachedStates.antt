@@ -97,14 +97,7 @@ idle_stands : (job : Job) → job ≡ idle → HoldsNoFrame job
 idle_stands job is = rw is (refl, refl)
 
 few_frame : (a : ℕ) (job : Job) → HoldsNoFrame job → HoldsFew a job
-few_frame a job none = (inl none.0, none.1)
-
--- a slow pin keeps no walk's frame
-ungrabbed : (s : CoreState) (a p page n got : ℕ) (want : Want) (fast : Bool) (job : Job) → fast ≡ false → StandsAtPage s a p page n got want fast job → grabbed_frame job ≡ None
-ungrabbed s a p page n got want fast idle never at = refl
-ungrabbed s a p page n got want fast (moving q g e allowed count) never at = refl
-ungrabbed s a p page n got want fast (walking q write long sequence step) never at = absurd (let walks = at.walks in cc)
-ungrabbed s a p page n got want fast job never at = absurd at
+few_frame a job none = inl none
 
 -- a short pin that doesn't walk is in the middle of nothing
 short_idle : (s : CoreState) (a p page n got : ℕ) (want : Want) (fast : Bool) (job : Job) → s.job a ≡ job → want.long ≡ false → fast ≡ false → StandsAtPage s a p page n got want fast job → s.job a ≡ idle
@@ -113,12 +106,12 @@ short_idle s a p page n got want fast (moving q g e allowed count) is short neve
 short_idle s a p page n got want fast (walking q write long sequence step) is short never at = absurd (let walks = at.walks in cc)
 short_idle s a p page n got want fast job is short never at = absurd at
 
-no_frame : (s : CoreState) (who : Doer) (op : Option Op) (place : Place) → ((o : Op) → op ≡ Some o → who.actor < 81) → ((o : Op) → op ≡ Some o → IsOp o) → FitsAt s who op place → HoldsFew who.actor (s.job who.actor)
-no_frame s who (Some (Pin handle page n want fast)) place few range fits = (inr (few (Pin handle page n want fast) refl), ungrabbed s who.actor who.proc (page + length (s.taken who.actor)) n (length (s.taken who.actor)) want fast (s.job who.actor) (range (Pin handle page n want fast) refl).3 fits.at)
-no_frame s who (Some (Move proc page zone)) place few range fits = (inr (few (Move proc page zone) refl), (move_stands s who.actor who.proc page zone place (s.job who.actor) fits.2).1)
-no_frame s who (Some (Fork child)) place few range fits = few_frame who.actor (s.job who.actor) (fork_stands s who.actor who.proc child place (s.job who.actor) (s.prepared who.actor) fits.1).1
-no_frame s who (Some Exit) place few range fits = few_frame who.actor (s.job who.actor) (idle_stands (s.job who.actor) fits.0)
-no_frame s who op place few range fits = few_frame who.actor (s.job who.actor) (idle_stands (s.job who.actor) fits.0.0)
+no_frame : (s : CoreState) (who : Doer) (op : Option Op) (place : Place) → ((o : Op) → op ≡ Some o → who.actor < 81) → FitsAt s who op place → HoldsFew who.actor (s.job who.actor)
+no_frame s who (Some (Pin handle page n want fast)) place few fits = inr (few (Pin handle page n want fast) refl)
+no_frame s who (Some (Move proc page zone)) place few fits = inr (few (Move proc page zone) refl)
+no_frame s who (Some (Fork child)) place few fits = few_frame who.actor (s.job who.actor) (fork_stands s who.actor who.proc child place (s.job who.actor) (s.prepared who.actor) fits.1).1
+no_frame s who (Some Exit) place few fits = few_frame who.actor (s.job who.actor) (idle_stands (s.job who.actor) fits.0)
+no_frame s who op place few fits = few_frame who.actor (s.job who.actor) (idle_stands (s.job who.actor) fits.0.0)
 
 idle_job : (s : CoreState) (who : Doer) (op : Option Op) (place : Place) → KeepsNoJob op → FitsAt s who op place → s.job who.actor ≡ idle
 idle_job s who (Some (Pin handle page n want fast)) place short fits = short_idle s who.actor who.proc (page + length (s.taken who.actor)) n (length (s.taken who.actor)) want fast (s.job who.actor) refl short.0 short.1 fits.at
@@ -278,7 +271,7 @@ is_standing published script valid r h =
       mapped = λ p page e is. entry_mapped s p page e k.sound (k.emptied p page) is (s.right p page) refl;
       counted = λ p page e is none. entry_counted s p page e k.sound is none;
       few_pages = λ p. few_mapped s p (k.few.mapped p) (k.few.pages p);
-      few_counts = few_counts s k.sound k.calm k.rest (λ a. no_frame s (doer_of script a (present_op script a (r.places a))) (present_op script a (r.places a)) (r.places a) (λ op is. few_actor a op is) (λ op is. op_is_op script valid a (r.places a).answered op is) (k.fits a)) k.emptied few (few_pins script valid r k) (λ handle got. let below = k.got handle got in let most = valid.few_handles in omega (arith, below, most));
+      few_counts = few_counts s k.sound k.calm k.rest (λ a. no_frame s (doer_of script a (present_op script a (r.places a))) (present_op script a (r.places a)) (r.places a) (λ op is. few_actor a op is) (k.fits a)) k.emptied few (few_pins script valid r k) (λ handle got. let below = k.got handle got in let most = valid.few_handles in omega (arith, below, most));
       few_forks = few_sequence (length script.processes) valid.few_processes s k.few;
       idle_jobs = λ a no_fork. idle_job s (doer_of script a (present_op script a (r.places a))) (present_op script a (r.places a)) (r.places a) no_fork (k.fits a);
       forks = λ a child is. (fork_stands s a (process_of script a) child (r.places a) (s.job a) (s.prepared a) (at a (Fork child) is).1).0;

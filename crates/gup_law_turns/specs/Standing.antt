@@ -43,7 +43,7 @@ abbrev pub IsUnmade : CoreState → (handle : ℕ) → Type 0
 IsUnmade s handle = (s.handle handle ≡ unmade) × (s.got handle ≡ None)
 
 -- The core state is sound, and all that is published of core states holds of it. Those that are not unborn are declared. Each
--- entry is of a mapped page, and its frame has a reference. No actor but one that forks, moves or pins for long is in the middle of anything, none but
+-- entry is of a mapped page, and its frame has a reference. No actor but one that forks, moves, walks or pins for long is in the middle of anything, none but
 -- one that pins has taken pages, and none but one that copies a page has prepared a frame. A pin has had no more
 -- turns than its pages take. An operation that goes over pages or
 -- words stands at one of them, an unpin has given back fewer than the most pages of a pin, and no actor has answered more
@@ -57,7 +57,7 @@ pub record IsStanding (script : ScriptValue) (r : RunState) : Type 0 where
   pub mapped : (p page : ℕ) (e : Entry) → r.core.entry p page ≡ Some e → IsSome (r.core.right p page)
   pub counted : (p page : ℕ) (e : Entry) → r.core.entry p page ≡ Some e → r.core.count e.frame ≡ 0 → ⊥
   pub few_pages : (p : ℕ) → mapped_pages (r.core.right p) ≤ 1024
-  pub few_counts : (f : ℕ) → r.core.count f ≤ 16 * page_numbers + most_handles + 81 + bias * 17680
+  pub few_counts : (f : ℕ) → r.core.count f ≤ 16 * page_numbers + most_handles + 81 + bias * 17761
   pub few_forks : (p : ℕ) → r.core.sequence p ≤ 32
   pub idle_jobs : (a : ℕ) → KeepsNoJob (present_op script a (r.places a)) → r.core.job a ≡ idle
   pub forks : (a child : ℕ) → present_op script a (r.places a) ≡ Some (Fork child) → StandsFork r.core a (process_of script a) child (r.core.job a) (r.core.prepared a)
