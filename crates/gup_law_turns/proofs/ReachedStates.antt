@@ -31,6 +31,8 @@ use Rattle.gup_law_turns.proofs.ScriptLemmas.{op_is_op, has_ops_declared}
 use Rattle.gup_law_turns.proofs.SmallCounts.{HoldsNoFrame, HoldsFew, ArePinsFew, few_counts}
 use Rattle.gup_law_turns.proofs.FewPages.{few_sequence}
 use Rattle.gup_law_turns.proofs.ActorPlaces.{op_behind, answered_more}
+use Rattle.gup_law_base.proofs.Lonely.{taken_counts, grabbed_counts}
+use Rattle.gup_law_base.specs.Sound.{walk_frame, walking_of}
 use Rattle.gup_law_turns.proofs.PreparedFrames.{ArePreparedThere, there_on, is_prepared}
 use Rattle.gup_law_turns.proofs.TurnShapes.{FitsMove, FitsFork, FitsPin, FitsOp, FitsAt, TurnAt, idles, waits, goes, unborn_refused, unborn_fork, child_of, strand_of}
 use Rattle.gup_law_turns.proofs.StandingTurns.{Starts, at_each, stands_on, stands_first}
@@ -193,6 +195,21 @@ pin_weighed s h k f sound is =
     let sum = sound.1.count_is f in
     omega (arith, some, here, sum, tally.3)
 
+-- and so has that of a page that is taken, and one that a walk has grabbed
+
+taken_weighed : (s : CoreState) (a k : ℕ) (t : Taken) → IsSound s → slice_get (s.taken a) k ≡ Some t → bias ≤ s.count t.frame
+taken_weighed s a k t (v, h) is =
+    let weighs = taken_counts v s h a k t is in
+    let all = h.count_is t.frame in
+    omega (arith, weighs, all)
+
+walk_job : (job : Job) → walk_frame (walking_of job) ≡ grabbed_frame job
+walk_job (walking p write long sequence step) = refl
+walk_job job = refl
+
+grab_weighed : (s : CoreState) (a f : ℕ) → IsSound s → grabbed_frame (s.job a) ≡ Some f → bias ≤ s.count f
+grab_weighed s a f (v, h) is = grabbed_counts v s h a f (ap walk_frame (h.walks_are a) ∙ walk_job (s.job a) ∙ is)
+
 -- the frame of a reference has one
 got_counted : (s : CoreState) (h a f : ℕ) → IsSound s → s.got h ≡ Some (a, f) → s.count f ≡ 0 → ⊥
 unfolding sounds.held
@@ -286,6 +303,8 @@ is_standing published script valid r h =
       handles = k.handles;
       made = k.made;
       weighed = λ handle j f there. pin_weighed s handle j f k.sound there;
+      taken_weighed = λ a j t there. taken_weighed s a j t k.sound there;
+      grabbed = λ a f is. grab_weighed s a f k.sound is;
       got = k.got;
       referred = λ handle a f there none. got_counted s handle a f k.sound there none;
       yet_unmade = λ a handle op is makes. k.yet_unmade a (r.places a).answered handle (op, is, makes) (omega arith);
