@@ -300,10 +300,10 @@ const REFUSALS: [(&str, u32, Reason, &str); 7] = [
         "line 5: name\n",
     ),
     (
-        "gup 1\nframes 8 8 64\nprocess p\nthread t p\non t pinfast h 5 1 read\n",
-        5,
+        "gup 1\nframes 8 8 64\nprocess p\nthread t p\ndevice d 8\non d mirror m p 5\n",
+        6,
         Reason::Later,
-        "line 5: later\n",
+        "line 6: later\n",
     ),
 ];
 

@@ -65,7 +65,7 @@ means_one st (stores address value) x y h g =
     let same = one_address address h.0 h.1 g.0 g.1 h.3 g.3 in
     cc (h.5, g.5, number_read value h.2 h.4, number_read value g.2 g.4)
 means_one st exits x y h g = h ∙ sym g
-means_one st (pins false handle first count write long) x y h g =
+means_one st (pins fast handle first count write long) x y h g =
     let same = one_range most_pinned first count h.0 h.1 g.0 g.1 h.2 g.2 in cc (h.3, g.3)
 means_one st (gets handle page) x y h g = let same = one_page page h.0 g.0 h.1 g.1 in cc (h.2, g.2)
 means_one st (puts handle) x y h g = let same = one_got st handle h.0 g.0 h.1 g.1 in cc (h.2, g.2)
@@ -100,7 +100,7 @@ made_declared st (discards first count) op word fields m same = rw m.3 refl
 made_declared st (loads address) op word fields m same = rw m.3 refl
 made_declared st (stores address value) op word fields m same = rw m.5 refl
 made_declared st exits op word fields m same = rw m refl
-made_declared st (pins false handle first count write long) op word fields m same =
+made_declared st (pins fast handle first count write long) op word fields m same =
     let behind : fields ≡ handle ∷ first ∷ count ∷ write_word write ∷ long_words long = ap behind_first same in
     rw (m.3, behind) refl
 made_declared st (gets handle page) op word fields m same =

@@ -30,12 +30,11 @@ unfolding way_in
 way_again true = refl
 way_again false = refl
 
--- a pin is built, or later, once all else of it is right
-pin_ends : (st : Outline) (fast long write : Bool) (handle first count : Word) (page n : ℕ) → IsRange most_pinned first count page n → Ends st (pins fast handle first count write long) (Ok (cond (not fast) (Some (ops.Pin (length st.script.handles) page n (want_of write long) false)) None))
-pin_ends st true long write handle first count page n h = later refl (λ b. b)
-pin_ends st false long write handle first count page n h = built (ops.Pin (length st.script.handles) page n (want_of write long) false) refl tt (page, n, h, refl)
+-- a pin is built
+pin_ends : (st : Outline) (fast long write : Bool) (handle first count : Word) (page n : ℕ) → IsRange most_pinned first count page n → Ends st (pins fast handle first count write long) (Ok (Some (ops.Pin (length st.script.handles) page n (want_of write long) fast)))
+pin_ends st fast long write handle first count page n h = built (ops.Pin (length st.script.handles) page n (want_of write long) fast) refl tt (page, n, h, refl)
 
-pin_judged : (st : Outline) (a : ℕ) (fast long write : Bool) (handle first count : Word) → Judged st a (pins fast handle first count write long) (pinned_in (not fast) long st handle first count (write_word write))
+pin_judged : (st : Outline) (a : ℕ) (fast long write : Bool) (handle first count : Word) → Judged st a (pins fast handle first count write long) (pinned_in fast long st handle first count (write_word write))
 unfolding pinned_in
 pin_judged st a fast long write handle first count = rw (way_again write) (goes tt (range_step most_pinned first count _ (λ page n h.
     checked _ (name_Decides handle) (λ g. checked _ (unused_Decides st.names handle) (λ u. handle_step st _ (pin_ends st fast long write handle first count page n h))))))
@@ -47,8 +46,8 @@ way_stops now long st handle first count way e = rw e refl
 pub pin_told : (st : Outline) (a : ℕ) (fast : Bool) (fields : List Word) → Told st a (pin_word fast ∷ fields) (pin_in fast st fields)
 unfolding pin_in
 pin_told st a fast (handle ∷ first ∷ count ∷ way ∷ []) = short (way_in way) refl where
-  short : (o : Option Bool) → way_in way ≡ o → Told st a (pin_word fast ∷ handle ∷ first ∷ count ∷ way ∷ []) (pinned_in (not fast) false st handle first count way)
-  short None e = inr (way_stops (not fast) false st handle first count way e, said fast) where
+  short : (o : Option Bool) → way_in way ≡ o → Told st a (pin_word fast ∷ handle ∷ first ∷ count ∷ way ∷ []) (pinned_in fast false st handle first count way)
+  short None e = inr (way_stops fast false st handle first count way e, said fast) where
     said : (b : Bool) → action_in (pin_word b ∷ handle ∷ first ∷ count ∷ way ∷ []) ≡ None
     said true = ap (said_with (λ write. pins true handle first count write false)) e
     said false = ap (said_with (λ write. pins false handle first count write false)) e
@@ -57,23 +56,23 @@ pin_told st a fast (handle ∷ first ∷ count ∷ way ∷ []) = short (way_in w
       inl (
         pins fast handle first count write false,
         ap (λ (w : Word). pin_word fast ∷ handle ∷ first ∷ count ∷ w ∷ []) is,
-        subst (λ (w : Word). Judged st a (pins fast handle first count write false) (pinned_in (not fast) false st handle first count w)) (sym is) (pin_judged st a fast false write handle first count),
+        subst (λ (w : Word). Judged st a (pins fast handle first count write false) (pinned_in fast false st handle first count w)) (sym is) (pin_judged st a fast false write handle first count),
       )
 pin_told st a fast (handle ∷ first ∷ count ∷ way ∷ word ∷ []) = tested (bytes_eq word (codes "long")) refl (way_in way) refl where
   said : (b c : Bool) (o : Option Bool) → bytes_eq word (codes "long") ≡ c → way_in way ≡ o → action_in (pin_word b ∷ handle ∷ first ∷ count ∷ way ∷ word ∷ []) ≡ cond c (said_with (λ write. pins b handle first count write true) o) None
   said true c o l e = rw (l, e) refl
   said false c o l e = rw (l, e) refl
 
-  tested : (b : Bool) → bytes_eq word (codes "long") ≡ b → (o : Option Bool) → way_in way ≡ o → Told st a (pin_word fast ∷ handle ∷ first ∷ count ∷ way ∷ word ∷ []) (check reasons.Shape b >>= λ _. pinned_in (not fast) true st handle first count way)
+  tested : (b : Bool) → bytes_eq word (codes "long") ≡ b → (o : Option Bool) → way_in way ≡ o → Told st a (pin_word fast ∷ handle ∷ first ∷ count ∷ way ∷ word ∷ []) (check reasons.Shape b >>= λ _. pinned_in fast true st handle first count way)
   tested false l o e = inr (refl, said fast false o l e)
-  tested true l None e = inr (way_stops (not fast) true st handle first count way e, said fast true None l e)
+  tested true l None e = inr (way_stops fast true st handle first count way e, said fast true None l e)
   tested true l (Some write) e =
       let is = way_found way write e in
       let long = same_word word (codes "long") l in
       inl (
         pins fast handle first count write true,
         cc (is, long),
-        subst (λ (w : Word). Judged st a (pins fast handle first count write true) (pinned_in (not fast) true st handle first count w)) (sym is) (pin_judged st a fast true write handle first count),
+        subst (λ (w : Word). Judged st a (pins fast handle first count write true) (pinned_in fast true st handle first count w)) (sym is) (pin_judged st a fast true write handle first count),
       )
 pin_told st a true _ = inr (refl, refl)
 pin_told st a false _ = inr (refl, refl)

@@ -34,7 +34,7 @@ is_op st (discards first count) op m = subst IsOp (sym m.3) (m.2.2, m.2.3, m.2.4
 is_op st (loads address) op m = subst IsOp (sym m.3) (m.2.1, m.2.2)
 is_op st (stores address value) op m = subst IsOp (sym m.5) (m.3.1, m.3.2, m.4.1)
 is_op st exits op m = subst IsOp (sym m) tt
-is_op st (pins false handle first count write long) op m = subst IsOp (sym m.3) (m.2.2, m.2.3, m.2.4, refl)
+is_op st (pins fast handle first count write long) op m = subst IsOp (sym m.3) (m.2.2, m.2.3, m.2.4)
 is_op st (gets handle page) op m = subst IsOp (sym m.2) m.1.1
 is_op st (puts handle) op m = subst IsOp (sym m.2) tt
 is_op st (forks child) op m = subst IsOp (sym m.2) tt
@@ -55,7 +55,7 @@ declared st a (discards first count) op h m names = subst (AreDeclared st.script
 declared st a (loads address) op h m names = subst (AreDeclared st.script) (sym m.3) tt
 declared st a (stores address value) op h m names = subst (AreDeclared st.script) (sym m.5) tt
 declared st a exits op h m names = subst (AreDeclared st.script) (sym m) tt
-declared st a (pins false handle first count write long) op h m names =
+declared st a (pins fast handle first count write long) op h m names =
     let long = length_push st.script.handles handle in
     subst (AreDeclared (with_handle handle st).script) (sym m.3) (omega arith)
 declared st a (gets handle page) op h m names =
@@ -119,7 +119,7 @@ fits st (discards first count) op h m once = other_fits st.script.actors op (λ 
 fits st (loads address) op h m once = other_fits st.script.actors op (λ child is. absurd (cc (m.3, is)), λ handle is. absurd (let none = ap made_by m.3 in cc (none, is)))
 fits st (stores address value) op h m once = other_fits st.script.actors op (λ child is. absurd (cc (m.5, is)), λ handle is. absurd (let none = ap made_by m.5 in cc (none, is)))
 fits st exits op h m once = other_fits st.script.actors op (λ child is. absurd (cc (m, is)), λ handle is. absurd (let none = ap made_by m in cc (none, is)))
-fits st (pins false handle first count write long) op h m once = subst (Fits st.script.actors) (sym m.3) (handle_fits st (Pin (length st.script.handles) m.0 m.1 (want_of write long) false) refl h)
+fits st (pins fast handle first count write long) op h m once = subst (Fits st.script.actors) (sym m.3) (handle_fits st (Pin (length st.script.handles) m.0 m.1 (want_of write long) fast) refl h)
 fits st (gets handle page) op h m once = subst (Fits st.script.actors) (sym m.2) (handle_fits st (Get (length st.script.handles) m.0) refl h)
 fits st (puts handle) op h m once = other_fits st.script.actors op (λ child is. absurd (cc (m.2, is)), λ number is. absurd (let none = ap made_by m.2 in cc (none, is)))
 fits st (forks child) op h m once = subst (Fits st.script.actors) (sym m.2) (fork_fits st child m.0 m.1 once)
@@ -140,7 +140,7 @@ threads st (discards first count) op p m h = subst IsOfThread (sym m.3) tt
 threads st (loads address) op p m h = subst IsOfThread (sym m.3) tt
 threads st (stores address value) op p m h = subst IsOfThread (sym m.5) tt
 threads st exits op p m h = subst IsOfThread (sym m) tt
-threads st (pins false handle first count write long) op p m h = subst IsOfThread (sym m.3) tt
+threads st (pins fast handle first count write long) op p m h = subst IsOfThread (sym m.3) tt
 threads st (gets handle page) op p m h = subst IsOfThread (sym m.2) tt
 threads st (puts handle) op p m h = subst IsOfThread (sym m.2) tt
 threads st (forks child) op p m h = subst IsOfThread (sym m.2) tt
@@ -161,6 +161,7 @@ devices st (loads address) op slots m h = absurd (none_among (op_words (Device s
 devices st (stores address value) op slots m h = absurd (none_among (op_words (Device slots)) (codes "store") refl h)
 devices st exits op slots m h = absurd (none_among (op_words (Device slots)) (codes "exit") refl h)
 devices st (pins false handle first count write long) op slots m h = absurd (none_among (op_words (Device slots)) (codes "pin") refl h)
+devices st (pins true handle first count write long) op slots m h = absurd (none_among (op_words (Device slots)) (codes "pinfast") refl h)
 devices st (gets handle page) op slots m h = absurd (none_among (op_words (Device slots)) (codes "get") refl h)
 devices st (puts handle) op slots m h = absurd (none_among (op_words (Device slots)) (codes "put") refl h)
 devices st (forks child) op slots m h = absurd (none_among (op_words (Device slots)) (codes "fork") refl h)
@@ -180,6 +181,7 @@ movers st (loads address) op m h = absurd (none_among (op_words Mover) (codes "l
 movers st (stores address value) op m h = absurd (none_among (op_words Mover) (codes "store") refl h)
 movers st exits op m h = absurd (none_among (op_words Mover) (codes "exit") refl h)
 movers st (pins false handle first count write long) op m h = absurd (none_among (op_words Mover) (codes "pin") refl h)
+movers st (pins true handle first count write long) op m h = absurd (none_among (op_words Mover) (codes "pinfast") refl h)
 movers st (gets handle page) op m h = absurd (none_among (op_words Mover) (codes "get") refl h)
 movers st (puts handle) op m h = absurd (none_among (op_words Mover) (codes "put") refl h)
 movers st (forks child) op m h = absurd (none_among (op_words Mover) (codes "fork") refl h)

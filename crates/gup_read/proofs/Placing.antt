@@ -38,9 +38,9 @@ declarable_by st (discards first count) op word fields same once few m = subst (
 declarable_by st (loads address) op word fields same once few m = subst (λ (o : Op). IsDeclarable o fields st) (sym m.3) tt
 declarable_by st (stores address value) op word fields same once few m = subst (λ (o : Op). IsDeclarable o fields st) (sym m.5) tt
 declarable_by st exits op word fields same once few m = subst (λ (o : Op). IsDeclarable o fields st) (sym m) tt
-declarable_by st (pins false handle first count write long) op word fields same once few m =
+declarable_by st (pins fast handle first count write long) op word fields same once few m =
     let behind : fields ≡ handle ∷ first ∷ count ∷ write_word write ∷ long_words long = ap behind_first same in
-    let pin : Op = Pin (length st.script.handles) m.0 m.1 (want_of write long) false in
+    let pin : Op = Pin (length st.script.handles) m.0 m.1 (want_of write long) fast in
     subst (λ (o : Op). IsDeclarable o fields st) (sym m.3)
     (subst (λ (words : List Word). IsDeclarable pin words st) (sym behind) ((unused_Decides st.names handle).1 once, few))
 declarable_by st (gets handle page) op word fields same once few m =

@@ -105,21 +105,21 @@ unfoldable pub exit_in : List (List ℕ) → Result (Option Op) Reason
 exit_in [] = Ok (Some ops.Exit)
 exit_in _ = Err reasons.Shape
 
--- a pin, which comes later where it is fast
-unfoldable pub pinned_in : (built long : Bool) → Outline → (handle first count way : List ℕ) → Result (Option Op) Reason
-pinned_in built long st handle first count way = do
+-- a pin
+unfoldable pub pinned_in : (fast long : Bool) → Outline → (handle first count way : List ℕ) → Result (Option Op) Reason
+pinned_in fast long st handle first count way = do
   write ← need reasons.Shape (way_in way)
   range ← need reasons.Number (range_in most_pinned first count)
   _ ← check reasons.Name (is_name handle)
   _ ← check reasons.Twice (is_unused st.names handle)
   h ← need reasons.Limit (next_handle st)
-  Ok (if built then Some (ops.Pin h range.0 range.1 (want_of write long) false) else None)
+  Ok (Some (ops.Pin h range.0 range.1 (want_of write long) fast))
 
 unfoldable pub pin_in : (fast : Bool) → Outline → List (List ℕ) → Result (Option Op) Reason
-pin_in fast st (handle ∷ first ∷ count ∷ way ∷ []) = pinned_in (not fast) false st handle first count way
+pin_in fast st (handle ∷ first ∷ count ∷ way ∷ []) = pinned_in fast false st handle first count way
 pin_in fast st (handle ∷ first ∷ count ∷ way ∷ long ∷ []) = do
   _ ← check reasons.Shape (bytes_eq long (codes "long"))
-  pinned_in (not fast) true st handle first count way
+  pinned_in fast true st handle first count way
 pin_in fast st _ = Err reasons.Shape
 
 unfoldable pub get_in : Outline → List (List ℕ) → Result (Option Op) Reason

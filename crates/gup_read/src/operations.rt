@@ -135,35 +135,31 @@ fn pinned_range(first: &str, count: &str) -> Option<(PageNo, u8)>
     Some((page, n as u8))
 }
 
-/// The words of a pin but for `long`. A pin is built unless it is fast.
+/// The words of a pin but for `long`.
 #[tactic(auto, unfolding(crate::specs::Reading::pinned_in))]
 fn pinned_pages(
     reader: &Reader,
-    built: bool,
+    fast: bool,
     long: bool,
     handle: &str,
     first: &str,
     count: &str,
     way_word: &str,
 ) -> Result<Option<Op>, Reason>
-    ensures { result ≡ pinned_in built long reader.now handle.now first.now count.now way_word.now }
+    ensures { result ≡ pinned_in fast long reader.now handle.now first.now count.now way_word.now }
 {
     let write = way(way_word).ok_or(Reason::Shape)?;
     let (page, n) = pinned_range(first, count).ok_or(Reason::Number)?;
     check(is_name(handle), Reason::Name)?;
     check(reader.is_unused(handle), Reason::Twice)?;
     let handle = reader.next_handle().ok_or(Reason::Limit)?;
-    if built {
-        Ok(Some(Op::Pin {
-            handle,
-            page,
-            n,
-            want: Want { write, long },
-            fast: false,
-        }))
-    } else {
-        Ok(None)
-    }
+    Ok(Some(Op::Pin {
+        handle,
+        page,
+        n,
+        want: Want { write, long },
+        fast,
+    }))
 }
 
 /// `pin` and `pinfast`.
@@ -173,11 +169,11 @@ fn pin_op(reader: &Reader, fast: bool, fields: &[&str]) -> Result<Option<Op>, Re
 {
     match fields {
         [handle, first, count, way] => pinned_pages(
-            reader, !fast, false, handle, first, count, way,
+            reader, fast, false, handle, first, count, way,
         ),
         [handle, first, count, way, long] => {
             check(*long == "long", Reason::Shape)?;
-            pinned_pages(reader, !fast, true, handle, first, count, way)
+            pinned_pages(reader, fast, true, handle, first, count, way)
         }
         _ => Err(Reason::Shape),
     }

@@ -27,8 +27,7 @@ IsOp (Protect page n rights) = IsPages page n
 IsOp (Discard page n) = IsPages page n
 IsOp (Load page word) = (page < 2 ^ 35) × (word < 512)
 IsOp (Store page word value) = (page < 2 ^ 35) × (word < 512) × (value < 2 ^ 64)
--- lockless pins aren't built
-IsOp (Pin handle page n want fast) = (1 ≤ n) × (n ≤ most_pinned) × (page + n ≤ 2 ^ 35) × (fast ≡ false)
+IsOp (Pin handle page n want fast) = (1 ≤ n) × (n ≤ most_pinned) × (page + n ≤ 2 ^ 35)
 IsOp (Transfer handle outward slot parts) = AreParts parts × (slot < 2 ^ 32)
 IsOp (Get handle page) = page < 2 ^ 35
 IsOp (Move proc page zone) = page < 2 ^ 35

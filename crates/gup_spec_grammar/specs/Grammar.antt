@@ -175,9 +175,9 @@ Means st (loads address) op = (page w : ℕ) × IsAddress address page w × (op 
 Means st (stores address value) op =
     (page w v : ℕ) × IsAddress address page w × IsNumber value v × (op ≡ ops.Store page w v)
 Means st exits op = op ≡ ops.Exit
-Means st (pins false handle first count write long) op =
+Means st (pins fast handle first count write long) op =
     (page n : ℕ) × IsRange most_pinned first count page n
-    × (op ≡ ops.Pin (length st.script.handles) page n (want_of write long) false)
+    × (op ≡ ops.Pin (length st.script.handles) page n (want_of write long) fast)
 Means st (gets handle page) op =
     (p : ℕ) × IsPage page p × (op ≡ ops.Get (length st.script.handles) p)
 Means st (puts handle) op = (h : ℕ) × NamesGot st handle h × (op ≡ ops.Put h)
@@ -192,10 +192,8 @@ Means st (transfers outward handle index slot count) op =
     × (op ≡ ops.Transfer h outward s ((i, n) ∷ []))
 Means st action op = ⊥
 
--- The action is an operation that is built: all are but lockless pins, mirrors, and transfers of several
--- parts.
+-- The action is an operation that is built: all are but mirrors, and transfers of several parts.
 abbrev pub IsBuilt : Action → Type 0
-IsBuilt (pins true handle first count write long) = ⊥
 IsBuilt (mirrors mirror process page) = ⊥
 IsBuilt (looks mirror word) = ⊥
 IsBuilt (transfers_parts outward handle slot first more) = ⊥

@@ -137,7 +137,6 @@ const LINES: [(&str, u32, Reason); 158] = [
     ("random 1 1000001\n", 8, Reason::Limit),
     ("turns t\nrandom 1 1000000\n", 9, Reason::Limit),
     ("random 1 18446744073709551615\n", 8, Reason::Limit),
-    ("on t pinfast h 34359738366 2 read\n", 8, Reason::Later),
     ("on d mirror s c 0\n", 8, Reason::Later),
     ("on t pin h 0 1 read\non d outv h 0 0:1\n", 9, Reason::Later),
     (
