@@ -23,7 +23,7 @@ use Rattle.gup_plain.specs.Event.{may_write, words}
 use Rattle.gup_script.specs.declared.op.Op.{Op}
 use Rattle.gup_script.specs.declared.op.Op.TheVariants.{Map, Unmap, Protect, Discard, Load, Store, Pin, Unpin, Give, Take, Get, Put, Transfer, Fork, Exit, Move}
 use Rattle.gup_script.specs.Script.{ScriptValue}
-use Rattle.gup_spec_events.specs.State.{CoreState, Job, idle, moving, Counted, unread, one as counted_one, more as counted_more, forking, between, counted, copying, walking, Taken, WalkStep, entered, ready, read, grabbed, rechecked, differed, refused as refused_step, stopped, dropping, over}
+use Rattle.gup_spec_events.specs.State.{CoreState, Job, idle, moving, Counted, unread, one as counted_one, more as counted_more, forking, between, counted, copying, walking, Taken, WalkStep, ready, read, grabbed, refused as refused_step, dropping}
 use Rattle.gup_spec_events.specs.Event.{CoreEvent, upgrade, restore_entry, run}
 use Rattle.gup_spec_events.specs.Fault.{Fault, fills, unshares, unshare_fault, read_fault, write_fault, fills_writable, breaks, makes_writable, marks}
 use Rattle.gup_spec_journal.specs.Denial.{has_reference}

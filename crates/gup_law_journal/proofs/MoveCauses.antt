@@ -1,6 +1,6 @@
 -- A turn answers that a page is untouched exactly where a move finds it so, and that its frame is busy exactly where a move has
 -- counted more than one reference.
-use Rattle.std.proofs.Common.{◌≡◌, ℕ, ◌<◌, List, [], ◌∷◌, length, slice_index_or, Contains, Option, Some, None, IsSome, IsTrue, refl, sym, ap, ◌∙◌, subst, zero, suc, arith, rules, not, Bool, true}
+use Rattle.std.proofs.Common.{◌≡◌, ℕ, ◌<◌, List, [], ◌∷◌, length, slice_index_or, Contains, Option, Some, None, IsSome, IsTrue, refl, sym, ap, ◌∙◌, subst, zero, suc, arith, rules, Bool, true}
 use Rattle.gup_base.specs.declared.entry.Allowed.{Allowed}
 use Rattle.gup_base.specs.declared.entry.Allowed.TheVariants.{Only}
 use Rattle.gup_base.specs.declared.entry.Entry.{Entry}
@@ -16,7 +16,7 @@ use Rattle.gup_script.specs.Script.{ScriptValue}
 use Rattle.gup_script.specs.Valid.{IsScript}
 use Rattle.gup_script.specs.declared.op.Op.{Op}
 use Rattle.gup_script.specs.declared.op.Op.TheVariants.{Pin, Move}
-use Rattle.gup_spec_events.specs.State.{CoreState, Job, idle, marking, moving, walking, WalkStep, Counted, unread, one as counted_one, more as counted_more, forking, between, counted, copying, plain_of}
+use Rattle.gup_spec_events.specs.State.{CoreState, Job, idle, moving, WalkStep, Counted, unread, one as counted_one, more as counted_more, forking, between, counted, copying, plain_of}
 use Rattle.gup_spec_journal.specs.Denial.{References}
 use Rattle.gup_spec_journal.specs.Follows.{refuses}
 use Rattle.gup_spec_journal.specs.Place.{Place, Doer, doer_of, birth_for}

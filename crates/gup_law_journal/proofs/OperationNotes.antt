@@ -1,13 +1,13 @@
 -- A run follows its script: what an actor's notes are from a state on, backwards from the end.
-use Rattle.std.proofs.Common.{◌≡◌, ℕ, ◌+◌, ◌-◌, ◌<◌, ◌≤◌, ◌==◌, ◌++◌, ◌⊎◌, inl, inr, Bool, true, false, IsTrue, length, length-append, List, [], ◌∷◌, Option, Some, None, slice_get, drop, refl, sym, ap, ◌∙◌, subst, subst₂, append_assoc, zero, suc, arith}
+use Rattle.std.proofs.Common.{◌≡◌, ℕ, ◌+◌, ◌-◌, ◌<◌, ◌≤◌, ◌==◌, ◌++◌, ◌⊎◌, inl, inr, Bool, true, false, IsTrue, List, [], ◌∷◌, Option, Some, None, slice_get, drop, refl, sym, ap, ◌∙◌, subst, subst₂, append_assoc, zero, suc, arith}
 use Rattle.std.proofs.Math.Seq.{drop-nil}
 use Rattle.gup_base.specs.Parts.{Part, words_of, word_at}
 use Rattle.gup_base.specs.declared.entry.Entry.{Entry}
 use Rattle.gup_base.specs.declared.entry.Want.{Want}
 use Rattle.gup_base.specs.declared.entry.Zone.{Zone}
-use Rattle.gup_plain.specs.Event.{words, happened}
+use Rattle.gup_plain.specs.Event.{words}
 use Rattle.gup_plain.specs.Note.{NoteValue}
-use Rattle.gup_plain.specs.State.{PlainState, Pending}
+use Rattle.gup_plain.specs.State.{PlainState}
 use Rattle.gup_plain.specs.declared.answer.Cause.{Cause}
 use Rattle.gup_plain.specs.declared.answer.Cause.TheVariants as causes
 use Rattle.gup_spec_journal.specs.Plain.{pages_got, refusal_by_cause}
@@ -27,7 +27,7 @@ use Rattle.gup_spec_journal.specs.Order.{Moves, plain_behind}
 use Rattle.gup_spec_journal.specs.Follows.{RefusesPage, EndsPin}
 use Rattle.gup_spec_journal.specs.Place.{Place, Doer, concerned, process_of_op, place_behind}
 use Rattle.gup_spec_turns.specs.JobPlace.{JobPlace, unbegun, from_page, at_page, wants_frame, at_word, moving_page, in_walk}
-use Rattle.gup_law_turns.proofs.Puts.{some_same, put_same}
+use Rattle.gup_law_turns.proofs.Puts.{some_same}
 use Rattle.gup_law_turns.proofs.TurnShapes.{IsAtOnce, IsAlwaysSlow, IsSlowTurn, WalksTo, began_walk, walked, kept_all, refused_slowly, TriesAt, RefusesAt, TurnOf, refused, loaded, took, took_last, passed, passed_last, took_lowest, took_all, cleared_page, counted_cleared, lacked_frame, found_unmovable, pinned_page, pinned_all, pinned_short, unpinned_page, unpinned_last, moved_word, moved_last, cleared_entry, counted_frame, placed_frame, found_no_frame, found_busy, began, passed_page, counted_page, shared_page, ended, counted_copy, took_frame, copied_word, placed_copy, failed_fork, GoesOver, unmaps, discards, TurnAt, idles, waits, goes, unborn_refused, unborn_fork}
 use Rattle.gup_law_journal.proofs.PendingPages.{first_pending}
 use Rattle.gup_law_journal.proofs.WalkNotes.{one_pending, walk_before, walk_behind, kept_all as all_kept}
@@ -73,7 +73,7 @@ RestOfMove who op (moving_page page e count) notes =
     (answer : Answer) × IsLate answer × IsTurn who (Done answer ∷ []) notes
 RestOfMove who op at notes = Shape who op notes
 
--- The same of any operation; of a pin also by the first page that it has got.
+-- What is left of any operation; of a pin also by the first page that it has got.
 abbrev pub RestOf : Who → Op → (far got first : ℕ) → JobPlace → List NoteValue → Type 0
 RestOf who (Unmap page n) far got first at notes = RestOver who (Unmap page n) page n (events.Unmap who.actor who.proc) far notes
 RestOf who (Discard page n) far got first at notes = RestOver who (Discard page n) page n (events.Discard who.actor who.proc) far notes

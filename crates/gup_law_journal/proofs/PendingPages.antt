@@ -1,5 +1,5 @@
 -- The pages that a pin's walk has taken, as the plain state has them: the first one, and what is left where one is dropped.
-use Rattle.std.proofs.Common.{◌≡◌, ℕ, ◌+◌, ◌<◌, ◌==◌, not, true, false, cond, List, [], ◌∷◌, length, slice_get, Some, refl, ap, sym, ◌∙◌, zero, suc, arith}
+use Rattle.std.proofs.Common.{◌≡◌, ℕ, ◌+◌, ◌<◌, ◌==◌, not, true, false, cond, List, [], ◌∷◌, length, refl, ap, ◌∙◌, suc, arith}
 use Rattle.std.specs.List.{filter}
 use Rattle.std.proofs.lemmas.Bool.Decides.{nat_tests}
 use Rattle.gup_plain.specs.Event.{happened}

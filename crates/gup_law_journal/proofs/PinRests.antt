@@ -1,6 +1,5 @@
 -- What is left of a pin that walks or goes slowly, by where it stands.
-use Rattle.std.proofs.Common.{◌≡◌, ℕ, ◌+◌, ◌-◌, ◌<◌, ◌⊎◌, inl, inr, Bool, true, false, IsTrue, List, [], ◌∷◌, refl, ◌∙◌, sym, subst, zero, suc, arith}
-use Rattle.gup_base.specs.declared.entry.Entry.{Entry}
+use Rattle.std.proofs.Common.{◌≡◌, ℕ, ◌+◌, ◌-◌, ◌<◌, ◌⊎◌, inl, inr, Bool, true, false, IsTrue, List, [], ◌∷◌, refl, subst, zero, suc, arith}
 use Rattle.gup_base.specs.declared.entry.Want.{Want}
 use Rattle.gup_plain.specs.Note.{NoteValue}
 use Rattle.gup_plain.specs.State.{PlainState}
@@ -12,13 +11,12 @@ use Rattle.gup_plain.specs.declared.answer.Cause.TheVariants as causes
 use Rattle.gup_plain.specs.declared.event.PlainEvent.TheVariants as events
 use Rattle.gup_plain.specs.declared.note.What.{What}
 use Rattle.gup_plain.specs.declared.note.What.TheVariants.{Silent, Event, Done}
-use Rattle.gup_script.specs.declared.op.Op.{Op}
 use Rattle.gup_script.specs.declared.op.Op.TheVariants.{Pin}
-use Rattle.gup_spec_events.specs.State.{WalkStep, entered, ready, unread}
+use Rattle.gup_spec_events.specs.State.{WalkStep, entered, unread}
 use Rattle.gup_spec_journal.specs.Follows.{Who, IsTurn, IsRefused, Then, Shape, PinsAll, PinsPages, RefusesPage, RefusesFirst, RefusesFast, Walks, refuses}
-use Rattle.gup_spec_turns.specs.JobPlace.{JobPlace, unbegun, from_page, at_page, wants_frame, at_word, moving_page, in_walk}
+use Rattle.gup_spec_turns.specs.JobPlace.{JobPlace, unbegun, moving_page, in_walk}
 use Rattle.gup_law_turns.proofs.TurnShapes.{IsAtOnce, IsSlowTurn, WalksTo, found_fork}
-use Rattle.gup_law_journal.proofs.WalkNotes.{reads_first, PlaceRest, Silently}
+use Rattle.gup_law_journal.proofs.WalkNotes.{reads_first, PlaceRest}
 
 -- Of a page that a long pin moves first, the third turn: the page is pinned, and what is left then follows, or it is refused.
 abbrev pub PinsThird : Who → (handle page n : ℕ) → Want → (got left : ℕ) → List NoteValue → Type 0
@@ -111,10 +109,10 @@ module _ (who : Who) (handle page n : ℕ) (want : Want) where
 
   -- the turn that begins the walk is before all
   pub walk_shape : (got first : ℕ) (notes : List NoteValue) → got ≡ 0 → Then (IsTurn who (Silent ∷ [])) (PinRest who handle page n want true got first (in_walk 0 entered)) notes → Shape who (Pin handle page n want true) notes
-  walk_shape got first notes none (f, r, is, b, now, inl walks) =
-      inl (f, r, is, b, now, reads_first who page n want.write (PinsAll who handle n) (PinsPages who handle page n want) got first r none walks)
-  walk_shape got first notes none (f, r, is, b, now, inr (answer, refusal, walks)) =
-      inr (answer, refusal.0, fast_refused answer notes (refusal.1 refl) (f, r, is, b, now, reads_first who page n want.write (λ rest. ⊥) (RefusesFirst who want answer) got first r none walks))
+  walk_shape got first notes none (front, rest, is, before, begins, inl walks) =
+      inl (front, rest, is, before, begins, reads_first who page n want.write (PinsAll who handle n) (PinsPages who handle page n want) got first rest none walks)
+  walk_shape got first notes none (front, rest, is, before, begins, inr (answer, refusal, walks)) =
+      inr (answer, refusal.0, fast_refused answer notes (refusal.1 refl) (front, rest, is, before, begins, reads_first who page n want.write (λ rest. ⊥) (RefusesFirst who want answer) got first rest none walks))
 
   -- a pin of which no turn is over
   pub slow_shape : (notes : List NoteValue) → SlowRest who handle page n want false 0 notes → Shape who (Pin handle page n want false) notes

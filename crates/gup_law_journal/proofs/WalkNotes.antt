@@ -1,6 +1,5 @@
 -- What the notes of a pin's walk still are, by the step at which it stands: backwards over its turns.
-use Rattle.std.proofs.Common.{◌≡◌, ℕ, ◌+◌, ◌-◌, ◌<◌, ◌≤◌, ◌++◌, ◌⊎◌, inl, inr, Bool, length, length-append, List, [], ◌∷◌, refl, sym, ap, ◌∙◌, subst, zero, suc, arith}
-use Rattle.gup_base.specs.declared.entry.Entry.{Entry}
+use Rattle.std.proofs.Common.{◌≡◌, ℕ, ◌+◌, ◌-◌, ◌<◌, ◌++◌, ◌⊎◌, inl, inr, Bool, length, length-append, List, [], ◌∷◌, refl, sym, ap, ◌∙◌, subst, suc, arith}
 use Rattle.gup_plain.specs.Event.{happened}
 use Rattle.gup_plain.specs.Note.{NoteValue}
 use Rattle.gup_plain.specs.State.{PlainState, Pending}
@@ -8,7 +7,7 @@ use Rattle.gup_plain.specs.declared.event.PlainEvent.TheVariants as events
 use Rattle.gup_plain.specs.declared.note.What.{What}
 use Rattle.gup_plain.specs.declared.note.What.TheVariants.{Silent, Event}
 use Rattle.gup_spec_events.specs.State.{WalkStep, entered, ready, read, grabbed, rechecked, differed, refused, stopped, dropping, over}
-use Rattle.gup_spec_journal.specs.Follows.{Who, IsTurn, AreBehind, AreBefore, Then, Turns, Stop, at_entry, at_frame, at_entry_again, at_mark, drops_pages, DropsAll, StopsWalk, WalksOn, notes_of_turn}
+use Rattle.gup_spec_journal.specs.Follows.{Who, IsTurn, AreBehind, Then, Turns, at_entry, at_frame, at_entry_again, at_mark, drops_pages, DropsAll, StopsWalk, WalksOn, notes_of_turn}
 use Rattle.gup_spec_journal.specs.Order.{plain_behind}
 use Rattle.gup_spec_journal.specs.Place.{Place, Doer, place_behind}
 use Rattle.gup_spec_journal.specs.Plain.{pages_got}
@@ -16,7 +15,7 @@ use Rattle.gup_spec_turns.specs.JobPlace.{JobPlace, unbegun, in_walk}
 use Rattle.gup_law_turns.proofs.Puts.{put_same}
 use Rattle.gup_law_turns.proofs.TurnShapes.{WalksTo, found_fork, found_sequence, found_entry, found_wrong, grabbed_frame, found_free, took_page, found_other, found_mark, found_unmarked, dropped_frame, dropped_page, found_same, found_changed, lost_all, dropped_first, dropped_last}
 use Rattle.gup_law_journal.proofs.ActorNotes.{turn_before}
-use Rattle.gup_law_journal.proofs.PendingPages.{first_page, first_pending, starts_at, drops_last, drops_first}
+use Rattle.gup_law_journal.proofs.PendingPages.{first_pending, starts_at, drops_last, drops_first}
 
 -- a page more is pending
 pub one_pending : (s : PlainState) (a p g : ℕ) (write : Bool) → pages_got (happened s (events.PinTry a p g write)) a ≡ pages_got s a + 1
@@ -90,14 +89,14 @@ module _ (who : Who) (page n : ℕ) (write : Bool) (All : List NoteValue → Typ
 
   -- the turns of one page, to where it is kept or the walk stops at it
   page_walks : (kept : ℕ) (notes : List NoteValue) → Silently (λ rest. Grabs kept rest ⊎ Stops kept rest) notes → WalksOn who page n write All Slowly kept (suc (n - (kept + 1))) notes
-  page_walks kept notes (f, r, is, b, now, inr stops) = inr (at_entry, (f, r, is, b, now, stops))
-  page_walks kept notes (f, r, is, b, now, inl (f₁, r₁, is₁, b₁, grabs, inr stops)) = inr (at_frame, (f, r, is, b, now, (f₁, r₁, is₁, b₁, grabs, stops)))
-  page_walks kept notes (f, r, is, b, now, inl (f₁, r₁, is₁, b₁, grabs, inl (inr (f₂, r₂, is₂, b₂, other, drops)))) =
-      inr (at_entry_again, (f, r, is, b, now, (f₁, r₁, is₁, b₁, grabs, (f₂, r₂, is₂, b₂, other, drops))))
-  page_walks kept notes (f, r, is, b, now, inl (f₁, r₁, is₁, b₁, grabs, inl (inl (f₂, r₂, is₂, b₂, takes, (f₃, r₃, is₃, b₃, mark, inl on))))) =
-      inl (f, r, is, b, now, (f₁, r₁, is₁, b₁, grabs, (f₂, r₂, is₂, b₂, takes, (f₃, r₃, is₃, b₃, mark, on))))
-  page_walks kept notes (f, r, is, b, now, inl (f₁, r₁, is₁, b₁, grabs, inl (inl (f₂, r₂, is₂, b₂, takes, (f₃, r₃, is₃, b₃, mark, inr drops))))) =
-      inr (at_mark, (f, r, is, b, now, (f₁, r₁, is₁, b₁, grabs, (f₂, r₂, is₂, b₂, takes, (f₃, r₃, is₃, b₃, mark, drops)))))
+  page_walks kept notes (front, rest, is, before, reads, inr stops) = inr (at_entry, (front, rest, is, before, reads, stops))
+  page_walks kept notes (front, rest, is, before, reads, inl (front₁, rest₁, is₁, before₁, grabs, inr stops)) = inr (at_frame, (front, rest, is, before, reads, (front₁, rest₁, is₁, before₁, grabs, stops)))
+  page_walks kept notes (front, rest, is, before, reads, inl (front₁, rest₁, is₁, before₁, grabs, inl (inr (front₂, rest₂, is₂, before₂, other, drops)))) =
+      inr (at_entry_again, (front, rest, is, before, reads, (front₁, rest₁, is₁, before₁, grabs, (front₂, rest₂, is₂, before₂, other, drops))))
+  page_walks kept notes (front, rest, is, before, reads, inl (front₁, rest₁, is₁, before₁, grabs, inl (inl (front₂, rest₂, is₂, before₂, takes, (front₃, rest₃, is₃, before₃, mark, inl on))))) =
+      inl (front, rest, is, before, reads, (front₁, rest₁, is₁, before₁, grabs, (front₂, rest₂, is₂, before₂, takes, (front₃, rest₃, is₃, before₃, mark, on))))
+  page_walks kept notes (front, rest, is, before, reads, inl (front₁, rest₁, is₁, before₁, grabs, inl (inl (front₂, rest₂, is₂, before₂, takes, (front₃, rest₃, is₃, before₃, mark, inr drops))))) =
+      inr (at_mark, (front, rest, is, before, reads, (front₁, rest₁, is₁, before₁, grabs, (front₂, rest₂, is₂, before₂, takes, (front₃, rest₃, is₃, before₃, mark, drops)))))
 
   pub goes_on : (kept : ℕ) (notes : List NoteValue) → kept < n → Silently (λ rest. Grabs kept rest ⊎ Stops kept rest) notes → GoesOn kept notes
   goes_on kept notes less turns =
