@@ -222,15 +222,16 @@ module _ (s : CoreState) (a p page d : ℕ) (zone : Zone) (locked : s.structure 
   out_move (moving k g e allowed count) never = out_counted e count never
   out_move job never = same_keeps s s p d locked refl
 
--- so does a walk, which needs no lock
+-- a turn of a walk leaves the structure lock and the entries of every process
 walks_out : (s t : CoreState) (p d : ℕ) → s.structure p ≡ Some d → KeepsEntries s t → KeepsOut s t p d
 walks_out s t p d locked kept = same_keeps s t p d (ap (λ (f : ℕ → Option ℕ). f p) kept.0 ∙ locked) (ap (λ (f : ℕ → ℕ → Option Entry). f p) kept.1)
 
+-- so does the turn that begins one
 begins_out : (s : CoreState) (a p d : ℕ) → s.structure p ≡ Some d → (handle page n : ℕ) (want : Want) (fast begins : Bool) → not begins ≡ false → KeepsOut s (run s (begins_or_pins begins s a p handle page n (length (s.taken a)) want fast).events) p d
 begins_out s a p d locked handle page n want fast true free = walks_out s _ p d locked (begins_keep s a p want)
 begins_out s a p d locked handle page n want fast false free = absurd (cc free)
 
--- a pin that needs no lock walks, or is about to
+-- and so the turn of any pin that needs no lock: it walks, or is about to
 out_walk : (s : CoreState) (a p d : ℕ) → s.structure p ≡ Some d → (handle page n : ℕ) (want : Want) (fast : Bool) (far : ℕ) (job : Job) → StandsAtPage s a p (page + length (s.taken a)) n (length (s.taken a)) want fast job → (pin_locks fast far job).structure ≡ false → KeepsOut s (run s (pin_turn_in s a p handle page n (length (s.taken a)) want fast far job).events) p d
 out_walk s a p d locked handle page n want fast far idle at free = begins_out s a p d locked handle page n want fast (fast && far == 0) free
 out_walk s a p d locked handle page n want fast far (moving q g e allowed count) at free = absurd (let none : s.structure p ≡ None = at.4.unforked in cc)

@@ -1,4 +1,4 @@
--- A turn of a pin's walk leaves all locks and entries, and nobody who waits for another is let in by it.
+-- A turn of a pin's walk leaves all structure locks and entries.
 use Rattle.std.proofs.Common.{◌≡◌, ℕ, ◌+◌, ◌==◌, Bool, true, false, List, [], ◌∷◌, length, Option, Some, None, refl, ap, zero, suc, nat_lt}
 use Rattle.std.specs.Prelude.{◌||◌}
 use Rattle.gup_base.specs.declared.entry.Entry.{Entry}
@@ -8,7 +8,7 @@ use Rattle.gup_spec_events.specs.Event.{CoreEvent, is_odd, happens, read_sequenc
 use Rattle.gup_spec_turns.specs.Waits.{both_locks, both_if, pin_locks}
 use Rattle.gup_spec_turns.specs.WalkTurns.{begin_turn, leaves_if, grab_turn, is_same, recheck_turn, is_none_left, reads_again, all_turn, ready_turn, split_last, last_turn, first_turn, walk_turn}
 
--- all locks of structures and all entries are as they were
+-- all structure locks and all entries are as they were
 abbrev pub KeepsEntries : (s t : CoreState) → Type 0
 KeepsEntries s t = (t.structure ≡ s.structure) × (t.entry ≡ s.entry)
 
