@@ -168,9 +168,7 @@ fn pin_op(reader: &Reader, fast: bool, fields: &[&str]) -> Result<Option<Op>, Re
     ensures { result ≡ pin_in fast reader.now (map (λ word. word.now) fields.now) }
 {
     match fields {
-        [handle, first, count, way] => pinned_pages(
-            reader, fast, false, handle, first, count, way,
-        ),
+        [handle, first, count, way] => pinned_pages(reader, fast, false, handle, first, count, way),
         [handle, first, count, way, long] => {
             check(*long == "long", Reason::Shape)?;
             pinned_pages(reader, fast, true, handle, first, count, way)
