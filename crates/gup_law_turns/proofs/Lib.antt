@@ -7,6 +7,9 @@ pub mod HandleOps
 pub mod MoveOps
 pub mod PinPace
 pub mod PinOps
+pub mod WalkSteps
+pub mod WalkPages
+pub mod WalkEnds
 pub mod WalkOps
 pub mod ReferenceOps
 pub mod ReferenceNotes

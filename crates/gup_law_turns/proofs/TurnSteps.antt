@@ -92,6 +92,7 @@ record CanTake (s : CoreState) (who : Doer) (place : Place) (op : Op) : Type 0 w
   slots : who.slots ≤ most_slots
   ungot : (handle : ℕ) → made_by op ≡ Some handle → s.got handle ≡ None
   fits : FitsOp s who op place
+  fresh : place.far ≡ 0 → place.had ≡ false
   free : waits_born s who.actor who.proc place.far op ≡ None
 
 module _ (s : CoreState) (who : Doer) (place : Place) (quiet : IsQuiet s who.actor) where
@@ -106,7 +107,7 @@ module _ (s : CoreState) (who : Doer) (place : Place) (quiet : IsQuiet s who.act
   op_turned (Store page word value) h = store_turned s who place (opened (h.birth tt)) page word value h.range h.fits h.free
   op_turned (Protect page n rights) h = protect_turned s who place (opened (h.birth tt)) page n rights h.fits h.free
   op_turned (Discard page n) h = discard_turned s who place (opened (h.birth tt)) page n h.fits h.free
-  op_turned (Pin handle page n want fast) h = pin_turned s who place (opened (h.birth tt)) handle page n want fast h.range h.fits h.free
+  op_turned (Pin handle page n want fast) h = pin_turned s who place (opened (h.birth tt)) handle page n want fast h.range h.fresh h.fits h.free
   op_turned (Unpin handle) h = unpin_turned s who place quiet handle h.fits
   op_turned (Give handle to) h = give_turned s who place quiet handle to h.fits
   op_turned (Take handle) h =
@@ -208,7 +209,7 @@ module _ (s : CoreState) (who : Doer) (place : Place) (quiet : IsQuiet s who.act
   born_step birth free =
       let own_birth : IsOfProcess op → s.birth who.proc ≡ born = λ own. sym (thread_birth who s.birth (h.thread op refl own)) ∙ birth in
       let turn : CoreTurn = op_turn s who.actor who.proc who.slots place.far op in
-      let at : IsTurned s who place op turn = op_turned s who place quiet op (record { range = h.range op refl; birth = own_birth; slots = h.slots; ungot = h.ungot op refl; fits = h.fits; free = free }) in
+      let at : IsTurned s who place op turn = op_turned s who place quiet op (record { range = h.range op refl; birth = own_birth; slots = h.slots; ungot = h.ungot op refl; fits = h.fits; fresh = h.fresh; free = free }) in
       record {
         done = at.done;
         shape = goes op turn.whats (place_in s who.actor) (place_in (run s turn.events) who.actor) birth own_birth at.shape;
