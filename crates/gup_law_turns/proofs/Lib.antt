@@ -21,6 +21,7 @@ pub mod TurnSubjects
 pub mod KeptParts
 pub mod MappedCounts
 pub mod PreparedFrames
+pub mod CountedFrames
 pub mod ReachedStates
 pub mod TurnRuns
 pub mod StandingStates

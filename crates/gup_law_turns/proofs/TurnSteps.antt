@@ -97,7 +97,7 @@ record CanTake (s : CoreState) (who : Doer) (place : Place) (op : Op) : Type 0 w
 
 module _ (s : CoreState) (who : Doer) (place : Place) (quiet : IsQuiet s who.actor) where
   opened : s.birth who.proc ≡ born → IsOpen s who.actor who.proc
-  opened birth = record { sound = quiet.sound; calm = quiet.calm; rest = quiet.rest; birth = birth }
+  opened birth = record { sound = quiet.sound; calm = quiet.calm; there = quiet.there; rest = quiet.rest; birth = birth }
 
   -- the turn of any operation
   op_turned : (op : Op) → CanTake s who place op → IsTurned s who place op (op_turn s who.actor who.proc who.slots place.far op)
@@ -263,7 +263,7 @@ pub taken : (script : ScriptValue) → IsScript script → (r : RunState) → St
 taken script valid r h a =
     let k : ℕ = (r.places a).answered in
     take r.core (doer_of script a (op_in script r a)) (r.places a) (op_in script r a) (waiting_in script r a)
-    (record { sound = h.sound; calm = h.calm; rest = h.rest a })
+    (record { sound = h.sound; calm = h.calm; there = h.there; rest = h.rest a })
     (record {
       range = op_is_op script valid a k;
       thread = λ o is own. subst (λ (x : Option Op). (doer_of script a x).of_process ≡ true) (sym is) (has_own_process script valid a k o is (of_no_device o own));

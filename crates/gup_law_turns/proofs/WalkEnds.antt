@@ -28,7 +28,7 @@ use Rattle.gup_spec_journal.specs.Plain.{pages_got}
 use Rattle.gup_spec_turns.specs.Cost.{pin_turns, walk_turns, pins_turns}
 use Rattle.gup_spec_turns.specs.CoreTurn.{CoreTurn}
 use Rattle.gup_spec_turns.specs.JobPlace.{JobPlace, job_place, place_in, KeepsFrame, unbegun, in_walk}
-use Rattle.gup_spec_turns.specs.PinPlace.{HasTaken, IsTakenPage, HasPages, IsWithin, IsAtStep, IsWalkingPin, StandsAtPage, most_over, steps_over, turns_over}
+use Rattle.gup_spec_turns.specs.PinPlace.{HasTaken, IsTakenPage, HasPages, IsWithin, IsAtStep, IsWalkingPin, IsReadThere, StandsAtPage, most_over, steps_over, turns_over}
 use Rattle.gup_spec_turns.specs.WalkTurns.{silent_turn, begin_turn, leaves_if, sequence_turn, grab_turn, is_same, recheck_turn, is_none_left, all_turn, again_turn, ready_turn, one_before, split_last, last_turn, first_turn, walk_turn}
 use Rattle.gup_law_turns.proofs.CalmStates.{of_pin, AreTurnEvents, raising, making, entering, reading_sequence, reading_entry, grabbing, missing_frame, finding_same, finding_other, reading_mark, reading_again, dropping_grab, dropping_last, dropping_first, leaving}
 use Rattle.gup_law_turns.proofs.EventLists.{events_of}
@@ -84,7 +84,7 @@ module _ (s : CoreState) (who : Doer) (place : Place) (h : IsOpen s who.actor wh
 
   -- in the state after it the walk drops what it has taken
   drops_at : (t : CoreState) (k : ℕ) → t.has_pinned p ≡ true → 0 < k → StandsAtPage t a p (page + k) n k want true (walk_at dropping)
-  drops_at t k flag some = record { walks = refl; of = refl; writes = refl; keeps = refl; flag = flag; unread = λ same. absurd (cc same); here = some }
+  drops_at t k flag some = record { walks = refl; of = refl; writes = refl; keeps = refl; flag = flag; unread = λ same. absurd (cc same); here = some; there = tt }
 
   -- where the sequence is read again: the step that it comes to
   abbrev step_again : WalkStep

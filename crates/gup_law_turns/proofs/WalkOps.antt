@@ -79,7 +79,7 @@ begun_walk s who place h handle page n want some fits job first silent =
             yet = fits.yet;
             has = fits.has;
             flag = λ walks some. flag;
-            at = record { walks = refl; of = refl; writes = refl; keeps = refl; flag = flag; unread = λ same. refl; here = none };
+            at = record { walks = refl; of = refl; writes = refl; keeps = refl; flag = flag; unread = λ same. refl; here = none; there = tt };
           });
       pin = inl (refl, refl);
     }

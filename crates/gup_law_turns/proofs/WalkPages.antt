@@ -28,9 +28,10 @@ use Rattle.gup_spec_journal.specs.Plain.{pages_got}
 use Rattle.gup_spec_turns.specs.Cost.{pin_turns, walk_turns, pins_turns}
 use Rattle.gup_spec_turns.specs.CoreTurn.{CoreTurn}
 use Rattle.gup_spec_turns.specs.JobPlace.{JobPlace, job_place, place_in, KeepsFrame, unbegun, in_walk}
-use Rattle.gup_spec_turns.specs.PinPlace.{HasTaken, IsTakenPage, HasPages, IsWithin, IsAtStep, IsWalkingPin, StandsAtPage, most_over, steps_over, turns_over}
+use Rattle.gup_spec_turns.specs.PinPlace.{HasTaken, IsTakenPage, HasPages, IsWithin, IsAtStep, IsWalkingPin, IsReadThere, StandsAtPage, most_over, steps_over, turns_over}
 use Rattle.gup_spec_turns.specs.WalkTurns.{silent_turn, begin_turn, leaves_if, sequence_turn, grab_turn, is_same, recheck_turn, is_none_left, all_turn, again_turn, ready_turn, one_before, split_last, last_turn, first_turn, walk_turn}
 use Rattle.gup_law_turns.proofs.CalmStates.{of_pin, AreTurnEvents, raising, making, entering, reading_sequence, reading_entry, grabbing, missing_frame, finding_same, finding_other, reading_mark, reading_again, dropping_grab, dropping_last, dropping_first, leaving}
+use Rattle.gup_law_turns.proofs.CountedFrames.{entry_there}
 use Rattle.gup_law_turns.proofs.EventLists.{events_of}
 use Rattle.gup_law_turns.proofs.PinOps.{untaken_next, one_more, held_whole}
 use Rattle.gup_law_turns.proofs.PinPace.{pin_left}
@@ -83,8 +84,8 @@ module _ (s : CoreState) (who : Doer) (place : Place) (h : IsOpen s who.actor wh
   flag_set fits = fits.at.flag
 
   -- in the state after it the walk stands at this step, with these pages taken
-  walks_at : (t : CoreState) (k : ℕ) (step : WalkStep) → t.has_pinned p ≡ true → (step ≡ entered → ⊥) → IsAtStep (page + k) n k step → StandsAtPage t a p (page + k) n k want true (walk_at step)
-  walks_at t k step flag inside at = record { walks = refl; of = refl; writes = refl; keeps = refl; flag = flag; unread = λ same. absurd (inside same); here = at }
+  walks_at : (t : CoreState) (k : ℕ) (step : WalkStep) → t.has_pinned p ≡ true → (step ≡ entered → ⊥) → IsReadThere t step → IsAtStep (page + k) n k step → StandsAtPage t a p (page + k) n k want true (walk_at step)
+  walks_at t k step flag inside there at = record { walks = refl; of = refl; writes = refl; keeps = refl; flag = flag; unread = λ same. absurd (inside same); here = at; there = there }
 
   -- the entry of its next page: it is right for the pin, or the walk stops
 
@@ -111,7 +112,7 @@ module _ (s : CoreState) (who : Doer) (place : Place) (h : IsOpen s who.actor wh
           silent_to s who place h handle page n want some_pages few_pages sequence ready job fits es (walk_at stopped) (in_walk sequence stopped)
           (reading_entry handle refl want.write want.long sequence here (s.entry p here), tt) ((job, refl, untaken_next p page got want (s.taken a) fits.has), tt) refl
           (record { prepared = refl; owed = refl; handles = refl; pinned = refl; flag = refl; has = refl; is = to_step stopped same })
-          (record { some = fits.had_some; least = omega (arith, fits.least); most = omega (arith, most); within = omega (arith, less); pages = fits.has; at = walks_at t got stopped (flag_set fits) (λ e. cc e) less })
+          (record { some = fits.had_some; least = omega (arith, fits.least); most = omega (arith, most); within = omega (arith, less); pages = fits.has; at = walks_at t got stopped (flag_set fits) (λ e. cc e) tt less })
           refl more (found_wrong (less_pending less))
 
       by_wrong : (e : Entry) (wrong : Bool) → is_wrong s want.write want.long e ≡ wrong → s.entry p here ≡ Some e → Turned (silent_turn es)
@@ -122,7 +123,7 @@ module _ (s : CoreState) (who : Doer) (place : Place) (h : IsOpen s who.actor wh
           silent_to s who place h handle page n want some_pages few_pages sequence ready job fits es (walk_at (read here e)) (in_walk sequence (read here e))
           (reading_entry handle refl want.write want.long sequence here (s.entry p here), tt) ((job, refl, untaken_next p page got want (s.taken a) fits.has), tt) refl
           (record { prepared = refl; owed = refl; handles = refl; pinned = refl; flag = refl; has = refl; is = to_step (read here e) same })
-          (record { some = fits.had_some; least = omega (arith, fits.least); most = omega (arith, most); within = omega (arith, less); pages = fits.has; at = walks_at t got (read here e) (flag_set fits) (λ x. cc x) (refl, less) })
+          (record { some = fits.had_some; least = omega (arith, fits.least); most = omega (arith, most); within = omega (arith, less); pages = fits.has; at = walks_at t got (read here e) (flag_set fits) (λ x. cc x) (entry_there s h.sound h.there p here e there) (refl, less) })
           refl more (found_entry here e (less_pending less))
 
       by_entry : (o : Option Entry) → s.entry p here ≡ o → Turned (silent_turn es)
@@ -139,7 +140,7 @@ module _ (s : CoreState) (who : Doer) (place : Place) (h : IsOpen s who.actor wh
       silent_to s who place h handle page n want some_pages few_pages sequence (read g e) job fits es (walk_at stopped) (in_walk sequence stopped)
       (missing_frame handle refl want.write want.long sequence g e, tt) (job, tt) refl
       (record { prepared = refl; owed = refl; handles = refl; pinned = refl; flag = refl; has = refl; is = put_same a (walk_at stopped) s.job })
-      (record { some = fits.had_some; least = omega (arith, fits.least); most = omega (arith, most); within = omega (arith, less); pages = fits.has; at = walks_at (run s es) got stopped (flag_set fits) (λ x. cc x) less })
+      (record { some = fits.had_some; least = omega (arith, fits.least); most = omega (arith, most); within = omega (arith, less); pages = fits.has; at = walks_at (run s es) got stopped (flag_set fits) (λ x. cc x) tt less })
       refl (omega (arith, most, less)) (found_free g e (less_pending less))
   grabs g e job fits (suc count) counted =
       let es : List CoreEvent = grab_frame a p want.write want.long sequence g e ∷ [] in
@@ -148,7 +149,7 @@ module _ (s : CoreState) (who : Doer) (place : Place) (h : IsOpen s who.actor wh
       silent_to s who place h handle page n want some_pages few_pages sequence (read g e) job fits es (walk_at (grabbed g e)) (in_walk sequence (grabbed g e))
       (grabbing handle refl want.write want.long sequence g e, tt) ((job, λ none. absurd (omega (arith, none, counted))), tt) refl
       (record { prepared = refl; owed = refl; handles = refl; pinned = refl; flag = refl; has = refl; is = put_same a (walk_at (grabbed g e)) s.job })
-      (record { some = fits.had_some; least = omega (arith, fits.least); most = omega (arith, most); within = omega (arith, less); pages = fits.has; at = walks_at (run s es) got (grabbed g e) (flag_set fits) (λ x. cc x) fits.at.here })
+      (record { some = fits.had_some; least = omega (arith, fits.least); most = omega (arith, most); within = omega (arith, less); pages = fits.has; at = walks_at (run s es) got (grabbed g e) (flag_set fits) (λ x. cc x) tt fits.at.here })
       refl (omega (arith, most, less)) (grabbed_frame g e (less_pending less))
 
   -- its entry again: it is the same and the page is taken, or it is another
@@ -171,7 +172,7 @@ module _ (s : CoreState) (who : Doer) (place : Place) (h : IsOpen s who.actor wh
         silent_to s who place h handle page n want some_pages few_pages sequence (grabbed g e) job fits es (walk_at (differed e.frame)) (in_walk sequence (differed e.frame))
         (finding_other handle refl want.write want.long sequence g e, tt) ((job, other_entry e (s.entry p g) other), tt) refl
         (record { prepared = refl; owed = refl; handles = refl; pinned = refl; flag = refl; has = refl; is = put_same a (walk_at (differed e.frame)) s.job })
-        (record { some = fits.had_some; least = omega (arith, fits.least); most = omega (arith, most); within = omega (arith, less); pages = fits.has; at = walks_at (run s es) got (differed e.frame) (flag_set fits) (λ x. cc x) less })
+        (record { some = fits.had_some; least = omega (arith, fits.least); most = omega (arith, most); within = omega (arith, less); pages = fits.has; at = walks_at (run s es) got (differed e.frame) (flag_set fits) (λ x. cc x) tt less })
         refl more_grabbed (found_other g e (less_pending less))
 
     -- the page isn't denied, since its entry is right for the pin
@@ -205,7 +206,7 @@ module _ (s : CoreState) (who : Doer) (place : Place) (h : IsOpen s who.actor wh
           most = omega (arith, most, many);
           within = omega (arith, less, many);
           pages = subst (λ (k : ℕ). HasTaken p page want k (s.taken a ++ new ∷ [])) (sym many) taken_then;
-          at = walks_at (run s turn.events) (length (s.taken a ++ new ∷ [])) (rechecked g e) (flag_set fits) (λ x. cc x) (omega (arith, many), omega (arith, many, at_page));
+          at = walks_at (run s turn.events) (length (s.taken a ++ new ∷ [])) (rechecked g e) (flag_set fits) (λ x. cc x) tt (omega (arith, many), omega (arith, many, at_page));
         })
         refl
         (subst (λ (k : ℕ). TurnOf (plain_of s) (references_of s) who place op (in_walk sequence (grabbed g e)) (Event (events.PinTry a p k want.write) ∷ []) (in_walk sequence (rechecked g e))) named
@@ -225,7 +226,7 @@ module _ (s : CoreState) (who : Doer) (place : Place) (h : IsOpen s who.actor wh
       silent_to s who place h handle page n want some_pages few_pages sequence (rechecked g e) job fits es (walk_at ready) (in_walk sequence ready)
       (reading_mark handle refl want.write want.long sequence g e (s.mark e.frame), tt) ((job, refl), tt) refl
       (record { prepared = refl; owed = refl; handles = refl; pinned = refl; flag = refl; has = refl; is = put_same a (walk_at (if e.writable || s.mark e.frame then ready else refused)) s.job ∙ ap (λ (b : Bool). walk_at (if b then ready else refused)) keeps })
-      (record { some = fits.had_some; least = omega (arith, fits.least); most = omega (arith, most); within = few; pages = fits.has; at = walks_at (run s es) got ready (flag_set fits) (λ x. cc x) tt })
+      (record { some = fits.had_some; least = omega (arith, fits.least); most = omega (arith, most); within = few; pages = fits.has; at = walks_at (run s es) got ready (flag_set fits) (λ x. cc x) tt tt })
       refl (omega (arith, most, few)) (found_mark g e (some_pending fits.at.here.0))
   marks g e job fits false lacks =
       let es : List CoreEvent = read_mark a p want.write want.long sequence g e (s.mark e.frame) ∷ [] in
@@ -234,7 +235,7 @@ module _ (s : CoreState) (who : Doer) (place : Place) (h : IsOpen s who.actor wh
       silent_to s who place h handle page n want some_pages few_pages sequence (rechecked g e) job fits es (walk_at refused) (in_walk sequence refused)
       (reading_mark handle refl want.write want.long sequence g e (s.mark e.frame), tt) ((job, refl), tt) refl
       (record { prepared = refl; owed = refl; handles = refl; pinned = refl; flag = refl; has = refl; is = put_same a (walk_at (if e.writable || s.mark e.frame then ready else refused)) s.job ∙ ap (λ (b : Bool). walk_at (if b then ready else refused)) lacks })
-      (record { some = fits.had_some; least = omega (arith, fits.least); most = omega (arith, most); within = few; pages = fits.has; at = walks_at (run s es) got refused (flag_set fits) (λ x. cc x) fits.at.here.0 })
+      (record { some = fits.had_some; least = omega (arith, fits.least); most = omega (arith, most); within = few; pages = fits.has; at = walks_at (run s es) got refused (flag_set fits) (λ x. cc x) tt fits.at.here.0 })
       refl (omega (arith, most, few)) (found_unmarked g e (some_pending fits.at.here.0))
 
   -- what it drops where it stops
@@ -247,7 +248,7 @@ module _ (s : CoreState) (who : Doer) (place : Place) (h : IsOpen s who.actor wh
       silent_to s who place h handle page n want some_pages few_pages sequence (differed f) job fits es (walk_at stopped) (in_walk sequence stopped)
       (dropping_grab handle refl want.write want.long sequence f, tt) (job, tt) refl
       (record { prepared = refl; owed = refl; handles = refl; pinned = refl; flag = refl; has = refl; is = put_same a (walk_at stopped) s.job })
-      (record { some = fits.had_some; least = omega (arith, fits.least); most = omega (arith, most); within = omega (arith, less); pages = fits.has; at = walks_at (run s es) got stopped (flag_set fits) (λ x. cc x) less })
+      (record { some = fits.had_some; least = omega (arith, fits.least); most = omega (arith, most); within = omega (arith, less); pages = fits.has; at = walks_at (run s es) got stopped (flag_set fits) (λ x. cc x) tt less })
       refl (omega (arith, most, less)) (dropped_frame f (less_pending less))
 
   pub drops_page : IsAt refused → Fits refused → Turned (last_turn a p want sequence (split_last (s.taken a)))
@@ -275,7 +276,7 @@ module _ (s : CoreState) (who : Doer) (place : Place) (h : IsOpen s who.actor wh
             most = omega (arith, most, longer, same);
             within = omega (arith, few, longer, same);
             pages = fewer_taken p page got want rest last has;
-            at = walks_at (run s turn.events) (length rest) stopped (flag_set fits) (λ x. cc x) (omega (arith, few, longer, same));
+            at = walks_at (run s turn.events) (length rest) stopped (flag_set fits) (λ x. cc x) tt (omega (arith, few, longer, same));
           })
           refl
           (walked handle page n want sequence refused (Event (events.PinDrop a last.page) ∷ []) (in_walk sequence stopped)
