@@ -15,27 +15,29 @@ use Rattle.gup_plain.specs.declared.answer.Answer.TheVariants as answers
 use Rattle.gup_plain.specs.declared.note.What.TheVariants.{Silent}
 use Rattle.gup_script.specs.declared.op.Op.{Op}
 use Rattle.gup_script.specs.declared.op.Op.TheVariants.{Pin, Move, Fork}
-use Rattle.gup_spec_events.specs.State.{CoreState, Job, idle, moving, Counted, unread, one as counted_one, more as counted_more, forking, ForkStep, between, counted, lowered, cleared, copying, failing}
+use Rattle.gup_spec_events.specs.State.{CoreState, Job, idle, moving, Counted, unread, one as counted_one, more as counted_more, forking, ForkStep, between, counted, lowered, cleared, copying, failing, walking}
 use Rattle.gup_spec_events.specs.Event.{CoreEvent, entry_of, happens, counted_as, take_frame, put_entry, pin_page, make_handle, clear_entry, place_frame, restore_entry, begin_fork, count_page, copies_page, fail_fork, put_child, fail_unborn, run}
 use Rattle.gup_spec_events.specs.Fault.{Fault}
 use Rattle.gup_spec_events.specs.Failure.{are_gone, puts_entry, puts_entries, fails}
 use Rattle.gup_spec_events.proofs.Gone.{no_puts}
 use Rattle.gup_law_base.specs.Sound.{Forking, forking_of}
 use Rattle.gup_spec_journal.specs.Place.{Place, Doer, birth_by, birth_for, place_behind}
-use Rattle.gup_spec_turns.specs.Cost.{mapped_by, fork_turns, fork_left, move_turns, pin_turns, IsAnswered, GoesOn, IsWithinBound}
+use Rattle.gup_spec_turns.specs.Cost.{mapped_by, fork_turns, fork_left, move_turns, pin_turns, walk_turns, pins_turns, IsAnswered, GoesOn, IsWithinBound}
 use Rattle.gup_plain.specs.Pages.{mapped_pages}
 use Rattle.gup_spec_turns.specs.Pages.{pages_from}
-use Rattle.gup_spec_turns.specs.JobPlace.{JobPlace, copying_place, job_place, place_in, IsForking, StandsFork, StandsMove, unbegun, from_page, at_page, wants_frame, at_word, moving_page}
+use Rattle.gup_spec_turns.specs.JobPlace.{JobPlace, copying_place, job_place, place_in, IsForking, StandsFork, StandsMove, unbegun, from_page, at_page, wants_frame, at_word, moving_page, in_walk}
 use Rattle.gup_spec_turns.specs.CoreTurn.{CoreTurn, answers_with, free_in, free_frame, zones_of, entry_in}
-use Rattle.gup_spec_turns.specs.PinPlace.{StandsAtPage, turns_over}
-use Rattle.gup_spec_turns.specs.PinTurns.{raises, pin_fault, makes_if, moves_first, clears_behind, clears_or_pins, pins_behind, ends_pin, ends_moved, pins_moved, moved_turn, pin_turn_by, pin_turn_in}
+use Rattle.gup_spec_turns.specs.PinPlace.{StandsAtPage, IsWithin, turns_over, most_over}
+use Rattle.gup_spec_turns.specs.PinTurns.{raises, pin_fault, makes_if, moves_first, clears_behind, clears_or_pins, pins_behind, ends_pin, ends_moved, pins_moved, moved_turn, pin_turn_by, begins_or_pins, pin_turn_in}
+use Rattle.gup_spec_turns.specs.WalkTurns.{begin_turn, walk_turn}
 use Rattle.gup_spec_turns.specs.ForkTurns.{first_behind, next_page, page_turn, next_turn, share_turn, frame_turn, copy_turn, copying_turn, fork_turn}
 use Rattle.gup_spec_turns.specs.MoveTurns.{restores, place_turn, counted_turn, move_turn}
 use Rattle.gup_spec_turns.proofs.TurnParts.{clear_turn_by}
 use Rattle.gup_spec_turns.specs.Turn.{op_turn, turn_at, failed_turn, turn_of}
 use Rattle.gup_law_costs.proofs.PageBounds.{StandsShort, IsMoved, still, TakesCost, takes_cost}
+use Rattle.gup_law_costs.proofs.WalkBounds.{LeavesOthers, stays, IsWalked, begins, walked, begin_more, walk_more}
 use Rattle.gup_law_costs.proofs.PinBounds.{LeavesPages, FaultLeaves, leaves_both, pin_fault_leaves, raises_leave, pinned_leaves, op_moved, kept_rights}
-use Rattle.gup_law_turns.proofs.PinOps.{FewOver, few_idle, few_moved, room_page, room_move, room_left}
+use Rattle.gup_law_turns.proofs.PinPace.{FewOver, few_idle, few_moved, room_page, room_move, room_left}
 use Rattle.gup_law_turns.proofs.MappedCounts.{mapped_none, pages_few, pages_behind}
 use Rattle.gup_law_turns.proofs.Puts.{put_same, put_other, some_same}
 use Rattle.gup_law_turns.proofs.PageSearches.{IsLowest, lowest_some}
@@ -105,16 +107,27 @@ apart_locked s p q parent a b grows locked other grows_too locked_too apart = go
         absurd (let no : ⊥ = grind (arith, nat_tests) in no)
     go false same = refl
 
+-- both of two tests
+and_first : (x y : Bool) → (x && y) ≡ true → x ≡ true
+and_first true y both = refl
+and_first false y both = absurd (cc both)
+
+and_second : (x y : Bool) → (x && y) ≡ true → y ≡ true
+and_second true y both = both
+and_second false y both = absurd (cc both)
+
 -- a fork stands in the middle
 abbrev IsMiddle : JobPlace → Type 0
 IsMiddle unbegun = ⊥
 IsMiddle (moving_page page e count) = ⊥
+IsMiddle (in_walk sequence step) = ⊥
 IsMiddle place = Unit {0}
 
 -- there its turns are all that it costs
 left_turns : (right : ℕ → Option Rights) (x : JobPlace) → IsMiddle x → fork_left right x ≡ fork_turns right x
 left_turns right unbegun middle = absurd middle
 left_turns right (moving_page page e count) middle = absurd middle
+left_turns right (in_walk sequence step) middle = absurd middle
 left_turns right place middle = refl
 
 -- a copy that has begun is in the middle, and costs at most as much as one that wants its frame
@@ -454,13 +467,8 @@ module _ (s : CoreState) (a p : ℕ) (place : Place) where
     unborn_by job is stands parent lost = absurd stands
 
   -- what a turn of a move or a pin leaves: all mappings, and the jobs of others, with what these have prepared
-  record LeavesMoved (t : CoreState) : Type 0 where
-    right : t.right ≡ s.right
-    jobs : (b : ℕ) → (b == a) ≡ false → t.job b ≡ s.job b
-    prepared : (b : ℕ) → (b == a) ≡ false → t.prepared b ≡ s.prepared b
-
-  stays : LeavesMoved s
-  stays = record { right = refl; jobs = λ b other. refl; prepared = λ b other. refl }
+  abbrev LeavesMoved : CoreState → Type 0
+  LeavesMoved t = LeavesOthers s a t
 
   -- moves
 
@@ -507,8 +515,8 @@ module _ (s : CoreState) (a p : ℕ) (place : Place) where
         }
 
     clear_spent : s.job a ≡ idle → (right : Option Rights) (entry : Option Entry) → IsMove (clear_turn_by right a p page zone entry)
-    clear_spent rests None entry = move_ends (answers_with answers.Missing) rests stays refl
-    clear_spent rests (Some rights) None = move_ends (answers_with answers.Untouched) rests stays refl
+    clear_spent rests None entry = move_ends (answers_with answers.Missing) rests (stays s a) refl
+    clear_spent rests (Some rights) None = move_ends (answers_with answers.Untouched) rests (stays s a) refl
     clear_spent rests (Some rights) (Some e) =
         let turn : CoreTurn = clear_turn_by (Some rights) a p page zone (Some e) in
         let job : Job = moving p page e (Only zone) unread in
@@ -559,7 +567,7 @@ module _ (s : CoreState) (a p : ℕ) (place : Place) where
 
     -- none of a failed process is in the middle
     unborn_moved : (job : Job) → s.job a ≡ job → StandsMove s a p page zone job → s.birth p ≡ failed → IsMove (answers_with answers.Unborn)
-    unborn_moved idle is stands lost = move_ends (answers_with answers.Unborn) is stays refl
+    unborn_moved idle is stands lost = move_ends (answers_with answers.Unborn) is (stays s a) refl
     unborn_moved (moving q g e allowed count) is stands lost = absurd (let lives : s.birth p ≡ born = stands.4.birth in cc)
     unborn_moved job is stands lost = absurd stands
 
@@ -576,7 +584,7 @@ module _ (s : CoreState) (a p : ℕ) (place : Place) where
     here = page + got
 
     -- it goes on, and has turns left
-    pin_goes : (turn : CoreTurn) → LeavesMoved (run s turn.events) → GoesOn place (place_behind place turn.whats) → place.far + 1 < pin_turns want.long n → IsPin turn
+    pin_goes : (turn : CoreTurn) → LeavesMoved (run s turn.events) → GoesOn place (place_behind place turn.whats) → place.far + 1 < pins_turns fast want.long n → IsPin turn
     pin_goes turn left goes less =
         let t : CoreState = run s turn.events in
         let far : (place_behind place turn.whats).far ≡ place.far + 1 = goes.1 in
@@ -592,7 +600,7 @@ module _ (s : CoreState) (a p : ℕ) (place : Place) where
         }
 
     -- it is answered, and its actor in the middle of nothing
-    pin_ends : (turn : CoreTurn) → (run s turn.events).job a ≡ idle → LeavesMoved (run s turn.events) → IsAnswered place (place_behind place turn.whats) → place.far < pin_turns want.long n → IsPin turn
+    pin_ends : (turn : CoreTurn) → (run s turn.events).job a ≡ idle → LeavesMoved (run s turn.events) → IsAnswered place (place_behind place turn.whats) → place.far < pins_turns fast want.long n → IsPin turn
     pin_ends turn rests left answered less =
         let t : CoreState = run s turn.events in
         let pages : mapped_pages (t.right p) ≡ mapped_pages (s.right p) = ap (λ (f : ℕ → ℕ → Option Rights). mapped_pages (f p)) left.right in
@@ -606,10 +614,16 @@ module _ (s : CoreState) (a p : ℕ) (place : Place) where
           gained = λ q birth. no_more (t.right q) (s.right q) 0 (ap (λ (f : ℕ → ℕ → Option Rights). f q) left.right);
         }
 
+    -- a turn of its walk
+    walked_spent : (turn : CoreTurn) → fast ≡ true → place.far + 1 < pins_turns true want.long n → IsWalked s a place turn → IsPin turn
+    walked_spent turn walks less (left, inl on) = pin_goes turn left on (subst (λ (b : Bool). place.far + 1 < pins_turns b want.long n) (sym walks) less)
+    walked_spent turn walks less (left, inr ends) =
+        pin_ends turn ends.1 left ends.0 (subst (λ (b : Bool). place.far < pins_turns b want.long n) (sym walks) (omega (arith, less)))
+
     -- so many turns of its page are over
-    module _ (over : ℕ) (few : FewOver want.long over) (most : place.far ≤ pin_turns want.long got + over) (within : got < n) where
-      room : place.far < pin_turns want.long n
-      room = room_left want.long got n place.far over few most within
+    module _ (over : ℕ) (few : FewOver want.long over) (most : place.far ≤ walk_turns fast n + pin_turns want.long got + over) (within : got < n) where
+      room : place.far < pins_turns fast want.long n
+      room = room_left (walk_turns fast n) want.long got n place.far over few most within
 
       -- after these events the page is pinned
       pins_spent : (es : List CoreEvent) (g : ℕ) (e : Entry) (last : Bool) → (got + 1 == n) ≡ last → LeavesMoved (run s es) → (run s es).job a ≡ idle → IsPin (pins_behind es a p handle g n want last e)
@@ -628,7 +642,7 @@ module _ (s : CoreState) (a p : ℕ) (place : Place) where
         where
           go : (l : Bool) → (got + 1 == n) ≡ l → (run s (pins_behind es a p handle g n want l e).events).job a ≡ idle → LeavesMoved (run s (pins_behind es a p handle g n want l e).events) → IsPin (pins_behind es a p handle g n want l e)
           go true is idles all = pin_ends (pins_behind es a p handle g n want true e) idles all refl room
-          go false is idles all = pin_goes (pins_behind es a p handle g n want false e) all (refl, refl) (room_page want.long got n place.far over few most (grind (arith, nat_tests, within)))
+          go false is idles all = pin_goes (pins_behind es a p handle g n want false e) all (refl, refl) (room_page (walk_turns fast n) want.long got n place.far over few most (grind (arith, nat_tests, within)))
 
       -- or refused
       refuses_spent : (es : List CoreEvent) (k : ℕ) (answer : Answer) → LeavesMoved (run s es) → (run s es).job a ≡ idle → IsPin (ends_pin es a handle n k answer)
@@ -641,7 +655,7 @@ module _ (s : CoreState) (a p : ℕ) (place : Place) where
 
     -- from idle
 
-    module _ (rests : s.job a ≡ idle) (most : place.far ≤ pin_turns want.long got + 0) (within : got < n) where
+    module _ (rests : s.job a ≡ idle) (most : place.far ≤ walk_turns fast n + pin_turns want.long got + 0) (within : got < n) where
       clears_spent : (es : List CoreEvent) (e : Entry) → want.long ≡ true → LeavesMoved (run s es) → IsPin (clears_behind es a p here want e)
       clears_spent es e long left =
           let t : CoreState = run s es in
@@ -653,7 +667,7 @@ module _ (s : CoreState) (a p : ℕ) (place : Place) where
             jobs = λ b other. put_other a b job t.job other ∙ left.jobs b other;
             prepared = left.prepared;
           }))
-          (refl, refl) (room_move want.long got n place.far 0 long (omega arith) most within)
+          (refl, refl) (room_move (walk_turns fast n) want.long got n place.far 0 long (omega arith) most within)
 
       long_by : (long below : Bool) → (long && below) ≡ true → long ≡ true
       long_by true below is = refl
@@ -663,22 +677,22 @@ module _ (s : CoreState) (a p : ℕ) (place : Place) where
       either_spent es e last true test moves left idles = clears_spent es e (long_by want.long (nat_lt e.frame (run s es).movable) moves) left
       either_spent es e last false test moves left idles = pins_spent 0 (few_idle want.long) most within es here e last test left idles
 
-      fault_spent : (k : ℕ) → got ≡ k → (fault : Fault) → FaultLeaves a fault → IsPin (pin_turn_by fault s a p handle here n k want)
+      fault_spent : (k : ℕ) → got ≡ k → (fault : Fault) → FaultLeaves a fault → IsPin (pin_turn_by fault s a p handle here n k want fast)
       fault_spent k is (Err answer) leaves =
-          let raised = raises_leave s a p place rests k in
-          refuses_spent 0 (few_idle want.long) most within (raises a p k) k answer (record { right = raised.right; jobs = raised.jobs.others; prepared = raised.jobs.prepared }) raised.jobs.idle
+          let raised = raises_leave s a p place rests k fast in
+          refuses_spent 0 (few_idle want.long) most within (raises a p k fast) k answer (record { right = raised.right; jobs = raised.jobs.others; prepared = raised.jobs.prepared }) raised.jobs.idle
       fault_spent k is (Ok before) leaves =
-          let first : CoreState = run s (raises a p k) in
-          let raised = raises_leave s a p place rests k in
-          let es : List CoreEvent = raises a p k ++ before in
-          let all : LeavesPages s a (run s es) = subst (LeavesPages s a) (sym (run_behind s (raises a p k) before)) (leaves_both s a first (run first before) raised (leaves first raised.jobs.idle)) in
+          let first : CoreState = run s (raises a p k fast) in
+          let raised = raises_leave s a p place rests k fast in
+          let es : List CoreEvent = raises a p k fast ++ before in
+          let all : LeavesPages s a (run s es) = subst (LeavesPages s a) (sym (run_behind s (raises a p k fast) before)) (leaves_both s a first (run first before) raised (leaves first raised.jobs.idle)) in
           let e : Entry = entry_in ((run s es).entry p here) in
           either_spent es e (k + 1 == n) (moves_first (run s es) want e) (ap (λ (j : ℕ). j + 1 == n) is) refl
           (record { right = all.right; jobs = all.jobs.others; prepared = all.jobs.prepared }) all.jobs.idle
 
     -- of a page that it moves first
 
-    module _ (e : Entry) (over : ℕ) (most : place.far ≤ pin_turns want.long got + over) (within : got < n) (long : want.long ≡ true) where
+    module _ (e : Entry) (over : ℕ) (most : place.far ≤ walk_turns fast n + pin_turns want.long got + over) (within : got < n) (long : want.long ≡ true) where
       restored : (count : Counted) → LeavesMoved (run s (restore_entry a p here e (zones_of want) count ∷ []))
       restored count = record { right = refl; jobs = λ b other. put_other a b idle s.job other; prepared = λ b other. refl }
 
@@ -705,30 +719,45 @@ module _ (s : CoreState) (a p : ℕ) (place : Place) where
           let job : Job = moving p here e (zones_of want) (counted_as (s.count e.frame)) in
           pin_goes (moved_turn s a p handle here n got want e unread)
           (record { right = refl; jobs = λ b other. put_other a b job s.job other; prepared = λ b other. refl })
-          (refl, refl) (room_move want.long got n place.far over long (omega (arith, is)) most within)
+          (refl, refl) (room_move (walk_turns fast n) want.long got n place.far over long (omega (arith, is)) most within)
       moved_spent_by counted_one is = placed_spent is (free_in s (zones_of want))
       moved_spent_by (counted_more count) is = ends_spent is (counted_more count) (answers.Unmovable count)
 
-    -- where it stands: no more turns are over than its pages and this one take
-    abbrev pub StandsPaced : Job → Type 0
-    StandsPaced job = (got < n) × (place.far ≤ pin_turns want.long got + turns_over job) × StandsAtPage s a p here want job
+    -- where it stands: no more turns are over than its pages and this one take, or those of its walk
+    pub record StandsPaced (job : Job) : Type 0 where
+      pub some : 0 < n
+      pub within : IsWithin n got job
+      pub most : place.far ≤ most_over fast want.long n got job
+      pub flag : s.has_pinned p ≡ true → s.birth p ≡ born
+      pub at : StandsAtPage s a p here n got want fast job
 
-    pin_spent : (job : Job) → s.job a ≡ job → StandsPaced job → IsPin (pin_turn_in s a p handle page n got want job)
-    pin_spent idle is stands =
-        fault_spent is stands.1 stands.0 got refl (pin_fault s a p here want.write (free_in s (zones_of want))) (pin_fault_leaves s a p here want.write (free_in s (zones_of want)))
-    pin_spent (moving q g e allowed count) is stands = moved_spent_by e (turns_over (moving q g e allowed count)) stands.1 stands.0 stands.2.4.long count (same count)
+    -- it begins its walk, or a page
+    begin_spent_by : fast ≡ true → place.far ≡ 0 → IsPin (begin_turn a p want)
+    begin_spent_by walks first = walked_spent (begin_turn a p want) walks (begin_more want.long n place.far first) (begins s a p place want)
+
+    begins_spent : s.job a ≡ idle → StandsPaced idle → (begins : Bool) → (fast && place.far == 0) ≡ begins → IsPin (begins_or_pins begins s a p handle page n got want fast)
+    begins_spent is stands true test = begin_spent_by (and_first fast (place.far == 0) test) (let first = and_second fast (place.far == 0) test in grind (arith, nat_tests))
+    begins_spent is stands false test =
+        fault_spent is stands.most stands.within got refl (pin_fault s a p here want.write (free_in s (zones_of want))) (pin_fault_leaves s a p here want.write (free_in s (zones_of want)))
+
+    pin_spent : (job : Job) → s.job a ≡ job → StandsPaced job → IsPin (pin_turn_in s a p handle page n got want fast place.far job)
+    pin_spent idle is stands = begins_spent is stands (fast && place.far == 0) refl
+    pin_spent (moving q g e allowed count) is stands = moved_spent_by e (turns_over (moving q g e allowed count)) stands.most stands.within stands.at.4.long count (same count)
       where
         same : (c : Counted) → turns_over (moving q g e allowed c) ≡ turns_over (moving p here e (zones_of want) c)
         same unread = refl
         same counted_one = refl
         same (counted_more k) = refl
-    pin_spent job is stands = absurd stands.2
+    pin_spent (walking q write long sequence step) is stands =
+        walked_spent (walk_turn s a p handle page n want sequence step) stands.at.walks (walk_more want.long here n got place.far step stands.some stands.at.here stands.within stands.most) (walked s a p place want handle page n sequence step)
+    pin_spent job is stands = absurd stands.at
 
-    -- none of a failed process is in the middle of a page
+    -- none of a failed process is in the middle of a page, or in its walk
     unborn_pinned : (job : Job) → s.job a ≡ job → StandsPaced job → s.birth p ≡ failed → IsPin (answers_with answers.Unborn)
-    unborn_pinned idle is stands lost = pin_ends (answers_with answers.Unborn) is stays refl (room_left want.long got n place.far 0 (few_idle want.long) stands.1 stands.0)
-    unborn_pinned (moving q g e allowed count) is stands lost = absurd (let lives : s.birth p ≡ born = stands.2.4.moving.birth in cc)
-    unborn_pinned job is stands lost = absurd stands.2
+    unborn_pinned idle is stands lost = pin_ends (answers_with answers.Unborn) is (stays s a) refl (room_left (walk_turns fast n) want.long got n place.far 0 (few_idle want.long) stands.most stands.within)
+    unborn_pinned (moving q g e allowed count) is stands lost = absurd (let lives : s.birth p ≡ born = stands.at.4.moving.birth in cc)
+    unborn_pinned (walking q write long sequence step) is stands lost = absurd (let lives : s.birth p ≡ born = stands.flag stands.at.flag in cc)
+    unborn_pinned job is stands lost = absurd stands.at
 
   -- where an operation stands: its actor is idle, unless it forks, moves or pins
   abbrev pub StandsAt : Op → Type 0

@@ -1,3 +1,4 @@
+pub mod WalkBounds
 pub mod PinBounds
 pub mod ForkBounds
 pub mod FewForks

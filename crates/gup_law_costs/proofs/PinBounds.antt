@@ -132,9 +132,10 @@ pin_fault_leaves s a p page false free = unshare_leaves a p page (s.right p page
 module _ (s : CoreState) (a p : ℕ) (place : Place) (rests : s.job a ≡ idle) where
   -- a pin
 
-  pub raises_leave : (far : ℕ) → LeavesPages s a (run s (raises a p far))
-  raises_leave zero = leaves_same s a (run s (raises a p 0)) rests refl refl refl
-  raises_leave (suc far) = leaves_same s a s rests refl refl refl
+  pub raises_leave : (got : ℕ) (fast : Bool) → LeavesPages s a (run s (raises a p got fast))
+  raises_leave zero false = leaves_same s a (run s (raises a p 0 false)) rests refl refl refl
+  raises_leave zero true = leaves_same s a s rests refl refl refl
+  raises_leave (suc got) fast = leaves_same s a s rests refl refl refl
 
   pub pinned_leaves : (t : CoreState) → t.job a ≡ idle → (page handle : ℕ) (e : Entry) (want : Want) (last : Bool) → LeavesPages t a (run t (pin_page a p page e want.write want.long ∷ makes_if last a handle))
   pinned_leaves t idles page handle e want true = leaves_same t a (run t (pin_page a p page e want.write want.long ∷ makes_if true a handle)) idles refl refl refl

@@ -24,8 +24,7 @@ use Rattle.gup_law_turns.specs.Standing.{IsStanding}
 use Rattle.gup_law_turns.proofs.ScriptLemmas.{has_ops_declared, is_of_thread, thread_birth}
 use Rattle.gup_law_costs.proofs.PageBounds.{TakesCost}
 use Rattle.gup_law_costs.proofs.ForkBounds.{IsSpent}
-use Rattle.gup_spec_turns.specs.PinPlace.{turns_over}
-use Rattle.gup_law_turns.proofs.PinOps.{few_over, room_left}
+use Rattle.gup_law_turns.proofs.PinPace.{pin_left}
 use Rattle.gup_law_turns.proofs.MappedCounts.{mapped_lost}
 use Rattle.gup_law_turns.proofs.Puts.{put_same, put_other, put_own, some_same}
 use Rattle.gup_law_turns.proofs.ReachedStates.{IsReached, Published, is_standing, reached_on}
@@ -302,7 +301,7 @@ few_turns published script valid r h within a op is = go op is (subst (λ (o : O
     go (Unmap page n) is fits = fits.1
     go (Discard page n) is fits = fits.1
     go (Pin handle page n want fast) is fits =
-        room_left want.long (length (r.core.taken a)) n far (turns_over (r.core.job a)) (few_over r.core a (process_of script a) (page + length (r.core.taken a)) want (r.core.job a) fits.at) fits.most fits.within
+        pin_left r.core a (process_of script a) (page + length (r.core.taken a)) n (length (r.core.taken a)) far want fast (r.core.job a) fits.at fits.within fits.most
     go (Unpin handle) is fits = (is_standing published script valid r h).unpins a handle is
     go (Transfer handle outward slot parts) is fits = fits.2
     go (Move proc page zone) is fits = few_moved page zone proc (r.core.job a) fits.2

@@ -16,7 +16,7 @@ use Rattle.gup_spec_events.specs.State.{CoreState, Job, idle, forking, between, 
 use Rattle.gup_spec_events.specs.Event.{CoreEvent, run}
 use Rattle.gup_law_base.specs.Sound.{Forking, forking_of}
 use Rattle.gup_spec_journal.specs.Place.{Place, Doer, doer_of, birth_for, place_behind, process_of, ops_of, ops_in}
-use Rattle.gup_spec_turns.specs.Cost.{fork_left, move_turns, pin_turns, op_cost, op_left, left_cost, actor_cost, cost, operations, is_fork, forks, IsBoundedTurn, IsWithinBound}
+use Rattle.gup_spec_turns.specs.Cost.{fork_left, move_turns, pin_turns, walk_turns, op_cost, op_left, left_cost, actor_cost, cost, operations, is_fork, forks, IsBoundedTurn, IsWithinBound}
 use Rattle.gup_plain.specs.Pages.{sum_below, mapped_pages}
 use Rattle.gup_spec_turns.specs.JobPlace.{JobPlace, job_place, place_in, IsForking, StandsFork, KeepsNoJob, unbegun}
 use Rattle.gup_law_turns.specs.Standing.{IsStanding, StandsHandle, given_back, back_in}
@@ -164,7 +164,14 @@ stands_at script valid r h a op is = go op is
     go (Discard page n) is = (rests (Discard page n) tt is, h.discards a page n is)
     go (Pin handle page n want fast) is =
         let stands = h.pins a handle page n want fast is in
-        (stands.within, h.paced a handle page n want fast is, stands.at)
+        let range = built (Pin handle page n want fast) is in
+        record {
+          some = omega (arith, range.0);
+          within = stands.within;
+          most = h.paced a handle page n want fast is;
+          flag = h.sound.1.flag_born (process_of script a);
+          at = stands.at;
+        }
     go (Unpin handle) is = (rests (Unpin handle) tt is, (h.unpins a handle is, left handle is))
     go (Transfer handle outward slot parts) is = (rests (Transfer handle outward slot parts) tt is, h.transfers a handle outward slot parts is)
     go (Move proc page zone) is = h.moves a proc page zone is
@@ -283,10 +290,15 @@ pin_few : (long : Bool) (n : ℕ) → pin_turns long n ≤ 3 * n
 pin_few true n = omega arith
 pin_few false n = omega arith
 
+-- and five a page those of its walk
+walk_few : (fast : Bool) (n : ℕ) → walk_turns fast n ≤ 5 * n + 3
+walk_few true n = omega arith
+walk_few false n = omega arith
+
 -- an operation costs at most 1,025, and a fork 527,361 more
 most_of : (op : Op) → IsOp op → op_cost op ≤ 1025 + 527361 * is_fork op
 most_of (Map page n rights) range = omega arith
-most_of (Pin handle page n want fast) range = let few = pin_few want.long n in let most = range.1 in omega (arith, few, most)
+most_of (Pin handle page n want fast) range = let few = pin_few want.long n in let walk = walk_few fast n in let most = range.1 in omega (arith, few, walk, most)
 most_of op range = omega arith
 
 most_of_ops : (ops : List Op) → All IsOp ops → sum_by op_cost ops ≤ 1025 * length ops + 527361 * sum_by is_fork ops

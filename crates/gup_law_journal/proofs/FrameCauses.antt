@@ -23,14 +23,14 @@ use Rattle.gup_plain.specs.Event.{may_write, words}
 use Rattle.gup_script.specs.declared.op.Op.{Op}
 use Rattle.gup_script.specs.declared.op.Op.TheVariants.{Map, Unmap, Protect, Discard, Load, Store, Pin, Unpin, Give, Take, Get, Put, Transfer, Fork, Exit, Move}
 use Rattle.gup_script.specs.Script.{ScriptValue}
-use Rattle.gup_spec_events.specs.State.{CoreState, Job, idle, moving, Counted, unread, one as counted_one, more as counted_more, forking, between, counted, copying}
+use Rattle.gup_spec_events.specs.State.{CoreState, Job, idle, moving, Counted, unread, one as counted_one, more as counted_more, forking, between, counted, copying, walking, Taken, WalkStep, ready, read, grabbed, refused as refused_step, dropping}
 use Rattle.gup_spec_events.specs.Event.{CoreEvent, upgrade, restore_entry, run}
 use Rattle.gup_spec_events.specs.Fault.{Fault, fills, unshares, unshare_fault, read_fault, write_fault, fills_writable, breaks, makes_writable, marks}
 use Rattle.gup_spec_journal.specs.Denial.{has_reference}
 use Rattle.gup_spec_journal.specs.Follows.{refuses}
 use Rattle.gup_spec_journal.specs.Place.{Doer, doer_of, birth_for}
-use Rattle.gup_spec_turns.specs.Cause.{AreHeld, allowed_of, MayBeShared, NeedsOwn, NeedsWritable, NeedsForPin, NeedsAtPage, NeedsFor, NeedsFrame, LacksFrame, LacksExactly}
-use Rattle.gup_spec_turns.specs.JobPlace.{JobPlace, copying_place, job_place, unbegun, from_page, at_page, wants_frame, at_word, moving_page}
+use Rattle.gup_spec_turns.specs.Cause.{AreHeld, allowed_of, MayBeShared, NeedsOwn, NeedsWritable, NeedsForPin, NeedsAtPage, NeedsIfSlow, NeedsFor, NeedsFrame, LacksFrame, LacksExactly}
+use Rattle.gup_spec_turns.specs.JobPlace.{JobPlace, copying_place, job_place, unbegun, from_page, at_page, wants_frame, at_word, moving_page, in_walk}
 use Rattle.gup_spec_turns.specs.Run.{RunState, op_in, waiting_in, waiting_with, core_turn_by, turn_in}
 use Rattle.gup_spec_turns.specs.CoreTurn.{CoreTurn, answers_with, free_in, free_frame, zones_of, entry_in, allows_store, silent_or_done}
 use Rattle.gup_spec_turns.specs.ForkTurns.{first_behind, next_page, page_turn, next_turn, frame_turn, copy_turn, copying_turn, fork_turn}
@@ -39,7 +39,8 @@ use Rattle.gup_spec_turns.specs.Waits.{waits_born}
 use Rattle.gup_spec_turns.proofs.TurnParts.{loads_after, stores_after, store_fault_by, map_turn_by, unmap_turn_by, protect_turn_by, discard_turn_by, unpin_turn_by, give_turn_by, gets_after, put_turn_by, transfer_turn_by, clear_turn_by}
 use Rattle.gup_spec_turns.specs.PageTurns.{load_turn, store_turn, lowest_page, exit_turn_by}
 use Rattle.gup_spec_turns.specs.Turn.{op_turn, failed_turn, turn_at}
-use Rattle.gup_spec_turns.specs.PinTurns.{pin_fault, pinned_if, cause_of, ends_pin, pin_turn_by, but_last, unpinned, get_turn, got_by, got_frame, raises, moves_first, clears_or_pins, pins_moved, moved_turn, pin_turn_at, pin_turn_in}
+use Rattle.gup_spec_turns.specs.PinTurns.{pin_fault, pinned_if, cause_of, ends_pin, pin_turn_by, but_last, unpinned, get_turn, got_by, got_frame, raises, moves_first, clears_or_pins, pins_moved, moved_turn, pin_turn_at, begins_or_pins, pin_turn_in}
+use Rattle.gup_spec_turns.specs.WalkTurns.{begin_turn, is_same, all_turn, ready_turn, grab_turn, recheck_turn, split_last, last_turn, first_turn, walk_turn}
 use Rattle.gup_law_turns.proofs.Puts.{some_same}
 use Rattle.gup_law_turns.proofs.NoteRightness.{unrefused_short, not_both}
 use Rattle.gup_law_turns.proofs.ShownTurns.{waits_no_birth}
@@ -250,12 +251,12 @@ module _ (s : CoreState) (a p : ℕ) (allowed : Allowed) where
   pins_cause cause handle page n want before last e true = ((λ e. absurd e), tt)
   pins_cause cause handle page n want before last e false = ((λ e. absurd e), pinned_cause cause last handle n)
 
-  pin_exact : (needs : Type 0) (handle page n got : ℕ) (want : Want) (fault : Fault) → IsExactFault s allowed needs fault → IsExact s allowed needs (pin_turn_by fault s a p handle page n got want)
-  pin_exact needs handle page n got want (Err answer) exact = ends_exact needs handle n got (raises a p got) answer exact
-  pin_exact needs handle page n got want (Ok before) exact =
+  pin_exact : (needs : Type 0) (handle page n got : ℕ) (want : Want) (fast : Bool) (fault : Fault) → IsExactFault s allowed needs fault → IsExact s allowed needs (pin_turn_by fault s a p handle page n got want fast)
+  pin_exact needs handle page n got want fast (Err answer) exact = ends_exact needs handle n got (raises a p got fast) answer exact
+  pin_exact needs handle page n got want fast (Ok before) exact =
       record {
-        only = pins_cause (Finds s allowed needs) handle page n want (raises a p got ++ before) (got + 1 == n)
-            (entry_in ((run s (raises a p got ++ before)).entry p page)) (moves_first (run s (raises a p got ++ before)) want (entry_in ((run s (raises a p got ++ before)).entry p page)));
+        only = pins_cause (Finds s allowed needs) handle page n want (raises a p got fast ++ before) (got + 1 == n)
+            (entry_in ((run s (raises a p got fast ++ before)).entry p page)) (moves_first (run s (raises a p got fast ++ before)) want (entry_in ((run s (raises a p got fast ++ before)).entry p page)));
         always = λ need none. absurd (exact need none);
       }
 
@@ -376,6 +377,7 @@ module _ (s : CoreState) (a p : ℕ) where
   fork_exact child (forking q c done (copying page word)) = copying_exact child done page word (s.prepared a)
   fork_exact child (forking q c done step) = elsewhere unbegun (fork_turn s a p child (forking q c done step)) (λ g is. cc is) ((λ e. absurd e), tt)
   fork_exact child (moving q g e allowed count) = elsewhere (moving_page g e count) (fork_turn s a p child (moving q g e allowed count)) (λ g is. cc is) ((λ e. absurd e), tt)
+  fork_exact child (walking q write long sequence step) = elsewhere (in_walk sequence step) (fork_turn s a p child (walking q write long sequence step)) (λ g is. cc is) ((λ e. absurd e), tt)
   fork_exact child job = elsewhere unbegun (fork_turn s a p child job) (λ g is. cc is) ((λ e. absurd e), tt)
 
   -- a move needs a frame only after a count of 1, and is refused so only where none is free
@@ -415,6 +417,7 @@ module _ (s : CoreState) (a p : ℕ) where
       elsewhere_copying : (g word k : ℕ) (d : Entry) (prepared : Option ℕ) → copying_place g word prepared ≡ moving_page k d counted_one → ⊥
       elsewhere_copying g word k d None is = cc is
       elsewhere_copying g word k d (Some to) is = cc is
+  move_exact page zone (walking q write long sequence step) = unmoved zone (in_walk sequence step) (move_turn s a p page zone (walking q write long sequence step)) (λ k d is. cc is) ((λ e. absurd e), tt)
   move_exact page zone job = unmoved zone unbegun (move_turn s a p page zone job) (λ k d is. cc is) ((λ e. absurd e), tt)
 
   -- a long pin that has cleared a page needs a frame only after a count of 1, and is refused so only where none is free
@@ -435,21 +438,87 @@ module _ (s : CoreState) (a p : ℕ) where
       ends_exact s a p (zones_of want) ⊥ handle n got (restore_entry a p page e (zones_of want) (counted_more count) ∷ []) (answers.Unmovable count) ((λ wants. absurd wants), λ need none. absurd need)
 
   -- one that has cleared none needs one as its page does
-  uncleared : (handle page n got : ℕ) (want : Want) → IsExact s (zones_of want) (NeedsForPin s p (page + got) want.write) (pin_turn_at s a p handle page n got want)
-  uncleared handle page n got want =
-      pin_exact s a p (zones_of want) (NeedsForPin s p (page + got) want.write) handle (page + got) n got want
+  uncleared : (handle page n got : ℕ) (want : Want) (fast : Bool) → IsExact s (zones_of want) (NeedsForPin s p (page + got) want.write) (pin_turn_at s a p handle page n got want fast)
+  uncleared handle page n got want fast =
+      pin_exact s a p (zones_of want) (NeedsForPin s p (page + got) want.write) handle (page + got) n got want fast
       (pin_fault s a p (page + got) want.write (free_in s (zones_of want))) (pin_fault_exact s a p (zones_of want) (page + got) want.write)
 
-  pin_in_exact : (handle page n got : ℕ) (want : Want) (job : Job) → IsExact s (zones_of want) (NeedsAtPage s p (page + got) want.write (job_place job (s.prepared a))) (pin_turn_in s a p handle page n got want job)
-  pin_in_exact handle page n got want (moving q g e allowed count) = cleared_exact handle (page + got) n got want g e count
-  pin_in_exact handle page n got want (forking q c done between) = uncleared handle page n got want
-  pin_in_exact handle page n got want (forking q c done (counted g)) = uncleared handle page n got want
-  pin_in_exact handle page n got want (forking q c done (copying g word)) = copies (s.prepared a)
-    where
-      copies : (prepared : Option ℕ) → IsExact s (zones_of want) (NeedsAtPage s p (page + got) want.write (copying_place g word prepared)) (pin_turn_at s a p handle page n got want)
-      copies None = uncleared handle page n got want
-      copies (Some to) = uncleared handle page n got want
-  pin_in_exact handle page n got want job = uncleared handle page n got want
+  -- no turn of a walk wants a frame
+
+  all_cause : (handle n : ℕ) (want : Want) (sequence now : ℕ) (same : Bool) → NeverWants (all_turn a p handle n want sequence now same)
+  all_cause handle n want sequence now true = ((λ e. absurd e), ((λ e. absurd e), tt))
+  all_cause handle n want sequence now false = ((λ e. absurd e), tt)
+
+  ready_cause : (handle page n : ℕ) (want : Want) (sequence : ℕ) (more : Bool) → NeverWants (ready_turn s a p handle page n want sequence more)
+  ready_cause handle page n want sequence true = ((λ e. absurd e), tt)
+  ready_cause handle page n want sequence false = all_cause handle n want sequence (s.sequence p) (s.sequence p == sequence)
+
+  grab_cause : (want : Want) (sequence g : ℕ) (e : Entry) (count : ℕ) → NeverWants (grab_turn a p want sequence g e count)
+  grab_cause want sequence g e zero = ((λ e. absurd e), tt)
+  grab_cause want sequence g e (suc count) = ((λ e. absurd e), tt)
+
+  recheck_cause : (want : Want) (sequence g : ℕ) (e : Entry) (same : Bool) → NeverWants (recheck_turn a p want sequence g e same)
+  recheck_cause want sequence g e true = ((λ e. absurd e), tt)
+  recheck_cause want sequence g e false = ((λ e. absurd e), tt)
+
+  last_cause : (want : Want) (sequence : ℕ) (split : Option (List Taken × Taken)) → NeverWants (last_turn a p want sequence split)
+  last_cause want sequence None = ((λ e. absurd e), tt)
+  last_cause want sequence (Some (rest, last)) = ((λ e. absurd e), tt)
+
+  first_cause : (want : Want) (sequence : ℕ) (taken : List Taken) → NeverWants (first_turn a p want sequence taken)
+  first_cause want sequence [] = ((λ e. absurd e), tt)
+  first_cause want sequence (t ∷ rest) = ((λ e. absurd e), tt)
+
+  walk_cause : (handle page n : ℕ) (want : Want) (sequence : ℕ) (step : WalkStep) → NeverWants (walk_turn s a p handle page n want sequence step)
+  walk_cause handle page n want sequence ready =
+      ready_cause handle (page + length (s.taken a)) n want sequence (nat_lt (length (s.taken a)) n)
+  walk_cause handle page n want sequence (read g e) = grab_cause want sequence g e (s.count e.frame)
+  walk_cause handle page n want sequence (grabbed g e) = recheck_cause want sequence g e (is_same e (s.entry p g))
+  walk_cause handle page n want sequence refused_step = last_cause want sequence (split_last (s.taken a))
+  walk_cause handle page n want sequence dropping = first_cause want sequence (s.taken a)
+  walk_cause handle page n want sequence step = ((λ e. absurd e), tt)
+
+  -- nor does the one that begins it; any other needs one as its page does
+  module _ (handle page n got : ℕ) (want : Want) (fast : Bool) where
+    begin_exact : IsExact s (zones_of want) ⊥ (begin_turn a p want)
+    begin_exact = exact_never s (zones_of want) ⊥ (begin_turn a p want) (λ need. need) ((λ e. absurd e), tt)
+
+    abbrev IsExactAt : (begins : Bool) → JobPlace → Type 0
+    IsExactAt begins place = IsExact s (zones_of want) (NeedsIfSlow begins s p (page + got) want.write place) (begins_or_pins begins s a p handle page n got want fast)
+
+    unbegun_exact : (begins : Bool) → IsExactAt begins unbegun
+    unbegun_exact true = begin_exact
+    unbegun_exact false = uncleared handle page n got want fast
+
+    from_exact : (begins : Bool) (g : ℕ) → IsExactAt begins (from_page g)
+    from_exact true g = begin_exact
+    from_exact false g = uncleared handle page n got want fast
+
+    at_exact : (begins : Bool) (g : ℕ) → IsExactAt begins (at_page g)
+    at_exact true g = begin_exact
+    at_exact false g = uncleared handle page n got want fast
+
+    copies_exact : (begins : Bool) (g word : ℕ) (prepared : Option ℕ) → IsExactAt begins (copying_place g word prepared)
+    copies_exact true g word None = begin_exact
+    copies_exact true g word (Some to) = begin_exact
+    copies_exact false g word None = uncleared handle page n got want fast
+    copies_exact false g word (Some to) = uncleared handle page n got want fast
+
+    moving_exact : (begins : Bool) (g : ℕ) (e : Entry) (count : Counted) → IsExact s (zones_of want) (NeedsIfSlow begins s p (page + got) want.write (moving_page g e count)) (moved_turn s a p handle (page + got) n got want e count)
+    moving_exact true g e count = cleared_exact handle (page + got) n got want g e count
+    moving_exact false g e count = cleared_exact handle (page + got) n got want g e count
+
+    walking_exact : (begins : Bool) (sequence : ℕ) (step : WalkStep) → IsExact s (zones_of want) (NeedsIfSlow begins s p (page + got) want.write (in_walk sequence step)) (walk_turn s a p handle page n want sequence step)
+    walking_exact true sequence step = exact_never s (zones_of want) ⊥ (walk_turn s a p handle page n want sequence step) (λ need. need) (walk_cause handle page n want sequence step)
+    walking_exact false sequence step = exact_never s (zones_of want) ⊥ (walk_turn s a p handle page n want sequence step) (λ need. need) (walk_cause handle page n want sequence step)
+
+    pin_in_exact : (far : ℕ) (job : Job) → IsExact s (zones_of want) (NeedsIfSlow (fast && far == 0) s p (page + got) want.write (job_place job (s.prepared a))) (pin_turn_in s a p handle page n got want fast far job)
+    pin_in_exact far (moving q g e allowed count) = moving_exact (fast && far == 0) g e count
+    pin_in_exact far (walking q write long sequence step) = walking_exact (fast && far == 0) sequence step
+    pin_in_exact far (forking q c done between) = from_exact (fast && far == 0) (first_behind done)
+    pin_in_exact far (forking q c done (counted g)) = at_exact (fast && far == 0) g
+    pin_in_exact far (forking q c done (copying g word)) = copies_exact (fast && far == 0) g word (s.prepared a)
+    pin_in_exact far job = unbegun_exact (fast && far == 0)
 
   op_exact : (slots far : ℕ) (op : Op) → IsExact s (allowed_of op) (NeedsFor s a p far op) (op_turn s a p slots far op)
   op_exact slots far (Map page n rights) =
@@ -463,7 +532,7 @@ module _ (s : CoreState) (a p : ℕ) where
   op_exact slots far (Discard page n) =
       never s Any (op_turn s a p slots far (Discard page n)) (discard_cause (page + far) (s.right p (page + far)) (s.entry p (page + far)) (far + 1 == n))
   op_exact slots far (Pin handle page n want fast) =
-      pin_in_exact handle page n (length (s.taken a)) want (s.job a)
+      pin_in_exact handle page n (length (s.taken a)) want fast far (s.job a)
   op_exact slots far (Unpin handle) =
       never s Any (op_turn s a p slots far (Unpin handle)) (unpin_cause (is_held_by (s.handle handle) a) handle (s.pinned handle))
   op_exact slots far (Give handle to) = never s Any (op_turn s a p slots far (Give handle to)) (give_cause (is_held_by (s.handle handle) a) handle to)

@@ -1,5 +1,8 @@
 pub mod Pointer
 pub mod TurnAnswers
+pub mod PendingPages
+pub mod WalkNotes
+pub mod PinRests
 pub mod OperationNotes
 pub mod LockHolders
 pub mod TurnOrder

@@ -1,6 +1,6 @@
 -- Who keeps a lock between two turns: an actor in the middle of a fork, of a move, or of a long pin's page, which itself waits
 -- for nobody. A fork and a pin between two pages may wait for another.
-use Rattle.std.proofs.Common.{◌≡◌, ℕ, ◌+◌, length, ◌<◌, ◌==◌, ◌⊎◌, inl, inr, cond, Bool, true, false, List, Option, Some, None, refl, sym, ap, ap₂, ◌∙◌, subst, eq-eqb, arith}
+use Rattle.std.proofs.Common.{◌≡◌, ℕ, ◌+◌, length, ◌<◌, ◌==◌, ◌⊎◌, inl, inr, cond, Bool, true, false, List, Option, Some, None, refl, sym, ap, ap₂, ◌∙◌, subst, eq-eqb, arith, not, ◌&&◌}
 use Rattle.gup_base.specs.declared.entry.Want.{Want}
 use Rattle.gup_base.specs.declared.entry.Zone.{Zone}
 use Rattle.gup_spec_turns.specs.PinPlace.{StandsAtPage, turns_over}
@@ -10,13 +10,13 @@ use Rattle.gup_plain.specs.declared.note.Waiting.TheVariants as waitings
 use Rattle.gup_script.specs.Script.{ScriptValue}
 use Rattle.gup_script.specs.declared.op.Op.{Op}
 use Rattle.gup_script.specs.declared.op.Op.TheVariants.{Pin, Move, Fork, Exit}
-use Rattle.gup_spec_events.specs.State.{CoreState, Job, idle, moving, unread, one, more, forking, between, counted, copying}
+use Rattle.gup_spec_events.specs.State.{CoreState, Job, idle, moving, walking, unread, one, more, forking, between, counted, copying}
 use Rattle.gup_law_base.specs.Sound.{keeps_table, keeps_structure}
 use Rattle.gup_spec_journal.specs.Order.{KeepsLock, MayNeedLock, handle_waits}
 use Rattle.gup_spec_journal.specs.Place.{Place, Doer, doer_of, birth_for, process_of}
 use Rattle.gup_spec_turns.specs.JobPlace.{IsForking}
 use Rattle.gup_spec_turns.specs.Run.{RunState, op_in, waiting_with, waiting_in, is_ready, can_go}
-use Rattle.gup_spec_turns.specs.Waits.{Locks, no_lock, move_locks, locks_needed, waits_born, held_by_other, waits_for_lock, first_waiting, waits_for_locks}
+use Rattle.gup_spec_turns.specs.Waits.{both_if, pin_locks, Locks, no_lock, move_locks, locks_needed, waits_born, held_by_other, waits_for_lock, first_waiting, waits_for_locks}
 use Rattle.gup_spec_turns.proofs.TurnParts.{waits_at}
 use Rattle.gup_law_turns.proofs.Puts.{some_same}
 use Rattle.gup_law_turns.proofs.TurnShapes.{FitsMove, has_begun, FitsFork, FitsAt, IsBegun}
@@ -70,11 +70,11 @@ fork_of {s = s} {b = b} {q = q} {p = p} here begun e =
     let same : q ≡ p = sym here.parent ∙ e in
     record { of = same; begun = begun; locked = subst (λ (x : ℕ). s.structure x ≡ Some b) same here.locked }
 
-keeps_none : {p : ℕ} {X : Type 0} → (None ≡ Some p) ⊎ (None ≡ Some p) → X
+pub keeps_none : {p : ℕ} {X : Type 0} → (None ≡ Some p) ⊎ (None ≡ Some p) → X
 keeps_none (inl e) = absurd (cc e)
 keeps_none (inr e) = absurd (cc e)
 
-keeps_idle : {p : ℕ} {X : Type 0} {job : Job} → job ≡ idle → Keeps job p → X
+pub keeps_idle : {p : ℕ} {X : Type 0} {job : Job} → job ≡ idle → Keeps job p → X
 keeps_idle {p = p} e keeps = keeps_none (subst (λ (j : Job). Keeps j p) e keeps)
 
 pub fork_keeps : (s : CoreState) (b q child p : ℕ) (place : Place) (job : Job) (prepared : Option ℕ) → FitsFork s b q child place job prepared → Keeps job p → IsForkOf s b q p place
@@ -112,21 +112,16 @@ move_keeps s b q p page zone place (moving k g e allowed count) fits (inr is) = 
 move_keeps s b q p page zone place job fits keeps = absurd fits
 
 -- so has a pin that keeps one, and it is for long
-pin_keeps : (s : CoreState) (b q p page : ℕ) (want : Want) (job : Job) → StandsAtPage s b q page want job → Keeps job p → (want.long ≡ true) × (q ≡ p) × (0 < turns_over job)
-pin_keeps s b q p page want idle at keeps = keeps_none keeps
-pin_keeps s b q p page want (moving k g e allowed unread) at (inl is) = absurd (cc is)
-pin_keeps s b q p page want (moving k g e allowed unread) at (inr is) = (at.4.long, sym at.0 ∙ some_same is, omega arith)
-pin_keeps s b q p page want (moving k g e allowed one) at (inl is) = absurd (cc is)
-pin_keeps s b q p page want (moving k g e allowed one) at (inr is) = (at.4.long, sym at.0 ∙ some_same is, omega arith)
-pin_keeps s b q p page want (moving k g e allowed (more count)) at (inl is) = absurd (cc is)
-pin_keeps s b q p page want (moving k g e allowed (more count)) at (inr is) = (at.4.long, sym at.0 ∙ some_same is, omega arith)
-pin_keeps s b q p page want job at keeps = absurd at
-
--- it has the table lock, and nobody has the other
-pin_locked : (s : CoreState) (b q p page : ℕ) (want : Want) (job : Job) → StandsAtPage s b q page want job → Keeps job p → (s.structure q ≡ None) × (s.table q ≡ Some b)
-pin_locked s b q p page want idle at keeps = keeps_none keeps
-pin_locked s b q p page want (moving k g e allowed count) at keeps = (at.4.unforked, at.4.moving.locked)
-pin_locked s b q p page want job at keeps = absurd at
+pin_keeps : (s : CoreState) (b q p page n got : ℕ) (want : Want) (fast : Bool) (job : Job) → StandsAtPage s b q page n got want fast job → Keeps job p → (want.long ≡ true) × (q ≡ p) × (0 < turns_over job)
+pin_keeps s b q p page n got want fast idle at keeps = keeps_none keeps
+pin_keeps s b q p page n got want fast (moving k g e allowed unread) at (inl is) = absurd (cc is)
+pin_keeps s b q p page n got want fast (moving k g e allowed unread) at (inr is) = (at.4.long, sym at.0 ∙ some_same is, omega arith)
+pin_keeps s b q p page n got want fast (moving k g e allowed one) at (inl is) = absurd (cc is)
+pin_keeps s b q p page n got want fast (moving k g e allowed one) at (inr is) = (at.4.long, sym at.0 ∙ some_same is, omega arith)
+pin_keeps s b q p page n got want fast (moving k g e allowed (more count)) at (inl is) = absurd (cc is)
+pin_keeps s b q p page n got want fast (moving k g e allowed (more count)) at (inr is) = (at.4.long, sym at.0 ∙ some_same is, omega arith)
+pin_keeps s b q p page n got want fast (walking k write long sequence step) at keeps = keeps_none keeps
+pin_keeps s b q p page n got want fast job at keeps = absurd at
 
 -- nobody waits for himself
 pub own_none : (b : ℕ) → held_by_other b (Some b) ≡ None
@@ -135,6 +130,19 @@ own_none b = go (b == b) refl
     go : (c : Bool) → (b == b) ≡ c → cond c None (Some (waitings.Holder b)) ≡ None
     go true is = refl
     go false is = absurd (let yes = eq-eqb b b refl in cc)
+
+-- such a pin has the table lock, and nobody has the other: so it waits for none
+pub own_locks : (b : ℕ) (needed : Bool) (structure table : Option ℕ) → structure ≡ None → table ≡ Some b → waits_for_locks (both_if needed) b structure table ≡ None
+own_locks b true structure table free own =
+    ap₂ (λ (x y : Option ℕ). first_waiting (held_by_other b x) (held_by_other b y)) free own ∙ own_none b
+own_locks b false structure table free own = refl
+
+pin_locked : (s : CoreState) (b q p page n got : ℕ) (want : Want) (fast : Bool) (far : ℕ) (job : Job) → StandsAtPage s b q page n got want fast job → Keeps job p → waits_for_locks (pin_locks fast far job) b (s.structure q) (s.table q) ≡ None
+pin_locked s b q p page n got want fast far idle at keeps = keeps_none keeps
+pin_locked s b q p page n got want fast far (moving k g e allowed count) at keeps =
+    own_locks b (not (fast && far == 0)) (s.structure q) (s.table q) at.4.unforked at.4.moving.locked
+pin_locked s b q p page n got want fast far (walking k write long sequence step) at keeps = keeps_none keeps
+pin_locked s b q p page n got want fast far job at keeps = absurd at
 
 -- an actor that keeps a lock has such an operation
 op_keeps : (s : CoreState) (who : Doer) (p : ℕ) (op : Option Op) (place : Place) → FitsAt s who op place → Keeps (s.job who.actor) p → KeepsLock op × (who.proc ≡ p) × (0 < place.far)
@@ -146,7 +154,7 @@ op_keeps s who p (Some (Fork child)) place fits keeps =
     (tt, forks.of, forks.begun.0)
 op_keeps s who p (Some (Pin handle page n want fast)) place fits keeps =
     let least = fits.least in
-    let pins = pin_keeps s who.actor who.proc p (page + length (s.taken who.actor)) want (s.job who.actor) fits.at keeps in
+    let pins = pin_keeps s who.actor who.proc p (page + length (s.taken who.actor)) n (length (s.taken who.actor)) want fast (s.job who.actor) fits.at keeps in
     (pins.0, pins.1, omega (arith, least, pins.2))
 op_keeps s who p (Some Exit) place fits keeps = keeps_idle fits.0 keeps
 op_keeps s who p op place fits keeps = keeps_idle fits.0.0 keeps
@@ -216,9 +224,7 @@ module _ (script : ScriptValue) (r : RunState) (h : Stands script r) where
       let op : Op = Pin handle page n want fast in
       let q : ℕ = process_of script b in
       let fits = fits_as b op is in
-      let locked = pin_locked r.core b q p (page + length (r.core.taken b)) want (r.core.job b) fits.at keeps in
-      let none : locks_of b op ≡ None =
-      ap₂ (λ (x y : Option ℕ). first_waiting (held_by_other b x) (held_by_other b y)) locked.0 locked.1 ∙ own_none b in
+      let none : locks_of b op ≡ None = pin_locked r.core b q p (page + length (r.core.taken b)) n (length (r.core.taken b)) want fast (r.places b).far (r.core.job b) fits.at keeps in
       stuck_waits b op is stuck (waits_locked b op is far refl ∙ none)
 
   fork_holds : (b child : ℕ) → op_in script r b ≡ Some (Fork child) → 0 < (r.places b).far → r.core.structure (process_of script b) ≡ Some b

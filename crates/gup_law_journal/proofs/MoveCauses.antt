@@ -1,6 +1,6 @@
 -- A turn answers that a page is untouched exactly where a move finds it so, and that its frame is busy exactly where a move has
 -- counted more than one reference.
-use Rattle.std.proofs.Common.{◌≡◌, ℕ, ◌<◌, List, [], ◌∷◌, length, slice_index_or, Contains, Option, Some, None, IsSome, IsTrue, refl, sym, ap, ◌∙◌, subst, zero, suc, arith, rules}
+use Rattle.std.proofs.Common.{◌≡◌, ℕ, ◌<◌, List, [], ◌∷◌, length, slice_index_or, Contains, Option, Some, None, IsSome, IsTrue, refl, sym, ap, ◌∙◌, subst, zero, suc, arith, rules, Bool, true}
 use Rattle.gup_base.specs.declared.entry.Allowed.{Allowed}
 use Rattle.gup_base.specs.declared.entry.Allowed.TheVariants.{Only}
 use Rattle.gup_base.specs.declared.entry.Entry.{Entry}
@@ -15,8 +15,8 @@ use Rattle.gup_plain.specs.declared.note.Waiting.{Waiting}
 use Rattle.gup_script.specs.Script.{ScriptValue}
 use Rattle.gup_script.specs.Valid.{IsScript}
 use Rattle.gup_script.specs.declared.op.Op.{Op}
-use Rattle.gup_script.specs.declared.op.Op.TheVariants.{Move}
-use Rattle.gup_spec_events.specs.State.{CoreState, Job, idle, marking, moving, walking, Counted, unread, one as counted_one, more as counted_more, forking, between, counted, copying, plain_of}
+use Rattle.gup_script.specs.declared.op.Op.TheVariants.{Pin, Move}
+use Rattle.gup_spec_events.specs.State.{CoreState, Job, idle, moving, WalkStep, Counted, unread, one as counted_one, more as counted_more, forking, between, counted, copying, plain_of}
 use Rattle.gup_spec_journal.specs.Denial.{References}
 use Rattle.gup_spec_journal.specs.Follows.{refuses}
 use Rattle.gup_spec_journal.specs.Place.{Place, Doer, doer_of, birth_for}
@@ -32,7 +32,7 @@ use Rattle.gup_spec_turns.proofs.TurnParts.{clear_turn_by}
 use Rattle.gup_law_turns.proofs.EventLists.{Law}
 use Rattle.gup_law_turns.proofs.StandingStates.{Stands}
 use Rattle.gup_law_turns.proofs.StandingTurns.{Starts, stands_first, stands_on}
-use Rattle.gup_law_turns.proofs.TurnShapes.{FitsMove, FitsAt, TurnOf, refused, found_busy, TurnAt, goes}
+use Rattle.gup_law_turns.proofs.TurnShapes.{FitsMove, FitsAt, TurnOf, refused, walked, refused_slowly, WalksTo, found_fork, found_busy, TurnAt, goes}
 use Rattle.gup_law_turns.proofs.TurnSteps.{taken}
 
 -- who stands at a cleared page has cleared it
@@ -81,8 +81,15 @@ refusal_moves op answers.Untouched refusal = untouched_moves op refusal
 refusal_moves op (answers.Busy count) refusal = busy_moves op count refusal
 refusal_moves op answer refusal = tt
 
+-- a turn of a walk says neither
+walk_says : {s : PlainState} {who : Doer} {page n got : ℕ} {write : Bool} {sequence : ℕ} {step : WalkStep} {whats : List What} {to : JobPlace} (untouched : Type 0) (busy : ℕ → Type 0) → WalksTo s who page n got write sequence step whats to → HaveCause untouched busy whats
+walk_says untouched busy found_fork = (tt, tt)
+walk_says untouched busy turn = search rules
+
 shape_moves : {s : PlainState} {references : References} {who : Doer} {place : Place} {op : Op} {from to : JobPlace} {whats : List What} → TurnOf s references who place op from whats to → HaveCause (IsMove op) (λ count. IsMove op) whats
-shape_moves (refused op answer first refusal at_once right passes) = (refusal_moves op answer refusal, tt)
+shape_moves (refused op answer first refusal at_once slow right passes) = (refusal_moves op answer refusal, tt)
+shape_moves (walked handle page n want sequence step whats to walks room free) = walk_says (IsMove (Pin handle page n want true)) (λ count. IsMove (Pin handle page n want true)) walks
+shape_moves (refused_slowly handle page n want answer begun none refusal living at_once right) = (refusal_moves (Pin handle page n want true) answer refusal, tt)
 shape_moves (found_busy proc page zone e count begun free) = ((proc, page, zone, refl), tt)
 shape_moves turn = search rules
 

@@ -1,13 +1,13 @@
 -- A run follows its script: what an actor's notes are from a state on, backwards from the end.
-use Rattle.std.proofs.Common.{◌≡◌, ℕ, ◌+◌, ◌-◌, ◌<◌, ◌≤◌, ◌==◌, ◌++◌, ◌⊎◌, inl, inr, Bool, true, false, IsTrue, length, length-append, List, [], ◌∷◌, Option, Some, None, slice_get, drop, refl, sym, ap, ◌∙◌, subst, append_assoc, zero, suc, arith}
+use Rattle.std.proofs.Common.{◌≡◌, ℕ, ◌+◌, ◌-◌, ◌<◌, ◌≤◌, ◌==◌, ◌++◌, ◌⊎◌, inl, inr, Bool, true, false, IsTrue, List, [], ◌∷◌, Option, Some, None, slice_get, drop, refl, sym, ap, ◌∙◌, subst, subst₂, append_assoc, zero, suc, arith}
 use Rattle.std.proofs.Math.Seq.{drop-nil}
 use Rattle.gup_base.specs.Parts.{Part, words_of, word_at}
 use Rattle.gup_base.specs.declared.entry.Entry.{Entry}
 use Rattle.gup_base.specs.declared.entry.Want.{Want}
 use Rattle.gup_base.specs.declared.entry.Zone.{Zone}
-use Rattle.gup_plain.specs.Event.{words, happened}
+use Rattle.gup_plain.specs.Event.{words}
 use Rattle.gup_plain.specs.Note.{NoteValue}
-use Rattle.gup_plain.specs.State.{PlainState, Pending}
+use Rattle.gup_plain.specs.State.{PlainState}
 use Rattle.gup_plain.specs.declared.answer.Cause.{Cause}
 use Rattle.gup_plain.specs.declared.answer.Cause.TheVariants as causes
 use Rattle.gup_spec_journal.specs.Plain.{pages_got, refusal_by_cause}
@@ -21,14 +21,17 @@ use Rattle.gup_plain.specs.declared.note.Waiting.{Waiting}
 use Rattle.gup_script.specs.declared.op.Op.{Op}
 use Rattle.gup_script.specs.declared.op.Op.TheVariants.{Unmap, Discard, Pin, Unpin, Transfer, Fork, Exit, Move}
 use Rattle.gup_spec_journal.specs.Denial.{References}
-use Rattle.gup_spec_journal.specs.Follows.{Who, Completes, IsTurn, AreBehind, AreBefore, Then, IsRefused, TakesDown, TakesDownLast, TakesDownAll, TakesDownWhole, CopiesFrom, CopiesPage, ForksPages, TriesIn, EndsShort, PinsPages, Unpins, moves_word, MovesWords, Shape, Shapes, refuses, own_notes, notes_of_turn, is_of_operation, IsThirdTurn}
-use Rattle.gup_spec_events.specs.State.{Counted, unread, one as counted_one, more as counted_more}
+use Rattle.gup_spec_journal.specs.Follows.{Who, Completes, IsTurn, AreBehind, AreBefore, Then, IsRefused, TakesDown, TakesDownLast, TakesDownAll, TakesDownWhole, CopiesFrom, CopiesPage, ForksPages, TriesIn, EndsShort, PinsAll, PinsPages, RefusesFirst, Unpins, moves_word, MovesWords, Shape, Shapes, refuses, own_notes, notes_of_turn, is_of_operation, IsThirdTurn}
+use Rattle.gup_spec_events.specs.State.{Counted, WalkStep, entered, ready, unread, one as counted_one, more as counted_more}
 use Rattle.gup_spec_journal.specs.Order.{Moves, plain_behind}
 use Rattle.gup_spec_journal.specs.Follows.{RefusesPage, EndsPin}
 use Rattle.gup_spec_journal.specs.Place.{Place, Doer, concerned, process_of_op, place_behind}
-use Rattle.gup_spec_turns.specs.JobPlace.{JobPlace, unbegun, from_page, at_page, wants_frame, at_word, moving_page}
-use Rattle.gup_law_turns.proofs.Puts.{some_same, put_same}
-use Rattle.gup_law_turns.proofs.TurnShapes.{IsAtOnce, TriesAt, RefusesAt, TurnOf, refused, loaded, took, took_last, passed, passed_last, took_lowest, took_all, cleared_page, counted_cleared, lacked_frame, found_unmovable, pinned_page, pinned_all, pinned_short, unpinned_page, unpinned_last, moved_word, moved_last, cleared_entry, counted_frame, placed_frame, found_no_frame, found_busy, began, passed_page, counted_page, shared_page, ended, counted_copy, took_frame, copied_word, placed_copy, failed_fork, GoesOver, unmaps, discards, TurnAt, idles, waits, goes, unborn_refused, unborn_fork}
+use Rattle.gup_spec_turns.specs.JobPlace.{JobPlace, unbegun, from_page, at_page, wants_frame, at_word, moving_page, in_walk}
+use Rattle.gup_law_turns.proofs.Puts.{some_same}
+use Rattle.gup_law_turns.proofs.TurnShapes.{IsAtOnce, IsAlwaysSlow, IsSlowTurn, WalksTo, began_walk, walked, kept_all, refused_slowly, TriesAt, RefusesAt, TurnOf, refused, loaded, took, took_last, passed, passed_last, took_lowest, took_all, cleared_page, counted_cleared, lacked_frame, found_unmovable, pinned_page, pinned_all, pinned_short, unpinned_page, unpinned_last, moved_word, moved_last, cleared_entry, counted_frame, placed_frame, found_no_frame, found_busy, began, passed_page, counted_page, shared_page, ended, counted_copy, took_frame, copied_word, placed_copy, failed_fork, GoesOver, unmaps, discards, TurnAt, idles, waits, goes, unborn_refused, unborn_fork}
+use Rattle.gup_law_journal.proofs.PendingPages.{first_pending}
+use Rattle.gup_law_journal.proofs.WalkNotes.{one_pending, walk_before, walk_behind, kept_all as all_kept}
+use Rattle.gup_law_journal.proofs.PinRests.{PinsThird, IsLateCause, IsLateRefusal, LeftThird, RefusesSlowly, PinRest, SlowRest, RestOfPin, slow_left, left_slow, later_slow, page_refused, walk_shape, unbegun_shape, first_refused, shape_left, begun_slow, slow_refused, unborn_refused as pin_unborn, walk_left, walk_place}
 use Rattle.gup_law_journal.proofs.TurnOrder.{op_moves, refusal_moves, failure_moves}
 use Rattle.gup_law_journal.proofs.ActorNotes.{own_other, own_same, own_idle, behind_front, behind_rest, before_append, turn_before}
 
@@ -53,6 +56,7 @@ RestOfFork who child (wants_frame page) notes =
 RestOfFork who child (at_word page word to) notes =
     (pages : ℕ) × Then (CopiesFrom who child page word) (ForksPages who child (page + 1) pages) notes
 RestOfFork who child (moving_page page e count) notes = ⊥
+RestOfFork who child (in_walk sequence step) notes = ⊥
 
 -- the answers that a move may have in its third turn
 abbrev pub IsLate : Answer → Type 0
@@ -69,76 +73,40 @@ RestOfMove who op (moving_page page e count) notes =
     (answer : Answer) × IsLate answer × IsTurn who (Done answer ∷ []) notes
 RestOfMove who op at notes = Shape who op notes
 
--- Of a page that a long pin moves first, the third turn: the page is pinned, and what is left then follows, or it is refused.
-abbrev pub PinsThird : Who → (handle page n : ℕ) → Want → (got left : ℕ) → List NoteValue → Type 0
-PinsThird who handle page n want got zero notes = ⊥
-PinsThird who handle page n want got (suc zero) notes =
-    IsTurn who (Event (events.PinTry who.actor who.proc (page + got) want.write) ∷ Event (events.PinOk who.actor handle)
-    ∷ Done (answers.Pinned n) ∷ []) notes
-PinsThird who handle page n want got (suc (suc left)) notes =
-    Then (IsTurn who (Event (events.PinTry who.actor who.proc (page + got) want.write) ∷ []))
-    (PinsPages who handle page n want (got + 1) (suc left)) notes
-
-abbrev pub IsLateCause : Cause → Type 0
-IsLateCause causes.NoFrame = Unit {0}
-IsLateCause (causes.Unmovable count) = Unit {0}
-IsLateCause cause = ⊥
-
-abbrev pub IsLateRefusal : Answer → Type 0
-IsLateRefusal answers.NoFrame = Unit {0}
-IsLateRefusal (answers.Unmovable count) = Unit {0}
-IsLateRefusal answer = ⊥
-
-abbrev pub LeftThird : Who → (handle page n : ℕ) → Want → (got : ℕ) → List NoteValue → Type 0
-LeftThird who handle page n want got notes =
-    PinsThird who handle page n want got (n - got) notes
-    ⊎ ((0 < got) × (cause : Cause) × IsLateCause cause
-    × IsTurn who (Event (events.PinOk who.actor handle) ∷ Done (answers.Short got n cause) ∷ []) notes)
-    ⊎ ((got ≡ 0) × (answer : Answer) × IsLateRefusal answer × IsTurn who (Done answer ∷ []) notes)
-
--- Of a pin that has got so many pages, those after; of one that has cleared the next, that one's count and third turn; of one
--- that has counted, that turn.
-abbrev pub RestOfPin : Who → (handle page n : ℕ) → Want → (fast : Bool) → (far got : ℕ) → JobPlace → List NoteValue → Type 0
-RestOfPin who handle page n want fast far got unbegun notes =
-    PinsPages who handle page n want got (n - got) notes ⊎ ((far ≡ 0) × IsRefused who (Pin handle page n want fast) notes)
-RestOfPin who handle page n want fast far got (moving_page g e unread) notes =
-    Then (IsTurn who (Silent ∷ [])) (LeftThird who handle page n want got) notes
-RestOfPin who handle page n want fast far got (moving_page g e count) notes = LeftThird who handle page n want got notes
-RestOfPin who handle page n want fast far got at notes = ⊥
-
-abbrev pub RestOf : Who → Op → (far got : ℕ) → JobPlace → List NoteValue → Type 0
-RestOf who (Unmap page n) far got at notes = RestOver who (Unmap page n) page n (events.Unmap who.actor who.proc) far notes
-RestOf who (Discard page n) far got at notes = RestOver who (Discard page n) page n (events.Discard who.actor who.proc) far notes
-RestOf who Exit far got at notes = ((pages : ℕ) × TakesDownWhole who pages notes) ⊎ ((far ≡ 0) × IsRefused who Exit notes)
-RestOf who (Move proc page zone) far got at notes = RestOfMove who (Move proc page zone) at notes
-RestOf who (Fork child) far got at notes = RestOfFork who child at notes
-RestOf who (Pin handle page n want fast) far got at notes =
-    RestOfPin who handle page n want fast far got at notes
-RestOf who (Unpin handle) far got at notes =
+-- What is left of any operation; of a pin also by the first page that it has got.
+abbrev pub RestOf : Who → Op → (far got first : ℕ) → JobPlace → List NoteValue → Type 0
+RestOf who (Unmap page n) far got first at notes = RestOver who (Unmap page n) page n (events.Unmap who.actor who.proc) far notes
+RestOf who (Discard page n) far got first at notes = RestOver who (Discard page n) page n (events.Discard who.actor who.proc) far notes
+RestOf who Exit far got first at notes = ((pages : ℕ) × TakesDownWhole who pages notes) ⊎ ((far ≡ 0) × IsRefused who Exit notes)
+RestOf who (Move proc page zone) far got first at notes = RestOfMove who (Move proc page zone) at notes
+RestOf who (Fork child) far got first at notes = RestOfFork who child at notes
+RestOf who (Pin handle page n want fast) far got first at notes =
+    RestOfPin who handle page n want fast far got first at notes
+RestOf who (Unpin handle) far got first at notes =
     ((more : ℕ) × Unpins who handle more notes) ⊎ ((far ≡ 0) × IsRefused who (Unpin handle) notes)
-RestOf who (Transfer handle outward slot parts) far got at notes =
+RestOf who (Transfer handle outward slot parts) far got first at notes =
     MovesWords who handle outward slot parts far (words_of parts - far) notes
     ⊎ ((far ≡ 0) × IsRefused who (Transfer handle outward slot parts) notes)
-RestOf who op far got at notes = Shape who op notes
+RestOf who op far got first at notes = Shape who op notes
 
-rest_over : (who : Who) {op : Op} {page n : ℕ} {event : ℕ → PlainEvent} (far got : ℕ) (at : JobPlace) (notes : List NoteValue) → GoesOver who.actor who.proc op page n event → RestOf who op far got at notes → RestOver who op page n event far notes
-rest_over who far got at notes (unmaps page n) rest = rest
-rest_over who far got at notes (discards page n) rest = rest
+rest_over : (who : Who) {op : Op} {page n : ℕ} {event : ℕ → PlainEvent} (far got first : ℕ) (at : JobPlace) (notes : List NoteValue) → GoesOver who.actor who.proc op page n event → RestOf who op far got first at notes → RestOver who op page n event far notes
+rest_over who far got first at notes (unmaps page n) rest = rest
+rest_over who far got first at notes (discards page n) rest = rest
 
-over_rest : (who : Who) {op : Op} {page n : ℕ} {event : ℕ → PlainEvent} (far got : ℕ) (at : JobPlace) (notes : List NoteValue) → GoesOver who.actor who.proc op page n event → RestOver who op page n event far notes → RestOf who op far got at notes
-over_rest who far got at notes (unmaps page n) rest = rest
-over_rest who far got at notes (discards page n) rest = rest
+over_rest : (who : Who) {op : Op} {page n : ℕ} {event : ℕ → PlainEvent} (far got first : ℕ) (at : JobPlace) (notes : List NoteValue) → GoesOver who.actor who.proc op page n event → RestOver who op page n event far notes → RestOf who op far got first at notes
+over_rest who far got first at notes (unmaps page n) rest = rest
+over_rest who far got first at notes (discards page n) rest = rest
 
 -- what is left of the operation, and then those after it
-abbrev pub Goes : (a p number : ℕ) → Op → List Op → (far got : ℕ) → JobPlace → List NoteValue → Type 0
-Goes a p number op ops far got at notes =
-    Then (RestOf (record { actor = a; proc = p; number = number }) op far got at) (Shapes a p (number + 1) ops) notes
+abbrev pub Goes : (a p number : ℕ) → Op → List Op → (far got first : ℕ) → JobPlace → List NoteValue → Type 0
+Goes a p number op ops far got first at notes =
+    Then (RestOf (record { actor = a; proc = p; number = number }) op far got first at) (Shapes a p (number + 1) ops) notes
 
 -- The notes that are left of an actor with these operations left, of the first of which so many turns are over. An
 -- operation that has begun is ended.
-abbrev pub Left : (a p number : ℕ) → List Op → (far got : ℕ) → JobPlace → List NoteValue → Type 0
-Left a p number [] far got at notes = notes ≡ []
-Left a p number (op ∷ ops) far got at notes = (far ≡ 0) × (notes ≡ []) ⊎ Goes a p number op ops far got at notes
+abbrev pub Left : (a p number : ℕ) → List Op → (far got first : ℕ) → JobPlace → List NoteValue → Type 0
+Left a p number [] far got first at notes = notes ≡ []
+Left a p number (op ∷ ops) far got first at notes = (far ≡ 0) × (notes ≡ []) ⊎ Goes a p number op ops far got first at notes
 
 -- the operations from the present one on
 
@@ -160,31 +128,28 @@ all_of who event page n notes all =
     let many : n - 0 ≡ n = omega arith in
     subst (λ (k : ℕ). TakesDownAll who event page k notes) many (subst (λ (g : ℕ). TakesDownAll who event g (n - 0) notes) first all)
 
-shape_of : (who : Who) (op : Op) (notes : List NoteValue) → RestOf who op 0 0 unbegun notes → Shape who op notes
-shape_of who (Unmap page n) notes (inl all) = inl (all_of who (events.Unmap who.actor who.proc) page n notes all)
-shape_of who (Unmap page n) notes (inr refusal) = inr refusal.1
-shape_of who (Discard page n) notes (inl all) = inl (all_of who (events.Discard who.actor who.proc) page n notes all)
-shape_of who (Discard page n) notes (inr refusal) = inr refusal.1
-shape_of who Exit notes (inl whole) = inl whole
-shape_of who Exit notes (inr refusal) = inr refusal.1
-shape_of who (Fork child) notes rest = inl rest
-shape_of who (Pin handle page n want fast) notes (inl pins) =
-    let many : n - 0 ≡ n = omega arith in
-    inl (subst (λ (k : ℕ). PinsPages who handle page n want 0 k notes) many pins)
-shape_of who (Pin handle page n want fast) notes (inr refusal) = inr refusal.1
-shape_of who (Unpin handle) notes (inl unpins) = inl unpins
-shape_of who (Unpin handle) notes (inr refusal) = inr refusal.1
-shape_of who (Transfer handle outward slot parts) notes (inl all) =
+shape_of : (who : Who) (op : Op) (notes : List NoteValue) → (first : ℕ) → RestOf who op 0 0 first unbegun notes → Shape who op notes
+shape_of who (Unmap page n) notes first (inl all) = inl (all_of who (events.Unmap who.actor who.proc) page n notes all)
+shape_of who (Unmap page n) notes first (inr refusal) = inr refusal.1
+shape_of who (Discard page n) notes first (inl all) = inl (all_of who (events.Discard who.actor who.proc) page n notes all)
+shape_of who (Discard page n) notes first (inr refusal) = inr refusal.1
+shape_of who Exit notes first (inl whole) = inl whole
+shape_of who Exit notes first (inr refusal) = inr refusal.1
+shape_of who (Fork child) notes first rest = inl rest
+shape_of who (Pin handle page n want fast) notes first rest = unbegun_shape who handle page n want fast notes rest
+shape_of who (Unpin handle) notes first (inl unpins) = inl unpins
+shape_of who (Unpin handle) notes first (inr refusal) = inr refusal.1
+shape_of who (Transfer handle outward slot parts) notes first (inl all) =
     let many : words_of parts - 0 ≡ words_of parts = omega arith in
     inl (subst (λ (k : ℕ). MovesWords who handle outward slot parts 0 k notes) many all)
-shape_of who (Transfer handle outward slot parts) notes (inr refusal) = inr refusal.1
-shape_of who op notes rest = rest
+shape_of who (Transfer handle outward slot parts) notes first (inr refusal) = inr refusal.1
+shape_of who op notes first rest = rest
 
-pub left_shapes : (a p number : ℕ) (ops : List Op) (notes : List NoteValue) → Left a p number ops 0 0 unbegun notes → Shapes a p number ops notes
-left_shapes a p number [] notes left = left
-left_shapes a p number (op ∷ ops) notes (inl none) = inl none.1
-left_shapes a p number (op ∷ ops) notes (inr more) =
-    inr (more.0, more.1, more.2, more.3, shape_of (record { actor = a; proc = p; number = number }) op more.0 more.4, more.5)
+pub left_shapes : (a p number : ℕ) (ops : List Op) (notes : List NoteValue) (first : ℕ) → Left a p number ops 0 0 first unbegun notes → Shapes a p number ops notes
+left_shapes a p number [] notes first left = left
+left_shapes a p number (op ∷ ops) notes first (inl none) = inl none.1
+left_shapes a p number (op ∷ ops) notes first (inr more) =
+    inr (more.0, more.1, more.2, more.3, shape_of (record { actor = a; proc = p; number = number }) op more.0 first more.4, more.5)
 
 -- one page more in front
 takes_down : (who : Who) (event : ℕ → PlainEvent) (page m : ℕ) (now later : List NoteValue) → 1 ≤ m → AreBefore now later → TakesDown who (event page) now → TakesDownAll who event (page + 1) m later → TakesDownAll who event page (suc m) (now ++ later)
@@ -207,8 +172,8 @@ moves_more who handle outward slot parts k value zero now later some before firs
 moves_more who handle outward slot parts k value (suc m) now later some before first all = (value, (now, later, refl, before, first, all))
 
 -- what is left of an actor at a place
-abbrev pub LeftAt : (a p : ℕ) → List Op → Place → (got : ℕ) → JobPlace → List NoteValue → Type 0
-LeftAt a p ops place got at notes = Left a p (place.answered + 1) (drop place.answered ops) place.far got at notes
+abbrev pub LeftAt : (a p : ℕ) → List Op → Place → (got first : ℕ) → JobPlace → List NoteValue → Type 0
+LeftAt a p ops place got first at notes = Left a p (place.answered + 1) (drop place.answered ops) place.far got first at notes
 
 -- a fork of a born process is not refused
 pub fork_unrefused : (child : ℕ) (answer : Answer) → refuses (Fork child) answer ≡ false
@@ -216,26 +181,25 @@ fork_unrefused child answers.Plain = refl
 fork_unrefused child answer = refl
 
 -- an operation that is refused at once is so in one turn
-at_once : (who : Who) (op : Op) (answer : Answer) (notes : List NoteValue) → IsTrue (refuses op answer) → IsAtOnce op answer → IsTurn who (Done answer ∷ []) notes → IsRefused who op notes
-at_once who (Move proc page zone) (answers.Busy count) notes refusal at turn = absurd at
-at_once who (Move proc page zone) answers.NoFrame notes refusal at turn = absurd at
-at_once who (Move proc page zone) answers.Missing notes refusal at turn = (answers.Missing, refusal, turn)
-at_once who (Move proc page zone) answers.Untouched notes refusal at turn = (answers.Untouched, refusal, turn)
-at_once who (Move proc page zone) answers.Unborn notes refusal at turn = (answers.Unborn, refusal, turn)
-at_once who (Move proc page zone) answer notes refusal at turn = absurd (cc refusal)
-at_once who (Pin handle page n want fast) (answers.Unmovable count) notes refusal at turn = absurd at
-at_once who (Pin handle page n want fast) answers.NoFrame notes refusal at turn = (answers.NoFrame, refusal, inl turn)
-at_once who (Pin handle page n want fast) answers.Missing notes refusal at turn = (answers.Missing, refusal, turn)
-at_once who (Pin handle page n want fast) answers.Forbidden notes refusal at turn = (answers.Forbidden, refusal, turn)
-at_once who (Pin handle page n want fast) answers.Unborn notes refusal at turn = (answers.Unborn, refusal, turn)
-at_once who (Pin handle page n want fast) answer notes refusal at turn = absurd (cc refusal)
-at_once who op answer notes refusal at turn = (answer, refusal, turn)
+at_once : (who : Who) (op : Op) (answer : Answer) (notes : List NoteValue) → IsTrue (refuses op answer) → IsAtOnce op answer → IsAlwaysSlow op → IsTurn who (Done answer ∷ []) notes → IsRefused who op notes
+at_once who (Move proc page zone) (answers.Busy count) notes refusal at slow turn = absurd at
+at_once who (Move proc page zone) answers.NoFrame notes refusal at slow turn = absurd at
+at_once who (Move proc page zone) answers.Missing notes refusal at slow turn = (answers.Missing, refusal, turn)
+at_once who (Move proc page zone) answers.Untouched notes refusal at slow turn = (answers.Untouched, refusal, turn)
+at_once who (Move proc page zone) answers.Unborn notes refusal at slow turn = (answers.Unborn, refusal, turn)
+at_once who (Move proc page zone) answer notes refusal at slow turn = absurd (cc refusal)
+at_once who (Pin handle page n want fast) answer notes refusal at slow turn = slow_refused who handle page n want fast answer notes slow refusal at turn
+at_once who op answer notes refusal at slow turn = (answer, refusal, turn)
 
 -- as unborn every operation is
 unborn_at_once : (op : Op) → IsAtOnce op answers.Unborn
 unborn_at_once (Pin handle page n want fast) = tt
 unborn_at_once (Move proc page zone) = tt
 unborn_at_once op = tt
+
+unborn : (who : Who) (op : Op) (notes : List NoteValue) → IsTrue (refuses op answers.Unborn) → IsTurn who (Done answers.Unborn ∷ []) notes → IsRefused who op notes
+unborn who (Pin handle page n want fast) notes refusal turn = pin_unborn who handle page n want fast notes turn
+unborn who op notes refusal turn = at_once who op answers.Unborn notes refusal (unborn_at_once op) tt turn
 
 -- a move that is answered late
 late_shape : (who : Who) (proc page : ℕ) (zone : Zone) (answer : Answer) (notes : List NoteValue) → IsLate answer → IsThirdTurn who (Done answer ∷ []) notes → Shape who (Move proc page zone) notes
@@ -253,11 +217,12 @@ over_own : (who : Doer) {op : Op} {page n : ℕ} {event : ℕ → PlainEvent} �
 over_own who (unmaps page n) = unmaps page n
 over_own who (discards page n) = discards page n
 
-refused_rest : (who : Who) (op : Op) (far got : ℕ) (now : List NoteValue) → far ≡ 0 → IsRefused who op now → RestOf who op far got unbegun now
-refused_rest who (Fork child) far got now first refusal =
-    absurd (let none = fork_unrefused child refusal.0 in let is : IsTrue (refuses (Fork child) refusal.0) = refusal.1 in cc)
-refused_rest who (Move proc page zone) far got now first refusal = inr refusal
-refused_rest who op far got now first refusal = search (first, refusal, inr)
+refused_rest : (who : Who) (op : Op) (far got head : ℕ) (now : List NoteValue) → far ≡ 0 → got ≡ 0 → IsRefused who op now → RestOf who op far got head unbegun now
+refused_rest who (Fork child) far got head now first none refusal =
+    absurd (let never = fork_unrefused child refusal.0 in let is : IsTrue (refuses (Fork child) refusal.0) = refusal.1 in cc)
+refused_rest who (Move proc page zone) far got head now first none refusal = inr refusal
+refused_rest who (Pin handle page n want fast) far got head now first none refusal = first_refused who handle page n want fast far got now first none refusal
+refused_rest who op far got head now first none refusal = search (first, refusal, inr)
 
 last_rest : (who : Who) (op : Op) (page n : ℕ) (event : ℕ → PlainEvent) (far : ℕ) (now : List NoteValue) → far + 1 ≡ n → TakesDownLast who (event (page + far)) now → RestOver who op page n event far now
 last_rest who op page n event far now last down =
@@ -271,15 +236,9 @@ word_more word left all sum = omega arith
 none_left : (all : ℕ) → all + 0 ≡ all
 none_left all = omega arith
 
--- a page more is pending
-one_pending : (s : PlainState) (a p g : ℕ) (write : Bool) → pages_got (happened s (events.PinTry a p g write)) a ≡ pages_got s a + 1
-one_pending s a p g write =
-    let new : Pending = record { page = g; object = s.object p g; write = write } in
-    ap (λ (xs : List Pending). length xs) (put_same a (s.pending a ++ new ∷ []) s.pending) ∙ length-append (s.pending a) (new ∷ [])
-
 -- From after turn t of the actor to before it: what is later is in turns after it. Before the turn a pin of the actor has got so
 -- many pages, and so many after it.
-module _ (who : Doer) (t : ℕ) (place : Place) (ops : List Op) (later : List NoteValue) (behind : AreBehind t later) (got more : ℕ) where
+module _ (who : Doer) (t : ℕ) (place : Place) (ops : List Op) (later : List NoteValue) (behind : AreBehind t later) (got more head head_after : ℕ) where
   abbrev present : Who
   present = record { actor = who.actor; proc = who.proc; number = place.answered + 1 }
 
@@ -306,11 +265,11 @@ module _ (who : Doer) (t : ℕ) (place : Place) (ops : List Op) (later : List No
 
   -- what is left before the turn: of this operation, and of those after it
   abbrev LeftBefore : Op → JobPlace → List NoteValue → Type 0
-  LeftBefore op at notes = Left who.actor who.proc (place.answered + 1) (op ∷ ops_behind) place.far got at notes
+  LeftBefore op at notes = Left who.actor who.proc (place.answered + 1) (op ∷ ops_behind) place.far got head at notes
 
   -- the operation ends with this turn
-  ends : (op : Op) (at : JobPlace) (whats : List What) → RestOf present op place.far got at (now whats) → more ≡ 0 → Left who.actor who.proc (place.answered + 1 + 1) ops_behind 0 more unbegun later → LeftBefore op at (now whats ++ later)
-  ends op at whats rest none left = inr (now whats, later, refl, now_before whats later behind, rest, left_shapes who.actor who.proc (place.answered + 1 + 1) ops_behind later (subst (λ (k : ℕ). Left who.actor who.proc (place.answered + 1 + 1) ops_behind 0 k unbegun later) none left))
+  ends : (op : Op) (at : JobPlace) (whats : List What) → RestOf present op place.far got head at (now whats) → more ≡ 0 → Left who.actor who.proc (place.answered + 1 + 1) ops_behind 0 more head_after unbegun later → LeftBefore op at (now whats ++ later)
+  ends op at whats rest none left = inr (now whats, later, refl, now_before whats later behind, rest, left_shapes who.actor who.proc (place.answered + 1 + 1) ops_behind later head_after (subst (λ (k : ℕ). Left who.actor who.proc (place.answered + 1 + 1) ops_behind 0 k head_after unbegun later) none left))
 
   -- it takes one page down, and goes on
   goes_over : (op : Op) (page n : ℕ) (event : ℕ → PlainEvent) (whats : List What) (front rest : List NoteValue) → GoesOver who.actor who.proc op page n event → place.far + 1 < n → TakesDown present (event (page + place.far)) (now whats) → later ≡ front ++ rest → AreBefore front rest → RestOver present op page n event (place.far + 1) front → Shapes who.actor who.proc (place.answered + 1 + 1) ops_behind rest → LeftBefore op unbegun (now whats ++ later)
@@ -322,15 +281,15 @@ module _ (who : Doer) (t : ℕ) (place : Place) (ops : List Op) (later : List No
       let many : suc left ≡ n - place.far = omega arith in
       let there : TakesDownAll present event (first + 1) left front = subst (λ (g : ℕ). TakesDownAll present event g left front) next all in
       let whole : TakesDownAll present event first (n - place.far) (now whats ++ front) = subst (λ (k : ℕ). TakesDownAll present event first k (now whats ++ front)) many (takes_down present event first left (now whats) front (omega arith) (front_before whats front rest is behind) down there) in
-      inr (now whats ++ front, rest, joined whats front rest is, joined_before whats front rest is behind before, over_rest present place.far got unbegun (now whats ++ front) over (inl whole), shapes)
+      inr (now whats ++ front, rest, joined whats front rest is, joined_before whats front rest is behind before, over_rest present place.far got head unbegun (now whats ++ front) over (inl whole), shapes)
 
-  takes_and_goes : (op : Op) (page n : ℕ) (event : ℕ → PlainEvent) (whats : List What) → GoesOver who.actor who.proc op page n event → place.far + 1 < n → TakesDown present (event (page + place.far)) (now whats) → Left who.actor who.proc (place.answered + 1) (op ∷ ops_behind) (place.far + 1) more unbegun later → LeftBefore op unbegun (now whats ++ later)
+  takes_and_goes : (op : Op) (page n : ℕ) (event : ℕ → PlainEvent) (whats : List What) → GoesOver who.actor who.proc op page n event → place.far + 1 < n → TakesDown present (event (page + place.far)) (now whats) → Left who.actor who.proc (place.answered + 1) (op ∷ ops_behind) (place.far + 1) more head_after unbegun later → LeftBefore op unbegun (now whats ++ later)
   takes_and_goes op page n event whats over less down (inl none) = absurd (let e = none.0 in omega arith)
   takes_and_goes op page n event whats over less down (inr (front, rest, is, before, begun, shapes)) =
-      goes_over op page n event whats front rest over less down is before (rest_over present (place.far + 1) more unbegun front over begun) shapes
+      goes_over op page n event whats front rest over less down is before (rest_over present (place.far + 1) more head_after unbegun front over begun) shapes
 
   -- an exit takes one page more down in front
-  exits_on : (page : ℕ) (whats : List What) → IsTurn present (Event (events.Unmap who.actor who.proc page) ∷ []) (now whats) → Left who.actor who.proc (place.answered + 1) (Exit ∷ ops_behind) (place.far + 1) more unbegun later → LeftBefore Exit unbegun (now whats ++ later)
+  exits_on : (page : ℕ) (whats : List What) → IsTurn present (Event (events.Unmap who.actor who.proc page) ∷ []) (now whats) → Left who.actor who.proc (place.answered + 1) (Exit ∷ ops_behind) (place.far + 1) more head_after unbegun later → LeftBefore Exit unbegun (now whats ++ later)
   exits_on page whats down (inl none) = absurd (let e = none.0 in omega arith)
   exits_on page whats down (inr (front, rest, is, before, inr refusal, shapes)) = absurd (let e = refusal.0 in omega arith)
   exits_on page whats down (inr (front, rest, is, before, inl (pages, whole), shapes)) =
@@ -350,46 +309,72 @@ module _ (who : Doer) (t : ℕ) (place : Place) (ops : List Op) (later : List No
     abbrev pinned : What
     pinned = Event (events.PinTry who.actor who.proc (page + got) want.write)
 
+    -- what is left of the pin after the turn, and before it
+    abbrev PinBehind : JobPlace → List NoteValue → Type 0
+    PinBehind at notes = RestOfPin present handle page n want fast (place.far + 1) more head_after at notes
+
+    abbrev PinBefore : JobPlace → List NoteValue → Type 0
+    PinBefore at notes = RestOfPin present handle page n want fast place.far got head at notes
+
+    -- it goes on from where it stands to where it stands then
+    pin_goes : (at next : JobPlace) (whats : List What) → ((front : List NoteValue) → AreBehind t front → PinBehind next front → PinBefore at (now whats ++ front)) → Left who.actor who.proc (place.answered + 1) (Pin handle page n want fast ∷ ops_behind) (place.far + 1) more head_after next later → LeftBefore (Pin handle page n want fast) at (now whats ++ later)
+    pin_goes at next whats on (inl none) = absurd (let e = none.0 in omega arith)
+    pin_goes at next whats on (inr (front, rest, is, before, begun, shapes)) =
+        inr (now whats ++ front, rest, joined whats front rest is, joined_before whats front rest is behind before, on front (behind_front t front rest (subst (AreBehind t) is behind)) begun, shapes)
+
+    -- with no page more
+    moves_page : (at next : JobPlace) (whats : List What) → more ≡ got → ((front : List NoteValue) → AreBehind t front → RestOfPin present handle page n want fast (place.far + 1) got head_after next front → PinBefore at (now whats ++ front)) → Left who.actor who.proc (place.answered + 1) (Pin handle page n want fast ∷ ops_behind) (place.far + 1) more head_after next later → LeftBefore (Pin handle page n want fast) at (now whats ++ later)
+    moves_page at next whats same on left =
+        pin_goes at next whats (λ front after rest. on front after (subst (λ (k : ℕ). RestOfPin present handle page n want fast (place.far + 1) k head_after next front) same rest)) left
+
+    slow_behind : (front : List NoteValue) → PinBehind unbegun front → SlowRest present handle page n want fast more front
+    slow_behind front rest = slow_left present handle page n want fast (place.far + 1) more front (later_slow present handle page n want fast place.far) rest
+
     -- a pin takes one page more
-    pins_on : (whats : List What) → got + 1 < n → more ≡ got + 1 → IsTurn present (pinned ∷ []) (now whats) → Left who.actor who.proc (place.answered + 1) (Pin handle page n want fast ∷ ops_behind) (place.far + 1) more unbegun later → LeftBefore (Pin handle page n want fast) unbegun (now whats ++ later)
-    pins_on whats less grown first (inl none) = absurd (let e = none.0 in omega arith)
-    pins_on whats less grown first (inr (front, rest, is, before, inr refusal, shapes)) = absurd (let e = refusal.0 in omega arith)
-    pins_on whats less grown first (inr (front, rest, is, before, inl pins, shapes)) =
+    pins_on : (whats : List What) (front : List NoteValue) → got + 1 < n → more ≡ got + 1 → IsTurn present (pinned ∷ []) (now whats) → AreBehind t front → SlowRest present handle page n want fast more front → PinsPages present handle page n want got (n - got) (now whats ++ front)
+    pins_on whats front less grown first after (inr (answer, refusal, rest)) = absurd (let none = rest.0 in omega (arith, grown, none))
+    pins_on whats front less grown first after (inl pins) =
         let left = n - (got + 1) in
         let many : suc left ≡ n - got = omega (arith, less) in
         let there : PinsPages present handle page n want (got + 1) left front = subst (λ (k : ℕ). PinsPages present handle page n want k (n - k) front) grown pins in
-        let whole : PinsPages present handle page n want got (n - got) (now whats ++ front) = subst (λ (k : ℕ). PinsPages present handle page n want got k (now whats ++ front)) many (pins_more present handle page n want got left (now whats) front (omega (arith, less)) (front_before whats front rest is behind) (inl first) there) in
-        inr (now whats ++ front, rest, joined whats front rest is, joined_before whats front rest is behind before, inl whole, shapes)
+        subst (λ (k : ℕ). PinsPages present handle page n want got k (now whats ++ front)) many (pins_more present handle page n want got left (now whats) front (omega (arith, less)) (now_before whats front after) (inl first) there)
 
     third_more : (left : ℕ) (whats : List What) (front : List NoteValue) → 1 ≤ left → AreBehind t front → IsTurn present (pinned ∷ []) (now whats) → PinsPages present handle page n want (got + 1) left front → PinsThird present handle page n want got (suc left) (now whats ++ front)
     third_more zero whats front some after first pins = absurd (omega (arith, some))
     third_more (suc left) whats front some after first pins = (now whats, front, refl, now_before whats front after, first, pins)
 
     -- also in the third turn of a page that it moves first
-    places_on : (g : ℕ) (e : Entry) (whats : List What) → got + 1 < n → more ≡ got + 1 → IsTurn present (pinned ∷ []) (now whats) → Left who.actor who.proc (place.answered + 1) (Pin handle page n want fast ∷ ops_behind) (place.far + 1) more unbegun later → LeftBefore (Pin handle page n want fast) (moving_page g e counted_one) (now whats ++ later)
-    places_on g e whats less grown first (inl none) = absurd (let e = none.0 in omega arith)
-    places_on g e whats less grown first (inr (front, rest, is, before, inr refusal, shapes)) = absurd (let e = refusal.0 in omega arith)
-    places_on g e whats less grown first (inr (front, rest, is, before, inl pins, shapes)) =
+    places_on : (whats : List What) (front : List NoteValue) → got + 1 < n → more ≡ got + 1 → IsTurn present (pinned ∷ []) (now whats) → AreBehind t front → SlowRest present handle page n want fast more front → PinsThird present handle page n want got (n - got) (now whats ++ front)
+    places_on whats front less grown first after (inr (answer, refusal, rest)) = absurd (let none = rest.0 in omega (arith, grown, none))
+    places_on whats front less grown first after (inl pins) =
         let left = n - (got + 1) in
         let many : suc left ≡ n - got = omega (arith, less) in
         let there : PinsPages present handle page n want (got + 1) left front = subst (λ (k : ℕ). PinsPages present handle page n want k (n - k) front) grown pins in
-        let whole : PinsThird present handle page n want got (n - got) (now whats ++ front) = subst (λ (k : ℕ). PinsThird present handle page n want got k (now whats ++ front)) many (third_more left whats front (omega (arith, less)) (behind_front t front rest (subst (AreBehind t) is behind)) first there) in
-        inr (now whats ++ front, rest, joined whats front rest is, joined_before whats front rest is behind before, inl whole, shapes)
+        subst (λ (k : ℕ). PinsThird present handle page n want got k (now whats ++ front)) many (third_more left whats front (omega (arith, less)) after first there)
 
-    pins_from : (at : JobPlace) → TriesAt want at → (whats : List What) → got + 1 < n → more ≡ got + 1 → IsTurn present (pinned ∷ []) (now whats) → Left who.actor who.proc (place.answered + 1) (Pin handle page n want fast ∷ ops_behind) (place.far + 1) more unbegun later → LeftBefore (Pin handle page n want fast) at (now whats ++ later)
-    pins_from unbegun tries whats less grown first left = pins_on whats less grown first left
-    pins_from (moving_page g e counted_one) tries whats less grown first left = places_on g e whats less grown first left
-    pins_from at tries whats less grown first left = absurd tries
+    pins_from : (at : JobPlace) → IsSlowTurn fast place.far → TriesAt want at → (whats : List What) → got + 1 < n → more ≡ got + 1 → IsTurn present (pinned ∷ []) (now whats) → Left who.actor who.proc (place.answered + 1) (Pin handle page n want fast ∷ ops_behind) (place.far + 1) more head_after unbegun later → LeftBefore (Pin handle page n want fast) at (now whats ++ later)
+    pins_from unbegun slow tries whats less grown first left =
+        pin_goes unbegun unbegun whats (λ front after rest. left_slow present handle page n want fast place.far got (now whats ++ front) slow (inl (pins_on whats front less grown first after (slow_behind front rest)))) left
+    pins_from (moving_page g e counted_one) slow tries whats less grown first left =
+        pin_goes (moving_page g e counted_one) unbegun whats (λ front after rest. inl (places_on whats front less grown first after (slow_behind front rest))) left
+    pins_from at slow tries whats less grown first left = absurd tries
 
     -- the last page
-    last_from : (at : JobPlace) → TriesAt want at → (notes : List NoteValue) → got + 1 ≡ n → IsTurn present (pinned ∷ Event (events.PinOk who.actor handle) ∷ Done (answers.Pinned n) ∷ []) notes → RestOfPin present handle page n want fast place.far got at notes
-    last_from unbegun tries notes last turn =
+    last_from : (at : JobPlace) → IsSlowTurn fast place.far → TriesAt want at → (notes : List NoteValue) → got + 1 ≡ n → IsTurn present (pinned ∷ Event (events.PinOk who.actor handle) ∷ Done (answers.Pinned n) ∷ []) notes → PinBefore at notes
+    last_from unbegun slow tries notes last turn =
         let one : 1 ≡ n - got = omega (arith, last) in
-        inl (subst (λ (k : ℕ). PinsPages present handle page n want got k notes) one (inl (inl turn)))
-    last_from (moving_page g e counted_one) tries notes last turn =
+        left_slow present handle page n want fast place.far got notes slow (inl (subst (λ (k : ℕ). PinsPages present handle page n want got k notes) one (inl (inl turn))))
+    last_from (moving_page g e counted_one) slow tries notes last turn =
         let one : 1 ≡ n - got = omega (arith, last) in
         inl (subst (λ (k : ℕ). PinsThird present handle page n want got k notes) one turn)
-    last_from at tries notes last turn = absurd tries
+    last_from at slow tries notes last turn = absurd tries
+
+    -- a turn of its walk
+    walks_on : {s : PlainState} {sequence : ℕ} {step : WalkStep} {whats : List What} {to : JobPlace} → WalksTo s who page n (pages_got s who.actor) want.write sequence step whats to → (front : List NoteValue) → AreBehind t front → PinRest present handle page n want fast (pages_got (plain_behind s whats) who.actor) (first_pending (plain_behind s whats) who.actor) to front → PinRest present handle page n want fast (pages_got s who.actor) (first_pending s who.actor) (in_walk sequence step) (now whats ++ front)
+    walks_on walks front after (inl rest) =
+        inl (walk_before who (place.answered + 1) t page n want.write (PinsAll present handle n) (PinsPages present handle page n want) walks front after rest)
+    walks_on walks front after (inr (answer, refusal, rest)) =
+        inr (answer, refusal, walk_before who (place.answered + 1) t page n want.write (λ rest. ⊥) (RefusesFirst present want answer) walks front after rest)
 
     -- a page that is refused, of a pin that has others
 
@@ -411,16 +396,18 @@ module _ (who : Doer) (t : ℕ) (place : Place) (ops : List Op) (later : List No
     late_more g e count causes.Missing at = at
     late_more g e count causes.Forbidden at = at
 
-    short_from : (at : JobPlace) (cause : Cause) (notes : List NoteValue) → 0 < got → got < n → EndsPin want cause → RefusesAt want at (refusal_by_cause cause) → IsTurn present (Event (events.PinOk who.actor handle) ∷ Done (answers.Short got n cause) ∷ []) notes → RestOfPin present handle page n want fast place.far got at notes
-    short_from unbegun cause notes some less end at turn =
-        inl (pins_short present handle page n want got (n - got) notes (omega (arith, less)) (some, cause, end, refuses_at_once cause (Event (events.PinOk who.actor handle) ∷ Done (answers.Short got n cause) ∷ []) notes at turn))
-    short_from (moving_page g e counted_one) cause notes some less end at turn = inr (inl (some, cause, late_one g e cause at, turn))
-    short_from (moving_page g e (counted_more count)) cause notes some less end at turn = inr (inl (some, cause, late_more g e count cause at, turn))
-    short_from (moving_page g e unread) cause notes some less end at turn = absurd at
-    short_from (from_page g) cause notes some less end at turn = absurd at
-    short_from (at_page g) cause notes some less end at turn = absurd at
-    short_from (wants_frame g) cause notes some less end at turn = absurd at
-    short_from (at_word g word to) cause notes some less end at turn = absurd at
+    short_from : (at : JobPlace) (cause : Cause) (notes : List NoteValue) → IsSlowTurn fast place.far → 0 < got → got < n → EndsPin want cause → RefusesAt want at (refusal_by_cause cause) → IsTurn present (Event (events.PinOk who.actor handle) ∷ Done (answers.Short got n cause) ∷ []) notes → PinBefore at notes
+    short_from unbegun cause notes slow some less end at turn =
+        left_slow present handle page n want fast place.far got notes slow
+        (inl (pins_short present handle page n want got (n - got) notes (omega (arith, less)) (some, cause, end, refuses_at_once cause (Event (events.PinOk who.actor handle) ∷ Done (answers.Short got n cause) ∷ []) notes at turn)))
+    short_from (moving_page g e counted_one) cause notes slow some less end at turn = inr (inl (some, cause, late_one g e cause at, turn))
+    short_from (moving_page g e (counted_more count)) cause notes slow some less end at turn = inr (inl (some, cause, late_more g e count cause at, turn))
+    short_from (moving_page g e unread) cause notes slow some less end at turn = absurd at
+    short_from (from_page g) cause notes slow some less end at turn = absurd at
+    short_from (at_page g) cause notes slow some less end at turn = absurd at
+    short_from (wants_frame g) cause notes slow some less end at turn = absurd at
+    short_from (at_word g word to) cause notes slow some less end at turn = absurd at
+    short_from (in_walk sequence step) cause notes slow some less end at turn = absurd at
 
     -- the two silent turns before the third
 
@@ -452,32 +439,27 @@ module _ (who : Doer) (t : ℕ) (place : Place) (ops : List Op) (later : List No
       third_short causes.Missing notes some late turns = absurd late
       third_short causes.Forbidden notes some late turns = absurd late
 
-      third_refused : (answer : Answer) (notes : List NoteValue) → IsLateRefusal answer → IsThirdTurn present (Done answer ∷ []) notes → IsRefused present (Pin handle page n want fast) notes
-      third_refused answers.NoFrame notes late turns = (answers.NoFrame, refl, inr (long, turns))
-      third_refused (answers.Unmovable count) notes late turns = (answers.Unmovable count, long, (long, turns))
+      third_refused : (answer : Answer) (notes : List NoteValue) → IsLateRefusal answer → IsThirdTurn present (Done answer ∷ []) notes → RefusesSlowly handle page n want fast answer × RefusesPage present want answer (Done answer ∷ []) notes
+      third_refused answers.NoFrame notes late turns = ((refl, λ walks unborn. absurd (cc unborn)), inr (long, turns))
+      third_refused (answers.Unmovable count) notes late turns = ((long, λ walks unborn. absurd (cc unborn)), (long, turns))
       third_refused answer notes late turns = absurd late
 
-      cleared_before : (got ≡ 0 → place.far ≡ 0) → got < n → (front : List NoteValue) → AreBehind t front → (far : ℕ) (g : ℕ) (e : Entry) → RestOfPin present handle page n want fast far got (moving_page g e unread) front → RestOfPin present handle page n want fast place.far got unbegun (now whats ++ front)
-      cleared_before first less front after far g e (second, third, is, before, counts, inl pins) = inl (third_pins (n - got) front second third is after before counts pins)
-      cleared_before first less front after far g e (second, third, is, before, counts, inr (inl (some, cause, late, turn))) =
+      cleared_before : got < n → (front : List NoteValue) → AreBehind t front → Then (IsTurn present (Silent ∷ [])) (LeftThird present handle page n want got) front → SlowRest present handle page n want fast got (now whats ++ front)
+      cleared_before less front after (second, third, is, before, counts, inl pins) = inl (third_pins (n - got) front second third is after before counts pins)
+      cleared_before less front after (second, third, is, before, counts, inr (inl (some, cause, late, turn))) =
           inl (pins_short present handle page n want got (n - got) (now whats ++ front) (omega (arith, less)) (third_short cause (now whats ++ front) some late (third_turn (Event (events.PinOk who.actor handle) ∷ Done (answers.Short got n cause) ∷ []) front second third is after before counts turn)))
-      cleared_before first less front after far g e (second, third, is, before, counts, inr (inr (none, answer, late, turn))) =
-          inr (first none, third_refused answer (now whats ++ front) late (third_turn (Done answer ∷ []) front second third is after before counts turn))
+      cleared_before less front after (second, third, is, before, counts, inr (inr (none, answer, late, turn))) =
+          let refuses_it = third_refused answer (now whats ++ front) late (third_turn (Done answer ∷ []) front second third is after before counts turn) in
+          inr (answer, refuses_it.0, (none, refuses_it.1))
 
     -- a count that was read
-    counted_left : (g : ℕ) (e : Entry) (count : Counted) (far : ℕ) (notes : List NoteValue) → (count ≡ unread → ⊥) → RestOfPin present handle page n want fast far got (moving_page g e count) notes → LeftThird present handle page n want got notes
-    counted_left g e unread far notes read rest = absurd (read refl)
-    counted_left g e counted_one far notes read rest = rest
-    counted_left g e (counted_more count) far notes read rest = rest
-
-    -- it goes on in a page from where it stands to where it stands then
-    moves_page : (at next : JobPlace) (whats : List What) → more ≡ got → ((front : List NoteValue) → AreBehind t front → RestOfPin present handle page n want fast (place.far + 1) got next front → RestOfPin present handle page n want fast place.far got at (now whats ++ front)) → Left who.actor who.proc (place.answered + 1) (Pin handle page n want fast ∷ ops_behind) (place.far + 1) more next later → LeftBefore (Pin handle page n want fast) at (now whats ++ later)
-    moves_page at next whats same on (inl none) = absurd (let e = none.0 in omega arith)
-    moves_page at next whats same on (inr (front, rest, is, before, begun, shapes)) =
-        inr (now whats ++ front, rest, joined whats front rest is, joined_before whats front rest is behind before, on front (behind_front t front rest (subst (AreBehind t) is behind)) (subst (λ (k : ℕ). RestOfPin present handle page n want fast (place.far + 1) k next front) same begun), shapes)
+    counted_left : (g : ℕ) (e : Entry) (count : Counted) (far first : ℕ) (notes : List NoteValue) → (count ≡ unread → ⊥) → RestOfPin present handle page n want fast far got first (moving_page g e count) notes → LeftThird present handle page n want got notes
+    counted_left g e unread far first notes read rest = absurd (read refl)
+    counted_left g e counted_one far first notes read rest = rest
+    counted_left g e (counted_more count) far first notes read rest = rest
 
   -- an unpin gives back one page more in front
-  unpins_on : (handle : ℕ) (whats : List What) → IsTurn present (Silent ∷ []) (now whats) → Left who.actor who.proc (place.answered + 1) (Unpin handle ∷ ops_behind) (place.far + 1) more unbegun later → LeftBefore (Unpin handle) unbegun (now whats ++ later)
+  unpins_on : (handle : ℕ) (whats : List What) → IsTurn present (Silent ∷ []) (now whats) → Left who.actor who.proc (place.answered + 1) (Unpin handle ∷ ops_behind) (place.far + 1) more head_after unbegun later → LeftBefore (Unpin handle) unbegun (now whats ++ later)
   unpins_on handle whats silent (inl none) = absurd (let e = none.0 in omega arith)
   unpins_on handle whats silent (inr (front, rest, is, before, inr refusal, shapes)) = absurd (let e = refusal.0 in omega arith)
   unpins_on handle whats silent (inr (front, rest, is, before, inl (left, unpins), shapes)) =
@@ -485,7 +467,7 @@ module _ (who : Doer) (t : ℕ) (place : Place) (ops : List Op) (later : List No
       inr (now whats ++ front, rest, joined whats front rest is, joined_before whats front rest is behind before, inl (suc left, whole), shapes)
 
   -- a transfer moves one word more in front
-  moves_on : (handle : ℕ) (outward : Bool) (slot : ℕ) (parts : List Part) (value : ℕ) (whats : List What) → place.far + 1 < words_of parts → IsTurn present (Event (moves_word who.actor handle outward (word_at parts place.far) (slot + place.far) value) ∷ []) (now whats) → Left who.actor who.proc (place.answered + 1) (Transfer handle outward slot parts ∷ ops_behind) (place.far + 1) more unbegun later → LeftBefore (Transfer handle outward slot parts) unbegun (now whats ++ later)
+  moves_on : (handle : ℕ) (outward : Bool) (slot : ℕ) (parts : List Part) (value : ℕ) (whats : List What) → place.far + 1 < words_of parts → IsTurn present (Event (moves_word who.actor handle outward (word_at parts place.far) (slot + place.far) value) ∷ []) (now whats) → Left who.actor who.proc (place.answered + 1) (Transfer handle outward slot parts ∷ ops_behind) (place.far + 1) more head_after unbegun later → LeftBefore (Transfer handle outward slot parts) unbegun (now whats ++ later)
   moves_on handle outward slot parts value whats less first (inl none) = absurd (let e = none.0 in omega arith)
   moves_on handle outward slot parts value whats less first (inr (front, rest, is, before, inr refusal, shapes)) = absurd (let e = refusal.0 in omega arith)
   moves_on handle outward slot parts value whats less first (inr (front, rest, is, before, inl all, shapes)) =
@@ -496,7 +478,7 @@ module _ (who : Doer) (t : ℕ) (place : Place) (ops : List Op) (later : List No
       inr (now whats ++ front, rest, joined whats front rest is, joined_before whats front rest is behind before, inl whole, shapes)
 
   -- a fork goes on from where it stands to where it stands then
-  forks_on : (child : ℕ) (at next : JobPlace) (whats : List What) → ((front : List NoteValue) → AreBehind t front → RestOfFork present child next front → RestOfFork present child at (now whats ++ front)) → Left who.actor who.proc (place.answered + 1) (Fork child ∷ ops_behind) (place.far + 1) more next later → LeftBefore (Fork child) at (now whats ++ later)
+  forks_on : (child : ℕ) (at next : JobPlace) (whats : List What) → ((front : List NoteValue) → AreBehind t front → RestOfFork present child next front → RestOfFork present child at (now whats ++ front)) → Left who.actor who.proc (place.answered + 1) (Fork child ∷ ops_behind) (place.far + 1) more head_after next later → LeftBefore (Fork child) at (now whats ++ later)
   forks_on child at next whats on (inl none) = absurd (let e = none.0 in omega arith)
   forks_on child at next whats on (inr (front, rest, is, before, begun, shapes)) =
       inr (now whats ++ front, rest, joined whats front rest is, joined_before whats front rest is behind before, on front (behind_front t front rest (subst (AreBehind t) is behind)) begun, shapes)
@@ -528,111 +510,134 @@ module _ (who : Doer) (t : ℕ) (place : Place) (ops : List Op) (later : List No
   placed_before child page to whats silent front after (pages, all) = (pages, (now whats, front, refl, now_before whats front after, (zero, none_left words, silent), all))
 
   -- a move goes on from where it stands to where it stands then
-  moves_from : (proc page : ℕ) (zone : Zone) (at next : JobPlace) (whats : List What) → ((front : List NoteValue) → AreBehind t front → RestOfMove present (Move proc page zone) next front → RestOfMove present (Move proc page zone) at (now whats ++ front)) → Left who.actor who.proc (place.answered + 1) (Move proc page zone ∷ ops_behind) (place.far + 1) more next later → LeftBefore (Move proc page zone) at (now whats ++ later)
+  moves_from : (proc page : ℕ) (zone : Zone) (at next : JobPlace) (whats : List What) → ((front : List NoteValue) → AreBehind t front → RestOfMove present (Move proc page zone) next front → RestOfMove present (Move proc page zone) at (now whats ++ front)) → Left who.actor who.proc (place.answered + 1) (Move proc page zone ∷ ops_behind) (place.far + 1) more head_after next later → LeftBefore (Move proc page zone) at (now whats ++ later)
   moves_from proc page zone at next whats on (inl none) = absurd (let e = none.0 in omega arith)
   moves_from proc page zone at next whats on (inr (front, rest, is, before, begun, shapes)) =
       inr (now whats ++ front, rest, joined whats front rest is, joined_before whats front rest is behind before, on front (behind_front t front rest (subst (AreBehind t) is behind)) begun, shapes)
 
-  op_left : {s : PlainState} {references : References} (op : Op) {from to : JobPlace} (whats : List What) → TurnOf s references (concerned who (Some op)) place op from whats to → drop place.answered ops ≡ op ∷ ops_behind → pages_got s who.actor ≡ got → pages_got (plain_behind s whats) who.actor ≡ more → ((place_behind place whats).far ≡ 0 → more ≡ 0) → LeftAt who.actor who.proc ops (place_behind place whats) more to later → LeftBefore op from (now whats ++ later)
-  op_left op whats (refused o answer first refusal once right passes) is has grows none left = ends op unbegun whats (refused_rest present op place.far got (now whats) first.0 (at_once present op answer (now whats) refusal once (t, refl))) (none refl) left
-  op_left op whats (loaded page word value first free) is has grows none left = ends op unbegun whats (inl (value, (t, refl))) (none refl) left
-  op_left op whats (took o page n event over less) is has grows none left =
-      takes_and_goes op page n event whats (over_own who over) less (inl (t, refl)) (subst (λ (os : List Op). Left who.actor who.proc (place.answered + 1) os (place.far + 1) more unbegun later) is left)
-  op_left op whats (passed o page n event over less unnamed) is has grows none left =
-      takes_and_goes op page n event whats (over_own who over) less (inr (t, refl)) (subst (λ (os : List Op). Left who.actor who.proc (place.answered + 1) os (place.far + 1) more unbegun later) is left)
-  op_left op whats (took_last o page n event over last) is has grows none left =
-      ends op unbegun whats (over_rest present place.far got unbegun (now whats) (over_own who over) (last_rest present op page n event place.far (now whats) last (inl (t, refl)))) (none refl) left
-  op_left op whats (passed_last o page n event over last unnamed) is has grows none left =
-      ends op unbegun whats (over_rest present place.far got unbegun (now whats) (over_own who over) (last_rest present op page n event place.far (now whats) last (inr (t, refl)))) (none refl) left
-  op_left op whats (took_lowest page unnamed) is has grows none left =
-      exits_on page whats (t, refl) (subst (λ (os : List Op). Left who.actor who.proc (place.answered + 1) os (place.far + 1) more unbegun later) is left)
-  op_left op whats (took_all unnamed) is has grows none left = ends op unbegun whats (inl (zero, (t, refl))) (none refl) left
-  op_left op whats (cleared_page handle page n want fast g e long first less room) is has grows none left =
+  op_left : {s : PlainState} {references : References} (op : Op) {from to : JobPlace} (whats : List What) → TurnOf s references (concerned who (Some op)) place op from whats to → drop place.answered ops ≡ op ∷ ops_behind → pages_got s who.actor ≡ got → pages_got (plain_behind s whats) who.actor ≡ more → first_pending s who.actor ≡ head → first_pending (plain_behind s whats) who.actor ≡ head_after → (place.far ≡ 0 → got ≡ 0) → ((place_behind place whats).far ≡ 0 → more ≡ 0) → LeftAt who.actor who.proc ops (place_behind place whats) more head_after to later → LeftBefore op from (now whats ++ later)
+  op_left op whats (refused o answer first refusal once slow right passes) is has grows starts follows fresh none left = ends op unbegun whats (refused_rest present op place.far got head (now whats) first.0 (fresh first.0) (at_once present op answer (now whats) refusal once slow (t, refl))) (none refl) left
+  op_left op whats (loaded page word value first free) is has grows starts follows fresh none left = ends op unbegun whats (inl (value, (t, refl))) (none refl) left
+  op_left op whats (took o page n event over less) is has grows starts follows fresh none left =
+      takes_and_goes op page n event whats (over_own who over) less (inl (t, refl)) (subst (λ (os : List Op). Left who.actor who.proc (place.answered + 1) os (place.far + 1) more head_after unbegun later) is left)
+  op_left op whats (passed o page n event over less unnamed) is has grows starts follows fresh none left =
+      takes_and_goes op page n event whats (over_own who over) less (inr (t, refl)) (subst (λ (os : List Op). Left who.actor who.proc (place.answered + 1) os (place.far + 1) more head_after unbegun later) is left)
+  op_left op whats (took_last o page n event over last) is has grows starts follows fresh none left =
+      ends op unbegun whats (over_rest present place.far got head unbegun (now whats) (over_own who over) (last_rest present op page n event place.far (now whats) last (inl (t, refl)))) (none refl) left
+  op_left op whats (passed_last o page n event over last unnamed) is has grows starts follows fresh none left =
+      ends op unbegun whats (over_rest present place.far got head unbegun (now whats) (over_own who over) (last_rest present op page n event place.far (now whats) last (inr (t, refl)))) (none refl) left
+  op_left op whats (took_lowest page unnamed) is has grows starts follows fresh none left =
+      exits_on page whats (t, refl) (subst (λ (os : List Op). Left who.actor who.proc (place.answered + 1) os (place.far + 1) more head_after unbegun later) is left)
+  op_left op whats (took_all unnamed) is has grows starts follows fresh none left = ends op unbegun whats (inl (zero, (t, refl))) (none refl) left
+  op_left op whats (cleared_page handle page n want fast g e long slow first less room) is has grows starts follows fresh none left =
       moves_page handle page n want fast unbegun (moving_page g e unread) whats (sym grows ∙ has)
-      (λ front after h. cleared_before handle page n want fast long whats (t, refl) (λ no_page. first (has ∙ no_page)) (subst (λ (k : ℕ). k < n) has less) front after (place.far + 1) g e h)
-      (subst (λ (os : List Op). Left who.actor who.proc (place.answered + 1) os (place.far + 1) more (moving_page g e unread) later) is left)
-  op_left op whats (counted_cleared handle page n want fast g e count read long begun less room) is has grows none left =
+      (λ front after h. left_slow present handle page n want fast place.far got (now whats ++ front) slow (cleared_before handle page n want fast long whats (t, refl) (subst (λ (k : ℕ). k < n) has less) front after h))
+      (subst (λ (os : List Op). Left who.actor who.proc (place.answered + 1) os (place.far + 1) more head_after (moving_page g e unread) later) is left)
+  op_left op whats (counted_cleared handle page n want fast g e count read long begun less room) is has grows starts follows fresh none left =
       moves_page handle page n want fast (moving_page g e unread) (moving_page g e count) whats (sym grows ∙ has)
-      (λ front after h. (now whats, front, refl, now_before whats front after, (t, refl), counted_left handle page n want fast g e count (place.far + 1) front read h))
-      (subst (λ (os : List Op). Left who.actor who.proc (place.answered + 1) os (place.far + 1) more (moving_page g e count) later) is left)
-  op_left op whats (lacked_frame handle page n want fast g e long begun no_page free) is has grows none left =
+      (λ front after h. (now whats, front, refl, now_before whats front after, (t, refl), counted_left handle page n want fast g e count (place.far + 1) head_after front read h))
+      (subst (λ (os : List Op). Left who.actor who.proc (place.answered + 1) os (place.far + 1) more head_after (moving_page g e count) later) is left)
+  op_left op whats (lacked_frame handle page n want fast g e long begun no_page free) is has grows starts follows fresh none left =
       ends op (moving_page g e counted_one) whats (inr (inr (sym has ∙ no_page, answers.NoFrame, tt, (t, refl)))) (none refl) left
-  op_left op whats (found_unmovable handle page n want fast g e count long begun no_page free) is has grows none left =
+  op_left op whats (found_unmovable handle page n want fast g e count long begun no_page free) is has grows starts follows fresh none left =
       ends op (moving_page g e (counted_more count)) whats (inr (inr (sym has ∙ no_page, answers.Unmovable count, tt, (t, refl)))) (none refl) left
-  op_left {s = s} op whats (pinned_page handle page n want fast at tries less room free) is has grows none left =
-      pins_from handle page n want fast at tries whats (subst (λ (k : ℕ). k + 1 < n) has less)
+  op_left {s = s} op whats (pinned_page handle page n want fast at slow tries less room free) is has grows starts follows fresh none left =
+      pins_from handle page n want fast at slow tries whats (subst (λ (k : ℕ). k + 1 < n) has less)
       (sym grows ∙ one_pending s who.actor who.proc (page + pages_got s who.actor) want.write ∙ ap (λ (k : ℕ). k + 1) has)
       (t, ap (λ (k : ℕ). now (Event (events.PinTry who.actor who.proc (page + k) want.write) ∷ [])) has)
-      (subst (λ (os : List Op). Left who.actor who.proc (place.answered + 1) os (place.far + 1) more unbegun later) is left)
-  op_left op whats (pinned_all handle page n want fast at tries last free) is has grows none left =
-      ends op at whats (last_from handle page n want fast at tries (now whats) (ap (λ (k : ℕ). k + 1) (sym has) ∙ last)
+      (subst (λ (os : List Op). Left who.actor who.proc (place.answered + 1) os (place.far + 1) more head_after unbegun later) is left)
+  op_left op whats (pinned_all handle page n want fast at slow tries last free) is has grows starts follows fresh none left =
+      ends op at whats (last_from handle page n want fast at slow tries (now whats) (ap (λ (k : ℕ). k + 1) (sym has) ∙ last)
       (t, ap (λ (k : ℕ). now (Event (events.PinTry who.actor who.proc (page + k) want.write) ∷ Event (events.PinOk who.actor handle) ∷ Done (answers.Pinned n) ∷ [])) has)) (none refl) left
-  op_left op whats (pinned_short handle page n want fast k cause at had same some less end refuses right) is has grows none left =
+  op_left op whats (pinned_short handle page n want fast k cause at had same some less end refuses right) is has grows starts follows fresh none left =
       let now_got : k ≡ got = sym same ∙ has in
-      ends op at whats (short_from handle page n want fast at cause (now whats) (subst (λ (j : ℕ). 0 < j) now_got some) (subst (λ (j : ℕ). j < n) now_got less) end refuses
+      ends op at whats (short_from handle page n want fast at cause (now whats) (begun_slow present handle page n want fast place.far got fresh (subst (λ (j : ℕ). 0 < j) now_got some)) (subst (λ (j : ℕ). 0 < j) now_got some) (subst (λ (j : ℕ). j < n) now_got less) end refuses
       (t, ap (λ (j : ℕ). now (Event (events.PinOk who.actor handle) ∷ Done (answers.Short j n cause) ∷ [])) now_got)) (none refl) left
-  op_left op whats (unpinned_page handle free less) is has grows none left =
-      unpins_on handle whats (t, refl) (subst (λ (os : List Op). Left who.actor who.proc (place.answered + 1) os (place.far + 1) more unbegun later) is left)
-  op_left op whats (unpinned_last handle silent free last) is has grows none left = ends op unbegun whats (inl (zero, (t, refl))) (none refl) left
-  op_left op whats (moved_word handle outward slot parts value less free) is has grows none left =
-      moves_on handle outward slot parts value whats less (t, refl) (subst (λ (os : List Op). Left who.actor who.proc (place.answered + 1) os (place.far + 1) more unbegun later) is left)
-  op_left op whats (moved_last handle outward slot parts value last free) is has grows none left =
+  op_left op whats (began_walk handle page n want first room) is has grows starts follows fresh none left =
+      pin_goes handle page n want true unbegun (in_walk 0 entered) whats
+      (λ front after rest. shape_left present handle page n want place.far got (now whats ++ front) first.0
+      (walk_shape present handle page n want more head_after (now whats ++ front) (sym grows ∙ has ∙ fresh first.0) (now whats, front, refl, now_before whats front after, (t, refl), rest)))
+      (subst (λ (os : List Op). Left who.actor who.proc (place.answered + 1) os (place.far + 1) more head_after (in_walk 0 entered) later) is left)
+  op_left {s = s} op whats (walked handle page n want sequence step said to walks room free) is has grows starts follows fresh none left =
+      pin_goes handle page n want true (in_walk sequence step) to said
+      (λ front after rest.
+      let there : PinRest present handle page n want true (pages_got (plain_behind s said) who.actor) (first_pending (plain_behind s said) who.actor) to front =
+      subst (λ (k : ℕ). PinRest present handle page n want true k (first_pending (plain_behind s said) who.actor) to front) (sym grows)
+      (subst (λ (k : ℕ). PinRest present handle page n want true more k to front) (sym follows) (walk_left present handle page n want place.far more head_after to front (walk_place present handle page n want walks) rest)) in
+      subst (λ (k : ℕ). PinRest present handle page n want true got k (in_walk sequence step) (now said ++ front)) starts
+      (subst (λ (k : ℕ). PinRest present handle page n want true k (first_pending s who.actor) (in_walk sequence step) (now said ++ front)) has (walks_on handle page n want true walks front after there)))
+      (let behinds = walk_behind place walks in
+      subst (λ (os : List Op). Left who.actor who.proc (place.answered + 1) os (place.far + 1) more head_after to later) is
+      (subst₂ (λ (k f : ℕ). Left who.actor who.proc (k + 1) (drop k ops) f more head_after to later) behinds.0 behinds.1 left))
+  op_left op whats (kept_all handle page n want sequence all had) is has grows starts follows fresh none left =
+      ends op (in_walk sequence ready) whats
+      (inl (all_kept present page n want.write (PinsAll present handle n) (PinsPages present handle page n want) got (now whats) (sym has ∙ all) (inl (t, refl)))) (none refl) left
+  op_left op whats (refused_slowly handle page n want answer begun no_page refusal living once right) is has grows starts follows fresh none left =
+      ends op unbegun whats
+      (left_slow present handle page n want true place.far got (now whats) begun
+      (inr (answer, (refusal, λ walks. living), (sym has ∙ no_page, page_refused present handle page n want true answer (Done answer ∷ []) (now whats) refusal once (t, refl))))) (none refl) left
+  op_left op whats (unpinned_page handle free less) is has grows starts follows fresh none left =
+      unpins_on handle whats (t, refl) (subst (λ (os : List Op). Left who.actor who.proc (place.answered + 1) os (place.far + 1) more head_after unbegun later) is left)
+  op_left op whats (unpinned_last handle silent free last) is has grows starts follows fresh none left = ends op unbegun whats (inl (zero, (t, refl))) (none refl) left
+  op_left op whats (moved_word handle outward slot parts value less free) is has grows starts follows fresh none left =
+      moves_on handle outward slot parts value whats less (t, refl) (subst (λ (os : List Op). Left who.actor who.proc (place.answered + 1) os (place.far + 1) more head_after unbegun later) is left)
+  op_left op whats (moved_last handle outward slot parts value last free) is has grows starts follows fresh none left =
       let one : 1 ≡ words_of parts - place.far = omega arith in
       ends op unbegun whats (inl (subst (λ (k : ℕ). MovesWords present handle outward slot parts place.far k (now whats)) one (value, (t, refl)))) (none refl) left
-  op_left op whats (cleared_entry proc page zone e first) is has grows none left =
+  op_left op whats (cleared_entry proc page zone e first) is has grows starts follows fresh none left =
       moves_from proc page zone unbegun (moving_page page e unread) whats
       (λ front after h. late_shape present proc page zone h.0 (now whats ++ front) h.1 (now whats, front, refl, now_before whats front after, (t, refl), h.2))
-      (subst (λ (os : List Op). Left who.actor who.proc (place.answered + 1) os (place.far + 1) more (moving_page page e unread) later) is left)
-  op_left op whats (counted_frame proc page zone e count read begun) is has grows none left =
+      (subst (λ (os : List Op). Left who.actor who.proc (place.answered + 1) os (place.far + 1) more head_after (moving_page page e unread) later) is left)
+  op_left op whats (counted_frame proc page zone e count read begun) is has grows starts follows fresh none left =
       moves_from proc page zone (moving_page page e unread) (moving_page page e count) whats
       (λ front after h. let rest = counted_rest present (Move proc page zone) page e count front read h in (rest.0, rest.1, (now whats, front, refl, now_before whats front after, (t, refl), rest.2)))
-      (subst (λ (os : List Op). Left who.actor who.proc (place.answered + 1) os (place.far + 1) more (moving_page page e count) later) is left)
-  op_left op whats (placed_frame proc page zone e begun free) is has grows none left = ends op (moving_page page e counted_one) whats (answers.Plain, tt, (t, refl)) (none refl) left
-  op_left op whats (found_no_frame proc page zone e begun free) is has grows none left = ends op (moving_page page e counted_one) whats (answers.NoFrame, tt, (t, refl)) (none refl) left
-  op_left op whats (found_busy proc page zone e count begun free) is has grows none left = ends op (moving_page page e (counted_more count)) whats (answers.Busy count, tt, (t, refl)) (none refl) left
-  op_left op whats (began child first) is has grows none left =
-      forks_on child unbegun (from_page 0) whats (λ front after h. inl (h.0, (now whats, front, refl, now_before whats front after, (t, refl), h.1))) (subst (λ (os : List Op). Left who.actor who.proc (place.answered + 1) os (place.far + 1) more (from_page 0) later) is left)
-  op_left op whats (passed_page child first page begun up) is has grows none left =
-      forks_on child (from_page first) (from_page (page + 1)) whats (λ front after h. (suc h.0, (page, up, (now whats, front, refl, now_before whats front after, inl (t, refl), h.1)))) (subst (λ (os : List Op). Left who.actor who.proc (place.answered + 1) os (place.far + 1) more (from_page (page + 1)) later) is left)
-  op_left op whats (counted_page child first page begun up) is has grows none left =
-      forks_on child (from_page first) (at_page page) whats (counted_before child first page whats (t, refl) up) (subst (λ (os : List Op). Left who.actor who.proc (place.answered + 1) os (place.far + 1) more (at_page page) later) is left)
-  op_left op whats (shared_page child page begun) is has grows none left =
-      forks_on child (at_page page) (from_page (page + 1)) whats (λ front after h. (h.0, (now whats, front, refl, now_before whats front after, (t, refl), h.1))) (subst (λ (os : List Op). Left who.actor who.proc (place.answered + 1) os (place.far + 1) more (from_page (page + 1)) later) is left)
-  op_left op whats (ended child first begun) is has grows none left = ends op (from_page first) whats (zero, inl (t, refl)) (none refl) left
-  op_left op whats (counted_copy child first page begun up) is has grows none left =
-      forks_on child (from_page first) (wants_frame page) whats (counted_copy_before child first page whats (t, refl) up) (subst (λ (os : List Op). Left who.actor who.proc (place.answered + 1) os (place.far + 1) more (wants_frame page) later) is left)
-  op_left op whats (took_frame child page to begun) is has grows none left =
-      forks_on child (wants_frame page) (at_word page 0 to) whats (took_before child page to whats (t, refl)) (subst (λ (os : List Op). Left who.actor who.proc (place.answered + 1) os (place.far + 1) more (at_word page 0 to) later) is left)
-  op_left op whats (copied_word child page word to begun less) is has grows none left =
-      forks_on child (at_word page word to) (at_word page (word + 1) to) whats (copied_before child page word to whats (t, refl)) (subst (λ (os : List Op). Left who.actor who.proc (place.answered + 1) os (place.far + 1) more (at_word page (word + 1) to) later) is left)
-  op_left op whats (placed_copy child page to begun) is has grows none left =
-      forks_on child (at_word page words to) (from_page (page + 1)) whats (placed_before child page to whats (t, refl)) (subst (λ (os : List Op). Left who.actor who.proc (place.answered + 1) os (place.far + 1) more (from_page (page + 1)) later) is left)
-  op_left op whats (failed_fork child page begun) is has grows none left = ends op (wants_frame page) whats (inr (t, refl)) (none refl) left
-  op_left op whats turn is has grows none left = ends op unbegun whats (inl (t, refl)) (none refl) left
+      (subst (λ (os : List Op). Left who.actor who.proc (place.answered + 1) os (place.far + 1) more head_after (moving_page page e count) later) is left)
+  op_left op whats (placed_frame proc page zone e begun free) is has grows starts follows fresh none left = ends op (moving_page page e counted_one) whats (answers.Plain, tt, (t, refl)) (none refl) left
+  op_left op whats (found_no_frame proc page zone e begun free) is has grows starts follows fresh none left = ends op (moving_page page e counted_one) whats (answers.NoFrame, tt, (t, refl)) (none refl) left
+  op_left op whats (found_busy proc page zone e count begun free) is has grows starts follows fresh none left = ends op (moving_page page e (counted_more count)) whats (answers.Busy count, tt, (t, refl)) (none refl) left
+  op_left op whats (began child first) is has grows starts follows fresh none left =
+      forks_on child unbegun (from_page 0) whats (λ front after h. inl (h.0, (now whats, front, refl, now_before whats front after, (t, refl), h.1))) (subst (λ (os : List Op). Left who.actor who.proc (place.answered + 1) os (place.far + 1) more head_after (from_page 0) later) is left)
+  op_left op whats (passed_page child first page begun up) is has grows starts follows fresh none left =
+      forks_on child (from_page first) (from_page (page + 1)) whats (λ front after h. (suc h.0, (page, up, (now whats, front, refl, now_before whats front after, inl (t, refl), h.1)))) (subst (λ (os : List Op). Left who.actor who.proc (place.answered + 1) os (place.far + 1) more head_after (from_page (page + 1)) later) is left)
+  op_left op whats (counted_page child first page begun up) is has grows starts follows fresh none left =
+      forks_on child (from_page first) (at_page page) whats (counted_before child first page whats (t, refl) up) (subst (λ (os : List Op). Left who.actor who.proc (place.answered + 1) os (place.far + 1) more head_after (at_page page) later) is left)
+  op_left op whats (shared_page child page begun) is has grows starts follows fresh none left =
+      forks_on child (at_page page) (from_page (page + 1)) whats (λ front after h. (h.0, (now whats, front, refl, now_before whats front after, (t, refl), h.1))) (subst (λ (os : List Op). Left who.actor who.proc (place.answered + 1) os (place.far + 1) more head_after (from_page (page + 1)) later) is left)
+  op_left op whats (ended child first begun) is has grows starts follows fresh none left = ends op (from_page first) whats (zero, inl (t, refl)) (none refl) left
+  op_left op whats (counted_copy child first page begun up) is has grows starts follows fresh none left =
+      forks_on child (from_page first) (wants_frame page) whats (counted_copy_before child first page whats (t, refl) up) (subst (λ (os : List Op). Left who.actor who.proc (place.answered + 1) os (place.far + 1) more head_after (wants_frame page) later) is left)
+  op_left op whats (took_frame child page to begun) is has grows starts follows fresh none left =
+      forks_on child (wants_frame page) (at_word page 0 to) whats (took_before child page to whats (t, refl)) (subst (λ (os : List Op). Left who.actor who.proc (place.answered + 1) os (place.far + 1) more head_after (at_word page 0 to) later) is left)
+  op_left op whats (copied_word child page word to begun less) is has grows starts follows fresh none left =
+      forks_on child (at_word page word to) (at_word page (word + 1) to) whats (copied_before child page word to whats (t, refl)) (subst (λ (os : List Op). Left who.actor who.proc (place.answered + 1) os (place.far + 1) more head_after (at_word page (word + 1) to) later) is left)
+  op_left op whats (placed_copy child page to begun) is has grows starts follows fresh none left =
+      forks_on child (at_word page words to) (from_page (page + 1)) whats (placed_before child page to whats (t, refl)) (subst (λ (os : List Op). Left who.actor who.proc (place.answered + 1) os (place.far + 1) more head_after (from_page (page + 1)) later) is left)
+  op_left op whats (failed_fork child page begun) is has grows starts follows fresh none left = ends op (wants_frame page) whats (inr (t, refl)) (none refl) left
+  op_left op whats turn is has grows starts follows fresh none left = ends op unbegun whats (inl (t, refl)) (none refl) left
 
   -- a turn without notes of an operation
-  same_left : (at : JobPlace) (what : What) → is_of_operation what ≡ false → LeftAt who.actor who.proc ops place got at later → LeftAt who.actor who.proc ops place got at (own_notes who.actor (now (what ∷ [])) ++ later)
-  same_left at what other left = subst (λ (ns : List NoteValue). LeftAt who.actor who.proc ops place got at (ns ++ later)) (sym (own_idle who.actor t (place.answered + 1) what other)) left
+  same_left : (at : JobPlace) (what : What) → is_of_operation what ≡ false → LeftAt who.actor who.proc ops place got head at later → LeftAt who.actor who.proc ops place got head at (own_notes who.actor (now (what ∷ [])) ++ later)
+  same_left at what other left = subst (λ (ns : List NoteValue). LeftAt who.actor who.proc ops place got head at (ns ++ later)) (sym (own_idle who.actor t (place.answered + 1) what other)) left
 
   -- one of the operation at which it stands
-  own_left : (op : Op) (at : JobPlace) (whats : List What) → slice_get ops place.answered ≡ Some op → Moves whats → LeftBefore op at (now whats ++ later) → LeftAt who.actor who.proc ops place got at (own_notes who.actor (now whats) ++ later)
+  own_left : (op : Op) (at : JobPlace) (whats : List What) → slice_get ops place.answered ≡ Some op → Moves whats → LeftBefore op at (now whats ++ later) → LeftAt who.actor who.proc ops place got head at (own_notes who.actor (now whats) ++ later)
   own_left op at whats is moves here =
-      subst (λ (ns : List NoteValue). LeftAt who.actor who.proc ops place got at (ns ++ later)) (sym (own_same who.actor t (place.answered + 1) whats moves.2))
-      (subst (λ (os : List Op). Left who.actor who.proc (place.answered + 1) os place.far got at (now whats ++ later)) (sym (ops_split ops place.answered op is)) here)
+      subst (λ (ns : List NoteValue). LeftAt who.actor who.proc ops place got head at (ns ++ later)) (sym (own_same who.actor t (place.answered + 1) whats moves.2))
+      (subst (λ (os : List Op). Left who.actor who.proc (place.answered + 1) os place.far got head at (now whats ++ later)) (sym (ops_split ops place.answered op is)) here)
 
   -- any turn of the actor's
-  pub turn_left : {s : PlainState} {references : References} {op : Option Op} {waiting : Option Waiting} {from to : JobPlace} {whats : List What} → TurnAt s references (concerned who op) place op waiting from whats to → slice_get ops place.answered ≡ op → pages_got s who.actor ≡ got → pages_got (plain_behind s whats) who.actor ≡ more → ((place_behind place whats).far ≡ 0 → more ≡ 0) → LeftAt who.actor who.proc ops (place_behind place whats) more to later → LeftAt who.actor who.proc ops place got from (own_notes who.actor (now whats) ++ later)
-  turn_left (idles waiting at) is has grows none left = same_left at Idle refl (subst (λ (k : ℕ). LeftAt who.actor who.proc ops place k at later) (sym grows ∙ has) left)
-  turn_left (waits op waiting at) is has grows none left = same_left at (Wait waiting) refl (subst (λ (k : ℕ). LeftAt who.actor who.proc ops place k at later) (sym grows ∙ has) left)
-  turn_left (goes op whats from to birth own turn) is has grows none left =
-      own_left op from whats is (op_moves turn) (op_left op whats turn (ops_split ops place.answered op is) has grows none left)
-  turn_left (unborn_refused op birth first refusal) is has grows none left =
+  pub turn_left : {s : PlainState} {references : References} {op : Option Op} {waiting : Option Waiting} {from to : JobPlace} {whats : List What} → TurnAt s references (concerned who op) place op waiting from whats to → slice_get ops place.answered ≡ op → pages_got s who.actor ≡ got → pages_got (plain_behind s whats) who.actor ≡ more → first_pending s who.actor ≡ head → first_pending (plain_behind s whats) who.actor ≡ head_after → (place.far ≡ 0 → got ≡ 0) → ((place_behind place whats).far ≡ 0 → more ≡ 0) → LeftAt who.actor who.proc ops (place_behind place whats) more head_after to later → LeftAt who.actor who.proc ops place got head from (own_notes who.actor (now whats) ++ later)
+  turn_left (idles waiting at) is has grows starts follows fresh none left = same_left at Idle refl (subst₂ (λ (k h : ℕ). LeftAt who.actor who.proc ops place k h at later) (sym grows ∙ has) (sym follows ∙ starts) left)
+  turn_left (waits op waiting at) is has grows starts follows fresh none left = same_left at (Wait waiting) refl (subst₂ (λ (k h : ℕ). LeftAt who.actor who.proc ops place k h at later) (sym grows ∙ has) (sym follows ∙ starts) left)
+  turn_left (goes op whats from to birth own turn) is has grows starts follows fresh none left =
+      own_left op from whats is (op_moves turn) (op_left op whats turn (ops_split ops place.answered op is) has grows starts follows fresh none left)
+  turn_left (unborn_refused op birth first refusal) is has grows starts follows fresh none left =
       let whats : List What = Done answers.Unborn ∷ [] in
-      own_left op unbegun whats is refusal_moves (ends op unbegun whats (refused_rest present op place.far got (now whats) first.0 (at_once present op answers.Unborn (now whats) refusal (unborn_at_once op) (t, refl))) (none refl) left)
-  turn_left (unborn_fork child birth fails first) is has grows none left =
+      own_left op unbegun whats is refusal_moves (ends op unbegun whats (refused_rest present op place.far got head (now whats) first.0 (fresh first.0) (unborn present op (now whats) refusal (t, refl))) (none refl) left)
+  turn_left (unborn_fork child birth fails first) is has grows starts follows fresh none left =
       let whats : List What = Event (events.ForkFail child) ∷ Done answers.Unborn ∷ [] in
       own_left (Fork child) unbegun whats is (failure_moves child) (ends (Fork child) unbegun whats (inr (t, refl)) (none refl) left)
 
 -- a turn of another actor changes nothing
-pub other_left : (a p b t n : ℕ) (place : Place) (got : ℕ) (at : JobPlace) (ops : List Op) (whats : List What) (later : List NoteValue) → (b == a) ≡ false → LeftAt a p ops place got at later → LeftAt a p ops place got at (own_notes a (notes_of_turn t b n whats) ++ later)
-other_left a p b t n place got at ops whats later e left = subst (λ (ns : List NoteValue). LeftAt a p ops place got at (ns ++ later)) (sym (own_other a t b n whats e)) left
+pub other_left : (a p b t n : ℕ) (place : Place) (got head : ℕ) (at : JobPlace) (ops : List Op) (whats : List What) (later : List NoteValue) → (b == a) ≡ false → LeftAt a p ops place got head at later → LeftAt a p ops place got head at (own_notes a (notes_of_turn t b n whats) ++ later)
+other_left a p b t n place got head at ops whats later e left = subst (λ (ns : List NoteValue). LeftAt a p ops place got head at (ns ++ later)) (sym (own_other a t b n whats e)) left

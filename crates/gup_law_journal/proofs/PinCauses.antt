@@ -1,6 +1,6 @@
 -- A turn answers that a page can't be moved, or ends a short pin so, exactly where a long pin has counted more than one reference.
 use Rattle.std.proofs.lemmas.Bool.Decides.{nat_tests}
-use Rattle.std.proofs.Common.{◌≡◌, ℕ, ◌+◌, ◌<◌, ◌==◌, inl, inr, Bool, true, false, if◌then◌else◌, List, [], ◌∷◌, length, slice_index_or, Option, Some, None, IsTrue, refl, sym, ap, ◌∙◌, subst, zero, suc, arith, rules}
+use Rattle.std.proofs.Common.{◌≡◌, ℕ, ◌+◌, ◌<◌, ◌==◌, inl, inr, Bool, true, false, if◌then◌else◌, not, ◌&&◌, List, [], ◌∷◌, length, slice_index_or, Option, Some, None, IsTrue, refl, sym, ap, ◌∙◌, subst, zero, suc, arith, rules}
 use Rattle.gup_base.specs.declared.entry.Entry.{Entry}
 use Rattle.gup_base.specs.declared.entry.Want.{Want}
 use Rattle.gup_plain.specs.declared.answer.Answer.{Answer}
@@ -17,7 +17,7 @@ use Rattle.gup_script.specs.Valid.{IsScript}
 use Rattle.gup_script.specs.declared.op.Op.{Op}
 use Rattle.gup_script.specs.declared.op.Op.TheVariants.{Pin}
 use Rattle.gup_spec_events.specs.Event.{CoreEvent}
-use Rattle.gup_spec_events.specs.State.{CoreState, Job, idle, moving, unread, one as counted_one, more as counted_more}
+use Rattle.gup_spec_events.specs.State.{CoreState, Job, idle, moving, walking, WalkStep, unread, one as counted_one, more as counted_more}
 use Rattle.gup_spec_journal.specs.Denial.{References}
 use Rattle.gup_spec_journal.specs.Follows.{refuses}
 use Rattle.gup_spec_journal.specs.Place.{Place, Doer, doer_of, birth_by, birth_for}
@@ -26,16 +26,16 @@ use Rattle.gup_plain.specs.State.{PlainState, Birth, born}
 use Rattle.gup_spec_journal.specs.Order.{waiting_at}
 use Rattle.gup_spec_turns.specs.Cause.{HasPinnedMore, RefusesUnmovable, UnmovableExactly}
 use Rattle.gup_spec_turns.specs.CoreTurn.{CoreTurn}
-use Rattle.gup_spec_turns.specs.JobPlace.{JobPlace, job_place, place_in, unbegun, from_page, at_page, wants_frame, at_word, moving_page}
+use Rattle.gup_spec_turns.specs.JobPlace.{JobPlace, job_place, place_in, unbegun, from_page, at_page, wants_frame, at_word, moving_page, in_walk}
 use Rattle.gup_spec_turns.specs.PinPlace.{StandsAtPage}
 use Rattle.gup_spec_turns.specs.PinTurns.{ends_pin, pin_turn, pin_turn_in}
 use Rattle.gup_spec_turns.specs.Run.{RunState, op_in, waiting_with, waiting_in, core_turn_by, core_turn_in, turn_in}
 use Rattle.gup_spec_turns.specs.Turn.{turn_at, failed_turn}
-use Rattle.gup_spec_turns.specs.Waits.{both_locks, waits_for_locks}
+use Rattle.gup_spec_turns.specs.Waits.{both_if, pin_locks, waits_for_locks}
 use Rattle.gup_law_journal.proofs.MoveCauses.{moving_job}
 use Rattle.gup_law_turns.proofs.NoteRightness.{unrefused_short, not_both}
 use Rattle.gup_law_turns.proofs.StandingStates.{Stands}
-use Rattle.gup_law_turns.proofs.TurnShapes.{IsAtOnce, RefusesAt, FitsAt, TurnOf, refused, found_unmovable, pinned_short, TurnAt, goes}
+use Rattle.gup_law_turns.proofs.TurnShapes.{IsAtOnce, RefusesAt, FitsAt, TurnOf, refused, walked, refused_slowly, WalksTo, found_fork, found_unmovable, pinned_short, TurnAt, goes}
 use Rattle.gup_law_turns.proofs.TurnSteps.{taken}
 
 -- each of the notes that says so has its cause
@@ -86,6 +86,7 @@ short_place handle page n want fast (from_page g) count at = absurd at
 short_place handle page n want fast (at_page g) count at = absurd at
 short_place handle page n want fast (wants_frame g) count at = absurd at
 short_place handle page n want fast (at_word g word to) count at = absurd at
+short_place handle page n want fast (in_walk sequence step) count at = absurd at
 
 short_says : (handle page n : ℕ) (want : Want) (fast : Bool) (from : JobPlace) (got : ℕ) (cause : Cause) → RefusesAt want from (refusal_by_cause cause) → MayHave (HasRead (Pin handle page n want fast) from) (Done (answers.Short got n cause))
 short_says handle page n want fast from got (causes.Unmovable count) at = short_place handle page n want fast from count at
@@ -93,8 +94,15 @@ short_says handle page n want fast from got causes.Missing at = tt
 short_says handle page n want fast from got causes.Forbidden at = tt
 short_says handle page n want fast from got causes.NoFrame at = tt
 
+-- a turn of a walk says nothing of it
+walk_says : {s : PlainState} {who : Doer} {page n got : ℕ} {write : Bool} {sequence : ℕ} {step : WalkStep} {whats : List What} {to : JobPlace} (cause : ℕ → Type 0) → WalksTo s who page n got write sequence step whats to → HaveCause cause whats
+walk_says cause found_fork = (tt, tt)
+walk_says cause turn = search rules
+
 shape_says : {s : PlainState} {references : References} {who : Doer} {place : Place} {op : Op} {from to : JobPlace} {whats : List What} → TurnOf s references who place op from whats to → HaveCause (HasRead op from) whats
-shape_says {from = from} (refused op answer first refusal at_once right passes) = (refused_says op from answer refusal at_once, tt)
+shape_says {from = from} (refused op answer first refusal at_once slow right passes) = (refused_says op from answer refusal at_once, tt)
+shape_says {from = from} (walked handle page n want sequence step whats to walks room free) = walk_says (HasRead (Pin handle page n want true) from) walks
+shape_says {from = from} (refused_slowly handle page n want answer begun none refusal living at_once right) = (refused_says (Pin handle page n want true) from answer refusal at_once, tt)
 shape_says (found_unmovable handle page n want fast g e count long begun none free) = ((handle, page, n, g, want, fast, e, refl, long, refl), tt)
 shape_says (pinned_short handle page n want fast got cause from had same some less end at right) = (tt, (short_says handle page n want fast from got cause at, tt))
 shape_says turn = search rules
@@ -113,12 +121,13 @@ turn_says (goes op whats from to birth own turn) = have_all op from whats (shape
 turn_says turn = search rules
 
 -- what was counted so isn't 1
-more_than_one : (s : CoreState) (a p page g count : ℕ) (want : Want) (e : Entry) (job : Job) (prepared : Option ℕ) → StandsAtPage s a p page want job → job_place job prepared ≡ moving_page g e (counted_more count) → count ≡ 1 → ⊥
-more_than_one s a p page g count want e idle prepared at is single = cc is
-more_than_one s a p page g count want e (moving q h d allowed unread) prepared at is single = cc is
-more_than_one s a p page g count want e (moving q h d allowed counted_one) prepared at is single = cc is
-more_than_one s a p page g count want e (moving q h d allowed (counted_more c)) prepared at is single = at.3 (let same : c ≡ count = cc in same ∙ single)
-more_than_one s a p page g count want e job prepared at is single = absurd at
+more_than_one : (s : CoreState) (a p page n got g count : ℕ) (want : Want) (fast : Bool) (e : Entry) (job : Job) (prepared : Option ℕ) → StandsAtPage s a p page n got want fast job → job_place job prepared ≡ moving_page g e (counted_more count) → count ≡ 1 → ⊥
+more_than_one s a p page n got g count want fast e idle prepared at is single = cc is
+more_than_one s a p page n got g count want fast e (moving q h d allowed unread) prepared at is single = cc is
+more_than_one s a p page n got g count want fast e (moving q h d allowed counted_one) prepared at is single = cc is
+more_than_one s a p page n got g count want fast e (moving q h d allowed (counted_more c)) prepared at is single = at.3 (let same : c ≡ count = cc in same ∙ single)
+more_than_one s a p page n got g count want fast e (walking q write long sequence step) prepared at is single = cc is
+more_than_one s a p page n got g count want fast e job prepared at is single = absurd at
 
 unmovable_only : (script : ScriptValue) (valid : IsScript script) (r : RunState) → Stands script r → (a count : ℕ) → RefusesUnmovable (turn_in script r a).whats count → HasPinnedMore script r a count
 unmovable_only script valid r h a count says =
@@ -129,7 +138,7 @@ unmovable_only script valid r h a count says =
     by_read o is (handle, page, n, g, want, fast, e, pins, long, from) =
         let there = is ∙ ap (λ (x : Op). Some x) pins in
         let fits = subst (λ (x : Option Op). FitsAt r.core (doer_of script a x) x (r.places a)) there (h.fits a) in
-        (handle, page, n, g, want, fast, e, there, long, from, more_than_one r.core a (doer_of script a (Some (Pin handle page n want fast))).proc (page + length (r.core.taken a)) g count want e (r.core.job a) (r.core.prepared a) fits.at from)
+        (handle, page, n, g, want, fast, e, there, long, from, more_than_one r.core a (doer_of script a (Some (Pin handle page n want fast))).proc (page + length (r.core.taken a)) n (length (r.core.taken a)) g count want fast e (r.core.job a) (r.core.prepared a) fits.at from)
 
 -- where it has counted so, the pin or its page is refused so
 
@@ -145,8 +154,9 @@ birth_of false b is = refl
 same_number : (a : ℕ) → (a == a) ≡ true
 same_number a = grind (arith, nat_tests)
 
-own_lock : (a : ℕ) → waits_for_locks both_locks a None (Some a) ≡ None
-own_lock a = ap (λ (c : Bool). if c then None else Some (waitings.Holder a)) (same_number a)
+own_lock : (a : ℕ) (needed : Bool) → waits_for_locks (both_if needed) a None (Some a) ≡ None
+own_lock a true = ap (λ (c : Bool). if c then None else Some (waitings.Holder a)) (same_number a)
+own_lock a false = refl
 
 module _ (script : ScriptValue) (r : RunState) (h : Stands script r) (a handle page n g count : ℕ) (want : Want) (fast : Bool) (e : Entry) (is : op_in script r a ≡ Some (Pin handle page n want fast)) (place : place_in r.core a ≡ moving_page g e (counted_more count)) where
   abbrev s : CoreState
@@ -158,11 +168,17 @@ module _ (script : ScriptValue) (r : RunState) (h : Stands script r) (a handle p
   abbrev who : Doer
   who = doer_of script a (Some op)
 
+  abbrev far : ℕ
+  far = (r.places a).far
+
+  abbrev needed : Bool
+  needed = not (fast && far == 0)
+
   job : (q : ℕ) × (allowed : Allowed) × (s.job a ≡ moving q g e allowed (counted_more count))
   job = moving_job g e (counted_more count) (s.job a) (s.prepared a) place
 
-  at : StandsAtPage s a who.proc (page + length (s.taken a)) want (moving job.0 g e job.1 (counted_more count))
-  at = subst (StandsAtPage s a who.proc (page + length (s.taken a)) want) job.2 (subst (λ (o : Option Op). FitsAt s (doer_of script a o) o (r.places a)) is (h.fits a)).at
+  at : StandsAtPage s a who.proc (page + length (s.taken a)) n (length (s.taken a)) want fast (moving job.0 g e job.1 (counted_more count))
+  at = subst (StandsAtPage s a who.proc (page + length (s.taken a)) n (length (s.taken a)) want fast) job.2 (subst (λ (o : Option Op). FitsAt s (doer_of script a o) o (r.places a)) is (h.fits a)).at
 
   birth : birth_for s.birth who ≡ born
   birth = birth_of who.of_process (s.birth who.proc) at.4.moving.birth
@@ -170,17 +186,18 @@ module _ (script : ScriptValue) (r : RunState) (h : Stands script r) (a handle p
   free : waiting_in script r a ≡ None
   free =
       ap (λ (o : Option Op). waiting_with s (doer_of script a o) (r.places a).far o) is
-      ∙ ap (λ (b : Birth). waiting_at who.proc b (waits_for_locks both_locks a (s.structure who.proc) (s.table who.proc))) birth
-      ∙ ap (λ (l : Option ℕ). waits_for_locks both_locks a l (s.table who.proc)) at.4.unforked
-      ∙ ap (λ (l : Option ℕ). waits_for_locks both_locks a None l) at.4.moving.locked
-      ∙ own_lock a
+      ∙ ap (λ (b : Birth). waiting_at who.proc b (waits_for_locks (pin_locks fast far (s.job a)) a (s.structure who.proc) (s.table who.proc))) birth
+      ∙ ap (λ (j : Job). waits_for_locks (pin_locks fast far j) a (s.structure who.proc) (s.table who.proc)) job.2
+      ∙ ap (λ (l : Option ℕ). waits_for_locks (both_if needed) a l (s.table who.proc)) at.4.unforked
+      ∙ ap (λ (l : Option ℕ). waits_for_locks (both_if needed) a None l) at.4.moving.locked
+      ∙ own_lock a needed
 
-  turn : core_turn_in script r a ≡ pin_turn_in s a who.proc handle page n (length (s.taken a)) want (moving job.0 g e job.1 (counted_more count))
+  turn : core_turn_in script r a ≡ pin_turn_in s a who.proc handle page n (length (s.taken a)) want fast far (moving job.0 g e job.1 (counted_more count))
   turn =
       ap (λ (w : Option Waiting). core_turn_by s (doer_of script a (op_in script r a)) (r.places a).far (op_in script r a) w) free
       ∙ ap (λ (o : Option Op). core_turn_by s (doer_of script a o) (r.places a).far o None) is
-      ∙ ap (λ (b : Birth). turn_at b (failed_turn a who.proc op) (pin_turn s a who.proc handle page n want)) birth
-      ∙ ap (pin_turn_in s a who.proc handle page n (length (s.taken a)) want) job.2
+      ∙ ap (λ (b : Birth). turn_at b (failed_turn a who.proc op) (pin_turn s a who.proc handle page n want fast far)) birth
+      ∙ ap (pin_turn_in s a who.proc handle page n (length (s.taken a)) want fast far) job.2
 
   refuses_it : RefusesUnmovable (turn_in script r a).whats count
   refuses_it = subst (λ (turn : CoreTurn). RefusesUnmovable turn.whats count) (sym turn) (ended_says _ a handle n (length (s.taken a)) count)

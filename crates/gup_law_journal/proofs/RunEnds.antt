@@ -1,10 +1,10 @@
 -- The end of a run: nobody can go, and who waits, waits for a process or for a pin.
-use Rattle.std.proofs.Common.{◌≡◌, ℕ, ◌+◌, ◌<◌, Bool, true, false, is_some, List, [], ◌∷◌, length, slice_get, Option, Some, None, inl, inr, refl, sym, ap, ap₂, subst, ◌∙◌}
+use Rattle.std.proofs.Common.{◌≡◌, ℕ, ◌+◌, ◌<◌, Bool, true, false, is_some, List, [], ◌∷◌, length, slice_get, Option, Some, None, inl, inr, refl, sym, ap, subst, ◌∙◌, not, ◌&&◌, ◌==◌}
 use Rattle.std.specs.Prelude.{◌⊎◌}
 use Rattle.gup_base.specs.declared.entry.Want.{Want}
 use Rattle.gup_base.specs.declared.entry.Zone.{Zone}
 use Rattle.gup_spec_turns.specs.PinPlace.{StandsAtPage}
-use Rattle.gup_law_journal.proofs.LockHolders.{own_none}
+use Rattle.gup_law_journal.proofs.LockHolders.{Keeps, keeps_none, keeps_idle, own_locks}
 use Rattle.gup_plain.specs.State.{Birth, born, unborn, growing, failed, Handle}
 use Rattle.gup_plain.specs.declared.note.Waiting.{Waiting}
 use Rattle.gup_plain.specs.declared.note.Waiting.TheVariants as waitings
@@ -12,7 +12,7 @@ use Rattle.gup_script.specs.declared.op.Op.{Op}
 use Rattle.gup_script.specs.declared.op.Op.TheVariants.{Pin, Take, Move, Fork}
 use Rattle.gup_script.specs.Script.{ScriptValue, actor_at}
 use Rattle.gup_script.specs.Valid.{IsScript, AreDeclared}
-use Rattle.gup_spec_events.specs.State.{Job, idle, moving, forking, ForkStep, between, counted, copying}
+use Rattle.gup_spec_events.specs.State.{Job, idle, moving, walking, forking, ForkStep, between, counted, copying}
 use Rattle.gup_law_base.specs.Sound.{Forking, forking_of, keeps_table, keeps_structure}
 use Rattle.gup_spec_journal.specs.Order.{Turn, is_given_to, taking_waits, handle_waits}
 use Rattle.gup_spec_journal.specs.Place.{Doer, doer, doer_of, birth_by, birth_for, ops_of, process_of}
@@ -20,7 +20,7 @@ use Rattle.gup_spec_turns.specs.Cause.{WaitsForBirthOrPin}
 use Rattle.gup_law_turns.specs.Standing.{IsStanding}
 use Rattle.gup_spec_turns.specs.JobPlace.{KeepsNoJob, StandsMove, StandsFork}
 use Rattle.gup_spec_turns.specs.Run.{RunState, Runs, run_after, op_in, waiting_with, waiting_in, is_ready, can_go}
-use Rattle.gup_spec_turns.specs.Waits.{Locks, both_locks, move_locks, fork_locks, locks_needed, held_by_other, waits_for_lock, first_waiting, waits_for_locks, waits_born, waiting_for}
+use Rattle.gup_spec_turns.specs.Waits.{Locks, move_locks, fork_locks, pin_locks, locks_needed, held_by_other, waits_for_lock, first_waiting, waits_for_locks, waits_born, waiting_for}
 use Rattle.gup_spec_turns.proofs.TurnParts.{waits_at}
 use Rattle.gup_spec_turns.specs.ForkTurns.{next_page}
 use Rattle.gup_law_journal.proofs.Pointer.{PointerFits, none_can_go, pointer_fits}
@@ -125,16 +125,18 @@ module _ (script : ScriptValue) (r : RunState) (h : IsStanding script r) (stuck 
   move_goes b proc page zone job there is stands busy = stands
 
   -- nor does a pin in the middle of a page
-  pin_goes : (b handle page n : ℕ) (want : Want) (fast : Bool) (job : Job) → op_in script r b ≡ Some (Pin handle page n want fast) → StandsAtPage r.core b (process_of script b) (page + length (r.core.taken b)) want job → (job ≡ idle → ⊥) → ⊥
-  pin_goes b handle page n want fast idle there stands busy = busy refl
-  pin_goes b handle page n want fast (moving q g e allowed count) there stands busy =
+  pin_goes : (b handle page n : ℕ) (want : Want) (fast : Bool) (job : Job) → op_in script r b ≡ Some (Pin handle page n want fast) → r.core.job b ≡ job → StandsAtPage r.core b (process_of script b) (page + length (r.core.taken b)) n (length (r.core.taken b)) want fast job → (q : ℕ) → Keeps job q → ⊥
+  pin_goes b handle page n want fast idle there is stands k keeps = keeps_none keeps
+  pin_goes b handle page n want fast (walking q write long sequence step) there is stands k keeps = keeps_none keeps
+  pin_goes b handle page n want fast (moving q g e allowed count) there is stands k keeps =
       let p : ℕ = process_of script b in
+      let far : ℕ = (r.places b).far in
       let at = stands.4 in
       free_goes b (Pin handle page n want fast) there
-      (ap (λ (x : Birth). waits_at x p (waits_for_locks both_locks b (r.core.structure p) (r.core.table p))) (born_for (doer script b) r.core.birth at.moving.birth)
-      ∙ ap₂ (λ (x y : Option ℕ). first_waiting (held_by_other b x) (held_by_other b y)) at.unforked at.moving.locked
-      ∙ own_none b)
-  pin_goes b handle page n want fast job there stands busy = stands
+      (ap (λ (x : Birth). waits_at x p (waits_for_locks (pin_locks fast far (r.core.job b)) b (r.core.structure p) (r.core.table p))) (born_for (doer script b) r.core.birth at.moving.birth)
+      ∙ ap (λ (j : Job). waits_for_locks (pin_locks fast far j) b (r.core.structure p) (r.core.table p)) is
+      ∙ own_locks b (not (fast && far == 0)) (r.core.structure p) (r.core.table p) at.unforked at.moving.locked)
+  pin_goes b handle page n want fast job there is stands k keeps = stands
 
   -- nor does a fork that needs no table lock, or finds it free
   module _ (b child : ℕ) (there : op_in script r b ≡ Some (Fork child)) where
@@ -166,28 +168,29 @@ module _ (script : ScriptValue) (r : RunState) (h : IsStanding script r) (stuck 
     fork_goes job is stands busy table = stands
 
   -- so where nobody can go nobody is in the middle of a fork, a move or a pin's page whose process's table lock is free, or its own
-  keeper_goes : (b : ℕ) → (r.core.job b ≡ idle → ⊥) → (keeps_table (r.core.job b) ≡ None → (p : ℕ) → r.core.table p ≡ None) → ⊥
-  keeper_goes b busy table =
+  keeper_goes : (b q : ℕ) → Keeps (r.core.job b) q → (keeps_table (r.core.job b) ≡ None → (p : ℕ) → r.core.table p ≡ None) → ⊥
+  keeper_goes b q keeps table =
+      let busy : r.core.job b ≡ idle → ⊥ = λ rests. keeps_idle rests keeps in
       let keeper = keeper_op b busy in
-      go keeper.0 keeper.1 keeper.2
+      go busy keeper.0 keeper.1 keeper.2
     where
-      go : (op : Op) → op_in script r b ≡ Some op → IsKeeping op → ⊥
-      go op is (forks child) = fork_goes b child is (r.core.job b) refl (h.forks b child is) busy (λ none. table none (process_of script b))
-      go op is (pins handle page n want fast) = pin_goes b handle page n want fast (r.core.job b) is (h.pins b handle page n want fast is).at busy
-      go op is (moves proc page zone) = move_goes b proc page zone (r.core.job b) is refl (h.moves b proc page zone is) busy
+      go : (r.core.job b ≡ idle → ⊥) → (op : Op) → op_in script r b ≡ Some op → IsKeeping op → ⊥
+      go busy op is (forks child) = fork_goes b child is (r.core.job b) refl (h.forks b child is) busy (λ none. table none (process_of script b))
+      go busy op is (pins handle page n want fast) = pin_goes b handle page n want fast (r.core.job b) is refl (h.pins b handle page n want fast is).at q keeps
+      go busy op is (moves proc page zone) = move_goes b proc page zone (r.core.job b) is refl (h.moves b proc page zone is) busy
 
   -- nobody holds a table lock
   table_free : (p : ℕ) (o : Option ℕ) → r.core.table p ≡ o → r.core.table p ≡ None
   table_free p None is = is
   table_free p (Some d) is =
       let keeps : keeps_table (r.core.job d) ≡ Some p = h.sound.1.table_held p d is in
-      absurd (keeper_goes d (λ rests. cc (sym (ap keeps_table rests) ∙ keeps)) (λ none. absurd (cc (sym keeps ∙ none))))
+      absurd (keeper_goes d p (inr keeps) (λ none. absurd (cc (sym keeps ∙ none))))
 
   -- and so nobody a structure lock
   no_holder : (p b : ℕ) → IsHolder (r.core.structure p) (r.core.table p) b → ⊥
   no_holder p b (inl structure) =
       let keeps : keeps_structure (r.core.job b) ≡ Some p = h.sound.1.structure_held p b structure in
-      keeper_goes b (λ rests. cc (sym (ap keeps_structure rests) ∙ keeps)) (λ none q. table_free q (r.core.table q) refl)
+      keeper_goes b p (inl keeps) (λ none q. table_free q (r.core.table q) refl)
   no_holder p b (inr table) = cc (sym (table_free p (r.core.table p) refl) ∙ table)
 
   -- where nobody can go, nobody waits for a lock

@@ -4,6 +4,8 @@ use Rattle.std.proofs.lemmas.Option.{slice_get_past}
 use Rattle.gup_plain.specs.Put.{put}
 use Rattle.gup_plain.specs.Note.{NoteValue}
 use Rattle.gup_plain.specs.State.{PlainState}
+use Rattle.gup_spec_events.specs.State.{WalkStep}
+use Rattle.gup_script.specs.declared.op.Op.TheVariants.{Pin}
 use Rattle.gup_plain.specs.declared.answer.Answer.{Answer}
 use Rattle.gup_plain.specs.declared.answer.Answer.TheVariants as answers
 use Rattle.gup_plain.specs.declared.note.What.{What}
@@ -25,7 +27,7 @@ use Rattle.gup_spec_turns.specs.Run.{RunState, AreTurns, run_start, run_after, c
 use Rattle.gup_law_turns.proofs.Puts.{by_points, put_same, put_other, put_own}
 use Rattle.gup_law_turns.proofs.NoteRightness.{not_both}
 use Rattle.gup_law_turns.proofs.ScriptLemmas.{has_ops_declared}
-use Rattle.gup_law_turns.proofs.TurnShapes.{TurnOf, refused, TurnAt, goes}
+use Rattle.gup_law_turns.proofs.TurnShapes.{TurnOf, refused, walked, refused_slowly, WalksTo, found_fork, TurnAt, goes}
 use Rattle.gup_law_turns.proofs.StandingTurns.{stands_on}
 use Rattle.gup_law_turns.proofs.StandingStates.{Stands}
 use Rattle.gup_law_turns.proofs.TurnSteps.{taken}
@@ -46,8 +48,14 @@ abbrev pub AreKnownWhats : List What → Type 0
 AreKnownWhats [] = Unit {0}
 AreKnownWhats (what ∷ whats) = IsKnown what × AreKnownWhats whats
 
+known_walk : {s : PlainState} {who : Doer} {page n got : ℕ} {write : Bool} {sequence : ℕ} {step : WalkStep} {whats : List What} {to : JobPlace} → WalksTo s who page n got write sequence step whats to → AreKnownWhats whats
+known_walk found_fork = (tt, tt)
+known_walk turn = search rules
+
 known_turn : {s : PlainState} {references : References} {who : Doer} {place : Place} {op : Op} {from to : JobPlace} {whats : List What} → TurnOf s references who place op from whats to → AreKnownWhats whats
-known_turn (refused op answer first refusal at_once right passes) = (known_refusal op answer refusal, tt)
+known_turn (refused op answer first refusal at_once slow right passes) = (known_refusal op answer refusal, tt)
+known_turn (walked handle page n want sequence step whats to walks room free) = known_walk walks
+known_turn (refused_slowly handle page n want answer begun none refusal living at_once right) = (known_refusal (Pin handle page n want true) answer refusal, tt)
 known_turn turn = search rules
 
 known_taken : {s : PlainState} {references : References} {who : Doer} {place : Place} {op : Option Op} {waiting : Option Waiting} {from to : JobPlace} {whats : List What} → TurnAt s references who place op waiting from whats to → AreKnownWhats whats

@@ -24,7 +24,8 @@ use Rattle.gup_law_journal.proofs.LockHolders.{IsKeeper, locks_of, needs_lock, w
 use Rattle.gup_law_turns.proofs.ScriptLemmas.{has_ops_declared}
 use Rattle.gup_law_journal.proofs.Pointer.{PointerFits, IsFirstToGo, pointed_some, none_can_go, pointer_fits}
 use Rattle.gup_law_turns.proofs.Puts.{some_same}
-use Rattle.gup_law_turns.proofs.TurnShapes.{TurnOf, refused, TurnAt, idles, waits, goes, unborn_refused, unborn_fork}
+use Rattle.gup_law_turns.proofs.TurnShapes.{TurnOf, refused, walked, refused_slowly, WalksTo, found_fork, TurnAt, idles, waits, goes, unborn_refused, unborn_fork}
+use Rattle.gup_spec_events.specs.State.{WalkStep}
 use Rattle.gup_law_turns.proofs.StandingTurns.{stands_on, same_plain}
 use Rattle.gup_law_turns.proofs.StandingStates.{Stands}
 use Rattle.gup_law_turns.proofs.TurnSteps.{taken}
@@ -36,9 +37,16 @@ finished_is [] k = leb-zero k
 finished_is (op ∷ ops) zero = leb-suc-zero (length ops)
 finished_is (op ∷ ops) (suc k) = leb-suc-suc (length ops) k ∙ finished_is ops k
 
+-- a turn of a walk has one note
+walk_moves : {s : PlainState} {who : Doer} {page n got : ℕ} {write : Bool} {sequence : ℕ} {step : WalkStep} {whats : List What} {to : JobPlace} → WalksTo s who page n got write sequence step whats to → Moves whats
+walk_moves found_fork = (omega arith, omega arith, (refl, tt))
+walk_moves turn = (omega arith, omega arith, search rules)
+
 -- a turn of an operation has one to three notes of it
 pub op_moves : {s : PlainState} {references : References} {who : Doer} {place : Place} {op : Op} {from to : JobPlace} {whats : List What} → TurnOf s references who place op from whats to → Moves whats
-op_moves (refused op answer first refusal at_once right passes) = (omega arith, omega arith, (refl, tt))
+op_moves (refused op answer first refusal at_once slow right passes) = (omega arith, omega arith, (refl, tt))
+op_moves (walked handle page n want sequence step whats to walks room free) = walk_moves walks
+op_moves (refused_slowly handle page n want answer begun none refusal living at_once right) = (omega arith, omega arith, (refl, tt))
 op_moves turn = (omega arith, omega arith, search rules)
 
 -- so has one of an operation whose process failed

@@ -1,7 +1,7 @@
 -- A frame that has a reference is one of the machine.
-use Rattle.std.proofs.Common.{◌≡◌, ℕ, ◌+◌, ◌-◌, ◌≤◌, ◌<◌, ◌==◌, Bool, true, false, if◌then◌else◌, List, [], ◌∷◌, Some, refl, sym, ap, ◌∙◌, subst, arith, eqb-true}
+use Rattle.std.proofs.Common.{◌≡◌, ℕ, ◌+◌, ◌-◌, ◌<◌, ◌==◌, Bool, true, false, if◌then◌else◌, List, [], ◌∷◌, Some, refl, sym, ◌∙◌, subst, arith, eqb-true}
 use Rattle.gup_base.specs.declared.entry.Entry.{Entry}
-use Rattle.gup_spec_events.specs.State.{CoreState, WalkStep, read}
+use Rattle.gup_spec_events.specs.State.{CoreState}
 use Rattle.gup_spec_events.specs.Event.{CoreEvent, Can, entry_of, happens, run}
 use Rattle.gup_spec_events.specs.Invariant.{AllCan}
 use Rattle.gup_law_base.specs.Sound.{IsSound}

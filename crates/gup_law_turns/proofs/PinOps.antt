@@ -33,7 +33,7 @@ use Rattle.gup_spec_turns.specs.JobPlace.{JobPlace, job_place, place_in, KeepsFr
 use Rattle.gup_spec_turns.specs.PinPlace.{HasTaken, IsTakenPage, IsMovingPin, turns_over, most_over}
 use Rattle.gup_law_turns.specs.Standing.{StandsHandle}
 use Rattle.gup_spec_turns.specs.CoreTurn.{free_in, zones_of, entry_in}
-use Rattle.gup_spec_turns.specs.PinTurns.{raises, cause_of, pin_fault, moves_first, pins, pins_in, clears_behind, clears_or_pins, pins_behind, ends_pin, ends_moved, pins_moved, moved_turn, pin_turn_by}
+use Rattle.gup_spec_turns.specs.PinTurns.{cause_of, pin_fault, moves_first, pins, pins_in, clears_behind, clears_or_pins, pins_behind, ends_pin, ends_moved, pins_moved, moved_turn, pin_turn_by}
 use Rattle.gup_script.specs.declared.op.Op.{Op}
 use Rattle.gup_spec_turns.specs.Cost.{pin_turns, walk_turns}
 use Rattle.gup_spec_turns.specs.MoveTurns.{count_turn}

@@ -1,6 +1,5 @@
 -- How many turns of a pin are over, and that it has more.
-use Rattle.std.proofs.Common.{◌≡◌, ℕ, ◌+◌, ◌*◌, ◌<◌, ◌≤◌, Bool, true, false, refl, sym, subst, arith}
-use Rattle.gup_base.specs.declared.entry.Entry.{Entry}
+use Rattle.std.proofs.Common.{◌≡◌, ℕ, ◌+◌, ◌<◌, ◌≤◌, Bool, true, false, refl, sym, subst, arith}
 use Rattle.gup_base.specs.declared.entry.Want.{Want}
 use Rattle.gup_spec_events.specs.State.{CoreState, Job, idle, moving, walking, unread, one, more, WalkStep, entered, ready, read, grabbed, rechecked, differed, refused, stopped, dropping, over as walk_over}
 use Rattle.gup_spec_turns.specs.Cost.{pin_turns, walk_turns, pins_turns}

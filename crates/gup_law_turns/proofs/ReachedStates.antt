@@ -244,7 +244,7 @@ pin_flagged s a p handle page n want fast place sound fits false never job is so
     idle_most : s.job a ≡ idle → place.far ≤ pin_turns want.long (length (s.taken a)) + 0
     idle_most same =
         let most = subst (λ (b : Bool). place.far ≤ walk_turns b n + pin_turns want.long (length (s.taken a)) + 0) never
-            (subst (λ (j : Job). place.far ≤ most_over fast want.long n (length (s.taken a)) j) same fits.most) in
+        (subst (λ (j : Job). place.far ≤ most_over fast want.long n (length (s.taken a)) j) same fits.most) in
         omega (arith, most)
 
     by_job : (job : Job) → s.job a ≡ job → StandsAtPage s a p (page + length (s.taken a)) n (length (s.taken a)) want fast job → s.has_pinned p ≡ true

@@ -1,44 +1,29 @@
 -- The turns of a walk after its last page, or where it stopped.
-use Rattle.std.proofs.Common.{◌≡◌, ℕ, ◌+◌, ◌-◌, ◌*◌, ◌<◌, ◌≤◌, ◌==◌, ◌&&◌, ◌||◌, not, nat_lt, Bool, true, false, if◌then◌else◌, List, [], ◌∷◌, ◌++◌, length, map, slice_get, Option, Some, None, IsSome, inl, inr, refl, ap, sym, subst, ◌∙◌, zero, suc, arith, eqb-true}
-use Rattle.std.proofs.lemmas.Bool.Decides.{nat_tests}
-use Rattle.std.proofs.lemmas.List.{length-map, length-append}
-use Rattle.std.proofs.lemmas.Option.{slice_get_within}
-use Rattle.gup_base.specs.declared.entry.Entry.{Entry}
-use Rattle.gup_base.specs.declared.entry.Rights.{Rights}
-use Rattle.gup_base.specs.declared.entry.Rights.TheVariants.{R, RW}
+use Rattle.std.proofs.Common.{◌≡◌, ℕ, ◌+◌, ◌-◌, ◌*◌, ◌<◌, ◌≤◌, ◌==◌, ◌||◌, Bool, true, false, if◌then◌else◌, List, [], ◌∷◌, length, map, None, inr, refl, ap, sym, subst, ◌∙◌, arith}
+use Rattle.std.proofs.lemmas.List.{length-map}
 use Rattle.gup_base.specs.declared.entry.Want.{Want}
-use Rattle.gup_plain.specs.Denial.{pin_denial}
-use Rattle.gup_plain.specs.State.{Birth, Handle, Pending, born, failed, unmade, held}
-use Rattle.gup_plain.specs.declared.answer.Answer.TheVariants as answers
-use Rattle.gup_plain.specs.declared.event.PlainEvent.{PlainEvent}
+use Rattle.gup_plain.specs.State.{held}
 use Rattle.gup_plain.specs.declared.event.PlainEvent.TheVariants as events
-use Rattle.gup_plain.specs.declared.note.What.{What}
-use Rattle.gup_plain.specs.declared.note.What.TheVariants.{Silent, Event, Done}
+use Rattle.gup_plain.specs.declared.note.What.TheVariants.{Event}
 use Rattle.gup_script.specs.Limits.{most_pinned}
 use Rattle.gup_script.specs.declared.op.Op.{Op}
 use Rattle.gup_script.specs.declared.op.Op.TheVariants.{Pin}
-use Rattle.gup_spec_events.specs.State.{CoreState, Taken, Job, idle, walking, WalkStep, entered, ready, read, grabbed, rechecked, differed, refused, stopped, dropping, over, pending_of, plain_of}
-use Rattle.gup_spec_events.specs.Event.{CoreEvent, happens, run, is_odd, is_wrong, step_read, step_left, taken_frames, objects_taken, writes_taken, raise_flag, enter_walk, read_sequence, read_entry, grab_frame, miss_frame, recheck_same, recheck_other, read_mark, read_again, drop_grab, drop_last, drop_first, leave_walk, make_handle}
-use Rattle.gup_spec_events.specs.Invariant.{AllCan}
-use Rattle.gup_law_base.specs.Sound.{walking_of}
-use Rattle.gup_law_events.specs.Law.{all_told}
-use Rattle.gup_spec_journal.specs.Denial.{op_denial}
+use Rattle.gup_spec_events.specs.State.{CoreState, Taken, Job, idle, walking, WalkStep, ready, stopped, dropping, over, pending_of, plain_of}
+use Rattle.gup_spec_events.specs.Event.{CoreEvent, happens, step_left, taken_frames, objects_taken, writes_taken, read_again, drop_first, leave_walk, make_handle}
 use Rattle.gup_spec_journal.specs.Place.{Place, Doer}
 use Rattle.gup_spec_journal.specs.Plain.{pages_got}
-use Rattle.gup_spec_turns.specs.Cost.{pin_turns, walk_turns, pins_turns}
+use Rattle.gup_spec_turns.specs.Cost.{walk_turns, pins_turns}
 use Rattle.gup_spec_turns.specs.CoreTurn.{CoreTurn}
 use Rattle.gup_spec_turns.specs.JobPlace.{JobPlace, job_place, place_in, KeepsFrame, unbegun, in_walk}
-use Rattle.gup_spec_turns.specs.PinPlace.{HasTaken, IsTakenPage, HasPages, IsWithin, IsAtStep, IsWalkingPin, IsReadThere, StandsAtPage, most_over, steps_over, turns_over}
-use Rattle.gup_spec_turns.specs.WalkTurns.{silent_turn, begin_turn, leaves_if, sequence_turn, grab_turn, is_same, recheck_turn, is_none_left, all_turn, again_turn, ready_turn, one_before, split_last, last_turn, first_turn, walk_turn}
-use Rattle.gup_law_turns.proofs.CalmStates.{of_pin, AreTurnEvents, raising, making, entering, reading_sequence, reading_entry, grabbing, missing_frame, finding_same, finding_other, reading_mark, reading_again, dropping_grab, dropping_last, dropping_first, leaving}
-use Rattle.gup_law_turns.proofs.EventLists.{events_of}
-use Rattle.gup_law_turns.proofs.PinOps.{untaken_next, one_more, held_whole}
-use Rattle.gup_law_turns.proofs.PinPace.{pin_left, pin_some}
-use Rattle.gup_law_turns.proofs.Puts.{put_same, some_same}
-use Rattle.gup_law_turns.proofs.ShownTurns.{IsOpen, IsTurned, FitsNext, MakesPin, idle_place}
-use Rattle.gup_law_turns.proofs.TurnShapes.{references_of, AtRest, at_rest, Rests, FitsOp, FitsPin, AreFrom, TurnOf, WalksTo, walked, kept_all, began_walk, found_fork, found_sequence, found_entry, found_wrong, grabbed_frame, found_free, took_page, found_other, found_mark, found_unmarked, dropped_frame, dropped_page, found_same, found_changed, lost_all, dropped_first, dropped_last}
-
-use Rattle.gup_law_turns.proofs.WalkSteps.{same_entry, other_entry, split_is, split_some, fewer_taken, last_slice, rest_taken, pending_from, undenied_by, got_here, set, begun, silent_to, goes_to, had_here, never_named, GoesOn, StandsOn}
+use Rattle.gup_spec_turns.specs.PinPlace.{HasTaken, StandsAtPage}
+use Rattle.gup_spec_turns.specs.WalkTurns.{silent_turn, leaves_if, is_none_left, all_turn, first_turn}
+use Rattle.gup_law_turns.proofs.CalmStates.{making, reading_again, dropping_first, leaving}
+use Rattle.gup_law_turns.proofs.PinOps.{held_whole}
+use Rattle.gup_law_turns.proofs.PinPace.{pin_some}
+use Rattle.gup_law_turns.proofs.Puts.{put_same}
+use Rattle.gup_law_turns.proofs.ShownTurns.{IsOpen, IsTurned, idle_place}
+use Rattle.gup_law_turns.proofs.TurnShapes.{references_of, at_rest, FitsPin, AreFrom, TurnOf, walked, kept_all, found_same, found_changed, lost_all, dropped_first, dropped_last}
+use Rattle.gup_law_turns.proofs.WalkSteps.{rest_taken, pending_from, silent_to, goes_to}
 
 module _ (s : CoreState) (who : Doer) (place : Place) (h : IsOpen s who.actor who.proc) (handle page n : ℕ) (want : Want) (some_pages : 1 ≤ n) (few_pages : n ≤ most_pinned) (sequence : ℕ) where
   abbrev a : ℕ

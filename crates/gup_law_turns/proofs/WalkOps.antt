@@ -1,5 +1,5 @@
 -- The turns of a pin: its walk, and then the slow ones.
-use Rattle.std.proofs.Common.{◌≡◌, ℕ, ◌+◌, ◌<◌, ◌≤◌, ◌==◌, Bool, true, false, ◌&&◌, ◌||◌, nat_lt, not, List, [], ◌∷◌, length, Option, None, refl, ap, sym, subst, ◌∙◌, inl, arith, eqb-true}
+use Rattle.std.proofs.Common.{◌≡◌, ℕ, ◌+◌, ◌<◌, ◌≤◌, ◌==◌, Bool, true, false, ◌&&◌, ◌||◌, nat_lt, not, [], ◌∷◌, length, None, refl, ap, sym, subst, ◌∙◌, inl, arith, eqb-true}
 use Rattle.std.proofs.lemmas.Bool.Decides.{nat_tests}
 use Rattle.gup_base.specs.declared.entry.Allowed.{Allowed}
 use Rattle.gup_base.specs.declared.entry.Entry.{Entry}
@@ -9,12 +9,12 @@ use Rattle.gup_script.specs.Limits.{most_pinned}
 use Rattle.gup_script.specs.Valid.{IsOp}
 use Rattle.gup_script.specs.declared.op.Op.{Op}
 use Rattle.gup_script.specs.declared.op.Op.TheVariants.{Pin}
-use Rattle.gup_spec_events.specs.State.{CoreState, Taken, Job, idle, moving, walking, Counted, unread, WalkStep, entered, ready, read, grabbed, rechecked, differed, refused, stopped, dropping, over, plain_of}
+use Rattle.gup_spec_events.specs.State.{CoreState, Job, idle, moving, walking, Counted, unread, WalkStep, entered, ready, read, grabbed, rechecked, differed, refused, stopped, dropping, over, plain_of}
 use Rattle.gup_spec_events.specs.Event.{is_odd, run}
 use Rattle.gup_spec_journal.specs.Place.{Place, Doer}
 use Rattle.gup_spec_turns.specs.CoreTurn.{zones_of}
 use Rattle.gup_spec_turns.specs.JobPlace.{JobPlace, job_place, place_in, KeepsFrame, unbegun}
-use Rattle.gup_spec_turns.specs.PinPlace.{HasTaken, HasPages, IsWithin, IsWalkingPin, StandsAtPage, turns_over, most_over}
+use Rattle.gup_spec_turns.specs.PinPlace.{HasPages, IsWithin, IsWalkingPin, StandsAtPage, turns_over, most_over}
 use Rattle.gup_spec_turns.specs.PinTurns.{pin_turn_in, pin_turn, begins_or_pins}
 use Rattle.gup_spec_turns.specs.Waits.{waits_for_locks, locks_needed, pin_locks, both_if}
 use Rattle.gup_spec_turns.specs.WalkTurns.{begin_turn, is_same, is_none_left, ready_turn, walk_turn}
@@ -131,7 +131,7 @@ module _ (s : CoreState) (who : Doer) (place : Place) (h : IsOpen s who.actor wh
   walks : (q : ℕ) (write long : Bool) (sequence : ℕ) (step : WalkStep) → s.job a ≡ walking q write long sequence step → IsWalkingPin s p (page + got) n got want fast q write long sequence step → IsTurned s who place op (walk_turn s a p handle page n want sequence step)
   walks q write long sequence step job at =
       let same : walking q write long sequence step ≡ walking p want.write want.long sequence step =
-          ap (λ (k : ℕ). walking k write long sequence step) at.of ∙ ap (λ (b : Bool). walking p b long sequence step) at.writes ∙ ap (λ (b : Bool). walking p want.write b sequence step) at.keeps in
+      ap (λ (k : ℕ). walking k write long sequence step) at.of ∙ ap (λ (b : Bool). walking p b long sequence step) at.writes ∙ ap (λ (b : Bool). walking p want.write b sequence step) at.keeps in
       subst (λ (b : Bool). IsTurned s who place (Pin handle page n want b) (walk_turn s a p handle page n want sequence step)) (sym at.walks)
       (walk_turned s who place h handle page n want range.0 range.1 sequence step (job ∙ same)
       (subst (λ (b : Bool). FitsPin s a p handle page n want b place (s.taken a) (walking p want.write want.long sequence step)) at.walks

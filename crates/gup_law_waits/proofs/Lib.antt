@@ -1,3 +1,4 @@
+pub mod WalksKept
 pub mod PlainWaits
 pub mod LocksKept
 pub mod Sleepers

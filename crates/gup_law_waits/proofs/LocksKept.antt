@@ -1,5 +1,6 @@
 -- What a turn leaves of a process of which another actor keeps a lock: its locks and its entries.
 use Rattle.std.proofs.Common.{◌≡◌, ℕ, ◌+◌, ◌<◌, ◌⊎◌, inl, inr, Bool, true, false, nat_lt, List, [], ◌∷◌, length, ◌==◌, if◌then◌else◌, zero, suc, Option, Some, None, IsSome, refl, sym, ap, ◌∙◌, subst, arith}
+use Rattle.std.specs.Prelude.{◌&&◌, not}
 use Rattle.std.proofs.lemmas.Bool.Decides.{nat_tests}
 use Rattle.gup_base.specs.declared.entry.Allowed.TheVariants.{Only}
 use Rattle.gup_base.specs.declared.entry.Entry.{Entry}
@@ -16,7 +17,7 @@ use Rattle.gup_script.specs.Script.{ScriptValue}
 use Rattle.gup_script.specs.Valid.{IsScript}
 use Rattle.gup_script.specs.declared.op.Op.{Op}
 use Rattle.gup_script.specs.declared.op.Op.TheVariants.{Pin, Move, Fork, Exit}
-use Rattle.gup_spec_events.specs.State.{CoreState, Job, idle, moving, Counted, unread, one as counted_one, more as counted_more, forking, between, counted, lowered, cleared, copying}
+use Rattle.gup_spec_events.specs.State.{CoreState, Job, idle, moving, Counted, unread, one as counted_one, more as counted_more, forking, between, counted, lowered, cleared, copying, walking}
 use Rattle.gup_spec_events.specs.Event.{CoreEvent, entry_of, take_frame, put_entry, place_frame, run}
 use Rattle.gup_law_base.specs.Sound.{IsSound, Forking, forking_of, keeps_structure, keeps_table}
 use Rattle.gup_spec_journal.specs.Place.{Place, Doer, doer, doer_of, birth_by, birth_for, process_of}
@@ -29,8 +30,9 @@ use Rattle.gup_spec_turns.specs.Turn.{turn_at, failed_turn, op_turn}
 use Rattle.gup_spec_turns.proofs.TurnParts.{clear_turn_by, waits_at}
 use Rattle.gup_law_turns.proofs.CalmStates.{MayMove}
 use Rattle.gup_spec_turns.specs.PinPlace.{StandsAtPage}
-use Rattle.gup_spec_turns.specs.PinTurns.{pins_behind, ends_moved, pins_moved, moved_turn, pin_turn_in, pin_turn}
-use Rattle.gup_spec_turns.specs.Waits.{both_locks, held_by_other, waits_for_locks, first_waiting}
+use Rattle.gup_spec_turns.specs.PinTurns.{pins_behind, ends_moved, pins_moved, moved_turn, begins_or_pins, pin_turn_in, pin_turn}
+use Rattle.gup_spec_turns.specs.WalkTurns.{walk_turn}
+use Rattle.gup_spec_turns.specs.Waits.{Locks, pin_locks, held_by_other, waits_for_locks, first_waiting}
 use Rattle.gup_plain.specs.declared.note.Waiting.TheVariants as waitings
 use Rattle.gup_law_turns.proofs.EventLists.{Law}
 use Rattle.gup_law_turns.proofs.KeptParts.{OfProcess, of_process, KeepsPages, apart, same_or_apart, leaves, stays_locked, stays_out, handles_leave}
@@ -42,6 +44,7 @@ use Rattle.gup_law_turns.proofs.TurnSteps.{taken}
 use Rattle.gup_law_turns.proofs.TurnSubjects.{still_or_going}
 use Rattle.gup_law_journal.proofs.LockHolders.{fork_keeps}
 use Rattle.gup_law_waits.specs.Woken.{nobody, everybody, wakes}
+use Rattle.gup_law_waits.proofs.WalksKept.{KeepsEntries, begins_keep, walk_keeps, needs_both}
 use Rattle.gup_law_waits.proofs.PlainWaits.{answers_it, over_unbegun}
 
 -- The structure lock of process q stays with actor c, and no page of q gets an entry, nor one that allows a store.
@@ -137,14 +140,15 @@ move_structure s b p page q zone place idle fits keeps = cc keeps
 move_structure s b p page q zone place (moving k g e allowed count) fits keeps = cc keeps
 move_structure s b p page q zone place job fits keeps = fits
 
-pin_structure : (s : CoreState) (b p page q : ℕ) (want : Want) (job : Job) → StandsAtPage s b p page want job → keeps_structure job ≡ Some q → ⊥
-pin_structure s b p page q want idle at keeps = cc keeps
-pin_structure s b p page q want (moving k g e allowed count) at keeps = cc keeps
-pin_structure s b p page q want job at keeps = at
+pin_structure : (s : CoreState) (b p page n got q : ℕ) (want : Want) (fast : Bool) (job : Job) → StandsAtPage s b p page n got want fast job → keeps_structure job ≡ Some q → ⊥
+pin_structure s b p page n got q want fast idle at keeps = cc keeps
+pin_structure s b p page n got q want fast (moving k g e allowed count) at keeps = cc keeps
+pin_structure s b p page n got q want fast (walking k write long sequence step) at keeps = cc keeps
+pin_structure s b p page n got q want fast job at keeps = at
 
 -- an actor that keeps a structure lock is in the middle of a fork
 pub forks_by : (s : CoreState) (who : Doer) (q : ℕ) (op : Option Op) (place : Place) → FitsAt s who op place → keeps_structure (s.job who.actor) ≡ Some q → (child : ℕ) × (op ≡ Some (Fork child)) × (who.proc ≡ q) × (0 < place.far)
-forks_by s who q (Some (Pin handle page n want fast)) place fits keeps = absurd (pin_structure s who.actor who.proc (page + length (s.taken who.actor)) q want (s.job who.actor) fits.at keeps)
+forks_by s who q (Some (Pin handle page n want fast)) place fits keeps = absurd (pin_structure s who.actor who.proc (page + length (s.taken who.actor)) n (length (s.taken who.actor)) q want fast (s.job who.actor) fits.at keeps)
 forks_by s who q (Some (Move proc page zone)) place fits keeps = absurd (move_structure s who.actor who.proc page q zone place (s.job who.actor) fits.2 keeps)
 forks_by s who q (Some (Fork child)) place fits keeps =
     let forks = fork_keeps s who.actor who.proc child q place (s.job who.actor) (s.prepared who.actor) fits.1 (inl keeps) in
@@ -156,7 +160,7 @@ forks_by s who q op place fits keeps = structure_idle fits.0.0 keeps
 pub data HasTable (s : CoreState) (a p : ℕ) (place : Place) : Option Op → Type 0 where
   by_fork : (child : ℕ) → FitsFork s a p child place (s.job a) (s.prepared a) → HasTable s a p place (Some (Fork child))
   by_move : (proc page : ℕ) (zone : Zone) → FitsMove s a p page zone place (s.job a) → HasTable s a p place (Some (Move proc page zone))
-  by_pin : (handle page n : ℕ) (want : Want) (fast : Bool) → StandsAtPage s a p (page + length (s.taken a)) want (s.job a) → HasTable s a p place (Some (Pin handle page n want fast))
+  by_pin : (handle page n : ℕ) (want : Want) (fast : Bool) → StandsAtPage s a p (page + length (s.taken a)) n (length (s.taken a)) want fast (s.job a) → HasTable s a p place (Some (Pin handle page n want fast))
 
 pub has_table : (s : CoreState) (who : Doer) (q : ℕ) (op : Option Op) (place : Place) → FitsAt s who op place → keeps_table (s.job who.actor) ≡ Some q → HasTable s who.actor who.proc place op
 has_table s who q (Some (Pin handle page n want fast)) place fits keeps = by_pin handle page n want fast fits.at
@@ -217,6 +221,23 @@ module _ (s : CoreState) (a p page d : ℕ) (zone : Zone) (locked : s.structure 
   out_move idle never = out_clear (s.right p page) (s.entry p page) never
   out_move (moving k g e allowed count) never = out_counted e count never
   out_move job never = same_keeps s s p d locked refl
+
+-- a turn of a walk leaves the structure lock and the entries of every process
+walks_out : (s t : CoreState) (p d : ℕ) → s.structure p ≡ Some d → KeepsEntries s t → KeepsOut s t p d
+walks_out s t p d locked kept = same_keeps s t p d (ap (λ (f : ℕ → Option ℕ). f p) kept.0 ∙ locked) (ap (λ (f : ℕ → ℕ → Option Entry). f p) kept.1)
+
+-- so does the turn that begins one
+begins_out : (s : CoreState) (a p d : ℕ) → s.structure p ≡ Some d → (handle page n : ℕ) (want : Want) (fast begins : Bool) → not begins ≡ false → KeepsOut s (run s (begins_or_pins begins s a p handle page n (length (s.taken a)) want fast).events) p d
+begins_out s a p d locked handle page n want fast true free = walks_out s _ p d locked (begins_keep s a p want)
+begins_out s a p d locked handle page n want fast false free = absurd (cc free)
+
+-- and so the turn of any pin that needs no lock: it walks, or is about to
+out_walk : (s : CoreState) (a p d : ℕ) → s.structure p ≡ Some d → (handle page n : ℕ) (want : Want) (fast : Bool) (far : ℕ) (job : Job) → StandsAtPage s a p (page + length (s.taken a)) n (length (s.taken a)) want fast job → (pin_locks fast far job).structure ≡ false → KeepsOut s (run s (pin_turn_in s a p handle page n (length (s.taken a)) want fast far job).events) p d
+out_walk s a p d locked handle page n want fast far idle at free = begins_out s a p d locked handle page n want fast (fast && far == 0) free
+out_walk s a p d locked handle page n want fast far (moving q g e allowed count) at free = absurd (let none : s.structure p ≡ None = at.4.unforked in cc)
+out_walk s a p d locked handle page n want fast far (walking q write long sequence step) at free =
+    walks_out s (run s (walk_turn s a p handle page n want sequence step).events) p d locked (walk_keeps s a p want handle page n sequence step)
+out_walk s a p d locked handle page n want fast far job at free = absurd at
 
 -- an operation that may move a page is a move or a pin
 move_or_not : (o : Option Op) → (MayMove (strand_of o) → ⊥) ⊎ ((proc page : ℕ) × (zone : Zone) × (o ≡ Some (Move proc page zone))) ⊎ ((handle page n : ℕ) × (want : Want) × (fast : Bool) × (o ≡ Some (Pin handle page n want fast)))
@@ -320,22 +341,44 @@ module _ (law : Law) (script : ScriptValue) (valid : IsScript script) (r : RunSt
           by_birth here failed lost never = same_keeps s s proc d here refl
           by_birth here b birth never = out_move s a proc page d zone here (s.job a) never
 
-      -- a pin of it waits
+      -- a pin of it waits, unless it walks
       pinned : (handle page n : ℕ) (want : Want) (fast : Bool) → op ≡ Some (Pin handle page n want fast) → q ≡ p → KeepsOut s t q d
       pinned handle page n want fast is same =
-          let k : ℕ = process_of script a in
-          let own : q ≡ k = same ∙ ap (λ (o : Option Op). (doer_of script a o).proc) is in
-          let here : s.structure k ≡ Some d = ap s.structure (sym own) ∙ locked in
-          let birth = born_for (doer script a) s.birth (structure_born s k d h.sound here) in
-          let waits : waiting_in script r a ≡ Some (waitings.Holder d) =
-          ap (λ (o : Option Op). waiting_with s (doer_of script a o) place.far o) is
-          ∙ ap (λ (b : Birth). waits_at b k (waits_for_locks both_locks a (s.structure k) (s.table k))) birth
-          ∙ ap (λ (x : Option ℕ). first_waiting (held_by_other a x) (held_by_other a (s.table k))) here
-          ∙ ap (λ (c : Bool). first_waiting (if c then None else Some (waitings.Holder d)) (held_by_other a (s.table k))) (apart a d (λ e. other (sym e))) in
-          let none : turn.events ≡ [] =
-          ap (λ (w : Option Waiting). (core_turn_by s who place.far op w).events) waits
-          ∙ ap (λ (o : Option Op). (core_turn_by s (doer_of script a o) place.far o (Some (waitings.Holder d))).events) is in
-          subst (λ (es : List CoreEvent). KeepsOut s (run s es) q d) (sym none) (same_keeps s s q d locked refl)
+          subst (λ (x : ℕ). KeepsOut s t x d) (sym own) (by_lock (pin_locks fast place.far (s.job a)).structure refl)
+        where
+          k : ℕ
+          k = process_of script a
+
+          own : q ≡ k
+          own = same ∙ ap (λ (o : Option Op). (doer_of script a o).proc) is
+
+          here : s.structure k ≡ Some d
+          here = ap s.structure (sym own) ∙ locked
+
+          at : StandsAtPage s a k (page + length (s.taken a)) n (length (s.taken a)) want fast (s.job a)
+          at = (subst (λ (o : Option Op). FitsAt s (doer_of script a o) o place) is (h.fits a)).at
+
+          waits : (pin_locks fast place.far (s.job a)).structure ≡ true → waiting_in script r a ≡ Some (waitings.Holder d)
+          waits needed =
+              ap (λ (o : Option Op). waiting_with s (doer_of script a o) place.far o) is
+              ∙ ap (λ (b : Birth). waits_at b k (waits_for_locks (pin_locks fast place.far (s.job a)) a (s.structure k) (s.table k))) (born_for (doer script a) s.birth (structure_born s k d h.sound here))
+              ∙ ap (λ (locks : Locks). waits_for_locks locks a (s.structure k) (s.table k)) (needs_both fast place.far (s.job a) needed)
+              ∙ ap (λ (x : Option ℕ). first_waiting (held_by_other a x) (held_by_other a (s.table k))) here
+              ∙ ap (λ (c : Bool). first_waiting (if c then None else Some (waitings.Holder d)) (held_by_other a (s.table k))) (apart a d (λ e. other (sym e)))
+
+          by_lock : (needed : Bool) → (pin_locks fast place.far (s.job a)).structure ≡ needed → KeepsOut s t k d
+          by_lock true needed =
+              let none : turn.events ≡ [] =
+              ap (λ (w : Option Waiting). (core_turn_by s who place.far op w).events) (waits needed)
+              ∙ ap (λ (o : Option Op). (core_turn_by s (doer_of script a o) place.far o (Some (waitings.Holder d))).events) is in
+              subst (λ (es : List CoreEvent). KeepsOut s (run s es) k d) (sym none) (same_keeps s s k d here refl)
+          by_lock false needed =
+              turn_is (λ (u : CoreTurn). KeepsOut s (run s u.events) k d) (Pin handle page n want fast) is
+              (λ u none. subst (λ (es : List CoreEvent). KeepsOut s (run s es) k d) (sym none) (same_keeps s s k d here refl)) by_birth
+            where
+              by_birth : (b : Birth) → birth_for s.birth (doer script a) ≡ b → KeepsOut s (run s (turn_at b (answers_with answers.Unborn) (pin_turn s a k handle page n want fast place.far)).events) k d
+              by_birth failed lost = same_keeps s s k d here refl
+              by_birth b birth = out_walk s a k d here handle page n want fast place.far (s.job a) at needed
 
       by_process : (q ≡ p) ⊎ (q ≡ p → ⊥) → KeepsOut s t q d
       by_process (inl same) =
@@ -443,9 +486,10 @@ module _ (law : Law) (script : ScriptValue) (valid : IsScript script) (r : RunSt
     pinned_pages handle page n want fast k g got e (counted_more count) long still =
         absurd (pin_idle handle page n want fast (moved_turn s a k handle g n got want e (counted_more count)) long (ends_idle k handle g n got want e (counted_more count) (answers.Unmovable count)) still)
 
-    pin_pages : (handle page n : ℕ) (want : Want) (fast : Bool) (k got : ℕ) (job : Job) → keeps_table job ≡ Some q → StandsAtPage s a k (page + got) want job → StaysPin (Pin handle page n want fast) (pin_turn_in s a k handle page n got want job)
+    pin_pages : (handle page n : ℕ) (want : Want) (fast : Bool) (k got : ℕ) (job : Job) → keeps_table job ≡ Some q → StandsAtPage s a k (page + got) n got want fast job → StaysPin (Pin handle page n want fast) (pin_turn_in s a k handle page n got want fast place.far job)
     pin_pages handle page n want fast k got (moving u g e allowed count) keeps at still = pinned_pages handle page n want fast k (page + got) got e count at.4.long still
     pin_pages handle page n want fast k got idle keeps at still = absurd (cc keeps)
+    pin_pages handle page n want fast k got (walking u write long sequence step) keeps at still = absurd (cc keeps)
     pin_pages handle page n want fast k got job keeps at still = absurd at
 
   pub table_keeps : IsStill → (q : ℕ) → s.table q ≡ Some a → KeepsPages q s t
@@ -472,7 +516,7 @@ module _ (law : Law) (script : ScriptValue) (valid : IsScript script) (r : RunSt
           let o : Op = Pin handle page n want fast in
           turn_is (λ (u : CoreTurn). (wakes (Some o) (place_in (run s u.events) a) ≡ everybody → ⊥) → KeepsPages q s (run s u.events)) o is (λ u none still. same_pages u q none) by_birth (still_of o is)
         where
-          by_birth : (b : Birth) → birth_for s.birth (doer script a) ≡ b → (wakes (Some (Pin handle page n want fast)) (place_in (run s (turn_at b (answers_with answers.Unborn) (pin_turn s a (process_of script a) handle page n want)).events) a) ≡ everybody → ⊥) → KeepsPages q s (run s (turn_at b (answers_with answers.Unborn) (pin_turn s a (process_of script a) handle page n want)).events)
+          by_birth : (b : Birth) → birth_for s.birth (doer script a) ≡ b → (wakes (Some (Pin handle page n want fast)) (place_in (run s (turn_at b (answers_with answers.Unborn) (pin_turn s a (process_of script a) handle page n want fast place.far)).events) a) ≡ everybody → ⊥) → KeepsPages q s (run s (turn_at b (answers_with answers.Unborn) (pin_turn s a (process_of script a) handle page n want fast place.far)).events)
           by_birth failed lost = λ still. same_pages (answers_with answers.Unborn) q refl
           by_birth b birth = pin_pages q handle page n want fast (process_of script a) (length (s.taken a)) (s.job a) keeps at
       go o is (by_move proc page zone fits) =

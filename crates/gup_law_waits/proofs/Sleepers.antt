@@ -16,7 +16,7 @@ use Rattle.gup_spec_journal.specs.Place.{Place, Doer, doer_of, place_behind, bir
 use Rattle.gup_spec_turns.specs.CoreTurn.{allows_store}
 use Rattle.gup_spec_turns.specs.JobPlace.{place_in}
 use Rattle.gup_spec_turns.specs.Run.{RunState, run_start, run_after, op_in, waiting_with, waiting_in, core_turn_in, is_ready, can_go, turned}
-use Rattle.gup_spec_turns.specs.Waits.{Locks, both_if, move_locks, fork_locks, locks_needed, first_waiting, waits_for_lock, waits_for_locks, waits_born, waiting_for}
+use Rattle.gup_spec_turns.specs.Waits.{Locks, both_if, move_locks, pin_locks, fork_locks, locks_needed, first_waiting, waits_for_lock, waits_for_locks, waits_born, waiting_for}
 use Rattle.gup_spec_turns.proofs.TurnParts.{waits_at}
 use Rattle.gup_law_turns.proofs.EventLists.{Law}
 use Rattle.gup_law_turns.proofs.KeptParts.{OfProcess, KeepsPages, apart, same_or_apart, put_apart, leaves, stays_born}
@@ -94,7 +94,7 @@ module _ (s t : CoreState) (b q d far : ℕ) (kept : KeepsOut s t q d) where
   needs_still (Unmap page n) job is = refl
   needs_still (Protect page n rights) job is = refl
   needs_still (Discard page n) job is = refl
-  needs_still (Pin handle page n want fast) job is = refl
+  needs_still (Pin handle page n want fast) job is = ap (λ (j : Job). (pin_locks fast far j).structure) job ∙ is
   needs_still (Get handle page) job is = refl
   needs_still Exit job is = refl
   needs_still op job is = absurd (cc is)
@@ -105,6 +105,7 @@ same_locks s t b q far (Load page word) entry job rights = ap (λ (f : ℕ → O
 same_locks s t b q far (Store page word value) entry job rights = ap (λ (f : ℕ → Option Entry). both_if (not (allows_store (f page)))) entry
 same_locks s t b q far (Move proc page zone) entry job rights = ap move_locks job
 same_locks s t b q far (Fork child) entry job rights = ap (fork_locks (t.right child)) job ∙ rights child refl
+same_locks s t b q far (Pin handle page n want fast) entry job rights = ap (pin_locks fast far) job
 same_locks s t b q far op entry job rights = refl
 
 -- whoever is to take a pin that isn't given to it waits

@@ -11,7 +11,7 @@ pub data Woken : Type 0 where
 
 -- Whom a turn of an operation may wake, by where its actor's job stands after the turn: a give whom the pin is given to, the
 -- end of a fork, or its failure, whoever waits for its child or for its locks. So does a fork between two pages, the end of a
--- move, and a long pin that is in the middle of no page: their table lock is free.
+-- move, and a long pin that is in the middle of no page and no walk: their table lock is free. A walk wakes nobody.
 abbrev pub wakes : Option Op → JobPlace → Woken
 wakes (Some (Give handle to)) place = one to
 wakes (Some (Pin handle page n want fast)) unbegun = if want.long then everybody else nobody

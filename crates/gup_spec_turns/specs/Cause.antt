@@ -69,8 +69,9 @@ NeedsAtPage s p page write (moving_page g e count) = ⊥
 NeedsAtPage s p page write (in_walk sequence step) = ⊥
 NeedsAtPage s p page write place = NeedsForPin s p page write
 
--- and of a pin that doesn't begin its walk with this turn
+-- and of a pin, which needs none where its walk begins with this turn: it is at no page that it has cleared then
 abbrev pub NeedsIfSlow : (begins : Bool) → CoreState → (p page : ℕ) → (write : Bool) → JobPlace → Type 0
+NeedsIfSlow true s p page write (moving_page g e count) = NeedsAtPage s p page write (moving_page g e count)
 NeedsIfSlow true s p page write place = ⊥
 NeedsIfSlow false s p page write place = NeedsAtPage s p page write place
 

@@ -18,7 +18,7 @@ follow : Law → Starts → (script : ScriptValue) (turns : List Turn) (end : Ru
 follow law starts script turns end valid are between a =
     let h = stands_first starts script valid in
     let left = follows_turns law script valid turns 1 (run_start script) end h are between in
-    left_shapes a (process_of script a) 1 (ops_of script a) (own_notes a (journal_of 1 (λ _. first_place) turns)) (left a)
+    left_shapes a (process_of script a) 1 (ops_of script a) (own_notes a (journal_of 1 (λ _. first_place) turns)) 0 (left a)
 
 stop_between : Law → Starts → (script : ScriptValue) (turns : List Turn) (end : RunState) → IsScript script → AreTurns script (run_start script) turns end → ((a : ℕ) → a < length script.actors → can_go script end a ≡ false) → AreBetween script end
 stop_between law starts script turns end valid are stopped =
