@@ -48,7 +48,7 @@ none_stuck script end zero most finished = refl
 none_stuck script end (suc n) most finished =
     let before = none_stuck script end n (omega arith) finished in
     let done : op_in script end n ≡ None = op_of_finished script end n (finished n (omega arith)) in
-    let waits : waiting_in script end n ≡ None = ap (λ o. waiting_with end.core (doer_of script n o) o) done in
+    let waits : waiting_in script end n ≡ None = ap (λ o. waiting_with end.core (doer_of script n o) (end.places n).far o) done in
     ap (λ (l : List ℕ). l ++ stuck_of script n (waiting_in script end n)) before ∙ ap (stuck_of script n) waits
 
 pub finished_text : (script : ScriptValue) (notes : List NoteValue) (end : RunState) → HaveFinished script end → run_text script notes end ≡ text_of script notes

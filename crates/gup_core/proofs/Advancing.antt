@@ -46,7 +46,7 @@ still_taken m a seat turns what here count still r h =
     }
 
 -- the turn of an actor that waits changes nothing
-waits_turn : (s : CoreState) (who : Doer) (far : ℕ) (op : Option Op) (waiting : Waiting) → waiting_with s who op ≡ Some waiting → core_turn_by s who far op (waiting_with s who op) ≡ record { events = []; whats = Wait waiting ∷ [] }
+waits_turn : (s : CoreState) (who : Doer) (far : ℕ) (op : Option Op) (waiting : Waiting) → waiting_with s who far op ≡ Some waiting → core_turn_by s who far op (waiting_with s who far op) ≡ record { events = []; whats = Wait waiting ∷ [] }
 waits_turn s who far None waiting is = absurd (cc is)
 waits_turn s who far (Some op) waiting is = ap (λ w. core_turn_by s who far (Some op) w) is
 

@@ -1,5 +1,5 @@
 -- No turn has two events and no answer: an operation that goes on counts one page or word a turn.
-use Rattle.std.proofs.Common.{◌==◌, ℕ, ◌+◌, Bool, true, false, List, [], ◌∷◌, ◌++◌, length, nat_lt, Option, Some, None, Ok, Err, zero, suc}
+use Rattle.std.proofs.Common.{◌==◌, ◌&&◌, ℕ, ◌+◌, Bool, true, false, List, [], ◌∷◌, ◌++◌, length, nat_lt, Option, Some, None, Ok, Err, zero, suc}
 use Rattle.gup_base.specs.Parts.{words_of, word_at}
 use Rattle.gup_base.specs.declared.entry.Allowed.{Allowed}
 use Rattle.gup_base.specs.declared.entry.Allowed.TheVariants.{Only}
@@ -16,14 +16,15 @@ use Rattle.gup_plain.specs.declared.note.What.{What}
 use Rattle.gup_plain.specs.declared.note.What.TheVariants.{Event}
 use Rattle.gup_script.specs.declared.op.Op.{Op}
 use Rattle.gup_script.specs.declared.op.Op.TheVariants.{Map, Unmap, Protect, Discard, Load, Store, Pin, Unpin, Give, Get, Put, Transfer, Fork, Exit, Move}
-use Rattle.gup_spec_events.specs.State.{CoreState, Job, forking, ForkStep, between, copying, idle, moving, Counted, unread, one, more}
+use Rattle.gup_spec_events.specs.State.{CoreState, Job, forking, ForkStep, between, copying, idle, moving, Counted, unread, one, more, walking, Taken, WalkStep, entered, ready, read, grabbed, rechecked, differed, refused, stopped, dropping, over}
 use Rattle.gup_spec_events.specs.Event.{CoreEvent, entry_of, take_frame, put_entry, place_frame, restore_entry, run}
 use Rattle.gup_spec_events.specs.Fault.{Fault}
 use Rattle.gup_spec_journal.specs.Denial.{has_reference}
 use Rattle.gup_spec_turns.specs.Turn.{op_turn, failed_turn, turn_at}
 use Rattle.gup_spec_turns.specs.PageTurns.{load_fault, store_fault, exit_turn_by, lowest_page}
 use Rattle.gup_spec_turns.proofs.TurnParts.{loads_after, stores_after, map_turn_by, unmap_turn_by, protect_turn_by, discard_turn_by, unpin_turn_by, give_turn_by, gets_after, put_turn_by, transfer_turn_by, clear_turn_by}
-use Rattle.gup_spec_turns.specs.PinTurns.{pin_fault, ends_pin, pin_turn_by, but_last, unpinned, got_by, got_frame, raises, moves_first, pins_behind, clears_or_pins, pins_moved, moved_turn, pin_turn_in}
+use Rattle.gup_spec_turns.specs.PinTurns.{pin_fault, ends_pin, pin_turn_by, but_last, unpinned, got_by, got_frame, raises, moves_first, pins_behind, clears_or_pins, pins_moved, moved_turn, pin_turn_in, begins_or_pins}
+use Rattle.gup_spec_turns.specs.WalkTurns.{all_turn, ready_turn, grab_turn, is_same, recheck_turn, split_last, last_turn, first_turn, walk_turn}
 use Rattle.gup_spec_turns.specs.MoveTurns.{place_turn, counted_turn, move_turn}
 use Rattle.gup_spec_turns.specs.ForkTurns.{page_turn, next_page, next_turn, frame_turn, copy_turn, copying_turn, fork_step_turn, fork_turn}
 use Rattle.gup_spec_turns.specs.CoreTurn.{free_frame, free_in, entry_in, zones_of}
@@ -76,10 +77,10 @@ clears_two : (moves last : Bool) (before : List CoreEvent) (a p handle page n : 
 clears_two true last before a p handle page n want e = tt
 clears_two false last before a p handle page n want e = pinned_two last before a p handle page n want e
 
-pin_two : (fault : Fault) (s : CoreState) (a p handle page n got : ℕ) (want : Want) → NoTwo (pin_turn_by fault s a p handle page n got want).whats
-pin_two (Err answer) s a p handle page n got want = ends_two (raises a p got) a handle n got answer
-pin_two (Ok before) s a p handle page n got want =
-    let es : List CoreEvent = raises a p got ++ before in
+pin_two : (fault : Fault) (s : CoreState) (a p handle page n got : ℕ) (want : Want) (fast : Bool) → NoTwo (pin_turn_by fault s a p handle page n got want fast).whats
+pin_two (Err answer) s a p handle page n got want fast = ends_two (raises a p got fast) a handle n got answer
+pin_two (Ok before) s a p handle page n got want fast =
+    let es : List CoreEvent = raises a p got fast ++ before in
     let e : Entry = entry_in ((run s es).entry p page) in
     clears_two (moves_first (run s es) want e) (got + 1 == n) es a p handle page n want e
 
@@ -93,9 +94,51 @@ later_two s a p handle page n got want e unread = tt
 later_two s a p handle page n got want e one = placed_two a p handle page n got want e (free_in s (zones_of want))
 later_two s a p handle page n got want e (more count) = ends_two (restore_entry a p page e (zones_of want) (more count) ∷ []) a handle n got (answers.Unmovable count)
 
-pin_in_two : (s : CoreState) (a p handle page n got : ℕ) (want : Want) (job : Job) → NoTwo (pin_turn_in s a p handle page n got want job).whats
-pin_in_two s a p handle page n got want (moving q g e allowed count) = later_two s a p handle (page + got) n got want e count
-pin_in_two s a p handle page n got want job = pin_two (pin_fault s a p (page + got) want.write (free_in s (zones_of want))) s a p handle (page + got) n got want
+begins_two : (begins : Bool) (s : CoreState) (a p handle page n got : ℕ) (want : Want) (fast : Bool) → NoTwo (begins_or_pins begins s a p handle page n got want fast).whats
+begins_two true s a p handle page n got want fast = tt
+begins_two false s a p handle page n got want fast = pin_two (pin_fault s a p (page + got) want.write (free_in s (zones_of want))) s a p handle (page + got) n got want fast
+
+-- nor has one of a walk
+all_two : (a p handle n : ℕ) (want : Want) (sequence now : ℕ) (same : Bool) → NoTwo (all_turn a p handle n want sequence now same).whats
+all_two a p handle n want sequence now true = tt
+all_two a p handle n want sequence now false = tt
+
+ready_two : (s : CoreState) (a p handle page n : ℕ) (want : Want) (sequence : ℕ) (more : Bool) → NoTwo (ready_turn s a p handle page n want sequence more).whats
+ready_two s a p handle page n want sequence true = tt
+ready_two s a p handle page n want sequence false = all_two a p handle n want sequence (s.sequence p) (s.sequence p == sequence)
+
+grab_two : (a p : ℕ) (want : Want) (sequence page : ℕ) (e : Entry) (count : ℕ) → NoTwo (grab_turn a p want sequence page e count).whats
+grab_two a p want sequence page e zero = tt
+grab_two a p want sequence page e (suc count) = tt
+
+recheck_two : (a p : ℕ) (want : Want) (sequence page : ℕ) (e : Entry) (same : Bool) → NoTwo (recheck_turn a p want sequence page e same).whats
+recheck_two a p want sequence page e true = tt
+recheck_two a p want sequence page e false = tt
+
+drop_two : (a p : ℕ) (want : Want) (sequence : ℕ) (taken : Option (List Taken × Taken)) → NoTwo (last_turn a p want sequence taken).whats
+drop_two a p want sequence None = tt
+drop_two a p want sequence (Some (rest, last)) = tt
+
+drops_two : (a p : ℕ) (want : Want) (sequence : ℕ) (taken : List Taken) → NoTwo (first_turn a p want sequence taken).whats
+drops_two a p want sequence [] = tt
+drops_two a p want sequence (t ∷ rest) = tt
+
+walk_two : (s : CoreState) (a p handle page n : ℕ) (want : Want) (sequence : ℕ) (step : WalkStep) → NoTwo (walk_turn s a p handle page n want sequence step).whats
+walk_two s a p handle page n want sequence entered = tt
+walk_two s a p handle page n want sequence ready = ready_two s a p handle (page + length (s.taken a)) n want sequence (nat_lt (length (s.taken a)) n)
+walk_two s a p handle page n want sequence (read g e) = grab_two a p want sequence g e (s.count e.frame)
+walk_two s a p handle page n want sequence (grabbed g e) = recheck_two a p want sequence g e (is_same e (s.entry p g))
+walk_two s a p handle page n want sequence (rechecked g e) = tt
+walk_two s a p handle page n want sequence (differed f) = tt
+walk_two s a p handle page n want sequence refused = drop_two a p want sequence (split_last (s.taken a))
+walk_two s a p handle page n want sequence stopped = tt
+walk_two s a p handle page n want sequence dropping = drops_two a p want sequence (s.taken a)
+walk_two s a p handle page n want sequence over = tt
+
+pin_in_two : (s : CoreState) (a p handle page n got : ℕ) (want : Want) (fast : Bool) (far : ℕ) (job : Job) → NoTwo (pin_turn_in s a p handle page n got want fast far job).whats
+pin_in_two s a p handle page n got want fast far (moving q g e allowed count) = later_two s a p handle (page + got) n got want e count
+pin_in_two s a p handle page n got want fast far (walking q write long sequence step) = walk_two s a p handle page n want sequence step
+pin_in_two s a p handle page n got want fast far job = begins_two (fast && far == 0) s a p handle page n got want fast
 
 unpinned_two : (left : List ℕ) (a handle : ℕ) → NoTwo (unpinned left a handle)
 unpinned_two [] a handle = tt
@@ -178,7 +221,7 @@ no_two s a p slots far (Discard page n) = discard_two (s.right p (page + far)) a
 no_two s a p slots far (Load page word) = load_two s (load_fault s a p page (s.entry p page)) a p page word
 no_two s a p slots far (Store page word value) = store_two s (store_fault s a p page (s.entry p page)) a p page word value
 no_two s a p slots far (Pin handle page n want fast) =
-    pin_in_two s a p handle page n (length (s.taken a)) want (s.job a)
+    pin_in_two s a p handle page n (length (s.taken a)) want fast far (s.job a)
 no_two s a p slots far (Unpin handle) = unpin_two (is_held_by (s.handle handle) a) a handle (s.pinned handle)
 no_two s a p slots far (Give handle to) = give_two (is_held_by (s.handle handle) a) a handle to
 no_two s a p slots far (Get handle page) = get_two s (load_fault s a p page (s.entry p page)) a p handle page

@@ -1,6 +1,7 @@
 -- The events of a turn of a pin or a get are of frames, of its process, of its handle and of what its actor has taken; those
 -- of a turn of an operation on a pin or a reference are of frames, of that and of the actor's store.
-use Rattle.std.proofs.Common.{◌≡◌, ℕ, ◌+◌, ◌==◌, Bool, true, false, List, [], ◌∷◌, ◌++◌, length, Option, Some, None, Ok, Err, zero, suc, refl, ap, if◌then◌else◌, arith}
+use Rattle.std.proofs.Common.{◌≡◌, ℕ, ◌+◌, ◌==◌, ◌&&◌, Bool, true, false, sym, ◌∙◌, List, [], ◌∷◌, ◌++◌, length, Option, Some, None, Ok, Err, zero, suc, refl, ap, if◌then◌else◌, arith}
+use Rattle.std.proofs.lemmas.Bool.{false≢true}
 use Rattle.std.proofs.lemmas.Bool.Decides.{nat_tests}
 use Rattle.gup_base.specs.Parts.{Part, words_of, word_at}
 use Rattle.gup_base.specs.declared.entry.Entry.{Entry}
@@ -15,16 +16,17 @@ use Rattle.gup_space.specs.Shows.{ShowsSpace}
 use Rattle.gup_space.proofs.ShowsLemmas.{leave_other}
 use Rattle.gup_move.proofs.MoveLemmas.{leave_other as moves_leave}
 use Rattle.gup_space.proofs.After.{IsOf, AreOf, flagging, pinning, making, unpinning, giving, taking_over, getting, putting_back, moving_out, moving_in}
-use Rattle.gup_spec_events.specs.State.{CoreState, Taken as TakenPage, Job, idle, marking, moving, Counted, unread, one, more}
+use Rattle.gup_spec_events.specs.State.{CoreState, Taken as TakenPage, Job, idle, marking, moving, walking, Counted, unread, one, more}
 use Rattle.gup_spec_events.specs.Event.{CoreEvent, entry_of, happens, take_frame, put_entry, clear_entry, count_moved, place_frame, restore_entry, raise_flag, pin_page, make_handle, unpin_page, give_handle, take_handle, get_reference, put_reference, move_out, move_in, taken_frames as frames_taken, run}
 use Rattle.gup_spec_events.specs.Fault.{Fault, events_of, unshare_fault, unshares, marks, breaks}
 use Rattle.gup_spec_turns.specs.CoreTurn.{free_in, zones_of, entry_in}
 use Rattle.gup_spec_journal.specs.Denial.{has_reference}
 use Rattle.gup_spec_turns.specs.PageTurns.{load_fault}
-use Rattle.gup_spec_turns.specs.PinTurns.{raises, pin_fault, makes_if, ends_pin, pin_turn_by, pin_turn, last_of, but_last, unpin_turn, give_turn, take_turn, get_turn, got_by, got_frame, put_turn, moves_first, pins_behind, clears_or_pins, ends_moved, pins_moved, moved_turn, pin_turn_at, pin_turn_in}
+use Rattle.gup_spec_turns.specs.PinTurns.{raises, pin_fault, makes_if, ends_pin, pin_turn_by, pin_turn, last_of, but_last, unpin_turn, give_turn, take_turn, get_turn, got_by, got_frame, put_turn, moves_first, pins_behind, clears_or_pins, ends_moved, pins_moved, moved_turn, pin_turn_at, pin_turn_in, begins_or_pins}
 use Rattle.gup_spec_turns.proofs.TurnParts.{unpin_turn_by, give_turn_by, gets_after, put_turn_by, transfer_turn_by}
 use Rattle.gup_spec_turns.specs.DeviceTurns.{moves, moves_value, transfer_turn, frame_at}
 use Rattle.gup_spec_turns.specs.JobPlace.{job_place, place_in}
+use Rattle.gup_spec_turns.specs.PinPlace.{StandsPin, StandsAtPage}
 use Rattle.gup_core.proofs.Owning.{IsOwn, AreOwn, AreAll, through, two_lists, is_of, counts, marks_it, fills_own, breaks_own, write_fault_own, load_fault_own, birth_stays, Pins, own_leaves_pins, takes as takes_own, fills_it, breaks_it}
 use Rattle.gup_core.proofs.Moves.{IsMoving, clears, counts as counts_it, takes, places, puts, puts_back as restores_it, move_birth_stays, move_leaves_pins, is_of_move, move_place, put_other}
 
@@ -76,9 +78,10 @@ pin_fault_own : (s : CoreState) (a p page : ℕ) (write : Bool) (free : Option �
 pin_fault_own s a p page true free = write_fault_own a p page (s.right p page) (s.entry p page) s.mark s.count free
 pin_fault_own s a p page false free = unshare_own a p page (s.right p page) (s.entry p page) s.mark s.count free
 
-raises_pinning : (a p far : ℕ) → ArePinning a p (raises a p far)
-raises_pinning a p zero = (flags, tt)
-raises_pinning a p (suc far) = tt
+raises_pinning : (a p got : ℕ) (fast : Bool) → ArePinning a p (raises a p got fast)
+raises_pinning a p zero false = (flags, tt)
+raises_pinning a p zero true = tt
+raises_pinning a p (suc got) fast = tt
 
 makes_pinning : (last : Bool) (a p handle : ℕ) → ArePinning a p (makes_if last a handle)
 makes_pinning true a p handle = (makes handle, tt)
@@ -97,11 +100,11 @@ clears_pinning true a p handle page n want last e before all =
     two_lists (IsPinning a p) before (clear_entry a p page e (zones_of want) ∷ []) all (moves_it (clear_entry a p page e (zones_of want)) (clears page e (zones_of want)), tt)
 clears_pinning false a p handle page n want last e before all = behind_pinning a p handle page n want last e before all
 
-pin_pinning : (fault : Fault) (s : CoreState) (a p handle page n got : ℕ) (want : Want) → AreOwn a p (events_of fault) → ArePinning a p (pin_turn_by fault s a p handle page n got want).events
-pin_pinning (Err answer) s a p handle page n got want own = ends_pinning a p handle n got (raises a p got) answer (raises_pinning a p got)
-pin_pinning (Ok before) s a p handle page n got want own =
-    let es : List CoreEvent = raises a p got ++ before in
-    let first : ArePinning a p es = two_lists (IsPinning a p) (raises a p got) before (raises_pinning a p got) (ready_pinning a p before own) in
+pin_pinning : (fault : Fault) (s : CoreState) (a p handle page n got : ℕ) (want : Want) (fast : Bool) → AreOwn a p (events_of fault) → ArePinning a p (pin_turn_by fault s a p handle page n got want fast).events
+pin_pinning (Err answer) s a p handle page n got want fast own = ends_pinning a p handle n got (raises a p got fast) answer (raises_pinning a p got fast)
+pin_pinning (Ok before) s a p handle page n got want fast own =
+    let es : List CoreEvent = raises a p got fast ++ before in
+    let first : ArePinning a p es = two_lists (IsPinning a p) (raises a p got fast) before (raises_pinning a p got fast) (ready_pinning a p before own) in
     let e : Entry = entry_in ((run s es).entry p page) in
     clears_pinning (moves_first (run s es) want e) a p handle page n want (got + 1 == n) e es first
 
@@ -122,10 +125,10 @@ moved_pinning s a p handle page n got want e unread =
 moved_pinning s a p handle page n got want e one = places_pinning a p handle page n got want e (free_in s (zones_of want))
 moved_pinning s a p handle page n got want e (more count) = restores_pinning a p handle page n got want e (more count) (answers.Unmovable count)
 
-at_pinning : (s : CoreState) (a p handle page n got : ℕ) (want : Want) → ArePinning a p (pin_turn_at s a p handle page n got want).events
-at_pinning s a p handle page n got want =
+at_pinning : (s : CoreState) (a p handle page n got : ℕ) (want : Want) (fast : Bool) → ArePinning a p (pin_turn_at s a p handle page n got want fast).events
+at_pinning s a p handle page n got want fast =
     let free : Option ℕ = free_in s (zones_of want) in
-    pin_pinning (pin_fault s a p (page + got) want.write free) s a p handle (page + got) n got want (pin_fault_own s a p (page + got) want.write free)
+    pin_pinning (pin_fault s a p (page + got) want.write free) s a p handle (page + got) n got want fast (pin_fault_own s a p (page + got) want.write free)
 
 get_pinning : (s : CoreState) (fault : Fault) (a p handle page : ℕ) → AreOwn a p (events_of fault) → ArePinning a p (gets_after s fault a p handle page).events
 get_pinning s (Err answer) a p handle page own = tt
@@ -136,12 +139,21 @@ pub get_is_pinning : (s : CoreState) (a p handle page : ℕ) → ArePinning a p 
 get_is_pinning s a p handle page =
     get_pinning s (load_fault s a p page (s.entry p page)) a p handle page (load_fault_own s a p page (s.entry p page))
 
-in_pinning : (s : CoreState) (a p handle page n got : ℕ) (want : Want) (job : Job) → ArePinning a p (pin_turn_in s a p handle page n got want job).events
-in_pinning s a p handle page n got want (moving q g e allowed count) = moved_pinning s a p handle (page + got) n got want e count
-in_pinning s a p handle page n got want job = at_pinning s a p handle page n got want
+begins_pinning : (begins : Bool) (s : CoreState) (a p handle page n got : ℕ) (want : Want) (fast : Bool) → begins ≡ false → ArePinning a p (begins_or_pins begins s a p handle page n got want fast).events
+begins_pinning true s a p handle page n got want fast never = absurd (cc never)
+begins_pinning false s a p handle page n got want fast never = at_pinning s a p handle page n got want fast
 
-pub pin_is_pinning : (s : CoreState) (a p handle page n : ℕ) (want : Want) → ArePinning a p (pin_turn s a p handle page n want).events
-pin_is_pinning s a p handle page n want = in_pinning s a p handle page n (length (s.taken a)) want (s.job a)
+-- one that doesn't walk
+in_pinning : (s : CoreState) (a p handle page n got far at_page : ℕ) (want : Want) (fast : Bool) (job : Job) → fast ≡ false → StandsAtPage s a p at_page n got want fast job → ArePinning a p (pin_turn_in s a p handle page n got want fast far job).events
+in_pinning s a p handle page n got far at_page want fast (moving q g e allowed count) slow at = moved_pinning s a p handle (page + got) n got want e count
+in_pinning s a p handle page n got far at_page want fast (walking q write long sequence step) slow at = absurd (false≢true (sym slow ∙ at.walks))
+in_pinning s a p handle page n got far at_page want fast idle slow at =
+    begins_pinning (fast && far == 0) s a p handle page n got want fast (ap (λ (b : Bool). b && far == 0) slow)
+in_pinning s a p handle page n got far at_page want fast job slow at = absurd at
+
+pub pin_is_pinning : (s : CoreState) (a p handle page n far : ℕ) (want : Want) (fast : Bool) → fast ≡ false → StandsPin s a p handle page n want fast (length (s.taken a)) → ArePinning a p (pin_turn s a p handle page n want fast far).events
+pin_is_pinning s a p handle page n far want fast slow stands =
+    in_pinning s a p handle page n (length (s.taken a)) far (page + length (s.taken a)) want fast (s.job a) slow stands.at
 
 -- what they leave
 

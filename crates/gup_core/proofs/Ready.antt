@@ -1,5 +1,5 @@
 -- What is true before a turn of an operation.
-use Rattle.std.proofs.Common.{◌≡◌, ℕ, ◌+◌, ◌*◌, ◌^◌, ◌<◌, ◌≤◌, true, refl, length, slice_get, Option, Some, None, IsSome, IfSome, sym, ap, ◌∙◌, subst, arith}
+use Rattle.std.proofs.Common.{◌≡◌, ℕ, ◌+◌, ◌*◌, ◌^◌, ◌<◌, ◌≤◌, ◌==◌, ◌&&◌, not, Bool, true, false, List, refl, length, slice_get, Option, Some, None, IsSome, IfSome, sym, ap, ◌∙◌, subst, arith}
 use Rattle.std.proofs.lemmas.Option.{slice_get_within}
 use Rattle.gup_plain.specs.Event.{page_numbers}
 use Rattle.gup_plain.specs.State.{born}
@@ -14,14 +14,16 @@ use Rattle.gup_space.specs.Space.{space_of}
 use Rattle.gup_space.specs.Shows.{ShowsSpace}
 use Rattle.gup_handles.specs.Handles.{handles_of}
 use Rattle.gup_spec_events.specs.Event.{bias}
-use Rattle.gup_spec_events.specs.State.{CoreState, Job, idle, forking, between, counted as counted_page, copying}
-use Rattle.gup_spec_turns.specs.Waits.{waits_for_locks, locks_needed, waits_born, waiting_for, both_if}
+use Rattle.gup_spec_events.specs.State.{CoreState, Job, idle, forking, between, counted as counted_page, copying, WalkStep}
+use Rattle.gup_spec_turns.specs.Waits.{Locks, waits_for_locks, locks_needed, waits_born, waiting_for, both_if}
 use Rattle.gup_spec_turns.specs.Run.{RunState, op_in, waiting_in, waiting_with}
 use Rattle.gup_law_turns.specs.Standing.{IsStanding}
 use Rattle.gup_spec_turns.specs.JobPlace.{KeepsNoJob, StandsFork}
 use Rattle.gup_law_turns.proofs.ScriptLemmas.{op_is_op, child_declared, op_has_process, thread_birth, has_ops_declared}
 use Rattle.gup_op_base.specs.Tidy.{needs_table}
 use Rattle.gup_core.specs.declared.seats.Seat.{Seat}
+use Rattle.gup_op_waits.specs.Locks.{pin_needs}
+use Rattle.gup_core.specs.Seats.{IsSeat}
 use Rattle.gup_op_waits.specs.Births.{HasFailed}
 use Rattle.gup_op_waits.specs.Doers.{HasProcess, IsProcessOf}
 use Rattle.gup_op_waits.specs.declared.parts.Parts.{Parts}
@@ -32,7 +34,7 @@ use Rattle.gup_op_waits.specs.Parts.{AreParts}
 use Rattle.gup_core.specs.Rest.{IsAtRest, HoldsNoLock, IsReadyPin, op_of_seat}
 use Rattle.gup_core.proofs.Resting.{Stand, standing, op_there, stands_at}
 use Rattle.gup_core.proofs.Scripts.{thread_there, own_process, found_there, has_process, few_answered}
-use Rattle.gup_core.proofs.Singles.{table_process}
+use Rattle.gup_core.proofs.Singles.{table_process, single_keeps}
 use Rattle.gup_core.proofs.Refusing.{birth_unfailed}
 use Rattle.gup_core.proofs.Turning.{there}
 use Rattle.gup_base.specs.declared.entry.Want.{Want}
@@ -40,9 +42,8 @@ use Rattle.gup_frames.specs.Frames.{FramesValue}
 use Rattle.gup_space.specs.Space.{SpaceValue}
 use Rattle.gup_op_base.specs.Jobs.{place_of}
 use Rattle.gup_op_pins.specs.Pins.{IsReadyToPin}
-use Rattle.gup_spec_turns.specs.JobPlace.{JobPlace as Place, unbegun}
-use Rattle.gup_core.proofs.Pinning.{length_frames}
-use Rattle.gup_op_waits.proofs.Waits.{IsSingle as IsUnmoved, single_needs, born_and_free, locks_free, given_free, keeps_given, table_free}
+use Rattle.gup_spec_turns.specs.JobPlace.{JobPlace as Place, unbegun, moving_page, in_walk}
+use Rattle.gup_op_waits.proofs.Waits.{single_needs, pinned_needs, born_and_free, locks_free, given_free, keeps_given, table_free}
 
 -- a process that is born is none that a fork brings
 unborn_child : (s : CoreState) (a p child : ℕ) (job : Job) (prepared : Option ℕ) → StandsFork s a p child job prepared → s.birth child ≡ born → ⊥
@@ -53,7 +54,7 @@ unborn_child s a p child (forking q c done (copying page word)) prepared h is = 
 unborn_child s a p child (forking q c done step) prepared h is = absurd h
 unborn_child s a p child job prepared h is = absurd h
 
-few_references : (n : ℕ) → n ≤ 16 * page_numbers + most_handles + 81 + bias * 17680 → n < 2 ^ 40
+few_references : (n : ℕ) → n ≤ 16 * page_numbers + most_handles + 81 + bias * 17761 → n < 2 ^ 40
 unfolding page_numbers
 few_references n within = omega arith
 
@@ -70,16 +71,16 @@ fork_ready m r a p child seat stands h rest own here present is_born =
       stands = λ parent kid parent_is kid_is. rest.forks a child seat parent kid here present (ap (λ k. slice_get m.parts.spaces.items k) own ∙ parent_is) kid_is;
     }
 
--- an operation that keeps no job is no move and no fork
-kept_single : (op : Op) → KeepsNoJob (Some op) → IsUnmoved op
-kept_single (Move q page zone) single = absurd single
-kept_single (Fork child) single = absurd single
-kept_single op single = tt
-
 -- a pin that is in the middle of nothing finds the table lock free
-to_pin : (F : FramesValue) (page : ℕ) (want : Want) (a : ℕ) (place : Place) (S : SpaceValue) → (HoldsNoLock S a → S.table ≡ None) → IsReadyPin F page want a place S → IsReadyToPin F page want place S
-to_pin F page want a unbegun S free h = free h
-to_pin F page want a place S free h = h
+to_pin : (F : FramesValue) (taken : List ℕ) (page n : ℕ) (want : Want) (begins : Bool) (a : ℕ) (place : Place) (S : SpaceValue) → (place ≡ unbegun → begins ≡ false → HoldsNoLock S a → S.table ≡ None) → IsReadyPin F page want a place S
+    → IsReadyToPin F taken page n want begins place S
+to_pin F taken page n want begins a unbegun S free h = λ slow. free refl slow h
+to_pin F taken page n want begins a (moving_page g e count) S free h = h
+to_pin F taken page n want begins a place S free h = absurd h
+
+-- and it is in no walk
+no_walk : (F : FramesValue) (page : ℕ) (want : Want) (a sequence : ℕ) (step : WalkStep) (place : Place) (S : SpaceValue) → IsReadyPin F page want a place S → place ≡ in_walk sequence step → ⊥
+no_walk F page want a sequence step place S h is = subst (λ (k : Place). IsReadyPin F page want a k S) is h
 
 pub is_ready : (m : MachineValue) (a : ℕ) (proc : Option ℕ) (seat : Seat) (op : Op) → Stand → IsMachine m → IsAtRest m → IsProcessOf (doer_of m.script a (Some op)) proc → slice_get m.seats a ≡ Some seat → op_of_seat m a seat ≡ Some op → ((r : RunState) → Shows m r → None ≡ waiting_in m.script r a)
     → (HasFailed m.parts.births.items proc → ⊥) → (p : ℕ) → IfSome proc (λ q. q ≡ p) → IsReady m.parts a p op seat.far seat.job
@@ -91,10 +92,12 @@ is_ready m a proc seat op stand machine rest of_a here present ready unfailed p 
     let stands : IsStanding m.script r = standing m r stand rest.valid h in
     let now : op_in m.script r a ≡ Some op = op_there m r a seat (Some op) h here present in
     let at : StandsAt r.core a own (r.places a).far op = stands_at m.script r a op stands now in
-    let free : waiting_for r.core who op ≡ None = ap (λ o. waiting_with r.core (doer_of m.script a o) o) (sym now) ∙ sym (ready r h) in
-    let locks : Option Waiting = waits_for_locks (locks_needed r.core a own op) a (r.core.structure own) (r.core.table own) in
-    let born_free : (birth_for r.core.birth who ≡ born) × (waits_born r.core a own op ≡ None) =
-    born_and_free (birth_for r.core.birth who) own (waits_born r.core a own op) (birth_unfailed m.parts.births.items proc who r.core unfailed (found_there m.script rest.valid a (length m.parts.births.items) seat.answered op proc rest.parts.births present of_a) of_a h.parts.births) free in
+    let far : ℕ = (r.places a).far in
+    let sits : IsSeat (Some op) (r.places a) seat = subst (λ (o : Option Op). IsSeat o (r.places a) seat) now (h.seats a seat here) in
+    let free : waiting_for r.core who far op ≡ None = ap (λ o. waiting_with r.core (doer_of m.script a o) far o) (sym now) ∙ sym (ready r h) in
+    let locks : Option Waiting = waits_for_locks (locks_needed r.core a own far op) a (r.core.structure own) (r.core.table own) in
+    let born_free : (birth_for r.core.birth who ≡ born) × (waits_born r.core a own far op ≡ None) =
+    born_and_free (birth_for r.core.birth who) own (waits_born r.core a own far op) (birth_unfailed m.parts.births.items proc who r.core unfailed (found_there m.script rest.valid a (length m.parts.births.items) seat.answered op proc rest.parts.births present of_a) of_a h.parts.births) free in
     let thread : HasProcess op → who.of_process ≡ true = thread_there m.script rest.valid a seat.answered op present in
     let same : HasProcess op → own ≡ p = λ has. own_process who proc p of_a (thread has) of_p in
     let actor : a < length m.script.actors = has_ops_declared m.script a seat.answered op present in
@@ -108,9 +111,9 @@ is_ready m a proc seat op stand machine rest of_a here present ready unfailed p 
           let kept : waits_for_locks (both_if (needs_table (space_of space) op)) a (space_of space).structure (space_of space).table ≡ locks =
           ap (λ o. waits_for_locks (both_if (needs_table (space_of space) op)) a o (space_of space).table) (sym shown.structure)
           ∙ ap (λ o. waits_for_locks (both_if (needs_table (space_of space) op)) a (r.core.structure own) o) (sym shown.table)
-          ∙ ap (λ l. waits_for_locks l a (r.core.structure own) (r.core.table own)) (single_needs (space_of space) r.core a own op shown (kept_single op single)) in
-          let none : KeepsNoJob (op_of_seat m a seat) = subst KeepsNoJob (sym present) single in
-          table_free (needs_table (space_of space) op) a (space_of space).structure (space_of space).table (rest.unlocked own a space seat found here none).1 (kept ∙ locks_free r.core a own op born_free.1) needed;
+          ∙ ap (λ l. waits_for_locks l a (r.core.structure own) (r.core.table own)) (single_needs (space_of space) r.core a own far op shown single) in
+          let none : KeepsNoJob (op_of_seat m a seat) = subst KeepsNoJob (sym present) (single_keeps op single) in
+          table_free (needs_table (space_of space) op) a (space_of space).structure (space_of space).table (rest.unlocked own a space seat found here none).1 (kept ∙ locks_free r.core a own far op born_free.1) needed;
       in_range = op_is_op m.script rest.valid a seat.answered op present;
       far = rest.far a seat op here present;
       fork = λ child is.
@@ -127,22 +130,31 @@ is_ready m a proc seat op stand machine rest of_a here present ready unfailed p 
           let mine : process_of m.script a ≡ own = ap (λ (x : Op). (doer_of m.script a (Some x)).proc) (sym is) in
           let found : slice_get m.parts.spaces.items own ≡ Some space = ap (λ k. slice_get m.parts.spaces.items k) (same has) ∙ there in
           let shown : ShowsSpace own (space_of space) r.core = h.parts.spaces own space found in
-          let kept : waits_for_locks (both_if true) a (space_of space).structure (space_of space).table ≡ locks =
+          let needs : place_of seat.job ≡ unbegun → (fast && seat.far == 0) ≡ false → both_if true ≡ locks_needed r.core a own far op =
+          λ place slow.
+          ap (λ (b : Bool). both_if (not b)) (sym slow)
+          ∙ ap (λ (k : Place). pin_needs fast seat.far k) (sym place)
+          ∙ pinned_needs r.core a own far seat.far handle page n want fast (place_of seat.job) op is sits.1 (h.jobs a seat here) in
+          let kept : place_of seat.job ≡ unbegun → (fast && seat.far == 0) ≡ false → waits_for_locks (both_if true) a (space_of space).structure (space_of space).table ≡ locks =
+          λ place slow.
           ap (λ o. waits_for_locks (both_if true) a o (space_of space).table) (sym shown.structure)
           ∙ ap (λ o. waits_for_locks (both_if true) a (r.core.structure own) o) (sym shown.table)
-          ∙ ap (λ (x : Op). waits_for_locks (locks_needed r.core a own x) a (r.core.structure own) (r.core.table own)) (sym is) in
-          to_pin (frames_of m.parts.frames) (page + length pages.items) want a (place_of seat.job) (space_of space)
-          (λ unheld. table_free true a (space_of space).structure (space_of space).table unheld.1 (kept ∙ locks_free r.core a own op born_free.1) refl)
+          ∙ ap (λ (l : Locks). waits_for_locks l a (r.core.structure own) (r.core.table own)) (needs place slow) in
+          to_pin (frames_of m.parts.frames) pages.items (page + length pages.items) n want (fast && seat.far == 0) a (place_of seat.job) (space_of space)
+          (λ place slow unheld. table_free true a (space_of space).structure (space_of space).table unheld.1 (kept place slow ∙ locks_free r.core a own far op born_free.1) refl)
           (rest.pins a handle page n want fast seat space pages here (present ∙ ap (λ (x : Op). Some x) is) (ap (λ k. slice_get m.parts.spaces.items k) mine ∙ found) taken);
       weighed = rest.weighed;
       referred = rest.referred;
       yet = λ handle makes. rest.yet a handle op seat here present makes;
       taken = λ pages handle page n want fast there is. rest.taken a handle page n want fast seat pages here there (present ∙ ap (λ (x : Op). Some x) is);
-      pinned = λ space pages handle page n want fast there taken is some.
-          let found : slice_get m.parts.spaces.items own ≡ Some space = ap (λ k. slice_get m.parts.spaces.items k) (same (subst HasProcess (sym is) tt)) ∙ there in
-          let many : length pages.items ≡ length (r.core.taken a) = ap length (sym (h.parts.taken a pages taken)) ∙ length_frames (r.core.taken a) in
-          sym (h.parts.spaces own space found).has_pinned ∙ at.pinned handle page n want fast is (subst (λ k. 0 < k) many some);
-      given = λ handle is. keeps_given (handles_of m.parts.handles handle) (r.core.handle handle) (r.core.pinned handle) (r.core.got handle) a (h.parts.pins handle) (given_free r.core a own handle op is born_free.1);
+      unwalked = λ handle page n sequence want fast step is walks.
+          let mine : process_of m.script a ≡ own = ap (λ (x : Op). (doer_of m.script a (Some x)).proc) (sym is) in
+          let own_there : own < length m.parts.spaces.items = let within = op_has_process m.script rest.valid a seat.answered op present (thread (subst HasProcess (sym is) tt)) in omega (arith, within, rest.parts.spaces) in
+          let space = there m.parts.spaces.items own own_there in
+          let pages = there m.parts.taken.items a (omega (arith, actor, rest.parts.taken)) in
+          no_walk (frames_of m.parts.frames) (page + length pages.0.items) want a sequence step (place_of seat.job) (space_of space.0)
+          (rest.pins a handle page n want fast seat space.0 pages.0 here (present ∙ ap (λ (x : Op). Some x) is) (ap (λ k. slice_get m.parts.spaces.items k) mine ∙ space.1) pages.1) walks;
+      given = λ handle is. keeps_given (handles_of m.parts.handles handle) (r.core.handle handle) (r.core.pinned handle) (r.core.got handle) a (h.parts.pins handle) (given_free r.core a own far handle op is born_free.1);
       actor_taken = omega (arith, actor, rest.parts.taken);
       actor_store = omega (arith, actor, rest.parts.stores);
     }

@@ -67,7 +67,7 @@ pub of_born : (old new : Parts) (a : ℕ) (proc : Option ℕ) (far : ℕ) (op : 
 of_born old new a proc far op place next whats unfailed within turn who k rest own of_who slots far_is s shown stands =
     let refused_so : CoreTurn = failed_turn who.actor who.proc op in
     let other = birth_unfailed old.births.items proc who s unfailed within of_who shown.parts.births in
-    let is_born : birth_for s.birth who ≡ born = (born_and_free (birth_for s.birth who) who.proc (waits_born s who.actor who.proc op) other stands.free).0 in
+    let is_born : birth_for s.birth who ≡ born = (born_and_free (birth_for s.birth who) who.proc (waits_born s who.actor who.proc k op) other stands.free).0 in
     let is : turn_of s who k op ≡ op_turn s a who.proc who.slots k op =
     ap (λ (b : CoreBirth). turn_at b refused_so (op_turn s who.actor who.proc who.slots k op)) is_born ∙ ap (λ (b : ℕ). op_turn s b who.proc who.slots k op) own in
     leads_alike is (turn who.proc who.slots (process_of_doer who proc of_who) slots k rest far_is s shown stands.at)

@@ -1,5 +1,6 @@
 -- What is true of a machine between two turns, by the state that turns led to.
-use Rattle.std.proofs.Common.{◌≡◌, ℕ, ◌+◌, ◌*◌, ◌<◌, ◌≤◌, ◌++◌, true, List, [], ◌∷◌, length, slice_get, Option, Some, None, IsSome, zero, suc, refl, sym, ap, ◌∙◌, subst, eqb-true, arith}
+use Rattle.std.proofs.Common.{◌≡◌, ℕ, ◌+◌, ◌*◌, ◌<◌, ◌≤◌, ◌++◌, Bool, true, false, List, [], ◌∷◌, length, slice_get, Option, Some, None, IsSome, zero, suc, refl, sym, ap, ◌∙◌, subst, eqb-true, arith}
+use Rattle.std.proofs.lemmas.Bool.{false≢true}
 use Rattle.gup_base.specs.Parts.{words_of}
 use Rattle.gup_base.specs.declared.entry.Allowed.{Allowed}
 use Rattle.gup_base.specs.declared.entry.Entry.{Entry}
@@ -21,18 +22,21 @@ use Rattle.gup_handles.specs.Handles.{HandleValue, handles_of}
 use Rattle.gup_handles.specs.Handles as kept
 use Rattle.gup_handles.specs.Shows.{IsShown}
 use Rattle.gup_spec_events.specs.Event.{bias}
-use Rattle.gup_spec_events.specs.State.{CoreState, Taken, Job, idle, moving, Counted, forking, between, counted, copying}
+use Rattle.gup_spec_events.specs.State.{CoreState, Taken, Job, idle, moving, walking, Counted, forking, between, counted, copying}
 use Rattle.gup_law_base.specs.Sound.{IsSound, Moving, moving_of, keeps_table, keeps_structure}
 use Rattle.gup_law_base.proofs.Lonely.{whole_counts}
 use Rattle.gup_spec_turns.specs.Run.{RunState, run_start, run_after, turned}
 use Rattle.gup_spec_turns.specs.ForkTurns.{first_behind}
 use Rattle.gup_spec_turns.specs.JobPlace.{JobPlace, job_place, place_in, KeepsNoJob, StandsFork, StandsMove, IsForking, HasCounted, IsPrepared}
+use Rattle.gup_spec_turns.specs.Cost.{pins_turns}
+use Rattle.gup_law_turns.proofs.PinPace.{pin_left}
+use Rattle.gup_law_turns.proofs.ScriptLemmas.{op_is_op}
 use Rattle.gup_law_turns.specs.Standing.{IsStanding, StandsHandle, given_back, back_in}
 use Rattle.gup_op_base.specs.Far.{HasFar}
 use Rattle.gup_op_fork.specs.Forked.{IsCountedIn, IsCopyOf, IsReadyAt}
-use Rattle.gup_op_pins.specs.Pins.{IsReferred, frames_in}
+use Rattle.gup_op_pins.specs.Pins.{IsReferred, IsWithinPin, frames_in}
 use Rattle.gup_op_move.specs.Moving.{IsReadyToMove}
-use Rattle.gup_spec_turns.specs.PinPlace.{StandsPin, StandsAtPage as IsAtPage}
+use Rattle.gup_spec_turns.specs.PinPlace.{StandsPin, HasTaken, HasPages, IsWithin, StandsAtPage as IsAtPage}
 use Rattle.gup_base.specs.declared.entry.Want.{Want}
 use Rattle.gup_core.proofs.Pinning.{length_frames}
 use Rattle.gup_op_base.specs.Tidy.{IsTidy}
@@ -157,11 +161,11 @@ ready_to_move s F S a p page zone sound there frames space stands = go (s.job a)
     go job prepared is h = absurd h
 
 -- and so is the page that a long pin has cleared, whose entry is right for the pin
-pub ready_to_pin : (s : CoreState) (F : FramesValue) (S : SpaceValue) (a p handle page n got : ℕ) (want : Want) → IsSound s → ((f : ℕ) → (F.count f ≡ 0 → ⊥) → IsFrame F f) → ShowsFrames F s → ShowsSpace p S s
-    → StandsPin s a p handle page n want got → IsReadyPin F (page + got) want a (place_in s a) S
-ready_to_pin s F S a p handle page n got want sound there frames space stands = go (s.job a) (s.prepared a) refl stands.at
+pub ready_to_pin : (s : CoreState) (F : FramesValue) (S : SpaceValue) (a p handle page n got : ℕ) (want : Want) (fast : Bool) → fast ≡ false → IsSound s → ((f : ℕ) → (F.count f ≡ 0 → ⊥) → IsFrame F f) → ShowsFrames F s → ShowsSpace p S s
+    → StandsPin s a p handle page n want fast got → IsReadyPin F (page + got) want a (place_in s a) S
+ready_to_pin s F S a p handle page n got want fast slow sound there frames space stands = go (s.job a) (s.prepared a) refl stands.at
   where
-    go : (job : Job) (prepared : Option ℕ) → s.job a ≡ job → IsAtPage s a p (page + got) want job → IsReadyPin F (page + got) want a (job_place job prepared) S
+    go : (job : Job) (prepared : Option ℕ) → s.job a ≡ job → IsAtPage s a p (page + got) n got want fast job → IsReadyPin F (page + got) want a (job_place job prepared) S
     go idle prepared is h = idle_unlocked s S p a sound is space
     go (moving q g e allowed count) prepared is h = (
       h.1,
@@ -176,7 +180,19 @@ ready_to_pin s F S a p handle page n got want sound there frames space stands = 
         may = h.4.may;
       },
     )
+    go (walking q write long sequence step) prepared is h = absurd (false≢true (sym slow ∙ h.walks))
     go job prepared is h = absurd h
+
+-- a pin that is in no walk has more pages to take
+within_pin : (n got : ℕ) (job : Job) (prepared : Option ℕ) → IsWithin n got job → IsWithinPin n got (job_place job prepared)
+within_pin n got (forking q c done (copying page word)) None h = h
+within_pin n got (forking q c done (copying page word)) (Some to) h = h
+within_pin n got (forking q c done between) prepared h = h
+within_pin n got (forking q c done (counted page)) prepared h = h
+within_pin n got (forking q c done step) prepared h = h
+within_pin n got (moving q g e allowed count) prepared h = h
+within_pin n got (walking q write long sequence step) prepared h = h
+within_pin n got job prepared h = h
 
 -- ---- actors
 
@@ -184,6 +200,12 @@ far_fits : (script : ScriptValue) (r : RunState) (a : ℕ) (seat : Seat) (op : O
 far_fits script r a seat (Unmap page n) h at is = subst (λ (k : ℕ). k < n) (sym at.1) (h.unmaps a page n is)
 far_fits script r a seat (Discard page n) h at is = subst (λ (k : ℕ). k < n) (sym at.1) (h.discards a page n is)
 far_fits script r a seat (Transfer handle outward slot parts) h at is = subst (λ (k : ℕ). k < words_of parts) (sym at.1) (h.transfers a handle outward slot parts is)
+far_fits script r a seat (Pin handle page n want fast) h at is =
+    let stands = h.pins a handle page n want fast is in
+    let s : CoreState = r.core in
+    let got : ℕ = length (s.taken a) in
+    subst (λ (k : ℕ). k < pins_turns fast want.long n) (sym at.1)
+    (pin_left s a (process_of script a) (page + got) n got (r.places a).far want fast (s.job a) stands.at stands.within (h.paced a handle page n want fast is))
 far_fits script r a seat op h at is = tt
 
 -- the operation of an actor's seat is that of its place
@@ -230,14 +252,25 @@ unmade_kept (kept.got by frame) handle pinned reference is none ungot = absurd (
 unmade_kept kept.gone handle pinned reference is none ungot = absurd (let no : gone ≡ unmade = sym is.0 ∙ none in cc no)
 
 -- the process of a pin that has taken pages has pinned
-taken_flagged : (s : CoreState) (a p handle page n got : ℕ) (want : Want) → IsSound s → StandsPin s a p handle page n want got → 0 < length (s.taken a) → s.has_pinned p ≡ true
-taken_flagged s a p handle page n got want sound stands some = go (s.taken a) refl some
+taken_flagged : (s : CoreState) (a p page got : ℕ) (want : Want) → IsSound s → HasTaken p page want got (s.taken a) → 0 < length (s.taken a) → s.has_pinned p ≡ true
+taken_flagged s a p page got want sound has some = go (s.taken a) refl some
   where
     go : (taken : List Taken) → s.taken a ≡ taken → 0 < length taken → s.has_pinned p ≡ true
     go [] is none = absurd (omega arith)
     go (t ∷ taken) is more =
         let first : slice_get (s.taken a) 0 ≡ Some t = ap (λ (l : List Taken). slice_get l 0) is in
-        subst (λ (q : ℕ). s.has_pinned q ≡ true) (stands.taken.each 0 t first).0 (sound.1.taken_flag a 0 t first)
+        subst (λ (q : ℕ). s.has_pinned q ≡ true) (has.each 0 t first).0 (sound.1.taken_flag a 0 t first)
+
+-- and so has that of any pin that has had a turn
+pin_flagged : (s : CoreState) (a p handle page n far : ℕ) (want : Want) (fast : Bool) → IsSound s → StandsPin s a p handle page n want fast (length (s.taken a)) → (0 < far → s.has_pinned p ≡ true) → 0 < length (s.taken a) + far → s.has_pinned p ≡ true
+pin_flagged s a p handle page n zero want fast sound stands later some = go (s.job a) stands.at stands.taken
+  where
+    go : (job : Job) → IsAtPage s a p (page + length (s.taken a)) n (length (s.taken a)) want fast job → HasPages p page want (length (s.taken a)) (s.taken a) job → s.has_pinned p ≡ true
+    go idle at has = taken_flagged s a p page (length (s.taken a)) want sound has (omega (arith, some))
+    go (moving q g e allowed count) at has = at.4.flag
+    go (walking q write long sequence step) at has = at.flag
+    go job at has = absurd at
+pin_flagged s a p handle page n (suc far) want fast sound stands later some = later (omega arith)
 
 -- a pin whose words its holder moves has all its pages
 whole_by : (back : ℕ → ℕ) (a : ℕ) (pinned : List ℕ) (handle : Handle) → StandsHandle back pinned handle → back a ≡ 0 → is_held_by handle a ≡ true → length pinned ≡ length (objects_of handle)
@@ -261,11 +294,12 @@ stands_at script r a op h is =
           subst (λ (p : ℕ). StandsMove r.core a p page zone (r.core.job a)) (ap (λ (x : Op). (doer_of script a (Some x)).proc) (sym same))
           (h.moves a q page zone (is ∙ ap (λ (x : Op). Some x) same));
       pin = λ handle page n want fast same.
-          subst (λ (p : ℕ). StandsPin r.core a p handle page n want (length (r.core.taken a))) (own (Pin handle page n want fast) refl same)
+          subst (λ (p : ℕ). StandsPin r.core a p handle page n want fast (length (r.core.taken a))) (own (Pin handle page n want fast) refl same)
           (h.pins a handle page n want fast (is ∙ ap (λ (x : Op). Some x) same));
       pinned = λ handle page n want fast same some.
           subst (λ (p : ℕ). r.core.has_pinned p ≡ true) (own (Pin handle page n want fast) refl same)
-          (taken_flagged r.core a (process_of script a) handle page n (length (r.core.taken a)) want h.sound (h.pins a handle page n want fast (is ∙ ap (λ (x : Op). Some x) same)) some);
+          (pin_flagged r.core a (process_of script a) handle page n (r.places a).far want fast h.sound (h.pins a handle page n want fast (is ∙ ap (λ (x : Op). Some x) same))
+          (h.flagged a handle page n want fast (is ∙ ap (λ (x : Op). Some x) same)) some);
       whole = λ handle slot outward parts same holds.
           whole_by (back_in script r handle) a (r.core.pinned handle) (r.core.handle handle) (h.handles handle)
           (ap (λ (o : Option Op). given_back o handle (r.places a).far) (is ∙ ap (λ (x : Op). Some x) same)) holds;
@@ -281,13 +315,15 @@ at_rest m valid is there stand =
     let shown : Shows m r = is.shown.1 in
     let parts : ShowsParts m.parts r.core = shown.parts in
     let h : IsStanding m.script r = standing m r stand valid shown in
+    let slow_so : (a : ℕ) (seat : Seat) (handle page n : ℕ) (want : Want) (fast : Bool) → op_of_seat m a seat ≡ Some (Pin handle page n want fast) → fast ≡ false =
+    λ a seat handle page n want fast op. (op_is_op m.script valid a seat.answered (Pin handle page n want fast) op).3 in
     record {
       valid = valid;
       parts = is.parts;
       seats = is.seats;
       tidy = λ p space here. tidy_in m.script r (frames_of m.parts.frames) (space_of space) p valid h there parts.frames (parts.spaces p space here);
       few_forks = λ p space here. subst (λ (k : ℕ). k ≤ 32) (parts.spaces p space here).sequence (h.few_forks p);
-      few_counts = λ f. subst (λ (k : ℕ). k ≤ 16 * page_numbers + most_handles + 81 + bias * 17680) (parts.frames.count f) (h.few_counts f);
+      few_counts = λ f. subst (λ (k : ℕ). k ≤ 16 * page_numbers + most_handles + 81 + bias * 17761) (parts.frames.count f) (h.few_counts f);
       unlocked = λ p a space seat here sits single.
           idle_unlocked r.core (space_of space) p a h.sound (h.idle_jobs a (subst KeepsNoJob (sym (op_there m r a seat (op_of_seat m a seat) shown sits refl)) single)) (parts.spaces p space here);
       forks = λ a child seat parent kid sits op parent_is kid_is.
@@ -310,10 +346,12 @@ at_rest m valid is there stand =
           unmade_kept (handles_of m.parts.handles handle) (r.core.handle handle) (r.core.pinned handle) (r.core.got handle) (parts.pins handle) yet.0 yet.1;
       taken = λ a handle page n want fast seat pages here taken present.
           let now : present_op m.script a (r.places a) ≡ Some (Pin handle page n want fast) = op_there m r a seat (Some (Pin handle page n want fast)) shown here present in
-          subst (λ (k : ℕ). k < n) (sym (length_frames (r.core.taken a)) ∙ ap length (parts.taken a pages taken)) (h.pins a handle page n want fast now).within;
+          subst (λ (k : JobPlace). IsWithinPin n (length pages.items) k) (sym (shown.jobs a seat here))
+          (subst (λ (k : ℕ). IsWithinPin n k (place_in r.core a)) (sym (length_frames (r.core.taken a)) ∙ ap length (parts.taken a pages taken))
+          (within_pin n (length (r.core.taken a)) (r.core.job a) (r.core.prepared a) (h.pins a handle page n want fast now).within));
       pins = λ a handle page n want fast seat space pages sits op space_is taken.
           let at = h.pins a handle page n want fast (op_there m r a seat (Some (Pin handle page n want fast)) shown sits op) in
           subst (λ (k : JobPlace). IsReadyPin (frames_of m.parts.frames) (page + length pages.items) want a k (space_of space)) (sym (shown.jobs a seat sits))
           (subst (λ (k : ℕ). IsReadyPin (frames_of m.parts.frames) (page + k) want a (place_in r.core a) (space_of space)) (sym (length_frames (r.core.taken a)) ∙ ap length (parts.taken a pages taken))
-          (ready_to_pin r.core (frames_of m.parts.frames) (space_of space) a (process_of m.script a) handle page n (length (r.core.taken a)) want h.sound there parts.frames (parts.spaces (process_of m.script a) space space_is) at));
+          (ready_to_pin r.core (frames_of m.parts.frames) (space_of space) a (process_of m.script a) handle page n (length (r.core.taken a)) want fast (slow_so a seat handle page n want fast op) h.sound there parts.frames (parts.spaces (process_of m.script a) space space_is) at));
     }

@@ -135,8 +135,8 @@ idles m a seat turns here none count r h =
 -- what is known of the actor's waiting from every state that the machine shows
 abbrev pub IsWaiting : MachineValue → (a : ℕ) → (proc : Option ℕ) → Seat → Op → Option Waiting → Type 0
 IsWaiting m a proc seat op waiting =
-    (s : CoreState) (who : Doer) (far : ℕ) → ShowsParts m.parts s → who.actor ≡ a → IsProcessOf who proc
-    → place_of seat.job ≡ place_in s a → StandsAt s a who.proc far op → waiting ≡ waiting_for s who op
+    (s : CoreState) (who : Doer) (far : ℕ) → ShowsParts m.parts s → who.actor ≡ a → IsProcessOf who proc → seat.far ≡ far_in (Some op) far
+    → place_of seat.job ≡ place_in s a → StandsAt s a who.proc far op → waiting ≡ waiting_for s who far op
 
 -- it is what the core run says
 pub waiting_is : (m : MachineValue) (a : ℕ) (proc : Option ℕ) (seat : Seat) (op : Op) (waiting : Option Waiting) → Stand → IsAtRest m → IsProcessOf (doer_of m.script a (Some op)) proc → slice_get m.seats a ≡ Some seat → op_of_seat m a seat ≡ Some op → IsWaiting m a proc seat op waiting
@@ -144,8 +144,9 @@ pub waiting_is : (m : MachineValue) (a : ℕ) (proc : Option ℕ) (seat : Seat) 
 waiting_is m a proc seat op waiting stand rest of_a here present is r h =
     let now : present_op m.script a (r.places a) ≡ Some op = op_there m r a seat (Some op) h here present in
     let at : StandsAt r.core a (doer_of m.script a (Some op)).proc (r.places a).far op = stands_at m.script r a op (standing m r stand rest.valid h) now in
-    is r.core (doer_of m.script a (Some op)) (r.places a).far h.parts refl of_a (h.jobs a seat here) at
-    ∙ ap (λ o. waiting_with r.core (doer_of m.script a o) o) (sym now)
+    let sits : IsSeat (Some op) (r.places a) seat = subst (λ (o : Option Op). IsSeat o (r.places a) seat) now (h.seats a seat here) in
+    is r.core (doer_of m.script a (Some op)) (r.places a).far h.parts refl of_a sits.1 (h.jobs a seat here) at
+    ∙ ap (λ o. waiting_with r.core (doer_of m.script a o) (r.places a).far o) (sym now)
 
 pub waits : (m : MachineValue) (a : ℕ) (seat : Seat) (op : Op) (turns : ℕ) (waiting : Waiting) → slice_get m.seats a ≡ Some seat → op_of_seat m a seat ≡ Some op → turns ≡ counted m.turns
     → ((r : RunState) → Shows m r → Some waiting ≡ waiting_in m.script r a)
@@ -211,7 +212,7 @@ goes m a proc seat next op parts seats turns said job stand rest of_a here prese
     let stands : IsStanding m.script r = standing m r stand rest.valid h in
     let op_is : op_in m.script r a ≡ Some op = op_there m r a seat (Some op) h here present in
     let at : IsSeat (Some op) (r.places a) seat = subst (λ (o : Option Op). IsSeat o (r.places a) seat) op_is (h.seats a seat here) in
-    let free : waiting_for r.core who op ≡ None = ap (λ o. waiting_with r.core (doer_of m.script a o) o) (sym op_is) ∙ sym (ready r h) in
+    let free : waiting_for r.core who far op ≡ None = ap (λ o. waiting_with r.core (doer_of m.script a o) far o) (sym op_is) ∙ sym (ready r h) in
     let t : CoreTurn = turn_of r.core who far op in
     let is : core_turn_in m.script r a ≡ t = taken_is m r a op op_is (sym (ready r h)) in
     let forks = place_in r.core in

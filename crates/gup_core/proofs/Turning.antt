@@ -30,7 +30,8 @@ use Rattle.gup_op_fork.specs.declared.forks.Forked.{Forked}
 use Rattle.gup_op_fork.specs.declared.forks.Forked.TheVariants.{Goes, Born, Failed}
 use Rattle.gup_op_fork.specs.Forked.{place_after, birth_after, ShowsForking, StandsAsFork, forking_view}
 use Rattle.gup_handles.specs.Shows.{IsShown, ShowsHandles}
-use Rattle.gup_op_pins.specs.Pins.{ShowsPinning, StandsAtPage, pinning_view}
+use Rattle.gup_op_pins.specs.Pins.{ShowsPinning, IsPinTurn as IsTurnBehind, pinning_view}
+use Rattle.gup_op_pins.specs.declared.pins.PinCall.{PinCall}
 use Rattle.gup_op_pins.specs.Held.{ShowsStore, ShowsHeld, held_view}
 use Rattle.gup_op_base.specs.Turns.{Leads, IsTurnOf, Anywhere}
 use Rattle.gup_spec_journal.specs.Place.{Doer}
@@ -61,11 +62,9 @@ IsTurnBy old new a proc far op place whats next =
     → IsTurnOf (ShowsAll a) (StandsFree a who k op) (all_view old place others) (all_view new next others) (λ s. turn_of s who k op) whats
 
 -- a turn of a pin, by what is kept of its process and of what it has taken
-abbrev pub IsPinTurn : (old new : Parts) → (x y : SpaceParts) → (was now : ArrayVec ℕ) → (a p handle page n : ℕ) → Want → (place next : JobPlace) → List What → Type 0
-IsPinTurn old new x y was now a p handle page n want place next whats =
-    IsTurnOf (ShowsPinning a p) (StandsAtPage a p handle page n want (length was.items))
-    (pinning_view old.frames x old.handles was.items (place_of place)) (pinning_view new.frames y new.handles now.items (place_of next))
-    (λ s. pin_turn s a p handle page n want) whats
+abbrev pub IsPinTurn : (old new : Parts) → (x y : SpaceParts) → (was now : ArrayVec ℕ) → (a : ℕ) → PinCall → (far : ℕ) → (place next : JobPlace) → List What → Type 0
+IsPinTurn old new x y was now a call far place next whats =
+    IsTurnBehind a call (length was.items) far (pinning_view old.frames x old.handles was.items (place_of place)) (pinning_view new.frames y new.handles now.items (place_of next)) whats
 
 -- a turn of a get, by what is kept of its process, whatever its actor has taken
 abbrev pub IsGetTurn : (old new : Parts) → (x y : SpaceParts) → (taken : List ℕ) → (a p handle page : ℕ) → List What → Type 0
@@ -171,27 +170,30 @@ alone old new a p slots far op place whats by_itself single within many births h
 -- ---- a turn of a pin
 
 pub pinned : (old new : Parts) (a p slots far handle page n : ℕ) (want : Want) (fast : Bool) (place next : JobPlace) (whats : List What)
-    → p < length old.spaces.items → length new.spaces.items ≡ length old.spaces.items
+    → fast ≡ false → p < length old.spaces.items → length new.spaces.items ≡ length old.spaces.items
     → a < length old.taken.items → length new.taken.items ≡ length old.taken.items
     → new.births ≡ old.births → new.stores ≡ old.stores
     → ((q : ℕ) → (q ≡ p → ⊥) → slice_get new.spaces.items q ≡ slice_get old.spaces.items q)
     → ((b : ℕ) → (b ≡ a → ⊥) → slice_get new.taken.items b ≡ slice_get old.taken.items b)
     → ((x y : SpaceParts) (was now : ArrayVec ℕ) → slice_get old.spaces.items p ≡ Some x → slice_get new.spaces.items p ≡ Some y → slice_get old.taken.items a ≡ Some was → slice_get new.taken.items a ≡ Some now
-    → IsPinTurn old new x y was now a p handle page n want place next whats)
+    → IsPinTurn old new x y was now a (record { proc = p; handle = handle; page = page; n = n; want = want; fast = fast }) far place next whats)
     → IsTurnAmong old new a p slots far (Pin handle page n want fast) place whats next
-pinned old new a p slots far handle page n want fast place next whats within many taker takers births stores others untaken turn k rest far_is s shown stands =
+pinned old new a p slots far handle page n want fast place next whats slow within many taker takers births stores others untaken turn k rest far_is s shown stands =
     let x = there old.spaces.items p within in
     let y = there new.spaces.items p (omega (arith, within, many)) in
     let was = there old.taken.items a taker in
     let now = there new.taken.items a (omega (arith, taker, takers)) in
-    let es : List CoreEvent = (pin_turn s a p handle page n want).events in
-    let own : ArePinning a p es = pin_is_pinning s a p handle page n want in
+    let stands_so : StandsPin s a p handle page n want fast (length (s.taken a)) = stands.pin handle page n want fast refl in
+    let es : List CoreEvent = (pin_turn s a p handle page n want fast k).events in
+    let own : ArePinning a p es = pin_is_pinning s a p handle page n k want fast slow stands_so in
+    let call : PinCall = record { proc = p; handle = handle; page = page; n = n; want = want; fast = fast } in
     let many_taken : length (s.taken a) ≡ length was.0.items = sym (length_frames (s.taken a)) ∙ ap length (shown.parts.taken a was.0 was.1) in
-    let led : Leads (ShowsPinning a p) (pinning_view new.frames y.0 new.handles now.0.items (place_of next)) s (pin_turn s a p handle page n want) whats =
-    turn x.0 y.0 was.0 now.0 x.1 y.1 was.1 now.1 s (record { frames = shown.parts.frames; space = shown.parts.spaces p x.0 x.1; pins = shown.parts.pins; taken = shown.parts.taken a was.0 was.1; place = sym shown.job })
+    let led : Leads (ShowsPinning a p) (pinning_view new.frames y.0 new.handles now.0.items (place_of next)) s (pin_turn s a p handle page n want fast k) whats =
+    subst (λ (f : ℕ). IsPinTurn old new x.0 y.0 was.0 now.0 a call f place next whats) far_is (turn x.0 y.0 was.0 now.0 x.1 y.1 was.1 now.1)
+    s (record { frames = shown.parts.frames; space = shown.parts.spaces p x.0 x.1; pins = shown.parts.pins; taken = shown.parts.taken a was.0 was.1; place = sym shown.job })
     (record {
-      at = subst (StandsPin s a p handle page n want) many_taken (stands.pin handle page n want fast refl);
-      flagged = λ some. stands.pinned handle page n want fast refl (subst (λ k. 0 < k) (sym many_taken) some);
+      at = subst (StandsPin s a p handle page n want fast) many_taken stands_so;
+      flagged = λ some. stands.pinned handle page n want fast refl (subst (λ m. 0 < m + k) (sym many_taken) some);
     }) in
     let parts : ShowsParts new (run s es) =
     record {

@@ -35,20 +35,20 @@ needs_none right (forking p c done between) prepared page word to is = absurd (c
 needs_none right (forking p c done step) prepared page word to is = refl
 needs_none right job prepared page word to is = refl
 
-waits_so : (s : CoreState) (who : Doer) (p child page word to : ℕ) → who.of_process ≡ true → who.proc ≡ p → s.birth p ≡ born → at_word page word to ≡ place_in s who.actor → None ≡ waiting_for s who (Fork child)
-waits_so s who p child page word to thread own is_born place =
-    sym (thread_waits s who (Fork child) p born thread own is_born
+waits_so : (s : CoreState) (who : Doer) (far p child page word to : ℕ) → who.of_process ≡ true → who.proc ≡ p → s.birth p ≡ born → at_word page word to ≡ place_in s who.actor → None ≡ waiting_for s who far (Fork child)
+waits_so s who far p child page word to thread own is_born place =
+    sym (thread_waits s who far (Fork child) p born thread own is_born
     ∙ ap (λ (l : Locks). first_waiting None (waits_for_locks l who.actor (s.structure who.proc) (s.table who.proc)))
     (needs_none (s.right child) (s.job who.actor) (s.prepared who.actor) page word to place))
 
-pub copy_waits : (births : List Birth) (proc : Option ℕ) (job : JobPlace) (op : Op) (copy : WordCopy) (s : CoreState) (who : Doer) (a : ℕ) → IsCopyAt births proc job op copy
-    → ShowsBirths births s → who.actor ≡ a → IsProcessOf who proc → place_of job ≡ place_in s a → None ≡ waiting_for s who op
-copy_waits births proc job op copy s who a is shown actor of_who place =
+pub copy_waits : (births : List Birth) (proc : Option ℕ) (job : JobPlace) (op : Op) (copy : WordCopy) (s : CoreState) (who : Doer) (far a : ℕ) → IsCopyAt births proc job op copy
+    → ShowsBirths births s → who.actor ≡ a → IsProcessOf who proc → place_of job ≡ place_in s a → None ≡ waiting_for s who far op
+copy_waits births proc job op copy s who far a is shown actor of_who place =
     let of_copy : IsProcessOf who (Some copy.proc) = subst (λ (o : Option ℕ). IsProcessOf who o) is.proc_is of_who in
     let at : at_word copy.page copy.word copy.to ≡ place_in s who.actor =
     ap place_of (sym is.stands) ∙ place ∙ ap (λ (b : ℕ). place_in s b) (sym actor) in
-    waits_so s who copy.proc copy.child copy.page copy.word copy.to of_copy.0 of_copy.1 (shown copy.proc Born is.is_born) at
-    ∙ ap (λ (x : Op). waiting_for s who x) (sym is.is_fork)
+    waits_so s who far copy.proc copy.child copy.page copy.word copy.to of_copy.0 of_copy.1 (shown copy.proc Born is.is_born) at
+    ∙ ap (λ (x : Op). waiting_for s who far x) (sym is.is_fork)
 
 pub copy_unfailed : (births : List Birth) (proc : Option ℕ) (job : JobPlace) (op : Op) (copy : WordCopy) → IsCopyAt births proc job op copy → HasFailed births proc → ⊥
 copy_unfailed births proc job op copy is has =
@@ -65,7 +65,7 @@ pub is_free : (m : MachineValue) (a : ℕ) (proc : Option ℕ) (seat : Seat) (op
 is_free m a proc seat op copy stand machine rest of_a here present is =
     let births : List Birth = m.parts.births.items in
     let ready = waiting_is m a proc seat op None stand rest of_a here present
-    (λ s who far shown actor of_who place at. copy_waits births proc seat.job op copy s who a is shown.births actor of_who place) in
+    (λ s who far shown actor of_who fits place at. copy_waits births proc seat.job op copy s who far a is shown.births actor of_who place) in
     record {
       ready = ready;
       turn = is_ready m a proc seat op stand machine rest of_a here present ready (copy_unfailed births proc seat.job op copy is) copy.proc (process_is proc copy.proc is.proc_is);

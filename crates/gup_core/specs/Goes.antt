@@ -1,5 +1,5 @@
 -- What a turn of an operation is over among all that the machine has, and what it needs of that.
-use Rattle.std.specs.Prelude.{◌≡◌, ℕ, ◌+◌, ◌<◌, ◌^◌, Bool, true, length, slice_get, List, Option, Some, None}
+use Rattle.std.specs.Prelude.{◌≡◌, ℕ, ◌+◌, ◌==◌, ◌<◌, ◌^◌, ◌&&◌, Bool, true, length, slice_get, List, Option, Some, None}
 use Rattle.arrayvec.specs.ArrayVec.{ArrayVec}
 use Rattle.gup_base.specs.declared.entry.Want.{Want}
 use Rattle.gup_script.specs.Valid.{IsOp, made_by}
@@ -9,18 +9,18 @@ use Rattle.gup_script.specs.declared.op.Op.TheVariants.{Pin, Take, Move, Fork}
 use Rattle.gup_frames.specs.Frames.{FramesValue, frames_of}
 use Rattle.gup_space.specs.Space.{SpaceParts, space_of}
 use Rattle.gup_handles.specs.Handles.{handles_of, unmade, IsGivenTo as IsKeptFor}
-use Rattle.gup_spec_events.specs.State.{CoreState}
+use Rattle.gup_spec_events.specs.State.{CoreState, WalkStep}
 use Rattle.gup_law_base.specs.Sound.{IsSound}
 use Rattle.gup_spec_journal.specs.Place.{Doer}
 use Rattle.gup_spec_turns.specs.Waits.{waiting_for}
-use Rattle.gup_spec_turns.specs.JobPlace.{JobPlace as Place, place_in, KeepsNoJob}
+use Rattle.gup_spec_turns.specs.JobPlace.{JobPlace as Place, place_in, in_walk}
 use Rattle.gup_op_base.specs.declared.jobs.JobPlace.{JobPlace}
 use Rattle.gup_op_base.specs.Far.{HasFar}
 use Rattle.gup_op_base.specs.Jobs.{place_of}
 use Rattle.gup_op_fork.specs.Forked.{IsReadyAt}
 use Rattle.gup_op_pins.specs.Pins.{IsReferred, IsWeighed}
 use Rattle.gup_op_move.specs.Moving.{IsReadyToMove}
-use Rattle.gup_op_pins.specs.Pins.{IsReadyToPin}
+use Rattle.gup_op_pins.specs.Pins.{IsReadyToPin, IsWithinPin}
 use Rattle.gup_op_pins.specs.Held.{slots_in}
 use Rattle.gup_op_base.specs.Tidy.{IsTidy, needs_table}
 use Rattle.gup_op_waits.specs.declared.births.Birth.{Birth}
@@ -48,7 +48,7 @@ pub record ShowsAll (a : ℕ) (view : AllView) (s : CoreState) : Type 0 where
 pub record StandsFree (a : ℕ) (who : Doer) (far : ℕ) (op : Op) (s : CoreState) : Type 0 where
   pub sound : IsSound s
   pub at : StandsAt s a who.proc far op
-  pub free : waiting_for s who op ≡ None
+  pub free : waiting_for s who far op ≡ None
 
 -- the store of the actor has so many slots
 abbrev pub HasSlots : Parts → (a slots : ℕ) → Type 0
@@ -77,13 +77,12 @@ IsSingle op = Unit {0}
 
 -- What a turn of an operation needs that has gone so far, and whose job stands there: its numbers are in range, it is of
 -- process p where it is of one, each process is tidy, counts are small, nobody holds a lock that it needs, pins have
--- the weight of their pages and references that of theirs, the handle that it makes is unmade, and after the first page of a
--- pin the process has pinned.
+-- the weight of their pages and references that of theirs, and the handle that it makes is unmade. No pin is in a walk.
 pub record IsReady (parts : Parts) (a p : ℕ) (op : Op) (gone : ℕ) (place : JobPlace) : Type 0 where
   pub there : HasProcess op → p < length parts.spaces.items
   pub tidy : EachSpace (IsTidy (frames_of parts.frames)) parts.spaces.items
   pub few_counts : (f : ℕ) → (frames_of parts.frames).count f < 2 ^ 40
-  pub table : (space : SpaceParts) → slice_get parts.spaces.items p ≡ Some space → KeepsNoJob (Some op) → needs_table (space_of space) op ≡ true → (space_of space).table ≡ None
+  pub table : (space : SpaceParts) → slice_get parts.spaces.items p ≡ Some space → IsSingle op → needs_table (space_of space) op ≡ true → (space_of space).table ≡ None
   pub in_range : IsOp op
   pub far : HasFar op gone
   pub fork : (child : ℕ) → op ≡ Fork child → IsForkReady (frames_of parts.frames) parts.spaces.items parts.births.items a p child place
@@ -91,9 +90,9 @@ pub record IsReady (parts : Parts) (a p : ℕ) (op : Op) (gone : ℕ) (place : J
   pub weighed : (h : ℕ) → IsWeighed (frames_of parts.frames) (handles_of parts.handles h)
   pub referred : (h : ℕ) → IsReferred (frames_of parts.frames) (handles_of parts.handles h)
   pub yet : (handle : ℕ) → made_by op ≡ Some handle → handles_of parts.handles handle ≡ unmade
-  pub taken : (pages : ArrayVec ℕ) (handle page n : ℕ) (want : Want) (fast : Bool) → slice_get parts.taken.items a ≡ Some pages → op ≡ Pin handle page n want fast → length pages.items < n
-  pub pin : (space : SpaceParts) (pages : ArrayVec ℕ) (handle page n : ℕ) (want : Want) (fast : Bool) → op ≡ Pin handle page n want fast → slice_get parts.spaces.items p ≡ Some space → slice_get parts.taken.items a ≡ Some pages → IsReadyToPin (frames_of parts.frames) (page + length pages.items) want (place_of place) (space_of space)
-  pub pinned : (space : SpaceParts) (pages : ArrayVec ℕ) (handle page n : ℕ) (want : Want) (fast : Bool) → slice_get parts.spaces.items p ≡ Some space → slice_get parts.taken.items a ≡ Some pages → op ≡ Pin handle page n want fast → 0 < length pages.items → (space_of space).has_pinned ≡ true
+  pub taken : (pages : ArrayVec ℕ) (handle page n : ℕ) (want : Want) (fast : Bool) → slice_get parts.taken.items a ≡ Some pages → op ≡ Pin handle page n want fast → IsWithinPin n (length pages.items) (place_of place)
+  pub pin : (space : SpaceParts) (pages : ArrayVec ℕ) (handle page n : ℕ) (want : Want) (fast : Bool) → op ≡ Pin handle page n want fast → slice_get parts.spaces.items p ≡ Some space → slice_get parts.taken.items a ≡ Some pages → IsReadyToPin (frames_of parts.frames) pages.items (page + length pages.items) n want (fast && gone == 0) (place_of place) (space_of space)
+  pub unwalked : (handle page n sequence : ℕ) (want : Want) (fast : Bool) (step : WalkStep) → op ≡ Pin handle page n want fast → place_of place ≡ in_walk sequence step → ⊥
   pub given : (handle : ℕ) → op ≡ Take handle → IsKeptFor (handles_of parts.handles handle) a
   pub actor_taken : a < length parts.taken.items
   pub actor_store : a < length parts.stores.items

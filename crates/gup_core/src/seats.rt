@@ -9,8 +9,8 @@ use gup_op_base::JobPlace;
 use gup_script::Op;
 use std::alloc::Global;
 
-/// Where an actor stands: how many operations it has answered, over how many pages or words the present one has gone, and where
-/// its job stands, if it is in the middle of one.
+/// Where an actor stands: how many operations it has answered, over how many pages or words the present one has gone, or how many
+/// of its turns are over, if it is a pin, and where its job stands, if it is in the middle of one.
 #[derive(Clone, Copy, Debug)]
 pub struct Seat {
     pub answered: u32,
@@ -71,16 +71,16 @@ pub fn behind(seat: &Seat, op: &Op, answered: bool, job: JobPlace) -> Seat
     }
 }
 
-// Only an operation that goes over pages or words counts them, but for a pin and an unpin.
+// Only an operation that goes over pages or words counts them, but for an unpin, and a pin counts its turns.
 fn far_of(op: &Op, far: u16) -> u16
     requires op { IsOp op.now }
     requires far { HasFar op.now far }
     ensures { result ≡ far_behind op.now far }
 {
     match op {
-        Op::Unmap { .. } | Op::Discard { .. } | Op::Transfer { .. } => far + 1,
+        Op::Unmap { .. } | Op::Discard { .. } | Op::Pin { .. } | Op::Transfer { .. } => far + 1,
         Op::Map { .. } | Op::Protect { .. } | Op::Load { .. } | Op::Store { .. } => 0,
-        Op::Pin { .. } | Op::Unpin { .. } | Op::Give { .. } | Op::Take { .. } => 0,
+        Op::Unpin { .. } | Op::Give { .. } | Op::Take { .. } => 0,
         Op::Get { .. } | Op::Put { .. } | Op::Mirror { .. } | Op::Look { .. } => 0,
         Op::Move { .. } | Op::Fork { .. } | Op::Exit => 0,
     }

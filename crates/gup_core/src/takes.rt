@@ -1,5 +1,5 @@
 //! A turn of an operation among all processes.
-ghost use Rattle.std.specs.Prelude.{◌≡◌, ℕ, ◌+◌, ◌<◌, ◌≤◌, ◌^◌, true, false, length, slice_get, List, Option, Some, None, IsSome, IfSome};
+ghost use Rattle.std.specs.Prelude.{◌≡◌, ℕ, ◌+◌, ◌==◌, ◌<◌, ◌≤◌, ◌^◌, ◌&&◌, true, false, length, slice_get, List, Option, Some, None, IsSome, IfSome};
 ghost use Rattle.arrayvec.specs.ArrayVec.{ArrayVec as ArrayVecValue};
 ghost use Rattle.gup_base.specs.Parts.{words_of};
 ghost use Rattle.gup_plain.specs.State.{Birth as CoreBirth};
@@ -10,7 +10,7 @@ ghost use Rattle.gup_space.specs.Space.{SpaceParts, space_of};
 ghost use Rattle.gup_handles.specs.Handles.{handles_of, unmade};
 ghost use Rattle.gup_spec_journal.specs.Place.{Doer};
 ghost use Rattle.gup_spec_turns.specs.Turn.{op_turn, failed_turn, turn_of};
-ghost use Rattle.gup_spec_turns.specs.PinTurns.{get_turn, pin_turn};
+ghost use Rattle.gup_spec_turns.specs.PinTurns.{get_turn};
 ghost use Rattle.gup_spec_turns.specs.DeviceTurns.{transfer_turn};
 ghost use Rattle.gup_spec_turns.specs.ForkTurns.{fork_turn};
 ghost use Rattle.gup_spec_turns.specs.JobPlace.{JobPlace as Place, KeepsNoJob};
@@ -19,14 +19,14 @@ ghost use Rattle.gup_op_base.specs.Far.{HasFar, far_in};
 ghost use Rattle.gup_op_base.specs.Jobs.{place_of};
 ghost use Rattle.gup_op_fork.specs.Forked.{is_over, place_after, birth_after, IsReadyAt, ShowsForking, StandsAsFork, forking_view};
 ghost use Rattle.gup_op_move.specs.Moving.{IsReadyToMove, is_over as is_moved};
-ghost use Rattle.gup_op_pins.specs.Pins.{IsWeighed, IsReadyToPin, ShowsPinning, StandsAtPage, pinning_view};
+ghost use Rattle.gup_op_pins.specs.Pins.{IsWeighed, IsReadyToPin, IsWithinPin, IsPinTurn, ShowsPinning, pinning_view};
 ghost use Rattle.gup_op_pins.specs.Held.{ShowsHeld, held_view, slots_in};
 ghost use Rattle.gup_op_devices.specs.Transfers.{IsWhole};
 ghost use Rattle.gup_op_base.specs.Said.{TellsTurn, whats_of};
 ghost use Rattle.gup_op_base.specs.Turns.{IsTurnOf, Anywhere};
 ghost use Rattle.gup_op_base.specs.Tidy.{AreNumbered, IsTidy, needs_table};
-ghost use Rattle.gup_spec_events.specs.State.{CoreState};
-ghost use Rattle.gup_spec_turns.specs.JobPlace.{place_in, unbegun};
+ghost use Rattle.gup_spec_events.specs.State.{CoreState, WalkStep};
+ghost use Rattle.gup_spec_turns.specs.JobPlace.{place_in, unbegun, in_walk};
 ghost use Rattle.gup_spec_turns.specs.Waits.{waiting_for};
 ghost use Rattle.gup_op_waits.specs.Births.{HasFailed, birth_by};
 ghost use Rattle.gup_op_waits.specs.Doers.{HasProcess, IsProcessOf};
@@ -36,14 +36,14 @@ ghost use Rattle.gup_core.specs.Goes.{ShowsAll, StandsFree, all_view, IsReady, I
 ghost use Rattle.gup_op_waits.specs.Locks.{child_in};
 
 use crate::seats::Seat;
-use gup_base::{ActorNo, HandleNo, PageNo, Parts as Moved, ProcNo, Want, Zone};
+use gup_base::{ActorNo, HandleNo, PageNo, Parts as Moved, ProcNo, Zone};
 use gup_frames::Frames;
 use gup_op_base::{Head, JobPlace};
 use gup_op_devices::transfer;
 use gup_op_fork::{Forked, fork};
 use gup_op_move::take_move;
 use gup_op_pages::take;
-use gup_op_pins::{get, give, pin, put, take_over, unpin};
+use gup_op_pins::{PinCall, get, give, pin, put, take_over, unpin};
 use gup_op_waits::{Birth, Parts, child_of, has_failed, set_birth, waits_for};
 use gup_plain::{Answer, Journal, PlainEvent, Waiting};
 use gup_script::Op;
@@ -63,11 +63,11 @@ pub fn waits_at(
     requires birth { IfSome proc (λ p. p < length parts.now.births.items) }
     requires child { (child : ℕ) → op.now ≡ Fork child → child < length parts.now.spaces.items }
     requires numbered { EachSpace AreNumbered parts.now.spaces.items }
-    ensures { (s : CoreState) (who : Doer) (far : ℕ) → ShowsParts parts.now s → who.actor ≡ actor → IsProcessOf who proc
-        → place_of seat.now.job ≡ place_in s actor → StandsAt s actor who.proc far op.now
-        → result ≡ waiting_for s who op.now }
+    ensures { (s : CoreState) (who : Doer) (k : ℕ) → ShowsParts parts.now s → who.actor ≡ actor → IsProcessOf who proc
+        → seat.now.far ≡ far_in (Some op.now) k → place_of seat.now.job ≡ place_in s actor
+        → StandsAt s actor who.proc k op.now → result ≡ waiting_for s who k op.now }
 {
-    waits_for(parts, actor, proc, seat.job, op)
+    waits_for(parts, actor, proc, seat.far, seat.job, op)
 }
 
 /// Takes a turn of the operation, before which its actor stands there, and which is of this process if it is of one. It puts
@@ -115,20 +115,18 @@ pub fn take_at(
         page,
         n,
         want,
-        ..
+        fast,
     } = op
     {
-        return take_pin(
-            parts,
-            journal,
-            head,
-            proc.unwrap(),
-            *handle,
-            *page,
-            *n,
-            *want,
-            seat.job,
-        );
+        let call = PinCall {
+            proc: proc.unwrap(),
+            handle: *handle,
+            page: *page,
+            n: *n,
+            want: *want,
+            fast: *fast,
+        };
+        return take_pin(parts, journal, head, call, seat.far, seat.job);
     }
     let over = take_single(parts, journal, head, proc, seat.far, op);
     (over, seat.job)
@@ -233,60 +231,52 @@ fn take_pin(
     parts: &mut Parts,
     journal: &mut Journal,
     head: &Head,
-    proc: ProcNo,
-    handle: HandleNo,
-    page: PageNo,
-    n: u8,
-    want: Want,
+    call: PinCall,
+    far: u16,
     place: JobPlace,
 ) -> (bool, JobPlace)
-    requires there { proc < length parts.old.spaces.items }
+    requires there { call.proc < length parts.old.spaces.items }
     requires actor { head.now.actor < length parts.old.taken.items }
     requires tidy { EachSpace (IsTidy (frames_of parts.old.frames)) parts.old.spaces.items }
-    requires ready { (space : SpaceParts) (pages : ArrayVecValue ℕ) → slice_get parts.old.spaces.items proc ≡ Some space
+    requires ready { (space : SpaceParts) (pages : ArrayVecValue ℕ) → slice_get parts.old.spaces.items call.proc ≡ Some space
         → slice_get parts.old.taken.items head.now.actor ≡ Some pages
-        → IsReadyToPin (frames_of parts.old.frames) (page + length pages.items) want (place_of place) (space_of space) }
+        → IsReadyToPin (frames_of parts.old.frames) pages.items (call.page + length pages.items) call.n call.want
+        (call.fast && far == 0) (place_of place) (space_of space) }
     requires few { (f : ℕ) → (frames_of parts.old.frames).count f < 2 ^ 40 }
-    requires unmade { handles_of parts.old.handles handle ≡ unmade }
+    requires unmade { handles_of parts.old.handles call.handle ≡ unmade }
     requires taken { (pages : ArrayVecValue ℕ) → slice_get parts.old.taken.items head.now.actor ≡ Some pages
-        → length pages.items < n }
-    requires pinned { (space : SpaceParts) (pages : ArrayVecValue ℕ) → slice_get parts.old.spaces.items proc ≡ Some space
-        → slice_get parts.old.taken.items head.now.actor ≡ Some pages → 0 < length pages.items
-        → (space_of space).has_pinned ≡ true }
-    requires most { n ≤ 16 }
-    requires range { page + n ≤ 2 ^ 35 }
+        → IsWithinPin call.n (length pages.items) (place_of place) }
+    requires most { call.n ≤ 16 }
+    requires range { call.page + call.n ≤ 2 ^ 35 }
+    // scripts have no pin that walks yet
+    requires slow { call.fast ≡ false }
+    requires unwalked { (sequence : ℕ) (step : WalkStep) → place_of place ≡ in_walk sequence step → ⊥ }
     requires room { 3 ≤ journal.old.room }
     ensures spaces { length parts.new.spaces.items ≡ length parts.old.spaces.items }
     ensures taken { length parts.new.taken.items ≡ length parts.old.taken.items }
     ensures births { parts.new.births ≡ parts.old.births }
     ensures stores { parts.new.stores ≡ parts.old.stores }
-    ensures other_spaces { (q : ℕ) → (q ≡ proc → ⊥)
+    ensures other_spaces { (q : ℕ) → (q ≡ call.proc → ⊥)
         → slice_get parts.new.spaces.items q ≡ slice_get parts.old.spaces.items q }
     ensures others_taken { (b : ℕ) → (b ≡ head.now.actor → ⊥)
         → slice_get parts.new.taken.items b ≡ slice_get parts.old.taken.items b }
     ensures turn { TellsTurn head.now journal.old journal.new result.0
         (λ said. (old new : SpaceParts) (was now : ArrayVecValue ℕ)
-        → slice_get parts.old.spaces.items proc ≡ Some old → slice_get parts.new.spaces.items proc ≡ Some new
+        → slice_get parts.old.spaces.items call.proc ≡ Some old → slice_get parts.new.spaces.items call.proc ≡ Some new
         → slice_get parts.old.taken.items head.now.actor ≡ Some was
         → slice_get parts.new.taken.items head.now.actor ≡ Some now
-        → IsTurnOf (ShowsPinning head.now.actor proc) (StandsAtPage head.now.actor proc handle page n want (length was.items))
+        → IsPinTurn head.now.actor call (length was.items) far
         (pinning_view parts.old.frames old parts.old.handles was.items (place_of place))
-        (pinning_view parts.new.frames new parts.new.handles now.items (place_of result.1))
-        (λ s. pin_turn s head.now.actor proc handle page n want) (whats_of said)) }
+        (pinning_view parts.new.frames new parts.new.handles now.items (place_of result.1)) (whats_of said)) }
 {
-    let far = parts.taken[head.actor.get() as usize].len() as u16;
     pin(
-        &mut parts.spaces[proc.get() as usize],
+        &mut parts.spaces[call.proc.get() as usize],
         &mut parts.frames,
         &mut parts.handles,
         &mut parts.taken[head.actor.get() as usize],
         journal,
         head,
-        proc,
-        handle,
-        page,
-        n,
-        want,
+        call,
         far,
         place,
     )

@@ -22,7 +22,7 @@ use Rattle.gup_spec_events.specs.State.{CoreState, Job, idle, marking, moving, f
 use Rattle.gup_spec_events.specs.Event.{CoreEvent, bias, begin_fork, count_page, pass_page, end_fork, copies_page, run}
 use Rattle.gup_spec_turns.specs.CoreTurn.{CoreTurn}
 use Rattle.gup_spec_turns.specs.ForkTurns.{first_behind, next_page, next_turn, page_turn, share_turn, fork_turn}
-use Rattle.gup_spec_turns.specs.JobPlace.{JobPlace, copying_place, job_place, place_in, KeepsFrame, StandsFork, unbegun, from_page, at_page, wants_frame, at_word, moving_page}
+use Rattle.gup_spec_turns.specs.JobPlace.{JobPlace, copying_place, job_place, place_in, KeepsFrame, StandsFork, unbegun, from_page, at_page, wants_frame, at_word}
 use Rattle.gup_op_base.specs.declared.jobs.JobPlace.{JobPlace as KeptPlace}
 use Rattle.gup_op_base.specs.declared.jobs.JobPlace.TheVariants.{Unbegun, From, At, Wanting, Copying}
 use Rattle.gup_op_base.specs.Jobs.{place_of}
@@ -69,7 +69,7 @@ is_copying (from_page page) = false
 is_copying (at_page page) = false
 is_copying (wants_frame page) = true
 is_copying (at_word page word to) = true
-is_copying (moving_page page e count) = false
+is_copying place = false
 
 not_copying : (page word : ℕ) (prepared : Option ℕ) (place : JobPlace) → is_copying place ≡ false → copying_place page word prepared ≡ place → ⊥
 not_copying page word None place other is = false≢true (sym other ∙ ap is_copying (sym is))

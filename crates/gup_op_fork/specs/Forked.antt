@@ -7,7 +7,7 @@ use Rattle.gup_frames.specs.Frames.{FramesValue, FrameLists, frames_of, IsFrame}
 use Rattle.gup_space.specs.Space.{SpaceValue, SpaceParts, space_of}
 use Rattle.gup_space.specs.Shows.{ShowsFrames, ShowsSpace}
 use Rattle.gup_spec_events.specs.State.{CoreState}
-use Rattle.gup_spec_turns.specs.JobPlace.{JobPlace, place_in, KeepsFrame, StandsFork, unbegun, from_page, at_page, wants_frame, at_word, moving_page}
+use Rattle.gup_spec_turns.specs.JobPlace.{JobPlace, place_in, KeepsFrame, StandsFork, unbegun, from_page, at_page, wants_frame, at_word}
 use Rattle.gup_op_base.specs.declared.jobs.JobPlace.{JobPlace as KeptPlace}
 use Rattle.gup_op_base.specs.declared.jobs.JobPlace.TheVariants.{Unbegun}
 use Rattle.gup_op_fork.specs.declared.forks.Forked.{Forked}
@@ -30,7 +30,7 @@ IsReadyAt frames a (at_page page) parent child = (parent.structure ≡ Some a) �
 IsReadyAt frames a (wants_frame page) parent child = (parent.structure ≡ Some a) × IsCountedIn page parent child
 IsReadyAt frames a (at_word page word to) parent child =
     (parent.structure ≡ Some a) × IsCountedIn page parent child × IsCopyOf frames page to parent × (word ≤ words)
-IsReadyAt frames a (moving_page page e count) parent child = ⊥
+IsReadyAt frames a place parent child = ⊥
 
 -- whether the fork is over, with a child that is born or has failed
 abbrev pub is_over : Forked → Bool

@@ -19,18 +19,18 @@ use Rattle.gup_space.proofs.After.{flagging, pinning, making}
 use Rattle.gup_space.specs.Shows.{Change, ShowsFrames, ShowsSpace}
 use Rattle.gup_space.proofs.ShowsLemmas.{shows_frames, shows_space, events_lead}
 use Rattle.gup_handles.specs.Handles.{HandleValue, HandlesValue, unmade, held}
-use Rattle.gup_spec_events.specs.State.{CoreState, Taken as TakenPage, Job, idle, moving, Counted, unread, one, more}
+use Rattle.gup_spec_events.specs.State.{CoreState, Taken as TakenPage, Job, idle, moving, walking, Counted, unread, one, more}
 use Rattle.gup_spec_events.specs.Event.{CoreEvent, happens, pin_page, make_handle, writes_taken, objects_taken, taken_frames as frames_taken, run, entry_of, counted_as, take_frame, put_entry, clear_entry, count_moved, place_frame, restore_entry}
 use Rattle.gup_spec_events.specs.Invariant.{frame_of}
 use Rattle.gup_spec_events.specs.Fault.{Fault, events_of, refusal_of}
 use Rattle.gup_fault.specs.Faults.{IsFault}
 use Rattle.gup_spec_turns.specs.CoreTurn.{zones_of, entry_in}
-use Rattle.gup_spec_turns.specs.PinTurns.{raises, makes_if, pins, ends_pin, pin_turn, pin_turn_by, moves_first, pins_behind, clears_behind, clears_or_pins, ends_moved, pins_moved, moved_turn, pin_turn_in}
+use Rattle.gup_spec_turns.specs.PinTurns.{raises, makes_if, pins, ends_pin, pin_turn, pin_turn_by, moves_first, pins_behind, clears_behind, clears_or_pins, ends_moved, pins_moved, moved_turn, pin_turn_in, begins_or_pins}
 use Rattle.gup_handles.specs.Shows.{IsShown, ShowsHandles}
 use Rattle.gup_op_pins.specs.Pins.{PinningView, ShowsPinning, StandsAtPage, raised, fault_to_pin, IsMade, IsEnded, IsTaken, tried_whats, ended_whats}
 use Rattle.gup_spec_turns.specs.MoveTurns.{count_turn}
 use Rattle.gup_spec_turns.specs.JobPlace.{job_place, unbegun, moving_page}
-use Rattle.gup_spec_turns.specs.PinPlace.{StandsAtPage as IsAtPage}
+use Rattle.gup_spec_turns.specs.PinPlace.{HasTaken, HasPages, StandsAtPage as IsAtPage}
 use Rattle.gup_move.specs.Moves.{with_table, AreMoveEvents, places}
 use Rattle.gup_op_base.proofs.Searching.{free_agrees}
 use Rattle.gup_op_base.specs.Tidy.{IsTidy}
@@ -38,46 +38,58 @@ use Rattle.gup_op_base.specs.Turns.{Leads}
 use Rattle.gup_op_base.proofs.Leading.{ch, leads_alike, run_behind}
 use Rattle.gup_op_pins.proofs.Readying.{IsLeft, pin_fault_same, fault_raised, pin_fault_leaves}
 
--- has-pinned set before the first page
-pub raised_tidy : (F : FramesValue) (S : SpaceValue) (far : ℕ) → IsTidy F S → IsTidy F (raised far S)
-raised_tidy F S zero tidy =
-    record { numbered = tidy.numbered; mapped = tidy.mapped; there = tidy.there; counted = tidy.counted; marked = tidy.marked }
-raised_tidy F S (suc far) tidy = tidy
-
-pub raised_unlocked : (S : SpaceValue) (far : ℕ) → S.table ≡ None → (raised far S).table ≡ None
-raised_unlocked S zero unlocked = unlocked
-raised_unlocked S (suc far) unlocked = unlocked
-
-raise_frames : (F : FramesValue) (a p far : ℕ) (s : CoreState) → ShowsFrames F s → ShowsFrames F (run s (raises a p far))
-raise_frames F a p zero s h = shows_frames p F s (flagging a) h
-raise_frames F a p (suc far) s h = h
-
-raise_space : (S : SpaceValue) (a p far : ℕ) (s : CoreState) → ShowsSpace p S s → ShowsSpace p (raised far S) (run s (raises a p far))
-raise_space S a p zero s h = shows_space p S s (flagging a) h
-raise_space S a p (suc far) s h = h
-
-raise_flags : (a p far : ℕ) (s : CoreState) → (0 < far → s.has_pinned p ≡ true) → (run s (raises a p far)).has_pinned p ≡ true
-raise_flags a p zero s before = grind (arith, nat_tests)
-raise_flags a p (suc far) s before = before (omega arith)
-
-raise_handle : (a p far : ℕ) (s : CoreState) → (run s (raises a p far)).handle ≡ s.handle
-raise_handle a p zero s = refl
-raise_handle a p (suc far) s = refl
-
-raise_pinned : (a p far : ℕ) (s : CoreState) → (run s (raises a p far)).pinned ≡ s.pinned
-raise_pinned a p zero s = refl
-raise_pinned a p (suc far) s = refl
-
-raise_got : (a p far : ℕ) (s : CoreState) → (run s (raises a p far)).got ≡ s.got
-raise_got a p zero s = refl
-raise_got a p (suc far) s = refl
-
-raise_taken : (a p far : ℕ) (s : CoreState) → (run s (raises a p far)).taken ≡ s.taken
-raise_taken a p zero s = refl
-raise_taken a p (suc far) s = refl
-
 put_own : {X : Type 0} (k : ℕ) (x : X) (f : ℕ → X) → put k x f k ≡ x
 put_own k x f = grind (arith, nat_tests)
+
+-- has-pinned set before the first page
+pub raised_tidy : (F : FramesValue) (S : SpaceValue) (got : ℕ) (fast : Bool) → IsTidy F S → IsTidy F (raised got fast S)
+raised_tidy F S zero false tidy =
+    record { numbered = tidy.numbered; mapped = tidy.mapped; there = tidy.there; counted = tidy.counted; marked = tidy.marked }
+raised_tidy F S zero true tidy = tidy
+raised_tidy F S (suc got) fast tidy = tidy
+
+pub raised_unlocked : (S : SpaceValue) (got : ℕ) (fast : Bool) → S.table ≡ None → (raised got fast S).table ≡ None
+raised_unlocked S zero false unlocked = unlocked
+raised_unlocked S zero true unlocked = unlocked
+raised_unlocked S (suc got) fast unlocked = unlocked
+
+raise_frames : (F : FramesValue) (a p got : ℕ) (fast : Bool) (s : CoreState) → ShowsFrames F s → ShowsFrames F (run s (raises a p got fast))
+raise_frames F a p zero false s h = shows_frames p F s (flagging a) h
+raise_frames F a p zero true s h = h
+raise_frames F a p (suc got) fast s h = h
+
+raise_space : (S : SpaceValue) (a p got : ℕ) (fast : Bool) (s : CoreState) → ShowsSpace p S s → ShowsSpace p (raised got fast S) (run s (raises a p got fast))
+raise_space S a p zero false s h = shows_space p S s (flagging a) h
+raise_space S a p zero true s h = h
+raise_space S a p (suc got) fast s h = h
+
+-- a slow turn of a pin that walks is none of its first ones
+raise_flags : (a p got far : ℕ) (fast : Bool) (s : CoreState) → (fast && far == 0) ≡ false → (0 < got + far → s.has_pinned p ≡ true) → (run s (raises a p got fast)).has_pinned p ≡ true
+raise_flags a p zero far false s slow before = put_own p true s.has_pinned
+raise_flags a p zero zero true s slow before = absurd (cc)
+raise_flags a p zero (suc far) true s slow before = before (omega arith)
+raise_flags a p (suc got) far fast s slow before = before (omega arith)
+
+-- what only the flag's event changes
+raise_handle : (a p got : ℕ) (fast : Bool) (s : CoreState) → (run s (raises a p got fast)).handle ≡ s.handle
+raise_handle a p zero false s = refl
+raise_handle a p zero true s = refl
+raise_handle a p (suc got) fast s = refl
+
+raise_pinned : (a p got : ℕ) (fast : Bool) (s : CoreState) → (run s (raises a p got fast)).pinned ≡ s.pinned
+raise_pinned a p zero false s = refl
+raise_pinned a p zero true s = refl
+raise_pinned a p (suc got) fast s = refl
+
+raise_got : (a p got : ℕ) (fast : Bool) (s : CoreState) → (run s (raises a p got fast)).got ≡ s.got
+raise_got a p zero false s = refl
+raise_got a p zero true s = refl
+raise_got a p (suc got) fast s = refl
+
+raise_taken : (a p got : ℕ) (fast : Bool) (s : CoreState) → (run s (raises a p got fast)).taken ≡ s.taken
+raise_taken a p zero false s = refl
+raise_taken a p zero true s = refl
+raise_taken a p (suc got) fast s = refl
 
 -- handles are shown by the same pins, pinned pages and references
 pub shows_same : (H : HandlesValue) (s t : CoreState) → t.handle ≡ s.handle → t.pinned ≡ s.pinned → t.got ≡ s.got → ShowsHandles H s → ShowsHandles H t
@@ -236,61 +248,65 @@ ends_lead old new es a p handle n (suc far) want answer s t same frames space sh
 
 -- ---- where the pin stands
 
-idle_job : (s : CoreState) (a p page : ℕ) (want : Want) (job : Job) (prepared : Option ℕ) → IsAtPage s a p page want job → job_place job prepared ≡ unbegun → job ≡ idle
-idle_job s a p page want idle prepared at place = refl
-idle_job s a p page want (moving q g e allowed count) prepared at place = absurd (cc)
-idle_job s a p page want job prepared at place = absurd at
+idle_job : (s : CoreState) (a p page n got : ℕ) (want : Want) (fast : Bool) (job : Job) (prepared : Option ℕ) → IsAtPage s a p page n got want fast job → job_place job prepared ≡ unbegun → job ≡ idle
+idle_job s a p page n got want fast idle prepared at place = refl
+idle_job s a p page n got want fast (moving q g e allowed count) prepared at place = absurd (cc)
+idle_job s a p page n got want fast (walking q write long sequence step) prepared at place = absurd (cc)
+idle_job s a p page n got want fast job prepared at place = absurd at
 
-moving_job : (s : CoreState) (a p page g : ℕ) (want : Want) (e : Entry) (count : Counted) (job : Job) (prepared : Option ℕ) → IsAtPage s a p page want job → job_place job prepared ≡ moving_page g e count → job ≡ moving p page e (zones_of want) count
-moving_job s a p page g want e count idle prepared at place = absurd (cc)
-moving_job s a p page g want e count (moving q h d allowed n) prepared at place =
+moving_job : (s : CoreState) (a p page n got g : ℕ) (want : Want) (fast : Bool) (e : Entry) (count : Counted) (job : Job) (prepared : Option ℕ) → IsAtPage s a p page n got want fast job → job_place job prepared ≡ moving_page g e count → job ≡ moving p page e (zones_of want) count
+moving_job s a p page n got g want fast e count idle prepared at place = absurd (cc)
+moving_job s a p page n got g want fast e count (walking q write long sequence step) prepared at place = absurd (cc)
+moving_job s a p page n got g want fast e count (moving q h d allowed k) prepared at place =
     let entries : d ≡ e = cc in
-    let counts : n ≡ count = cc in
-    ap (λ (k : ℕ). moving k h d allowed n) at.0 ∙ ap (λ (k : ℕ). moving p k d allowed n) at.1
-    ∙ ap (λ (zones : Allowed). moving p page d zones n) at.2 ∙ ap (λ (x : Entry). moving p page x (zones_of want) n) entries
-    ∙ ap (λ (k : Counted). moving p page e (zones_of want) k) counts
-moving_job s a p page g want e count job prepared at place = absurd at
+    let counts : k ≡ count = cc in
+    ap (λ (i : ℕ). moving i h d allowed k) at.0 ∙ ap (λ (i : ℕ). moving p i d allowed k) at.1
+    ∙ ap (λ (zones : Allowed). moving p page d zones k) at.2 ∙ ap (λ (x : Entry). moving p page x (zones_of want) k) entries
+    ∙ ap (λ (i : Counted). moving p page e (zones_of want) i) counts
+moving_job s a p page n got g want fast e count job prepared at place = absurd at
 
--- of a page that it has cleared
-later_is : (view : PinningView) (a p handle page n far g : ℕ) (want : Want) (e : Entry) (count : Counted) (s : CoreState) → ShowsPinning a p view s → StandsAtPage a p handle page n want far s → view.place ≡ moving_page g e count
-    → pin_turn s a p handle page n want ≡ moved_turn s a p handle (page + far) n far want e count
-later_is view a p handle page n far g want e count s shown stands place =
-    ap (λ (got : ℕ). pin_turn_in s a p handle page n got want (s.job a)) stands.at.taken.many
-    ∙ ap (pin_turn_in s a p handle page n far want) (moving_job s a p (page + far) g want e count (s.job a) (s.prepared a) stands.at.at (shown.place ∙ place))
+-- the pages of a pin that doesn't walk
+idle_pages : (p page got : ℕ) (want : Want) (taken : List TakenPage) (job : Job) → job ≡ idle → HasPages p page want got taken job → HasTaken p page want got taken
+idle_pages p page got want taken job is pages = subst (HasPages p page want got taken) is pages
+
+moving_pages : (p page got q g : ℕ) (want : Want) (e : Entry) (zones : Allowed) (count : Counted) (taken : List TakenPage) (job : Job) → job ≡ moving q g e zones count → HasPages p page want got taken job → HasTaken p page want got taken
+moving_pages p page got q g want e zones count taken job is pages = subst (HasPages p page want got taken) is pages
 
 -- a fault of a page of a pin that stands at this one
-abbrev pub PinFault : (F F1 : FramesValue) (S S2 : SpaceValue) (page far : ℕ) → Want → Option Answer → Type 0
-PinFault F F1 S S2 page far want denied =
-    IsFault (ch F F1 (raised far S) S2) denied (λ b q. fault_to_pin F (raised far S) b q page want.write (zones_of want))
+abbrev pub PinFault : (F F1 : FramesValue) (S S2 : SpaceValue) (page got : ℕ) → (fast : Bool) → Want → Option Answer → Type 0
+PinFault F F1 S S2 page got fast want denied =
+    IsFault (ch F F1 (raised got fast S) S2) denied (λ b q. fault_to_pin F (raised got fast S) b q page want.write (zones_of want))
 
 -- as the code names the process
-pub fault_at : (F F1 : FramesValue) (S S1 S2 : SpaceValue) (page far : ℕ) (want : Want) (denied : Option Answer) → S1 ≡ raised far S
-    → IsFault (ch F F1 S1 S2) denied (λ b q. fault_to_pin F S1 b q page want.write (zones_of want)) → PinFault F F1 S S2 page far want denied
-fault_at F F1 S S1 S2 page far want denied space h =
+pub fault_at : (F F1 : FramesValue) (S S1 S2 : SpaceValue) (page got : ℕ) (fast : Bool) (want : Want) (denied : Option Answer) → S1 ≡ raised got fast S
+    → IsFault (ch F F1 S1 S2) denied (λ b q. fault_to_pin F S1 b q page want.write (zones_of want)) → PinFault F F1 S S2 page got fast want denied
+fault_at F F1 S S1 S2 page got fast want denied space h =
     subst (λ (x : SpaceValue). IsFault (ch F F1 x S2) denied (λ b q. fault_to_pin F x b q page want.write (zones_of want))) space h
 
 -- the pin stands at the page after those that it has taken
-turn_is : (F : FramesValue) (S : SpaceValue) (a p handle page n far : ℕ) (want : Want) (s : CoreState) → length (s.taken a) ≡ far → s.job a ≡ idle → ShowsFrames F s → ShowsSpace p S s
-    → pin_turn s a p handle page n want ≡ pin_turn_by (fault_to_pin F (raised far S) a p (page + far) want.write (zones_of want)) s a p handle (page + far) n far want
-turn_is F S a p handle page n far want s many job frames space =
-    ap (λ (got : ℕ). pin_turn_in s a p handle page n got want (s.job a)) many
-    ∙ ap (pin_turn_in s a p handle page n far want) job
-    ∙ ap (λ (x : Fault). pin_turn_by x s a p handle (page + far) n far want)
-    (pin_fault_same F S a p (page + far) want.write (zones_of want) s frames space ∙ sym (fault_raised F S a p (page + far) far want.write (zones_of want)))
+turn_is : (F : FramesValue) (S : SpaceValue) (a p handle page n got far : ℕ) (want : Want) (fast : Bool) (s : CoreState) → (fast && far == 0) ≡ false → length (s.taken a) ≡ got → s.job a ≡ idle → ShowsFrames F s → ShowsSpace p S s
+    → pin_turn s a p handle page n want fast far ≡ pin_turn_by (fault_to_pin F (raised got fast S) a p (page + got) want.write (zones_of want)) s a p handle (page + got) n got want fast
+turn_is F S a p handle page n got far want fast s slow many job frames space =
+    ap (λ (k : ℕ). pin_turn_in s a p handle page n k want fast far (s.job a)) many
+    ∙ ap (pin_turn_in s a p handle page n got want fast far) job
+    ∙ ap (λ (begins : Bool). begins_or_pins begins s a p handle page n got want fast) slow
+    ∙ ap (λ (x : Fault). pin_turn_by x s a p handle (page + got) n got want fast)
+    (pin_fault_same F S a p (page + got) want.write (zones_of want) s frames space ∙ sym (fault_raised F S a p (page + got) got fast want.write (zones_of want)))
 
-raise_job : (a p far : ℕ) (s : CoreState) → (run s (raises a p far)).job ≡ s.job
-raise_job a p zero s = refl
-raise_job a p (suc far) s = refl
+raise_job : (a p got : ℕ) (fast : Bool) (s : CoreState) → (run s (raises a p got fast)).job ≡ s.job
+raise_job a p zero false s = refl
+raise_job a p zero true s = refl
+raise_job a p (suc got) fast s = refl
 
 -- ---- the first turn of a page
 
-by_fault : (fault : Fault) (a p handle page n far : ℕ) (want : Want) (s : CoreState) (new : PinningView) (whats : List What) → refusal_of fault ≡ None
-    → Leads (ShowsPinning a p) new s (pins s (raises a p far ++ events_of fault) a p handle page n want (far + 1 == n)) whats
-    → Leads (ShowsPinning a p) new s (pin_turn_by fault s a p handle page n far want) whats
-by_fault (Err answer) a p handle page n far want s new whats refused h = absurd (cc)
-by_fault (Ok before) a p handle page n far want s new whats refused h = h
+by_fault : (fault : Fault) (a p handle page n got : ℕ) (want : Want) (fast : Bool) (s : CoreState) (new : PinningView) (whats : List What) → refusal_of fault ≡ None
+    → Leads (ShowsPinning a p) new s (pins s (raises a p got fast ++ events_of fault) a p handle page n want (got + 1 == n)) whats
+    → Leads (ShowsPinning a p) new s (pin_turn_by fault s a p handle page n got want fast) whats
+by_fault (Err answer) a p handle page n got want fast s new whats refused h = absurd (cc)
+by_fault (Ok before) a p handle page n got want fast s new whats refused h = h
 
-module _ (old new : PinningView) (F1 : FramesValue) (S2 : SpaceValue) (a p handle page n far g : ℕ) (here : g ≡ page + far) (want : Want) (unlocked : old.space.table ≡ None) (begun : old.place ≡ unbegun) (s : CoreState) (shown : ShowsPinning a p old s) (stands : StandsAtPage a p handle page n want far s) where
+module _ (old new : PinningView) (F1 : FramesValue) (S2 : SpaceValue) (a p handle page n got far g : ℕ) (here : g ≡ page + got) (want : Want) (fast : Bool) (slow : (fast && far == 0) ≡ false) (unlocked : old.space.table ≡ None) (begun : old.place ≡ unbegun) (s : CoreState) (shown : ShowsPinning a p old s) (stands : StandsAtPage a p handle page n want fast got far s) where
   abbrev F : FramesValue
   F = old.frames
 
@@ -298,43 +314,46 @@ module _ (old new : PinningView) (F1 : FramesValue) (S2 : SpaceValue) (a p handl
   S = old.space
 
   abbrev fault : Fault
-  fault = fault_to_pin F (raised far S) a p g want.write (zones_of want)
+  fault = fault_to_pin F (raised got fast S) a p g want.write (zones_of want)
 
   abbrev t0 : CoreState
-  t0 = run s (raises a p far)
+  t0 = run s (raises a p got fast)
 
   abbrev t1 : CoreState
   t1 = run t0 (events_of fault)
 
   job_here : s.job a ≡ idle
-  job_here = idle_job s a p (page + far) want (s.job a) (s.prepared a) stands.at.at (shown.place ∙ begun)
+  job_here = idle_job s a p (page + got) n got want fast (s.job a) (s.prepared a) stands.at.at (shown.place ∙ begun)
 
-  turn_here : pin_turn s a p handle page n want ≡ pin_turn_by fault s a p handle g n far want
+  pages_here : HasTaken p page want got (s.taken a)
+  pages_here = idle_pages p page got want (s.taken a) (s.job a) job_here stands.at.taken
+
+  turn_here : pin_turn s a p handle page n want fast far ≡ pin_turn_by fault s a p handle g n got want fast
   turn_here =
-      subst (λ (k : ℕ). pin_turn s a p handle page n want ≡ pin_turn_by (fault_to_pin F (raised far S) a p k want.write (zones_of want)) s a p handle k n far want) (sym here)
-      (turn_is F S a p handle page n far want s stands.at.taken.many job_here shown.frames shown.space)
+      subst (λ (k : ℕ). pin_turn s a p handle page n want fast far ≡ pin_turn_by (fault_to_pin F (raised got fast S) a p k want.write (zones_of want)) s a p handle k n got want fast) (sym here)
+      (turn_is F S a p handle page n got far want fast s slow pages_here.many job_here shown.frames shown.space)
 
   -- after the events of the fault
-  module _ (faults : PinFault F F1 S S2 g far want None) where
-    same_run : run s (raises a p far ++ events_of fault) ≡ t1
-    same_run = run_behind s (raises a p far) (events_of fault)
+  module _ (faults : PinFault F F1 S S2 g got fast want None) where
+    same_run : run s (raises a p got fast ++ events_of fault) ≡ t1
+    same_run = run_behind s (raises a p got fast) (events_of fault)
 
     shows : ShowsFrames F1 t1 × ShowsSpace p S2 t1
     shows =
-        events_lead faults.events t0 a p (raise_frames F a p far s shown.frames) (raise_space S a p far s shown.space)
-        ((raise_space S a p far s shown.space).table ∙ raised_unlocked S far unlocked)
+        events_lead faults.events t0 a p (raise_frames F a p got fast s shown.frames) (raise_space S a p got fast s shown.space)
+        ((raise_space S a p got fast s shown.space).table ∙ raised_unlocked S got fast unlocked)
 
     left : IsLeft a t0 t1
-    left = pin_fault_leaves F (raised far S) a p g want.write (zones_of want) t0
+    left = pin_fault_leaves F (raised got fast S) a p g want.write (zones_of want) t0
 
     taken_same : t1.taken a ≡ s.taken a
-    taken_same = ap (λ (f : ℕ → List TakenPage). f a) (left.taken ∙ raise_taken a p far s)
+    taken_same = ap (λ (f : ℕ → List TakenPage). f a) (left.taken ∙ raise_taken a p got fast s)
 
     job_then : t1.job a ≡ idle
-    job_then = left.idles (ap (λ (f : ℕ → Job). f a) (raise_job a p far s) ∙ job_here)
+    job_then = left.idles (ap (λ (f : ℕ → Job). f a) (raise_job a p got fast s) ∙ job_here)
 
     pins_then : ShowsHandles old.pins t1
-    pins_then = shows_same old.pins s t1 (left.handle ∙ raise_handle a p far s) (left.pinned ∙ raise_pinned a p far s) (left.got ∙ raise_got a p far s) shown.pins
+    pins_then = shows_same old.pins s t1 (left.handle ∙ raise_handle a p got fast s) (left.pinned ∙ raise_pinned a p got fast s) (left.got ∙ raise_got a p got fast s) shown.pins
 
     -- which page is to be moved first, is read of the frames
     moves_same : (m : Bool) → (want.long && nat_lt (entry_in (S2.entry g)).frame F1.movable) ≡ m → moves_first t1 want (entry_in (t1.entry p g)) ≡ m
@@ -343,39 +362,39 @@ module _ (old new : PinningView) (F1 : FramesValue) (S2 : SpaceValue) (a p handl
         ∙ ap (λ (k : ℕ). want.long && nat_lt (entry_in (S2.entry g)).frame k) shows.0.movable ∙ is
 
     goes : (whats : List What) (m : Bool) → (want.long && nat_lt (entry_in (S2.entry g)).frame F1.movable) ≡ m
-        → Leads (ShowsPinning a p) new s (clears_or_pins m (raises a p far ++ events_of fault) a p handle g n want (far + 1 == n) (entry_in ((run s (raises a p far ++ events_of fault)).entry p g))) whats
-        → Leads (ShowsPinning a p) new s (pin_turn s a p handle page n want) whats
+        → Leads (ShowsPinning a p) new s (clears_or_pins m (raises a p got fast ++ events_of fault) a p handle g n want (got + 1 == n) (entry_in ((run s (raises a p got fast ++ events_of fault)).entry p g))) whats
+        → Leads (ShowsPinning a p) new s (pin_turn s a p handle page n want fast far) whats
     goes whats m is h =
         leads_alike turn_here
-        (by_fault fault a p handle g n far want s new whats (faults.refused a p)
+        (by_fault fault a p handle g n got want fast s new whats (faults.refused a p)
         (leads_alike
-        (ap (λ (b : Bool). clears_or_pins b (raises a p far ++ events_of fault) a p handle g n want (far + 1 == n) (entry_in ((run s (raises a p far ++ events_of fault)).entry p g)))
+        (ap (λ (b : Bool). clears_or_pins b (raises a p got fast ++ events_of fault) a p handle g n want (got + 1 == n) (entry_in ((run s (raises a p got fast ++ events_of fault)).entry p g)))
         (ap (λ (u : CoreState). moves_first u want (entry_in (u.entry p g))) same_run ∙ moves_same m is)) h))
 
     -- the page is pinned
     pub page_pinned : (want.long && nat_lt (entry_in (S2.entry g)).frame F1.movable) ≡ false
         → IsTaken F1 new.frames S2 new.space g (entry_in (S2.entry g)).frame
-        → IsMade (far + 1 == n) old.pins new.pins old.taken new.taken a handle (entry_in (S2.entry g)).frame want.write → new.place ≡ unbegun
-        → Leads (ShowsPinning a p) new s (pin_turn s a p handle page n want) (tried_whats (far + 1 == n) a p handle g n want.write)
+        → IsMade (got + 1 == n) old.pins new.pins old.taken new.taken a handle (entry_in (S2.entry g)).frame want.write → new.place ≡ unbegun
+        → Leads (ShowsPinning a p) new s (pin_turn s a p handle page n want fast far) (tried_whats (got + 1 == n) a p handle g n want.write)
     page_pinned stays made handles over =
-        let es : List CoreEvent = raises a p far ++ events_of fault in
+        let es : List CoreEvent = raises a p got fast ++ events_of fault in
         let at = ap (λ (u : CoreState). entry_in (u.entry p g)) same_run in
-        goes (tried_whats (far + 1 == n) a p handle g n want.write) false stays
-        (leads_alike (ap (pins_behind es a p handle g n want (far + 1 == n)) at)
-        (pins_lead new es a p handle g n want (far + 1 == n) (entry_in (t1.entry p g)) s t1 same_run
-        (take_page old new F1 S2 a p handle g (entry_in (S2.entry g)).frame want (far + 1 == n) (entry_in (t1.entry p g)) t1
+        goes (tried_whats (got + 1 == n) a p handle g n want.write) false stays
+        (leads_alike (ap (pins_behind es a p handle g n want (got + 1 == n)) at)
+        (pins_lead new es a p handle g n want (got + 1 == n) (entry_in (t1.entry p g)) s t1 same_run
+        (take_page old new F1 S2 a p handle g (entry_in (S2.entry g)).frame want (got + 1 == n) (entry_in (t1.entry p g)) t1
         (ap (λ (o : Option Entry). (entry_in o).frame) (shows.1.entry g)) made.frames_are made.space_is handles shows.0 shows.1 pins_then
         (ap frames_taken taken_same ∙ shown.taken)
-        (ap (λ (f : ℕ → Bool). f p) left.has_pinned ∙ raise_flags a p far s stands.flagged)
-        (λ k x found. (stands.at.taken.each k x (ap (λ (l : List TakenPage). slice_get l k) (sym taken_same) ∙ found)).2) job_then over)))
+        (ap (λ (f : ℕ → Bool). f p) left.has_pinned ∙ raise_flags a p got far fast s slow stands.flagged)
+        (λ k x found. (pages_here.each k x (ap (λ (l : List TakenPage). slice_get l k) (sym taken_same) ∙ found)).2) job_then over)))
 
     -- or its entry is cleared
     pub page_cleared : (e : Entry) (S3 : SpaceValue) → (want.long && nat_lt (entry_in (S2.entry g)).frame F1.movable) ≡ true → S2.entry g ≡ Some e
         → AreMoveEvents (with_table (Some a) (ch F1 F1 S2 S3)) (λ q. clear_entry a q g e (zones_of want) ∷ [])
         → new.frames ≡ F1 → new.space ≡ record S3 { table = Some a } → new.pins ≡ old.pins → new.taken ≡ old.taken → new.place ≡ moving_page g e unread
-        → Leads (ShowsPinning a p) new s (pin_turn s a p handle page n want) (Silent ∷ [])
+        → Leads (ShowsPinning a p) new s (pin_turn s a p handle page n want fast far) (Silent ∷ [])
     page_cleared e S3 first there events frames space pins taken place =
-        let es : List CoreEvent = raises a p far ++ events_of fault in
+        let es : List CoreEvent = raises a p got fast ++ events_of fault in
         let d : Entry = entry_in ((run s es).entry p g) in
         let is_e : d ≡ e = ap (λ (u : CoreState). entry_in (u.entry p g)) same_run ∙ ap entry_in (shows.1.entry g ∙ there) in
         let t2 : CoreState = happens t1 (clear_entry a p g e (zones_of want)) in
@@ -396,42 +415,51 @@ module _ (old new : PinningView) (F1 : FramesValue) (S2 : SpaceValue) (a p handl
         }))
 
   -- a page that is denied
-  pub page_denied : (answer : Answer) → PinFault F F1 S S2 g far want (Some answer) → new.frames ≡ F1 → new.space ≡ S2
-      → IsEnded far old.pins new.pins old.taken new.taken a handle want.write → new.place ≡ unbegun
-      → Leads (ShowsPinning a p) new s (pin_turn s a p handle page n want) (ended_whats a handle n far answer)
+  pub page_denied : (answer : Answer) → PinFault F F1 S S2 g got fast want (Some answer) → new.frames ≡ F1 → new.space ≡ S2
+      → IsEnded got old.pins new.pins old.taken new.taken a handle want.write → new.place ≡ unbegun
+      → Leads (ShowsPinning a p) new s (pin_turn s a p handle page n want fast far) (ended_whats a handle n got answer)
   page_denied answer faults frames space ended over = leads_alike turn_here (by_denied fault (faults.refused a p))
     where
-      shown_then : Leads (ShowsPinning a p) new s (ends_pin (raises a p far) a handle n far answer) (ended_whats a handle n far answer)
+      shown_then : Leads (ShowsPinning a p) new s (ends_pin (raises a p got fast) a handle n got answer) (ended_whats a handle n got answer)
       shown_then =
-          ends_lead old new (raises a p far) a p handle n far want answer s t0 refl
-          (subst (λ (x : FramesValue). ShowsFrames x t0) (sym (frames ∙ (faults.unchanged answer refl).0)) (raise_frames F a p far s shown.frames))
-          (subst (λ (x : SpaceValue). ShowsSpace p x t0) (sym (space ∙ (faults.unchanged answer refl).1)) (raise_space S a p far s shown.space))
-          (shows_same old.pins s t0 (raise_handle a p far s) (raise_pinned a p far s) (raise_got a p far s) shown.pins)
-          (ap (λ (f : ℕ → List TakenPage). frames_taken (f a)) (raise_taken a p far s) ∙ shown.taken)
-          (ap (λ (f : ℕ → List TakenPage). length (f a)) (raise_taken a p far s) ∙ stands.at.taken.many)
-          (λ k x found. (stands.at.taken.each k x (ap (λ (f : ℕ → List TakenPage). slice_get (f a) k) (sym (raise_taken a p far s)) ∙ found)).2)
-          (ap (λ (f : ℕ → Job). f a) (raise_job a p far s) ∙ job_here) over ended
+          ends_lead old new (raises a p got fast) a p handle n got want answer s t0 refl
+          (subst (λ (x : FramesValue). ShowsFrames x t0) (sym (frames ∙ (faults.unchanged answer refl).0)) (raise_frames F a p got fast s shown.frames))
+          (subst (λ (x : SpaceValue). ShowsSpace p x t0) (sym (space ∙ (faults.unchanged answer refl).1)) (raise_space S a p got fast s shown.space))
+          (shows_same old.pins s t0 (raise_handle a p got fast s) (raise_pinned a p got fast s) (raise_got a p got fast s) shown.pins)
+          (ap (λ (f : ℕ → List TakenPage). frames_taken (f a)) (raise_taken a p got fast s) ∙ shown.taken)
+          (ap (λ (f : ℕ → List TakenPage). length (f a)) (raise_taken a p got fast s) ∙ pages_here.many)
+          (λ k x found. (pages_here.each k x (ap (λ (f : ℕ → List TakenPage). slice_get (f a) k) (sym (raise_taken a p got fast s)) ∙ found)).2)
+          (ap (λ (f : ℕ → Job). f a) (raise_job a p got fast s) ∙ job_here) over ended
 
-      by_denied : (x : Fault) → refusal_of x ≡ Some answer → Leads (ShowsPinning a p) new s (pin_turn_by x s a p handle g n far want) (ended_whats a handle n far answer)
+      by_denied : (x : Fault) → refusal_of x ≡ Some answer → Leads (ShowsPinning a p) new s (pin_turn_by x s a p handle g n got want fast) (ended_whats a handle n got answer)
       by_denied (Ok before) refused = absurd (cc)
       by_denied (Err denied) refused =
           let same : denied ≡ answer = cc in
-          leads_alike (ap (λ (y : Answer). ends_pin (raises a p far) a handle n far y) same) shown_then
+          leads_alike (ap (λ (y : Answer). ends_pin (raises a p got fast) a handle n got y) same) shown_then
 
 -- ---- the turns after the first of a page that is moved
 
-module _ (old new : PinningView) (a p handle page n far g : ℕ) (here : g ≡ page + far) (want : Want) (e : Entry) (s : CoreState) (shown : ShowsPinning a p old s) (stands : StandsAtPage a p handle page n want far s) where
-  writes_here : (k : ℕ) (x : TakenPage) → slice_get (s.taken a) k ≡ Some x → x.write ≡ want.write
-  writes_here k x found = (stands.at.taken.each k x found).2
+module _ (old new : PinningView) (a p handle page n got far g : ℕ) (here : g ≡ page + got) (want : Want) (fast : Bool) (e : Entry) (s : CoreState) (shown : ShowsPinning a p old s) (stands : StandsAtPage a p handle page n want fast got far s) where
+  abbrev job_at : Counted → Job
+  job_at count = moving p (page + got) e (zones_of want) count
 
-  later : (count : Counted) → old.place ≡ moving_page g e count → pin_turn s a p handle page n want ≡ moved_turn s a p handle g n far want e count
+  moving_here : (count : Counted) → old.place ≡ moving_page g e count → s.job a ≡ job_at count
+  moving_here count at =
+      moving_job s a p (page + got) n got g want fast e count (s.job a) (s.prepared a) stands.at.at (shown.place ∙ at)
+
+  pages_taken : (count : Counted) → old.place ≡ moving_page g e count → HasTaken p page want got (s.taken a)
+  pages_taken count at =
+      moving_pages p page got p (page + got) want e (zones_of want) count (s.taken a) (s.job a) (moving_here count at) stands.at.taken
+
+  later : (count : Counted) → old.place ≡ moving_page g e count → pin_turn s a p handle page n want fast far ≡ moved_turn s a p handle g n got want e count
   later count at =
-      subst (λ (k : ℕ). pin_turn s a p handle page n want ≡ moved_turn s a p handle k n far want e count) (sym here)
-      (later_is old a p handle page n far g want e count s shown stands at)
+      ap (λ (k : ℕ). pin_turn_in s a p handle page n k want fast far (s.job a)) (pages_taken count at).many
+      ∙ ap (pin_turn_in s a p handle page n got want fast far) (moving_here count at)
+      ∙ ap (λ (k : ℕ). moved_turn s a p handle k n got want e count) (sym here)
 
   -- the count is read
   pub page_counted : old.place ≡ moving_page g e unread → new.frames ≡ old.frames → new.space ≡ old.space → new.pins ≡ old.pins → new.taken ≡ old.taken
-      → new.place ≡ moving_page g e (counted_as (old.frames.count e.frame)) → Leads (ShowsPinning a p) new s (pin_turn s a p handle page n want) (Silent ∷ [])
+      → new.place ≡ moving_page g e (counted_as (old.frames.count e.frame)) → Leads (ShowsPinning a p) new s (pin_turn s a p handle page n want fast far) (Silent ∷ [])
   page_counted at frames space pins taken place =
       let t : CoreState = happens s (count_moved a p g e (zones_of want) (old.frames.count e.frame)) in
       let job : Job = moving p g e (zones_of want) (counted_as (old.frames.count e.frame)) in
@@ -451,47 +479,47 @@ module _ (old new : PinningView) (a p handle page n far g : ℕ) (here : g ≡ p
       })
 
   -- the entry is put back, and the page refused
-  restored : (count : Counted) (answer : Answer) (S1 : SpaceValue) → AreMoveEvents (with_table None (ch old.frames old.frames old.space S1)) (λ q. restore_entry a q g e (zones_of want) count ∷ [])
-      → new.frames ≡ old.frames → new.space ≡ record S1 { table = None } → IsEnded far old.pins new.pins old.taken new.taken a handle want.write → new.place ≡ unbegun
-      → Leads (ShowsPinning a p) new s (ends_moved a p handle g n far want e count answer) (ended_whats a handle n far answer)
-  restored count answer S1 events frames space ended over =
+  restored : (count : Counted) (answer : Answer) (S1 : SpaceValue) → old.place ≡ moving_page g e count → AreMoveEvents (with_table None (ch old.frames old.frames old.space S1)) (λ q. restore_entry a q g e (zones_of want) count ∷ [])
+      → new.frames ≡ old.frames → new.space ≡ record S1 { table = None } → IsEnded got old.pins new.pins old.taken new.taken a handle want.write → new.place ≡ unbegun
+      → Leads (ShowsPinning a p) new s (ends_moved a p handle g n got want e count answer) (ended_whats a handle n got answer)
+  restored count answer S1 at events frames space ended over =
       let t : CoreState = happens s (restore_entry a p g e (zones_of want) count) in
       let led = events s p shown.frames shown.space in
-      ends_lead old new (restore_entry a p g e (zones_of want) count ∷ []) a p handle n far want answer s t refl
+      ends_lead old new (restore_entry a p g e (zones_of want) count ∷ []) a p handle n got want answer s t refl
       (subst (λ (x : FramesValue). ShowsFrames x t) (sym frames) led.0) (subst (λ (x : SpaceValue). ShowsSpace p x t) (sym space) led.1)
-      shown.pins shown.taken stands.at.taken.many writes_here (put_own a idle s.job) over ended
+      shown.pins shown.taken (pages_taken count at).many (λ k x found. ((pages_taken count at).each k x found).2) (put_own a idle s.job) over ended
 
   pub page_restored : (count : ℕ) (S1 : SpaceValue) → old.place ≡ moving_page g e (more count) → AreMoveEvents (with_table None (ch old.frames old.frames old.space S1)) (λ q. restore_entry a q g e (zones_of want) (more count) ∷ [])
-      → new.frames ≡ old.frames → new.space ≡ record S1 { table = None } → IsEnded far old.pins new.pins old.taken new.taken a handle want.write → new.place ≡ unbegun
-      → Leads (ShowsPinning a p) new s (pin_turn s a p handle page n want) (ended_whats a handle n far (answers.Unmovable count))
+      → new.frames ≡ old.frames → new.space ≡ record S1 { table = None } → IsEnded got old.pins new.pins old.taken new.taken a handle want.write → new.place ≡ unbegun
+      → Leads (ShowsPinning a p) new s (pin_turn s a p handle page n want fast far) (ended_whats a handle n got (answers.Unmovable count))
   page_restored count S1 at events frames space ended over =
-      leads_alike (later (more count) at) (restored (more count) (answers.Unmovable count) S1 events frames space ended over)
+      leads_alike (later (more count) at) (restored (more count) (answers.Unmovable count) S1 at events frames space ended over)
 
-  one_is : (free : Option ℕ) → old.place ≡ moving_page g e one → free_frame old.frames (zones_of want) ≡ free → pin_turn s a p handle page n want ≡ pins_moved a p handle g n far want e free
+  one_is : (free : Option ℕ) → old.place ≡ moving_page g e one → free_frame old.frames (zones_of want) ≡ free → pin_turn s a p handle page n want fast far ≡ pins_moved a p handle g n got want e free
   one_is free at is =
       later one at
-      ∙ ap (pins_moved a p handle g n far want e) (free_agrees old.frames (zones_of want) s shown.frames ∙ is)
+      ∙ ap (pins_moved a p handle g n got want e) (free_agrees old.frames (zones_of want) s shown.frames ∙ is)
 
   -- no frame is free
   pub page_unplaced : (S1 : SpaceValue) → old.place ≡ moving_page g e one → free_frame old.frames (zones_of want) ≡ None → AreMoveEvents (with_table None (ch old.frames old.frames old.space S1)) (λ q. restore_entry a q g e (zones_of want) one ∷ [])
-      → new.frames ≡ old.frames → new.space ≡ record S1 { table = None } → IsEnded far old.pins new.pins old.taken new.taken a handle want.write → new.place ≡ unbegun
-      → Leads (ShowsPinning a p) new s (pin_turn s a p handle page n want) (ended_whats a handle n far answers.NoFrame)
+      → new.frames ≡ old.frames → new.space ≡ record S1 { table = None } → IsEnded got old.pins new.pins old.taken new.taken a handle want.write → new.place ≡ unbegun
+      → Leads (ShowsPinning a p) new s (pin_turn s a p handle page n want fast far) (ended_whats a handle n got answers.NoFrame)
   page_unplaced S1 at none events frames space ended over =
-      leads_alike (one_is None at none) (restored one answers.NoFrame S1 events frames space ended over)
+      leads_alike (one_is None at none) (restored one answers.NoFrame S1 at events frames space ended over)
 
   -- the page is placed in another frame, and pinned
   pub page_placed : (f : ℕ) (F1 : FramesValue) (S1 S2 : SpaceValue) → old.place ≡ moving_page g e one → free_frame old.frames (zones_of want) ≡ Some f → AreMoveEvents (with_table None (ch old.frames F1 old.space S1)) (λ q. take_frame a f ∷ place_frame a q g f e (zones_of want) ∷ put_entry a e.frame ∷ [])
       → S2 ≡ record S1 { table = None } → s.has_pinned p ≡ true → IsTaken F1 new.frames S2 new.space g f
-      → IsMade (far + 1 == n) old.pins new.pins old.taken new.taken a handle f want.write → new.place ≡ unbegun
-      → Leads (ShowsPinning a p) new s (pin_turn s a p handle page n want) (tried_whats (far + 1 == n) a p handle g n want.write)
+      → IsMade (got + 1 == n) old.pins new.pins old.taken new.taken a handle f want.write → new.place ≡ unbegun
+      → Leads (ShowsPinning a p) new s (pin_turn s a p handle page n want fast far) (tried_whats (got + 1 == n) a p handle g n want.write)
   page_placed f F1 S1 S2 at is events same flag made handles over =
       let es : List CoreEvent = take_frame a f ∷ place_frame a p g f e (zones_of want) ∷ put_entry a e.frame ∷ [] in
       let t : CoreState = run s es in
       let led = events s p shown.frames shown.space in
       leads_alike (one_is (Some f) at is)
-      (pins_lead new es a p handle g n want (far + 1 == n) (entry_of f e.writable) s t refl
-      (take_page old new F1 S2 a p handle g f want (far + 1 == n) (entry_of f e.writable) t refl made.frames_are made.space_is handles
-      led.0 (subst (λ (x : SpaceValue). ShowsSpace p x t) (sym same) led.1) shown.pins shown.taken flag writes_here (put_own a idle s.job) over))
+      (pins_lead new es a p handle g n want (got + 1 == n) (entry_of f e.writable) s t refl
+      (take_page old new F1 S2 a p handle g f want (got + 1 == n) (entry_of f e.writable) t refl made.frames_are made.space_is handles
+      led.0 (subst (λ (x : SpaceValue). ShowsSpace p x t) (sym same) led.1) shown.pins shown.taken flag (λ k x found. ((pages_taken one at).each k x found).2) (put_own a idle s.job) over))
 
 -- ---- whether a frame is free
 

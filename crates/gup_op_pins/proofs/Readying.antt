@@ -65,9 +65,11 @@ pin_fault_same F S a p page false allowed s frames space =
     ∙ unshare_fault_reads F a p page (S.right page) (S.entry page) (free_frame F allowed) s frames
 
 -- the flag is not read
-pub fault_raised : (F : FramesValue) (S : SpaceValue) (a p page far : ℕ) (write : Bool) (allowed : Allowed) → fault_to_pin F (raised far S) a p page write allowed ≡ fault_to_pin F S a p page write allowed
-fault_raised F S a p page zero true allowed = refl
-fault_raised F S a p page far write allowed = refl
+pub fault_raised : (F : FramesValue) (S : SpaceValue) (a p page got : ℕ) (fast write : Bool) (allowed : Allowed) → fault_to_pin F (raised got fast S) a p page write allowed ≡ fault_to_pin F S a p page write allowed
+fault_raised F S a p page zero false true allowed = refl
+fault_raised F S a p page zero false false allowed = refl
+fault_raised F S a p page zero true write allowed = refl
+fault_raised F S a p page (suc got) fast write allowed = refl
 
 -- ---- what a fault leaves
 

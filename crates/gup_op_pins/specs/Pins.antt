@@ -1,5 +1,5 @@
 -- What handles are of frames, and what a turn of a pin or of a get is over.
-use Rattle.std.specs.Prelude.{◌≡◌, ℕ, ◌<◌, ◌≤◌, Bool, true, false, List, [], ◌∷◌, ◌++◌, slice_get, Some, None, IsSome, zero, suc}
+use Rattle.std.specs.Prelude.{◌≡◌, ℕ, ◌+◌, ◌<◌, ◌≤◌, Bool, true, false, List, [], ◌∷◌, ◌++◌, slice_get, length, Some, None, IsSome, IfSome, zero, suc}
 use Rattle.gup_base.specs.declared.entry.Allowed.{Allowed}
 use Rattle.gup_base.specs.declared.entry.Entry.{Entry}
 use Rattle.gup_base.specs.declared.entry.Want.{Want}
@@ -14,13 +14,16 @@ use Rattle.gup_space.specs.Space.{SpaceValue, SpaceParts, space_of}
 use Rattle.gup_space.specs.Shows.{ShowsFrames, ShowsSpace}
 use Rattle.gup_handles.specs.Handles.{HandleValue, HandlesValue, handles_of, unmade, held, given, got, gone}
 use Rattle.gup_handles.specs.Shows.{ShowsHandles}
-use Rattle.gup_spec_events.specs.State.{CoreState}
+use Rattle.gup_spec_events.specs.State.{CoreState, WalkStep, read, rechecked}
 use Rattle.gup_spec_events.specs.Event.{bias, taken_frames as frames_taken}
 use Rattle.gup_spec_events.specs.Fault.{Fault, write_fault, unshare_fault}
 use Rattle.gup_spec_events.specs.Invariant.{frame_of}
-use Rattle.gup_spec_turns.specs.JobPlace.{JobPlace, place_in, unbegun, moving_page}
-use Rattle.gup_spec_turns.specs.PinPlace.{StandsPin}
-use Rattle.gup_spec_turns.specs.PinTurns.{pinned_if, cause_of}
+use Rattle.gup_spec_turns.specs.JobPlace.{JobPlace, place_in, unbegun, moving_page, in_walk}
+use Rattle.gup_spec_turns.specs.PinPlace.{StandsPin, IsAtStep}
+use Rattle.gup_op_base.specs.Turns.{IsTurnOf}
+use Rattle.gup_fast.specs.Walks.{at, dropped_at, last_of}
+use Rattle.gup_op_pins.specs.declared.pins.PinCall.{PinCall}
+use Rattle.gup_spec_turns.specs.PinTurns.{pinned_if, cause_of, pin_turn}
 
 -- the frames of the pages that a pin still has
 abbrev pub frames_in : HandleValue → List ℕ
@@ -40,10 +43,10 @@ abbrev pub IsReferred : FramesValue → HandleValue → Type 0
 IsReferred frames (got by frame) = IsFrame frames frame × (1 ≤ frames.count frame)
 IsReferred frames handle = Unit {0}
 
--- has-pinned is set before the first page of a pin is tried
-abbrev pub raised : (far : ℕ) → SpaceValue → SpaceValue
-raised zero space = record space { has_pinned = true }
-raised (suc far) space = space
+-- has-pinned is set before the first page of a pin is tried; one that walks has set it before its walk
+abbrev pub raised : (many : ℕ) → (fast : Bool) → SpaceValue → SpaceValue
+raised zero false space = record space { has_pinned = true }
+raised many fast space = space
 
 -- the fault of a page of a pin, by what it finds of frames and the process
 abbrev pub fault_to_pin : FramesValue → SpaceValue → (a p page : ℕ) → (write : Bool) → Allowed → Fault
@@ -88,10 +91,31 @@ pub record IsCleared (frames : FramesValue) (page : ℕ) (want : Want) (e : Entr
   pub marked : frames.mark e.frame ≡ true
   pub may : want.write ≡ true → e.writable ≡ true
 
-abbrev pub IsReadyToPin : FramesValue → (page : ℕ) → Want → JobPlace → SpaceValue → Type 0
-IsReadyToPin frames page want unbegun space = space.table ≡ None
-IsReadyToPin frames page want (moving_page g e count) space = (g ≡ page) × IsCleared frames page want e space
-IsReadyToPin frames page want place space = ⊥
+-- the frame is there, and has the weight of a pin in its count
+abbrev pub IsPinnedFrame : FramesValue → (frame : ℕ) → Type 0
+IsPinnedFrame frames f = IsFrame frames f × (bias ≤ frames.count f)
+
+-- what the next step of a walk, which has taken these frames, finds of frames: that of an entry that was read is there, and
+-- one that is to be dropped has the weight of a pin
+abbrev pub IsReadyToWalk : FramesValue → (taken : List ℕ) → WalkStep → Type 0
+IsReadyToWalk frames taken (read g e) = IsFrame frames e.frame
+IsReadyToWalk frames taken (rechecked g e) = IsFrame frames e.frame × (last_of taken ≡ Some e.frame)
+IsReadyToWalk frames taken step = IfSome (dropped_at (at step) taken) (IsPinnedFrame frames)
+
+-- Of a pin of n pages, which has taken these frames, the next one after which is this page. Nobody holds the table lock where a
+-- page is to be made ready; a turn that begins a walk needs none.
+abbrev pub IsReadyToPin : FramesValue → (taken : List ℕ) → (page n : ℕ) → Want → (begins : Bool) → JobPlace → SpaceValue → Type 0
+IsReadyToPin frames taken page n want begins unbegun space = begins ≡ false → space.table ≡ None
+IsReadyToPin frames taken page n want begins (moving_page g e count) space =
+    (g ≡ page) × IsCleared frames page want e space
+IsReadyToPin frames taken page n want begins (in_walk sequence step) space =
+    IsAtStep page n (length taken) step × IsReadyToWalk frames taken step
+IsReadyToPin frames taken page n want begins place space = ⊥
+
+-- all pages of a pin are taken in a walk alone
+abbrev pub IsWithinPin : (n many : ℕ) → JobPlace → Type 0
+IsWithinPin n many (in_walk sequence step) = many ≤ n
+IsWithinPin n many place = many < n
 
 -- what a page that is taken makes of pins and of what was taken: the last one's is the handle's
 abbrev pub IsMade : (last : Bool) → (old_pins new_pins : HandlesValue) → (old_taken new_taken : List ℕ) → (a handle frame : ℕ) → (write : Bool) → Type 0
@@ -121,7 +145,14 @@ pub record IsTaken (frames new_frames : FramesValue) (space new_space : SpaceVal
   pub frames_are : new_frames ≡ with_references frame 1024 frames
   pub space_is : new_space ≡ record space { has_pinned = true }
 
--- the pin stands at this page; after its first page the process has pinned
-pub record StandsAtPage (a p handle page n : ℕ) (want : Want) (far : ℕ) (s : CoreState) : Type 0 where
-  pub at : StandsPin s a p handle page n want far
-  pub flagged : 0 < far → s.has_pinned p ≡ true
+-- The pin, of which so many turns are over, has got so many pages and stands at the next one. After its first turn the process
+-- has pinned.
+pub record StandsAtPage (a p handle page n : ℕ) (want : Want) (fast : Bool) (many far : ℕ) (s : CoreState) : Type 0 where
+  pub at : StandsPin s a p handle page n want fast many
+  pub flagged : 0 < many + far → s.has_pinned p ≡ true
+
+-- what a turn of this pin makes of all that
+abbrev pub IsPinTurn : (a : ℕ) → PinCall → (many far : ℕ) → (old new : PinningView) → List What → Type 0
+IsPinTurn a call many far old new whats =
+    IsTurnOf (ShowsPinning a call.proc) (StandsAtPage a call.proc call.handle call.page call.n call.want call.fast many far)
+    old new (λ s. pin_turn s a call.proc call.handle call.page call.n call.want call.fast far) whats

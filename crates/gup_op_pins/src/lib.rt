@@ -7,5 +7,5 @@ mod pins;
 mod references;
 
 pub use holds::{give, take_over, unpin};
-pub use pins::pin;
+pub use pins::{PinCall, pin};
 pub use references::{get, put};

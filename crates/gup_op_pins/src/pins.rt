@@ -1,5 +1,5 @@
 //! Pins: they are made page by page.
-ghost use Rattle.std.specs.Prelude.{◌≡◌, ℕ, ◌+◌, ◌==◌, ◌≤◌, ◌<◌, ◌^◌, ◌&&◌, nat_lt, true, false, [], OnOk, Some, None, IsSome};
+ghost use Rattle.std.specs.Prelude.{◌≡◌, ℕ, ◌+◌, ◌==◌, ◌≤◌, ◌<◌, ◌^◌, ◌&&◌, nat_lt, true, false, [], length, OnOk, Some, None, IsSome};
 ghost use Rattle.arrayvec.specs.ArrayVec.{array_vec_len};
 ghost use Rattle.gup_base.specs.declared.entry.Entry.{Entry as EntryValue};
 ghost use Rattle.gup_plain.specs.Put.{put};
@@ -11,15 +11,14 @@ ghost use Rattle.gup_fault.specs.Faults.{IsFault};
 ghost use Rattle.gup_slow.specs.Pins.{IsReady};
 ghost use Rattle.gup_handles.specs.Handles.{handles_of, unmade, held};
 ghost use Rattle.gup_spec_events.specs.Event.{counted_as};
-ghost use Rattle.gup_spec_events.specs.State.{one, more};
+ghost use Rattle.gup_spec_events.specs.State.{one, more, WalkStep};
 ghost use Rattle.gup_spec_turns.specs.CoreTurn.{zones_of as zones, entry_in};
-ghost use Rattle.gup_spec_turns.specs.JobPlace.{unbegun, moving_page};
-ghost use Rattle.gup_spec_turns.specs.PinTurns.{cause_of as cause, pin_turn};
+ghost use Rattle.gup_spec_turns.specs.JobPlace.{unbegun, moving_page, in_walk};
+ghost use Rattle.gup_spec_turns.specs.PinTurns.{cause_of as cause};
 ghost use Rattle.gup_op_base.specs.Jobs.{place_of};
 ghost use Rattle.gup_op_base.specs.Tidy.{IsTidy};
 ghost use Rattle.gup_op_base.specs.Said.{TellsTurn, whats_of, silent_said};
-ghost use Rattle.gup_op_base.specs.Turns.{IsTurnOf};
-ghost use Rattle.gup_op_pins.specs.Pins.{ShowsPinning, StandsAtPage, IsReadyToPin, IsCleared, IsMade, IsEnded, IsTaken, tried_whats, ended_whats, pinning_view, raised, fault_to_pin, want_of};
+ghost use Rattle.gup_op_pins.specs.Pins.{IsPinTurn, IsReadyToPin, IsWithinPin, IsCleared, IsMade, IsEnded, IsTaken, tried_whats, ended_whats, pinning_view, raised, fault_to_pin, want_of};
 
 use arrayvec::ArrayVec;
 use gup_base::{ActorNo, Allowed, Entry, FrameNo, HandleNo, PageNo, ProcNo, Want, Zone};
@@ -33,8 +32,19 @@ use gup_plain::{Answer, Cause, Journal, PlainEvent};
 use gup_slow::pin_page;
 use gup_space::Space;
 
-/// A turn of a pin of `n` pages from `page` on, of which `far` are taken, and which stands there. It answers whether the
-/// operation is over, and where it stands then. Has-pinned is set before the first page is tried.
+/// What a pin asks for: `n` pages of a process from `page` on, by this handle; a `fast` one walks first.
+#[derive(Clone, Copy, Debug)]
+pub struct PinCall {
+    pub proc: ProcNo,
+    pub handle: HandleNo,
+    pub page: PageNo,
+    pub n: u8,
+    pub want: Want,
+    pub fast: bool,
+}
+
+/// A turn of a pin of which `far` turns are over, and which stands there. It answers whether the operation is over, and where it
+/// stands then. Has-pinned is set before the first page is tried.
 ///
 /// A page is made ready and its frame gets the weight of a pin (Linux's `__get_user_pages`, `mm/gup.c`). The last page's
 /// turn makes the handle, and so does the turn of a page that is refused after others: the pin then has those (this
@@ -52,49 +62,45 @@ pub fn pin(
     taken: &mut ArrayVec<FrameNo, 16>,
     journal: &mut Journal,
     head: &Head,
-    proc: ProcNo,
-    handle: HandleNo,
-    page: PageNo,
-    n: u8,
-    want: Want,
+    call: PinCall,
     far: u16,
     place: JobPlace,
 ) -> (bool, JobPlace)
     requires tidy { IsTidy (frames_of frames.old) (space_of space.old) }
-    requires ready { IsReadyToPin (frames_of frames.old) (page + far) want (place_of place) (space_of space.old) }
+    requires ready { IsReadyToPin (frames_of frames.old) taken.old.items (call.page + length taken.old.items) call.n call.want
+        (call.fast && far == 0) (place_of place) (space_of space.old) }
     requires few { (f : ℕ) → (frames_of frames.old).count f < 2 ^ 40 }
-    requires unmade { handles_of handles.old handle ≡ unmade }
-    requires taken { array_vec_len taken.old ≡ far }
-    requires pinned { 0 < far → (space_of space.old).has_pinned ≡ true }
-    requires within { far < n }
-    requires most { n ≤ 16 }
-    requires range { page + n ≤ 2 ^ 35 }
+    requires unmade { handles_of handles.old call.handle ≡ unmade }
+    requires within { IsWithinPin call.n (length taken.old.items) (place_of place) }
+    requires most { call.n ≤ 16 }
+    requires range { call.page + call.n ≤ 2 ^ 35 }
     requires room { 3 ≤ journal.old.room }
+    // temporary, until the turns of walks are here
+    requires slow { (call.fast && far == 0) ≡ false }
+    requires unwalked { (sequence : ℕ) (step : WalkStep) → place_of place ≡ in_walk sequence step → ⊥ }
     ensures { TellsTurn head.now journal.old journal.new result.0
-        (λ said. IsTurnOf (ShowsPinning head.now.actor proc) (StandsAtPage head.now.actor proc handle page n want far)
+        (λ said. IsPinTurn head.now.actor call (length taken.old.items) far
         (pinning_view frames.old space.old handles.old taken.old.items (place_of place))
-        (pinning_view frames.new space.new handles.new taken.new.items (place_of result.1))
-        (λ s. pin_turn s head.now.actor proc handle page n want) (whats_of said)) }
+        (pinning_view frames.new space.new handles.new taken.new.items (place_of result.1)) (whats_of said)) }
 {
-    let here = page_behind(page, far);
+    let got = taken.len() as u8;
+    let here = page_behind(call.page, u16::from(got));
     match place {
         JobPlace::Cleared { entry, .. } => (false, count_turn(frames, journal, head, here, &entry)),
         JobPlace::Single { entry, .. } => {
             let over = place_turn(
-                space, frames, handles, taken, journal, head, proc, handle, here, n, want, far,
-                entry,
+                space, frames, handles, taken, journal, head, call, here, got, entry,
             );
             (over, JobPlace::Unbegun)
         }
         JobPlace::Shared { entry, count, .. } => {
             restore_turn(
-                space, frames, handles, taken, journal, head, handle, here, n, want, far, entry,
-                count,
+                space, frames, handles, taken, journal, head, call, here, got, entry, count,
             );
             (true, JobPlace::Unbegun)
         }
         _ => first_turn(
-            space, frames, handles, taken, journal, head, proc, handle, here, n, want, far,
+            space, frames, handles, taken, journal, head, call, here, got,
         ),
     }
 }
@@ -108,55 +114,40 @@ fn first_turn(
     taken: &mut ArrayVec<FrameNo, 16>,
     journal: &mut Journal,
     head: &Head,
-    proc: ProcNo,
-    handle: HandleNo,
+    call: PinCall,
     page: PageNo,
-    n: u8,
-    want: Want,
-    far: u16,
+    got: u8,
 ) -> (bool, JobPlace)
     requires tidy { IsTidy (frames_of frames.old) (space_of space.old) }
     requires table { (space_of space.old).table ≡ None }
     requires few { (f : ℕ) → (frames_of frames.old).count f < 2 ^ 40 }
-    requires unmade { handles_of handles.old handle ≡ unmade }
-    requires taken { array_vec_len taken.old ≡ far }
-    requires pinned { 0 < far → (space_of space.old).has_pinned ≡ true }
-    requires within { far < n }
-    requires most { n ≤ 16 }
+    requires unmade { handles_of handles.old call.handle ≡ unmade }
+    requires taken { array_vec_len taken.old ≡ got }
+    requires within { got < call.n }
+    requires most { call.n ≤ 16 }
+    requires here { page ≡ call.page + got }
     requires room { 3 ≤ journal.old.room }
     ensures { TellsTurn head.now journal.old journal.new result.0
-        (λ said. (first : ℕ) → page ≡ first + far
-        → IsTurnOf (ShowsPinning head.now.actor proc) (StandsAtPage head.now.actor proc handle first n want far)
+        (λ said. (far : ℕ) → (call.fast && far == 0) ≡ false → IsPinTurn head.now.actor call got far
         (pinning_view frames.old space.old handles.old taken.old.items unbegun)
-        (pinning_view frames.new space.new handles.new taken.new.items (place_of result.1))
-        (λ s. pin_turn s head.now.actor proc handle first n want) (whats_of said)) }
+        (pinning_view frames.new space.new handles.new taken.new.items (place_of result.1)) (whats_of said)) }
 {
-    raise_flag(space, far);
-    match ready(space, frames, page, want) {
+    raise_flag(space, call.fast, got);
+    match ready(space, frames, page, call.want) {
         Ok(()) => {
-            if moves_first(space, frames, page, want) {
+            if moves_first(space, frames, page, call.want) {
                 let entry = clear(space, page);
                 space.set_table(Some(head.actor));
                 head.silent(journal);
                 return (false, JobPlace::Cleared { page, entry });
             }
             let over = take_page(
-                space, frames, handles, taken, journal, head, proc, handle, page, n, want, far,
+                space, frames, handles, taken, journal, head, call, page, got,
             );
             (over, JobPlace::Unbegun)
         }
         Err(denied) => {
-            end_pin(
-                handles,
-                taken,
-                journal,
-                head,
-                handle,
-                n,
-                want,
-                far,
-                answer_of(denied),
-            );
+            end_pin(handles, taken, journal, head, call, got, answer_of(denied));
             (true, JobPlace::Unbegun)
         }
     }
@@ -200,47 +191,33 @@ fn place_turn(
     taken: &mut ArrayVec<FrameNo, 16>,
     journal: &mut Journal,
     head: &Head,
-    proc: ProcNo,
-    handle: HandleNo,
+    call: PinCall,
     page: PageNo,
-    n: u8,
-    want: Want,
-    far: u16,
+    got: u8,
     entry: Entry,
 ) -> bool
     requires tidy { IsTidy (frames_of frames.old) (space_of space.old) }
-    requires cleared { IsCleared (frames_of frames.old) page want entry (space_of space.old) }
-    requires unmade { handles_of handles.old handle ≡ unmade }
-    requires taken { array_vec_len taken.old ≡ far }
-    requires within { far < n }
-    requires most { n ≤ 16 }
+    requires cleared { IsCleared (frames_of frames.old) page call.want entry (space_of space.old) }
+    requires unmade { handles_of handles.old call.handle ≡ unmade }
+    requires taken { array_vec_len taken.old ≡ got }
+    requires within { got < call.n }
+    requires most { call.n ≤ 16 }
+    requires here { page ≡ call.page + got }
     requires room { 3 ≤ journal.old.room }
     ensures { TellsTurn head.now journal.old journal.new result
-        (λ said. (first : ℕ) → page ≡ first + far
-        → IsTurnOf (ShowsPinning head.now.actor proc) (StandsAtPage head.now.actor proc handle first n want far)
+        (λ said. (far : ℕ) → IsPinTurn head.now.actor call got far
         (pinning_view frames.old space.old handles.old taken.old.items (moving_page page entry one))
-        (pinning_view frames.new space.new handles.new taken.new.items unbegun)
-        (λ s. pin_turn s head.now.actor proc handle first n want) (whats_of said)) }
+        (pinning_view frames.new space.new handles.new taken.new.items unbegun) (whats_of said)) }
 {
     space.has_room(page);
     let placed = place(space, frames, page, entry, Allowed::Only(Zone::Normal)).is_ok();
     space.set_table(None);
     if placed {
         return take_page(
-            space, frames, handles, taken, journal, head, proc, handle, page, n, want, far,
+            space, frames, handles, taken, journal, head, call, page, got,
         );
     }
-    end_pin(
-        handles,
-        taken,
-        journal,
-        head,
-        handle,
-        n,
-        want,
-        far,
-        Answer::NoFrame,
-    );
+    end_pin(handles, taken, journal, head, call, got, Answer::NoFrame);
     true
 }
 
@@ -252,27 +229,24 @@ fn restore_turn(
     taken: &mut ArrayVec<FrameNo, 16>,
     journal: &mut Journal,
     head: &Head,
-    handle: HandleNo,
+    call: PinCall,
     page: PageNo,
-    n: u8,
-    want: Want,
-    far: u16,
+    got: u8,
     entry: Entry,
     count: u64,
 )
     requires tidy { IsTidy (frames_of frames.now) (space_of space.old) }
-    requires cleared { IsCleared (frames_of frames.now) page want entry (space_of space.old) }
-    requires unmade { handles_of handles.old handle ≡ unmade }
-    requires taken { array_vec_len taken.old ≡ far }
-    requires within { far < n }
-    requires most { n ≤ 16 }
+    requires cleared { IsCleared (frames_of frames.now) page call.want entry (space_of space.old) }
+    requires unmade { handles_of handles.old call.handle ≡ unmade }
+    requires taken { array_vec_len taken.old ≡ got }
+    requires within { got < call.n }
+    requires most { call.n ≤ 16 }
+    requires here { page ≡ call.page + got }
     requires room { 3 ≤ journal.old.room }
     ensures { TellsTurn head.now journal.old journal.new true
-        (λ said. (p first : ℕ) → page ≡ first + far
-        → IsTurnOf (ShowsPinning head.now.actor p) (StandsAtPage head.now.actor p handle first n want far)
+        (λ said. (far : ℕ) → IsPinTurn head.now.actor call got far
         (pinning_view frames.now space.old handles.old taken.old.items (moving_page page entry (more count)))
-        (pinning_view frames.now space.new handles.new taken.new.items unbegun)
-        (λ s. pin_turn s head.now.actor p handle first n want) (whats_of said)) }
+        (pinning_view frames.now space.new handles.new taken.new.items unbegun) (whats_of said)) }
 {
     space.has_room(page);
     restore(space, page, entry);
@@ -282,10 +256,8 @@ fn restore_turn(
         taken,
         journal,
         head,
-        handle,
-        n,
-        want,
-        far,
+        call,
+        got,
         Answer::Unmovable(count),
     );
 }
@@ -298,43 +270,42 @@ fn take_page(
     taken: &mut ArrayVec<FrameNo, 16>,
     journal: &mut Journal,
     head: &Head,
-    proc: ProcNo,
-    handle: HandleNo,
+    call: PinCall,
     page: PageNo,
-    n: u8,
-    want: Want,
-    far: u16,
+    got: u8,
 ) -> bool
-    requires ready { IsReady (frames_of frames.old) (space_of space.old) page want }
-    requires unmade { handles_of handles.old handle ≡ unmade }
-    requires taken { array_vec_len taken.old ≡ far }
-    requires within { far < n }
-    requires most { n ≤ 16 }
+    requires ready { IsReady (frames_of frames.old) (space_of space.old) page call.want }
+    requires unmade { handles_of handles.old call.handle ≡ unmade }
+    requires taken { array_vec_len taken.old ≡ got }
+    requires within { got < call.n }
+    requires most { call.n ≤ 16 }
     requires room { 3 ≤ journal.old.room }
     ensures tells { TellsTurn head.now journal.old journal.new result
-        (λ said. whats_of said ≡ tried_whats (far + 1 == n) head.now.actor proc handle page n want.write) }
+        (λ said. whats_of said ≡ tried_whats (got + 1 == call.n) head.now.actor call.proc call.handle page call.n
+        call.want.write) }
     ensures taken { IsTaken (frames_of frames.old) (frames_of frames.new) (space_of space.old) (space_of space.new) page
         (entry_in ((space_of space.old).entry page)).frame }
-    ensures made { IsMade (far + 1 == n) (handles_of handles.old) (handles_of handles.new) taken.old.items taken.new.items
-        head.now.actor handle (entry_in ((space_of space.old).entry page)).frame want.write }
+    ensures made { IsMade (got + 1 == call.n) (handles_of handles.old) (handles_of handles.new) taken.old.items taken.new.items
+        head.now.actor call.handle (entry_in ((space_of space.old).entry page)).frame call.want.write }
 {
     let actor = head.actor;
-    taken.push(pin_page(space, frames, page, want));
+    taken.push(pin_page(space, frames, page, call.want));
     let tried = PlainEvent::PinTry {
         actor,
-        proc,
+        proc: call.proc,
         page,
-        write: want.write,
+        write: call.want.write,
     };
     head.happened(journal, tried);
-    if far + 1 < u16::from(n) {
+    if got + 1 < call.n {
         return false;
     }
-    hold(handles, taken, actor, handle, want.write);
+    let handle = call.handle;
+    hold(handles, taken, actor, handle, call.want.write);
     head.done(
         journal,
         PlainEvent::PinOk { actor, handle },
-        Answer::Pinned(n),
+        Answer::Pinned(call.n),
     );
     true
 }
@@ -345,33 +316,32 @@ fn end_pin(
     taken: &mut ArrayVec<FrameNo, 16>,
     journal: &mut Journal,
     head: &Head,
-    handle: HandleNo,
-    n: u8,
-    want: Want,
-    far: u16,
+    call: PinCall,
+    got: u8,
     answer: Answer,
 )
-    requires unmade { handles_of handles.old handle ≡ unmade }
-    requires taken { array_vec_len taken.old ≡ far }
-    requires within { far < n }
-    requires most { n ≤ 16 }
+    requires unmade { handles_of handles.old call.handle ≡ unmade }
+    requires taken { array_vec_len taken.old ≡ got }
+    requires within { got < call.n }
+    requires most { call.n ≤ 16 }
     requires room { 3 ≤ journal.old.room }
     ensures tells { TellsTurn head.now journal.old journal.new true
-        (λ said. whats_of said ≡ ended_whats head.now.actor handle n far answer) }
-    ensures ended { IsEnded far (handles_of handles.old) (handles_of handles.new) taken.old.items taken.new.items
-        head.now.actor handle want.write }
+        (λ said. whats_of said ≡ ended_whats head.now.actor call.handle call.n got answer) }
+    ensures ended { IsEnded got (handles_of handles.old) (handles_of handles.new) taken.old.items taken.new.items
+        head.now.actor call.handle call.want.write }
 {
-    if far == 0 {
+    if got == 0 {
         head.answered(journal, answer);
         return;
     }
     let actor = head.actor;
     let short = Answer::Short {
-        got: far as u8,
-        wanted: n,
+        got,
+        wanted: call.n,
         cause: cause_of(answer),
     };
-    hold(handles, taken, actor, handle, want.write);
+    let handle = call.handle;
+    hold(handles, taken, actor, handle, call.want.write);
     head.done(journal, PlainEvent::PinOk { actor, handle }, short);
 }
 
@@ -384,11 +354,11 @@ fn moves_first(space: &Space, frames: &Frames, page: PageNo, want: Want) -> bool
     want.long && needs_move(space, frames, page)
 }
 
-// Before the first page is tried the process has pinned.
-fn raise_flag(space: &mut Space, far: u16)
-    ensures { space_of space.new ≡ raised far (space_of space.old) }
+// Before the first page is tried the process has pinned; it has before a walk.
+fn raise_flag(space: &mut Space, fast: bool, got: u8)
+    ensures { space_of space.new ≡ raised got fast (space_of space.old) }
 {
-    if far == 0 {
+    if got == 0 && !fast {
         space.set_pinned();
     }
 }

@@ -1,13 +1,13 @@
 -- Which locks a turn needs, by what the machine keeps.
-use Rattle.std.specs.Prelude.{ℕ, ◌-◌, Bool, true, false, Option, Some, None, is_some}
+use Rattle.std.specs.Prelude.{ℕ, ◌-◌, ◌==◌, ◌&&◌, not, Bool, true, false, Option, Some, None, is_some}
 use Rattle.gup_base.specs.declared.entry.Rights.{Rights}
 use Rattle.gup_plain.specs.Event.{page_numbers}
 use Rattle.gup_plain.specs.Put.{lowest}
 use Rattle.gup_plain.specs.declared.note.Waiting.{Waiting}
 use Rattle.gup_script.specs.declared.op.Op.{Op}
 use Rattle.gup_script.specs.declared.op.Op.TheVariants.{Fork}
-use Rattle.gup_spec_turns.specs.Waits.{Locks, both_locks, no_lock}
-use Rattle.gup_spec_turns.specs.JobPlace.{JobPlace, unbegun, from_page}
+use Rattle.gup_spec_turns.specs.Waits.{Locks, both_locks, both_if, no_lock}
+use Rattle.gup_spec_turns.specs.JobPlace.{JobPlace, unbegun, from_page, in_walk}
 use Rattle.gup_op_waits.specs.declared.locks.Locks.{Locks as KeptLocks}
 
 abbrev pub locks_of : KeptLocks → Locks
@@ -24,6 +24,11 @@ fork_needs right other = no_lock
 abbrev pub move_needs : JobPlace → Locks
 move_needs unbegun = record { structure = false; table = true }
 move_needs other = no_lock
+
+-- those of a pin, by whether it walks, how many of its turns are over, and where it stands
+abbrev pub pin_needs : (fast : Bool) → (far : ℕ) → JobPlace → Locks
+pin_needs fast far (in_walk sequence step) = no_lock
+pin_needs fast far place = both_if (not (fast && far == 0))
 
 -- the child that the operation brings, if it is a fork
 abbrev pub child_in : Op → Option ℕ

@@ -8,9 +8,10 @@ ghost use Rattle.gup_spec_turns.specs.Waits.{waits_for_locks as locks_waited};
 ghost use Rattle.gup_spec_turns.specs.Waits.{both_if, held_by_other as other_holding, locks_needed as needed, waiting_for};
 ghost use Rattle.gup_spec_turns.specs.JobPlace.{place_in};
 ghost use Rattle.gup_op_base.specs.Jobs.{place_of};
+ghost use Rattle.gup_op_base.specs.Far.{far_in};
 ghost use Rattle.gup_handles.specs.Shows.{ShowsHandles};
 ghost use Rattle.gup_op_base.specs.Tidy.{AreNumbered};
-ghost use Rattle.gup_op_waits.specs.Locks.{locks_of, fork_needs, move_needs, child_in, waiting_if};
+ghost use Rattle.gup_op_waits.specs.Locks.{locks_of, fork_needs, move_needs, pin_needs, child_in, waiting_if};
 ghost use Rattle.gup_spec_journal.specs.Place.{Doer};
 ghost use Rattle.gup_spec_journal.specs.Order.{is_given_to, taking_waits};
 ghost use Rattle.gup_op_waits.specs.Doers.{HasProcess, IsProcessOf};
@@ -43,6 +44,7 @@ pub fn waits_for(
     parts: &Parts,
     actor: ActorNo,
     proc: Option<ProcNo>,
+    far: u16,
     place: JobPlace,
     op: &Op,
 ) -> Option<Waiting>
@@ -51,9 +53,9 @@ pub fn waits_for(
     requires birth { IfSome proc (λ p. p < length parts.now.births.items) }
     requires child { (child : ℕ) → op.now ≡ Fork child → child < length parts.now.spaces.items }
     requires numbered { EachSpace AreNumbered parts.now.spaces.items }
-    ensures { (s : CoreState) (who : Doer) (far : ℕ) → ShowsParts parts.now s → who.actor ≡ actor → IsProcessOf who proc
-        → place_of place ≡ place_in s actor → StandsAt s actor who.proc far op.now
-        → result ≡ waiting_for s who op.now }
+    ensures { (s : CoreState) (who : Doer) (k : ℕ) → ShowsParts parts.now s → who.actor ≡ actor → IsProcessOf who proc
+        → far ≡ far_in (Some op.now) k → place_of place ≡ place_in s actor → StandsAt s actor who.proc k op.now
+        → result ≡ waiting_for s who k op.now }
 {
     if let Some(proc) = proc {
         match birth_of(&parts.births, proc) {
@@ -64,7 +66,7 @@ pub fn waits_for(
     }
     match (op, proc) {
         (Op::Take { handle }, _) => waits_for_pin(&parts.handles, actor, *handle),
-        (_, Some(proc)) => waits_for_holders(&parts.spaces, actor, proc, place, op),
+        (_, Some(proc)) => waits_for_holders(&parts.spaces, actor, proc, far, place, op),
         (_, None) => None,
     }
 }
@@ -87,15 +89,16 @@ fn waits_for_holders(
     spaces: &Vec<Space>,
     actor: ActorNo,
     proc: ProcNo,
+    far: u16,
     place: JobPlace,
     op: &Op,
 ) -> Option<Waiting>
     requires there { proc < length spaces.now.items }
     requires child { (child : ℕ) → op.now ≡ Fork child → child < length spaces.now.items }
     requires numbered { EachSpace AreNumbered spaces.now.items }
-    ensures { (s : CoreState) (far : ℕ) → ShowsSpaces spaces.now.items s
-        → place_of place ≡ place_in s actor → StandsAt s actor proc far op.now
-        → result ≡ locks_waited (needed s actor proc op.now) actor (s.structure proc) (s.table proc) }
+    ensures { (s : CoreState) (k : ℕ) → ShowsSpaces spaces.now.items s → far ≡ far_in (Some op.now) k
+        → place_of place ≡ place_in s actor → StandsAt s actor proc k op.now
+        → result ≡ locks_waited (needed s actor proc k op.now) actor (s.structure proc) (s.table proc) }
 {
     let space = space_at(spaces, proc);
     let structure = held_by_other(actor, space.structure());
@@ -104,7 +107,7 @@ fn waits_for_holders(
     if structure.is_none() && table.is_none() {
         return None;
     }
-    let locks = locks_needed(spaces, proc, place, op);
+    let locks = locks_needed(spaces, proc, far, place, op);
     if_needed(locks.structure, structure).or(if_needed(locks.table, table))
 }
 
@@ -131,18 +134,21 @@ pub fn child_of(op: &Op) -> Option<ProcNo>
 
 // Which locks of its process the operation's next turn needs.
 #[inline(never)]
-fn locks_needed(spaces: &Vec<Space>, proc: ProcNo, place: JobPlace, op: &Op) -> Locks
+fn locks_needed(spaces: &Vec<Space>, proc: ProcNo, far: u16, place: JobPlace, op: &Op) -> Locks
     requires there { proc < length spaces.now.items }
     requires child { (child : ℕ) → op.now ≡ Fork child → child < length spaces.now.items }
     requires numbered { EachSpace AreNumbered spaces.now.items }
-    ensures { (s : CoreState) (a far : ℕ) → ShowsSpaces spaces.now.items s → place_of place ≡ place_in s a
-        → StandsAt s a proc far op.now → locks_of result ≡ needed s a proc op.now }
+    ensures { (s : CoreState) (a k : ℕ) → ShowsSpaces spaces.now.items s → far ≡ far_in (Some op.now) k
+        → place_of place ≡ place_in s a → StandsAt s a proc k op.now → locks_of result ≡ needed s a proc k op.now }
 {
     if let Some(child) = child_of(op) {
         return fork_locks(space_at(spaces, child), place);
     }
     if let Op::Move { .. } = op {
         return move_locks(place);
+    }
+    if let Op::Pin { fast, .. } = op {
+        return pin_locks(*fast, far, place);
     }
     both(needs_table(space_at(spaces, proc), op))
 }
@@ -169,6 +175,16 @@ fn move_locks(place: JobPlace) -> Locks
     Locks {
         structure: false,
         table: matches!(place, JobPlace::Unbegun),
+    }
+}
+
+// The walk of a pin needs no lock, and so its first turn, which begins it. Any other turn of a pin needs both.
+fn pin_locks(fast: bool, far: u16, place: JobPlace) -> Locks
+    ensures { locks_of result ≡ pin_needs fast far (place_of place) }
+{
+    match place {
+        JobPlace::Walking { .. } => both(false),
+        _ => both(!(fast && far == 0)),
     }
 }
 

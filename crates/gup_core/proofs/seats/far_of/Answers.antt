@@ -15,6 +15,10 @@ overflow_add-result c =
       | inr other ↦
           elim other [
             | inl discard ↦ let few = fits _ discard.2 refl in omega arith
-            | inr transfer ↦ let few = fits _ transfer.4 refl in omega arith
+            | inr rest ↦
+                elim rest [
+                  | inl pin ↦ let few = fits _ pin.5 refl in omega arith
+                  | inr transfer ↦ let few = fits _ transfer.4 refl in omega arith
+                ]
           ]
     ]

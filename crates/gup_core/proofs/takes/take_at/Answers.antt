@@ -146,12 +146,6 @@ take_pin-requires-clause-taken c pages here =
     let ready = c.requires.ready c.unwrap-in-Pin.result (λ has. absurd (cc (c.has_failed.ensures.other has))) (process_is c.args.proc c.unwrap-in-Pin.result c.unwrap-in-Pin.ensures) in
     ready.taken pages pin.handle pin.page pin.n pin.want pin.fast here pin.is
 
-pub take_pin-requires-clause-pinned : goal.take_pin-requires-clause-pinned
-take_pin-requires-clause-pinned c space pages here taken some =
-    let pin = c.in-Pin in
-    let ready = c.requires.ready c.unwrap-in-Pin.result (λ has. absurd (cc (c.has_failed.ensures.other has))) (process_is c.args.proc c.unwrap-in-Pin.result c.unwrap-in-Pin.ensures) in
-    ready.pinned space pages pin.handle pin.page pin.n pin.want pin.fast here taken pin.is some
-
 pub take_pin-requires-clause-most : goal.take_pin-requires-clause-most
 take_pin-requires-clause-most c =
     let pin = c.in-Pin in
@@ -163,6 +157,18 @@ take_pin-requires-clause-range c =
     let pin = c.in-Pin in
     let ready = c.requires.ready c.unwrap-in-Pin.result (λ has. absurd (cc (c.has_failed.ensures.other has))) (process_is c.args.proc c.unwrap-in-Pin.result c.unwrap-in-Pin.ensures) in
     (subst (λ (op : Op). IsOp op) pin.is ready.in_range).2
+
+pub take_pin-requires-clause-slow : goal.take_pin-requires-clause-slow
+take_pin-requires-clause-slow c =
+    let pin = c.in-Pin in
+    let ready = c.requires.ready c.unwrap-in-Pin.result (λ has. absurd (cc (c.has_failed.ensures.other has))) (process_is c.args.proc c.unwrap-in-Pin.result c.unwrap-in-Pin.ensures) in
+    (subst (λ (op : Op). IsOp op) pin.is ready.in_range).3
+
+pub take_pin-requires-clause-unwalked : goal.take_pin-requires-clause-unwalked
+take_pin-requires-clause-unwalked c sequence step walks =
+    let pin = c.in-Pin in
+    let ready = c.requires.ready c.unwrap-in-Pin.result (λ has. absurd (cc (c.has_failed.ensures.other has))) (process_is c.args.proc c.unwrap-in-Pin.result c.unwrap-in-Pin.ensures) in
+    ready.unwalked pin.handle pin.page pin.n sequence pin.want pin.fast step pin.is walks
 
 pub returns-in-Pin-clause-turn : goal.returns-in-Pin-clause-turn
 returns-in-Pin-clause-turn c =
@@ -184,6 +190,7 @@ returns-in-Pin-clause-turn c =
           subst (λ (q : ℕ). IsTurnAmong a.parts.now t.new.parts actor q slots a.seat.now.far a.op.now a.seat.now.job (whats_of told.said) t.result.1) (some_is a.proc of p c.unwrap-in-Pin.ensures of_p)
           (subst (λ (op : Op). IsTurnAmong a.parts.now t.new.parts actor of slots a.seat.now.far op a.seat.now.job (whats_of told.said) t.result.1) (sym pin.is)
           (pinned a.parts.now t.new.parts actor of slots a.seat.now.far pin.handle pin.page pin.n pin.want pin.fast a.seat.now.job t.result.1 (whats_of told.said)
+          (subst (λ (op : Op). IsOp op) pin.is ready.in_range).3
           (ready.there (subst HasProcess (sym pin.is) tt)) t.ensures.spaces ready.actor_taken t.ensures.taken t.ensures.births t.ensures.stores t.ensures.other_spaces t.ensures.others_taken told.is_so)));
     }
 

@@ -1,19 +1,36 @@
-use Rattle.std.proofs.Common.{◌≡◌, ℕ, Some, length, sym, ap, ◌∙◌, subst}
+use Rattle.std.proofs.Common.{ℕ, sym, ◌∙◌}
 use Rattle.std.specs.Vec.{with_item}
 use Rattle.arrayvec.specs.ArrayVec.{ArrayVec}
 use Rattle.gup_space.specs.Space.{SpaceParts}
-use Rattle.gup_spec_turns.specs.PinTurns.{pin_turn}
-use Rattle.gup_op_base.specs.Jobs.{place_of}
 use Rattle.gup_op_base.specs.Said.{whats_of}
-use Rattle.gup_op_base.specs.Turns.{IsTurnOf}
-use Rattle.gup_op_pins.specs.Pins.{ShowsPinning, StandsAtPage, pinning_view}
 use Rattle.gup_op_waits.specs.declared.parts.Parts.{Parts}
-use Rattle.gup_core.proofs.Parting.{was_there, now_there, four}
+use Rattle.gup_core.proofs.Parting.{was_there, now_there, other_there, four}
 use Rattle.gup_core.proofs.Turning.{IsPinTurn}
 use Rattle.gup_core.proofs.takes.take_pin.Goals as goal
 
-some_same : {X : Type 0} {x y : X} → Some x ≡ Some y → x ≡ y
-some_same is = cc
+pub pin-requires-clause-tidy : goal.pin-requires-clause-tidy
+pin-requires-clause-tidy c =
+    c.requires.tidy c.args.call.proc c.index_mut.result.now
+    (was_there c.args.parts.now.spaces.items c.get.result c.args.call.proc c.index_mut.result.now c.index_mut.ensures.value c.get.ensures.value c.requires.there)
+
+pub pin-requires-clause-ready : goal.pin-requires-clause-ready
+pin-requires-clause-ready c =
+    c.requires.ready c.index_mut.result.now c.index_mut-2.result.now
+    (was_there c.args.parts.now.spaces.items c.get.result c.args.call.proc c.index_mut.result.now c.index_mut.ensures.value c.get.ensures.value c.requires.there)
+    (was_there c.args.parts.now.taken.items c.get-2.result c.args.head.now.actor c.index_mut-2.result.now c.index_mut-2.ensures.value c.get-2.ensures.value c.requires.actor)
+
+pub pin-requires-clause-within : goal.pin-requires-clause-within
+pin-requires-clause-within c =
+    c.requires.taken c.index_mut-2.result.now
+    (was_there c.args.parts.now.taken.items c.get-2.result c.args.head.now.actor c.index_mut-2.result.now c.index_mut-2.ensures.value c.get-2.ensures.value c.requires.actor)
+
+pub returns-clause-other_spaces : goal.returns-clause-other_spaces
+returns-clause-other_spaces c q other =
+    other_there c.args.parts.now.spaces.items c.get.result q c.pin.new.space (λ same. other (same ∙ c.get.ensures.value))
+
+pub returns-clause-others_taken : goal.returns-clause-others_taken
+returns-clause-others_taken c b other =
+    other_there c.args.parts.now.taken.items c.get-2.result b c.pin.new.taken (λ same. other (same ∙ c.get-2.ensures.value))
 
 pub returns-clause-turn : goal.returns-clause-turn
 returns-clause-turn c =
@@ -25,31 +42,23 @@ returns-clause-turn c =
     let behind : Parts =
     record {
       frames = c.pin.new.frames;
-      spaces = with_item spaces c.get-2.result c.pin.new.space;
+      spaces = with_item spaces c.get.result c.pin.new.space;
       births = a.parts.now.births;
       handles = c.pin.new.handles;
-      taken = with_item taken c.get-3.result c.pin.new.taken;
+      taken = with_item taken c.get-2.result c.pin.new.taken;
       stores = a.parts.now.stores;
     } in
-    let far_is : c.len-far.result ≡ length c.index_mut-2.result.now.items =
-    c.len-far.ensures.value ∙ ap (λ (pages : ArrayVec ℕ). length pages.items)
-    (some_same
-    (sym (was_there taken.items c.get.result actor c.index.result.now c.index.ensures c.get.ensures.value c.requires.actor)
-    ∙ was_there taken.items c.get-3.result actor c.index_mut-2.result.now c.index_mut-2.ensures.value c.get-3.ensures.value c.requires.actor)) in
     record {
       said = told.said;
       tells = told.tells;
       ends = told.ends;
       is_so = λ old new was now was_space is_space was_taken is_taken.
           four
-          (λ (x y : SpaceParts) (before after : ArrayVec ℕ). IsPinTurn a.parts.now behind x y before after actor a.proc a.handle a.page a.n a.want a.place c.pin.result.1 (whats_of told.said))
+          (λ (x y : SpaceParts) (before after : ArrayVec ℕ). IsPinTurn a.parts.now behind x y before after actor a.call a.far a.place c.pin.result.1 (whats_of told.said))
           _ _ _ _ old new was now
-          (sym (was_there spaces.items c.get-2.result a.proc c.index_mut.result.now c.index_mut.ensures.value c.get-2.ensures.value c.requires.there) ∙ was_space)
-          (sym (now_there spaces.items c.get-2.result a.proc c.pin.new.space c.get-2.ensures.value c.requires.there) ∙ is_space)
-          (sym (was_there taken.items c.get-3.result actor c.index_mut-2.result.now c.index_mut-2.ensures.value c.get-3.ensures.value c.requires.actor) ∙ was_taken)
-          (sym (now_there taken.items c.get-3.result actor c.pin.new.taken c.get-3.ensures.value c.requires.actor) ∙ is_taken)
-          (subst (λ (k : ℕ). IsTurnOf (ShowsPinning actor a.proc) (StandsAtPage actor a.proc a.handle a.page a.n a.want k)
-          (pinning_view a.parts.now.frames c.index_mut.result.now a.parts.now.handles c.index_mut-2.result.now.items (place_of a.place))
-          (pinning_view behind.frames c.pin.new.space behind.handles c.pin.new.taken.items (place_of c.pin.result.1))
-          (λ s. pin_turn s actor a.proc a.handle a.page a.n a.want) (whats_of told.said)) far_is told.is_so);
+          (sym (was_there spaces.items c.get.result a.call.proc c.index_mut.result.now c.index_mut.ensures.value c.get.ensures.value c.requires.there) ∙ was_space)
+          (sym (now_there spaces.items c.get.result a.call.proc c.pin.new.space c.get.ensures.value c.requires.there) ∙ is_space)
+          (sym (was_there taken.items c.get-2.result actor c.index_mut-2.result.now c.index_mut-2.ensures.value c.get-2.ensures.value c.requires.actor) ∙ was_taken)
+          (sym (now_there taken.items c.get-2.result actor c.pin.new.taken c.get-2.ensures.value c.requires.actor) ∙ is_taken)
+          told.is_so;
     }

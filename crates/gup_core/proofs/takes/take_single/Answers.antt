@@ -33,7 +33,7 @@ take_get-requires-clause-tidy c = (c.requires.ready c.unwrap.result (process_is 
 pub take_get-requires-clause-table : goal.take_get-requires-clause-table
 take_get-requires-clause-table c space here =
     let ready = (c.requires.ready c.unwrap.result (process_is c.args.proc c.unwrap.result c.unwrap.ensures)).1 in
-    ready.table space here (single_keeps c.args.op.now c.requires.single) (ap (λ (op : Op). needs_table (space_of space) op) c.in-Get.is)
+    ready.table space here c.requires.single (ap (λ (op : Op). needs_table (space_of space) op) c.in-Get.is)
 
 pub take_get-requires-clause-few : goal.take_get-requires-clause-few
 take_get-requires-clause-few c = (c.requires.ready c.unwrap.result (process_is c.args.proc c.unwrap.result c.unwrap.ensures)).1.few_counts
@@ -226,7 +226,7 @@ take_alone-requires c =
     record {
       there = ready.there (alone_process op alone_so);
       tidy = ready.tidy;
-      table = λ space here needed. ready.table space here (single_keeps op c.requires.single) needed;
+      table = λ space here needed. ready.table space here c.requires.single needed;
       op = ready.in_range;
       far = ready.far;
       alone = alone_so;

@@ -15,11 +15,11 @@ use Rattle.gup_op_pins.proofs.pins.first_turn.Goals as goal
 
 pub ready-requires-clause-tidy : goal.ready-requires-clause-tidy
 ready-requires-clause-tidy c =
-    rw c.raise_flag.ensures (raised_tidy (frames_of c.args.frames.now) (space_of c.args.space.now) c.args.far c.requires.tidy)
+    rw c.raise_flag.ensures (raised_tidy (frames_of c.args.frames.now) (space_of c.args.space.now) c.args.got c.args.call.fast c.requires.tidy)
 
 pub take_page-over-requires-clause-ready : goal.take_page-over-requires-clause-ready
 take_page-over-requires-clause-ready c =
-    ready_long (frames_of c.ready.new.frames) (space_of c.ready.new.space) c.args.page c.args.want c.in-Ok.ensures.ready
+    ready_long (frames_of c.ready.new.frames) (space_of c.ready.new.space) c.args.page c.args.call.want c.in-Ok.ensures.ready
     (sym c.moves_first.ensures ∙ c.if-moves_first.false)
 
 pub returns-then-moves_first : goal.returns-then-moves_first
@@ -37,11 +37,11 @@ returns-then-moves_first c =
       said = silent_said;
       tells = c.silent.ensures;
       ends = refl;
-      is_so = λ first at s shown stands.
-          page_cleared old new F1 S2 a x.proc x.handle first x.n x.far x.page at x.want c.requires.table refl s shown stands
-          (fault_at F F1 S S1 S2 x.page x.far x.want None c.raise_flag.ensures c.in-Ok.ensures.fault)
+      is_so = λ far slow s shown stands.
+          page_cleared old new F1 S2 a x.call.proc x.call.handle x.call.page x.call.n x.got far x.page c.requires.here x.call.want x.call.fast slow c.requires.table refl s shown stands
+          (fault_at F F1 S S1 S2 x.page x.got x.call.fast x.call.want None c.raise_flag.ensures c.in-Ok.ensures.fault)
           c.clear-entry.result (space_of c.clear-entry.new.space) (sym c.moves_first.ensures ∙ c.if-moves_first.true) c.clear-entry.ensures.entry
-          (c.clear-entry.ensures.events a c.ready.new.frames (zones_of x.want)) refl c.set_table.ensures refl refl refl;
+          (c.clear-entry.ensures.events a c.ready.new.frames (zones_of x.call.want)) refl c.set_table.ensures refl refl refl;
     }
 
 pub returns-else-moves_first : goal.returns-else-moves_first
@@ -60,11 +60,11 @@ returns-else-moves_first c =
       said = turn.said;
       tells = turn.tells;
       ends = turn.ends;
-      is_so = λ first at.
+      is_so = λ far slow.
           notes_alike turn.is_so
           (λ s shown stands.
-          page_pinned old new F1 S2 a x.proc x.handle first x.n x.far x.page at x.want c.requires.table refl s shown stands
-          (fault_at F F1 S S1 S2 x.page x.far x.want None c.raise_flag.ensures c.in-Ok.ensures.fault)
+          page_pinned old new F1 S2 a x.call.proc x.call.handle x.call.page x.call.n x.got far x.page c.requires.here x.call.want x.call.fast slow c.requires.table refl s shown stands
+          (fault_at F F1 S S1 S2 x.page x.got x.call.fast x.call.want None c.raise_flag.ensures c.in-Ok.ensures.fault)
           (sym c.moves_first.ensures ∙ c.if-moves_first.false) c.take_page-over.ensures.taken c.take_page-over.ensures.made refl);
     }
 
@@ -85,10 +85,10 @@ returns-in-Err c =
       said = turn.said;
       tells = turn.tells;
       ends = turn.ends;
-      is_so = λ first at.
-          notes_alike (turn.is_so ∙ ap (ended_whats a x.handle x.n x.far) c.answer_of.ensures)
+      is_so = λ far slow.
+          notes_alike (turn.is_so ∙ ap (ended_whats a x.call.handle x.call.n x.got) c.answer_of.ensures)
           (λ s shown stands.
-          page_denied old new F1 S2 a x.proc x.handle first x.n x.far x.page at x.want c.requires.table refl s shown stands answer
-          (fault_at F F1 S S1 S2 x.page x.far x.want (Some answer) c.raise_flag.ensures c.in-Err.ensures.fault)
+          page_denied old new F1 S2 a x.call.proc x.call.handle x.call.page x.call.n x.got far x.page c.requires.here x.call.want x.call.fast slow c.requires.table refl s shown stands answer
+          (fault_at F F1 S S1 S2 x.page x.got x.call.fast x.call.want (Some answer) c.raise_flag.ensures c.in-Err.ensures.fault)
           refl refl c.end_pin.ensures.ended refl);
     }

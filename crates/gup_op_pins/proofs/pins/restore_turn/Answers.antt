@@ -19,9 +19,9 @@ returns c =
       said = turn.said;
       tells = turn.tells;
       ends = turn.ends;
-      is_so = λ p first at.
+      is_so = λ far.
           notes_alike turn.is_so
           (λ s shown stands.
-          page_restored old new a p x.handle first x.n x.far x.page at x.want x.entry s shown stands x.count (space_of c.restore.new.space) refl
-          (c.restore.ensures.events a x.frames.now (zones_of x.want) (more x.count)) refl c.set_table.ensures c.end_pin.ensures.ended refl);
+          page_restored old new a x.call.proc x.call.handle x.call.page x.call.n x.got far x.page c.requires.here x.call.want x.call.fast x.entry s shown stands x.count (space_of c.restore.new.space) refl
+          (c.restore.ensures.events a x.frames.now (zones_of x.call.want) (more x.count)) refl c.set_table.ensures c.end_pin.ensures.ended refl);
     }

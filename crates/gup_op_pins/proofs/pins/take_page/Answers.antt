@@ -19,13 +19,13 @@ pub returns-clause-tells : goal.returns-clause-tells
 returns-clause-tells c =
     let a = c.args in
     let actor = a.head.now.actor in
-    let both = made_said actor a.proc a.page a.handle a.n a.want.write in
+    let both = made_said actor a.call.proc a.page a.call.handle a.call.n a.call.want.write in
     record {
       said = both;
       tells =
           told_after a.head.now a.journal.now c.happened.new.journal c.done.new.journal
-          (happened_said (events.PinTry actor a.proc a.page a.want.write)) (done_said (events.PinOk actor a.handle) (answers.Pinned a.n)) both
+          (happened_said (events.PinTry actor a.call.proc a.page a.call.want.write)) (done_said (events.PinOk actor a.call.handle) (answers.Pinned a.call.n)) both
           c.happened.ensures.says c.done.ensures refl;
       ends = refl;
-      is_so = ap (λ b. tried_whats b actor a.proc a.handle a.page a.n a.want.write) (sym (last a.far a.n c.requires.within (omega (arith, c.if-far-from.false, c.from.ensures))));
+      is_so = ap (λ b. tried_whats b actor a.call.proc a.call.handle a.page a.call.n a.call.want.write) (sym (last a.got a.call.n c.requires.within (omega (arith, c.if-got-call.false))));
     }

@@ -10,41 +10,41 @@ use Rattle.gup_op_waits.proofs.locks.waits_for.Goals as goal
 use Rattle.gup_op_waits.proofs.locks.waits_for.Goals.{in-Some+in-Born, in_default}
 
 pub returns-in-Unborn : goal.returns-in-Unborn
-returns-in-Unborn c s who far shown actor of_who place at =
+returns-in-Unborn c s who far shown actor of_who fits place at =
     let op = c.args.op.now in
     let p = c.in-Some.proc in
     let of_p : IsProcessOf who (Some p) = subst (λ (o : Option ℕ). IsProcessOf who o) c.in-Some.is of_who in
     let birth : IsBirth c.birth_of.result (s.birth p) = shown.births p c.birth_of.result c.birth_of.ensures in
     elim c.in-Unborn.is [
-      | inl is ↦ unborn_waits s who op p of_p.0 of_p.1 (subst (λ (b : Birth). IsBirth b (s.birth p)) is birth)
+      | inl is ↦ unborn_waits s who far op p of_p.0 of_p.1 (subst (λ (b : Birth). IsBirth b (s.birth p)) is birth)
       | inr is ↦
           let grows : IsBirth Growing (s.birth p) = subst (λ (b : Birth). IsBirth b (s.birth p)) is birth in
-          growing_waits s who op p grows.0 of_p.0 of_p.1 grows.1
+          growing_waits s who far op p grows.0 of_p.0 of_p.1 grows.1
     ]
 
 pub returns-in-Failed : goal.returns-in-Failed
-returns-in-Failed c s who far shown actor of_who place at =
+returns-in-Failed c s who far shown actor of_who fits place at =
     let op = c.args.op.now in
     let p = c.in-Some.proc in
     let of_p : IsProcessOf who (Some p) = subst (λ (o : Option ℕ). IsProcessOf who o) c.in-Some.is of_who in
     let birth : IsBirth c.birth_of.result (s.birth p) = shown.births p c.birth_of.result c.birth_of.ensures in
-    failed_waits s who op p of_p.0 of_p.1 (subst (λ (b : Birth). IsBirth b (s.birth p)) c.in-Failed.is birth)
+    failed_waits s who far op p of_p.0 of_p.1 (subst (λ (b : Birth). IsBirth b (s.birth p)) c.in-Failed.is birth)
 
 pub returns-in-Take-default : goal.returns-in-Take-default
-returns-in-Take-default c s who far shown actor of_who place at =
+returns-in-Take-default c s who far shown actor of_who fits place at =
     let op = c.args.op.now in
-    let first = c.waits_for_pin.ensures s shown.pins ∙ take_waits s c.args.actor who.proc c.in-Take-default.handle op c.in-Take-default.is-0 ∙ ap (λ b. waits_born s b who.proc op) (sym actor) in
+    let first = c.waits_for_pin.ensures s shown.pins ∙ take_waits s c.args.actor who.proc far c.in-Take-default.handle op c.in-Take-default.is-0 ∙ ap (λ b. waits_born s b who.proc far op) (sym actor) in
     elim c.match-proc.branch [
       | in-Some+in-Born w ↦
           let p = w.in-Some.proc in
           let of_p : IsProcessOf who (Some p) = subst (λ (o : Option ℕ). IsProcessOf who o) w.in-Some.is of_who in
           let birth : IsBirth w.birth_of.result (s.birth p) = shown.births p w.birth_of.result w.birth_of.ensures in
-          first ∙ born_waits s who op p of_p.0 of_p.1 (subst (λ (b : Birth). IsBirth b (s.birth p)) w.in-Born.is birth)
-      | in_default w ↦ first ∙ other_waits s who op (subst (λ (o : Option ℕ). IsProcessOf who o) w.in_default.is of_who)
+          first ∙ born_waits s who far op p of_p.0 of_p.1 (subst (λ (b : Birth). IsBirth b (s.birth p)) w.in-Born.is birth)
+      | in_default w ↦ first ∙ other_waits s who far op (subst (λ (o : Option ℕ). IsProcessOf who o) w.in_default.is of_who)
     ]
 
 pub returns-in_default-Some : goal.returns-in_default-Some
-returns-in_default-Some c s who far shown actor of_who place at =
+returns-in_default-Some c s who far shown actor of_who fits place at =
     let op = c.args.op.now in
     let a = c.args.actor in
     let q = c.in_default-Some.proc in
@@ -56,11 +56,11 @@ returns-in_default-Some c s who far shown actor of_who place at =
           let of_p : IsProcessOf who (Some p) = subst (λ (o : Option ℕ). IsProcessOf who o) w.in-Some.is of_who in
           let birth : IsBirth w.birth_of.result (s.birth p) = shown.births p w.birth_of.result w.birth_of.ensures in
           let own : q ≡ who.proc = same ∙ sym of_p.1 in
-          c.waits_for_holders.ensures s far shown.spaces place (subst (λ (k : ℕ). StandsAt s a k far op) (sym own) at)
-          ∙ lock_waits s a q op c.in_default-Some.not-Take-0
-          ∙ ap (λ k. waits_born s k q op) (sym actor)
-          ∙ ap (λ k. waits_born s who.actor k op) own
-          ∙ born_waits s who op p of_p.0 of_p.1 (subst (λ (b : Birth). IsBirth b (s.birth p)) w.in-Born.is birth)
+          c.waits_for_holders.ensures s far shown.spaces fits place (subst (λ (k : ℕ). StandsAt s a k far op) (sym own) at)
+          ∙ lock_waits s a q far op c.in_default-Some.not-Take-0
+          ∙ ap (λ k. waits_born s k q far op) (sym actor)
+          ∙ ap (λ k. waits_born s who.actor k far op) own
+          ∙ born_waits s who far op p of_p.0 of_p.1 (subst (λ (b : Birth). IsBirth b (s.birth p)) w.in-Born.is birth)
       | in_default w ↦
           let found : Some q ≡ None = sym c.in_default-Some.is-1 ∙ w.proc-is ∙ w.in_default.is in
           absurd (cc found)

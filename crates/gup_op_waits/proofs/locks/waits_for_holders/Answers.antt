@@ -38,20 +38,20 @@ none_of None none is e = refl
 none_of (Some x) none is e = absurd (let some : true ≡ false = is ∙ ap not e in cc)
 
 pub returns-then-is_none-2 : goal.returns-then-is_none-2
-returns-then-is_none-2 c s far spaces place at =
+returns-then-is_none-2 c s far spaces fits place at =
     let a = c.args.actor in
     let p = c.args.proc in
     let shown = spaces p c.space_at-space.result.now c.space_at-space.ensures in
     let structure = ap (held_by_other a) (shown.structure ∙ sym c.structure.ensures) ∙ sym c.held_by_other-structure.ensures ∙ none_of c.held_by_other-structure.result c.is_none.result c.is_none.ensures c.if-is_none.true in
     let table = ap (held_by_other a) (shown.table ∙ sym c.table.ensures) ∙ sym c.held_by_other-table.ensures ∙ none_of c.held_by_other-table.result c.is_none-then-is_none.result c.is_none-then-is_none.ensures c.if-is_none-2.true in
-    free_locks (locks_needed s a p c.args.op.now) a (s.structure p) (s.table p) structure table
+    free_locks (locks_needed s a p far c.args.op.now) a (s.structure p) (s.table p) structure table
 
 pub returns : goal.returns
-returns c s far spaces place at =
+returns c s far spaces fits place at =
     let a = c.args.actor in
     let p = c.args.proc in
     let shown = spaces p c.space_at-space.result.now c.space_at-space.ensures in
-    let needed = c.locks_needed-locks.ensures s a far spaces place at in
+    let needed = c.locks_needed-locks.ensures s a far spaces fits place at in
     let locks : Locks = locks_of c.locks_needed-locks.result in
     let structure = c.held_by_other-structure.result in
     let table = c.held_by_other-table.result in
@@ -62,5 +62,5 @@ returns c s far spaces place at =
     ∙ ap (λ (w : Option Waiting). option_or (waiting_if locks.structure (held_by_other a c.structure.result)) (waiting_if locks.table w)) c.held_by_other-table.ensures
     ∙ sym (locks_by locks a c.structure.result c.table.result)
     ∙ ap (λ (l : Locks). waits_for_locks l a c.structure.result c.table.result) needed
-    ∙ ap (λ o. waits_for_locks (locks_needed s a p c.args.op.now) a o c.table.result) (c.structure.ensures ∙ sym shown.structure)
-    ∙ ap (λ o. waits_for_locks (locks_needed s a p c.args.op.now) a (s.structure p) o) (c.table.ensures ∙ sym shown.table)
+    ∙ ap (λ o. waits_for_locks (locks_needed s a p far c.args.op.now) a o c.table.result) (c.structure.ensures ∙ sym shown.structure)
+    ∙ ap (λ o. waits_for_locks (locks_needed s a p far c.args.op.now) a (s.structure p) o) (c.table.ensures ∙ sym shown.table)

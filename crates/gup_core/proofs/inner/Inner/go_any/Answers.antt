@@ -83,7 +83,7 @@ take_at-over-requires-clause-ready c p unfailed of_p =
     let here = subst (λ (x : MachineValue). slice_get x.seats a ≡ Some c.seat-seat.result) (sym c.self.view_is) c.seat-seat.ensures in
     let op = sym (ap (λ ops. slice_get ops c.seat-seat.result.answered) c.ops.ensures) ∙ c.in-Some.ensures in
     let known : IsWaiting m a c.process.result c.seat-seat.result c.in-Some.op.now None =
-    λ s who far shown actor of_who place at. sym c.in_default-waits_at.is ∙ c.waits_at.ensures s who far shown actor of_who place at in
+    λ s who far shown actor of_who fits place at. sym c.in_default-waits_at.is ∙ c.waits_at.ensures s who far shown actor of_who fits place at in
     is_ready m a c.process-proc.result c.seat-seat.result c.in-Some.op.now c.reached_states_stand.ensures c.self.invariant rest c.process-proc.ensures here op
     (waiting_is m a c.process.result c.seat-seat.result c.in-Some.op.now None c.reached_states_stand.ensures rest c.process.ensures here op known)
     unfailed p of_p
@@ -127,7 +127,7 @@ returns-in-Some-waits_at-clause-advances c =
     let op = sym (ap (λ ops. slice_get ops c.seat-seat.result.answered) c.ops.ensures) ∙ c.in-Some.ensures in
     let waiting = c.in-Some-waits_at.waiting in
     let known : IsWaiting m a c.process.result c.seat-seat.result c.in-Some.op.now (Some waiting) =
-    λ s who far shown actor of_who place at. sym c.in-Some-waits_at.is ∙ c.waits_at.ensures s who far shown actor of_who place at in
+    λ s who far shown actor of_who fits place at. sym c.in-Some-waits_at.is ∙ c.waits_at.ensures s who far shown actor of_who fits place at in
     let waits = waiting_is m a c.process.result c.seat-seat.result c.in-Some.op.now (Some waiting) c.reached_states_stand.ensures rest c.process.ensures here op known in
     (subst (λ (x : MachineValue). WaitsFor x a waiting) c.self.view_is (λ r h. sym (waits r h)), record { machine = refl; notes = refl; room = omega arith })
 
@@ -143,7 +143,7 @@ turn-taken c =
     let here = subst (λ (x : MachineValue). slice_get x.seats a ≡ Some c.seat-seat.result) (sym c.self.view_is) c.seat-seat.ensures in
     let op = sym (ap (λ ops. slice_get ops c.seat-seat.result.answered) c.ops.ensures) ∙ c.in-Some.ensures in
     let known : IsWaiting m a c.process.result c.seat-seat.result c.in-Some.op.now None =
-    λ s who far shown actor of_who place at. sym c.in_default-waits_at.is ∙ c.waits_at.ensures s who far shown actor of_who place at in
+    λ s who far shown actor of_who fits place at. sym c.in_default-waits_at.is ∙ c.waits_at.ensures s who far shown actor of_who fits place at in
     let told = c.take_at-over.ensures.turn in
     goes m a c.process-proc.result c.seat-seat.result c.behind-next.result c.in-Some.op.now c.take_at-over.new.parts c.set_seat.new.seats.items c.next_turn-turn.result told.said c.take_at-over.result.1
     c.reached_states_stand.ensures rest c.process-proc.ensures here op c.next_turn-turn.ensures
@@ -168,7 +168,7 @@ returns-clause-advances c =
     let here = subst (λ (x : MachineValue). slice_get x.seats a ≡ Some c.seat-seat.result) (sym c.self.view_is) c.seat-seat.ensures in
     let op = sym (ap (λ ops. slice_get ops c.seat-seat.result.answered) c.ops.ensures) ∙ c.in-Some.ensures in
     let known : IsWaiting m a c.process.result c.seat-seat.result c.in-Some.op.now None =
-    λ s who far shown actor of_who place at. sym c.in_default-waits_at.is ∙ c.waits_at.ensures s who far shown actor of_who place at in
+    λ s who far shown actor of_who fits place at. sym c.in_default-waits_at.is ∙ c.waits_at.ensures s who far shown actor of_who fits place at in
     let ready = waiting_is m a c.process.result c.seat-seat.result c.in-Some.op.now None c.reached_states_stand.ensures rest c.process.ensures here op known in
     let n = machine_of i.script c.take_at-over.new.parts c.set_seat.new.seats.items c.next_turn-turn.result in
     let told = c.take_at-over.ensures.turn in
