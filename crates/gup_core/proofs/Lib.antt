@@ -2,6 +2,7 @@ pub mod Owning
 pub mod Forking
 pub mod Moves
 pub mod Moving
+pub mod Walking
 pub mod Pinning
 pub mod Parting
 pub mod Notes

@@ -28,6 +28,9 @@ use Rattle.gup_spec_turns.specs.DeviceTurns.{moves, moves_value, transfer_turn, 
 use Rattle.gup_spec_turns.specs.JobPlace.{job_place, place_in}
 use Rattle.gup_spec_turns.specs.PinPlace.{StandsPin, StandsAtPage}
 use Rattle.gup_core.proofs.Owning.{IsOwn, AreOwn, AreAll, through, two_lists, is_of, counts, marks_it, fills_own, breaks_own, write_fault_own, load_fault_own, birth_stays, Pins, own_leaves_pins, takes as takes_own, fills_it, breaks_it}
+use Rattle.gup_fast.proofs.Leaving.{IsWalking, Unwalked, leave_other as walks_leave, walkings_jobs, walkings_taken, walkings_leave}
+use Rattle.gup_spec_turns.specs.WalkTurns.{begin_turn, walk_turn}
+use Rattle.gup_core.proofs.Walking.{IsOfWalk, AreOfWalk, walks, makes_it, begins_walk, walk_walks}
 use Rattle.gup_core.proofs.Moves.{IsMoving, clears, counts as counts_it, takes, places, puts, puts_back as restores_it, move_birth_stays, move_leaves_pins, is_of_move, move_place, put_other}
 
 -- ---- pins
@@ -40,6 +43,7 @@ pub data IsPinning (a p : ℕ) : CoreEvent → Type 0 where
   makes : (h : ℕ) → IsPinning a p (make_handle a h)
   gets_it : (page f h : ℕ) (writable : Bool) → IsPinning a p (get_reference a p page f h writable)
   moves_it : (e : CoreEvent) → IsMoving a p e → IsPinning a p e
+  walks_it : (e : CoreEvent) → IsWalking a p e → IsPinning a p e
 
 abbrev pub ArePinning : (a p : ℕ) → List CoreEvent → Type 0
 ArePinning a p es = AreAll (IsPinning a p) es
@@ -51,6 +55,7 @@ pinning_leaves a p q space s other flags h = leave_other p q space s (raise_flag
 pinning_leaves a p q space s other (pins_it page e write long) h = leave_other p q space s (pin_page a p page e write long ∷ []) other (pinning a page e write long, tt) h
 pinning_leaves a p q space s other (makes k) h = leave_other p q space s (make_handle a k ∷ []) other (making a k, tt) h
 pinning_leaves a p q space s other (moves_it e own) h = moves_leave p q space s (e ∷ []) other (is_of_move a p own, tt) h
+pinning_leaves a p q space s other (walks_it e walking) h = walks_leave a p q space s (e ∷ []) other (walking, tt) h
 pinning_leaves a p q space s other (gets_it page f k writable) h = leave_other p q space s (get_reference a p page f k writable ∷ []) other (getting a page f k writable, tt) h
 
 pub pinnings_leave : (a p q : ℕ) (space : SpaceValue) (s : CoreState) (es : List CoreEvent) → (p ≡ q → ⊥) → ArePinning a p es → ShowsSpace q space s → ShowsSpace q space (run s es)
@@ -139,27 +144,35 @@ pub get_is_pinning : (s : CoreState) (a p handle page : ℕ) → ArePinning a p 
 get_is_pinning s a p handle page =
     get_pinning s (load_fault s a p page (s.entry p page)) a p handle page (load_fault_own s a p page (s.entry p page))
 
-begins_pinning : (begins : Bool) (s : CoreState) (a p handle page n got : ℕ) (want : Want) (fast : Bool) → begins ≡ false → ArePinning a p (begins_or_pins begins s a p handle page n got want fast).events
-begins_pinning true s a p handle page n got want fast never = absurd (cc never)
-begins_pinning false s a p handle page n got want fast never = at_pinning s a p handle page n got want fast
+-- its walk
 
--- one that doesn't walk
-in_pinning : (s : CoreState) (a p handle page n got far at_page : ℕ) (want : Want) (fast : Bool) (job : Job) → fast ≡ false → StandsAtPage s a p at_page n got want fast job → ArePinning a p (pin_turn_in s a p handle page n got want fast far job).events
-in_pinning s a p handle page n got far at_page want fast (moving q g e allowed count) slow at = moved_pinning s a p handle (page + got) n got want e count
-in_pinning s a p handle page n got far at_page want fast (walking q write long sequence step) slow at = absurd (false≢true (sym slow ∙ at.walks))
-in_pinning s a p handle page n got far at_page want fast idle slow at =
-    begins_pinning (fast && far == 0) s a p handle page n got want fast (ap (λ (b : Bool). b && far == 0) slow)
-in_pinning s a p handle page n got far at_page want fast job slow at = absurd at
+walk_pinning : (a p : ℕ) (es : List CoreEvent) → AreOfWalk a p es → ArePinning a p es
+walk_pinning a p [] all = tt
+walk_pinning a p (e ∷ es) all = (one all.0, walk_pinning a p es all.1)
+  where
+    one : {x : CoreEvent} → IsOfWalk a p x → IsPinning a p x
+    one (walks x walking) = walks_it x walking
+    one (makes_it h) = makes h
 
-pub pin_is_pinning : (s : CoreState) (a p handle page n far : ℕ) (want : Want) (fast : Bool) → fast ≡ false → StandsPin s a p handle page n want fast (length (s.taken a)) → ArePinning a p (pin_turn s a p handle page n want fast far).events
-pin_is_pinning s a p handle page n far want fast slow stands =
-    in_pinning s a p handle page n (length (s.taken a)) far (page + length (s.taken a)) want fast (s.job a) slow stands.at
+begins_pinning : (begins : Bool) (s : CoreState) (a p handle page n got : ℕ) (want : Want) (fast : Bool) → ArePinning a p (begins_or_pins begins s a p handle page n got want fast).events
+begins_pinning true s a p handle page n got want fast = walk_pinning a p (begin_turn a p want).events (begins_walk a p want)
+begins_pinning false s a p handle page n got want fast = at_pinning s a p handle page n got want fast
+
+in_pinning : (s : CoreState) (a p handle page n got far : ℕ) (want : Want) (fast : Bool) (job : Job) → ArePinning a p (pin_turn_in s a p handle page n got want fast far job).events
+in_pinning s a p handle page n got far want fast (moving q g e allowed count) = moved_pinning s a p handle (page + got) n got want e count
+in_pinning s a p handle page n got far want fast (walking q write long sequence step) =
+    walk_pinning a p (walk_turn s a p handle page n want sequence step).events (walk_walks s a p handle page n want sequence step)
+in_pinning s a p handle page n got far want fast job = begins_pinning (fast && far == 0) s a p handle page n got want fast
+
+pub pin_is_pinning : (s : CoreState) (a p handle page n far : ℕ) (want : Want) (fast : Bool) → ArePinning a p (pin_turn s a p handle page n want fast far).events
+pin_is_pinning s a p handle page n far want fast = in_pinning s a p handle page n (length (s.taken a)) far want fast (s.job a)
 
 -- what they leave
 
 pinning_births : (a p : ℕ) (s : CoreState) {e : CoreEvent} → IsPinning a p e → (happens s e).birth ≡ s.birth
 pinning_births a p s (readies e own) = birth_stays a p s own
 pinning_births a p s (moves_it e own) = move_birth_stays a p s own
+pinning_births a p s (walks_it e walking) = ap (λ (x : Unwalked). x.0) (walkings_leave a p s (e ∷ []) (walking, tt))
 pinning_births a p s event = refl
 
 pub pinnings_births : (a p : ℕ) (s : CoreState) (es : List CoreEvent) → ArePinning a p es → (run s es).birth ≡ s.birth
@@ -168,6 +181,7 @@ pinnings_births a p s es all = through (IsPinning a p) (λ x. x.birth) (λ x e i
 pinning_stores : (a p : ℕ) (s : CoreState) {e : CoreEvent} → IsPinning a p e → (happens s e).store ≡ s.store
 pinning_stores a p s (readies e own) = ap (λ (k : Pins). k.3) (own_leaves_pins a p s own)
 pinning_stores a p s (moves_it e own) = ap (λ (k : Pins). k.3) (move_leaves_pins a p s own)
+pinning_stores a p s (walks_it e walking) = ap (λ (x : Unwalked). x.1) (walkings_leave a p s (e ∷ []) (walking, tt))
 pinning_stores a p s event = refl
 
 pub pinnings_stores : (a p : ℕ) (s : CoreState) (es : List CoreEvent) → ArePinning a p es → (run s es).store ≡ s.store
@@ -176,6 +190,7 @@ pinnings_stores a p s es all = through (IsPinning a p) (λ x. x.store) (λ x e i
 pinning_taken : (a p b : ℕ) (s : CoreState) {e : CoreEvent} → (b ≡ a → ⊥) → IsPinning a p e → (happens s e).taken b ≡ s.taken b
 pinning_taken a p b s other (readies e own) = ap (λ (k : Pins). k.2 b) (own_leaves_pins a p s own)
 pinning_taken a p b s other (moves_it e own) = ap (λ (k : Pins). k.2 b) (move_leaves_pins a p s own)
+pinning_taken a p b s other (walks_it e walking) = walkings_taken a p b s (e ∷ []) other (walking, tt)
 pinning_taken a p b s other flags = refl
 pinning_taken a p b s other (pins_it page e write long) = grind (arith, nat_tests)
 pinning_taken a p b s other (makes h) = grind (arith, nat_tests)
@@ -196,6 +211,9 @@ own_place a p b s other event = refl
 pinning_place : (a p b : ℕ) (s : CoreState) {e : CoreEvent} → (a ≡ b → ⊥) → IsPinning a p e → place_in (happens s e) b ≡ place_in s b
 pinning_place a p b s other (readies e own) = own_place a p b s other own
 pinning_place a p b s other (moves_it e own) = move_place a p b s other own
+pinning_place a p b s other (walks_it e walking) =
+    ap (λ (j : Job). job_place j ((happens s e).prepared b)) (walkings_jobs a p b s (e ∷ []) (λ same. other (sym same)) (walking, tt))
+    ∙ ap (λ (x : Unwalked). job_place (s.job b) (x.8 b)) (walkings_leave a p s (e ∷ []) (walking, tt))
 pinning_place a p b s other event = refl
 
 pub pinnings_places : (a p b : ℕ) (s : CoreState) (es : List CoreEvent) → (a ≡ b → ⊥) → ArePinning a p es → place_in (run s es) b ≡ place_in s b

@@ -170,7 +170,7 @@ alone old new a p slots far op place whats by_itself single within many births h
 -- ---- a turn of a pin
 
 pub pinned : (old new : Parts) (a p slots far handle page n : ℕ) (want : Want) (fast : Bool) (place next : JobPlace) (whats : List What)
-    → fast ≡ false → p < length old.spaces.items → length new.spaces.items ≡ length old.spaces.items
+    → p < length old.spaces.items → length new.spaces.items ≡ length old.spaces.items
     → a < length old.taken.items → length new.taken.items ≡ length old.taken.items
     → new.births ≡ old.births → new.stores ≡ old.stores
     → ((q : ℕ) → (q ≡ p → ⊥) → slice_get new.spaces.items q ≡ slice_get old.spaces.items q)
@@ -178,14 +178,14 @@ pub pinned : (old new : Parts) (a p slots far handle page n : ℕ) (want : Want)
     → ((x y : SpaceParts) (was now : ArrayVec ℕ) → slice_get old.spaces.items p ≡ Some x → slice_get new.spaces.items p ≡ Some y → slice_get old.taken.items a ≡ Some was → slice_get new.taken.items a ≡ Some now
     → IsPinTurn old new x y was now a (record { proc = p; handle = handle; page = page; n = n; want = want; fast = fast }) far place next whats)
     → IsTurnAmong old new a p slots far (Pin handle page n want fast) place whats next
-pinned old new a p slots far handle page n want fast place next whats slow within many taker takers births stores others untaken turn k rest far_is s shown stands =
+pinned old new a p slots far handle page n want fast place next whats within many taker takers births stores others untaken turn k rest far_is s shown stands =
     let x = there old.spaces.items p within in
     let y = there new.spaces.items p (omega (arith, within, many)) in
     let was = there old.taken.items a taker in
     let now = there new.taken.items a (omega (arith, taker, takers)) in
     let stands_so : StandsPin s a p handle page n want fast (length (s.taken a)) = stands.pin handle page n want fast refl in
     let es : List CoreEvent = (pin_turn s a p handle page n want fast k).events in
-    let own : ArePinning a p es = pin_is_pinning s a p handle page n k want fast slow stands_so in
+    let own : ArePinning a p es = pin_is_pinning s a p handle page n k want fast in
     let call : PinCall = record { proc = p; handle = handle; page = page; n = n; want = want; fast = fast } in
     let many_taken : length (s.taken a) ≡ length was.0.items = sym (length_frames (s.taken a)) ∙ ap length (shown.parts.taken a was.0 was.1) in
     let led : Leads (ShowsPinning a p) (pinning_view new.frames y.0 new.handles now.0.items (place_of next)) s (pin_turn s a p handle page n want fast k) whats =
