@@ -37,7 +37,7 @@ use Rattle.gup_law_turns.proofs.PreparedFrames.{ArePreparedThere, there_on, is_p
 use Rattle.gup_law_turns.proofs.TurnShapes.{FitsMove, FitsFork, FitsPin, FitsOp, FitsAt, TurnAt, idles, waits, goes, unborn_refused, unborn_fork, child_of, strand_of}
 use Rattle.gup_law_turns.proofs.StandingTurns.{Starts, at_each, stands_on, stands_first}
 use Rattle.gup_law_turns.proofs.StandingStates.{Stands}
-use Rattle.gup_law_turns.proofs.TurnSteps.{taken}
+use Rattle.gup_law_turns.proofs.TurnSteps.{taken, rests_at}
 use Rattle.gup_law_turns.proofs.EventLists.{Law}
 use Rattle.gup_plain.specs.Denial.{is_held_by}
 use Rattle.gup_script.specs.Limits.{most_pinned}
@@ -290,6 +290,7 @@ is_standing published script valid r h =
       few_pages = λ p. few_mapped s p (k.few.mapped p) (k.few.pages p);
       few_counts = few_counts s k.sound k.calm k.rest (λ a. no_frame s (doer_of script a (present_op script a (r.places a))) (present_op script a (r.places a)) (r.places a) (λ op is. few_actor a op is) (k.fits a)) k.emptied few (few_pins script valid r k) (λ handle got. let below = k.got handle got in let most = valid.few_handles in omega (arith, below, most));
       few_forks = few_sequence (length script.processes) valid.few_processes s k.few;
+      fresh = λ a first. (rests_at s (doer_of script a (present_op script a (r.places a))) (r.places a) first (present_op script a (r.places a)) (k.fits a)).0;
       idle_jobs = λ a no_fork. idle_job s (doer_of script a (present_op script a (r.places a))) (present_op script a (r.places a)) (r.places a) no_fork (k.fits a);
       forks = λ a child is. (fork_stands s a (process_of script a) child (r.places a) (s.job a) (s.prepared a) (at a (Fork child) is).1).0;
       moves = λ a proc page zone is. (move_stands s a proc page zone (r.places a) (s.job a) (at a (Move proc page zone) is).2).0;

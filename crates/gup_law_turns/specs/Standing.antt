@@ -43,13 +43,13 @@ abbrev pub IsUnmade : CoreState → (handle : ℕ) → Type 0
 IsUnmade s handle = (s.handle handle ≡ unmade) × (s.got handle ≡ None)
 
 -- The core state is sound, and all that is published of core states holds of it. Those that are not unborn are declared. Each
--- entry is of a mapped page, and its frame has a reference. No actor but one that forks, moves, walks or pins for long is in the middle of anything, none but
--- one that pins has taken pages, and none but one that copies a page has prepared a frame. A pin has had no more
--- turns than its pages take. An operation that goes over pages or
--- words stands at one of them, an unpin has given back fewer than the most pages of a pin, and no actor has answered more
--- operations than it has. Pins and references are of declared handles, the weight of each page of a pin is in the count of its
--- frame, also of one that is taken or that a walk has grabbed, and so is that of a reference; the handle of a pin or a reference that isn't answered is unmade. Counts and sequences
--- stay small.
+-- entry is of a mapped page, and its frame has a reference. No actor but one that forks, moves, walks or pins for long is in the
+-- middle of anything, and none at the first turn of its operation; none but one that pins has taken pages, and none but one that
+-- copies a page has prepared a frame. A pin has had no more turns than its walk and its pages take. An operation that goes over
+-- pages or words stands at one of them, an unpin has given back fewer than the most pages of a pin, and no actor has answered
+-- more operations than it has. Pins and references are of declared handles. The weight of each page of a pin is in the count of its
+-- frame, also of one that is taken or that a walk has grabbed, and so is that of a reference; the handle of a pin or a reference
+-- that isn't answered is unmade. Counts and sequences stay small.
 pub record IsStanding (script : ScriptValue) (r : RunState) : Type 0 where
   pub sound : IsSound r.core
   pub holds : Holds r.core
@@ -60,6 +60,7 @@ pub record IsStanding (script : ScriptValue) (r : RunState) : Type 0 where
   pub few_counts : (f : ℕ) → r.core.count f ≤ 16 * page_numbers + most_handles + 81 + bias * 17761
   pub few_forks : (p : ℕ) → r.core.sequence p ≤ 32
   pub idle_jobs : (a : ℕ) → KeepsNoJob (present_op script a (r.places a)) → r.core.job a ≡ idle
+  pub fresh : (a : ℕ) → (r.places a).far ≡ 0 → r.core.job a ≡ idle
   pub forks : (a child : ℕ) → present_op script a (r.places a) ≡ Some (Fork child) → StandsFork r.core a (process_of script a) child (r.core.job a) (r.core.prepared a)
   pub moves : (a proc page : ℕ) (zone : Zone) → present_op script a (r.places a) ≡ Some (Move proc page zone) → StandsMove r.core a proc page zone (r.core.job a)
   pub keeps : (a : ℕ) → KeepsFrame (r.core.job a) (r.core.prepared a)
