@@ -43,7 +43,7 @@ pub moved : (old new : Parts) (a p q slots far page : ℕ) (zone : Zone) (place 
     → ((k : ℕ) → (k ≡ p → ⊥) → slice_get new.spaces.items k ≡ slice_get old.spaces.items k)
     → IsMoveTurn old new old.spaces.items new.spaces.items a p page zone place next whats
     → IsTurnAmong old new a p slots far (Move q page zone) place whats next
-moved old new a p q slots far page zone place next whats within many births handles taken stores others turn k rest far_is s shown stands =
+moved old new a p q slots far page zone place next whats within many births handles taken stores others turn k rest left far_is s shown stands =
     let was = there old.spaces.items p within in
     let now = there new.spaces.items p (omega (arith, within, many)) in
     let t : CoreTurn = move_turn s a p page zone (s.job a) in
@@ -66,6 +66,8 @@ moved old new a p q slots far page zone place next whats within many births hand
       shown = record {
         parts = parts;
         job = sym led.shown.place;
+        ends = tt;
+        left = λ b other. ap (λ (k : Pins). k.2 b) stay ∙ shown.left b other;
         others = λ b other. move_places_stay a p b s t.events (λ is. other (sym is)) own ∙ shown.others b other;
       };
     }

@@ -157,7 +157,7 @@ pub refused : (old new : Parts) (a : ℕ) (proc : Option ℕ) (far : ℕ) (op : 
     → HasFailed old.births.items proc → new.frames ≡ old.frames → new.spaces ≡ old.spaces → new.handles ≡ old.handles → new.taken ≡ old.taken → new.stores ≡ old.stores
     → ((b p : ℕ) → IsTurnOf ShowsBirths Anywhere old.births.items new.births.items (λ s. failed_turn b p op) whats)
     → IsTurnBy old new a proc far op place whats place
-refused old new a proc far op place whats has frames spaces handles taken stores turn who k rest own of_who slots far_is s shown stands =
+refused old new a proc far op place whats has frames spaces handles taken stores turn who k rest left own of_who slots far_is s shown stands =
     let p : ℕ = who.proc in
     let t : CoreTurn = failed_turn who.actor p op in
     let made : IsRefusal who.actor p op t.events = refusal who.actor p op in
@@ -182,6 +182,8 @@ refused old new a proc far op place whats has frames spaces handles taken stores
       shown = record {
         parts = parts;
         job = shown.job ∙ sym (places_left who.actor p op s made a);
+        ends = subst (EndsAt op place) (ap (λ (k : Pins). k.2 a) (sym stay)) shown.ends;
+        left = λ b apart. ap (λ (k : Pins). k.2 b) stay ∙ shown.left b apart;
         others = λ b apart. places_left who.actor p op s made b ∙ shown.others b apart;
       };
     })

@@ -48,8 +48,9 @@ shows_behind : (m : MachineValue) (parts : Parts) (seats : List Seat) (turns : �
     → core_turn_in m.script r a ≡ t → Shows m r → turns ≡ counted m.turns → ShowsParts parts (run r.core t.events)
     → ((b : ℕ) (seat : Seat) → slice_get seats b ≡ Some seat → IsSeat (present_op m.script b (places_behind r.places (record { actor = a; whats = t.whats }) b)) (places_behind r.places (record { actor = a; whats = t.whats }) b) seat)
     → ((b : ℕ) (seat : Seat) → slice_get seats b ≡ Some seat → place_of seat.job ≡ place_in (run r.core t.events) b)
+    → ((b handle page n : ℕ) (want : Want) (fast : Bool) (seat : Seat) → slice_get seats b ≡ Some seat → present_op m.script b (places_behind r.places (record { actor = a; whats = t.whats }) b) ≡ Some (Pin handle page n want fast) → EndAt (last_page seat.job) ((run r.core t.events).taken b))
     → Shows (machine_of m.script parts seats turns) (run_after m.script r a)
-shows_behind m parts seats turns r a t is h count shown places jobs =
+shows_behind m parts seats turns r a t is h count shown places jobs ends =
     let behind : CoreTurn → RunState =
     λ u. record {
       core = run r.core u.events;
@@ -63,6 +64,8 @@ shows_behind m parts seats turns r a t is h count shown places jobs =
       seats =
           subst (λ (u : CoreTurn). (b : ℕ) (seat : Seat) → slice_get seats b ≡ Some seat → IsSeat (present_op m.script b ((behind u).places b)) ((behind u).places b) seat) (sym is) places;
       jobs = subst (λ (u : CoreTurn). (b : ℕ) (seat : Seat) → slice_get seats b ≡ Some seat → place_of seat.job ≡ place_in (behind u).core b) (sym is) jobs;
+      ends =
+          subst (λ (u : CoreTurn). (b handle page n : ℕ) (want : Want) (fast : Bool) (seat : Seat) → slice_get seats b ≡ Some seat → present_op m.script b ((behind u).places b) ≡ Some (Pin handle page n want fast) → EndAt (last_page seat.job) ((behind u).core.taken b)) (sym is) ends;
       turns = count ∙ counted_next m.turns r.turns h.turns;
     }
 
@@ -104,6 +107,14 @@ still_machine m n a notes was parts seats turns =
 
 -- ---- idle, or waiting
 
+-- an actor that stays at its place leaves all there
+same_places : (script : ScriptValue) (places : ℕ → Place) (a : ℕ) (what : What) → place_behind (places a) (what ∷ []) ≡ places a → (b : ℕ) → places_behind places (record { actor = a; whats = what ∷ [] }) b ≡ places b
+same_places script places a what same b = go (b == a) refl
+  where
+    go : (t : Bool) → (b == a) ≡ t → (cond t (place_behind (places a) (what ∷ [])) (places b)) ≡ places b
+    go true is = same ∙ ap places (sym (eqb-true b a is))
+    go false is = refl
+
 -- a turn without an event leaves all but its number
 pub stays : (m : MachineValue) (r : RunState) (a : ℕ) (seat : Seat) (turns : ℕ) (what : What) → Shows m r → slice_get m.seats a ≡ Some seat → turns ≡ counted m.turns
     → core_turn_in m.script r a ≡ record { events = []; whats = what ∷ [] } → place_behind (r.places a) (what ∷ []) ≡ r.places a
@@ -112,7 +123,7 @@ stays m r a seat turns what h here count is same =
     shows_behind m m.parts m.seats turns r a (record { events = []; whats = what ∷ [] }) is h count h.parts
     (seats_behind m.script r.places m.seats m.seats a (record { actor = a; whats = what ∷ [] }) seat refl h.seats (λ b apart. refl) here
     (subst (λ (x : Place). IsSeat (present_op m.script a x) x seat) (sym same) (h.seats a seat here)))
-    h.jobs
+    h.jobs (λ b handle page n want fast s found now. h.ends b handle page n want fast s found (sym (ap (present_op m.script b) (same_places m.script r.places a what same b)) ∙ now))
 
 pub says_so : (m : MachineValue) (r : RunState) (a : ℕ) (seat : Seat) (turns : ℕ) (t : CoreTurn) (whats : List What) → Shows m r → slice_get m.seats a ≡ Some seat → turns ≡ counted m.turns → core_turn_in m.script r a ≡ t → t.whats ≡ whats
     → notes_of_turn turns a (seat.answered + 1) whats ≡ notes_of_turn (counted m.turns) a ((r.places a).answered + 1) (core_turn_in m.script r a).whats
@@ -194,6 +205,48 @@ pub job_of_seat : (seat : Seat) (op : Op) (answered : Bool) (job : JobPlace) →
 job_of_seat seat op true job = refl
 job_of_seat seat op false job = refl
 
+-- after such notes the actor does the same operation, or stands at the first turn of the next one
+same_or_first : (script : ScriptValue) (a : ℕ) (place : Place) (event next : Option PlainEvent) (answer : Option Answer)
+    → (present_op script a (place_behind place (whats_by event next answer)) ≡ present_op script a place) ⊎ ((place_behind place (whats_by event next answer)).far ≡ 0)
+same_or_first script a place None None None = inl refl
+same_or_first script a place (Some event) None None = inl refl
+same_or_first script a place None (Some next) None = inl refl
+same_or_first script a place (Some event) (Some next) None = inl refl
+same_or_first script a place None None (Some answer) = inr refl
+same_or_first script a place (Some event) None (Some answer) = inr refl
+same_or_first script a place None (Some next) (Some answer) = inr refl
+same_or_first script a place (Some event) (Some next) (Some answer) = inr refl
+
+-- where a job is in the middle of nothing it has nothing to drop
+none_left : (job : JobPlace) (taken : List Taken) → place_of job ≡ unbegun → EndAt (last_page job) taken
+none_left (Walking place page sequence) taken is = absurd (cc is)
+none_left job taken is = tt
+
+-- what a pin's walk has left to drop ends where its seat says, after the turn, too
+ends_behind : (script : ScriptValue) (places : ℕ → Place) (s t : CoreState) (seats others : List Seat) (a : ℕ) (whats : List What) (seat : Seat)
+    → ((b handle page n : ℕ) (want : Want) (fast : Bool) (x : Seat) → slice_get seats b ≡ Some x → present_op script b (places b) ≡ Some (Pin handle page n want fast) → EndAt (last_page x.job) (s.taken b))
+    → ((b : ℕ) → (b ≡ a → ⊥) → slice_get others b ≡ slice_get seats b) → slice_get others a ≡ Some seat
+    → ((handle page n : ℕ) (want : Want) (fast : Bool) → present_op script a (place_behind (places a) whats) ≡ Some (Pin handle page n want fast) → EndAt (last_page seat.job) (t.taken a))
+    → ((b : ℕ) → (b ≡ a → ⊥) → t.taken b ≡ s.taken b)
+    → (b handle page n : ℕ) (want : Want) (fast : Bool) (x : Seat) → slice_get others b ≡ Some x → present_op script b (places_behind places (record { actor = a; whats = whats }) b) ≡ Some (Pin handle page n want fast) → EndAt (last_page x.job) (t.taken b)
+ends_behind script places s t seats others a whats seat old same here new stay b handle page n want fast x found now = go (b == a) refl now
+  where
+    at_actor : b ≡ a → present_op script b (place_behind (places a) whats) ≡ Some (Pin handle page n want fast) → EndAt (last_page x.job) (t.taken b)
+    at_actor e is =
+        let one : Some seat ≡ Some x = sym here ∙ ap (λ k. slice_get others k) (sym e) ∙ found in
+        subst (λ (k : ℕ). EndAt (last_page x.job) (t.taken k)) (sym e)
+        (subst (λ (y : Seat). EndAt (last_page y.job) (t.taken a)) (some_seat one)
+        (new handle page n want fast (ap (λ (k : ℕ). present_op script k (place_behind (places a) whats)) (sym e) ∙ is)))
+      where
+        some_seat : {y z : Seat} → Some y ≡ Some z → y ≡ z
+        some_seat e = cc
+
+    go : (c : Bool) → (b == a) ≡ c → present_op script b (cond c (place_behind (places a) whats) (places b)) ≡ Some (Pin handle page n want fast) → EndAt (last_page x.job) (t.taken b)
+    go true e is = at_actor (eqb-true b a e) is
+    go false e is =
+        let apart = differ b a e in
+        subst (EndAt (last_page x.job)) (sym (stay b apart)) (old b handle page n want fast x (sym (same b apart) ∙ found) is)
+
 -- the turn is that of the operation, or its refusal
 taken_is : (m : MachineValue) (r : RunState) (a : ℕ) (op : Op) → op_in m.script r a ≡ Some op → waiting_in m.script r a ≡ None → core_turn_in m.script r a ≡ turn_of r.core (doer_of m.script a (Some op)) (r.places a).far op
 taken_is m r a op is none =
@@ -216,8 +269,9 @@ goes m a proc seat next op parts seats turns said job stand rest of_a here prese
     let t : CoreTurn = turn_of r.core who far op in
     let is : core_turn_in m.script r a ≡ t = taken_is m r a op op_is (sym (ready r h)) in
     let forks = place_in r.core in
-    let led : Leads (ShowsAll a) (all_view parts job forks) r.core t (whats_of said) =
-    turn who far forks refl of_a (rest.parts.slots a) at.1 r.core (record { parts = h.parts; job = h.jobs a seat here; others = λ b apart. refl })
+    let led : Leads (ShowsAll a op) (all_view parts job forks r.core.taken) r.core t (whats_of said) =
+    turn who far forks r.core.taken refl of_a (rest.parts.slots a) at.1 r.core
+    (record { parts = h.parts; job = h.jobs a seat here; ends = ends_now op r.core.taken (λ handle page n want fast same. h.ends a handle page n want fast seat here (op_is ∙ ap (λ (o : Op). Some o) same)); others = λ b apart. refl; left = λ b apart. refl })
     (record { sound = stands.sound; at = stands_at m.script r a op stands op_is; free = free }) in
     let seated_so : slice_get seats a ≡ Some (seat_behind seat op (is_some said.answer) job) = seated ∙ ap (λ (s : Seat). Some s) next_is in
     let two : NoTwo (whats_of said) = subst (λ (ws : List What). NoTwo ws) led.says (turn_two (birth_for r.core.birth who) r.core a who.proc who.slots far op) in
@@ -229,5 +283,25 @@ goes m a proc seat next op parts seats turns said job stand rest of_a here prese
           (subst (λ (ws : List What). IsSeat (present_op m.script a (place_behind (r.places a) ws)) (place_behind (r.places a) ws) (seat_behind seat op (is_some said.answer) job)) (sym led.says)
           (seat_next m.script a (r.places a) seat op job said.event said.next said.answer op_is at two)))
           (forks_behind r.core (run r.core t.events) m.seats seats a (seat_behind seat op (is_some said.answer) job) h.jobs unseated seated_so
-          (ap place_of (job_of_seat seat op (is_some said.answer) job) ∙ led.shown.job) led.shown.others);
+          (ap place_of (job_of_seat seat op (is_some said.answer) job) ∙ led.shown.job) led.shown.others)
+          (ends_behind m.script r.places r.core (run r.core t.events) m.seats seats a t.whats (seat_behind seat op (is_some said.answer) job) h.ends unseated seated_so
+          (subst (λ (ws : List What). (handle page n : ℕ) (want : Want) (fast : Bool) → present_op m.script a (place_behind (r.places a) ws) ≡ Some (Pin handle page n want fast) → EndAt (last_page (seat_behind seat op (is_some said.answer) job).job) ((run r.core t.events).taken a)) (sym led.says)
+          (λ handle page n want fast now.
+          subst (λ (j : JobPlace). EndAt (last_page j) ((run r.core t.events).taken a)) (sym (job_of_seat seat op (is_some said.answer) job))
+          (elim (same_or_first m.script a (r.places a) said.event said.next said.answer) [
+            | inl same ↦ ends_then op job ((run r.core t.events).taken a) handle page n want fast (some_op (sym op_is ∙ sym same ∙ now)) led.shown.ends
+            | inr first ↦ none_left job ((run r.core t.events).taken a) (led.shown.job ∙ rests_then first)
+          ])))
+          led.shown.left);
     }
+  where
+    some_op : {o x : Op} → Some o ≡ Some x → o ≡ x
+    some_op e = cc
+
+    ends_now : (o : Op) (taken : ℕ → List Taken) → ((handle page n : ℕ) (want : Want) (fast : Bool) → o ≡ Pin handle page n want fast → EndAt (last_page seat.job) (taken a)) → EndsAt o seat.job (taken a)
+    ends_now (Pin handle page n want fast) taken all = all handle page n want fast refl
+    ends_now o taken all = tt
+
+    ends_then : (o : Op) (j : JobPlace) (taken : List Taken) (handle page n : ℕ) (want : Want) (fast : Bool) → o ≡ Pin handle page n want fast → EndsAt o j taken → EndAt (last_page j) taken
+    ends_then o j taken handle page n want fast same ends = subst (λ (x : Op). EndsAt x j taken) same ends
+

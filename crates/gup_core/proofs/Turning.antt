@@ -39,7 +39,7 @@ use Rattle.gup_op_waits.specs.declared.births.Birth.{Birth}
 use Rattle.gup_op_waits.specs.Births.{birth_by}
 use Rattle.gup_op_waits.specs.declared.parts.Parts.{Parts}
 use Rattle.gup_op_waits.specs.Stands.{StandsAt}
-use Rattle.gup_core.specs.Goes.{ShowsAll, StandsFree, all_view, HasSlots}
+use Rattle.gup_core.specs.Goes.{ShowsAll, StandsFree, all_view, EndsAt, HasSlots}
 use Rattle.gup_op_waits.specs.Doers.{IsProcessOf}
 use Rattle.gup_op_waits.specs.Parts.{ShowsSpaces, IsBirth, ShowsBirths, ShowsTaken, ShowsStores, ShowsParts}
 use Rattle.gup_core.proofs.Owning.{AreOwn, are_of, turn_is_own, births_stay, IsUnforked, forks_stay, Pins, pins_of, own_leave_pins}
@@ -52,19 +52,19 @@ use Rattle.gup_spec_turns.specs.PinPlace.{StandsPin}
 -- the operation's turn, from these parts and this place of its job to those, wherever the jobs of others stand
 abbrev pub IsTurnAmong : (old new : Parts) → (a p slots far : ℕ) → Op → (place : JobPlace) → List What → (next : JobPlace) → Type 0
 IsTurnAmong old new a p slots far op place whats next =
-    (k : ℕ) (others : ℕ → Place) → far ≡ far_in (Some op) k
-    → IsTurnOf (ShowsAll a) (λ s. StandsAt s a p k op) (all_view old place others) (all_view new next others) (λ s. op_turn s a p slots k op) whats
+    (k : ℕ) (others : ℕ → Place) (left : ℕ → List TakenPage) → far ≡ far_in (Some op) k
+    → IsTurnOf (ShowsAll a op) (λ s. StandsAt s a p k op) (all_view old place others left) (all_view new next others left) (λ s. op_turn s a p slots k op) whats
 
 -- the actor's turn: the operation's own, or, where its process has failed, its refusal
 abbrev pub IsTurnBy : (old new : Parts) → (a : ℕ) → (proc : Option ℕ) → (far : ℕ) → Op → (place : JobPlace) → List What → (next : JobPlace) → Type 0
 IsTurnBy old new a proc far op place whats next =
-    (who : Doer) (k : ℕ) (others : ℕ → Place) → who.actor ≡ a → IsProcessOf who proc → HasSlots old a who.slots → far ≡ far_in (Some op) k
-    → IsTurnOf (ShowsAll a) (StandsFree a who k op) (all_view old place others) (all_view new next others) (λ s. turn_of s who k op) whats
+    (who : Doer) (k : ℕ) (others : ℕ → Place) (left : ℕ → List TakenPage) → who.actor ≡ a → IsProcessOf who proc → HasSlots old a who.slots → far ≡ far_in (Some op) k
+    → IsTurnOf (ShowsAll a op) (StandsFree a who k op) (all_view old place others left) (all_view new next others left) (λ s. turn_of s who k op) whats
 
 -- a turn of a pin, by what is kept of its process and of what it has taken
 abbrev pub IsPinTurn : (old new : Parts) → (x y : SpaceParts) → (was now : ArrayVec ℕ) → (a : ℕ) → PinCall → (far : ℕ) → (place next : JobPlace) → List What → Type 0
 IsPinTurn old new x y was now a call far place next whats =
-    IsTurnBehind a call (length was.items) far (pinning_view old.frames x old.handles was.items (place_of place)) (pinning_view new.frames y new.handles now.items (place_of next)) whats
+    IsTurnBehind a call (length was.items) far (pinning_view old.frames x old.handles was.items place) (pinning_view new.frames y new.handles now.items next) whats
 
 -- a turn of a get, by what is kept of its process, whatever its actor has taken
 abbrev pub IsGetTurn : (old new : Parts) → (x y : SpaceParts) → (taken : List ℕ) → (a p handle page : ℕ) → List What → Type 0
@@ -140,7 +140,7 @@ pub alone : (old new : Parts) (a p slots far : ℕ) (op : Op) (place : JobPlace)
     → ((q : ℕ) → (q ≡ p → ⊥) → slice_get new.spaces.items q ≡ slice_get old.spaces.items q)
     → ((was now : SpaceParts) (k : ℕ) → slice_get old.spaces.items p ≡ Some was → slice_get new.spaces.items p ≡ Some now → far ≡ far_in (Some op) k → IsTurnOf (ShowsAlone p) Anywhere (alone_view old.frames was) (alone_view new.frames now) (λ s. op_turn s a p slots k op) whats)
     → IsTurnAmong old new a p slots far op place whats place
-alone old new a p slots far op place whats by_itself single within many births handles taken stores others turn k rest far_is s shown stands =
+alone old new a p slots far op place whats by_itself single within many births handles taken stores others turn k rest left far_is s shown stands =
     let was = there old.spaces.items p within in
     let now = there new.spaces.items p (omega (arith, within, many)) in
     let es : List CoreEvent = (op_turn s a p slots k op).events in
@@ -163,7 +163,9 @@ alone old new a p slots far op place whats by_itself single within many births h
       shown = record {
         parts = parts;
         job = shown.job ∙ sym (forks_stay a p a s es own none);
+        ends = subst (EndsAt op place) (ap (λ (k : Pins). k.2 a) (sym stay)) shown.ends;
         others = λ b apart. forks_stay a p b s es own none ∙ shown.others b apart;
+        left = λ b apart. ap (λ (k : Pins). k.2 b) stay ∙ shown.left b apart;
       };
     }
 
@@ -178,7 +180,7 @@ pub pinned : (old new : Parts) (a p slots far handle page n : ℕ) (want : Want)
     → ((x y : SpaceParts) (was now : ArrayVec ℕ) → slice_get old.spaces.items p ≡ Some x → slice_get new.spaces.items p ≡ Some y → slice_get old.taken.items a ≡ Some was → slice_get new.taken.items a ≡ Some now
     → IsPinTurn old new x y was now a (record { proc = p; handle = handle; page = page; n = n; want = want; fast = fast }) far place next whats)
     → IsTurnAmong old new a p slots far (Pin handle page n want fast) place whats next
-pinned old new a p slots far handle page n want fast place next whats within many taker takers births stores others untaken turn k rest far_is s shown stands =
+pinned old new a p slots far handle page n want fast place next whats within many taker takers births stores others untaken turn k rest left far_is s shown stands =
     let x = there old.spaces.items p within in
     let y = there new.spaces.items p (omega (arith, within, many)) in
     let was = there old.taken.items a taker in
@@ -190,7 +192,7 @@ pinned old new a p slots far handle page n want fast place next whats within man
     let many_taken : length (s.taken a) ≡ length was.0.items = sym (length_frames (s.taken a)) ∙ ap length (shown.parts.taken a was.0 was.1) in
     let led : Leads (ShowsPinning a p) (pinning_view new.frames y.0 new.handles now.0.items (place_of next)) s (pin_turn s a p handle page n want fast k) whats =
     subst (λ (f : ℕ). IsPinTurn old new x.0 y.0 was.0 now.0 a call f place next whats) far_is (turn x.0 y.0 was.0 now.0 x.1 y.1 was.1 now.1)
-    s (record { frames = shown.parts.frames; space = shown.parts.spaces p x.0 x.1; pins = shown.parts.pins; taken = shown.parts.taken a was.0 was.1; place = sym shown.job })
+    s (record { frames = shown.parts.frames; space = shown.parts.spaces p x.0 x.1; pins = shown.parts.pins; taken = shown.parts.taken a was.0 was.1; place = sym shown.job; last = shown.ends })
     (record {
       at = subst (StandsPin s a p handle page n want fast) many_taken stands_so;
       flagged = λ some. stands.pinned handle page n want fast refl (subst (λ m. 0 < m + k) (sym many_taken) some);
@@ -213,7 +215,9 @@ pinned old new a p slots far handle page n want fast place next whats within man
       shown = record {
         parts = parts;
         job = sym led.shown.place;
+        ends = led.shown.last;
         others = λ b apart. pinnings_places a p b s es (λ is. apart (sym is)) own ∙ shown.others b apart;
+        left = λ b apart. pinnings_taken a p b s es apart own ∙ shown.left b apart;
       };
     }
 
@@ -225,7 +229,7 @@ pub got : (old new : Parts) (a p slots far handle page : ℕ) (place : JobPlace)
     → ((q : ℕ) → (q ≡ p → ⊥) → slice_get new.spaces.items q ≡ slice_get old.spaces.items q)
     → ((x y : SpaceParts) (taken : List ℕ) → slice_get old.spaces.items p ≡ Some x → slice_get new.spaces.items p ≡ Some y → IsGetTurn old new x y taken a p handle page whats)
     → IsTurnAmong old new a p slots far (Get handle page) place whats place
-got old new a p slots far handle page place whats within many taker births taken stores others turn k rest far_is s shown stands =
+got old new a p slots far handle page place whats within many taker births taken stores others turn k rest left far_is s shown stands =
     let x = there old.spaces.items p within in
     let y = there new.spaces.items p (omega (arith, within, many)) in
     let was = there old.taken.items a taker in
@@ -234,7 +238,7 @@ got old new a p slots far handle page place whats within many taker births taken
     let rests : place_in s a ≡ unbegun = ap (λ job. job_place job (s.prepared a)) (stands.idle_job tt) in
     let led : Leads (ShowsPinning a p) (pinning_view new.frames y.0 new.handles was.0.items unbegun) s (get_turn s a p handle page (s.entry p page)) whats =
     turn x.0 y.0 was.0.items x.1 y.1 s
-    (record { frames = shown.parts.frames; space = shown.parts.spaces p x.0 x.1; pins = shown.parts.pins; taken = shown.parts.taken a was.0 was.1; place = rests }) tt in
+    (record { frames = shown.parts.frames; space = shown.parts.spaces p x.0 x.1; pins = shown.parts.pins; taken = shown.parts.taken a was.0 was.1; place = rests; last = tt }) tt in
     let parts : ShowsParts new (run s es) =
     record {
       frames = led.shown.frames;
@@ -254,7 +258,9 @@ got old new a p slots far handle page place whats within many taker births taken
       shown = record {
         parts = parts;
         job = shown.job ∙ rests ∙ sym led.shown.place;
+        ends = tt;
         others = λ b apart. pinnings_places a p b s es (λ is. apart (sym is)) own ∙ shown.others b apart;
+        left = λ b apart. pinnings_taken a p b s es apart own ∙ shown.left b apart;
       };
     }
 
@@ -271,7 +277,7 @@ pub handled : (old new : Parts) (a p slots far : ℕ) (op : Op) (place : JobPlac
     → ((s : CoreState) (k : ℕ) → AreHandling a (op_turn s a p slots k op).events)
     → ((s : CoreState) (k : ℕ) → ShowsParts old s → StandsAt s a p k op → far ≡ far_in (Some op) k → Leads ShowsPart new s (op_turn s a p slots k op) whats)
     → IsTurnAmong old new a p slots far op place whats place
-handled old new a p slots far op place whats single spaces births taken handling turn k rest far_is s shown stands =
+handled old new a p slots far op place whats single spaces births taken handling turn k rest left far_is s shown stands =
     let es : List CoreEvent = (op_turn s a p slots k op).events in
     let own : AreHandling a es = handling s k in
     let stay : rest_of (run s es) ≡ rest_of s = handling_leave a s es own in
@@ -292,7 +298,9 @@ handled old new a p slots far op place whats single spaces births taken handling
       shown = record {
         parts = parts;
         job = shown.job ∙ ap (λ (k : Rest). job_place (k.2 a) (k.3 a)) (sym stay);
+        ends = subst (EndsAt op place) (ap (λ (k : Rest). k.1 a) (sym stay)) shown.ends;
         others = λ b apart. ap (λ (k : Rest). job_place (k.2 b) (k.3 b)) stay ∙ shown.others b apart;
+        left = λ b apart. ap (λ (k : Rest). k.1 b) stay ∙ shown.left b apart;
       };
     }
 
@@ -375,7 +383,7 @@ pub forked : (old new : Parts) (a p c slots far : ℕ) (place : JobPlace) (f : F
     → IsForkTurns old.frames new.frames old.spaces.items new.spaces.items a p c place f whats
     → slice_get new.births.items c ≡ Some (birth_by f) → ((q : ℕ) → (q ≡ c → ⊥) → slice_get new.births.items q ≡ slice_get old.births.items q)
     → IsTurnAmong old new a p slots far (Fork c) place whats (place_after f)
-forked old new a p c slots far place f whats apart p_in c_in many handles taken stores others turn born_now unborn_others k rest far_is s shown stands =
+forked old new a p c slots far place f whats apart p_in c_in many handles taken stores others turn born_now unborn_others k rest left far_is s shown stands =
     let old_parent = there old.spaces.items p p_in in
     let old_child = there old.spaces.items c c_in in
     let new_parent = there new.spaces.items p (omega (arith, p_in, many)) in
@@ -402,6 +410,8 @@ forked old new a p c slots far place f whats apart p_in c_in many handles taken 
       shown = record {
         parts = parts;
         job = sym led.shown.place;
+        ends = tt;
         others = λ b other. fork_places_stay a p c b s t.events (λ is. other (sym is)) own ∙ shown.others b other;
+        left = λ b other. ap (λ (k : Pins). k.2 b) stay ∙ shown.left b other;
       };
     }

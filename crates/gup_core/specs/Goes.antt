@@ -9,7 +9,7 @@ use Rattle.gup_script.specs.declared.op.Op.TheVariants.{Pin, Take, Move, Fork}
 use Rattle.gup_frames.specs.Frames.{FramesValue, frames_of}
 use Rattle.gup_space.specs.Space.{SpaceParts, space_of}
 use Rattle.gup_handles.specs.Handles.{handles_of, unmade, IsGivenTo as IsKeptFor}
-use Rattle.gup_spec_events.specs.State.{CoreState, WalkStep}
+use Rattle.gup_spec_events.specs.State.{CoreState, Taken, WalkStep}
 use Rattle.gup_law_base.specs.Sound.{IsSound}
 use Rattle.gup_spec_journal.specs.Place.{Doer}
 use Rattle.gup_spec_turns.specs.Waits.{waiting_for}
@@ -20,7 +20,7 @@ use Rattle.gup_op_base.specs.Jobs.{place_of}
 use Rattle.gup_op_fork.specs.Forked.{IsReadyAt}
 use Rattle.gup_op_pins.specs.Pins.{IsReferred, IsWeighed}
 use Rattle.gup_op_move.specs.Moving.{IsReadyToMove}
-use Rattle.gup_op_pins.specs.Pins.{IsReadyToPin, IsWithinPin}
+use Rattle.gup_op_pins.specs.Pins.{IsReadyToPin, IsWithinPin, EndAt, last_page}
 use Rattle.gup_op_pins.specs.Held.{slots_in}
 use Rattle.gup_op_base.specs.Tidy.{IsTidy, needs_table}
 use Rattle.gup_op_waits.specs.declared.births.Birth.{Birth}
@@ -29,20 +29,28 @@ use Rattle.gup_op_waits.specs.Doers.{HasProcess}
 use Rattle.gup_op_waits.specs.Parts.{EachSpace, ShowsParts}
 use Rattle.gup_op_waits.specs.Stands.{StandsAt}
 
--- The parts of a machine, where the job of an actor stands, and where those of others do.
+-- The parts of a machine, where the job of an actor stands, and where those of others do and what they have taken.
 pub record AllView : Type 0 where
   pub parts : Parts
   pub job : JobPlace
   pub others : ℕ → Place
+  pub left : ℕ → List Taken
 
-abbrev pub all_view : Parts → JobPlace → (others : ℕ → Place) → AllView
-all_view parts job others = record { parts = parts; job = job; others = others }
+abbrev pub all_view : Parts → JobPlace → (others : ℕ → Place) → (left : ℕ → List Taken) → AllView
+all_view parts job others left = record { parts = parts; job = job; others = others; left = left }
 
--- the state has all that, of actor a
-pub record ShowsAll (a : ℕ) (view : AllView) (s : CoreState) : Type 0 where
+-- a pin's walk that drops its pages has those left that end where its job says
+abbrev pub EndsAt : Op → JobPlace → List Taken → Type 0
+EndsAt (Pin handle page n want fast) job taken = EndAt (last_page job) taken
+EndsAt op job taken = Unit {0}
+
+-- the state has all that, of actor a that does this operation
+pub record ShowsAll (a : ℕ) (op : Op) (view : AllView) (s : CoreState) : Type 0 where
   pub parts : ShowsParts view.parts s
   pub job : place_of view.job ≡ place_in s a
+  pub ends : EndsAt op view.job (s.taken a)
   pub others : (b : ℕ) → (b ≡ a → ⊥) → place_in s b ≡ view.others b
+  pub left : (b : ℕ) → (b ≡ a → ⊥) → s.taken b ≡ view.left b
 
 -- the state is sound, and actor a, which waits for nothing, stands there before a turn of the operation
 pub record StandsFree (a : ℕ) (who : Doer) (far : ℕ) (op : Op) (s : CoreState) : Type 0 where

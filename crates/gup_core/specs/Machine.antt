@@ -1,5 +1,5 @@
 -- The machine, and the states of the core run that it shows.
-use Rattle.std.specs.Prelude.{◌≡◌, ℕ, ◌+◌, ◌-◌, ◌^◌, List, Some, length, min, slice_get}
+use Rattle.std.specs.Prelude.{◌≡◌, ℕ, ◌+◌, ◌-◌, ◌^◌, Bool, List, Some, length, min, slice_get}
 use Rattle.gup_base.specs.declared.entry.Zone.{Zone}
 use Rattle.gup_plain.specs.Note.{NoteValue}
 use Rattle.gup_script.specs.Script.{ScriptValue}
@@ -9,7 +9,10 @@ use Rattle.gup_frames.specs.Frames.{free_of}
 use Rattle.gup_spec_events.specs.State.{CoreState}
 use Rattle.gup_spec_turns.specs.Run.{RunState, run_start, run_after, core_turn_in, turned}
 use Rattle.gup_spec_turns.specs.JobPlace.{place_in}
+use Rattle.gup_base.specs.declared.entry.Want.{Want}
+use Rattle.gup_script.specs.declared.op.Op.TheVariants.{Pin}
 use Rattle.gup_op_base.specs.Jobs.{place_of}
+use Rattle.gup_op_pins.specs.Pins.{EndAt, last_page}
 use Rattle.gup_op_waits.specs.declared.parts.Parts.{Parts}
 use Rattle.gup_core.specs.declared.seats.Seat.{Seat}
 use Rattle.gup_core.specs.Seats.{IsSeat}
@@ -46,6 +49,7 @@ pub record Shows (m : MachineValue) (r : RunState) : Type 0 where
   pub parts : ShowsParts m.parts r.core
   pub seats : (a : ℕ) (seat : Seat) → slice_get m.seats a ≡ Some seat → IsSeat (present_op m.script a (r.places a)) (r.places a) seat
   pub jobs : (a : ℕ) (seat : Seat) → slice_get m.seats a ≡ Some seat → place_of seat.job ≡ place_in r.core a
+  pub ends : (a handle page n : ℕ) (want : Want) (fast : Bool) (seat : Seat) → slice_get m.seats a ≡ Some seat → present_op m.script a (r.places a) ≡ Some (Pin handle page n want fast) → EndAt (last_page seat.job) (r.core.taken a)
   pub turns : m.turns ≡ min r.turns (2 ^ 32 - 1)
 
 -- A turn of the machine is the actor's turn of the core run from r: the notes are its, and the machine shows the

@@ -72,9 +72,9 @@ pub fn take_copy(parts: &mut Parts, journal: &mut Journal, head: &Head, copy: &W
     ensures taken { parts.new.taken ≡ parts.old.taken }
     ensures stores { parts.new.stores ≡ parts.old.stores }
     ensures turn { TellsTurn head.now journal.old journal.new false
-        (λ said. (slots k : ℕ) (others : ℕ → Place)
-        → IsTurnOf (ShowsAll head.now.actor) (λ s. StandsAt s head.now.actor copy.now.proc k (Fork copy.now.child))
-        (all_view parts.old (copying copy.now) others) (all_view parts.new (copied copy.now) others)
+        (λ said. (slots k : ℕ) (others : ℕ → Place) (left : ℕ → List Taken)
+        → IsTurnOf (ShowsAll head.now.actor (Fork copy.now.child)) (λ s. StandsAt s head.now.actor copy.now.proc k (Fork copy.now.child))
+        (all_view parts.old (copying copy.now) others left) (all_view parts.new (copied copy.now) others left)
         (λ s. op_turn s head.now.actor copy.now.proc slots k (Fork copy.now.child)) (whats_of said)) }
 {
     word_turn(

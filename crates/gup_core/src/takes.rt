@@ -94,10 +94,10 @@ pub fn take_at(
     ensures stores { length parts.new.stores.items ≡ length parts.old.stores.items }
     ensures slots { KeepsSlots parts.old.stores.items parts.new.stores.items }
     ensures turn { TellsTurn head.now journal.old journal.new result.0
-        (λ said. (who : Doer) (k : ℕ) (others : ℕ → Place) → who.actor ≡ head.now.actor → IsProcessOf who proc
+        (λ said. (who : Doer) (k : ℕ) (others : ℕ → Place) (left : ℕ → List Taken) → who.actor ≡ head.now.actor → IsProcessOf who proc
         → HasSlots parts.old head.now.actor who.slots → seat.now.far ≡ far_in (Some op.now) k
-        → IsTurnOf (ShowsAll head.now.actor) (StandsFree head.now.actor who k op.now)
-        (all_view parts.old seat.now.job others) (all_view parts.new result.1 others)
+        → IsTurnOf (ShowsAll head.now.actor op.now) (StandsFree head.now.actor who k op.now)
+        (all_view parts.old seat.now.job others left) (all_view parts.new result.1 others left)
         (λ s. turn_of s who k op.now) (whats_of said)) }
 {
     if has_failed(&parts.births, &proc) {
@@ -172,9 +172,9 @@ fn take_single(
     ensures slots { KeepsSlots parts.old.stores.items parts.new.stores.items }
     ensures turn { TellsTurn head.now journal.old journal.new result
         (λ said. (p slots : ℕ) (place : JobPlace) → IfSome proc (λ q. q ≡ p) → HasSlots parts.old head.now.actor slots
-        → (k : ℕ) (others : ℕ → Place) → far ≡ far_in (Some op.now) k
-        → IsTurnOf (ShowsAll head.now.actor) (λ s. StandsAt s head.now.actor p k op.now)
-        (all_view parts.old place others) (all_view parts.new place others)
+        → (k : ℕ) (others : ℕ → Place) (left : ℕ → List Taken) → far ≡ far_in (Some op.now) k
+        → IsTurnOf (ShowsAll head.now.actor op.now) (λ s. StandsAt s head.now.actor p k op.now)
+        (all_view parts.old place others left) (all_view parts.new place others left)
         (λ s. op_turn s head.now.actor p slots k op.now) (whats_of said)) }
 {
     match op {
@@ -430,9 +430,9 @@ fn move_page(
     ensures taken { parts.new.taken ≡ parts.old.taken }
     ensures stores { parts.new.stores ≡ parts.old.stores }
     ensures turn { TellsTurn head.now journal.old journal.new result.0
-        (λ said. (q slots k : ℕ) (others : ℕ → Place)
-        → IsTurnOf (ShowsAll head.now.actor) (λ s. StandsAt s head.now.actor proc k (Move q page zone))
-        (all_view parts.old place others) (all_view parts.new result.1 others)
+        (λ said. (q slots k : ℕ) (others : ℕ → Place) (left : ℕ → List Taken)
+        → IsTurnOf (ShowsAll head.now.actor (Move q page zone)) (λ s. StandsAt s head.now.actor proc k (Move q page zone))
+        (all_view parts.old place others left) (all_view parts.new result.1 others left)
         (λ s. op_turn s head.now.actor proc slots k (Move q page zone)) (whats_of said)) }
 {
     let next = take_move(
@@ -476,9 +476,9 @@ fn take_fork(
     ensures taken { parts.new.taken ≡ parts.old.taken }
     ensures stores { parts.new.stores ≡ parts.old.stores }
     ensures turn { TellsTurn head.now journal.old journal.new result.0
-        (λ said. (slots k : ℕ) (others : ℕ → Place)
-        → IsTurnOf (ShowsAll head.now.actor) (λ s. StandsAt s head.now.actor proc k (Fork child))
-        (all_view parts.old place others) (all_view parts.new result.1 others)
+        (λ said. (slots k : ℕ) (others : ℕ → Place) (left : ℕ → List Taken)
+        → IsTurnOf (ShowsAll head.now.actor (Fork child)) (λ s. StandsAt s head.now.actor proc k (Fork child))
+        (all_view parts.old place others left) (all_view parts.new result.1 others left)
         (λ s. op_turn s head.now.actor proc slots k (Fork child)) (whats_of said)) }
 {
     let forked = fork_two(
