@@ -48,6 +48,11 @@ IsAtStep page n got stopped = got < n
 IsAtStep page n got dropping = 0 < got
 IsAtStep page n got over = ⊥
 
+-- the frame of an entry that a walk has read is one of the machine
+abbrev pub IsReadThere : CoreState → WalkStep → Type 0
+IsReadThere s (read g e) = e.frame < s.movable + s.normal
+IsReadThere s step = Unit {0}
+
 -- the walk is one of this pin of process p, which has pinned; before it reads the sequence, that is 0
 pub record IsWalkingPin (s : CoreState) (p page n got : ℕ) (want : Want) (fast : Bool) (q : ℕ) (write long : Bool) (sequence : ℕ) (step : WalkStep) : Type 0 where
   pub walks : fast ≡ true
@@ -57,6 +62,7 @@ pub record IsWalkingPin (s : CoreState) (p page n got : ℕ) (want : Want) (fast
   pub flag : s.has_pinned p ≡ true
   pub unread : step ≡ entered → sequence ≡ 0
   pub here : IsAtStep page n got step
+  pub there : IsReadThere s step
 
 -- where a pin of n pages stands that has taken so many, by the job of its actor; the next one is this page
 abbrev pub StandsAtPage : CoreState → (a p page n got : ℕ) → Want → (fast : Bool) → Job → Type 0
