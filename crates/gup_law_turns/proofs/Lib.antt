@@ -7,6 +7,9 @@ pub mod HandleOps
 pub mod MoveOps
 pub mod PinPace
 pub mod PinOps
+pub mod WalkSteps
+pub mod WalkPages
+pub mod WalkEnds
 pub mod WalkOps
 pub mod ReferenceOps
 pub mod ReferenceNotes
@@ -18,6 +21,7 @@ pub mod TurnSubjects
 pub mod KeptParts
 pub mod MappedCounts
 pub mod PreparedFrames
+pub mod CountedFrames
 pub mod ReachedStates
 pub mod TurnRuns
 pub mod StandingStates

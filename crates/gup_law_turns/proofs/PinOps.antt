@@ -81,7 +81,7 @@ first_taken : (taken : List Taken) (got : ℕ) → length taken ≡ suc got → 
 first_taken [] got many = absurd (omega (arith, many))
 first_taken (t ∷ taken) got many = (t, refl)
 
-untaken_next : (p page far : ℕ) (want : Want) (taken : List Taken) → HasTaken p page want far taken → IsUntaken taken (page + far)
+pub untaken_next : (p page far : ℕ) (want : Want) (taken : List Taken) → HasTaken p page want far taken → IsUntaken taken (page + far)
 untaken_next p page far want taken h =
     all_from (λ (t : Taken). t.page ≡ page + far → ⊥) taken
     (λ k t is same. let at = h.each k t is in let below = slice_get_within taken k t is in omega (arith, at.1, below, h.many, same))
@@ -90,7 +90,7 @@ alike_taken : (p page far : ℕ) (want : Want) (taken : List Taken) → HasTaken
 alike_taken p page far want taken h =
     all_from (λ (t : Taken). (t.write ≡ want.write) × (t.long ≡ want.long)) taken (λ k t is. let at = h.each k t is in (at.2, at.3))
 
-one_more : (p page far : ℕ) (want : Want) (taken : List Taken) (new : Taken) → HasTaken p page want far taken → IsTakenPage p page want far new → HasTaken p page want (far + 1) (taken ++ new ∷ [])
+pub one_more : (p page far : ℕ) (want : Want) (taken : List Taken) (new : Taken) → HasTaken p page want far taken → IsTakenPage p page want far new → HasTaken p page want (far + 1) (taken ++ new ∷ [])
 one_more p page far want taken new h is_new =
     record {
       many = let longer = length-append taken (new ∷ []) in let many = h.many in omega (arith, longer, many);
@@ -106,7 +106,7 @@ one_more p page far want taken new h is_new =
     by_place k t (inr last) = last_page k t (last.0 ∙ h.many) last.1
 
 -- the pin that is made of pages taken has them all
-held_whole : (a : ℕ) (write : Bool) (taken : List Taken) → 0 < length taken → length taken ≤ most_pinned → (handle : Handle) (pinned : List ℕ) → handle ≡ held a (objects_taken taken) write → pinned ≡ taken_frames taken → IsHeldBy handle a × StandsHandle (λ b. 0) pinned handle
+pub held_whole : (a : ℕ) (write : Bool) (taken : List Taken) → 0 < length taken → length taken ≤ most_pinned → (handle : Handle) (pinned : List ℕ) → handle ≡ held a (objects_taken taken) write → pinned ≡ taken_frames taken → IsHeldBy handle a × StandsHandle (λ b. 0) pinned handle
 held_whole a write taken some few handle pinned made has =
     let objects = length-map taken (λ (t : Taken). t.object) in
     let frames = length-map taken (λ (t : Taken). t.frame) in

@@ -12,6 +12,11 @@ none_over true long n got far slow none most = absurd (cc slow)
 none_over false true n got far slow none most = omega (arith, none, most)
 none_over false false n got far slow none most = omega (arith, none, most)
 
+-- each page takes a turn at least
+pub pin_some : (long : Bool) (n : ℕ) → n ≤ pin_turns long n
+pin_some true n = omega arith
+pin_some false n = omega arith
+
 -- short pins are in the middle of none
 abbrev pub FewOver : (long : Bool) → ℕ → Type 0
 FewOver true over = over ≤ 2

@@ -31,6 +31,8 @@ use Rattle.gup_law_turns.proofs.ScriptLemmas.{op_is_op, has_ops_declared}
 use Rattle.gup_law_turns.proofs.SmallCounts.{HoldsNoFrame, HoldsFew, ArePinsFew, few_counts}
 use Rattle.gup_law_turns.proofs.FewPages.{few_sequence}
 use Rattle.gup_law_turns.proofs.ActorPlaces.{op_behind, answered_more}
+use Rattle.gup_law_base.proofs.Lonely.{taken_counts, grabbed_counts}
+use Rattle.gup_law_base.specs.Sound.{walk_frame, walking_of}
 use Rattle.gup_law_turns.proofs.PreparedFrames.{ArePreparedThere, there_on, is_prepared}
 use Rattle.gup_law_turns.proofs.TurnShapes.{FitsMove, FitsFork, FitsPin, FitsOp, FitsAt, TurnAt, idles, waits, goes, unborn_refused, unborn_fork, child_of, strand_of}
 use Rattle.gup_law_turns.proofs.StandingTurns.{Starts, at_each, stands_on, stands_first}
@@ -97,14 +99,7 @@ idle_stands : (job : Job) → job ≡ idle → HoldsNoFrame job
 idle_stands job is = rw is (refl, refl)
 
 few_frame : (a : ℕ) (job : Job) → HoldsNoFrame job → HoldsFew a job
-few_frame a job none = (inl none.0, none.1)
-
--- a slow pin keeps no walk's frame
-ungrabbed : (s : CoreState) (a p page n got : ℕ) (want : Want) (fast : Bool) (job : Job) → fast ≡ false → StandsAtPage s a p page n got want fast job → grabbed_frame job ≡ None
-ungrabbed s a p page n got want fast idle never at = refl
-ungrabbed s a p page n got want fast (moving q g e allowed count) never at = refl
-ungrabbed s a p page n got want fast (walking q write long sequence step) never at = absurd (let walks = at.walks in cc)
-ungrabbed s a p page n got want fast job never at = absurd at
+few_frame a job none = inl none
 
 -- a short pin that doesn't walk is in the middle of nothing
 short_idle : (s : CoreState) (a p page n got : ℕ) (want : Want) (fast : Bool) (job : Job) → s.job a ≡ job → want.long ≡ false → fast ≡ false → StandsAtPage s a p page n got want fast job → s.job a ≡ idle
@@ -113,12 +108,12 @@ short_idle s a p page n got want fast (moving q g e allowed count) is short neve
 short_idle s a p page n got want fast (walking q write long sequence step) is short never at = absurd (let walks = at.walks in cc)
 short_idle s a p page n got want fast job is short never at = absurd at
 
-no_frame : (s : CoreState) (who : Doer) (op : Option Op) (place : Place) → ((o : Op) → op ≡ Some o → who.actor < 81) → ((o : Op) → op ≡ Some o → IsOp o) → FitsAt s who op place → HoldsFew who.actor (s.job who.actor)
-no_frame s who (Some (Pin handle page n want fast)) place few range fits = (inr (few (Pin handle page n want fast) refl), ungrabbed s who.actor who.proc (page + length (s.taken who.actor)) n (length (s.taken who.actor)) want fast (s.job who.actor) (range (Pin handle page n want fast) refl).3 fits.at)
-no_frame s who (Some (Move proc page zone)) place few range fits = (inr (few (Move proc page zone) refl), (move_stands s who.actor who.proc page zone place (s.job who.actor) fits.2).1)
-no_frame s who (Some (Fork child)) place few range fits = few_frame who.actor (s.job who.actor) (fork_stands s who.actor who.proc child place (s.job who.actor) (s.prepared who.actor) fits.1).1
-no_frame s who (Some Exit) place few range fits = few_frame who.actor (s.job who.actor) (idle_stands (s.job who.actor) fits.0)
-no_frame s who op place few range fits = few_frame who.actor (s.job who.actor) (idle_stands (s.job who.actor) fits.0.0)
+no_frame : (s : CoreState) (who : Doer) (op : Option Op) (place : Place) → ((o : Op) → op ≡ Some o → who.actor < 81) → FitsAt s who op place → HoldsFew who.actor (s.job who.actor)
+no_frame s who (Some (Pin handle page n want fast)) place few fits = inr (few (Pin handle page n want fast) refl)
+no_frame s who (Some (Move proc page zone)) place few fits = inr (few (Move proc page zone) refl)
+no_frame s who (Some (Fork child)) place few fits = few_frame who.actor (s.job who.actor) (fork_stands s who.actor who.proc child place (s.job who.actor) (s.prepared who.actor) fits.1).1
+no_frame s who (Some Exit) place few fits = few_frame who.actor (s.job who.actor) (idle_stands (s.job who.actor) fits.0)
+no_frame s who op place few fits = few_frame who.actor (s.job who.actor) (idle_stands (s.job who.actor) fits.0.0)
 
 idle_job : (s : CoreState) (who : Doer) (op : Option Op) (place : Place) → KeepsNoJob op → FitsAt s who op place → s.job who.actor ≡ idle
 idle_job s who (Some (Pin handle page n want fast)) place short fits = short_idle s who.actor who.proc (page + length (s.taken who.actor)) n (length (s.taken who.actor)) want fast (s.job who.actor) refl short.0 short.1 fits.at
@@ -200,6 +195,21 @@ pin_weighed s h k f sound is =
     let sum = sound.1.count_is f in
     omega (arith, some, here, sum, tally.3)
 
+-- and so has that of a page that is taken, and one that a walk has grabbed
+
+taken_weighed : (s : CoreState) (a k : ℕ) (t : Taken) → IsSound s → slice_get (s.taken a) k ≡ Some t → bias ≤ s.count t.frame
+taken_weighed s a k t (v, h) is =
+    let weighs = taken_counts v s h a k t is in
+    let all = h.count_is t.frame in
+    omega (arith, weighs, all)
+
+walk_job : (job : Job) → walk_frame (walking_of job) ≡ grabbed_frame job
+walk_job (walking p write long sequence step) = refl
+walk_job job = refl
+
+grab_weighed : (s : CoreState) (a f : ℕ) → IsSound s → grabbed_frame (s.job a) ≡ Some f → bias ≤ s.count f
+grab_weighed s a f (v, h) is = grabbed_counts v s h a f (ap walk_frame (h.walks_are a) ∙ walk_job (s.job a) ∙ is)
+
 -- the frame of a reference has one
 got_counted : (s : CoreState) (h a f : ℕ) → IsSound s → s.got h ≡ Some (a, f) → s.count f ≡ 0 → ⊥
 unfolding sounds.held
@@ -278,7 +288,7 @@ is_standing published script valid r h =
       mapped = λ p page e is. entry_mapped s p page e k.sound (k.emptied p page) is (s.right p page) refl;
       counted = λ p page e is none. entry_counted s p page e k.sound is none;
       few_pages = λ p. few_mapped s p (k.few.mapped p) (k.few.pages p);
-      few_counts = few_counts s k.sound k.calm k.rest (λ a. no_frame s (doer_of script a (present_op script a (r.places a))) (present_op script a (r.places a)) (r.places a) (λ op is. few_actor a op is) (λ op is. op_is_op script valid a (r.places a).answered op is) (k.fits a)) k.emptied few (few_pins script valid r k) (λ handle got. let below = k.got handle got in let most = valid.few_handles in omega (arith, below, most));
+      few_counts = few_counts s k.sound k.calm k.rest (λ a. no_frame s (doer_of script a (present_op script a (r.places a))) (present_op script a (r.places a)) (r.places a) (λ op is. few_actor a op is) (k.fits a)) k.emptied few (few_pins script valid r k) (λ handle got. let below = k.got handle got in let most = valid.few_handles in omega (arith, below, most));
       few_forks = few_sequence (length script.processes) valid.few_processes s k.few;
       idle_jobs = λ a no_fork. idle_job s (doer_of script a (present_op script a (r.places a))) (present_op script a (r.places a)) (r.places a) no_fork (k.fits a);
       forks = λ a child is. (fork_stands s a (process_of script a) child (r.places a) (s.job a) (s.prepared a) (at a (Fork child) is).1).0;
@@ -293,6 +303,8 @@ is_standing published script valid r h =
       handles = k.handles;
       made = k.made;
       weighed = λ handle j f there. pin_weighed s handle j f k.sound there;
+      taken_weighed = λ a j t there. taken_weighed s a j t k.sound there;
+      grabbed = λ a f is. grab_weighed s a f k.sound is;
       got = k.got;
       referred = λ handle a f there none. got_counted s handle a f k.sound there none;
       yet_unmade = λ a handle op is makes. k.yet_unmade a (r.places a).answered handle (op, is, makes) (omega arith);

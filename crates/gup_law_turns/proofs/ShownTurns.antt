@@ -22,6 +22,7 @@ use Rattle.gup_spec_turns.specs.CoreTurn.{CoreTurn}
 use Rattle.gup_spec_turns.specs.Waits.{held_by_other, waits_for_locks, first_waiting, both_locks}
 use Rattle.gup_spec_turns.proofs.TurnParts.{waits_at}
 use Rattle.gup_law_turns.proofs.CalmStates.{IsCalm, Strand, AreTurnEvents}
+use Rattle.gup_law_turns.proofs.CountedFrames.{AreCountedThere}
 use Rattle.gup_law_turns.proofs.TurnShapes.{references_of, FitsAt, Rests, TurnOf, AtRest, IsDone, child_of, strand_of}
 use Rattle.std.specs.Prelude.{◌⊎◌}
 
@@ -29,6 +30,7 @@ use Rattle.std.specs.Prelude.{◌⊎◌}
 pub record IsOpen (s : CoreState) (a p : ℕ) : Type 0 where
   pub sound : IsSound s
   pub calm : IsCalm s
+  pub there : AreCountedThere s
   pub rest : AtRest s a
   pub birth : s.birth p ≡ born
 
@@ -36,6 +38,7 @@ pub record IsOpen (s : CoreState) (a p : ℕ) : Type 0 where
 pub record IsQuiet (s : CoreState) (a : ℕ) : Type 0 where
   pub sound : IsSound s
   pub calm : IsCalm s
+  pub there : AreCountedThere s
   pub rest : AtRest s a
 
 -- After notes with an answer the actor is in the middle of nothing; after others it stands where its operation can.

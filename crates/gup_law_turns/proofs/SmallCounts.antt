@@ -25,9 +25,9 @@ use Rattle.gup_law_turns.proofs.Sums.{sum_at, sum_both, sum_ones, sum_zero}
 abbrev pub HoldsNoFrame : Job → Type 0
 HoldsNoFrame job = (cleared_frame job ≡ None) × (grabbed_frame job ≡ None)
 
--- the job of one of 81 actors, or of any other, which keeps none that a move has cleared; and no walk's
+-- the job of one of 81 actors, or of any other, which keeps none
 abbrev pub HoldsFew : (a : ℕ) → Job → Type 0
-HoldsFew a job = ((cleared_frame job ≡ None) ⊎ (a < 81)) × (grabbed_frame job ≡ None)
+HoldsFew a job = HoldsNoFrame job ⊎ (a < 81)
 
 -- elements of lists
 
@@ -49,9 +49,17 @@ data IsPlace : Holder → Type 0 where
   of_taken : (a k : ℕ) → a < 81 → k < 16 → IsPlace (page_taken a k)
   of_got : (h : ℕ) → h < 1024 → IsPlace (got_as h)
 
+-- what a walk of one of 81 actors has grabbed
+data IsGrab : Holder → Type 0 where
+  of_grab : (a : ℕ) → a < 81 → IsGrab (grabbed_by a)
+
+-- each of a list is such a holder
+abbrev AreSuch : (Holder → Type 0) → List Holder → Type 0
+AreSuch P [] = Unit {0}
+AreSuch P (x ∷ xs) = P x × AreSuch P xs
+
 abbrev ArePlaces : List Holder → Type 0
-ArePlaces [] = Unit {0}
-ArePlaces (x ∷ xs) = IsPlace x × ArePlaces xs
+ArePlaces xs = AreSuch IsPlace xs
 
 -- an entry's number among the pages of those, and that of a reference after them
 abbrev entry_number : Holder → Option ℕ
@@ -69,6 +77,11 @@ abbrev pin_number : Holder → Option ℕ
 pin_number (page_of_pin h k) = Some (h * 16 + k)
 pin_number (page_taken a k) = Some (16384 + (a * 16 + k))
 pin_number x = None
+
+-- and a grab's is that of its actor
+abbrev grab_number : Holder → Option ℕ
+grab_number (grabbed_by a) = Some a
+grab_number x = None
 
 one_entry : (x y : Holder) (j : ℕ) → IsPlace x → IsPlace y → entry_number x ≡ Some j → entry_number y ≡ Some j → x ≡ y
 one_entry x y j (of_entry p page low below) (of_entry q other also under) here there =
@@ -166,7 +179,7 @@ abbrev is_number : (o : Option ℕ) (j : ℕ) → ℕ
 is_number None j = 0
 is_number (Some k) j = if j == k then 1 else 0
 
-module _ (number : Holder → Option ℕ) (n : ℕ) (low : (x : Holder) (j : ℕ) → IsPlace x → number x ≡ Some j → j < n) (one : (x y : Holder) (j : ℕ) → IsPlace x → IsPlace y → number x ≡ Some j → number y ≡ Some j → x ≡ y) where
+module _ (P : Holder → Type 0) (number : Holder → Option ℕ) (n : ℕ) (low : (x : Holder) (j : ℕ) → P x → number x ≡ Some j → j < n) (one : (x y : Holder) (j : ℕ) → P x → P y → number x ≡ Some j → number y ≡ Some j → x ≡ y) where
   -- how many of the list have the number
   abbrev having : List Holder → (j : ℕ) → ℕ
   having [] j = 0
@@ -184,7 +197,7 @@ module _ (number : Holder → Option ℕ) (n : ℕ) (low : (x : Holder) (j : ℕ
       omega (arith, all, none, here)
 
   -- those of the list that have a number, by their numbers
-  all_numbered : (xs : List Holder) → ArePlaces xs → sum_below n (having xs) ≡ numbered xs
+  all_numbered : (xs : List Holder) → AreSuch P xs → sum_below n (having xs) ≡ numbered xs
   all_numbered [] places = sum_zero n (λ j. 0) (λ j. refl)
   all_numbered (x ∷ xs) places =
       let rest = all_numbered xs places.1 in
@@ -195,7 +208,7 @@ module _ (number : Holder → Option ℕ) (n : ℕ) (low : (x : Holder) (j : ℕ
 
   -- no number twice
 
-  having_none : (xs : List Holder) (x : Holder) (j : ℕ) → IsPlace x → number x ≡ Some j → ArePlaces xs → (Contains xs x → ⊥) → having xs j ≡ 0
+  having_none : (xs : List Holder) (x : Holder) (j : ℕ) → P x → number x ≡ Some j → AreSuch P xs → (Contains xs x → ⊥) → having xs j ≡ 0
   having_none [] x j is here places lacks = refl
   having_none (y ∷ xs) x j is here places lacks =
       let rest = having_none xs x j is here places.1 (λ has. lacks (later_element y xs x has)) in
@@ -211,7 +224,7 @@ module _ (number : Holder → Option ℕ) (n : ℕ) (low : (x : Holder) (j : ℕ
       go None there rest = omega (arith, rest)
       go (Some k) there rest = other k there (j == k) refl ∙ rest
 
-  having_one : (xs : List Holder) → ArePlaces xs → HasNoRepetition xs → (j : ℕ) → having xs j ≤ 1
+  having_one : (xs : List Holder) → AreSuch P xs → HasNoRepetition xs → (j : ℕ) → having xs j ≤ 1
   having_one [] places alone j = omega arith
   having_one (x ∷ xs) places alone j = go (number x) refl (having_one xs places.1 alone.1 j)
     where
@@ -227,7 +240,7 @@ module _ (number : Holder → Option ℕ) (n : ℕ) (low : (x : Holder) (j : ℕ
       go (Some k) is rest = here k is (j == k) refl rest
 
   -- so there are no more than numbers
-  few_numbered : (xs : List Holder) → ArePlaces xs → HasNoRepetition xs → numbered xs ≤ n
+  few_numbered : (xs : List Holder) → AreSuch P xs → HasNoRepetition xs → numbered xs ≤ n
   few_numbered xs places alone =
       let all = all_numbered xs places in
       let few = sum_ones n (having xs) (having_one xs places alone) in
@@ -248,10 +261,39 @@ all_weigh (x ∷ xs) places =
 places_weigh : (xs : List Holder) → ArePlaces xs → HasNoRepetition xs → sum_by weight xs ≤ 16 * page_numbers + 1024 + 81 + bias * 17680
 places_weigh xs places alone =
     let all = all_weigh xs places in
-    let entries = few_numbered entry_number (16 * page_numbers + 1024) entry_below one_entry xs places alone in
-    let cleared = few_numbered cleared_number 81 cleared_below one_cleared xs places alone in
-    let pins = few_numbered pin_number 17680 pin_below one_pin xs places alone in
+    let entries = few_numbered IsPlace entry_number (16 * page_numbers + 1024) entry_below one_entry xs places alone in
+    let cleared = few_numbered IsPlace cleared_number 81 cleared_below one_cleared xs places alone in
+    let pins = few_numbered IsPlace pin_number 17680 pin_below one_pin xs places alone in
     omega (arith, all, entries, cleared, pins)
+
+-- and that of distinct grabs
+
+one_grab : (x y : Holder) (j : ℕ) → IsGrab x → IsGrab y → grab_number x ≡ Some j → grab_number y ≡ Some j → x ≡ y
+one_grab x y j (of_grab a low) (of_grab b also) here there =
+    let this : a ≡ j = some_same here in
+    let that : b ≡ j = some_same there in
+    ap grabbed_by (this ∙ sym that)
+
+grab_below : (x : Holder) (j : ℕ) → IsGrab x → grab_number x ≡ Some j → j < 81
+grab_below x j (of_grab a low) is = let this : a ≡ j = some_same is in omega (arith, this, low)
+
+grab_weighs : (x : Holder) → IsGrab x → weight x ≡ bias * one_of (grab_number x)
+grab_weighs x (of_grab a low) = refl
+
+all_grabs : (xs : List Holder) → AreSuch IsGrab xs → sum_by weight xs ≡ bias * sum_by (λ (x : Holder). one_of (grab_number x)) xs
+all_grabs [] grabs = refl
+all_grabs (x ∷ xs) grabs =
+    let rest = all_grabs xs grabs.1 in
+    let first = grab_weighs x grabs.0 in
+    let all = sum_by-cons weight x xs in
+    let numbers = sum_by-cons (λ (y : Holder). one_of (grab_number y)) x xs in
+    omega (arith, rest, first, all, numbers)
+
+grabs_weigh : (xs : List Holder) → AreSuch IsGrab xs → HasNoRepetition xs → sum_by weight xs ≤ bias * 81
+grabs_weigh xs grabs alone =
+    let all = all_grabs xs grabs in
+    let few = few_numbered IsGrab grab_number 81 grab_below one_grab xs grabs alone in
+    omega (arith, all, few)
 
 -- the holders of a frame
 
@@ -299,8 +341,8 @@ module _ (s : CoreState) (sound : IsSound s) (calm : IsCalm s) (rest : (a : ℕ)
   unfolding held
   holder_is_place (entry_of_page p page) f is = inl (entry_is p page f (s.entry p page) refl is)
   holder_is_place (cleared_by a) f is =
-      elim (free a).0 [
-        | inl none ↦ absurd (let nothing : moved_frame (sound.0.moves a) ≡ None = ap moved_frame (sound.1.moves_are a) ∙ moved_same (s.job a) ∙ none in cc)
+      elim (free a) [
+        | inl none ↦ absurd (let nothing : moved_frame (sound.0.moves a) ≡ None = ap moved_frame (sound.1.moves_are a) ∙ moved_same (s.job a) ∙ none.0 in cc)
         | inr low ↦ inl (of_cleared a low)
       ]
   holder_is_place (prepared_by a) f is = inr (sound.1.prepared_once a f is)
@@ -310,13 +352,15 @@ module _ (s : CoreState) (sound : IsSound s) (calm : IsCalm s) (rest : (a : ℕ)
   holder_is_place (page_taken a k) f is = inl (taken_is a k f (slice_get (s.taken a) k) refl is)
   holder_is_place (grabbed_by a) f is = absurd (cc)
 
-  -- and no walk does
-  no_grab : (x : Holder) (f : ℕ) → held_by_walk sound.0.walks x ≡ Some f → ⊥
+  -- and what walks have grabbed is of those actors
+  grab_is : (x : Holder) (f : ℕ) → held_by_walk sound.0.walks x ≡ Some f → IsGrab x
   unfolding held_by_walk
-  no_grab (grabbed_by a) f is =
-      let none : walk_frame (sound.0.walks a) ≡ None = ap walk_frame (sound.1.walks_are a) ∙ walk_same (s.job a) ∙ (free a).1 in
-      absurd (cc)
-  no_grab x f is = absurd (cc)
+  grab_is (grabbed_by a) f is =
+      elim (free a) [
+        | inl none ↦ absurd (let nothing : walk_frame (sound.0.walks a) ≡ None = ap walk_frame (sound.1.walks_are a) ∙ walk_same (s.job a) ∙ none.1 in cc)
+        | inr low ↦ of_grab a low
+      ]
+  grab_is x f is = absurd (cc is)
 
   each_place : (f : ℕ) (xs : List Holder) → ((x : Holder) → Contains xs x → holding x ≡ Some f) → ArePlaces xs ⊎ IsOnce f
   each_place f [] hold = inl tt
@@ -329,9 +373,10 @@ module _ (s : CoreState) (sound : IsSound s) (calm : IsCalm s) (rest : (a : ℕ)
         | inr once ↦ inr once
       ]
 
-  none_listed : (f : ℕ) (xs : List Holder) → ((x : Holder) → Contains xs x → held_by_walk sound.0.walks x ≡ Some f) → sum_by weight xs ≡ 0
-  none_listed f [] hold = refl
-  none_listed f (x ∷ xs) hold = absurd (no_grab x f (hold x (first_element x xs)))
+  each_grab : (f : ℕ) (xs : List Holder) → ((x : Holder) → Contains xs x → held_by_walk sound.0.walks x ≡ Some f) → AreSuch IsGrab xs
+  each_grab f [] hold = tt
+  each_grab f (x ∷ xs) hold =
+      (grab_is x f (hold x (first_element x xs)), each_grab f xs (λ y has. hold y (later_element x xs y has)))
 
   few_references : (f : ℕ) → sound.0.references f ≤ 16 * page_numbers + 1024 + 81 + bias * 17680
   few_references f =
@@ -341,15 +386,15 @@ module _ (s : CoreState) (sound : IsSound s) (calm : IsCalm s) (rest : (a : ℕ)
         | inr once ↦ omega (arith, once)
       ]
 
-  pub few_counts_by : (f : ℕ) → s.count f ≤ 16 * page_numbers + 1024 + 81 + bias * 17680
+  pub few_counts_by : (f : ℕ) → s.count f ≤ 16 * page_numbers + 1024 + 81 + bias * 17761
   few_counts_by f =
       let grabs = sound.1.grabs f in
       let most = few_references f in
-      let none = none_listed f grabs.0 (λ x. (grabs.2 x).1) in
+      let grabbed = grabs_weigh grabs.0 (each_grab f grabs.0 (λ x. (grabs.2 x).1)) grabs.1 in
       let sum = sound.1.count_is f in
-      omega (arith, most, none, sum, grabs.3)
+      omega (arith, most, grabbed, sum, grabs.3)
 
 -- each frame's count is at most the number of pages of 16 processes and of 1,024 references, that of 81 actors, and the weight of the pages of
--- 1,024 handles and of those that 81 actors may have taken
-pub few_counts : (s : CoreState) → IsSound s → IsCalm s → ((a : ℕ) → AtRest s a) → ((a : ℕ) → HoldsFew a (s.job a)) → ((p page : ℕ) → s.birth p ≡ failed → s.entry p page ≡ None) → ((p page : ℕ) (e : Entry) → s.entry p page ≡ Some e → p < 16) → ArePinsFew s → ((h : ℕ) → (s.got h ≡ None → ⊥) → h < 1024) → (f : ℕ) → s.count f ≤ 16 * page_numbers + 1024 + 81 + bias * 17680
+-- 1,024 handles, of those that 81 actors may have taken, and of one that each of them may have grabbed
+pub few_counts : (s : CoreState) → IsSound s → IsCalm s → ((a : ℕ) → AtRest s a) → ((a : ℕ) → HoldsFew a (s.job a)) → ((p page : ℕ) → s.birth p ≡ failed → s.entry p page ≡ None) → ((p page : ℕ) (e : Entry) → s.entry p page ≡ Some e → p < 16) → ArePinsFew s → ((h : ℕ) → (s.got h ≡ None → ⊥) → h < 1024) → (f : ℕ) → s.count f ≤ 16 * page_numbers + 1024 + 81 + bias * 17761
 few_counts s sound calm rest free emptied few pins gots f = few_counts_by s sound calm rest free emptied few pins gots f

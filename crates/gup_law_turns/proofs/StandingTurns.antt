@@ -17,14 +17,14 @@ use Rattle.gup_plain.specs.declared.note.Waiting.{Waiting}
 use Rattle.gup_script.specs.Script.{ScriptValue, Process, process_at}
 use Rattle.gup_script.specs.declared.op.Op.{Op}
 use Rattle.gup_script.specs.declared.op.Op.TheVariants.{Pin, Unpin, Get, Transfer, Fork, Exit, Move}
-use Rattle.gup_spec_events.specs.State.{CoreState, Job, idle, forking, between, counted, copying, plain_of, core_start, moving, Taken, pending_of, walking}
+use Rattle.gup_spec_events.specs.State.{CoreState, Job, idle, forking, between, counted, copying, plain_of, core_start, moving, Taken, pending_of, walking, WalkStep, read}
 use Rattle.gup_spec_events.specs.Event.{run}
 use Rattle.gup_law_base.specs.Sound.{IsSound}
 use Rattle.gup_spec_journal.specs.Denial.{References}
 use Rattle.gup_spec_journal.specs.Order.{plain_behind}
 use Rattle.gup_spec_journal.specs.Place.{Place, Doer, doer, place_behind, process_of, ops_of, present_op, birth_by, birth_for, is_born, starts_born, doer_of, first_place}
 use Rattle.gup_spec_turns.specs.JobPlace.{JobPlace, job_place, place_in, IsForking, HasCounted, KeepsFrame, IsMoving}
-use Rattle.gup_spec_turns.specs.PinPlace.{StandsAtPage}
+use Rattle.gup_spec_turns.specs.PinPlace.{StandsAtPage, IsReadThere}
 use Rattle.gup_law_turns.specs.Standing.{StandsHandle, given_back, back_in, IsUnmade}
 use Rattle.gup_spec_turns.specs.Run.{RunState, run_start, run_after, op_in, waiting_in, core_turn_by, core_turn_in}
 use Rattle.gup_spec_journal.specs.Plain.{pages_got}
@@ -41,6 +41,7 @@ use Rattle.gup_law_turns.proofs.ActorPlaces.{next_place, IsBehind, goes_on, is_o
 use Rattle.gup_law_turns.proofs.Puts.{put_same, some_same}
 use Rattle.gup_law_turns.proofs.ScriptLemmas.{child_is, child_declared}
 use Rattle.gup_law_turns.proofs.ScriptPlaces.{fresh_place, fresh_fits}
+use Rattle.gup_law_turns.proofs.CountedFrames.{stays_sized, stays_counted}
 use Rattle.gup_law_turns.proofs.TurnShapes.{FitsFork, FitsAt, AtRest, Rests, HasLeft, child_of, strand_of, TurnAt, goes, unborn_refused, FitsMove, FitsPin}
 use Rattle.gup_law_turns.proofs.TurnSteps.{taken}
 use Rattle.gup_law_turns.proofs.EventLists.{Law, leads, plain_through, plain_behind-through, AllCanHappen, events_of}
@@ -483,6 +484,13 @@ module _ (script : ScriptValue) (valid : IsScript script) (r : RunState) (h : St
         let kept = pins.held_then handle b other (is_holder (t.handle handle) b is) in
         subst₂ (λ (x : Handle) (xs : List ℕ). is_held_by x b ≡ true → (0 < length xs) × (length xs + far ≡ length (objects_of x))) (sym kept.handle) (sym kept.pinned) has is
 
+    -- the machine has the frame that a walk has found
+    read_kept : (step : WalkStep) → IsReadThere s step → IsReadThere t step
+    read_kept (read g e) there =
+        let sized = stays_sized s a p c (strand_of op) turn.events turns.done.kinds in
+        omega (arith, there, sized.0, sized.1)
+    read_kept step there = there
+
     -- a long pin has locked it, too, and what it has found of its page stays
     page_kept : Law → (page n got : ℕ) (want : Want) (fast : Bool) (job : Job) → s.job b ≡ job → StandsAtPage s b q page n got want fast job → StandsAtPage t b q page n got want fast job
     page_kept law page n got want fast idle is at = at
@@ -512,6 +520,7 @@ module _ (script : ScriptValue) (valid : IsScript script) (r : RunState) (h : St
           flag = stays_flagged s a p c q (strand_of op) turn.events turns.done.kinds at.flag;
           unread = at.unread;
           here = at.here;
+          there = read_kept step at.there;
         }
     page_kept law page n got want fast job is at = absurd at
 
@@ -605,6 +614,7 @@ module _ (script : ScriptValue) (valid : IsScript script) (r : RunState) (h : St
       record {
         sound = (leads law s turn.events h.sound turns.done.can).sound;
         calm = stays_calm s a p c (strand_of op) turn.events turns.done.kinds h.calm;
+        there = stays_counted law s a p c (strand_of op) turn.events turns.done.kinds h.sound turns.done.can h.there;
         rest = rest_on;
         few = few_on law;
         emptied = emptied_on law;
@@ -684,6 +694,7 @@ stands_first starts script valid =
     record {
       sound = starts script.frames.movable script.frames.normal (starts_born script);
       calm = starts_calm script.frames.movable script.frames.normal (starts_born script);
+      there = λ f some. absurd (some refl);
       rest = λ a. record { prepared = refl; owed = refl };
       few = few_first (length script.processes) script.frames.movable script.frames.normal (starts_born script);
       emptied = λ p page is. refl;

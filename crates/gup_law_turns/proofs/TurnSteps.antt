@@ -92,11 +92,12 @@ record CanTake (s : CoreState) (who : Doer) (place : Place) (op : Op) : Type 0 w
   slots : who.slots ≤ most_slots
   ungot : (handle : ℕ) → made_by op ≡ Some handle → s.got handle ≡ None
   fits : FitsOp s who op place
+  fresh : place.far ≡ 0 → place.had ≡ false
   free : waits_born s who.actor who.proc place.far op ≡ None
 
 module _ (s : CoreState) (who : Doer) (place : Place) (quiet : IsQuiet s who.actor) where
   opened : s.birth who.proc ≡ born → IsOpen s who.actor who.proc
-  opened birth = record { sound = quiet.sound; calm = quiet.calm; rest = quiet.rest; birth = birth }
+  opened birth = record { sound = quiet.sound; calm = quiet.calm; there = quiet.there; rest = quiet.rest; birth = birth }
 
   -- the turn of any operation
   op_turned : (op : Op) → CanTake s who place op → IsTurned s who place op (op_turn s who.actor who.proc who.slots place.far op)
@@ -106,7 +107,7 @@ module _ (s : CoreState) (who : Doer) (place : Place) (quiet : IsQuiet s who.act
   op_turned (Store page word value) h = store_turned s who place (opened (h.birth tt)) page word value h.range h.fits h.free
   op_turned (Protect page n rights) h = protect_turned s who place (opened (h.birth tt)) page n rights h.fits h.free
   op_turned (Discard page n) h = discard_turned s who place (opened (h.birth tt)) page n h.fits h.free
-  op_turned (Pin handle page n want fast) h = pin_turned s who place (opened (h.birth tt)) handle page n want fast h.range h.fits h.free
+  op_turned (Pin handle page n want fast) h = pin_turned s who place (opened (h.birth tt)) handle page n want fast h.range h.fresh h.fits h.free
   op_turned (Unpin handle) h = unpin_turned s who place quiet handle h.fits
   op_turned (Give handle to) h = give_turned s who place quiet handle to h.fits
   op_turned (Take handle) h =
@@ -208,7 +209,7 @@ module _ (s : CoreState) (who : Doer) (place : Place) (quiet : IsQuiet s who.act
   born_step birth free =
       let own_birth : IsOfProcess op → s.birth who.proc ≡ born = λ own. sym (thread_birth who s.birth (h.thread op refl own)) ∙ birth in
       let turn : CoreTurn = op_turn s who.actor who.proc who.slots place.far op in
-      let at : IsTurned s who place op turn = op_turned s who place quiet op (record { range = h.range op refl; birth = own_birth; slots = h.slots; ungot = h.ungot op refl; fits = h.fits; free = free }) in
+      let at : IsTurned s who place op turn = op_turned s who place quiet op (record { range = h.range op refl; birth = own_birth; slots = h.slots; ungot = h.ungot op refl; fits = h.fits; fresh = h.fresh; free = free }) in
       record {
         done = at.done;
         shape = goes op turn.whats (place_in s who.actor) (place_in (run s turn.events) who.actor) birth own_birth at.shape;
@@ -262,7 +263,7 @@ pub taken : (script : ScriptValue) → IsScript script → (r : RunState) → St
 taken script valid r h a =
     let k : ℕ = (r.places a).answered in
     take r.core (doer_of script a (op_in script r a)) (r.places a) (op_in script r a) (waiting_in script r a)
-    (record { sound = h.sound; calm = h.calm; rest = h.rest a })
+    (record { sound = h.sound; calm = h.calm; there = h.there; rest = h.rest a })
     (record {
       range = op_is_op script valid a k;
       thread = λ o is own. subst (λ (x : Option Op). (doer_of script a x).of_process ≡ true) (sym is) (has_own_process script valid a k o is (of_no_device o own));

@@ -11,9 +11,9 @@ use Rattle.gup_script.specs.declared.op.Op.TheVariants.{Unmap, Discard, Pin, Unp
 use Rattle.gup_script.specs.Limits.{most_pinned, most_handles}
 use Rattle.gup_script.specs.Script.{ScriptValue}
 use Rattle.gup_script.specs.Valid.{made_by}
-use Rattle.gup_spec_events.specs.State.{CoreState, idle}
+use Rattle.gup_spec_events.specs.State.{CoreState, Taken, idle}
 use Rattle.gup_spec_events.specs.Event.{bias}
-use Rattle.gup_spec_events.specs.Invariant.{Holds}
+use Rattle.gup_spec_events.specs.Invariant.{Holds, grabbed_frame}
 use Rattle.gup_law_base.specs.Sound.{IsSound}
 use Rattle.gup_spec_journal.specs.Place.{ops_of, present_op, process_of}
 use Rattle.gup_plain.specs.Pages.{mapped_pages}
@@ -43,12 +43,12 @@ abbrev pub IsUnmade : CoreState → (handle : ℕ) → Type 0
 IsUnmade s handle = (s.handle handle ≡ unmade) × (s.got handle ≡ None)
 
 -- The core state is sound, and all that is published of core states holds of it. Those that are not unborn are declared. Each
--- entry is of a mapped page, and its frame has a reference. No actor but one that forks, moves or pins for long is in the middle of anything, none but
+-- entry is of a mapped page, and its frame has a reference. No actor but one that forks, moves, walks or pins for long is in the middle of anything, none but
 -- one that pins has taken pages, and none but one that copies a page has prepared a frame. A pin has had no more
 -- turns than its pages take. An operation that goes over pages or
 -- words stands at one of them, an unpin has given back fewer than the most pages of a pin, and no actor has answered more
 -- operations than it has. Pins and references are of declared handles, the weight of each page of a pin is in the count of its
--- frame, and so is that of a reference; the handle of a pin or a reference that isn't answered is unmade. Counts and sequences
+-- frame, also of one that is taken or that a walk has grabbed, and so is that of a reference; the handle of a pin or a reference that isn't answered is unmade. Counts and sequences
 -- stay small.
 pub record IsStanding (script : ScriptValue) (r : RunState) : Type 0 where
   pub sound : IsSound r.core
@@ -57,7 +57,7 @@ pub record IsStanding (script : ScriptValue) (r : RunState) : Type 0 where
   pub mapped : (p page : ℕ) (e : Entry) → r.core.entry p page ≡ Some e → IsSome (r.core.right p page)
   pub counted : (p page : ℕ) (e : Entry) → r.core.entry p page ≡ Some e → r.core.count e.frame ≡ 0 → ⊥
   pub few_pages : (p : ℕ) → mapped_pages (r.core.right p) ≤ 1024
-  pub few_counts : (f : ℕ) → r.core.count f ≤ 16 * page_numbers + most_handles + 81 + bias * 17680
+  pub few_counts : (f : ℕ) → r.core.count f ≤ 16 * page_numbers + most_handles + 81 + bias * 17761
   pub few_forks : (p : ℕ) → r.core.sequence p ≤ 32
   pub idle_jobs : (a : ℕ) → KeepsNoJob (present_op script a (r.places a)) → r.core.job a ≡ idle
   pub forks : (a child : ℕ) → present_op script a (r.places a) ≡ Some (Fork child) → StandsFork r.core a (process_of script a) child (r.core.job a) (r.core.prepared a)
@@ -71,6 +71,8 @@ pub record IsStanding (script : ScriptValue) (r : RunState) : Type 0 where
   pub handles : (h : ℕ) → StandsHandle (back_in script r h) (r.core.pinned h) (r.core.handle h)
   pub made : (h : ℕ) → (r.core.handle h ≡ unmade → ⊥) → h < length script.handles
   pub weighed : (h k f : ℕ) → slice_get (r.core.pinned h) k ≡ Some f → bias ≤ r.core.count f
+  pub taken_weighed : (a k : ℕ) (t : Taken) → slice_get (r.core.taken a) k ≡ Some t → bias ≤ r.core.count t.frame
+  pub grabbed : (a f : ℕ) → grabbed_frame (r.core.job a) ≡ Some f → bias ≤ r.core.count f
   pub got : (h : ℕ) → (r.core.got h ≡ None → ⊥) → h < length script.handles
   pub referred : (h a f : ℕ) → r.core.got h ≡ Some (a, f) → r.core.count f ≡ 0 → ⊥
   pub yet_unmade : (a handle : ℕ) (op : Op) → present_op script a (r.places a) ≡ Some op → made_by op ≡ Some handle → IsUnmade r.core handle
