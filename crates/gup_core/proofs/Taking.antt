@@ -217,6 +217,9 @@ same_or_first script a place (Some event) None (Some answer) = inr refl
 same_or_first script a place None (Some next) (Some answer) = inr refl
 same_or_first script a place (Some event) (Some next) (Some answer) = inr refl
 
+put_here : {X : Type 0} (a : ℕ) (x : X) (f : ℕ → X) → put a x f a ≡ x
+put_here a x f = grind (arith, nat_tests)
+
 -- where a job is in the middle of nothing it has nothing to drop
 none_left : (job : JobPlace) (taken : List Taken) → place_of job ≡ unbegun → EndAt (last_page job) taken
 none_left (Walking place page sequence) taken is = absurd (cc is)
@@ -275,6 +278,13 @@ goes m a proc seat next op parts seats turns said job stand rest of_a here prese
     (record { sound = stands.sound; at = stands_at m.script r a op stands op_is; free = free }) in
     let seated_so : slice_get seats a ≡ Some (seat_behind seat op (is_some said.answer) job) = seated ∙ ap (λ (s : Seat). Some s) next_is in
     let two : NoTwo (whats_of said) = subst (λ (ws : List What). NoTwo ws) led.says (turn_two (birth_for r.core.birth who) r.core a who.proc who.slots far op) in
+    let reached : IsReached m.script (run_after m.script r a) = reached_behind m.script r a h.reached in
+    let stands_after : IsStanding m.script (run_after m.script r a) = subst (λ (x : RunState). IsStanding m.script x) (sym reached.1) (stand m.script reached.0 rest.valid) in
+    let rests : (place_behind (r.places a) t.whats).far ≡ 0 → (run r.core t.events).job a ≡ idle =
+    subst (λ (u : CoreTurn). (place_behind (r.places a) u.whats).far ≡ 0 → (run r.core u.events).job a ≡ idle) is
+    (λ first. stands_after.fresh a (ap (λ (x : Place). x.far) (put_here a (place_behind (r.places a) (core_turn_in m.script r a).whats) r.places) ∙ first)) in
+    let rests_then : (place_behind (r.places a) (whats_of said)).far ≡ 0 → place_in (run r.core t.events) a ≡ unbegun =
+    λ first. ap (λ (j : Job). job_place j ((run r.core t.events).prepared a)) (rests (ap (λ (ws : List What). (place_behind (r.places a) ws).far) led.says ∙ first)) in
     record {
       said = says_so m r a seat turns t (whats_of said) h here count is led.says;
       shown =

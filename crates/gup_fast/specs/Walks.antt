@@ -31,6 +31,11 @@ pub record WalkValue : Type 0 where
 abbrev pub new_walk : (page n : ℕ) → Want → WalkValue
 new_walk page n want = record { page = page; n = n; want = want; sequence = 0; stage = unbegun; taken = [] }
 
+-- one that stands there
+abbrev pub walk_at : (page n : ℕ) → Want → (sequence : ℕ) → Stage → (taken : List ℕ) → WalkValue
+walk_at page n want sequence stage taken =
+    record { page = page; n = n; want = want; sequence = sequence; stage = stage; taken = taken }
+
 abbrev pub at_stage : Stage → WalkValue → WalkValue
 at_stage stage w = record w { stage = stage }
 
@@ -275,7 +280,7 @@ pub record IsTakenLast (w : WalkValue) (page : ℕ) (e : Entry) : Type 0 where
 
 abbrev pub FitsStage : WalkValue → Stage → Type 0
 FitsStage w unbegun = (w.taken ≡ []) × (w.sequence ≡ 0)
-FitsStage w (at entered) = (w.taken ≡ []) × (w.sequence ≡ 0)
+FitsStage w (at entered) = w.taken ≡ []
 FitsStage w (at (read page e)) = IsAhead w page
 FitsStage w (at (grabbed page e)) = IsAhead w page
 FitsStage w (at (rechecked page e)) = IsTakenLast w page e

@@ -4,4 +4,4 @@
 
 mod walk;
 
-pub use walk::{GiveUp, Step, Walk};
+pub use walk::{GiveUp, Stage, Step, Walk};

@@ -7,7 +7,7 @@ ghost use Rattle.gup_space.specs.Shows.{change_of};
 ghost use Rattle.gup_spec_events.specs.State.{WalkStep, entered, ready, read, grabbed, rechecked};
 ghost use Rattle.gup_spec_events.specs.Event.{read_entry, read_mark};
 ghost use Rattle.gup_fast.specs.Stages.{stage_of};
-ghost use Rattle.gup_fast.specs.Walks.{unbegun, at, new_walk, at_stage, next_page, kept_at, MayGrab, MayRecheck, MayReadMark, MayReadAgain, sequence_found, entry_found, count_found, entry_again, mark_found, sequence_again, IsNext, after_sequence, step_after_read, grabbed_frames, step_after_grab, after_recheck, step_after_mark, after_again, stage_left as stage_left_of, dropped_at, dropped_frames, after_drop, flags, reads_sequence, grabs, rechecks, reads_again, drops, AreWalkEvents, IsWalk};
+ghost use Rattle.gup_fast.specs.Walks.{unbegun, at, new_walk, walk_at, at_stage, next_page, kept_at, MayGrab, MayRecheck, MayReadMark, MayReadAgain, sequence_found, entry_found, count_found, entry_again, mark_found, sequence_again, IsNext, after_sequence, step_after_read, grabbed_frames, step_after_grab, after_recheck, step_after_mark, after_again, stage_left as stage_left_of, dropped_at, dropped_frames, after_drop, flags, reads_sequence, grabs, rechecks, reads_again, drops, AreWalkEvents, IsWalk};
 
 use arrayvec::ArrayVec;
 use gup_base::{Entry, FrameNo, PIN_BIAS, PageNo, Want, Zone, pack};
@@ -60,19 +60,30 @@ pub enum Step {
     Nothing,
 }
 
-// Where a walk stands.
-#[derive(Clone, Copy, Debug)]
-enum Stage {
+/// Where a walk stands.
+#[derive(Clone, Copy, Debug, PartialEq, Eq)]
+pub enum Stage {
+    /// It has not begun.
     Unbegun,
+    /// The sequence is to be read.
     Entered,
+    /// The entry of the next page is to be read, or after the last page the sequence again.
     Ready,
+    /// The page had this entry; its frame is to be grabbed.
     Read { page: PageNo, entry: Entry },
+    /// The frame is grabbed, and the entry is to be read again.
     Grabbed { page: PageNo, entry: Entry },
+    /// The entry was the same, and the page is taken; the frame's mark is to be read.
     Rechecked { page: PageNo, entry: Entry },
+    /// The page had another entry than this frame's, which is to be dropped.
     Differed(FrameNo),
+    /// The frame of the last page taken wasn't marked, and is to be dropped.
     Refused,
+    /// The walk stopped at a page, and the sequence is to be read again.
     Stopped,
+    /// The sequence was another, and the pages that are left are to be dropped.
     Dropping,
+    /// The walk is over.
     Left,
 }
 
@@ -134,6 +145,53 @@ impl Walk {
             stage: Stage::Unbegun,
             taken: ArrayVec::new(),
         }
+    }
+
+    /// The walk of such a pin that stands there, has read this sequence and taken these frames.
+    #[inline]
+    pub fn resume(
+        page: PageNo,
+        n: u8,
+        want: Want,
+        sequence: u64,
+        stage: Stage,
+        taken: ArrayVec<FrameNo, 16>,
+    ) -> Walk
+        requires { IsWalk (walk_at page n want sequence (stage_of stage) taken.items) }
+        ensures { result ≡ walk_at page n want sequence (stage_of stage) taken.items }
+    {
+        Walk {
+            page,
+            n,
+            want,
+            sequence,
+            stage,
+            taken,
+        }
+    }
+
+    /// Where the walk stands.
+    #[inline]
+    pub fn stage(&self) -> Stage
+        ensures { stage_of result ≡ self.now.stage }
+    {
+        self.stage
+    }
+
+    /// The sequence that the walk has read, 0 before it has.
+    #[inline]
+    pub fn sequence_read(&self) -> u64
+        ensures { result ≡ self.now.sequence }
+    {
+        self.sequence
+    }
+
+    /// The frames that the walk has taken and not dropped, which go with it.
+    #[inline]
+    pub fn into_taken(self) -> ArrayVec<FrameNo, 16>
+        ensures { result.items ≡ self.taken }
+    {
+        self.taken
     }
 
     /// Which call is the walk's next step, and what it is of.

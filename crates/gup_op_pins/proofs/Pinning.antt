@@ -27,7 +27,7 @@ use Rattle.gup_fault.specs.Faults.{IsFault}
 use Rattle.gup_spec_turns.specs.CoreTurn.{zones_of, entry_in}
 use Rattle.gup_spec_turns.specs.PinTurns.{raises, makes_if, pins, ends_pin, pin_turn, pin_turn_by, moves_first, pins_behind, clears_behind, clears_or_pins, ends_moved, pins_moved, moved_turn, pin_turn_in, begins_or_pins}
 use Rattle.gup_handles.specs.Shows.{IsShown, ShowsHandles}
-use Rattle.gup_op_pins.specs.Pins.{PinningView, ShowsPinning, StandsAtPage, raised, fault_to_pin, IsMade, IsEnded, IsTaken, tried_whats, ended_whats}
+use Rattle.gup_op_pins.specs.Pins.{PinningView, ShowsPinning, StandsAtPage, EndAt, raised, fault_to_pin, IsMade, IsEnded, IsTaken, tried_whats, ended_whats}
 use Rattle.gup_spec_turns.specs.MoveTurns.{count_turn}
 use Rattle.gup_spec_turns.specs.JobPlace.{job_place, unbegun, moving_page}
 use Rattle.gup_spec_turns.specs.PinPlace.{HasTaken, HasPages, StandsAtPage as IsAtPage}
@@ -37,6 +37,14 @@ use Rattle.gup_op_base.specs.Tidy.{IsTidy}
 use Rattle.gup_op_base.specs.Turns.{Leads}
 use Rattle.gup_op_base.proofs.Leading.{ch, leads_alike, run_behind}
 use Rattle.gup_op_pins.proofs.Readying.{IsLeft, pin_fault_same, fault_raised, pin_fault_leaves}
+
+-- a pin that is in the middle of nothing
+abbrev pub IsOver : PinningView → Type 0
+IsOver view = (view.place ≡ unbegun) × (view.last ≡ None)
+
+pub no_last : (last : Option ℕ) (taken : List TakenPage) → last ≡ None → EndAt last taken
+no_last None taken none = tt
+no_last (Some page) taken none = absurd (cc)
 
 put_own : {X : Type 0} (k : ℕ) (x : X) (f : ℕ → X) → put k x f k ≡ x
 put_own k x f = grind (arith, nat_tests)
@@ -154,7 +162,7 @@ flag_again p S s flag h =
 take_page : (old new : PinningView) (F1 : FramesValue) (S2 : SpaceValue) (a p handle page frame : ℕ) (want : Want) (last : Bool) (e : Entry) (s : CoreState)
     → e.frame ≡ frame → new.frames ≡ with_references frame 1024 F1 → new.space ≡ record S2 { has_pinned = true } → IsMade last old.pins new.pins old.taken new.taken a handle frame want.write
     → ShowsFrames F1 s → ShowsSpace p S2 s → ShowsHandles old.pins s → frames_taken (s.taken a) ≡ old.taken → s.has_pinned p ≡ true
-    → ((k : ℕ) (t : TakenPage) → slice_get (s.taken a) k ≡ Some t → t.write ≡ want.write) → s.job a ≡ idle → new.place ≡ unbegun
+    → ((k : ℕ) (t : TakenPage) → slice_get (s.taken a) k ≡ Some t → t.write ≡ want.write) → s.job a ≡ idle → IsOver new
     → ShowsPinning a p new (run s (pin_page a p page e want.write want.long ∷ makes_if last a handle))
 take_page old new F1 S2 a p handle page frame want last e s is new_frames new_space made frames space shown taken flag writes rests over = go last made
   where
@@ -183,7 +191,7 @@ take_page old new F1 S2 a p handle page frame want last e s is new_frames new_sp
     writes_now = ap writes_taken pages ∙ writes_behind (s.taken a) (taken_page s p page e want) want.write writes refl
 
     place_now : job_place (s.job a) (s.prepared a) ≡ new.place
-    place_now = ap (λ (j : Job). job_place j (s.prepared a)) rests ∙ sym over
+    place_now = ap (λ (j : Job). job_place j (s.prepared a)) rests ∙ sym over.0
 
     go : (more : Bool) → IsMade more old.pins new.pins old.taken new.taken a handle frame want.write → ShowsPinning a p new (run t (makes_if more a handle))
     go true by =
@@ -195,6 +203,7 @@ take_page old new F1 S2 a p handle page frame want last e s is new_frames new_sp
               (pins_made old.pins a handle (old.taken ++ frame ∷ []) want.write t taken_now writes_now by.0 shown);
           taken = none_taken a handle t ∙ sym by.2;
           place = place_now;
+          last = no_last new.last _ over.1;
         }
     go false by =
         record {
@@ -203,6 +212,7 @@ take_page old new F1 S2 a p handle page frame want last e s is new_frames new_sp
           pins = subst (λ (x : HandlesValue). ShowsHandles x t) (sym by.0) shown;
           taken = taken_now ∙ sym by.1;
           place = place_now;
+          last = no_last new.last _ over.1;
         }
 
 -- the pin after events that lead there
@@ -219,7 +229,7 @@ pins_lead new es a p handle page n want last e s t same behind =
 -- what is left of a pin after events that leave it in the middle of nothing
 ends_lead : (old new : PinningView) (es : List CoreEvent) (a p handle n far : ℕ) (want : Want) (answer : Answer) (s t : CoreState) → run s es ≡ t
     → ShowsFrames new.frames t → ShowsSpace p new.space t → ShowsHandles old.pins t → frames_taken (t.taken a) ≡ old.taken → length (t.taken a) ≡ far
-    → ((k : ℕ) (x : TakenPage) → slice_get (t.taken a) k ≡ Some x → x.write ≡ want.write) → t.job a ≡ idle → new.place ≡ unbegun
+    → ((k : ℕ) (x : TakenPage) → slice_get (t.taken a) k ≡ Some x → x.write ≡ want.write) → t.job a ≡ idle → IsOver new
     → IsEnded far old.pins new.pins old.taken new.taken a handle want.write
     → Leads (ShowsPinning a p) new s (ends_pin es a handle n far answer) (ended_whats a handle n far answer)
 ends_lead old new es a p handle n zero want answer s t same frames space shown taken many writes rests over ended =
@@ -228,7 +238,8 @@ ends_lead old new es a p handle n zero want answer s t same frames space shown t
       space = space;
       pins = subst (λ (x : HandlesValue). ShowsHandles x t) (sym ended.0) shown;
       taken = taken ∙ sym ended.1;
-      place = ap (λ (j : Job). job_place j (t.prepared a)) rests ∙ sym over;
+      place = ap (λ (j : Job). job_place j (t.prepared a)) rests ∙ sym over.0;
+      last = no_last new.last _ over.1;
     } in
     record { says = refl; shown = subst (ShowsPinning a p new) (sym same) here }
 ends_lead old new es a p handle n (suc far) want answer s t same frames space shown taken many writes rests over ended =
@@ -239,7 +250,8 @@ ends_lead old new es a p handle n (suc far) want answer s t same frames space sh
       space = shows_space p new.space t (making a handle) space;
       pins = subst (λ (x : HandlesValue). ShowsHandles x made) (sym ended.1) (pins_made old.pins a handle old.taken want.write t taken write ended.0 shown);
       taken = none_taken a handle t ∙ sym ended.2;
-      place = ap (λ (j : Job). job_place j (t.prepared a)) rests ∙ sym over;
+      place = ap (λ (j : Job). job_place j (t.prepared a)) rests ∙ sym over.0;
+      last = no_last new.last _ over.1;
     } in
     record {
       says = refl;
@@ -374,7 +386,7 @@ module _ (old new : PinningView) (F1 : FramesValue) (S2 : SpaceValue) (a p handl
     -- the page is pinned
     pub page_pinned : (want.long && nat_lt (entry_in (S2.entry g)).frame F1.movable) ≡ false
         → IsTaken F1 new.frames S2 new.space g (entry_in (S2.entry g)).frame
-        → IsMade (got + 1 == n) old.pins new.pins old.taken new.taken a handle (entry_in (S2.entry g)).frame want.write → new.place ≡ unbegun
+        → IsMade (got + 1 == n) old.pins new.pins old.taken new.taken a handle (entry_in (S2.entry g)).frame want.write → IsOver new
         → Leads (ShowsPinning a p) new s (pin_turn s a p handle page n want fast far) (tried_whats (got + 1 == n) a p handle g n want.write)
     page_pinned stays made handles over =
         let es : List CoreEvent = raises a p got fast ++ events_of fault in
@@ -391,7 +403,7 @@ module _ (old new : PinningView) (F1 : FramesValue) (S2 : SpaceValue) (a p handl
     -- or its entry is cleared
     pub page_cleared : (e : Entry) (S3 : SpaceValue) → (want.long && nat_lt (entry_in (S2.entry g)).frame F1.movable) ≡ true → S2.entry g ≡ Some e
         → AreMoveEvents (with_table (Some a) (ch F1 F1 S2 S3)) (λ q. clear_entry a q g e (zones_of want) ∷ [])
-        → new.frames ≡ F1 → new.space ≡ record S3 { table = Some a } → new.pins ≡ old.pins → new.taken ≡ old.taken → new.place ≡ moving_page g e unread
+        → new.frames ≡ F1 → new.space ≡ record S3 { table = Some a } → new.pins ≡ old.pins → new.taken ≡ old.taken → (new.place ≡ moving_page g e unread) × (new.last ≡ None)
         → Leads (ShowsPinning a p) new s (pin_turn s a p handle page n want fast far) (Silent ∷ [])
     page_cleared e S3 first there events frames space pins taken place =
         let es : List CoreEvent = raises a p got fast ++ events_of fault in
@@ -405,7 +417,8 @@ module _ (old new : PinningView) (F1 : FramesValue) (S2 : SpaceValue) (a p handl
           space = subst (λ (x : SpaceValue). ShowsSpace p x t2) (sym space) led.1;
           pins = subst (λ (x : HandlesValue). ShowsHandles x t2) (sym pins) pins_then;
           taken = ap frames_taken taken_same ∙ shown.taken ∙ sym taken;
-          place = ap (λ (j : Job). job_place j (t1.prepared a)) (put_own a job t1.job) ∙ sym place;
+          place = ap (λ (j : Job). job_place j (t1.prepared a)) (put_own a job t1.job) ∙ sym place.0;
+          last = no_last new.last _ place.1;
         } in
         goes (Silent ∷ []) true first
         (leads_alike (ap (clears_behind es a p g want) is_e)
@@ -416,7 +429,7 @@ module _ (old new : PinningView) (F1 : FramesValue) (S2 : SpaceValue) (a p handl
 
   -- a page that is denied
   pub page_denied : (answer : Answer) → PinFault F F1 S S2 g got fast want (Some answer) → new.frames ≡ F1 → new.space ≡ S2
-      → IsEnded got old.pins new.pins old.taken new.taken a handle want.write → new.place ≡ unbegun
+      → IsEnded got old.pins new.pins old.taken new.taken a handle want.write → IsOver new
       → Leads (ShowsPinning a p) new s (pin_turn s a p handle page n want fast far) (ended_whats a handle n got answer)
   page_denied answer faults frames space ended over = leads_alike turn_here (by_denied fault (faults.refused a p))
     where
@@ -459,7 +472,7 @@ module _ (old new : PinningView) (a p handle page n got far g : ℕ) (here : g �
 
   -- the count is read
   pub page_counted : old.place ≡ moving_page g e unread → new.frames ≡ old.frames → new.space ≡ old.space → new.pins ≡ old.pins → new.taken ≡ old.taken
-      → new.place ≡ moving_page g e (counted_as (old.frames.count e.frame)) → Leads (ShowsPinning a p) new s (pin_turn s a p handle page n want fast far) (Silent ∷ [])
+      → (new.place ≡ moving_page g e (counted_as (old.frames.count e.frame))) × (new.last ≡ None) → Leads (ShowsPinning a p) new s (pin_turn s a p handle page n want fast far) (Silent ∷ [])
   page_counted at frames space pins taken place =
       let t : CoreState = happens s (count_moved a p g e (zones_of want) (old.frames.count e.frame)) in
       let job : Job = moving p g e (zones_of want) (counted_as (old.frames.count e.frame)) in
@@ -474,13 +487,14 @@ module _ (old new : PinningView) (a p handle page n got far g : ℕ) (here : g �
               (record { right = sp.right; pages = sp.pages; entry = sp.entry; sequence = sp.sequence; has_pinned = sp.has_pinned; structure = sp.structure; table = sp.table });
           pins = subst (λ (x : HandlesValue). ShowsHandles x t) (sym pins) shown.pins;
           taken = shown.taken ∙ sym taken;
-          place = ap (λ (j : Job). job_place j (s.prepared a)) (put_own a job s.job) ∙ sym place;
+          place = ap (λ (j : Job). job_place j (s.prepared a)) (put_own a job s.job) ∙ sym place.0;
+          last = no_last new.last _ place.1;
         };
       })
 
   -- the entry is put back, and the page refused
   restored : (count : Counted) (answer : Answer) (S1 : SpaceValue) → old.place ≡ moving_page g e count → AreMoveEvents (with_table None (ch old.frames old.frames old.space S1)) (λ q. restore_entry a q g e (zones_of want) count ∷ [])
-      → new.frames ≡ old.frames → new.space ≡ record S1 { table = None } → IsEnded got old.pins new.pins old.taken new.taken a handle want.write → new.place ≡ unbegun
+      → new.frames ≡ old.frames → new.space ≡ record S1 { table = None } → IsEnded got old.pins new.pins old.taken new.taken a handle want.write → IsOver new
       → Leads (ShowsPinning a p) new s (ends_moved a p handle g n got want e count answer) (ended_whats a handle n got answer)
   restored count answer S1 at events frames space ended over =
       let t : CoreState = happens s (restore_entry a p g e (zones_of want) count) in
@@ -490,7 +504,7 @@ module _ (old new : PinningView) (a p handle page n got far g : ℕ) (here : g �
       shown.pins shown.taken (pages_taken count at).many (λ k x found. ((pages_taken count at).each k x found).2) (put_own a idle s.job) over ended
 
   pub page_restored : (count : ℕ) (S1 : SpaceValue) → old.place ≡ moving_page g e (more count) → AreMoveEvents (with_table None (ch old.frames old.frames old.space S1)) (λ q. restore_entry a q g e (zones_of want) (more count) ∷ [])
-      → new.frames ≡ old.frames → new.space ≡ record S1 { table = None } → IsEnded got old.pins new.pins old.taken new.taken a handle want.write → new.place ≡ unbegun
+      → new.frames ≡ old.frames → new.space ≡ record S1 { table = None } → IsEnded got old.pins new.pins old.taken new.taken a handle want.write → IsOver new
       → Leads (ShowsPinning a p) new s (pin_turn s a p handle page n want fast far) (ended_whats a handle n got (answers.Unmovable count))
   page_restored count S1 at events frames space ended over =
       leads_alike (later (more count) at) (restored (more count) (answers.Unmovable count) S1 at events frames space ended over)
@@ -502,7 +516,7 @@ module _ (old new : PinningView) (a p handle page n got far g : ℕ) (here : g �
 
   -- no frame is free
   pub page_unplaced : (S1 : SpaceValue) → old.place ≡ moving_page g e one → free_frame old.frames (zones_of want) ≡ None → AreMoveEvents (with_table None (ch old.frames old.frames old.space S1)) (λ q. restore_entry a q g e (zones_of want) one ∷ [])
-      → new.frames ≡ old.frames → new.space ≡ record S1 { table = None } → IsEnded got old.pins new.pins old.taken new.taken a handle want.write → new.place ≡ unbegun
+      → new.frames ≡ old.frames → new.space ≡ record S1 { table = None } → IsEnded got old.pins new.pins old.taken new.taken a handle want.write → IsOver new
       → Leads (ShowsPinning a p) new s (pin_turn s a p handle page n want fast far) (ended_whats a handle n got answers.NoFrame)
   page_unplaced S1 at none events frames space ended over =
       leads_alike (one_is None at none) (restored one answers.NoFrame S1 at events frames space ended over)
@@ -510,7 +524,7 @@ module _ (old new : PinningView) (a p handle page n got far g : ℕ) (here : g �
   -- the page is placed in another frame, and pinned
   pub page_placed : (f : ℕ) (F1 : FramesValue) (S1 S2 : SpaceValue) → old.place ≡ moving_page g e one → free_frame old.frames (zones_of want) ≡ Some f → AreMoveEvents (with_table None (ch old.frames F1 old.space S1)) (λ q. take_frame a f ∷ place_frame a q g f e (zones_of want) ∷ put_entry a e.frame ∷ [])
       → S2 ≡ record S1 { table = None } → s.has_pinned p ≡ true → IsTaken F1 new.frames S2 new.space g f
-      → IsMade (got + 1 == n) old.pins new.pins old.taken new.taken a handle f want.write → new.place ≡ unbegun
+      → IsMade (got + 1 == n) old.pins new.pins old.taken new.taken a handle f want.write → IsOver new
       → Leads (ShowsPinning a p) new s (pin_turn s a p handle page n want fast far) (tried_whats (got + 1 == n) a p handle g n want.write)
   page_placed f F1 S1 S2 at is events same flag made handles over =
       let es : List CoreEvent = take_frame a f ∷ place_frame a p g f e (zones_of want) ∷ put_entry a e.frame ∷ [] in

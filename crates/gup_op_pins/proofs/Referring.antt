@@ -31,10 +31,10 @@ use Rattle.gup_op_base.specs.Tidy.{IsTidy}
 use Rattle.gup_op_base.specs.Turns.{Leads, IsTurnOf, Anywhere}
 use Rattle.gup_op_base.proofs.Leading.{ch, leads_alike, run_behind}
 use Rattle.gup_op_base.proofs.Searching.{free_agrees}
-use Rattle.gup_op_pins.specs.Pins.{IsReferred, PinningView, ShowsPinning}
+use Rattle.gup_op_pins.specs.Pins.{IsReferred, PinningView, ShowsPinning, EndAt}
 use Rattle.gup_op_pins.specs.Held.{ShowsHeld}
 use Rattle.gup_op_pins.proofs.Holding.{view}
-use Rattle.gup_op_pins.proofs.Pinning.{shows_same, unmade_shown, frame_is}
+use Rattle.gup_op_pins.proofs.Pinning.{shows_same, unmade_shown, frame_is, IsOver, no_last}
 use Rattle.gup_op_pins.proofs.Readying.{IsLeft, fault_to_get, get_fault_leaves, get_fault_rests}
 
 -- ---- get
@@ -67,7 +67,7 @@ reference_shown H a p page handle e t yet shown k = go (k == handle) refl
 
 -- the reference after events that lead there
 get_behind : (old new : PinningView) (F1 : FramesValue) (S1 : SpaceValue) (a p handle page frame : ℕ) (es : List CoreEvent) (s : CoreState) → frame_of (S1.entry page) ≡ Some frame
-    → new.frames ≡ with_references frame 1 F1 → new.space ≡ S1 → new.pins ≡ put handle (got a frame) old.pins → new.taken ≡ old.taken → new.place ≡ unbegun → old.pins handle ≡ unmade
+    → new.frames ≡ with_references frame 1 F1 → new.space ≡ S1 → new.pins ≡ put handle (got a frame) old.pins → new.taken ≡ old.taken → IsOver new → old.pins handle ≡ unmade
     → ShowsFrames F1 (run s es) → ShowsSpace p S1 (run s es) → ShowsHandles old.pins (run s es) → frames_taken ((run s es).taken a) ≡ old.taken → place_in (run s es) a ≡ unbegun
     → Leads (ShowsPinning a p) new s (gets s es a p handle page) (Done answers.Plain ∷ [])
 get_behind old new F1 S1 a p handle page frame es s at new_frames new_space new_pins new_taken over yet frames space shown taken rests =
@@ -91,7 +91,8 @@ get_behind old new F1 S1 a p handle page frame es s at new_frames new_space new_
                 subst (λ (x : HandlesValue). ShowsHandles x u) (ap (λ f. put handle (got a f) old.pins) is ∙ sym new_pins)
                 (reference_shown old.pins a p page handle e t yet shown);
             taken = taken ∙ sym new_taken;
-            place = rests ∙ sym over;
+            place = rests ∙ sym over.0;
+            last = no_last new.last _ over.1;
           });
     }
 
@@ -107,7 +108,7 @@ get_after new (Ok es) a p handle page s unrefused behind = behind es refl
 
 pub reference_got : (old new : PinningView) (F1 : FramesValue) (S1 : SpaceValue) (a p handle page frame : ℕ) → IsTidy old.frames old.space → old.space.table ≡ None
     → GetFault old.frames F1 old.space S1 page None → frame_of (S1.entry page) ≡ Some frame
-    → new.frames ≡ with_references frame 1 F1 → new.space ≡ S1 → new.pins ≡ put handle (got a frame) old.pins → new.taken ≡ old.taken → old.place ≡ unbegun → new.place ≡ unbegun → old.pins handle ≡ unmade
+    → new.frames ≡ with_references frame 1 F1 → new.space ≡ S1 → new.pins ≡ put handle (got a frame) old.pins → new.taken ≡ old.taken → old.place ≡ unbegun → IsOver new → old.pins handle ≡ unmade
     → IsTurnOf (ShowsPinning a p) Anywhere old new (λ s. get_turn s a p handle page (s.entry p page)) (Done answers.Plain ∷ [])
 reference_got old new F1 S1 a p handle page frame tidy unlocked fault at new_frames new_space new_pins new_taken begun over yet s shown stands =
     leads_alike (ap (λ (x : Fault). gets_after s x a p handle page) (get_fault_same old.frames old.space a p page s (tidy.mapped page) shown.frames shown.space))
@@ -134,9 +135,9 @@ get_denied new (Err denied) answer a p handle page s refused shown =
 
 -- the page is refused
 pub get_refused : (old new : PinningView) (F1 : FramesValue) (S1 : SpaceValue) (a p handle page : ℕ) (answer : Answer) → IsTidy old.frames old.space
-    → GetFault old.frames F1 old.space S1 page (Some answer) → new.frames ≡ F1 → new.space ≡ S1 → new.pins ≡ old.pins → new.taken ≡ old.taken → new.place ≡ old.place
+    → GetFault old.frames F1 old.space S1 page (Some answer) → new.frames ≡ F1 → new.space ≡ S1 → new.pins ≡ old.pins → new.taken ≡ old.taken → new.place ≡ old.place → new.last ≡ old.last
     → IsTurnOf (ShowsPinning a p) Anywhere old new (λ s. get_turn s a p handle page (s.entry p page)) (Done answer ∷ [])
-get_refused old new F1 S1 a p handle page answer tidy fault new_frames new_space new_pins new_taken place s shown stands =
+get_refused old new F1 S1 a p handle page answer tidy fault new_frames new_space new_pins new_taken place last s shown stands =
     leads_alike (ap (λ (x : Fault). gets_after s x a p handle page) (get_fault_same old.frames old.space a p page s (tidy.mapped page) shown.frames shown.space))
     (get_denied new (fault_to_get old.frames old.space a p page) answer a p handle page s (fault.refused a p)
     (record {
@@ -145,6 +146,7 @@ get_refused old new F1 S1 a p handle page answer tidy fault new_frames new_space
       pins = subst (λ (x : HandlesValue). ShowsHandles x s) (sym new_pins) shown.pins;
       taken = shown.taken ∙ sym new_taken;
       place = shown.place ∙ sym place;
+      last = subst (λ (x : Option ℕ). EndAt x (s.taken a)) (sym last) shown.last;
     }))
 
 -- ---- put

@@ -1,5 +1,5 @@
 -- What handles are of frames, and what a turn of a pin or of a get is over.
-use Rattle.std.specs.Prelude.{◌≡◌, ℕ, ◌+◌, ◌<◌, ◌≤◌, Bool, true, false, List, [], ◌∷◌, ◌++◌, slice_get, length, Some, None, IsSome, IfSome, zero, suc}
+use Rattle.std.specs.Prelude.{◌≡◌, ℕ, ◌+◌, ◌<◌, ◌≤◌, Bool, true, false, List, [], ◌∷◌, ◌++◌, slice_get, length, Option, Some, None, IsSome, IfSome, zero, suc}
 use Rattle.gup_base.specs.declared.entry.Allowed.{Allowed}
 use Rattle.gup_base.specs.declared.entry.Entry.{Entry}
 use Rattle.gup_base.specs.declared.entry.Want.{Want}
@@ -14,13 +14,17 @@ use Rattle.gup_space.specs.Space.{SpaceValue, SpaceParts, space_of}
 use Rattle.gup_space.specs.Shows.{ShowsFrames, ShowsSpace}
 use Rattle.gup_handles.specs.Handles.{HandleValue, HandlesValue, handles_of, unmade, held, given, got, gone}
 use Rattle.gup_handles.specs.Shows.{ShowsHandles}
-use Rattle.gup_spec_events.specs.State.{CoreState, WalkStep, read, rechecked}
+use Rattle.gup_spec_events.specs.State.{CoreState, Taken, WalkStep, read, rechecked}
 use Rattle.gup_spec_events.specs.Event.{bias, taken_frames as frames_taken}
 use Rattle.gup_spec_events.specs.Fault.{Fault, write_fault, unshare_fault}
 use Rattle.gup_spec_events.specs.Invariant.{frame_of}
 use Rattle.gup_spec_turns.specs.JobPlace.{JobPlace, place_in, unbegun, moving_page, in_walk}
 use Rattle.gup_spec_turns.specs.PinPlace.{StandsPin, IsAtStep}
 use Rattle.gup_op_base.specs.Turns.{IsTurnOf}
+use Rattle.gup_op_base.specs.Jobs.{place_of}
+use Rattle.gup_op_base.specs.declared.jobs.JobPlace.{JobPlace as KeptPlace}
+use Rattle.gup_op_base.specs.declared.jobs.JobPlace.TheVariants.{Walking}
+use Rattle.gup_op_base.specs.declared.jobs.WalkPlace.TheVariants.{Dropping}
 use Rattle.gup_fast.specs.Walks.{at, dropped_at, last_of}
 use Rattle.gup_op_pins.specs.declared.pins.PinCall.{PinCall}
 use Rattle.gup_spec_turns.specs.PinTurns.{pinned_if, cause_of, pin_turn}
@@ -59,17 +63,36 @@ fault_to_pin frames space a p page false allowed =
 abbrev pub want_of : (write : Bool) → Want
 want_of write = record { write = write; long = false }
 
--- frames, a process, pins, what an actor's running pin has taken, and where that stands
+-- the last of the pages that a walk has left to drop
+abbrev pub last_page : KeptPlace → Option ℕ
+last_page (Walking Dropping page sequence) = Some page
+last_page place = None
+
+-- the pages taken are those up to this one, if they end at one
+abbrev pub EndAt : Option ℕ → List Taken → Type 0
+EndAt None taken = Unit {0}
+EndAt (Some last) taken =
+    (k : ℕ) (t : Taken) → slice_get taken k ≡ Some t → t.page + length taken ≡ last + 1 + k
+
+-- frames, a process, pins, what an actor's running pin has taken, where that stands, and the last page that it has left to drop
 pub record PinningView : Type 0 where
   pub frames : FramesValue
   pub space : SpaceValue
   pub pins : HandlesValue
   pub taken : List ℕ
   pub place : JobPlace
+  pub last : Option ℕ
 
-abbrev pub pinning_view : FrameLists → SpaceParts → List HandleValue → (taken : List ℕ) → JobPlace → PinningView
+abbrev pub pinning_view : FrameLists → SpaceParts → List HandleValue → (taken : List ℕ) → KeptPlace → PinningView
 pinning_view frames space pins taken place =
-    record { frames = frames_of frames; space = space_of space; pins = handles_of pins; taken = taken; place = place }
+    record {
+      frames = frames_of frames;
+      space = space_of space;
+      pins = handles_of pins;
+      taken = taken;
+      place = place_of place;
+      last = last_page place;
+    }
 
 -- the state has all that, of actor a and process p
 pub record ShowsPinning (a p : ℕ) (view : PinningView) (s : CoreState) : Type 0 where
@@ -78,6 +101,7 @@ pub record ShowsPinning (a p : ℕ) (view : PinningView) (s : CoreState) : Type 
   pub pins : ShowsHandles view.pins s
   pub taken : frames_taken (s.taken a) ≡ view.taken
   pub place : place_in s a ≡ view.place
+  pub last : EndAt view.last (s.taken a)
 
 -- What a pin finds where it stands at this page. One that has cleared its entry is for long, and the process has pinned; the page is
 -- mapped and has no entry, and the frame of the one that was cleared is there, not free, marked, and right for the pin.

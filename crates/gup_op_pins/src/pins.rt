@@ -16,9 +16,10 @@ ghost use Rattle.gup_spec_turns.specs.CoreTurn.{zones_of as zones, entry_in};
 ghost use Rattle.gup_spec_turns.specs.JobPlace.{unbegun, moving_page, in_walk};
 ghost use Rattle.gup_spec_turns.specs.PinTurns.{cause_of as cause};
 ghost use Rattle.gup_op_base.specs.Jobs.{place_of};
+ghost use Rattle.gup_op_base.specs.declared.jobs.JobPlace.TheVariants.{Unbegun, Single, Shared};
 ghost use Rattle.gup_op_base.specs.Tidy.{IsTidy};
 ghost use Rattle.gup_op_base.specs.Said.{TellsTurn, whats_of, silent_said};
-ghost use Rattle.gup_op_pins.specs.Pins.{IsPinTurn, IsReadyToPin, IsWithinPin, IsCleared, IsMade, IsEnded, IsTaken, tried_whats, ended_whats, pinning_view, raised, fault_to_pin, want_of};
+ghost use Rattle.gup_op_pins.specs.Pins.{IsPinTurn, last_page, IsReadyToPin, IsWithinPin, IsCleared, IsMade, IsEnded, IsTaken, tried_whats, ended_whats, pinning_view, raised, fault_to_pin, want_of};
 
 use arrayvec::ArrayVec;
 use gup_base::{ActorNo, Allowed, Entry, FrameNo, HandleNo, PageNo, ProcNo, Want, Zone};
@@ -80,8 +81,8 @@ pub fn pin(
     requires unwalked { (sequence : ℕ) (step : WalkStep) → place_of place ≡ in_walk sequence step → ⊥ }
     ensures { TellsTurn head.now journal.old journal.new result.0
         (λ said. IsPinTurn head.now.actor call (length taken.old.items) far
-        (pinning_view frames.old space.old handles.old taken.old.items (place_of place))
-        (pinning_view frames.new space.new handles.new taken.new.items (place_of result.1)) (whats_of said)) }
+        (pinning_view frames.old space.old handles.old taken.old.items place)
+        (pinning_view frames.new space.new handles.new taken.new.items result.1) (whats_of said)) }
 {
     let got = taken.len() as u8;
     let here = page_behind(call.page, u16::from(got));
@@ -129,8 +130,8 @@ fn first_turn(
     requires room { 3 ≤ journal.old.room }
     ensures { TellsTurn head.now journal.old journal.new result.0
         (λ said. (far : ℕ) → (call.fast && far == 0) ≡ false → IsPinTurn head.now.actor call got far
-        (pinning_view frames.old space.old handles.old taken.old.items unbegun)
-        (pinning_view frames.new space.new handles.new taken.new.items (place_of result.1)) (whats_of said)) }
+        (pinning_view frames.old space.old handles.old taken.old.items Unbegun)
+        (pinning_view frames.new space.new handles.new taken.new.items result.1) (whats_of said)) }
 {
     raise_flag(space, call.fast, got);
     match ready(space, frames, page, call.want) {
@@ -166,6 +167,7 @@ fn count_turn(
     ensures tells { TellsTurn head.now journal.old journal.new false (λ said. said ≡ silent_said) }
     ensures place { place_of result
         ≡ moving_page page entry.now (counted_as ((frames_of frames.now).count entry.now.frame)) }
+    ensures last { last_page result ≡ None }
 {
     let references = count(frames, *entry);
     head.silent(journal);
@@ -206,8 +208,8 @@ fn place_turn(
     requires room { 3 ≤ journal.old.room }
     ensures { TellsTurn head.now journal.old journal.new result
         (λ said. (far : ℕ) → IsPinTurn head.now.actor call got far
-        (pinning_view frames.old space.old handles.old taken.old.items (moving_page page entry one))
-        (pinning_view frames.new space.new handles.new taken.new.items unbegun) (whats_of said)) }
+        (pinning_view frames.old space.old handles.old taken.old.items (Single entry page))
+        (pinning_view frames.new space.new handles.new taken.new.items Unbegun) (whats_of said)) }
 {
     space.has_room(page);
     let placed = place(space, frames, page, entry, Allowed::Only(Zone::Normal)).is_ok();
@@ -245,8 +247,8 @@ fn restore_turn(
     requires room { 3 ≤ journal.old.room }
     ensures { TellsTurn head.now journal.old journal.new true
         (λ said. (far : ℕ) → IsPinTurn head.now.actor call got far
-        (pinning_view frames.now space.old handles.old taken.old.items (moving_page page entry (more count)))
-        (pinning_view frames.now space.new handles.new taken.new.items unbegun) (whats_of said)) }
+        (pinning_view frames.now space.old handles.old taken.old.items (Shared entry page count))
+        (pinning_view frames.now space.new handles.new taken.new.items Unbegun) (whats_of said)) }
 {
     space.has_room(page);
     restore(space, page, entry);

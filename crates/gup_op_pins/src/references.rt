@@ -9,7 +9,7 @@ ghost use Rattle.gup_fault.specs.Refused.{denial_of};
 ghost use Rattle.gup_fault.specs.Faults.{IsFault};
 ghost use Rattle.gup_slow.specs.Pins.{HasFrame};
 ghost use Rattle.gup_handles.specs.Handles.{handles_of, unmade};
-ghost use Rattle.gup_spec_turns.specs.JobPlace.{unbegun};
+ghost use Rattle.gup_op_base.specs.declared.jobs.JobPlace.TheVariants.{Unbegun};
 ghost use Rattle.gup_spec_turns.specs.PinTurns.{get_turn, put_turn};
 ghost use Rattle.gup_op_base.specs.Tidy.{IsTidy};
 ghost use Rattle.gup_op_base.specs.Said.{TellsTurn, whats_of};
@@ -47,8 +47,8 @@ pub fn get(
     requires room { 3 ≤ journal.old.room }
     ensures { TellsTurn head.now journal.old journal.new true
         (λ said. (taken : List ℕ) → IsTurnOf (ShowsPinning head.now.actor proc) Anywhere
-        (pinning_view frames.old space.old handles.old taken unbegun)
-        (pinning_view frames.new space.new handles.new taken unbegun)
+        (pinning_view frames.old space.old handles.old taken Unbegun)
+        (pinning_view frames.new space.new handles.new taken Unbegun)
         (λ s. get_turn s head.now.actor proc handle page (s.entry proc page)) (whats_of said)) }
 {
     match ready(space, frames, page) {

@@ -7,6 +7,7 @@ use Rattle.gup_spec_events.specs.State.{unread}
 use Rattle.gup_spec_turns.specs.CoreTurn.{zones_of}
 use Rattle.gup_spec_turns.specs.JobPlace.{unbegun, moving_page}
 use Rattle.gup_op_base.specs.Said.{silent_said}
+use Rattle.gup_op_base.specs.declared.jobs.JobPlace.TheVariants.{Unbegun, Cleared, Single, Shared}
 use Rattle.gup_op_base.proofs.Leading.{notes_alike}
 use Rattle.gup_op_pins.specs.Pins.{pinning_view, ended_whats}
 use Rattle.gup_op_pins.proofs.Readying.{ready_long}
@@ -31,8 +32,8 @@ returns-then-moves_first c =
     let S = space_of x.space.now in
     let S1 = space_of c.raise_flag.new.space in
     let S2 = space_of c.ready.new.space in
-    let old = pinning_view x.frames.now x.space.now x.handles.now x.taken.now.items unbegun in
-    let new = pinning_view c.ready.new.frames c.set_table.new.self x.handles.now x.taken.now.items (moving_page x.page c.clear-entry.result unread) in
+    let old = pinning_view x.frames.now x.space.now x.handles.now x.taken.now.items Unbegun in
+    let new = pinning_view c.ready.new.frames c.set_table.new.self x.handles.now x.taken.now.items (Cleared c.clear-entry.result x.page) in
     record {
       said = silent_said;
       tells = c.silent.ensures;
@@ -41,7 +42,7 @@ returns-then-moves_first c =
           page_cleared old new F1 S2 a x.call.proc x.call.handle x.call.page x.call.n x.got far x.page c.requires.here x.call.want x.call.fast slow c.requires.table refl s shown stands
           (fault_at F F1 S S1 S2 x.page x.got x.call.fast x.call.want None c.raise_flag.ensures c.in-Ok.ensures.fault)
           c.clear-entry.result (space_of c.clear-entry.new.space) (sym c.moves_first.ensures ∙ c.if-moves_first.true) c.clear-entry.ensures.entry
-          (c.clear-entry.ensures.events a c.ready.new.frames (zones_of x.call.want)) refl c.set_table.ensures refl refl refl;
+          (c.clear-entry.ensures.events a c.ready.new.frames (zones_of x.call.want)) refl c.set_table.ensures refl refl (refl, refl);
     }
 
 pub returns-else-moves_first : goal.returns-else-moves_first
@@ -54,8 +55,8 @@ returns-else-moves_first c =
     let S1 = space_of c.raise_flag.new.space in
     let S2 = space_of c.ready.new.space in
     let turn = c.take_page-over.ensures.tells in
-    let old = pinning_view x.frames.now x.space.now x.handles.now x.taken.now.items unbegun in
-    let new = pinning_view c.take_page-over.new.frames c.take_page-over.new.space c.take_page-over.new.handles c.take_page-over.new.taken.items unbegun in
+    let old = pinning_view x.frames.now x.space.now x.handles.now x.taken.now.items Unbegun in
+    let new = pinning_view c.take_page-over.new.frames c.take_page-over.new.space c.take_page-over.new.handles c.take_page-over.new.taken.items Unbegun in
     record {
       said = turn.said;
       tells = turn.tells;
@@ -65,7 +66,7 @@ returns-else-moves_first c =
           (λ s shown stands.
           page_pinned old new F1 S2 a x.call.proc x.call.handle x.call.page x.call.n x.got far x.page c.requires.here x.call.want x.call.fast slow c.requires.table refl s shown stands
           (fault_at F F1 S S1 S2 x.page x.got x.call.fast x.call.want None c.raise_flag.ensures c.in-Ok.ensures.fault)
-          (sym c.moves_first.ensures ∙ c.if-moves_first.false) c.take_page-over.ensures.taken c.take_page-over.ensures.made refl);
+          (sym c.moves_first.ensures ∙ c.if-moves_first.false) c.take_page-over.ensures.taken c.take_page-over.ensures.made (refl, refl));
     }
 
 pub returns-in-Err : goal.returns-in-Err
@@ -79,8 +80,8 @@ returns-in-Err c =
     let S2 = space_of c.ready.new.space in
     let turn = c.end_pin.ensures.tells in
     let answer : Answer = answer_of c.in-Err.denied in
-    let old = pinning_view x.frames.now x.space.now x.handles.now x.taken.now.items unbegun in
-    let new = pinning_view c.ready.new.frames c.ready.new.space c.end_pin.new.handles c.end_pin.new.taken.items unbegun in
+    let old = pinning_view x.frames.now x.space.now x.handles.now x.taken.now.items Unbegun in
+    let new = pinning_view c.ready.new.frames c.ready.new.space c.end_pin.new.handles c.end_pin.new.taken.items Unbegun in
     record {
       said = turn.said;
       tells = turn.tells;
@@ -90,5 +91,5 @@ returns-in-Err c =
           (λ s shown stands.
           page_denied old new F1 S2 a x.call.proc x.call.handle x.call.page x.call.n x.got far x.page c.requires.here x.call.want x.call.fast slow c.requires.table refl s shown stands answer
           (fault_at F F1 S S1 S2 x.page x.got x.call.fast x.call.want (Some answer) c.raise_flag.ensures c.in-Err.ensures.fault)
-          refl refl c.end_pin.ensures.ended refl);
+          refl refl c.end_pin.ensures.ended (refl, refl));
     }

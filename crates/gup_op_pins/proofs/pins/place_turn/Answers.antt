@@ -9,6 +9,7 @@ use Rattle.gup_move.specs.Moves.{with_table}
 use Rattle.gup_spec_events.specs.State.{one}
 use Rattle.gup_spec_turns.specs.CoreTurn.{zones_of, entry_in}
 use Rattle.gup_spec_turns.specs.JobPlace.{unbegun, moving_page}
+use Rattle.gup_op_base.specs.declared.jobs.JobPlace.TheVariants.{Unbegun, Cleared, Single, Shared}
 use Rattle.gup_op_base.proofs.Leading.{notes_alike}
 use Rattle.gup_op_pins.specs.Pins.{IsMade, IsTaken, pinning_view}
 use Rattle.gup_op_pins.proofs.Readying.{ready_placed}
@@ -42,8 +43,8 @@ returns-then-placed c =
     let frame : (entry_in (S2.entry x.page)).frame ≡ found.0 =
     ap (λ (o : Option Entry). (entry_in o).frame) (placed_frame S S1 S2 x.page found.0 x.entry.writable put.1 c.set_table.ensures) in
     let turn = c.take_page.ensures.tells in
-    let old = pinning_view x.frames.now x.space.now x.handles.now x.taken.now.items (moving_page x.page x.entry one) in
-    let new = pinning_view c.take_page.new.frames c.take_page.new.space c.take_page.new.handles c.take_page.new.taken.items unbegun in
+    let old = pinning_view x.frames.now x.space.now x.handles.now x.taken.now.items (Single x.entry x.page) in
+    let new = pinning_view c.take_page.new.frames c.take_page.new.space c.take_page.new.handles c.take_page.new.taken.items Unbegun in
     record {
       said = turn.said;
       tells = turn.tells;
@@ -55,7 +56,7 @@ returns-then-placed c =
           (places_as F (with_table None (change_of x.frames.now c.place.new.frames x.space.now c.place.new.space)) a x.page x.entry (zones_of x.call.want) (Only Normal) (Some found.0) zones found.1 (c.place.ensures.events a))
           c.set_table.ensures (shown.space.has_pinned ∙ c.requires.cleared.pinned)
           (subst (λ (f : ℕ). IsTaken F1 new.frames S2 new.space x.page f) frame c.take_page.ensures.taken)
-          (subst (λ (f : ℕ). IsMade (x.got + 1 == x.call.n) old.pins new.pins old.taken new.taken a x.call.handle f x.call.want.write) frame c.take_page.ensures.made) refl);
+          (subst (λ (f : ℕ). IsMade (x.got + 1 == x.call.n) old.pins new.pins old.taken new.taken a x.call.handle f x.call.want.write) frame c.take_page.ensures.made) (refl, refl));
     }
 
 pub returns : goal.returns
@@ -67,8 +68,8 @@ returns c =
     let back = c.place.ensures.restored none in
     let zones = zones_long x.call.want c.requires.cleared.long in
     let turn = c.end_pin.ensures.tells in
-    let old = pinning_view x.frames.now x.space.now x.handles.now x.taken.now.items (moving_page x.page x.entry one) in
-    let new = pinning_view c.place.new.frames c.set_table.new.self c.end_pin.new.handles c.end_pin.new.taken.items unbegun in
+    let old = pinning_view x.frames.now x.space.now x.handles.now x.taken.now.items (Single x.entry x.page) in
+    let new = pinning_view c.place.new.frames c.set_table.new.self c.end_pin.new.handles c.end_pin.new.taken.items Unbegun in
     let events = places_as F (with_table None (change_of x.frames.now c.place.new.frames x.space.now c.place.new.space)) a x.page x.entry (zones_of x.call.want) (Only Normal) None zones none (c.place.ensures.events a) in
     record {
       said = turn.said;
@@ -78,5 +79,5 @@ returns c =
           notes_alike turn.is_so
           (λ s shown stands.
           page_unplaced old new a x.call.proc x.call.handle x.call.page x.call.n x.got far x.page c.requires.here x.call.want x.call.fast x.entry s shown stands (space_of c.place.new.space) refl (ap (free_frame F) zones ∙ none)
-          (λ t p frames space. let led = events t p frames space in (rw (sym back.0) led.0, led.1)) back.0 c.set_table.ensures c.end_pin.ensures.ended refl);
+          (λ t p frames space. let led = events t p frames space in (rw (sym back.0) led.0, led.1)) back.0 c.set_table.ensures c.end_pin.ensures.ended (refl, refl));
     }

@@ -3,6 +3,7 @@ use Rattle.gup_space.specs.Space.{space_of}
 use Rattle.gup_spec_events.specs.State.{more}
 use Rattle.gup_spec_turns.specs.CoreTurn.{zones_of}
 use Rattle.gup_spec_turns.specs.JobPlace.{unbegun, moving_page}
+use Rattle.gup_op_base.specs.declared.jobs.JobPlace.TheVariants.{Unbegun, Cleared, Single, Shared}
 use Rattle.gup_op_base.proofs.Leading.{notes_alike}
 use Rattle.gup_op_pins.specs.Pins.{pinning_view}
 use Rattle.gup_op_pins.proofs.Pinning.{page_restored}
@@ -13,8 +14,8 @@ returns c =
     let x = c.args in
     let a = x.head.now.actor in
     let turn = c.end_pin.ensures.tells in
-    let old = pinning_view x.frames.now x.space.now x.handles.now x.taken.now.items (moving_page x.page x.entry (more x.count)) in
-    let new = pinning_view x.frames.now c.set_table.new.self c.end_pin.new.handles c.end_pin.new.taken.items unbegun in
+    let old = pinning_view x.frames.now x.space.now x.handles.now x.taken.now.items (Shared x.entry x.page x.count) in
+    let new = pinning_view x.frames.now c.set_table.new.self c.end_pin.new.handles c.end_pin.new.taken.items Unbegun in
     record {
       said = turn.said;
       tells = turn.tells;
@@ -23,5 +24,5 @@ returns c =
           notes_alike turn.is_so
           (λ s shown stands.
           page_restored old new a x.call.proc x.call.handle x.call.page x.call.n x.got far x.page c.requires.here x.call.want x.call.fast x.entry s shown stands x.count (space_of c.restore.new.space) refl
-          (c.restore.ensures.events a x.frames.now (zones_of x.call.want) (more x.count)) refl c.set_table.ensures c.end_pin.ensures.ended refl);
+          (c.restore.ensures.events a x.frames.now (zones_of x.call.want) (more x.count)) refl c.set_table.ensures c.end_pin.ensures.ended (refl, refl));
     }
