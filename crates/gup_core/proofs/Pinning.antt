@@ -55,7 +55,7 @@ pinning_leaves a p q space s other flags h = leave_other p q space s (raise_flag
 pinning_leaves a p q space s other (pins_it page e write long) h = leave_other p q space s (pin_page a p page e write long ∷ []) other (pinning a page e write long, tt) h
 pinning_leaves a p q space s other (makes k) h = leave_other p q space s (make_handle a k ∷ []) other (making a k, tt) h
 pinning_leaves a p q space s other (moves_it e own) h = moves_leave p q space s (e ∷ []) other (is_of_move a p own, tt) h
-pinning_leaves a p q space s other (walks_it e walking) h = walks_leave a p q space s (e ∷ []) other (walking, tt) h
+pinning_leaves a p q space s other (walks_it e is) h = walks_leave a p q space s (e ∷ []) other (is, tt) h
 pinning_leaves a p q space s other (gets_it page f k writable) h = leave_other p q space s (get_reference a p page f k writable ∷ []) other (getting a page f k writable, tt) h
 
 pub pinnings_leave : (a p q : ℕ) (space : SpaceValue) (s : CoreState) (es : List CoreEvent) → (p ≡ q → ⊥) → ArePinning a p es → ShowsSpace q space s → ShowsSpace q space (run s es)
@@ -151,7 +151,7 @@ walk_pinning a p [] all = tt
 walk_pinning a p (e ∷ es) all = (one all.0, walk_pinning a p es all.1)
   where
     one : {x : CoreEvent} → IsOfWalk a p x → IsPinning a p x
-    one (walks x walking) = walks_it x walking
+    one (walks x is) = walks_it x is
     one (makes_it h) = makes h
 
 begins_pinning : (begins : Bool) (s : CoreState) (a p handle page n got : ℕ) (want : Want) (fast : Bool) → ArePinning a p (begins_or_pins begins s a p handle page n got want fast).events
@@ -172,7 +172,7 @@ pin_is_pinning s a p handle page n far want fast = in_pinning s a p handle page 
 pinning_births : (a p : ℕ) (s : CoreState) {e : CoreEvent} → IsPinning a p e → (happens s e).birth ≡ s.birth
 pinning_births a p s (readies e own) = birth_stays a p s own
 pinning_births a p s (moves_it e own) = move_birth_stays a p s own
-pinning_births a p s (walks_it e walking) = ap (λ (x : Unwalked). x.0) (walkings_leave a p s (e ∷ []) (walking, tt))
+pinning_births a p s (walks_it e is) = ap (λ (x : Unwalked). x.0) (walkings_leave a p s (e ∷ []) (is, tt))
 pinning_births a p s event = refl
 
 pub pinnings_births : (a p : ℕ) (s : CoreState) (es : List CoreEvent) → ArePinning a p es → (run s es).birth ≡ s.birth
@@ -181,7 +181,7 @@ pinnings_births a p s es all = through (IsPinning a p) (λ x. x.birth) (λ x e i
 pinning_stores : (a p : ℕ) (s : CoreState) {e : CoreEvent} → IsPinning a p e → (happens s e).store ≡ s.store
 pinning_stores a p s (readies e own) = ap (λ (k : Pins). k.3) (own_leaves_pins a p s own)
 pinning_stores a p s (moves_it e own) = ap (λ (k : Pins). k.3) (move_leaves_pins a p s own)
-pinning_stores a p s (walks_it e walking) = ap (λ (x : Unwalked). x.1) (walkings_leave a p s (e ∷ []) (walking, tt))
+pinning_stores a p s (walks_it e is) = ap (λ (x : Unwalked). x.1) (walkings_leave a p s (e ∷ []) (is, tt))
 pinning_stores a p s event = refl
 
 pub pinnings_stores : (a p : ℕ) (s : CoreState) (es : List CoreEvent) → ArePinning a p es → (run s es).store ≡ s.store
@@ -190,7 +190,7 @@ pinnings_stores a p s es all = through (IsPinning a p) (λ x. x.store) (λ x e i
 pinning_taken : (a p b : ℕ) (s : CoreState) {e : CoreEvent} → (b ≡ a → ⊥) → IsPinning a p e → (happens s e).taken b ≡ s.taken b
 pinning_taken a p b s other (readies e own) = ap (λ (k : Pins). k.2 b) (own_leaves_pins a p s own)
 pinning_taken a p b s other (moves_it e own) = ap (λ (k : Pins). k.2 b) (move_leaves_pins a p s own)
-pinning_taken a p b s other (walks_it e walking) = walkings_taken a p b s (e ∷ []) other (walking, tt)
+pinning_taken a p b s other (walks_it e is) = walkings_taken a p b s (e ∷ []) other (is, tt)
 pinning_taken a p b s other flags = refl
 pinning_taken a p b s other (pins_it page e write long) = grind (arith, nat_tests)
 pinning_taken a p b s other (makes h) = grind (arith, nat_tests)
@@ -211,9 +211,9 @@ own_place a p b s other event = refl
 pinning_place : (a p b : ℕ) (s : CoreState) {e : CoreEvent} → (a ≡ b → ⊥) → IsPinning a p e → place_in (happens s e) b ≡ place_in s b
 pinning_place a p b s other (readies e own) = own_place a p b s other own
 pinning_place a p b s other (moves_it e own) = move_place a p b s other own
-pinning_place a p b s other (walks_it e walking) =
-    ap (λ (j : Job). job_place j ((happens s e).prepared b)) (walkings_jobs a p b s (e ∷ []) (λ same. other (sym same)) (walking, tt))
-    ∙ ap (λ (x : Unwalked). job_place (s.job b) (x.8 b)) (walkings_leave a p s (e ∷ []) (walking, tt))
+pinning_place a p b s other (walks_it e is) =
+    ap (λ (j : Job). job_place j ((happens s e).prepared b)) (walkings_jobs a p b s (e ∷ []) (λ same. other (sym same)) (is, tt))
+    ∙ ap (λ (x : Unwalked). job_place (s.job b) (x.8 b)) (walkings_leave a p s (e ∷ []) (is, tt))
 pinning_place a p b s other event = refl
 
 pub pinnings_places : (a p b : ℕ) (s : CoreState) (es : List CoreEvent) → (a ≡ b → ⊥) → ArePinning a p es → place_in (run s es) b ≡ place_in s b

@@ -72,15 +72,12 @@ fork_ready m r a p child seat stands h rest own here present is_born =
     }
 
 -- a pin that is in the middle of nothing finds the table lock free
-to_pin : (F : FramesValue) (taken : List ℕ) (page n : ℕ) (want : Want) (begins : Bool) (a : ℕ) (place : Place) (S : SpaceValue) → (place ≡ unbegun → begins ≡ false → HoldsNoLock S a → S.table ≡ None) → IsReadyPin F page want a place S
+to_pin : (F : FramesValue) (taken : List ℕ) (page n : ℕ) (want : Want) (begins : Bool) (a : ℕ) (place : Place) (S : SpaceValue) → (place ≡ unbegun → begins ≡ false → HoldsNoLock S a → S.table ≡ None) → IsReadyPin F taken page n want a place S
     → IsReadyToPin F taken page n want begins place S
 to_pin F taken page n want begins a unbegun S free h = λ slow. free refl slow h
 to_pin F taken page n want begins a (moving_page g e count) S free h = h
+to_pin F taken page n want begins a (in_walk sequence step) S free h = h
 to_pin F taken page n want begins a place S free h = absurd h
-
--- and it is in no walk
-no_walk : (F : FramesValue) (page : ℕ) (want : Want) (a sequence : ℕ) (step : WalkStep) (place : Place) (S : SpaceValue) → IsReadyPin F page want a place S → place ≡ in_walk sequence step → ⊥
-no_walk F page want a sequence step place S h is = subst (λ (k : Place). IsReadyPin F page want a k S) is h
 
 pub is_ready : (m : MachineValue) (a : ℕ) (proc : Option ℕ) (seat : Seat) (op : Op) → Stand → IsMachine m → IsAtRest m → IsProcessOf (doer_of m.script a (Some op)) proc → slice_get m.seats a ≡ Some seat → op_of_seat m a seat ≡ Some op → ((r : RunState) → Shows m r → None ≡ waiting_in m.script r a)
     → (HasFailed m.parts.births.items proc → ⊥) → (p : ℕ) → IfSome proc (λ q. q ≡ p) → IsReady m.parts a p op seat.far seat.job
@@ -147,13 +144,6 @@ is_ready m a proc seat op stand machine rest of_a here present ready unfailed p 
       referred = rest.referred;
       yet = λ handle makes. rest.yet a handle op seat here present makes;
       taken = λ pages handle page n want fast there is. rest.taken a handle page n want fast seat pages here there (present ∙ ap (λ (x : Op). Some x) is);
-      unwalked = λ handle page n sequence want fast step is walks.
-          let mine : process_of m.script a ≡ own = ap (λ (x : Op). (doer_of m.script a (Some x)).proc) (sym is) in
-          let own_there : own < length m.parts.spaces.items = let within = op_has_process m.script rest.valid a seat.answered op present (thread (subst HasProcess (sym is) tt)) in omega (arith, within, rest.parts.spaces) in
-          let space = there m.parts.spaces.items own own_there in
-          let pages = there m.parts.taken.items a (omega (arith, actor, rest.parts.taken)) in
-          no_walk (frames_of m.parts.frames) (page + length pages.0.items) want a sequence step (place_of seat.job) (space_of space.0)
-          (rest.pins a handle page n want fast seat space.0 pages.0 here (present ∙ ap (λ (x : Op). Some x) is) (ap (λ k. slice_get m.parts.spaces.items k) mine ∙ space.1) pages.1) walks;
       given = λ handle is. keeps_given (handles_of m.parts.handles handle) (r.core.handle handle) (r.core.pinned handle) (r.core.got handle) a (h.parts.pins handle) (given_free r.core a own far handle op is born_free.1);
       actor_taken = omega (arith, actor, rest.parts.taken);
       actor_store = omega (arith, actor, rest.parts.stores);

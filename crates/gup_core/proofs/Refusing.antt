@@ -27,7 +27,7 @@ use Rattle.gup_op_waits.specs.declared.births.Birth.TheVariants.{Unborn, Growing
 use Rattle.gup_op_waits.specs.declared.parts.Parts.{Parts}
 use Rattle.gup_op_waits.specs.Births.{HasFailed}
 use Rattle.gup_op_waits.specs.Doers.{IsProcessOf}
-use Rattle.gup_core.specs.Goes.{HasSlots}
+use Rattle.gup_core.specs.Goes.{HasSlots, EndsAt}
 use Rattle.gup_op_waits.specs.Parts.{IsBirth, ShowsSpaces, ShowsBirths, ShowsParts}
 use Rattle.gup_core.proofs.Owning.{Pins, pins_of}
 use Rattle.gup_core.proofs.Scripts.{process_of_doer}
@@ -64,13 +64,13 @@ pub of_born : (old new : Parts) (a : ℕ) (proc : Option ℕ) (far : ℕ) (op : 
     → (HasFailed old.births.items proc → ⊥) → IfSome proc (λ p. p < length old.births.items)
     → ((p slots : ℕ) → IfSome proc (λ q. q ≡ p) → HasSlots old a slots → IsTurnAmong old new a p slots far op place whats next)
     → IsTurnBy old new a proc far op place whats next
-of_born old new a proc far op place next whats unfailed within turn who k rest own of_who slots far_is s shown stands =
+of_born old new a proc far op place next whats unfailed within turn who k rest left own of_who slots far_is s shown stands =
     let refused_so : CoreTurn = failed_turn who.actor who.proc op in
     let other = birth_unfailed old.births.items proc who s unfailed within of_who shown.parts.births in
     let is_born : birth_for s.birth who ≡ born = (born_and_free (birth_for s.birth who) who.proc (waits_born s who.actor who.proc k op) other stands.free).0 in
     let is : turn_of s who k op ≡ op_turn s a who.proc who.slots k op =
     ap (λ (b : CoreBirth). turn_at b refused_so (op_turn s who.actor who.proc who.slots k op)) is_born ∙ ap (λ (b : ℕ). op_turn s b who.proc who.slots k op) own in
-    leads_alike is (turn who.proc who.slots (process_of_doer who proc of_who) slots k rest far_is s shown stands.at)
+    leads_alike is (turn who.proc who.slots (process_of_doer who proc of_who) slots k rest left far_is s shown stands.at)
 
 -- ---- a refusal
 

@@ -1,5 +1,5 @@
 -- What is true of a machine between two turns, by the state that turns led to.
-use Rattle.std.proofs.Common.{◌≡◌, ℕ, ◌+◌, ◌*◌, ◌<◌, ◌≤◌, ◌++◌, Bool, true, false, List, [], ◌∷◌, length, slice_get, Option, Some, None, IsSome, zero, suc, refl, sym, ap, ◌∙◌, subst, eqb-true, arith}
+use Rattle.std.proofs.Common.{IfSome, ◌≡◌, ℕ, ◌+◌, ◌*◌, ◌<◌, ◌≤◌, ◌++◌, Bool, true, false, List, [], ◌∷◌, length, slice_get, Option, Some, None, IsSome, zero, suc, refl, sym, ap, ◌∙◌, subst, eqb-true, arith}
 use Rattle.std.proofs.lemmas.Bool.{false≢true}
 use Rattle.gup_base.specs.Parts.{words_of}
 use Rattle.gup_base.specs.declared.entry.Allowed.{Allowed}
@@ -21,9 +21,10 @@ use Rattle.gup_space.specs.Shows.{ShowsFrames, ShowsSpace}
 use Rattle.gup_handles.specs.Handles.{HandleValue, handles_of}
 use Rattle.gup_handles.specs.Handles as kept
 use Rattle.gup_handles.specs.Shows.{IsShown}
-use Rattle.gup_spec_events.specs.Event.{bias}
-use Rattle.gup_spec_events.specs.State.{CoreState, Taken, Job, idle, moving, walking, Counted, forking, between, counted, copying}
-use Rattle.gup_law_base.specs.Sound.{IsSound, Moving, moving_of, keeps_table, keeps_structure}
+use Rattle.gup_spec_events.specs.Event.{bias, taken_frames as frames_taken}
+use Rattle.gup_spec_events.specs.Invariant.{grabbed_frame}
+use Rattle.gup_spec_events.specs.State.{CoreState, Taken, Job, idle, moving, walking, Counted, forking, between, counted, copying, WalkStep, read, rechecked, differed, refused, dropping}
+use Rattle.gup_law_base.specs.Sound.{IsSound, Moving, moving_of, Walking, walking_of, keeps_table, keeps_structure}
 use Rattle.gup_law_base.proofs.Lonely.{whole_counts}
 use Rattle.gup_spec_turns.specs.Run.{RunState, run_start, run_after, turned}
 use Rattle.gup_spec_turns.specs.ForkTurns.{first_behind}
@@ -34,9 +35,10 @@ use Rattle.gup_law_turns.proofs.ScriptLemmas.{op_is_op}
 use Rattle.gup_law_turns.specs.Standing.{IsStanding, StandsHandle, given_back, back_in}
 use Rattle.gup_op_base.specs.Far.{HasFar}
 use Rattle.gup_op_fork.specs.Forked.{IsCountedIn, IsCopyOf, IsReadyAt}
-use Rattle.gup_op_pins.specs.Pins.{IsReferred, IsWithinPin, frames_in}
+use Rattle.gup_op_pins.specs.Pins.{IsReferred, IsWithinPin, IsPinnedFrame, IsReadyToWalk, frames_in}
+use Rattle.gup_fast.specs.Walks.{first_of, last_of}
 use Rattle.gup_op_move.specs.Moving.{IsReadyToMove}
-use Rattle.gup_spec_turns.specs.PinPlace.{StandsPin, HasTaken, HasPages, IsWithin, StandsAtPage as IsAtPage}
+use Rattle.gup_spec_turns.specs.PinPlace.{StandsPin, HasTaken, HasPages, IsWithin, IsAtStep, IsWalkingPin, StandsAtPage as IsAtPage}
 use Rattle.gup_base.specs.declared.entry.Want.{Want}
 use Rattle.gup_core.proofs.Pinning.{length_frames}
 use Rattle.gup_op_base.specs.Tidy.{IsTidy}
@@ -161,11 +163,48 @@ ready_to_move s F S a p page zone sound there frames space stands = go (s.job a)
     go job prepared is h = absurd h
 
 -- and so is the page that a long pin has cleared, whose entry is right for the pin
-pub ready_to_pin : (s : CoreState) (F : FramesValue) (S : SpaceValue) (a p handle page n got : ℕ) (want : Want) (fast : Bool) → fast ≡ false → IsSound s → ((f : ℕ) → (F.count f ≡ 0 → ⊥) → IsFrame F f) → ShowsFrames F s → ShowsSpace p S s
-    → StandsPin s a p handle page n want fast got → IsReadyPin F (page + got) want a (place_in s a) S
-ready_to_pin s F S a p handle page n got want fast slow sound there frames space stands = go (s.job a) (s.prepared a) refl stands.at
+pub ready_to_pin : (s : CoreState) (F : FramesValue) (S : SpaceValue) (a p handle page n : ℕ) (want : Want) (fast : Bool) → IsSound s → ((f : ℕ) → (F.count f ≡ 0 → ⊥) → IsFrame F f) → ShowsFrames F s → ShowsSpace p S s
+    → ((k : ℕ) (t : Taken) → slice_get (s.taken a) k ≡ Some t → bias ≤ s.count t.frame) → ((f : ℕ) → grabbed_frame (s.job a) ≡ Some f → bias ≤ s.count f)
+    → StandsPin s a p handle page n want fast (length (s.taken a)) → IsReadyPin F (frames_taken (s.taken a)) (page + length (s.taken a)) n want a (place_in s a) S
+ready_to_pin s F S a p handle page n want fast sound there frames space weighed grabbed stands = go (s.job a) (s.prepared a) refl stands.at
   where
-    go : (job : Job) (prepared : Option ℕ) → s.job a ≡ job → IsAtPage s a p (page + got) n got want fast job → IsReadyPin F (page + got) want a (job_place job prepared) S
+    got : ℕ
+    got = length (s.taken a)
+
+    -- a frame that has the weight of a pin
+    pinned_frame : (f : ℕ) → bias ≤ s.count f → IsPinnedFrame F f
+    pinned_frame f weight =
+        let same = frames.count f in
+        (there f (λ none. omega (arith, weight, none, same)), omega (arith, weight, same))
+
+    first_pinned : (taken : List Taken) → ((k : ℕ) (t : Taken) → slice_get taken k ≡ Some t → bias ≤ s.count t.frame) → IfSome (first_of (frames_taken taken)) (IsPinnedFrame F)
+    first_pinned [] all = tt
+    first_pinned (t ∷ taken) all = pinned_frame t.frame (all 0 t refl)
+
+    last_pinned : (taken : List Taken) → ((k : ℕ) (t : Taken) → slice_get taken k ≡ Some t → bias ≤ s.count t.frame) → IfSome (last_of (frames_taken taken)) (IsPinnedFrame F)
+    last_pinned [] all = tt
+    last_pinned (t ∷ []) all = pinned_frame t.frame (all 0 t refl)
+    last_pinned (t ∷ u ∷ taken) all = last_pinned (u ∷ taken) (λ k x is. all (suc k) x is)
+
+    -- the last of the frames taken is that of the entry that was found the same
+    last_is : (taken : List Taken) (f : ℕ) → 0 < length taken → ((k : ℕ) (t : Taken) → slice_get taken k ≡ Some t → k + 1 ≡ length taken → t.frame ≡ f) → last_of (frames_taken taken) ≡ Some f
+    last_is [] f some all = absurd (omega (arith, some))
+    last_is (t ∷ []) f some all = ap (λ (k : ℕ). Some k) (all 0 t refl refl)
+    last_is (t ∷ u ∷ taken) f some all = last_is (u ∷ taken) f (omega arith) (λ k x is end. all (suc k) x is (omega (arith, end)))
+
+    walks_ready : (q : ℕ) (write long : Bool) (sequence : ℕ) (step : WalkStep) → s.job a ≡ walking q write long sequence step → IsWalkingPin s p (page + got) n got want fast q write long sequence step → IsReadyToWalk F (frames_taken (s.taken a)) step
+    walks_ready q write long sequence (read g e) is h = let within = h.there in omega (arith, within, frames.movable, frames.normal)
+    walks_ready q write long sequence (rechecked g e) is h =
+        let walk : Walking = record { proc = q; write = write; long = long; sequence = sequence; step = rechecked g e } in
+        let walks : sound.0.walks a ≡ Some walk = sound.1.walks_are a ∙ ap walking_of is in
+        let last : last_of (frames_taken (s.taken a)) ≡ Some e.frame = last_is (s.taken a) e.frame h.here.0 (λ k t at end. sound.1.walk_last a k walk t e walks refl at end) in
+        ((subst (λ (o : Option ℕ). IfSome o (IsPinnedFrame F)) last (last_pinned (s.taken a) weighed)).0, last)
+    walks_ready q write long sequence (differed f) is h = pinned_frame f (grabbed f (ap grabbed_frame is))
+    walks_ready q write long sequence refused is h = last_pinned (s.taken a) weighed
+    walks_ready q write long sequence dropping is h = first_pinned (s.taken a) weighed
+    walks_ready q write long sequence step is h = tt
+
+    go : (job : Job) (prepared : Option ℕ) → s.job a ≡ job → IsAtPage s a p (page + got) n got want fast job → IsReadyPin F (frames_taken (s.taken a)) (page + got) n want a (job_place job prepared) S
     go idle prepared is h = idle_unlocked s S p a sound is space
     go (moving q g e allowed count) prepared is h = (
       h.1,
@@ -180,7 +219,8 @@ ready_to_pin s F S a p handle page n got want fast slow sound there frames space
         may = h.4.may;
       },
     )
-    go (walking q write long sequence step) prepared is h = absurd (false≢true (sym slow ∙ h.walks))
+    go (walking q write long sequence step) prepared is h =
+        (subst (λ (k : ℕ). IsAtStep (page + got) n k step) (sym (length_frames (s.taken a))) h.here, walks_ready q write long sequence step is h)
     go job prepared is h = absurd h
 
 -- a pin that is in no walk has more pages to take
@@ -315,8 +355,6 @@ at_rest m valid is there stand =
     let shown : Shows m r = is.shown.1 in
     let parts : ShowsParts m.parts r.core = shown.parts in
     let h : IsStanding m.script r = standing m r stand valid shown in
-    let slow_so : (a : ℕ) (seat : Seat) (handle page n : ℕ) (want : Want) (fast : Bool) → op_of_seat m a seat ≡ Some (Pin handle page n want fast) → fast ≡ false =
-    λ a seat handle page n want fast op. (op_is_op m.script valid a seat.answered (Pin handle page n want fast) op).3 in
     record {
       valid = valid;
       parts = is.parts;
@@ -351,7 +389,10 @@ at_rest m valid is there stand =
           (within_pin n (length (r.core.taken a)) (r.core.job a) (r.core.prepared a) (h.pins a handle page n want fast now).within));
       pins = λ a handle page n want fast seat space pages sits op space_is taken.
           let at = h.pins a handle page n want fast (op_there m r a seat (Some (Pin handle page n want fast)) shown sits op) in
-          subst (λ (k : JobPlace). IsReadyPin (frames_of m.parts.frames) (page + length pages.items) want a k (space_of space)) (sym (shown.jobs a seat sits))
-          (subst (λ (k : ℕ). IsReadyPin (frames_of m.parts.frames) (page + k) want a (place_in r.core a) (space_of space)) (sym (length_frames (r.core.taken a)) ∙ ap length (parts.taken a pages taken))
-          (ready_to_pin r.core (frames_of m.parts.frames) (space_of space) a (process_of m.script a) handle page n (length (r.core.taken a)) want fast (slow_so a seat handle page n want fast op) h.sound there parts.frames (parts.spaces (process_of m.script a) space space_is) at));
+          let frames_are : frames_taken (r.core.taken a) ≡ pages.items = parts.taken a pages taken in
+          let many : length (r.core.taken a) ≡ length pages.items = sym (length_frames (r.core.taken a)) ∙ ap length frames_are in
+          subst (λ (k : JobPlace). IsReadyPin (frames_of m.parts.frames) pages.items (page + length pages.items) n want a k (space_of space)) (sym (shown.jobs a seat sits))
+          (subst (λ (k : ℕ). IsReadyPin (frames_of m.parts.frames) pages.items (page + k) n want a (place_in r.core a) (space_of space)) many
+          (subst (λ (fs : List ℕ). IsReadyPin (frames_of m.parts.frames) fs (page + length (r.core.taken a)) n want a (place_in r.core a) (space_of space)) frames_are
+          (ready_to_pin r.core (frames_of m.parts.frames) (space_of space) a (process_of m.script a) handle page n want fast h.sound there parts.frames (parts.spaces (process_of m.script a) space space_is) (h.taken_weighed a) (h.grabbed a) at)));
     }

@@ -4,6 +4,7 @@ use Rattle.gup_script.specs.Script.{ScriptValue}
 use Rattle.gup_spec_journal.specs.Place.{present_op, first_place}
 use Rattle.gup_spec_turns.specs.Run.{run_start}
 use Rattle.gup_op_base.specs.declared.jobs.JobPlace.TheVariants.{Unbegun}
+use Rattle.gup_op_pins.specs.Pins.{EndAt, last_page}
 use Rattle.gup_op_base.specs.Jobs.{place_of}
 use Rattle.gup_core.specs.declared.seats.Seat.{Seat}
 use Rattle.gup_op_waits.specs.declared.parts.Parts.{Parts}

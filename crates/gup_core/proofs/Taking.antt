@@ -1,5 +1,5 @@
 -- The three kinds of turn of an actor: idle, waiting, and a turn of its operation.
-use Rattle.std.proofs.Common.{◌≡◌, ℕ, ◌+◌, ◌-◌, ◌^◌, ◌==◌, Bool, true, false, cond, List, [], ◌∷◌, length, min, slice_get, Option, Some, None, is_some, refl, sym, ap, ◌∙◌, subst, eqb-true, arith}
+use Rattle.std.proofs.Common.{◌≡◌, ◌⊎◌, inl, inr, arith, ℕ, ◌+◌, ◌-◌, ◌^◌, ◌==◌, Bool, true, false, cond, List, [], ◌∷◌, length, min, slice_get, Option, Some, None, is_some, refl, sym, ap, ◌∙◌, subst, eqb-true, arith}
 use Rattle.std.proofs.lemmas.Bool.Decides.{nat_tests}
 use Rattle.gup_plain.specs.Note.{NoteValue}
 use Rattle.gup_plain.specs.declared.answer.Answer.{Answer}
@@ -8,21 +8,25 @@ use Rattle.gup_plain.specs.declared.note.Waiting.{Waiting}
 use Rattle.gup_plain.specs.declared.note.What.{What}
 use Rattle.gup_plain.specs.declared.note.What.TheVariants.{Idle, Wait}
 use Rattle.gup_script.specs.declared.op.Op.{Op}
-use Rattle.gup_script.specs.declared.op.Op.TheVariants.{Unmap}
+use Rattle.gup_base.specs.declared.entry.Want.{Want}
+use Rattle.gup_plain.specs.Put.{put}
+use Rattle.gup_script.specs.declared.op.Op.TheVariants.{Unmap, Pin}
 use Rattle.gup_script.specs.Script.{ScriptValue}
 use Rattle.gup_spec_journal.specs.Place.{Place, Doer, doer_of, place_behind, present_op, birth_for}
 use Rattle.gup_spec_journal.specs.Follows.{notes_of_turn}
 use Rattle.gup_spec_journal.specs.Order.{Turn, places_behind, pointer_after}
-use Rattle.gup_spec_events.specs.State.{CoreState}
+use Rattle.gup_spec_events.specs.State.{CoreState, Taken, Job, idle}
 use Rattle.gup_spec_events.specs.Event.{run}
 use Rattle.gup_spec_turns.specs.CoreTurn.{CoreTurn}
 use Rattle.gup_spec_turns.specs.Turn.{turn_of}
 use Rattle.gup_spec_turns.specs.Waits.{waiting_for}
 use Rattle.gup_spec_turns.specs.Run.{RunState, op_in, waiting_with, waiting_in, core_turn_by, core_turn_in, run_after, written_in}
 use Rattle.gup_law_turns.specs.Standing.{IsStanding}
-use Rattle.gup_spec_turns.specs.JobPlace.{place_in}
+use Rattle.gup_spec_turns.specs.JobPlace.{job_place, place_in, unbegun}
 use Rattle.gup_op_base.specs.declared.jobs.JobPlace.{JobPlace}
+use Rattle.gup_op_base.specs.declared.jobs.JobPlace.TheVariants.{Walking}
 use Rattle.gup_op_base.specs.Far.{far_in}
+use Rattle.gup_op_pins.specs.Pins.{EndAt, last_page}
 use Rattle.gup_op_base.specs.Jobs.{place_of}
 use Rattle.gup_op_base.specs.Said.{Said, whats_by, whats_of}
 use Rattle.gup_op_base.specs.Turns.{Leads}
@@ -30,8 +34,8 @@ use Rattle.gup_op_waits.specs.declared.parts.Parts.{Parts}
 use Rattle.gup_core.specs.declared.seats.Seat.{Seat}
 use Rattle.gup_op_waits.specs.Doers.{IsProcessOf}
 use Rattle.gup_op_waits.specs.Stands.{StandsAt}
-use Rattle.gup_core.specs.Goes.{ShowsAll, all_view}
-use Rattle.gup_core.specs.Machine.{MachineValue, machine_of, counted, Shows, TakesTurns, IsMachine}
+use Rattle.gup_core.specs.Goes.{ShowsAll, EndsAt, all_view}
+use Rattle.gup_core.specs.Machine.{MachineValue, machine_of, counted, Shows, TakesTurns, IsMachine, IsReached}
 use Rattle.gup_op_waits.specs.Parts.{ShowsParts, AreParts}
 use Rattle.gup_core.specs.Rest.{IsAtRest, op_of_seat}
 use Rattle.gup_core.specs.Seats.{IsSeat, far_behind, seat_behind}

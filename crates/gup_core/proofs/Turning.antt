@@ -23,6 +23,7 @@ use Rattle.gup_spec_turns.specs.ForkTurns.{fork_turn}
 use Rattle.gup_spec_turns.specs.PinTurns.{pin_turn, get_turn}
 use Rattle.gup_spec_turns.specs.JobPlace.{JobPlace as Place, KeepsNoJob, job_place, place_in, unbegun}
 use Rattle.gup_op_base.specs.declared.jobs.JobPlace.{JobPlace}
+use Rattle.gup_op_base.specs.declared.jobs.JobPlace.TheVariants.{Unbegun}
 use Rattle.gup_op_pages.specs.Alone.{IsAlone, ShowsAlone, alone_view}
 use Rattle.gup_op_base.specs.Far.{far_in}
 use Rattle.gup_op_base.specs.Jobs.{place_of}
@@ -69,7 +70,7 @@ IsPinTurn old new x y was now a call far place next whats =
 -- a turn of a get, by what is kept of its process, whatever its actor has taken
 abbrev pub IsGetTurn : (old new : Parts) → (x y : SpaceParts) → (taken : List ℕ) → (a p handle page : ℕ) → List What → Type 0
 IsGetTurn old new x y taken a p handle page whats =
-    IsTurnOf (ShowsPinning a p) Anywhere (pinning_view old.frames x old.handles taken unbegun) (pinning_view new.frames y new.handles taken unbegun)
+    IsTurnOf (ShowsPinning a p) Anywhere (pinning_view old.frames x old.handles taken Unbegun) (pinning_view new.frames y new.handles taken Unbegun)
     (λ s. get_turn s a p handle page (s.entry p page)) whats
 
 -- ---- one element of a list
@@ -190,7 +191,7 @@ pinned old new a p slots far handle page n want fast place next whats within man
     let own : ArePinning a p es = pin_is_pinning s a p handle page n k want fast in
     let call : PinCall = record { proc = p; handle = handle; page = page; n = n; want = want; fast = fast } in
     let many_taken : length (s.taken a) ≡ length was.0.items = sym (length_frames (s.taken a)) ∙ ap length (shown.parts.taken a was.0 was.1) in
-    let led : Leads (ShowsPinning a p) (pinning_view new.frames y.0 new.handles now.0.items (place_of next)) s (pin_turn s a p handle page n want fast k) whats =
+    let led : Leads (ShowsPinning a p) (pinning_view new.frames y.0 new.handles now.0.items next) s (pin_turn s a p handle page n want fast k) whats =
     subst (λ (f : ℕ). IsPinTurn old new x.0 y.0 was.0 now.0 a call f place next whats) far_is (turn x.0 y.0 was.0 now.0 x.1 y.1 was.1 now.1)
     s (record { frames = shown.parts.frames; space = shown.parts.spaces p x.0 x.1; pins = shown.parts.pins; taken = shown.parts.taken a was.0 was.1; place = sym shown.job; last = shown.ends })
     (record {
@@ -236,7 +237,7 @@ got old new a p slots far handle page place whats within many taker births taken
     let es : List CoreEvent = (get_turn s a p handle page (s.entry p page)).events in
     let own : ArePinning a p es = get_is_pinning s a p handle page in
     let rests : place_in s a ≡ unbegun = ap (λ job. job_place job (s.prepared a)) (stands.idle_job tt) in
-    let led : Leads (ShowsPinning a p) (pinning_view new.frames y.0 new.handles was.0.items unbegun) s (get_turn s a p handle page (s.entry p page)) whats =
+    let led : Leads (ShowsPinning a p) (pinning_view new.frames y.0 new.handles was.0.items Unbegun) s (get_turn s a p handle page (s.entry p page)) whats =
     turn x.0 y.0 was.0.items x.1 y.1 s
     (record { frames = shown.parts.frames; space = shown.parts.spaces p x.0 x.1; pins = shown.parts.pins; taken = shown.parts.taken a was.0 was.1; place = rests; last = tt }) tt in
     let parts : ShowsParts new (run s es) =

@@ -100,7 +100,6 @@ pub record IsReady (parts : Parts) (a p : ℕ) (op : Op) (gone : ℕ) (place : J
   pub yet : (handle : ℕ) → made_by op ≡ Some handle → handles_of parts.handles handle ≡ unmade
   pub taken : (pages : ArrayVec ℕ) (handle page n : ℕ) (want : Want) (fast : Bool) → slice_get parts.taken.items a ≡ Some pages → op ≡ Pin handle page n want fast → IsWithinPin n (length pages.items) (place_of place)
   pub pin : (space : SpaceParts) (pages : ArrayVec ℕ) (handle page n : ℕ) (want : Want) (fast : Bool) → op ≡ Pin handle page n want fast → slice_get parts.spaces.items p ≡ Some space → slice_get parts.taken.items a ≡ Some pages → IsReadyToPin (frames_of parts.frames) pages.items (page + length pages.items) n want (fast && gone == 0) (place_of place) (space_of space)
-  pub unwalked : (handle page n sequence : ℕ) (want : Want) (fast : Bool) (step : WalkStep) → op ≡ Pin handle page n want fast → place_of place ≡ in_walk sequence step → ⊥
   pub given : (handle : ℕ) → op ≡ Take handle → IsKeptFor (handles_of parts.handles handle) a
   pub actor_taken : a < length parts.taken.items
   pub actor_store : a < length parts.stores.items

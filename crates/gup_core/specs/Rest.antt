@@ -1,5 +1,5 @@
 -- What is true of a machine between two turns.
-use Rattle.std.specs.Prelude.{◌≡◌, ℕ, ◌+◌, ◌*◌, ◌≤◌, Bool, length, slice_get, Option, Some}
+use Rattle.std.specs.Prelude.{◌≡◌, ℕ, ◌+◌, ◌*◌, ◌≤◌, Bool, List, length, slice_get, Option, Some}
 use Rattle.arrayvec.specs.ArrayVec.{ArrayVec}
 use Rattle.gup_base.specs.declared.entry.Want.{Want}
 use Rattle.gup_base.specs.declared.entry.Zone.{Zone}
@@ -13,13 +13,14 @@ use Rattle.gup_frames.specs.Frames.{FramesValue, frames_of}
 use Rattle.gup_space.specs.Space.{SpaceValue, SpaceParts, space_of}
 use Rattle.gup_handles.specs.Handles.{handles_of, unmade}
 use Rattle.gup_spec_events.specs.Event.{bias}
-use Rattle.gup_spec_turns.specs.JobPlace.{JobPlace as Place, KeepsNoJob, unbegun, moving_page}
+use Rattle.gup_spec_turns.specs.JobPlace.{JobPlace as Place, KeepsNoJob, unbegun, moving_page, in_walk}
+use Rattle.gup_spec_turns.specs.PinPlace.{IsAtStep}
 use Rattle.gup_op_base.specs.Far.{HasFar}
 use Rattle.gup_op_base.specs.Jobs.{place_of}
 use Rattle.gup_op_fork.specs.Forked.{IsReadyAt}
 use Rattle.gup_op_pins.specs.Pins.{IsReferred, IsWeighed}
 use Rattle.gup_op_move.specs.Moving.{IsReadyToMove}
-use Rattle.gup_op_pins.specs.Pins.{IsCleared, IsWithinPin}
+use Rattle.gup_op_pins.specs.Pins.{IsCleared, IsReadyToWalk, IsWithinPin}
 use Rattle.gup_op_base.specs.Tidy.{IsTidy}
 use Rattle.gup_core.specs.declared.seats.Seat.{Seat}
 use Rattle.gup_core.specs.Machine.{MachineValue}
@@ -33,12 +34,13 @@ op_of_seat m a seat = slice_get (ops_of m.script a) seat.answered
 abbrev pub HoldsNoLock : SpaceValue → (a : ℕ) → Type 0
 HoldsNoLock space a = (space.structure ≡ Some a → ⊥) × (space.table ≡ Some a → ⊥)
 
--- What a pin of actor a at this page stands on: it holds no lock before it is in the middle of the page. Scripts have no pin that
--- walks yet.
-abbrev pub IsReadyPin : FramesValue → (page : ℕ) → Want → (a : ℕ) → Place → SpaceValue → Type 0
-IsReadyPin frames page want a unbegun space = HoldsNoLock space a
-IsReadyPin frames page want a (moving_page g e count) space = (g ≡ page) × IsCleared frames page want e space
-IsReadyPin frames page want a place space = ⊥
+-- What a pin of n pages by actor a stands on, which has taken these frames, the next one after which is this page: it holds no lock
+-- before it is in the middle of the page.
+abbrev pub IsReadyPin : FramesValue → (taken : List ℕ) → (page n : ℕ) → Want → (a : ℕ) → Place → SpaceValue → Type 0
+IsReadyPin frames taken page n want a unbegun space = HoldsNoLock space a
+IsReadyPin frames taken page n want a (moving_page g e count) space = (g ≡ page) × IsCleared frames page want e space
+IsReadyPin frames taken page n want a (in_walk sequence step) space = IsAtStep page n (length taken) step × IsReadyToWalk frames taken step
+IsReadyPin frames taken page n want a place space = ⊥
 
 -- Its script is one, and it has its parts and a seat for each actor. Each process is tidy; counts and sequences are small. An
 -- actor that does no fork and no move holds no lock, what a fork has counted it can share or copy, a page that a move has cleared
@@ -61,4 +63,4 @@ pub record IsAtRest (m : MachineValue) : Type 0 where
   pub referred : (h : ℕ) → IsReferred (frames_of m.parts.frames) (handles_of m.parts.handles h)
   pub yet : (a handle : ℕ) (op : Op) (seat : Seat) → slice_get m.seats a ≡ Some seat → op_of_seat m a seat ≡ Some op → made_by op ≡ Some handle → handles_of m.parts.handles handle ≡ unmade
   pub taken : (a handle page n : ℕ) (want : Want) (fast : Bool) (seat : Seat) (pages : ArrayVec ℕ) → slice_get m.seats a ≡ Some seat → slice_get m.parts.taken.items a ≡ Some pages → op_of_seat m a seat ≡ Some (Pin handle page n want fast) → IsWithinPin n (length pages.items) (place_of seat.job)
-  pub pins : (a handle page n : ℕ) (want : Want) (fast : Bool) (seat : Seat) (space : SpaceParts) (pages : ArrayVec ℕ) → slice_get m.seats a ≡ Some seat → op_of_seat m a seat ≡ Some (Pin handle page n want fast) → slice_get m.parts.spaces.items (process_of m.script a) ≡ Some space → slice_get m.parts.taken.items a ≡ Some pages → IsReadyPin (frames_of m.parts.frames) (page + length pages.items) want a (place_of seat.job) (space_of space)
+  pub pins : (a handle page n : ℕ) (want : Want) (fast : Bool) (seat : Seat) (space : SpaceParts) (pages : ArrayVec ℕ) → slice_get m.seats a ≡ Some seat → op_of_seat m a seat ≡ Some (Pin handle page n want fast) → slice_get m.parts.spaces.items (process_of m.script a) ≡ Some space → slice_get m.parts.taken.items a ≡ Some pages → IsReadyPin (frames_of m.parts.frames) pages.items (page + length pages.items) n want a (place_of seat.job) (space_of space)

@@ -1,6 +1,7 @@
 //! The turn of a fork that copies a word. Most turns of a fork that copies pages are such, and they touch no more than the
 //! parent's page and the two frames.
-ghost use Rattle.std.specs.Prelude.{◌≡◌, ℕ, ◌<◌, ◌≤◌, false, length, IfSome};
+ghost use Rattle.std.specs.Prelude.{◌≡◌, ℕ, ◌<◌, ◌≤◌, false, length, IfSome, List};
+ghost use Rattle.gup_spec_events.specs.State.{Taken};
 ghost use Rattle.gup_script.specs.declared.op.Op.TheVariants.{Fork};
 ghost use Rattle.gup_frames.specs.Frames.{frames_of};
 ghost use Rattle.gup_spec_turns.specs.Turn.{op_turn};

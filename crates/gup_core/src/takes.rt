@@ -15,6 +15,7 @@ ghost use Rattle.gup_spec_turns.specs.DeviceTurns.{transfer_turn};
 ghost use Rattle.gup_spec_turns.specs.ForkTurns.{fork_turn};
 ghost use Rattle.gup_spec_turns.specs.JobPlace.{JobPlace as Place, KeepsNoJob};
 ghost use Rattle.gup_op_pages.specs.Alone.{IsAlone, ShowsAlone, alone_view};
+ghost use Rattle.gup_op_base.specs.declared.jobs.JobPlace.TheVariants.{Unbegun};
 ghost use Rattle.gup_op_base.specs.Far.{HasFar, far_in};
 ghost use Rattle.gup_op_base.specs.Jobs.{place_of};
 ghost use Rattle.gup_op_fork.specs.Forked.{is_over, place_after, birth_after, IsReadyAt, ShowsForking, StandsAsFork, forking_view};
@@ -25,7 +26,7 @@ ghost use Rattle.gup_op_devices.specs.Transfers.{IsWhole};
 ghost use Rattle.gup_op_base.specs.Said.{TellsTurn, whats_of};
 ghost use Rattle.gup_op_base.specs.Turns.{IsTurnOf, Anywhere};
 ghost use Rattle.gup_op_base.specs.Tidy.{AreNumbered, IsTidy, needs_table};
-ghost use Rattle.gup_spec_events.specs.State.{CoreState, WalkStep};
+ghost use Rattle.gup_spec_events.specs.State.{CoreState, Taken, WalkStep};
 ghost use Rattle.gup_spec_turns.specs.JobPlace.{place_in, unbegun, in_walk};
 ghost use Rattle.gup_spec_turns.specs.Waits.{waiting_for};
 ghost use Rattle.gup_op_waits.specs.Births.{HasFailed, birth_by};
@@ -248,9 +249,6 @@ fn take_pin(
         → IsWithinPin call.n (length pages.items) (place_of place) }
     requires most { call.n ≤ 16 }
     requires range { call.page + call.n ≤ 2 ^ 35 }
-    // scripts have no pin that walks yet
-    requires slow { call.fast ≡ false }
-    requires unwalked { (sequence : ℕ) (step : WalkStep) → place_of place ≡ in_walk sequence step → ⊥ }
     requires room { 3 ≤ journal.old.room }
     ensures spaces { length parts.new.spaces.items ≡ length parts.old.spaces.items }
     ensures taken { length parts.new.taken.items ≡ length parts.old.taken.items }
@@ -266,8 +264,8 @@ fn take_pin(
         → slice_get parts.old.taken.items head.now.actor ≡ Some was
         → slice_get parts.new.taken.items head.now.actor ≡ Some now
         → IsPinTurn head.now.actor call (length was.items) far
-        (pinning_view parts.old.frames old parts.old.handles was.items (place_of place))
-        (pinning_view parts.new.frames new parts.new.handles now.items (place_of result.1)) (whats_of said)) }
+        (pinning_view parts.old.frames old parts.old.handles was.items place)
+        (pinning_view parts.new.frames new parts.new.handles now.items result.1) (whats_of said)) }
 {
     pin(
         &mut parts.spaces[call.proc.get() as usize],
@@ -309,8 +307,8 @@ fn take_get(
         (λ said. (old new : SpaceParts) (taken : List ℕ)
         → slice_get parts.old.spaces.items proc ≡ Some old → slice_get parts.new.spaces.items proc ≡ Some new
         → IsTurnOf (ShowsPinning head.now.actor proc) Anywhere
-        (pinning_view parts.old.frames old parts.old.handles taken unbegun)
-        (pinning_view parts.new.frames new parts.new.handles taken unbegun)
+        (pinning_view parts.old.frames old parts.old.handles taken Unbegun)
+        (pinning_view parts.new.frames new parts.new.handles taken Unbegun)
         (λ s. get_turn s head.now.actor proc handle page (s.entry proc page)) (whats_of said)) }
 {
     get(

@@ -30,7 +30,7 @@ returns-clause-turn c =
       said = told.said;
       tells = told.tells;
       ends = c.is_over.ensures ∙ told.ends;
-      is_so = λ q slots k rest.
+      is_so = λ q slots k rest left.
           moved a.parts.now new actor a.proc q slots 0 a.page a.zone a.place c.take_move-next.result (whats_of told.said)
           c.requires.there (set_length spaces.items c.get.result c.take_move-next.new.space) refl refl refl refl
           (λ b other. other_there spaces.items c.get.result b c.take_move-next.new.space (λ same. other (same ∙ c.get.ensures.value)))
@@ -42,5 +42,5 @@ returns-clause-turn c =
           (sym (was_there spaces.items c.get.result a.proc c.index_mut.result.now c.index_mut.ensures.value c.get.ensures.value c.requires.there) ∙ was_is)
           (sym (now_there spaces.items c.get.result a.proc c.take_move-next.new.space c.get.ensures.value c.requires.there) ∙ is)
           (told.is_so a.proc))
-          k rest refl;
+          k rest left refl;
     }

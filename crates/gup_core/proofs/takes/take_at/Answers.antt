@@ -158,18 +158,6 @@ take_pin-requires-clause-range c =
     let ready = c.requires.ready c.unwrap-in-Pin.result (λ has. absurd (cc (c.has_failed.ensures.other has))) (process_is c.args.proc c.unwrap-in-Pin.result c.unwrap-in-Pin.ensures) in
     (subst (λ (op : Op). IsOp op) pin.is ready.in_range).2
 
-pub take_pin-requires-clause-slow : goal.take_pin-requires-clause-slow
-take_pin-requires-clause-slow c =
-    let pin = c.in-Pin in
-    let ready = c.requires.ready c.unwrap-in-Pin.result (λ has. absurd (cc (c.has_failed.ensures.other has))) (process_is c.args.proc c.unwrap-in-Pin.result c.unwrap-in-Pin.ensures) in
-    (subst (λ (op : Op). IsOp op) pin.is ready.in_range).3
-
-pub take_pin-requires-clause-unwalked : goal.take_pin-requires-clause-unwalked
-take_pin-requires-clause-unwalked c sequence step walks =
-    let pin = c.in-Pin in
-    let ready = c.requires.ready c.unwrap-in-Pin.result (λ has. absurd (cc (c.has_failed.ensures.other has))) (process_is c.args.proc c.unwrap-in-Pin.result c.unwrap-in-Pin.ensures) in
-    ready.unwalked pin.handle pin.page pin.n sequence pin.want pin.fast step pin.is walks
-
 pub returns-in-Pin-clause-turn : goal.returns-in-Pin-clause-turn
 returns-in-Pin-clause-turn c =
     let a = c.args in

@@ -37,10 +37,10 @@ returns-clause-turn c =
       said = told.said;
       tells = told.tells;
       ends = c.goes_on.ensures.over ∙ told.ends;
-      is_so = λ slots k rest.
+      is_so = λ slots k rest left.
           subst (λ (next : JobPlace). IsTurnAmong old new actor a.proc slots 0 (Fork a.child) a.place (whats_of told.said) next) (sym c.goes_on.ensures.place)
           (forked old new actor a.proc a.child slots 0 a.place t.result (whats_of told.said)
           c.requires.fork.apart c.requires.there c.requires.fork.there (ap length (sym back) ∙ many) refl refl refl others turn
           (c.set_birth.ensures.here ∙ ap (λ (b : Birth). Some b) c.birth_of.ensures) c.set_birth.ensures.others)
-          k rest refl;
+          k rest left refl;
     }
