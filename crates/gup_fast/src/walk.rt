@@ -147,27 +147,19 @@ impl Walk {
         }
     }
 
-    /// The walk of such a pin that stands there, has read this sequence and taken these frames.
+    /// The walk stands there, has read this sequence and taken these frames.
     #[inline]
-    pub fn resume(
-        page: PageNo,
-        n: u8,
-        want: Want,
-        sequence: u64,
-        stage: Stage,
-        taken: ArrayVec<FrameNo, 16>,
-    ) -> Walk
-        requires { IsWalk (walk_at page n want sequence (stage_of stage) taken.items) }
-        ensures { result ≡ walk_at page n want sequence (stage_of stage) taken.items }
+    pub fn resume(&mut self, sequence: u64, stage: Stage, taken: &ArrayVec<FrameNo, 16>)
+        requires { IsWalk (walk_at self.old.page self.old.n self.old.want sequence (stage_of stage) taken.now.items) }
+        ensures { self.new
+            ≡ walk_at self.old.page self.old.n self.old.want sequence (stage_of stage) taken.now.items }
     {
-        Walk {
-            page,
-            n,
-            want,
-            sequence,
-            stage,
-            taken,
-        }
+        self.sequence = sequence;
+        self.stage = stage;
+        self.taken.clear();
+        self.taken
+            .try_extend_from_slice(taken.as_slice())
+            .unwrap();
     }
 
     /// Where the walk stands.
@@ -186,12 +178,15 @@ impl Walk {
         self.sequence
     }
 
-    /// The frames that the walk has taken and not dropped, which go with it.
+    /// Puts the frames that the walk has taken and not dropped in place of these.
     #[inline]
-    pub fn into_taken(self) -> ArrayVec<FrameNo, 16>
-        ensures { result.items ≡ self.taken }
+    pub fn put_taken(&self, taken: &mut ArrayVec<FrameNo, 16>)
+        ensures { taken.new.items ≡ self.now.taken }
     {
-        self.taken
+        taken.clear();
+        taken
+            .try_extend_from_slice(self.taken.as_slice())
+            .unwrap();
     }
 
     /// Which call is the walk's next step, and what it is of.

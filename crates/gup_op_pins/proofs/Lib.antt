@@ -3,3 +3,5 @@ pub mod Readying
 pub mod Holding
 pub mod Telling
 pub mod Referring
+mod Stepping
+mod WalkTurning

@@ -117,11 +117,11 @@ writes_behind : (taken : List TakenPage) (last : TakenPage) (write : Bool) → (
 writes_behind [] last write each is = is
 writes_behind (t ∷ taken) last write each is = each 0 t refl
 
-writes_some : (taken : List TakenPage) (write : Bool) → 0 < length taken → ((k : ℕ) (t : TakenPage) → slice_get taken k ≡ Some t → t.write ≡ write) → writes_taken taken ≡ write
+pub writes_some : (taken : List TakenPage) (write : Bool) → 0 < length taken → ((k : ℕ) (t : TakenPage) → slice_get taken k ≡ Some t → t.write ≡ write) → writes_taken taken ≡ write
 writes_some [] write some each = absurd (omega arith)
 writes_some (t ∷ taken) write some each = each 0 t refl
 
-pins_made : (H : HandlesValue) (a h : ℕ) (frames : List ℕ) (write : Bool) (s : CoreState) → frames_taken (s.taken a) ≡ frames → writes_taken (s.taken a) ≡ write → H h ≡ unmade → ShowsHandles H s
+pub pins_made : (H : HandlesValue) (a h : ℕ) (frames : List ℕ) (write : Bool) (s : CoreState) → frames_taken (s.taken a) ≡ frames → writes_taken (s.taken a) ≡ write → H h ≡ unmade → ShowsHandles H s
     → ShowsHandles (put h (held a frames write) H) (happens s (make_handle a h))
 pins_made H a h frames write s taken writes yet shown k = go (k == h) refl
   where
@@ -135,7 +135,7 @@ pins_made H a h frames write s taken writes yet shown k = go (k == h) refl
     go true is = ((objects, ap (λ w. plain.held a objects w) writes), taken, ap s.got (eqb-true k h is) ∙ ungot)
     go false is = shown k
 
-none_taken : (a h : ℕ) (s : CoreState) → frames_taken ((happens s (make_handle a h)).taken a) ≡ []
+pub none_taken : (a h : ℕ) (s : CoreState) → frames_taken ((happens s (make_handle a h)).taken a) ≡ []
 none_taken a h s = grind (arith, nat_tests)
 
 -- ---- a page is taken
@@ -260,7 +260,7 @@ ends_lead old new es a p handle n (suc far) want answer s t same frames space sh
 
 -- ---- where the pin stands
 
-idle_job : (s : CoreState) (a p page n got : ℕ) (want : Want) (fast : Bool) (job : Job) (prepared : Option ℕ) → IsAtPage s a p page n got want fast job → job_place job prepared ≡ unbegun → job ≡ idle
+pub idle_job : (s : CoreState) (a p page n got : ℕ) (want : Want) (fast : Bool) (job : Job) (prepared : Option ℕ) → IsAtPage s a p page n got want fast job → job_place job prepared ≡ unbegun → job ≡ idle
 idle_job s a p page n got want fast idle prepared at place = refl
 idle_job s a p page n got want fast (moving q g e allowed count) prepared at place = absurd (cc)
 idle_job s a p page n got want fast (walking q write long sequence step) prepared at place = absurd (cc)

@@ -1,11 +1,12 @@
 -- What a step of a walk is to the turn of its pin.
-use Rattle.std.specs.Prelude.{◌≡◌, ℕ, List, [], ◌∷◌, Option, Some, None}
+use Rattle.std.specs.Prelude.{◌≡◌, ℕ, ◌+◌, ◌-◌, List, [], ◌∷◌, Option, Some, None}
 use Rattle.gup_plain.specs.declared.event.PlainEvent.{PlainEvent}
+use Rattle.gup_plain.specs.declared.event.PlainEvent.TheVariants.{PinDrop}
 use Rattle.gup_plain.specs.declared.note.What.{What}
 use Rattle.gup_plain.specs.declared.note.What.TheVariants.{Silent, Event}
 use Rattle.gup_space.specs.Shows.{Change, ShowsFrames, ShowsSpace}
 use Rattle.gup_fast.specs.Walks.{WalkValue, Stage, unbegun as unbegun_stage, at, left, ShowsWalk}
-use Rattle.gup_spec_events.specs.State.{CoreState, WalkStep, dropping}
+use Rattle.gup_spec_events.specs.State.{CoreState, WalkStep, grabbed, refused, dropping}
 use Rattle.gup_spec_events.specs.Event.{run}
 use Rattle.gup_spec_turns.specs.CoreTurn.{CoreTurn}
 use Rattle.gup_spec_turns.specs.JobPlace.{JobPlace, unbegun, in_walk}
@@ -16,6 +17,11 @@ use Rattle.gup_op_pins.specs.Pins.{EndAt}
 abbrev pub IsRunning : Stage → Type 0
 IsRunning (at step) = Unit {0}
 IsRunning stage = ⊥
+
+-- it has grabbed the frame of this page
+abbrev pub IsGrabbed : Stage → (page : ℕ) → Type 0
+IsGrabbed (at (grabbed g e)) page = g ≡ page
+IsGrabbed stage page = ⊥
 
 -- where the operation stands at this stage of its walk
 abbrev pub stage_place : (sequence : ℕ) → Stage → JobPlace
@@ -50,3 +56,18 @@ IsStep k old new a p last whats =
     (s : CoreState) (handle : ℕ) (step : WalkStep) → old.stage ≡ at step → ShowsFrames k.old_frames s
     → ShowsSpace p k.old_space s → ShowsWalk a p old s → EndAt (Some last) (s.taken a)
     → IsStepTurn k new a p last whats s (walk_turn s a p handle old.page old.n old.want old.sequence step)
+
+-- the first of so many pages that end at this one
+abbrev pub first_of_left : (many last : ℕ) → ℕ
+first_of_left many last = last - (many - 1)
+
+-- the event of a drop of a page that was taken: the last one, or the first one
+abbrev pub dropped_event : Stage → (a many last : ℕ) → Option PlainEvent
+dropped_event (at refused) a many last = Some (PinDrop a last)
+dropped_event (at dropping) a many last = Some (PinDrop a (first_of_left many last))
+dropped_event stage a many last = None
+
+-- the page where those end that a walk has taken: the one that is kept where it drops all, else the last of the first ones
+abbrev pub HasEnd : WalkStep → Option ℕ → (last page many : ℕ) → Type 0
+HasEnd dropping kept last page many = kept ≡ Some last
+HasEnd step kept last page many = last ≡ page + (many - 1)

@@ -5,6 +5,7 @@
 mod holds;
 mod pins;
 mod references;
+mod walks;
 
 pub use holds::{give, take_over, unpin};
 pub use pins::{PinCall, pin};

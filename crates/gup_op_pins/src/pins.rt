@@ -21,6 +21,7 @@ ghost use Rattle.gup_op_base.specs.Tidy.{IsTidy};
 ghost use Rattle.gup_op_base.specs.Said.{TellsTurn, whats_of, silent_said};
 ghost use Rattle.gup_op_pins.specs.Pins.{IsPinTurn, last_page, IsReadyToPin, IsWithinPin, IsCleared, IsMade, IsEnded, IsTaken, tried_whats, ended_whats, pinning_view, raised, fault_to_pin, want_of};
 
+use crate::walks::{begin_turn, walk_turn};
 use arrayvec::ArrayVec;
 use gup_base::{ActorNo, Allowed, Entry, FrameNo, HandleNo, PageNo, ProcNo, Want, Zone};
 use gup_fault::{Denied, answer_of, ready_write, unshare};
@@ -73,18 +74,26 @@ pub fn pin(
     requires few { (f : ℕ) → (frames_of frames.old).count f < 2 ^ 40 }
     requires unmade { handles_of handles.old call.handle ≡ unmade }
     requires within { IsWithinPin call.n (length taken.old.items) (place_of place) }
+    requires some { 1 ≤ call.n }
     requires most { call.n ≤ 16 }
     requires range { call.page + call.n ≤ 2 ^ 35 }
     requires room { 3 ≤ journal.old.room }
-    // temporary, until the turns of walks are here
-    requires slow { (call.fast && far == 0) ≡ false }
-    requires unwalked { (sequence : ℕ) (step : WalkStep) → place_of place ≡ in_walk sequence step → ⊥ }
     ensures { TellsTurn head.now journal.old journal.new result.0
         (λ said. IsPinTurn head.now.actor call (length taken.old.items) far
         (pinning_view frames.old space.old handles.old taken.old.items place)
         (pinning_view frames.new space.new handles.new taken.new.items result.1) (whats_of said)) }
 {
     let got = taken.len() as u8;
+    if let JobPlace::Walking {
+        place,
+        page,
+        sequence,
+    } = place
+    {
+        return walk_turn(
+            space, frames, handles, taken, journal, head, call, place, page, sequence,
+        );
+    }
     let here = page_behind(call.page, u16::from(got));
     match place {
         JobPlace::Cleared { entry, .. } => (false, count_turn(frames, journal, head, here, &entry)),
@@ -100,9 +109,14 @@ pub fn pin(
             );
             (true, JobPlace::Unbegun)
         }
-        _ => first_turn(
-            space, frames, handles, taken, journal, head, call, here, got,
-        ),
+        _ => {
+            if call.fast && far == 0 {
+                return (false, begin_turn(space, journal, head, call));
+            }
+            first_turn(
+                space, frames, handles, taken, journal, head, call, here, got,
+            )
+        }
     }
 }
 
@@ -433,7 +447,7 @@ fn ready_to_read(
 }
 
 // What the running pin has taken is the handle's.
-fn hold(
+pub(crate) fn hold(
     handles: &mut Handles,
     taken: &mut ArrayVec<FrameNo, 16>,
     actor: ActorNo,
