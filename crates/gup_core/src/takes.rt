@@ -247,6 +247,7 @@ fn take_pin(
     requires unmade { handles_of parts.old.handles call.handle ≡ unmade }
     requires taken { (pages : ArrayVecValue ℕ) → slice_get parts.old.taken.items head.now.actor ≡ Some pages
         → IsWithinPin call.n (length pages.items) (place_of place) }
+    requires some { 1 ≤ call.n }
     requires most { call.n ≤ 16 }
     requires range { call.page + call.n ≤ 2 ^ 35 }
     requires room { 3 ≤ journal.old.room }

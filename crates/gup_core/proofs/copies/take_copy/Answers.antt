@@ -58,8 +58,8 @@ returns-clause-turn c =
       said = told.said;
       tells = told.tells;
       ends = told.ends;
-      is_so = λ slots k rest.
+      is_so = λ slots k rest left.
           forked old new actor copy.proc copy.child slots 0 (copying copy) (Goes (copied copy)) (whats_of told.said)
           c.requires.fork.apart c.requires.there c.requires.fork.there refl refl refl refl (λ q apart other. refl) turn
-          c.set_birth.ensures.here c.set_birth.ensures.others k rest refl;
+          c.set_birth.ensures.here c.set_birth.ensures.others k rest left refl;
     }

@@ -62,7 +62,7 @@ returns-in-Some-clause-turn c =
           (λ has. absurd (cc (c.has_failed.ensures.other has))) c.requires.birth
           (λ p slots of_p has.
           subst (λ (q : ℕ). IsTurnAmong a.parts.now t.new.parts actor q slots a.seat.now.far a.op.now a.seat.now.job (whats_of told.said) t.result.1) (some_is a.proc c.unwrap.result p c.unwrap.ensures of_p)
-          (subst (λ (op : Op). IsTurnAmong a.parts.now t.new.parts actor c.unwrap.result slots a.seat.now.far op a.seat.now.job (whats_of told.said) t.result.1) (sym is) (λ k rest far_is. told.is_so slots k rest)));
+          (subst (λ (op : Op). IsTurnAmong a.parts.now t.new.parts actor c.unwrap.result slots a.seat.now.far op a.seat.now.job (whats_of told.said) t.result.1) (sym is) (λ k rest left far_is. told.is_so slots k rest left)));
     }
 
 -- ---- a move
@@ -99,7 +99,7 @@ returns-in-Move-clause-turn c =
           (λ has. absurd (cc (c.has_failed.ensures.other has))) c.requires.birth
           (λ p slots of_p has.
           subst (λ (q : ℕ). IsTurnAmong a.parts.now t.new.parts actor q slots a.seat.now.far a.op.now a.seat.now.job (whats_of told.said) t.result.1) (some_is a.proc of p c.unwrap-in-Move.ensures of_p)
-          (subst (λ (op : Op). IsTurnAmong a.parts.now t.new.parts actor of slots a.seat.now.far op a.seat.now.job (whats_of told.said) t.result.1) (sym move.is) (λ k rest far_is. told.is_so move.proc slots k rest)));
+          (subst (λ (op : Op). IsTurnAmong a.parts.now t.new.parts actor of slots a.seat.now.far op a.seat.now.job (whats_of told.said) t.result.1) (sym move.is) (λ k rest left far_is. told.is_so move.proc slots k rest left)));
     }
 
 -- ---- a pin
@@ -146,6 +146,12 @@ take_pin-requires-clause-taken c pages here =
     let ready = c.requires.ready c.unwrap-in-Pin.result (λ has. absurd (cc (c.has_failed.ensures.other has))) (process_is c.args.proc c.unwrap-in-Pin.result c.unwrap-in-Pin.ensures) in
     ready.taken pages pin.handle pin.page pin.n pin.want pin.fast here pin.is
 
+pub take_pin-requires-clause-some : goal.take_pin-requires-clause-some
+take_pin-requires-clause-some c =
+    let pin = c.in-Pin in
+    let ready = c.requires.ready c.unwrap-in-Pin.result (λ has. absurd (cc (c.has_failed.ensures.other has))) (process_is c.args.proc c.unwrap-in-Pin.result c.unwrap-in-Pin.ensures) in
+    (subst (λ (op : Op). IsOp op) pin.is ready.in_range).0
+
 pub take_pin-requires-clause-most : goal.take_pin-requires-clause-most
 take_pin-requires-clause-most c =
     let pin = c.in-Pin in
@@ -178,7 +184,6 @@ returns-in-Pin-clause-turn c =
           subst (λ (q : ℕ). IsTurnAmong a.parts.now t.new.parts actor q slots a.seat.now.far a.op.now a.seat.now.job (whats_of told.said) t.result.1) (some_is a.proc of p c.unwrap-in-Pin.ensures of_p)
           (subst (λ (op : Op). IsTurnAmong a.parts.now t.new.parts actor of slots a.seat.now.far op a.seat.now.job (whats_of told.said) t.result.1) (sym pin.is)
           (pinned a.parts.now t.new.parts actor of slots a.seat.now.far pin.handle pin.page pin.n pin.want pin.fast a.seat.now.job t.result.1 (whats_of told.said)
-          (subst (λ (op : Op). IsOp op) pin.is ready.in_range).3
           (ready.there (subst HasProcess (sym pin.is) tt)) t.ensures.spaces ready.actor_taken t.ensures.taken t.ensures.births t.ensures.stores t.ensures.other_spaces t.ensures.others_taken told.is_so)));
     }
 

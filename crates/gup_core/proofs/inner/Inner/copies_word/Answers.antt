@@ -100,7 +100,7 @@ turn-taken c =
     (λ p slots of_p has.
     subst (λ (q : ℕ). IsTurnAmong i.parts new a q slots seat.far op seat.job whats (copied copy)) (some_is proc copy.proc p is.proc_is of_p)
     (subst (λ (o : Op). IsTurnAmong i.parts new a copy.proc slots seat.far o seat.job whats (copied copy)) (sym is.is_fork)
-    (subst (λ (job : JobPlace). IsTurnAmong i.parts new a copy.proc slots seat.far (Fork copy.child) job whats (copied copy)) (sym is.stands) (λ k others far_is. told.is_so slots k others)))))
+    (subst (λ (job : JobPlace). IsTurnAmong i.parts new a copy.proc slots seat.far (Fork copy.child) job whats (copied copy)) (sym is.stands) (λ k others left far_is. told.is_so slots k others left)))))
 
 pub invariant_of-self : goal.invariant_of-self
 invariant_of-self c =
