@@ -157,9 +157,7 @@ impl Walk {
         self.sequence = sequence;
         self.stage = stage;
         self.taken.clear();
-        self.taken
-            .try_extend_from_slice(taken.as_slice())
-            .unwrap();
+        self.taken.try_extend_from_slice(taken.as_slice()).unwrap();
     }
 
     /// Where the walk stands.
@@ -184,9 +182,7 @@ impl Walk {
         ensures { taken.new.items ≡ self.now.taken }
     {
         taken.clear();
-        taken
-            .try_extend_from_slice(self.taken.as_slice())
-            .unwrap();
+        taken.try_extend_from_slice(self.taken.as_slice()).unwrap();
     }
 
     /// Which call is the walk's next step, and what it is of.

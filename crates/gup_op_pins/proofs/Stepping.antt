@@ -1,27 +1,23 @@
 -- The steps of a walk are the turns of its pin.
-use Rattle.std.proofs.Common.{◌≡◌, ℕ, ◌+◌, ◌-◌, ◌<◌, ◌≤◌, ◌==◌, ◌||◌, nat_lt, Bool, true, false, if◌then◌else◌, List, [], ◌∷◌, ◌++◌, length, map, slice_get, Option, Some, None, IfSome, is_some, zero, suc, refl, sym, ap, ◌∙◌, subst, arith}
+use Rattle.std.proofs.Common.{◌≡◌, ℕ, ◌+◌, ◌-◌, ◌<◌, ◌==◌, ◌||◌, nat_lt, Bool, true, false, if◌then◌else◌, List, [], ◌∷◌, ◌++◌, length, slice_get, Option, Some, None, IfSome, is_some, zero, suc, refl, sym, ap, ◌∙◌, subst, arith}
 use Rattle.std.proofs.lemmas.Bool.Decides.{nat_tests}
-use Rattle.std.proofs.lemmas.List.{length-append, map-append}
 use Rattle.gup_base.specs.declared.entry.Entry.{Entry}
 use Rattle.gup_base.specs.declared.entry.Want.{Want}
 use Rattle.gup_plain.specs.Put.{put}
-use Rattle.gup_plain.specs.State.{Handle}
 use Rattle.gup_plain.specs.declared.event.PlainEvent.{PlainEvent}
 use Rattle.gup_plain.specs.declared.event.PlainEvent.TheVariants as events
 use Rattle.gup_plain.specs.declared.note.What.{What}
 use Rattle.gup_plain.specs.declared.note.What.TheVariants.{Silent, Event}
 use Rattle.gup_frames.specs.Frames.{FramesValue, IsFrame}
-use Rattle.gup_space.specs.Space.{SpaceValue}
 use Rattle.gup_space.specs.Shows.{Change, ShowsFrames, ShowsSpace}
 use Rattle.gup_spec_events.specs.State.{CoreState, Taken, WalkStep, entered, ready, read, grabbed, rechecked, differed, refused, stopped, dropping, over}
-use Rattle.gup_spec_events.specs.Event.{CoreEvent, is_odd, happens, run, taken_frames, read_sequence, read_entry, grab_frame, miss_frame, recheck_same, recheck_other, read_mark, read_again, drop_grab, drop_last, drop_first, leave_walk}
-use Rattle.gup_fast.specs.Walks.{WalkValue, Stage, MayReadAgain, at, left, unbegun, at_stage, next_page, ShowsWalk, AreWalkEvents, IsWalk, dropped_at, after_sequence, after_recheck, after_again, after_drop, stage_left, step_after_read, step_after_grab, step_after_mark, reads_sequence, grabs, rechecks, reads_again, drops, drops_last, drops_first}
+use Rattle.gup_spec_events.specs.Event.{CoreEvent, is_odd, happens, run, taken_frames, read_sequence, read_entry, recheck_same, recheck_other, read_mark, read_again, drop_last, drop_first}
+use Rattle.gup_fast.specs.Walks.{WalkValue, Stage, MayReadAgain, at, left, unbegun, at_stage, next_page, ShowsWalk, AreWalkEvents, dropped_at, after_recheck, after_drop, reads_sequence, grabs, rechecks, reads_again, drops, drops_last, drops_first}
 use Rattle.gup_fast.specs.declared.walk.GiveUp.{GiveUp}
 use Rattle.gup_fast.specs.Walks.{leaves_if as leaves_walk, is_same as is_same_entry, is_none_left as no_frame_left, split_last as parts_of, one_before as one_more, last_of}
 use Rattle.gup_fast.proofs.Leaving.{Unwalked, unwalked_of, AreWalking, walkings_leave, sequence_walking, read_walking, grabs_walking, rechecks_walking, mark_walking, again_walking, drops_walking}
 use Rattle.gup_spec_turns.specs.CoreTurn.{CoreTurn}
 use Rattle.gup_spec_turns.specs.WalkTurns.{walk_turn, all_turn, silent_turn, sequence_turn, ready_turn, grab_turn, recheck_turn, again_turn, last_turn, first_turn, leaves_if, is_same, is_none_left, split_last, one_before}
-use Rattle.gup_op_base.proofs.Leading.{ch}
 use Rattle.gup_op_pins.specs.Pins.{EndAt, IsPinnedFrame, IsReadyToWalk}
 use Rattle.gup_op_pins.specs.Steps.{IsStepTurn, IsStep, IsGrabbed, last_at, step_whats, dropped_event, first_of_left}
 

@@ -1,11 +1,11 @@
 -- A step of a walk is the turn of a pin that stands at it.
-use Rattle.std.proofs.Common.{nat_lt, ◌&&◌, ◌≡◌, ℕ, ◌+◌, ◌-◌, ◌*◌, ◌<◌, ◌≤◌, ◌^◌, ◌==◌, ◌||◌, Bool, true, false, List, [], ◌∷◌, ◌++◌, length, slice_get, Option, Some, None, zero, suc, refl, sym, ap, ◌∙◌, subst, eqb-true, arith}
+use Rattle.std.proofs.Common.{nat_lt, ◌&&◌, ◌≡◌, ℕ, ◌+◌, ◌-◌, ◌≤◌, ◌^◌, ◌==◌, Bool, true, false, List, [], ◌∷◌, length, Option, Some, None, zero, suc, refl, sym, ap, ◌∙◌, subst, arith}
 use Rattle.gup_base.specs.declared.entry.Entry.{Entry}
 use Rattle.gup_base.specs.declared.entry.Want.{Want}
 use Rattle.gup_plain.specs.declared.note.What.{What}
 use Rattle.gup_frames.specs.Frames.{FramesValue}
 use Rattle.gup_space.specs.Space.{SpaceValue}
-use Rattle.gup_space.specs.Shows.{Change, ShowsFrames, ShowsSpace}
+use Rattle.gup_space.specs.Shows.{ShowsFrames, ShowsSpace}
 use Rattle.gup_spec_events.specs.State.{CoreState, Taken, Job, idle, moving, walking, WalkStep, entered, ready, read, grabbed, rechecked, differed, refused, stopped, dropping, over}
 use Rattle.std.proofs.lemmas.Bool.Decides.{nat_tests}
 use Rattle.gup_plain.specs.Put.{put}
@@ -13,10 +13,10 @@ use Rattle.gup_plain.specs.declared.answer.Answer.TheVariants as answers
 use Rattle.gup_plain.specs.declared.event.PlainEvent.TheVariants as events
 use Rattle.gup_plain.specs.declared.note.What.TheVariants.{Silent, Event, Done}
 use Rattle.gup_handles.specs.Handles.{HandlesValue, unmade, held}
-use Rattle.gup_spec_events.specs.Event.{raise_flag, enter_walk, CoreEvent, happens, run, taken_frames, writes_taken, read_again, leave_walk, make_handle}
-use Rattle.gup_fast.specs.Walks.{WalkValue, Stage, at, left, unbegun as unbegun_stage, walk_at, job_at, ShowsWalk, IsWalk, FitsStage, last_of}
+use Rattle.gup_spec_events.specs.Event.{raise_flag, enter_walk, happens, run, writes_taken, read_again, leave_walk, make_handle}
+use Rattle.gup_fast.specs.Walks.{WalkValue, Stage, at, left, unbegun as unbegun_stage, walk_at, job_at, ShowsWalk, IsWalk, FitsStage}
 use Rattle.gup_handles.specs.Shows.{ShowsHandles}
-use Rattle.gup_spec_turns.specs.JobPlace.{JobPlace, job_place, unbegun, in_walk}
+use Rattle.gup_spec_turns.specs.JobPlace.{job_place, unbegun, in_walk}
 use Rattle.gup_spec_turns.specs.PinPlace.{HasTaken, HasPages, IsAtStep, StandsAtPage as IsAtPage}
 use Rattle.gup_spec_turns.specs.PinTurns.{pin_turn, pin_turn_in, begins_or_pins}
 use Rattle.gup_spec_turns.specs.WalkTurns.{walk_turn, ready_turn, all_turn}
@@ -147,7 +147,7 @@ same_number n m is = grind (arith, nat_tests)
 pub all_kept : (old new : PinningView) (a p handle page n far sequence : ℕ) (want : Want) (fast : Bool) → old.place ≡ in_walk sequence ready → old.last ≡ None → length old.taken ≡ n → 1 ≤ n → old.space.sequence ≡ sequence
     → new.frames ≡ old.frames → new.space ≡ old.space → old.pins handle ≡ unmade → new.pins ≡ put handle (held a old.taken want.write) old.pins → new.taken ≡ [] → IsOver new
     → IsTurnOf (ShowsPinning a p) (StandsAtPage a p handle page n want fast (length old.taken) far) old new (λ s. pin_turn s a p handle page n want fast far)
-      (Event (events.PinOk a handle) ∷ Done (answers.Pinned n) ∷ [])
+    (Event (events.PinOk a handle) ∷ Done (answers.Pinned n) ∷ [])
 all_kept old new a p handle page n far sequence want fast place no_end all some same frames space yet pins taken rests s shown stands =
     leads_alike (job_turn ∙ ready_same ∙ all_same)
     (record {

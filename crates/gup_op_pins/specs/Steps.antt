@@ -5,7 +5,7 @@ use Rattle.gup_plain.specs.declared.event.PlainEvent.TheVariants.{PinDrop}
 use Rattle.gup_plain.specs.declared.note.What.{What}
 use Rattle.gup_plain.specs.declared.note.What.TheVariants.{Silent, Event}
 use Rattle.gup_space.specs.Shows.{Change, ShowsFrames, ShowsSpace}
-use Rattle.gup_fast.specs.Walks.{WalkValue, Stage, unbegun as unbegun_stage, at, left, ShowsWalk}
+use Rattle.gup_fast.specs.Walks.{WalkValue, Stage, at, ShowsWalk}
 use Rattle.gup_spec_events.specs.State.{CoreState, WalkStep, grabbed, refused, dropping}
 use Rattle.gup_spec_events.specs.Event.{run}
 use Rattle.gup_spec_turns.specs.CoreTurn.{CoreTurn}

@@ -28,7 +28,12 @@ use gup_space::Space;
 
 /// The first turn of a pin that walks: the process has pinned from now on, and the walk runs (Linux's `gup_fast_fallback`,
 /// `mm/gup.c`).
-pub(crate) fn begin_turn(space: &mut Space, journal: &mut Journal, head: &Head, call: PinCall) -> JobPlace
+pub(crate) fn begin_turn(
+    space: &mut Space,
+    journal: &mut Journal,
+    head: &Head,
+    call: PinCall,
+) -> JobPlace
     requires room { 3 ≤ journal.old.room }
     ensures { TellsTurn head.now journal.old journal.new false
         (λ said. (frames : FrameLists) (handles : List HandleValue) (taken : List ℕ) (many far : ℕ) → (call.fast && far == 0) ≡ true
@@ -78,9 +83,7 @@ pub(crate) fn walk_turn(
 {
     let got = taken.len() as u8;
     if place == WalkPlace::Ready && got == call.n && space.sequence() == sequence {
-        all_turn(
-            space, handles, taken, journal, head, call, sequence, page,
-        );
+        all_turn(space, handles, taken, journal, head, call, sequence, page);
         return (true, JobPlace::Unbegun);
     }
     let next = step_turn(

@@ -3,11 +3,9 @@ use Rattle.gup_frames.specs.Frames.{frames_of}
 use Rattle.gup_space.specs.Space.{space_of}
 use Rattle.gup_plain.specs.declared.answer.Answer.{Answer}
 use Rattle.gup_fault.specs.Refused.{answer_of}
-use Rattle.gup_spec_events.specs.State.{unread}
 use Rattle.gup_spec_turns.specs.CoreTurn.{zones_of}
-use Rattle.gup_spec_turns.specs.JobPlace.{unbegun, moving_page}
 use Rattle.gup_op_base.specs.Said.{silent_said}
-use Rattle.gup_op_base.specs.declared.jobs.JobPlace.TheVariants.{Unbegun, Cleared, Single, Shared}
+use Rattle.gup_op_base.specs.declared.jobs.JobPlace.TheVariants.{Unbegun, Cleared}
 use Rattle.gup_op_base.proofs.Leading.{notes_alike}
 use Rattle.gup_op_pins.specs.Pins.{pinning_view, ended_whats}
 use Rattle.gup_op_pins.proofs.Readying.{ready_long}

@@ -6,10 +6,8 @@ use Rattle.gup_frames.specs.Frames.{frames_of, free_frame}
 use Rattle.gup_space.specs.Space.{space_of}
 use Rattle.gup_space.specs.Shows.{change_of}
 use Rattle.gup_move.specs.Moves.{with_table}
-use Rattle.gup_spec_events.specs.State.{one}
 use Rattle.gup_spec_turns.specs.CoreTurn.{zones_of, entry_in}
-use Rattle.gup_spec_turns.specs.JobPlace.{unbegun, moving_page}
-use Rattle.gup_op_base.specs.declared.jobs.JobPlace.TheVariants.{Unbegun, Cleared, Single, Shared}
+use Rattle.gup_op_base.specs.declared.jobs.JobPlace.TheVariants.{Unbegun, Single}
 use Rattle.gup_op_base.proofs.Leading.{notes_alike}
 use Rattle.gup_op_pins.specs.Pins.{IsMade, IsTaken, pinning_view}
 use Rattle.gup_op_pins.proofs.Readying.{ready_placed}

@@ -2,8 +2,7 @@ use Rattle.std.proofs.Common.{refl}
 use Rattle.gup_space.specs.Space.{space_of}
 use Rattle.gup_spec_events.specs.State.{more}
 use Rattle.gup_spec_turns.specs.CoreTurn.{zones_of}
-use Rattle.gup_spec_turns.specs.JobPlace.{unbegun, moving_page}
-use Rattle.gup_op_base.specs.declared.jobs.JobPlace.TheVariants.{Unbegun, Cleared, Single, Shared}
+use Rattle.gup_op_base.specs.declared.jobs.JobPlace.TheVariants.{Unbegun, Shared}
 use Rattle.gup_op_base.proofs.Leading.{notes_alike}
 use Rattle.gup_op_pins.specs.Pins.{pinning_view}
 use Rattle.gup_op_pins.proofs.Pinning.{page_restored}
