@@ -1,7 +1,6 @@
 -- The events of a turn of a pin or a get are of frames, of its process, of its handle and of what its actor has taken; those
 -- of a turn of an operation on a pin or a reference are of frames, of that and of the actor's store.
 use Rattle.std.proofs.Common.{◌≡◌, ℕ, ◌+◌, ◌==◌, ◌&&◌, Bool, true, false, sym, ◌∙◌, List, [], ◌∷◌, ◌++◌, length, Option, Some, None, Ok, Err, zero, suc, refl, ap, if◌then◌else◌, arith}
-use Rattle.std.proofs.lemmas.Bool.{false≢true}
 use Rattle.std.proofs.lemmas.Bool.Decides.{nat_tests}
 use Rattle.gup_base.specs.Parts.{Part, words_of, word_at}
 use Rattle.gup_base.specs.declared.entry.Entry.{Entry}
@@ -26,7 +25,6 @@ use Rattle.gup_spec_turns.specs.PinTurns.{raises, pin_fault, makes_if, ends_pin,
 use Rattle.gup_spec_turns.proofs.TurnParts.{unpin_turn_by, give_turn_by, gets_after, put_turn_by, transfer_turn_by}
 use Rattle.gup_spec_turns.specs.DeviceTurns.{moves, moves_value, transfer_turn, frame_at}
 use Rattle.gup_spec_turns.specs.JobPlace.{job_place, place_in}
-use Rattle.gup_spec_turns.specs.PinPlace.{StandsPin, StandsAtPage}
 use Rattle.gup_core.proofs.Owning.{IsOwn, AreOwn, AreAll, through, two_lists, is_of, counts, marks_it, fills_own, breaks_own, write_fault_own, load_fault_own, birth_stays, Pins, own_leaves_pins, takes as takes_own, fills_it, breaks_it}
 use Rattle.gup_fast.proofs.Leaving.{IsWalking, Unwalked, leave_other as walks_leave, walkings_jobs, walkings_taken, walkings_leave}
 use Rattle.gup_spec_turns.specs.WalkTurns.{begin_turn, walk_turn}

@@ -14,7 +14,7 @@ use Rattle.gup_space.specs.Space.{space_of}
 use Rattle.gup_space.specs.Shows.{ShowsSpace}
 use Rattle.gup_handles.specs.Handles.{handles_of}
 use Rattle.gup_spec_events.specs.Event.{bias}
-use Rattle.gup_spec_events.specs.State.{CoreState, Job, idle, forking, between, counted as counted_page, copying, WalkStep}
+use Rattle.gup_spec_events.specs.State.{CoreState, Job, idle, forking, between, counted as counted_page, copying}
 use Rattle.gup_spec_turns.specs.Waits.{Locks, waits_for_locks, locks_needed, waits_born, waiting_for, both_if}
 use Rattle.gup_spec_turns.specs.Run.{RunState, op_in, waiting_in, waiting_with}
 use Rattle.gup_law_turns.specs.Standing.{IsStanding}

@@ -318,4 +318,3 @@ goes m a proc seat next op parts seats turns said job stand rest of_a here prese
 
     ends_then : (o : Op) (j : JobPlace) (taken : List Taken) (handle page n : ℕ) (want : Want) (fast : Bool) → o ≡ Pin handle page n want fast → EndsAt o j taken → EndAt (last_page j) taken
     ends_then o j taken handle page n want fast same ends = subst (λ (x : Op). EndsAt x j taken) same ends
-

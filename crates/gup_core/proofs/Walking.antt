@@ -4,7 +4,7 @@ use Rattle.gup_base.specs.declared.entry.Entry.{Entry}
 use Rattle.gup_base.specs.declared.entry.Want.{Want}
 use Rattle.gup_spec_events.specs.State.{CoreState, Taken, WalkStep, entered, ready, read, grabbed, rechecked, differed, refused, stopped, dropping, over}
 use Rattle.gup_spec_events.specs.Event.{CoreEvent, is_odd, make_handle}
-use Rattle.gup_spec_turns.specs.WalkTurns.{begin_turn, leaves_if, sequence_turn, grab_turn, is_same, recheck_turn, is_none_left, all_turn, again_turn, ready_turn, split_last, last_turn, first_turn, walk_turn}
+use Rattle.gup_spec_turns.specs.WalkTurns.{begin_turn, leaves_if, grab_turn, is_same, recheck_turn, is_none_left, all_turn, ready_turn, split_last, last_turn, first_turn, walk_turn}
 use Rattle.gup_fast.proofs.Leaving.{IsWalking}
 use Rattle.gup_fast.proofs.Leaving as walkings
 

@@ -9,11 +9,11 @@ use Rattle.gup_script.specs.declared.op.Op.TheVariants.{Pin, Take, Move, Fork}
 use Rattle.gup_frames.specs.Frames.{FramesValue, frames_of}
 use Rattle.gup_space.specs.Space.{SpaceParts, space_of}
 use Rattle.gup_handles.specs.Handles.{handles_of, unmade, IsGivenTo as IsKeptFor}
-use Rattle.gup_spec_events.specs.State.{CoreState, Taken, WalkStep}
+use Rattle.gup_spec_events.specs.State.{CoreState, Taken}
 use Rattle.gup_law_base.specs.Sound.{IsSound}
 use Rattle.gup_spec_journal.specs.Place.{Doer}
 use Rattle.gup_spec_turns.specs.Waits.{waiting_for}
-use Rattle.gup_spec_turns.specs.JobPlace.{JobPlace as Place, place_in, in_walk}
+use Rattle.gup_spec_turns.specs.JobPlace.{JobPlace as Place, place_in}
 use Rattle.gup_op_base.specs.declared.jobs.JobPlace.{JobPlace}
 use Rattle.gup_op_base.specs.Far.{HasFar}
 use Rattle.gup_op_base.specs.Jobs.{place_of}

@@ -1,4 +1,4 @@
-use Rattle.std.proofs.Common.{List, ℕ, sym, ◌∙◌}
+use Rattle.std.proofs.Common.{sym, ◌∙◌}
 use Rattle.gup_space.specs.Space.{SpaceParts}
 use Rattle.gup_spec_turns.specs.PinTurns.{get_turn}
 use Rattle.gup_op_base.specs.declared.jobs.JobPlace.TheVariants.{Unbegun}
