@@ -1,11 +1,17 @@
 //! The scripts of examples/, with their statuses and their texts. Written by examples/tests.
 
-pub const EXAMPLES: [(&str, u8, &str); 27] = [
+pub const EXAMPLES: [(&str, u8, &str); 32] = [
     // child-keeps-a-pin.gup
     (
         "# A child pins a page that it shares with its parent, unmaps it, and waits for what the parent writes there next. The pin gave\n# the child a page of its own, so the secret never comes to it. A kernel that gave it a reference of the shared page let the\n# parent write in place as soon as the child had unmapped: it looked at the mappings and not at the reference.\n# Linux: mm/gup.c, follow_page_pte asks gup_must_unshare (mm/internal.h); mm/memory.c, wp_can_reuse_anon_folio counts references.\n# never: d 2 ok 42\n# never: t 5 ok 7\ngup 1\nframes 8 8 64\nprocess p\nchild c\nthread t p\nthread u c\ndevice d 8\non t map 5 1 rw\non t store 5.0 7\non t fork c\non t store 5.0 42\non t load 5.0\non u pin h 5 1 read\non u give h d\non u unmap 5 1\non d take h\non d out h 0 0 1\nturns t*6 u*3 t\n",
         0,
         "t 1 ok\nt 2 ok\nt 3 ok\nu 1 ok 1\nu 2 ok\nu 3 ok\nt 4 ok\nt 5 ok 42\nd 1 ok\nd 2 ok 7\n",
+    ),
+    // direct-read-by-fast-pin.gup
+    (
+        "# A thread reads from a disk into page 5 past the page cache (O_DIRECT) while another thread of the process forks. The read pins its\n# buffer by the fast way, and the fork comes between the walk's turns. The device writes 9 into the buffer, and the\n# program finds it there when the read is over, in every order; the child keeps what the page had when the fork came to it.\n# Linux: lib/iov_iter.c, iov_iter_extract_user_pages pins by pin_user_pages_fast; before the exclusive mark and the sequence\n# (mm/gup.c, gup_fast) such a read could end in the child's page.\n# never: v 8 ok 7\n# never, with these turns: u 1 ok 9\ngup 1\nframes 8 8 64\nprocess p\nchild c\nthread t p\nthread v p\nthread u c\ndevice d 8\non v map 5 1 rw\non v store 5.0 7\non v store 5.2 9\non v pinfast h 5 1 write\non v give h d\non v take h\non v unpin h\non v load 5.0\non v load 5.1\non t fork c\non t store 5.1 8\non u load 5.0\non u load 5.1\non d take h\non d out h 2 0 1\non d in h 0 0 1\non d give h v\nturns v*6 t*2 v*3 t*2 v*3 t v d*4 v*4 u*2\n",
+        0,
+        "v 1 ok\nv 2 ok\nv 3 ok\nt 1 ok\nv 4 ok 1\nt 2 ok\nv 5 ok\nd 1 ok\nd 2 ok 9\nd 3 ok 9\nd 4 ok\nv 6 ok\nv 7 ok\nv 8 ok 9\nv 9 ok 8\nu 1 ok 7\nu 2 ok 0\n",
     ),
     // direct-read-half-a-page.gup
     (
@@ -24,6 +30,30 @@ pub const EXAMPLES: [(&str, u8, &str); 27] = [
         "# A process exits while a device still has its page: the frame goes to nobody before the pin is given back, and then another\n# process gets it as zeros. What hands the pin on after the exit stands for the driver's part of it.\n# Linux: mm/mmap.c, exit_mmap drops the mapping's reference alone; mm/gup.c, unpin_user_pages drops the last one;\n# mm/memory.c, do_anonymous_page takes a zeroed page.\n# never: d 2 ok 0\n# never: s 3 ok\n# never: s 6 ok 7\ngup 1\nframes 1 0 64\nprocess p\nprocess q\nthread t p\nthread s q\ndevice d 8\non t map 5 1 rw\non t store 5.0 7\non t pin h 5 1 write\non t exit\non t give h d\non d take h\non d out h 0 0 1\non d in h 1 0 1\non d give h s\non s map 5 1 rw\non s take h\non s store 5.0 1\non s unpin h\non s store 5.0 1\non s load 5.1\n",
         0,
         "t 1 ok\ns 1 ok\nt 2 ok\nt 3 ok 1\nt 4 ok\nt 5 ok\nd 1 ok\nd 2 ok 7\nd 3 ok 7\nd 4 ok\ns 2 ok\ns 3 noframe\ns 4 ok\ns 5 ok\ns 6 ok 0\n",
+    ),
+    // fast-long-pin-falls-back.gup
+    (
+        "# A buffer is registered for long by the fast way, as RDMA libraries do it. Its page lies in movable memory, so the walk stops at its\n# entry, and the slow way moves the page to normal memory and pins it there. The second registration finds the page where it may\n# stay, and its walk takes it without any lock. Each word is where it was, and the device sees what the program stores.\n# Linux: mm/gup.c, pin_user_pages_fast with FOLL_LONGTERM; try_grab_folio_fast refuses what folio_is_longterm_pinnable does, and\n# __gup_longterm_locked migrates it.\n# never: d 2 ok 7\n# never: t 3 noframe\n# never: t 5 noframe\ngup 1\nframes 1 1 64\nprocess p\nthread t p\ndevice d 8\non t map 5 1 rw\non t store 5.0 7\non t pinfast h 5 1 write long\non t store 5.0 8\non t pinfast k 5 1 read long\non t give h d\non t load 5.0\non d take h\non d out h 0 0 1\nturns t*19 d*2\n",
+        0,
+        "t 1 ok\nt 2 ok\nt 3 ok 1\nt 4 ok\nt 5 ok 1\nt 6 ok\nt 7 ok 8\nd 1 ok\nd 2 ok 8\n",
+    ),
+    // fast-pin-races-fork.gup
+    (
+        "# A fork has begun and found page 5 unpinned when a lockless walk, which read the sequence before that, grabs the page's frame.\n# The walk sees the entry unchanged and the frame still marked as the parent's own; then the fork shares the page. Only the last look\n# at the sequence tells: it has changed, so the walk gives the page back, and the slow way pins a copy that is the parent's alone.\n# Without that look the device would hold a page that the parent's next store leaves behind.\n# Linux: mm/gup.c, gup_fast reads mm->write_protect_seq before the walk and after it; mm/memory.c, copy_page_range makes it odd while\n# it shares pages.\n# never: d 2 ok 7\n# never, with these turns: u 1 ok 8\ngup 1\nframes 8 8 64\nprocess p\nchild c\nthread t p\nthread v p\nthread u c\ndevice d 8\non v map 5 1 rw\non v store 5.0 7\non v pinfast f 5 1 read\non v store 5.0 8\non v give f d\non t fork c\non u load 5.0\non d take f\non d out f 0 0 1\nturns v*5 t*2 v*3 t*2 v*5 u d*2\n",
+        0,
+        "v 1 ok\nv 2 ok\nt 1 ok\nv 3 ok 1\nv 4 ok\nv 5 ok\nu 1 ok 7\nd 1 ok\nd 2 ok 8\n",
+    ),
+    // fast-pin-races-move.gup
+    (
+        "# The mover has cleared the entry of page 5 and counted one reference when a lockless walk, which read the entry before that, grabs\n# the old frame. The walk looks at the entry again, finds it changed, and gives the frame back. The mover puts the page\n# into its new frame, and the slow way pins it there. Without the second look the device would keep the old frame, and not see the store.\n# Linux: mm/gup.c, gup_fast_pte_range compares the entry after try_grab_folio_fast; mm/migrate.c clears the entry before it\n# counts the references, so one of the two always sees the other.\n# never: d 2 ok 7\n# never, with these turns: m 1 busy 1025\ngup 1\nframes 8 8 64\nprocess p\nthread v p\ndevice d 8\nmover m\non v map 5 1 rw\non v store 5.0 7\non v pinfast f 5 1 write\non v store 5.0 8\non v give f d\non m move p 5 normal\non d take f\non d out f 0 0 1\nturns v*5 m*2 v*2 m v*5 d*2\n",
+        0,
+        "v 1 ok\nv 2 ok\nm 1 ok\nv 3 ok 1\nv 4 ok\nv 5 ok\nd 1 ok\nd 2 ok 8\n",
+    ),
+    // fast-pin-races-munmap.gup
+    (
+        "# Two lockless walks have read the entry of page 5 when the page is unmapped and its frame is free. The first walk can't grab a free\n# frame. Then another process gets that frame for its own page; now the second walk's grab succeeds, but its second look finds\n# the entry gone, and it gives the frame back. Both pins are refused by the slow way, and no device ever has the other process's page.\n# Linux: mm/gup.c, try_get_folio takes no reference where there is none (folio_ref_try_add), and gup_fast_pte_range compares\n# the entry after the grab.\n# never: d 2 ok 9\n# never: u 3 ok 9\n# never, with these turns: v 1 ok 1\n# never, with these turns: w 1 ok 1\ngup 1\nframes 1 0 64\nprocess p\nprocess q\nthread t p\nthread v p\nthread w p\nthread u q\ndevice d 8\non t map 5 1 rw\non t store 5.0 7\non t unmap 5 1\non v pinfast f 5 1 write\non v give f d\non w pinfast k 5 1 write\non u map 6 1 rw\non u store 6.0 9\non u load 6.1\non d take f\non d out f 0 0 1\non d in f 1 0 1\nturns t*2 v*3 w*3 t v u*2 w*2 v*3 w*4 u\n",
+        4,
+        "t 1 ok\nt 2 ok\nt 3 ok\nu 1 ok\nu 2 ok\nv 1 missing\nv 2 notheld\nw 1 missing\nu 3 ok 0\nstuck d handle f\n",
     ),
     // first.gup
     (
