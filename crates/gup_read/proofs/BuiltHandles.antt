@@ -1,6 +1,6 @@
 -- What the words of the operations of pins and references come to: pin, unpin, take, give, get, put, and a device's
 -- transfers.
-use Rattle.std.proofs.Common.{◌≡◌, ℕ, Bool, true, false, not, cond, List, [], ◌∷◌, length, Option, Some, None, Ok, Err, refl, sym, ap, subst, ◌∙◌, inl, inr, lit<}
+use Rattle.std.proofs.Common.{◌≡◌, ℕ, Bool, true, false, cond, List, [], ◌∷◌, length, Option, Some, None, Ok, Err, refl, sym, ap, subst, ◌∙◌, inl, inr, lit<}
 use Rattle.std.specs.Prelude.{codes}
 use Rattle.std.specs.Str.{bytes_eq}
 use Rattle.gup_spec_grammar.specs.Spelling.{IsRange}
@@ -13,7 +13,7 @@ use Rattle.gup_spec_grammar.specs.Grammar.{want_of}
 use Rattle.gup_read.specs.Reading.{◌>>=◌, check, way_in, pinned_in, pin_in, unpin_in, take_in, give_in, get_in, put_in, transfer_in}
 use Rattle.gup_read.proofs.Chains.{goes, checked, both, all_three, same_word, unused_Decides}
 use Rattle.gup_read.proofs.ActionWords.{said_with, action_in}
-use Rattle.gup_read.proofs.Judged.{Ends, built, later, Judged, Told, range_step, page_step, index_step, count_step, name_Decides, pin_step, got_step, receiver_step, handle_step}
+use Rattle.gup_read.proofs.Judged.{Ends, built, Judged, Told, range_step, page_step, index_step, count_step, name_Decides, pin_step, got_step, receiver_step, handle_step}
 
 -- ---- pins
 

@@ -1,21 +1,17 @@
 -- What the words of a device's operations that come later come to: transfers of parts, mirrors.
-use Rattle.std.proofs.Common.{◌≡◌, ℕ, ◌+◌, ◌≤◌, Bool, true, false, cond, List, [], ◌∷◌, length, Option, Some, None, refl, arith, sym, ap, subst, ◌∙◌, inl, inr}
+use Rattle.std.proofs.Common.{◌≡◌, ℕ, ◌+◌, ◌≤◌, Bool, true, false, List, [], ◌∷◌, length, Option, Some, None, refl, sym, ap, inl, inr}
 use Rattle.std.specs.Prelude.{codes}
 use Rattle.std.specs.Bool.{Decides}
-use Rattle.std.specs.Str.{bytes_eq}
 use Rattle.std.proofs.lemmas.Bool.{leb-true, le-leb}
-use Rattle.gup_base.specs.declared.entry.Zone.{Zone}
-use Rattle.gup_base.specs.declared.entry.Zone.TheVariants.{Movable, Normal}
 use Rattle.gup_read_words.specs.Text.{segment_in}
 use Rattle.gup_read_words.proofs.SpelledPlaces.{segment_found, segment_read}
 use Rattle.gup_spec_grammar.specs.Names.{find}
-use Rattle.gup_spec_grammar.specs.Said.{Word, transfers_parts, mirrors, looks, moves, parts_word, zone_word}
+use Rattle.gup_spec_grammar.specs.Said.{Word, transfers_parts, mirrors, looks, parts_word}
 use Rattle.gup_spec_grammar.specs.Outline.{Outline}
 use Rattle.gup_spec_grammar.specs.Grammar.{AreSegments}
 use Rattle.gup_read.specs.Reading.{segments_in, at_most_64, parts_in, mirror_in, look_in}
-use Rattle.gup_read.proofs.Chains.{goes, checked, both, same_word}
-use Rattle.gup_read.proofs.ActionWords.{said_with}
-use Rattle.gup_read.proofs.Judged.{later, Judged, Told, index_step, page_step, word_no_step, process_step, pin_step, mirror_Decides, slot_Decides}
+use Rattle.gup_read.proofs.Chains.{goes, checked, both}
+use Rattle.gup_read.proofs.Judged.{later, Told, index_step, page_step, word_no_step, process_step, pin_step, mirror_Decides, slot_Decides}
 
 -- ---- the parts of a transfer
 

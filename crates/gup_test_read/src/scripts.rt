@@ -11,7 +11,7 @@ const DECLARED: &str =
     "gup 1\nframes 8 8 64\nprocess p\nchild c\nthread t p\ndevice d 64\nmover m\n";
 
 /// What stands after the seven lines, and its first fault. Where a line has a second fault, the first goes before it.
-const LINES: [(&str, u32, Reason); 158] = [
+const LINES: [(&str, u32, Reason); 157] = [
     ("process q\t\n", 8, Reason::Byte),
     ("# \u{e9}\n", 8, Reason::Byte),
     (" \u{7f}wrong\n", 8, Reason::Byte),
