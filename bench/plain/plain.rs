@@ -14,7 +14,7 @@ enum Birth {
     Failed,
 }
 
-#[derive(Clone, Copy)]
+#[derive(Clone, Copy, PartialEq)]
 struct Entry {
     frame: usize,
     writable: bool,
@@ -31,6 +31,8 @@ struct Process {
     pages: VecDeque<(u64, Page)>,
     birth: Birth,
     has_pinned: bool,
+    /// Raised where a fork begins, and where it ends: odd while it runs.
+    sequence: u64,
     structure: Option<usize>,
     table: Option<usize>,
 }
@@ -116,7 +118,7 @@ enum Op {
     Protect { page: u64, n: u64, write: bool },
     Load { page: u64, word: usize },
     Store { page: u64, word: usize, value: u64 },
-    Pin { handle: usize, page: u64, n: u64, write: bool, long: bool },
+    Pin { handle: usize, page: u64, n: u64, write: bool, long: bool, fast: bool },
     Unpin { handle: usize },
     Give { handle: usize, to: usize },
     Take { handle: usize },
@@ -144,6 +146,24 @@ enum Job {
     Copy(u64, usize, Option<usize>),
     Count(Entry),
     Place(Entry, u64),
+    /// A pin's walk, and the sequence that it has read.
+    Walk(Step, u64),
+    /// A pin whose walk is over.
+    Slow,
+}
+
+/// Where a walk without locks stands.
+#[derive(Clone, Copy)]
+enum Step {
+    Entered,
+    Ready,
+    Read(Entry),
+    Grabbed(Entry),
+    Rechecked(Entry),
+    Differed(usize),
+    Refused,
+    Stopped,
+    Dropping,
 }
 
 struct Actor<'s> {
@@ -251,7 +271,7 @@ impl<'s> Machine<'s> {
                     names.insert(name, Named::Process(machine.processes.len()));
                     machine.process_names.push(name);
                     let birth = if kind == "process" { Birth::Born } else { Birth::Unborn };
-                    machine.processes.push(Process { pages: VecDeque::with_capacity(1024), birth, has_pinned: false, structure: None, table: None });
+                    machine.processes.push(Process { pages: VecDeque::with_capacity(1024), birth, has_pinned: false, sequence: 0, structure: None, table: None });
                 }
                 kind @ ("thread" | "device" | "mover") => {
                     let name = words.next().unwrap();
@@ -302,7 +322,7 @@ impl<'s> Machine<'s> {
                 let (page, word) = address(words.next());
                 Op::Store { page, word, value: number(words.next()) }
             }
-            "pin" => {
+            kind @ ("pin" | "pinfast") => {
                 let name = words.next().unwrap();
                 let handle = self.handles.len();
                 names.insert(name, Named::Handle(handle));
@@ -314,6 +334,7 @@ impl<'s> Machine<'s> {
                     n: number(words.next()),
                     write: words.next() == Some("write"),
                     long: words.next() == Some("long"),
+                    fast: kind == "pinfast",
                 }
             }
             "unpin" => Op::Unpin { handle: handle(names, words.next().unwrap()) },
@@ -376,6 +397,11 @@ impl<'s> Machine<'s> {
                 Job::From(from) => held(process.table) && process.pages.back().is_some_and(|row| row.0 >= from),
                 _ => false,
             },
+            Op::Pin { fast, .. } => match self.actors[a].job {
+                Job::Idle => !fast,
+                Job::Walk(..) => false,
+                _ => true,
+            },
             Op::Put { .. } | Op::Unpin { .. } | Op::Give { .. } | Op::Take { .. } | Op::Transfer { .. } => return self.waits_for_pin(a, op),
             _ => true,
         };
@@ -411,7 +437,7 @@ impl<'s> Machine<'s> {
             Op::Protect { page, n, write } => self.protect(a, page, n, write),
             Op::Load { page, word } => self.access(a, page, word, None),
             Op::Store { page, word, value } => self.access(a, page, word, Some(value)),
-            Op::Pin { handle, page, n, write, long } => self.pin(a, handle, page, n, write, long),
+            Op::Pin { handle, page, n, write, long, fast } => self.pin(a, handle, page, n, write, long, fast),
             Op::Unpin { handle } => self.unpin(a, handle),
             Op::Give { handle, to } => self.give(a, handle, to),
             Op::Take { handle } => {
@@ -529,10 +555,18 @@ impl<'s> Machine<'s> {
     }
 
     /// A page of a pin: it is made ready and pinned, or refused, or, where it is to be kept for long and its frame is movable, cleared.
-    fn pin(&mut self, a: usize, handle: usize, page: u64, n: u64, write: bool, long: bool) {
+    fn pin(&mut self, a: usize, handle: usize, page: u64, n: u64, write: bool, long: bool, fast: bool) {
         let p = self.own(a);
         let process = &mut self.processes[p];
         process.has_pinned = true;
+        match self.actors[a].job {
+            Job::Idle if fast => {
+                self.actors[a].job = Job::Walk(Step::Entered, 0);
+                return;
+            }
+            Job::Walk(step, seen) => return self.walk(a, step, seen, handle, page, n, write, long),
+            _ => {}
+        }
         let at = page + self.actors[a].taken.len() as u64;
         let zone = long.then_some(Zone::Normal);
         let refused = match self.actors[a].job {
@@ -541,7 +575,7 @@ impl<'s> Machine<'s> {
                 return;
             }
             Job::Place(entry, count) => {
-                self.actors[a].job = Job::Idle;
+                self.actors[a].job = Job::Slow;
                 process.table = None;
                 let row = process.page(at).unwrap();
                 row.entry = Some(entry);
@@ -586,6 +620,66 @@ impl<'s> Machine<'s> {
             Some(cause) => format!("ok {got} of {n} {cause}"),
         };
         self.answer(a, &text);
+    }
+
+    /// A step of a pin's walk.
+    fn walk(&mut self, a: usize, step: Step, seen: u64, handle: usize, page: u64, n: u64, write: bool, long: bool) {
+        let process = &self.processes[self.actors[a].process.unwrap()];
+        let frames = &mut self.frames;
+        let taken = &mut self.actors[a].taken;
+        let at = page + taken.len() as u64;
+        let entry = process.find(at).and_then(|at| process.pages[at].1.entry);
+        let same = process.sequence == seen;
+        let next = match step {
+            Step::Entered => {
+                let now = process.sequence;
+                self.actors[a].job = if now % 2 == 1 { Job::Slow } else { Job::Walk(Step::Ready, now) };
+                return;
+            }
+            Step::Ready if taken.len() as u64 == n && same => {
+                self.handles[handle] = Handle::Held(a, std::mem::take(taken), write);
+                return self.answer(a, &format!("ok {n}"));
+            }
+            Step::Ready if taken.len() as u64 == n => Step::Dropping,
+            Step::Ready => match entry {
+                Some(entry) if (entry.writable || !write) && !(long && entry.frame < frames.movable) => Step::Read(entry),
+                _ => Step::Stopped,
+            },
+            Step::Read(read) if frames.counts[read.frame] == 0 => Step::Stopped,
+            Step::Read(read) => {
+                frames.counts[read.frame] += PIN;
+                Step::Grabbed(read)
+            }
+            Step::Grabbed(read) if entry == Some(read) => {
+                taken.push(read.frame);
+                Step::Rechecked(read)
+            }
+            Step::Grabbed(read) => Step::Differed(read.frame),
+            Step::Rechecked(read) if read.writable || frames.marks[read.frame] => Step::Ready,
+            Step::Rechecked(_) => Step::Refused,
+            Step::Differed(frame) => {
+                frames.put(frame, PIN);
+                Step::Stopped
+            }
+            Step::Refused => {
+                frames.put(taken.pop().unwrap(), PIN);
+                Step::Stopped
+            }
+            Step::Stopped if same || taken.is_empty() => {
+                self.actors[a].job = Job::Slow;
+                return;
+            }
+            Step::Stopped => Step::Dropping,
+            Step::Dropping => {
+                frames.put(taken.remove(0), PIN);
+                if taken.is_empty() {
+                    self.actors[a].job = Job::Slow;
+                    return;
+                }
+                Step::Dropping
+            }
+        };
+        self.actors[a].job = Job::Walk(next, seen);
     }
 
     fn unpin(&mut self, a: usize, handle: usize) {
@@ -711,6 +805,7 @@ impl<'s> Machine<'s> {
                 child.pages.extend(parent.pages.iter().map(|row| (row.0, Page { write: row.1.write, entry: None })));
                 child.birth = Birth::Growing;
                 parent.structure = Some(a);
+                parent.sequence += 1;
                 actor.job = Job::From(0);
             }
             Job::From(from) => {
@@ -718,6 +813,7 @@ impl<'s> Machine<'s> {
                 let Some((page, row)) = parent.pages.get(at) else {
                     child.birth = Birth::Born;
                     parent.structure = None;
+                    parent.sequence += 1;
                     return self.answer(a, "ok");
                 };
                 actor.job = match row.entry {
@@ -747,6 +843,7 @@ impl<'s> Machine<'s> {
                     }
                     child.birth = Birth::Failed;
                     parent.structure = None;
+                    parent.sequence += 1;
                     parent.table = None;
                     self.answer(a, "noframe");
                 }
@@ -763,7 +860,7 @@ impl<'s> Machine<'s> {
                 parent.table = None;
                 actor.job = Job::From(page + 1);
             }
-            Job::Count(_) | Job::Place(..) => unreachable!("no thread moves a page"),
+            Job::Count(_) | Job::Place(..) | Job::Walk(..) | Job::Slow => unreachable!("a fork moves and pins no page"),
         }
     }
 
