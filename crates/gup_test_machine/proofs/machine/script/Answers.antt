@@ -219,7 +219,7 @@ are_script p0 p1 p2 x0 x1 x2 x3 x4 x5 h0 h1 unborn k0 k1 k2 k3 k4 k5 o0 o1 o2 s0
           (fits x3.kind 0 k3 (omega arith)) (fits x4.kind 0 k4 (omega arith)) (fits x5.kind 0 k5 (omega arith));
       ops =
           all_six (λ x. All IsOp x.ops) x0 x1 x2 x3 x4 x5 o0 o1 o2
-          (subst (λ (ops : List Op). All IsOp ops) (sym forks) (all_forks IsOp (omega arith, omega arith, omega arith, refl) tt))
+          (subst (λ (ops : List Op). All IsOp ops) (sym forks) (all_forks IsOp (omega arith, omega arith, omega arith) tt))
           (subst (λ (ops : List Op). All IsOp ops) (sym gets) (all_gets IsOp (omega arith) tt))
           (subst (λ (ops : List Op). All IsOp ops) (sym puts) (all_puts IsOp tt));
       ops_fit =
