@@ -1,1 +1,2 @@
 pub mod TurnParts
+pub mod Unseen

@@ -10,6 +10,7 @@ pub mod PageTurns
 pub mod WalkTurns
 pub mod PinTurns
 pub mod DeviceTurns
+pub mod Emptying
 pub mod ForkTurns
 pub mod Waits
 pub mod CoreTurn

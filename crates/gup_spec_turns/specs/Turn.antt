@@ -9,6 +9,7 @@ use Rattle.gup_spec_events.specs.State.{CoreState}
 use Rattle.gup_spec_events.specs.Event.{fail_unborn}
 use Rattle.gup_spec_journal.specs.Place.{Doer, birth_for}
 use Rattle.gup_spec_turns.specs.CoreTurn.{CoreTurn, answers_with, ends_with, unbuilt_turn}
+use Rattle.gup_spec_turns.specs.Emptying.{emptying}
 use Rattle.gup_spec_turns.specs.PageTurns.{load_turn, store_turn, map_turn, unmap_turn, protect_turn, discard_turn, exit_turn}
 use Rattle.gup_spec_turns.specs.PinTurns.{pin_turn, unpin_turn, give_turn, take_turn, get_turn, put_turn}
 use Rattle.gup_spec_turns.specs.DeviceTurns.{transfer_turn}
@@ -47,11 +48,6 @@ abbrev pub turn_at : Birth → (refused turn : CoreTurn) → CoreTurn
 turn_at failed refused turn = refused
 turn_at birth refused turn = turn
 
--- Before an event that changes a page's entry the mirror slots of that page are emptied, in rising order: in this one place, for
--- all turns. No slot is filled so far.
-abbrev pub emptying : CoreState → CoreTurn → CoreTurn
-emptying s turn = turn
-
 -- Before an entry is set the tables that its page lacks are added, after a page is unmapped the empty ones are taken out, and
 -- those that no walk may be inside of are freed: in this one place. Entries are in no tables so far.
 abbrev pub with_tables : CoreState → CoreTurn → CoreTurn
@@ -60,6 +56,6 @@ with_tables s turn = turn
 abbrev pub turn_of : CoreState → Doer → (far : ℕ) → Op → CoreTurn
 turn_of s who far op =
     with_tables s
-    (emptying s
+    (emptying s who.actor
     (turn_at (birth_for s.birth who) (failed_turn who.actor who.proc op)
     (op_turn s who.actor who.proc who.slots far op)))
