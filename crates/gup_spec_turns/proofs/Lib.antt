@@ -1,2 +1,3 @@
 pub mod TurnParts
 pub mod Unseen
+pub mod UnseenTurns
