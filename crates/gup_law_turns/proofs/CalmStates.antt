@@ -1,17 +1,14 @@
--- What is true beside soundness while no operation mirrors, and of which events turns are made.
-use Rattle.std.proofs.Common.{◌≡◌, ℕ, Bool, List, [], ◌∷◌, Option, None, refl}
+-- A state in which no mirror slot is filled, and of which events turns are made.
+use Rattle.std.proofs.Common.{◌≡◌, ℕ, Bool, List, [], ◌∷◌, Option, None}
 use Rattle.gup_base.specs.declared.entry.Allowed.{Allowed}
 use Rattle.gup_base.specs.declared.entry.Entry.{Entry}
 use Rattle.gup_base.specs.declared.entry.Rights.{Rights}
-use Rattle.gup_spec_events.specs.State.{CoreState, ForkStep, core_start, Counted, WalkStep, Taken}
-use Rattle.gup_spec_events.specs.Event.{CoreEvent, take_frame, fill, count_one, set_mark, upgrade, break_entry, put_entry, map_pages, lower_entry, protect_pages, drop_entry, discard_entry, load, store, raise_flag, pin_page, make_handle, unpin_page, give_handle, take_handle, get_reference, put_reference, move_out, move_in, begin_fork, count_page, share_entry, share_mark, share_child, copy_word, place_child, pass_page, end_fork, fail_fork, put_child, fail_unborn, clear_entry, count_moved, place_frame, restore_entry, enter_walk, read_sequence, read_entry, grab_frame, miss_frame, recheck_same, recheck_other, read_mark, read_again, drop_grab, drop_last, drop_first, leave_walk}
+use Rattle.gup_spec_events.specs.State.{CoreState, ForkStep, Counted, WalkStep, Taken}
+use Rattle.gup_spec_events.specs.Event.{CoreEvent, take_frame, fill, count_one, set_mark, upgrade, break_entry, put_entry, map_pages, lower_entry, protect_pages, drop_entry, discard_entry, load, store, raise_flag, pin_page, make_handle, unpin_page, give_handle, take_handle, get_reference, put_reference, move_out, move_in, begin_fork, count_page, share_entry, share_mark, share_child, copy_word, place_child, pass_page, end_fork, fail_fork, put_child, fail_unborn, clear_entry, count_moved, place_frame, restore_entry, enter_walk, read_sequence, read_entry, grab_frame, miss_frame, recheck_same, recheck_other, read_mark, read_again, drop_grab, drop_last, drop_first, leave_walk, empty_mirror}
 
 -- no mirror is filled
 pub record IsCalm (s : CoreState) : Type 0 where
   pub unmirrored : (m : ℕ) → s.mirrored m ≡ None
-
-pub starts_calm : (movable normal : ℕ) (is_born : ℕ → Bool) → IsCalm (core_start movable normal is_born)
-starts_calm movable normal is_born = record { unmirrored = λ m. refl }
 
 -- What an operation is about, beside its process: pages alone, the page that it moves, the pin that it makes, one that it
 -- gives, takes, gives back or
@@ -94,6 +91,7 @@ pub data IsTurnEvent (a p c : ℕ) (strand : Strand) : CoreEvent → Type 0 wher
   failing_at : (done : List ℕ) (step : ForkStep) (ends : Bool) → IsTurnEvent a p c strand (fail_fork a p c done step ends)
   putting_child : (done : List ℕ) (page : ℕ) (e : Entry) (ends : Bool) → IsTurnEvent a p c strand (put_child a p c done page e ends)
   failing_unborn : IsTurnEvent a p c strand (fail_unborn a p c)
+  emptying_slot : (m : ℕ) → IsTurnEvent a p c strand (empty_mirror a m)
 
 abbrev pub AreTurnEvents : (a p c : ℕ) → Strand → List CoreEvent → Type 0
 AreTurnEvents a p c strand [] = Unit {0}

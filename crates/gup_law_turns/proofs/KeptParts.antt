@@ -11,7 +11,7 @@ use Rattle.gup_spec_events.specs.State.{CoreState, Taken, marking, moving, Count
 use Rattle.gup_spec_events.specs.Event.{CoreEvent, Can, MayFail, happens, put_child, fail_fork, raise_flag, pin_page, make_handle, unpin_page, give_handle, take_handle, taken_frames, objects_taken, writes_taken, run, recheck_same, drop_last, drop_first}
 use Rattle.gup_spec_events.specs.Invariant.{AllCan}
 use Rattle.gup_law_base.specs.Sound.{IsSound, Forking, forking_of, birth_of_child, is_failing, moving_of, marking_of, step_page}
-use Rattle.gup_law_turns.proofs.CalmStates.{IsCalm, Strand, of_pin, of_handle, of_get, of_put, getting, putting_back, IsTurnEvent, AreTurnEvents, raising, pinning, making, handling, IsHandleEvent, AreHandleEvents, unpinning, giving, taking_over, beginning, ending, failing_at, putting_child, failing_unborn, marking_it, clearing, placing_frame, restoring, sharing_entry, sharing_child, placing, MayMove, finding_same, dropping_last, dropping_first}
+use Rattle.gup_law_turns.proofs.CalmStates.{IsCalm, Strand, of_pin, of_handle, of_get, of_put, getting, putting_back, IsTurnEvent, AreTurnEvents, raising, pinning, making, handling, IsHandleEvent, AreHandleEvents, unpinning, giving, taking_over, beginning, ending, failing_at, putting_child, failing_unborn, marking_it, clearing, placing_frame, restoring, sharing_entry, sharing_child, placing, MayMove, finding_same, dropping_last, dropping_first, emptying_slot}
 use Rattle.gup_law_turns.proofs.Puts.{put_same, put_other, some_same}
 use Rattle.gup_law_turns.proofs.EventLists.{Law}
 
@@ -83,6 +83,11 @@ module _ (s : CoreState) (a p c : ℕ) (strand : Strand) where
 
   calm_event : {e : CoreEvent} → IsTurnEvent a p c strand e → IsCalm s → IsCalm (happens s e)
   calm_event (handling handle is event) h = calm_handle handle event h
+  calm_event (emptying_slot m) h = record { unmirrored = λ k. go k (k == m) }
+    where
+      go : (k : ℕ) (t : Bool) → (if t then None else s.mirrored k) ≡ None
+      go k true = refl
+      go k false = h.unmirrored k
   calm_event event h = assumption
 
   -- a born process stays born: the child of a fork that fails was growing, and that of a failed process was unborn
@@ -222,6 +227,25 @@ leaves s a p c strand (e ∷ es) kinds =
 pub stays_calm : (s : CoreState) (a p c : ℕ) (strand : Strand) (es : List CoreEvent) → AreTurnEvents a p c strand es → IsCalm s → IsCalm (run s es)
 stays_calm s a p c strand [] kinds h = h
 stays_calm s a p c strand (e ∷ es) kinds h = stays_calm (happens s e) a p c strand es kinds.1 (calm_event s a p c strand kinds.0 h)
+
+-- no slot is filled
+filled_handle : (s : CoreState) (a h m f : ℕ) {e : CoreEvent} → IsHandleEvent a h e → (happens s e).mirrored m ≡ Some f → s.mirrored m ≡ Some f
+filled_handle s a h m f (unpinning g left) is = is
+filled_handle s a h m f event is = is
+
+filled_event : (s : CoreState) (a p c : ℕ) (strand : Strand) (m f : ℕ) {e : CoreEvent} → IsTurnEvent a p c strand e → (happens s e).mirrored m ≡ Some f → s.mirrored m ≡ Some f
+filled_event s a p c strand m f (handling h is event) filled = filled_handle s a h m f event filled
+filled_event s a p c strand m f (emptying_slot k) filled = go (m == k) filled
+  where
+    go : (t : Bool) → (if t then None else s.mirrored m) ≡ Some f → s.mirrored m ≡ Some f
+    go true is = absurd (cc is)
+    go false is = is
+filled_event s a p c strand m f event filled = filled
+
+pub stays_filled : (s : CoreState) (a p c : ℕ) (strand : Strand) (es : List CoreEvent) → AreTurnEvents a p c strand es → (m f : ℕ) → (run s es).mirrored m ≡ Some f → s.mirrored m ≡ Some f
+stays_filled s a p c strand [] kinds m f filled = filled
+stays_filled s a p c strand (e ∷ es) kinds m f filled =
+    filled_event s a p c strand m f kinds.0 (stays_filled (happens s e) a p c strand es kinds.1 m f filled)
 
 pub stays_born : Law → (s : CoreState) (a p c : ℕ) (strand : Strand) (es : List CoreEvent) → AreTurnEvents a p c strand es → IsSound s → AllCan s es → (q : ℕ) → s.birth q ≡ born → (run s es).birth q ≡ born
 stays_born law s a p c strand [] kinds sound can q is = is

@@ -39,3 +39,5 @@ pub mod NoteRightness
 pub mod PageSearches
 pub mod ScriptPlaces
 pub mod ActorPlaces
+pub mod EmptiedSlots
+pub mod EmptiedTurns

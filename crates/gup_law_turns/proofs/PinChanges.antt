@@ -25,6 +25,10 @@ use Rattle.gup_spec_turns.specs.CoreTurn.{CoreTurn}
 use Rattle.gup_spec_turns.specs.Turn.{turn_at, failed_turn, op_turn}
 use Rattle.gup_spec_turns.specs.PinTurns.{unpin_turn, unpinned, last_of, but_last}
 use Rattle.gup_spec_turns.proofs.TurnParts.{unpin_turn_by}
+use Rattle.gup_spec_turns.specs.Emptying.{emptying}
+use Rattle.gup_spec_turns.proofs.Unseen.{emptying_reads}
+use Rattle.gup_law_turns.proofs.EmptiedSlots.{about_same}
+use Rattle.gup_law_turns.proofs.TurnSubjects.{about_unpin}
 use Rattle.gup_law_turns.proofs.CalmStates.{of_pages, of_pin, of_handle}
 use Rattle.gup_law_turns.proofs.KeptParts.{same_or_apart, KeepsPin, leaves_pins}
 use Rattle.gup_law_turns.proofs.ActorPlaces.{IsBehindTurn, stays_there, goes_by, goes_on, is_over, turn_behind}
@@ -203,7 +207,9 @@ module _ (script : ScriptValue) (s : CoreState) (who : Doer) (place : Place) whe
 
   unpin_change : (handle : ℕ) → birth_for s.birth who ≡ born → present_op script who.actor place ≡ Some (Unpin handle) → IsTaken s who place (Some (Unpin handle)) None (core_turn_by s who place.far (Some (Unpin handle)) None) → ChangeBy handle (Some (Unpin handle)) (core_turn_by s who place.far (Some (Unpin handle)) None)
   unpin_change handle birth is turns =
-      let same : core_turn_by s who place.far (Some (Unpin handle)) None ≡ unpin_turn s who.actor handle = ap (λ (b : Birth). turn_at b (failed_turn who.actor who.proc (Unpin handle)) (unpin_turn s who.actor handle)) birth in
+      let same : core_turn_by s who place.far (Some (Unpin handle)) None ≡ unpin_turn s who.actor handle =
+      ap (λ (b : Birth). emptying s who.actor (turn_at b (failed_turn who.actor who.proc (Unpin handle)) (unpin_turn s who.actor handle))) birth
+      ∙ about_same s who.actor handle (unpin_turn s who.actor handle) (about_unpin who.actor handle (is_held_by (s.handle handle) who.actor) (s.pinned handle)) in
       let can = subst (λ (turn : CoreTurn). AllCan s turn.events) same turns.done.can in
       subst (ChangeBy handle (Some (Unpin handle))) (sym same) (unpin_by handle (is_held_by (s.handle handle) who.actor) refl is can)
 
@@ -257,11 +263,19 @@ module _ (script : ScriptValue) (s : CoreState) (who : Doer) (place : Place) whe
   failed_keeps h (Fork child) = record { handle = refl; pinned = refl }
   failed_keeps h op = record { handle = refl; pinned = refl }
 
+  emptying_keeps : (h : ℕ) (turn : CoreTurn) → KeepsPin h s (run s turn.events) → KeepsPin h s (run s (emptying s who.actor turn).events)
+  emptying_keeps h turn kept =
+      record {
+        handle = emptying_reads (λ t. t.handle h) (λ f t. refl) s who.actor turn ∙ kept.handle;
+        pinned = emptying_reads (λ t. t.pinned h) (λ f t. refl) s who.actor turn ∙ kept.pinned;
+      }
+
   -- and it answers its operation, of which nothing was given back
   failed_changes : (h : ℕ) (op : Op) → birth_for s.birth who ≡ failed → place.far ≡ 0 → place_behind place (going op).whats ≡ fresh_place (place.answered + 1) → ChangeBy h (Some op) (going op)
   failed_changes h op birth first over =
-      let same : going op ≡ failed_turn who.actor who.proc op = ap (λ (b : Birth). turn_at b (failed_turn who.actor who.proc op) (op_turn s who.actor who.proc who.slots place.far op)) birth in
-      let kept = subst (λ (turn : CoreTurn). KeepsPin h s (run s turn.events)) (sym same) (failed_keeps h op) in
+      let same : going op ≡ emptying s who.actor (failed_turn who.actor who.proc op) =
+      ap (λ (b : Birth). emptying s who.actor (turn_at b (failed_turn who.actor who.proc op) (op_turn s who.actor who.proc who.slots place.far op))) birth in
+      let kept = subst (λ (turn : CoreTurn). KeepsPin h s (run s turn.events)) (sym same) (emptying_keeps h (failed_turn who.actor who.proc op) (failed_keeps h op)) in
       let before : given_back (Some op) h place.far ≡ 0 = ap (given_back (Some op) h) first ∙ first_back (Some op) h in
       let behind : back_behind h (going op).whats ≡ 0 = ap (λ (q : Place). given_back (present_op script who.actor q) h q.far) over ∙ first_back (present_op script who.actor (fresh_place (place.answered + 1))) h in
       is_kept kept.handle kept.pinned (λ holds. behind ∙ sym before)

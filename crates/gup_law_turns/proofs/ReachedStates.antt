@@ -288,7 +288,7 @@ is_standing published script valid r h =
       mapped = λ p page e is. entry_mapped s p page e k.sound (k.emptied p page) is (s.right p page) refl;
       counted = λ p page e is none. entry_counted s p page e k.sound is none;
       few_pages = λ p. few_mapped s p (k.few.mapped p) (k.few.pages p);
-      few_counts = few_counts s k.sound k.calm k.rest (λ a. no_frame s (doer_of script a (present_op script a (r.places a))) (present_op script a (r.places a)) (r.places a) (λ op is. few_actor a op is) (k.fits a)) k.emptied few (few_pins script valid r k) (λ handle got. let below = k.got handle got in let most = valid.few_handles in omega (arith, below, most));
+      few_counts = few_counts s k.sound k.rest (λ a. no_frame s (doer_of script a (present_op script a (r.places a))) (present_op script a (r.places a)) (r.places a) (λ op is. few_actor a op is) (k.fits a)) k.emptied few (few_pins script valid r k) (λ handle got. let below = k.got handle got in let most = valid.few_handles in omega (arith, below, most));
       few_forks = few_sequence (length script.processes) valid.few_processes s k.few;
       fresh = λ a first. (rests_at s (doer_of script a (present_op script a (r.places a))) (r.places a) first (present_op script a (r.places a)) (k.fits a)).0;
       idle_jobs = λ a no_fork. idle_job s (doer_of script a (present_op script a (r.places a))) (present_op script a (r.places a)) (r.places a) no_fork (k.fits a);

@@ -24,6 +24,8 @@ use Rattle.gup_spec_turns.specs.PinTurns.{gets, get_turn, got_frame, got_by, put
 use Rattle.gup_spec_turns.specs.Run.{RunState, run_after, op_in, waiting_in, core_turn_by, core_turn_in}
 use Rattle.gup_spec_turns.specs.Turn.{turn_at}
 use Rattle.gup_spec_turns.proofs.TurnParts.{gets_after, put_turn_by}
+use Rattle.gup_spec_turns.specs.Emptying.{emptying}
+use Rattle.gup_spec_turns.proofs.Unseen.{emptying_reads}
 use Rattle.gup_law_turns.proofs.CalmStates.{of_get, of_put}
 use Rattle.gup_law_turns.proofs.KeptParts.{leaves_got}
 use Rattle.gup_law_turns.proofs.NoteRightness.{references_stay, references_behind}
@@ -128,6 +130,10 @@ module _ (ops : List Op) (s : CoreState) (who : Doer) (place : Place) where
     put_alike failed = by_note (Some (Put handle)) (Done answers.Unborn) (references_of s) is refl
     put_alike birth = put_held (has_reference (got_by (s.got handle)) who.actor)
 
+  -- the slots that are emptied first are no references
+  alike_emptied : (turn : CoreTurn) → AreAlike turn → AreAlike (emptying s who.actor turn)
+  alike_emptied turn alike = alike ∙ sym (emptying_reads references_of (λ f t. refl) s who.actor turn)
+
   -- any other operation
   other_alike : (op : Option Op) (waiting : Option Waiting) → IsNoReference op → slice_get ops place.answered ≡ op → IsTaken s who place op waiting (core_turn_by s who place.far op waiting) → AreAlike (core_turn_by s who place.far op waiting)
   other_alike op waiting none is turns =
@@ -138,9 +144,11 @@ module _ (ops : List Op) (s : CoreState) (who : Doer) (place : Place) where
 
   alike : (op : Option Op) (waiting : Option Waiting) → slice_get ops place.answered ≡ op → IsTaken s who place op waiting (core_turn_by s who place.far op waiting) → AreAlike (core_turn_by s who place.far op waiting)
   alike (Some (Get handle page)) (Some waiting) is turns = by_note (Some (Get handle page)) (Wait waiting) (references_of s) is refl
-  alike (Some (Get handle page)) None is turns = get_alike handle page is (birth_for s.birth who)
+  alike (Some (Get handle page)) None is turns =
+      alike_emptied (turn_at (birth_for s.birth who) (answers_with answers.Unborn) (get_turn s who.actor who.proc handle page (s.entry who.proc page))) (get_alike handle page is (birth_for s.birth who))
   alike (Some (Put handle)) (Some waiting) is turns = by_note (Some (Put handle)) (Wait waiting) (references_of s) is refl
-  alike (Some (Put handle)) None is turns = put_alike handle is (birth_for s.birth who)
+  alike (Some (Put handle)) None is turns =
+      alike_emptied (turn_at (birth_for s.birth who) (answers_with answers.Unborn) (put_turn s who.actor handle)) (put_alike handle is (birth_for s.birth who))
   alike op waiting is turns = other_alike op waiting tt is turns
 
 pub same_references : (script : ScriptValue) → IsScript script → (r : RunState) → Stands script r → (a : ℕ) → references_behind (ops_of script a) (references_of r.core) a (r.places a) (core_turn_in script r a).whats ≡ references_of (run_after script r a).core

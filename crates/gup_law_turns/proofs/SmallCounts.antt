@@ -16,7 +16,6 @@ use Rattle.gup_spec_events.specs.Event.{bias}
 use Rattle.gup_spec_events.specs.Invariant.{Holder, entry_of_page, cleared_by, prepared_by, owed_by, got_as, page_of_pin, page_taken, grabbed_by, frame_of, cleared_frame, got_frame, taken_frame, grabbed_frame, weight, HasNoRepetition}
 use Rattle.gup_law_base.specs.Sound.{IsSound, moving_of, walking_of, moved_frame, walk_frame, held, held_by_walk}
 use Rattle.gup_plain.specs.Pages.{sum_below}
-use Rattle.gup_law_turns.proofs.CalmStates.{IsCalm}
 use Rattle.gup_law_turns.proofs.Puts.{some_same}
 use Rattle.gup_law_turns.proofs.TurnShapes.{AtRest}
 use Rattle.gup_law_turns.proofs.Sums.{sum_at, sum_both, sum_ones, sum_zero}
@@ -310,7 +309,7 @@ pub record ArePinsFew (s : CoreState) : Type 0 where
   pub made : (h k f : ℕ) → slice_get (s.pinned h) k ≡ Some f → (h < 1024) × (k < 16)
   pub taken : (a k : ℕ) (t : Taken) → slice_get (s.taken a) k ≡ Some t → (a < 81) × (k < 16)
 
-module _ (s : CoreState) (sound : IsSound s) (calm : IsCalm s) (rest : (a : ℕ) → AtRest s a) (free : (a : ℕ) → HoldsFew a (s.job a)) (emptied : (p page : ℕ) → s.birth p ≡ failed → s.entry p page ≡ None) (few : (p page : ℕ) (e : Entry) → s.entry p page ≡ Some e → p < 16) (pins : ArePinsFew s) (gots : (h : ℕ) → (s.got h ≡ None → ⊥) → h < 1024) where
+module _ (s : CoreState) (sound : IsSound s) (rest : (a : ℕ) → AtRest s a) (free : (a : ℕ) → HoldsFew a (s.job a)) (emptied : (p page : ℕ) → s.birth p ≡ failed → s.entry p page ≡ None) (few : (p page : ℕ) (e : Entry) → s.entry p page ≡ Some e → p < 16) (pins : ArePinsFew s) (gots : (h : ℕ) → (s.got h ≡ None → ⊥) → h < 1024) where
   abbrev holding : Holder → Option ℕ
   holding = held s.entry sound.0.moves s.prepared s.owed s.got s.pinned s.taken
 
@@ -396,5 +395,5 @@ module _ (s : CoreState) (sound : IsSound s) (calm : IsCalm s) (rest : (a : ℕ)
 
 -- each frame's count is at most the number of pages of 16 processes and of 1,024 references, that of 81 actors, and the weight of the pages of
 -- 1,024 handles, of those that 81 actors may have taken, and of one that each of them may have grabbed
-pub few_counts : (s : CoreState) → IsSound s → IsCalm s → ((a : ℕ) → AtRest s a) → ((a : ℕ) → HoldsFew a (s.job a)) → ((p page : ℕ) → s.birth p ≡ failed → s.entry p page ≡ None) → ((p page : ℕ) (e : Entry) → s.entry p page ≡ Some e → p < 16) → ArePinsFew s → ((h : ℕ) → (s.got h ≡ None → ⊥) → h < 1024) → (f : ℕ) → s.count f ≤ 16 * page_numbers + 1024 + 81 + bias * 17761
-few_counts s sound calm rest free emptied few pins gots f = few_counts_by s sound calm rest free emptied few pins gots f
+pub few_counts : (s : CoreState) → IsSound s → ((a : ℕ) → AtRest s a) → ((a : ℕ) → HoldsFew a (s.job a)) → ((p page : ℕ) → s.birth p ≡ failed → s.entry p page ≡ None) → ((p page : ℕ) (e : Entry) → s.entry p page ≡ Some e → p < 16) → ArePinsFew s → ((h : ℕ) → (s.got h ≡ None → ⊥) → h < 1024) → (f : ℕ) → s.count f ≤ 16 * page_numbers + 1024 + 81 + bias * 17761
+few_counts s sound rest free emptied few pins gots f = few_counts_by s sound rest free emptied few pins gots f

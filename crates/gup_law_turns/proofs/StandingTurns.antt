@@ -29,10 +29,10 @@ use Rattle.gup_law_turns.specs.Standing.{StandsHandle, given_back, back_in, IsUn
 use Rattle.gup_spec_turns.specs.Run.{RunState, run_start, run_after, op_in, waiting_in, core_turn_by, core_turn_in}
 use Rattle.gup_spec_journal.specs.Plain.{pages_got}
 use Rattle.gup_spec_turns.specs.CoreTurn.{CoreTurn}
-use Rattle.gup_law_turns.proofs.CalmStates.{starts_calm, of_get}
+use Rattle.gup_law_turns.proofs.CalmStates.{of_get}
 use Rattle.gup_law_turns.proofs.StandingStates.{IsFew, Stands, IsAhead, IsTaken}
 use Rattle.gup_law_turns.proofs.FewPages.{few_kept, few_handles, few_first}
-use Rattle.gup_law_turns.proofs.KeptParts.{OfProcess, of_process, Leaves, apart, same_or_apart, put_apart, leaves, stays_calm, stays_born, stays_barred, LeavesAll, handles_leave, LeavesPinsOf, leaves_pins, LeavesGot, leaves_got, one_holder, held_ungiven, held_made, KeepsPages, stays_locked, stays_flagged}
+use Rattle.gup_law_turns.proofs.KeptParts.{OfProcess, of_process, Leaves, apart, same_or_apart, put_apart, leaves, stays_filled, stays_born, stays_barred, LeavesAll, handles_leave, LeavesPinsOf, leaves_pins, LeavesGot, leaves_got, one_holder, held_ungiven, held_made, KeepsPages, stays_locked, stays_flagged}
 use Rattle.gup_law_turns.proofs.PinSubjects.{pins_here, gets_here, gets_or_not, reference_declared, about_or_not, handle_declared, is_holder, all_left, transfer_held}
 use Rattle.gup_law_turns.proofs.KeptMarks.{stays_marked}
 use Rattle.gup_law_turns.proofs.TurnSubjects.{ahead_before, answered_least, IsGoing, IsAboutHandle, still_or_going, keeps_begun, keeps_fresh}
@@ -613,7 +613,7 @@ module _ (script : ScriptValue) (valid : IsScript script) (r : RunState) (h : St
   stands law =
       record {
         sound = (leads law s turn.events h.sound turns.done.can).sound;
-        calm = stays_calm s a p c (strand_of op) turn.events turns.done.kinds h.calm;
+        slots = λ m f filled. h.slots m f (stays_filled s a p c (strand_of op) turn.events turns.done.kinds m f filled);
         there = stays_counted law s a p c (strand_of op) turn.events turns.done.kinds h.sound turns.done.can h.there;
         rest = rest_on;
         few = few_on law;
@@ -693,7 +693,7 @@ stands_first starts script valid =
     λ a k child forks. starts_unborn (process_at script child) (child_is script valid a k child forks) in
     record {
       sound = starts script.frames.movable script.frames.normal (starts_born script);
-      calm = starts_calm script.frames.movable script.frames.normal (starts_born script);
+      slots = λ m f filled. absurd (cc filled);
       there = λ f some. absurd (some refl);
       rest = λ a. record { prepared = refl; owed = refl };
       few = few_first (length script.processes) script.frames.movable script.frames.normal (starts_born script);

@@ -26,6 +26,11 @@ use Rattle.gup_spec_turns.specs.CoreTurn.{CoreTurn, answers_with}
 use Rattle.gup_spec_turns.proofs.TurnParts.{waits_at}
 use Rattle.gup_spec_turns.specs.Waits.{waits_born, first_waiting, waits_for_locks, no_lock}
 use Rattle.gup_spec_turns.specs.Turn.{failed_turn, turn_at, op_turn}
+use Rattle.gup_spec_turns.specs.Emptying.{mirror_slots}
+use Rattle.gup_spec_turns.proofs.UnseenTurns.{turn_unseen, waits_unseen}
+use Rattle.gup_law_base.specs.Sound.{IsSound}
+use Rattle.gup_law_turns.proofs.CountedFrames.{AreCountedThere}
+use Rattle.gup_law_turns.proofs.EmptiedTurns.{calmed, calmed_calm, calmed_sound, emptied_taken, fits_with}
 use Rattle.gup_law_turns.proofs.CalmStates.{failing_unborn}
 use Rattle.gup_law_turns.proofs.ForkFails.{unborn_empty}
 use Rattle.gup_law_turns.proofs.ForkOps.{IsEmptied, fork_turned, fork_emptied}
@@ -37,7 +42,7 @@ use Rattle.gup_law_turns.proofs.WalkOps.{pin_turned}
 use Rattle.gup_law_turns.proofs.Puts.{some_same}
 use Rattle.gup_law_turns.proofs.ReferenceOps.{get_turned, put_turned}
 use Rattle.gup_law_turns.proofs.ScriptLemmas.{FitsIn, op_is_op, op_fits_kind, thread_birth, few_slots, has_own_process}
-use Rattle.gup_law_turns.proofs.TurnShapes.{references_of, AtFirst, FitsFork, FitsOp, FitsAt, Rests, IsOfProcess, TurnAt, idles, waits, goes, unborn_refused, unborn_fork, FitsMove, has_begun}
+use Rattle.gup_law_turns.proofs.TurnShapes.{references_of, AtRest, AtFirst, FitsFork, FitsOp, FitsAt, Rests, IsOfProcess, TurnAt, idles, waits, goes, unborn_refused, unborn_fork, FitsMove, has_begun}
 use Rattle.gup_law_turns.proofs.StandingStates.{Stands, IsTaken}
 use Rattle.gup_law_turns.proofs.ShownTurns.{IsOpen, IsQuiet, MakesPin, IsTurned, idle_place}
 
@@ -239,7 +244,26 @@ module _ (s : CoreState) (who : Doer) (place : Place) (quiet : IsQuiet s who.act
       failed_step s who place quiet is (at_first is) op (h.unlike_transfer op refl (failed_proc who.of_process (s.birth who.proc) is).0) h.fits
   step_by birth is free = absurd (cc free)
 
-take : (s : CoreState) (who : Doer) (place : Place) (op : Option Op) (waiting : Option Waiting) → IsQuiet s who.actor → IsKnown s who place op → waiting_with s who place.far op ≡ waiting → IsTaken s who place op waiting (core_turn_by s who place.far op waiting)
+-- What holds of a state, and of the same one with all slots empty.
+record IsQuietly (s : CoreState) (a : ℕ) : Type 0 where
+  sound : IsSound s
+  slots : (m f : ℕ) → s.mirrored m ≡ Some f → m < mirror_slots
+  there : AreCountedThere s
+  rest : AtRest s a
+
+calmed_quiet : (s : CoreState) (a : ℕ) → IsQuietly s a → IsQuiet (calmed s) a
+calmed_quiet s a h =
+    record {
+      sound = calmed_sound s h.sound;
+      calm = calmed_calm s;
+      there = h.there;
+      rest = record { prepared = h.rest.prepared; owed = h.rest.owed };
+    }
+
+calmed_known : (s : CoreState) (who : Doer) (place : Place) (op : Option Op) → IsKnown s who place op → IsKnown (calmed s) who place op
+calmed_known s who place op h = let fits = fits_with (λ m. None) s who op place h.fits in assumption
+
+take : (s : CoreState) (who : Doer) (place : Place) (op : Option Op) (waiting : Option Waiting) → IsQuietly s who.actor → IsKnown s who place op → waiting_with s who place.far op ≡ waiting → IsTaken s who place op waiting (core_turn_by s who place.far op waiting)
 take s who place None waiting quiet h is =
     record {
       done = record { kinds = tt; can = tt; rest = quiet.rest; told = refl };
@@ -256,14 +280,23 @@ take s who place (Some op) (Some waiting) quiet h is =
       pin = λ o same free birth. absurd (cc free);
       emptied = λ child page same lost. h.emptied child page lost;
     }
-take s who place (Some op) None quiet h is = step_by s who place quiet op h (birth_for s.birth who) refl is
+take s who place (Some op) None quiet h is =
+    let t : CoreState = calmed s in
+    let b : Birth = birth_for s.birth who in
+    let free : waits_at b who.proc (waits_born t who.actor who.proc place.far op) ≡ None =
+    ap (waits_at b who.proc) (waits_unseen (λ m. None) s who.actor who.proc place.far op) ∙ is in
+    let step : IsTaken t who place (Some op) None (turn_at b (failed_turn who.actor who.proc op) (op_turn t who.actor who.proc who.slots place.far op)) =
+    step_by t who place (calmed_quiet s who.actor quiet) op (calmed_known s who place (Some op) h) b refl free in
+    let turn : CoreTurn = turn_at b (failed_turn who.actor who.proc op) (op_turn s who.actor who.proc who.slots place.far op) in
+    emptied_taken s who place op turn quiet.slots
+    (subst (λ (u : CoreTurn). IsTaken t who place (Some op) None (turn_at b (failed_turn who.actor who.proc op) u)) (turn_unseen (λ m. None) s who.actor who.proc who.slots place.far op) step)
 
 -- the turn of an actor
 pub taken : (script : ScriptValue) → IsScript script → (r : RunState) → Stands script r → (a : ℕ) → IsTaken r.core (doer_of script a (op_in script r a)) (r.places a) (op_in script r a) (waiting_in script r a) (core_turn_in script r a)
 taken script valid r h a =
     let k : ℕ = (r.places a).answered in
     take r.core (doer_of script a (op_in script r a)) (r.places a) (op_in script r a) (waiting_in script r a)
-    (record { sound = h.sound; calm = h.calm; there = h.there; rest = h.rest a })
+    (record { sound = h.sound; slots = h.slots; there = h.there; rest = h.rest a })
     (record {
       range = op_is_op script valid a k;
       thread = λ o is own. subst (λ (x : Option Op). (doer_of script a x).of_process ≡ true) (sym is) (has_own_process script valid a k o is (of_no_device o own));

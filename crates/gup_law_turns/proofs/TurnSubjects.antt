@@ -1,5 +1,5 @@
 -- What a turn is about: a process, or a handle, or nothing; and how far the actor is after it.
-use Rattle.std.proofs.Common.{◌≡◌, ℕ, ◌+◌, ◌<◌, ◌≤◌, ◌==◌, Bool, true, false, IsTrue, List, [], Option, Some, None, ◌⊎◌, inl, inr, refl, sym, ap, ◌∙◌, subst, arith}
+use Rattle.std.proofs.Common.{◌≡◌, ℕ, ◌+◌, ◌<◌, ◌≤◌, ◌==◌, Bool, true, false, IsTrue, List, [], Option, Some, None, ◌⊎◌, inl, inr, refl, sym, ap, subst, arith}
 use Rattle.gup_base.specs.Parts.{words_of, word_at}
 use Rattle.gup_plain.specs.Denial.{is_held_by, transfer_denial}
 use Rattle.gup_plain.specs.State.{PlainState, Birth, born, failed}
@@ -21,6 +21,9 @@ use Rattle.gup_spec_turns.specs.Turn.{turn_at, failed_turn, op_turn}
 use Rattle.gup_spec_turns.specs.PinTurns.{unpin_turn, last_of, but_last, give_turn, take_turn}
 use Rattle.gup_spec_turns.proofs.TurnParts.{unpin_turn_by, give_turn_by, transfer_turn_by}
 use Rattle.gup_spec_turns.specs.DeviceTurns.{transfer_turn, word_turn, frame_at, moves_value}
+use Rattle.gup_spec_turns.specs.Emptying.{emptying}
+use Rattle.gup_spec_turns.proofs.Unseen.{emptying_reads}
+use Rattle.gup_law_turns.proofs.EmptiedSlots.{about_emptying}
 use Rattle.gup_law_turns.proofs.CalmStates.{AreHandleEvents, unpinning, giving, taking_over, moving_out, moving_in}
 use Rattle.gup_law_turns.proofs.ActorPlaces.{IsBehind, goes_on, is_over, IsBehindTurn, stays_there, goes_by, op_behind}
 use Rattle.gup_law_turns.proofs.ScriptPlaces.{fresh_place}
@@ -61,7 +64,7 @@ pub record IsGoing (place : Place) (p : ℕ) (s t : CoreState) (whats : List Wha
 abbrev pub IsAboutHandle : (a : ℕ) → List CoreEvent → Type 0
 IsAboutHandle a es = (h : ℕ) × AreHandleEvents a h es
 
-about_unpin : (a h : ℕ) (holds : Bool) (pinned : List ℕ) → AreHandleEvents a h (unpin_turn_by holds a h pinned).events
+pub about_unpin : (a h : ℕ) (holds : Bool) (pinned : List ℕ) → AreHandleEvents a h (unpin_turn_by holds a h pinned).events
 about_unpin a h false pinned = tt
 about_unpin a h true pinned = (unpinning (last_of pinned) (but_last pinned), tt)
 
@@ -83,6 +86,11 @@ about_by : (a h : ℕ) (birth : Birth) (refused turn : CoreTurn) → refused.eve
 about_by a h failed refused turn none about = subst (AreHandleEvents a h) (sym none) tt
 about_by a h birth refused turn none about = about
 
+-- and the slots that it empties are none
+about_at : (s : CoreState) (who : Doer) (h : ℕ) (birth : Birth) (refused turn : CoreTurn) → refused.events ≡ [] → AreHandleEvents who.actor h turn.events → AreHandleEvents who.actor h (emptying s who.actor (turn_at birth refused turn)).events
+about_at s who h birth refused turn none about =
+    about_emptying s who.actor h (turn_at birth refused turn) (about_by who.actor h birth refused turn none about)
+
 abbrev IsTurnGoing : CoreState → Doer → Place → CoreTurn → List What → Type 0
 IsTurnGoing s who place turn whats =
     IsAboutHandle who.actor turn.events ⊎ IsGoing place who.proc s (run s turn.events) whats
@@ -91,25 +99,25 @@ going_by : {place : Place} {whats : List What} (s : CoreState) (who : Doer) (far
 going_by s who far (Unpin handle) own later =
     inl (
       handle,
-      about_by who.actor handle (birth_for s.birth who) (failed_turn who.actor who.proc (Unpin handle)) (unpin_turn s who.actor handle) refl
+      about_at s who handle (birth_for s.birth who) (failed_turn who.actor who.proc (Unpin handle)) (unpin_turn s who.actor handle) refl
           (about_unpin who.actor handle (is_held_by (s.handle handle) who.actor) (s.pinned handle)),
     )
 going_by s who far (Give handle to) own later =
     inl (
       handle,
-      about_by who.actor handle (birth_for s.birth who) (failed_turn who.actor who.proc (Give handle to)) (give_turn s who.actor handle to) refl
+      about_at s who handle (birth_for s.birth who) (failed_turn who.actor who.proc (Give handle to)) (give_turn s who.actor handle to) refl
           (about_give who.actor handle to (is_held_by (s.handle handle) who.actor)),
     )
 going_by s who far (Take handle) own later =
     inl (
       handle,
-      about_by who.actor handle (birth_for s.birth who) (failed_turn who.actor who.proc (Take handle)) (take_turn who.actor handle) refl
+      about_at s who handle (birth_for s.birth who) (failed_turn who.actor who.proc (Take handle)) (take_turn who.actor handle) refl
           (taking_over, tt),
     )
 going_by s who far (Transfer handle outward slot parts) own later =
     inl (
       handle,
-      about_by who.actor handle (birth_for s.birth who) (failed_turn who.actor who.proc (Transfer handle outward slot parts)) (transfer_turn s who.actor who.slots handle outward slot parts far) refl
+      about_at s who handle (birth_for s.birth who) (failed_turn who.actor who.proc (Transfer handle outward slot parts)) (transfer_turn s who.actor who.slots handle outward slot parts far) refl
           (about_transfer (transfer_denial (s.handle handle) who.actor outward who.slots slot parts) s who.actor handle outward (far + 1 == words_of parts) (word_at parts far) (slot + far)),
     )
 going_by s who far op own later = inr (record { birth = inl (own tt); later = later })
@@ -119,19 +127,19 @@ unborn_silent : (a p : ℕ) (op : Op) → IsTrue (refuses op answers.Unborn) →
 unborn_silent a p (Fork child) refusal = absurd (cc refusal)
 unborn_silent a p op refusal = refl
 
-failed_taken : (s : CoreState) (who : Doer) (far : ℕ) (op : Op) → birth_for s.birth who ≡ failed → failed_turn who.actor who.proc op ≡ core_turn_by s who far (Some op) None
+failed_taken : (s : CoreState) (who : Doer) (far : ℕ) (op : Op) → birth_for s.birth who ≡ failed → emptying s who.actor (failed_turn who.actor who.proc op) ≡ core_turn_by s who far (Some op) None
 failed_taken s who far op birth =
-    ap (λ (b : Birth). turn_at b (failed_turn who.actor who.proc op) (op_turn s who.actor who.proc who.slots far op)) (sym birth)
+    ap (λ (b : Birth). emptying s who.actor (turn_at b (failed_turn who.actor who.proc op) (op_turn s who.actor who.proc who.slots far op))) (sym birth)
 
 pub still_or_going : {place : Place} {from to : JobPlace} {whats : List What} {op : Option Op} {waiting : Option Waiting} (s : CoreState) (who : Doer) (far : ℕ) → TurnAt (plain_of s) (references_of s) who place op waiting from whats to → IsTurnGoing s who place (core_turn_by s who far op waiting) whats
 still_or_going s who far (idles waiting at) = inl (0, tt)
 still_or_going s who far (waits op waiting at) = inl (0, tt)
 still_or_going s who far (goes op whats from to birth own turn) = going_by s who far op own (ahead_on (op_behind s (Some op) turn))
 still_or_going s who far (unborn_refused op birth first refusal) =
-    let none : (core_turn_by s who far (Some op) None).events ≡ [] = ap (λ (turn : CoreTurn). turn.events) (sym (failed_taken s who far op birth)) ∙ unborn_silent who.actor who.proc op refusal in
-    inl (0, subst (AreHandleEvents who.actor 0) (sym none) tt)
+    let silent : AreHandleEvents who.actor 0 (failed_turn who.actor who.proc op).events = subst (AreHandleEvents who.actor 0) (sym (unborn_silent who.actor who.proc op refusal)) tt in
+    inl (0, subst (λ (turn : CoreTurn). AreHandleEvents who.actor 0 turn.events) (failed_taken s who far op birth) (about_emptying s who.actor 0 (failed_turn who.actor who.proc op) silent))
 still_or_going {place = place} s who far (unborn_fork child birth own first) =
-    let kept : (run s (core_turn_by s who far (Some (Fork child)) None).events).entry who.proc ≡ s.entry who.proc = subst (λ (turn : CoreTurn). (run s turn.events).entry who.proc ≡ s.entry who.proc) (failed_taken s who far (Fork child) birth) refl in
+    let kept : (run s (core_turn_by s who far (Some (Fork child)) None).events).entry who.proc ≡ s.entry who.proc = subst (λ (turn : CoreTurn). (run s turn.events).entry who.proc ≡ s.entry who.proc) (failed_taken s who far (Fork child) birth) (emptying_reads (λ t. t.entry who.proc) (λ f t. refl) s who.actor (failed_turn who.actor who.proc (Fork child))) in
     inr (record { birth = inr (own, kept); later = λ k ahead. ahead_next place.answered k ahead })
 
 -- only an actor that waits for no birth comes into the middle of an operation

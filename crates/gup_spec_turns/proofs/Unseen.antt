@@ -1,5 +1,5 @@
 -- Of mirrors only their slots are kept: what is filled in them changes nothing else, and so does emptying them before a turn.
-use Rattle.std.proofs.Common.{◌≡◌, ℕ, ◌+◌, Bool, true, false, List, [], ◌∷◌, ◌++◌, Option, refl, sym, subst, zero, suc, if◌then◌else◌}
+use Rattle.std.proofs.Common.{◌≡◌, ℕ, ◌+◌, Bool, true, false, List, [], ◌∷◌, ◌++◌, Option, refl, sym, ap, ◌∙◌, subst, zero, suc, if◌then◌else◌}
 use Rattle.gup_spec_events.specs.State.{CoreState}
 use Rattle.gup_spec_events.specs.Event.{CoreEvent, happens, run, take_frame, fill, count_one, set_mark, upgrade, break_entry, put_entry, raise_flag, pin_page, make_handle, unpin_page, give_handle, take_handle, get_reference, put_reference, clear_entry, count_moved, place_frame, restore_entry, begin_fork, count_page, share_entry, share_mark, share_child, copy_word, place_child, pass_page, end_fork, fail_fork, put_child, fail_unborn, map_pages, lower_entry, protect_pages, drop_entry, discard_entry, load, store, move_out, move_in, empty_mirror, fill_mirror, look, enter_walk, read_sequence, read_entry, grab_frame, miss_frame, recheck_same, recheck_other, read_mark, read_again, drop_grab, drop_last, drop_first, leave_walk}
 use Rattle.gup_spec_turns.specs.CoreTurn.{CoreTurn}
@@ -83,7 +83,7 @@ run_after s [] es = refl
 run_after s (e ∷ before) es = run_after (happens s e) before es
 
 -- the emptying of slots changes nothing else
-empties_unseen : (s t : CoreState) (a : ℕ) (es : List CoreEvent) (m n : ℕ) → IsButFor s (run s (empties t a es m n))
+pub empties_unseen : (s t : CoreState) (a : ℕ) (es : List CoreEvent) (m n : ℕ) → IsButFor s (run s (empties t a es m n))
 empties_unseen s t a es m zero = refl
 empties_unseen s t a es m (suc n) = go (is_stale es (t.mirrored m) (t.slot m)) (empties_unseen s t a es (m + 1) n) (empties_unseen (happens s (empty_mirror a m)) t a es (m + 1) n)
   where
@@ -99,3 +99,9 @@ emptying_unseen s a turn =
     let at_front : t ≡ mirroring t.mirrored s = empties_unseen s s a turn.events 0 mirror_slots in
     subst (λ (u : CoreState). IsButFor (run s turn.events) u) (sym (run_after s before turn.events))
     (subst (λ (u : CoreState). IsButFor (run s turn.events) (run u turn.events)) (sym at_front) (run_unseen t.mirrored s turn.events))
+
+-- so whatever doesn't read them is the same
+pub emptying_reads : {X : Type 0} (read_in : CoreState → X) → ((filled : ℕ → Option ℕ) (t : CoreState) → read_in (mirroring filled t) ≡ read_in t) → (s : CoreState) (a : ℕ) (turn : CoreTurn) → read_in (run s (emptying s a turn).events) ≡ read_in (run s turn.events)
+emptying_reads read_in unseen s a turn =
+    let t : CoreState = run s (emptying s a turn).events in
+    ap read_in (emptying_unseen s a turn) ∙ unseen t.mirrored (run s turn.events)

@@ -1,0 +1,116 @@
+-- What the emptying of slots at the front of a turn comes to: it can happen, it says nothing, and it leaves no slot of a page that the
+-- turn invalidates filled.
+use Rattle.std.proofs.Common.{◌≡◌, ℕ, ◌+◌, ◌<◌, ◌≤◌, ◌==◌, Bool, true, false, List, [], ◌∷◌, ◌++◌, Option, Some, None, IsSome, refl, sym, ap, ◌∙◌, subst, zero, suc, if◌then◌else◌, ◌⊎◌, inl, inr, eq-or-lt_of_le, arith}
+use Rattle.std.proofs.lemmas.Bool.Decides.{nat_tests}
+use Rattle.gup_plain.specs.State.{Noted}
+use Rattle.gup_spec_events.specs.State.{CoreState}
+use Rattle.gup_spec_events.specs.Event.{CoreEvent, happens, run, empty_mirror}
+use Rattle.gup_spec_events.specs.Invariant.{AllCan}
+use Rattle.gup_law_events.specs.Law.{all_told}
+use Rattle.gup_spec_turns.specs.CoreTurn.{CoreTurn}
+use Rattle.gup_spec_turns.specs.Emptying.{has_page, invalidated_by, invalidate, is_stale, empties, emptying, mirror_slots}
+use Rattle.gup_law_turns.proofs.CalmStates.{Strand, AreTurnEvents, AreHandleEvents, IsHandleEvent, emptying_slot, unpinning}
+
+-- ---- a turn that invalidates nothing
+
+stale_by : (es : List CoreEvent) → ((p g : ℕ) → invalidate es p g ≡ false) → (frame : Option ℕ) (noted : Option Noted) → is_stale es frame noted ≡ false
+stale_by es none None noted = refl
+stale_by es none (Some f) None = refl
+stale_by es none (Some f) (Some noted) = none noted.proc noted.page
+
+pub none_emptied : (s : CoreState) (a : ℕ) (es : List CoreEvent) (m n : ℕ) → ((p g : ℕ) → invalidate es p g ≡ false) → empties s a es m n ≡ []
+none_emptied s a es m zero none = refl
+none_emptied s a es m (suc n) none = rw (stale_by es none (s.mirrored m) (s.slot m)) (none_emptied s a es (m + 1) n none)
+
+handle_none : (a h p g : ℕ) {e : CoreEvent} → IsHandleEvent a h e → has_page (invalidated_by e) p g ≡ false
+handle_none a h p g (unpinning f left) = refl
+handle_none a h p g event = refl
+
+handles_none : (a h : ℕ) (es : List CoreEvent) → AreHandleEvents a h es → (p g : ℕ) → invalidate es p g ≡ false
+handles_none a h [] about p g = refl
+handles_none a h (e ∷ es) about p g = rw (handle_none a h p g about.0) (handles_none a h es about.1 p g)
+
+-- so a turn about a handle is as it was
+pub about_same : (s : CoreState) (a h : ℕ) (turn : CoreTurn) → AreHandleEvents a h turn.events → emptying s a turn ≡ turn
+about_same s a h turn about =
+    ap (λ (es : List CoreEvent). record { events = es ++ turn.events; whats = turn.whats }) (none_emptied s a turn.events 0 mirror_slots (handles_none a h turn.events about))
+
+pub about_emptying : (s : CoreState) (a h : ℕ) (turn : CoreTurn) → AreHandleEvents a h turn.events → AreHandleEvents a h (emptying s a turn).events
+about_emptying s a h turn about = subst (λ (t : CoreTurn). AreHandleEvents a h t.events) (sym (about_same s a h turn about)) about
+
+-- ---- the events that empty slots
+
+pub empties_kinds : (s : CoreState) (a p c : ℕ) (strand : Strand) (es : List CoreEvent) (m n : ℕ) → AreTurnEvents a p c strand (empties s a es m n)
+empties_kinds s a p c strand es m zero = tt
+empties_kinds s a p c strand es m (suc n) = go (is_stale es (s.mirrored m) (s.slot m)) (empties_kinds s a p c strand es (m + 1) n)
+  where
+    go : (stale : Bool) → AreTurnEvents a p c strand (empties s a es (m + 1) n) → AreTurnEvents a p c strand ((if stale then empty_mirror a m ∷ [] else []) ++ empties s a es (m + 1) n)
+    go true kinds = (emptying_slot m, kinds)
+    go false kinds = kinds
+
+pub empties_told : (s : CoreState) (a : ℕ) (es : List CoreEvent) (m n : ℕ) → all_told (empties s a es m n) ≡ []
+empties_told s a es m zero = refl
+empties_told s a es m (suc n) = go (is_stale es (s.mirrored m) (s.slot m)) (empties_told s a es (m + 1) n)
+  where
+    go : (stale : Bool) → all_told (empties s a es (m + 1) n) ≡ [] → all_told ((if stale then empty_mirror a m ∷ [] else []) ++ empties s a es (m + 1) n) ≡ []
+    go true none = none
+    go false none = none
+
+stale_filled : (es : List CoreEvent) (frame : Option ℕ) (noted : Option Noted) → is_stale es frame noted ≡ true → IsSome frame
+stale_filled es None noted stale = cc stale
+stale_filled es (Some f) noted stale = refl
+
+other_slot : (m k : ℕ) (filled : ℕ → Option ℕ) → m < k → (if k == m then None else filled k) ≡ filled k
+other_slot m k filled less = go (k == m) refl
+  where
+    go : (t : Bool) → (k == m) ≡ t → (if t then None else filled k) ≡ filled k
+    go true same = absurd (grind (arith, nat_tests, same, less))
+    go false other = refl
+
+-- in a state in which the slots from m on are as they were
+pub empties_can : (s t : CoreState) (a : ℕ) (es : List CoreEvent) (m n : ℕ) → ((k : ℕ) → m ≤ k → t.mirrored k ≡ s.mirrored k) → AllCan t (empties s a es m n)
+empties_can s t a es m zero same = tt
+empties_can s t a es m (suc n) same =
+    go (is_stale es (s.mirrored m) (s.slot m)) refl
+    (empties_can s t a es (m + 1) n (λ k most. same k (omega (arith, most))))
+    (empties_can s (happens t (empty_mirror a m)) a es (m + 1) n (λ k most. other_slot m k t.mirrored (omega (arith, most)) ∙ same k (omega (arith, most))))
+  where
+    go : (stale : Bool) → is_stale es (s.mirrored m) (s.slot m) ≡ stale → AllCan t (empties s a es (m + 1) n) → AllCan (happens t (empty_mirror a m)) (empties s a es (m + 1) n) → AllCan t ((if stale then empty_mirror a m ∷ [] else []) ++ empties s a es (m + 1) n)
+    go true is left emptied = (subst IsSome (sym (same m (omega arith))) (stale_filled es (s.mirrored m) (s.slot m) is), emptied)
+    go false is left emptied = left
+
+-- they fill none
+pub empties_fill : (s t : CoreState) (a : ℕ) (es : List CoreEvent) (m n k f : ℕ) → (run t (empties s a es m n)).mirrored k ≡ Some f → t.mirrored k ≡ Some f
+empties_fill s t a es m zero k f filled = filled
+empties_fill s t a es m (suc n) k f filled =
+    go (is_stale es (s.mirrored m) (s.slot m)) (empties_fill s t a es (m + 1) n k f) (empties_fill s (happens t (empty_mirror a m)) a es (m + 1) n k f) filled
+  where
+    kept : (b : Bool) → (if b then None else t.mirrored k) ≡ Some f → t.mirrored k ≡ Some f
+    kept true is = absurd (cc is)
+    kept false is = is
+
+    go : (stale : Bool) → ((run t (empties s a es (m + 1) n)).mirrored k ≡ Some f → t.mirrored k ≡ Some f) → ((run (happens t (empty_mirror a m)) (empties s a es (m + 1) n)).mirrored k ≡ Some f → (happens t (empty_mirror a m)).mirrored k ≡ Some f) → (run t ((if stale then empty_mirror a m ∷ [] else []) ++ empties s a es (m + 1) n)).mirrored k ≡ Some f → t.mirrored k ≡ Some f
+    go true left emptied is = kept (k == m) (emptied is)
+    go false left emptied is = left is
+
+-- and a slot that is left filled isn't stale
+pub empties_leave : (s t : CoreState) (a : ℕ) (es : List CoreEvent) (m n k f : ℕ) → m ≤ k → k < m + n → (run t (empties s a es m n)).mirrored k ≡ Some f → is_stale es (s.mirrored k) (s.slot k) ≡ false
+empties_leave s t a es m zero k f least most filled = absurd (omega (arith, least, most))
+empties_leave s t a es m (suc n) k f least most filled =
+    go (is_stale es (s.mirrored m) (s.slot m)) refl (eq-or-lt_of_le least) filled
+    (λ less. empties_leave s t a es (m + 1) n k f less (omega (arith, most)))
+    (λ less. empties_leave s (happens t (empty_mirror a m)) a es (m + 1) n k f less (omega (arith, most)))
+    (empties_fill s (happens t (empty_mirror a m)) a es (m + 1) n k f)
+  where
+    emptied_here : (k ≡ m) → (if k == m then None else t.mirrored k) ≡ Some f → ⊥
+    emptied_here same = go (k == m) refl
+      where
+        go : (b : Bool) → (k == m) ≡ b → (if b then None else t.mirrored k) ≡ Some f → ⊥
+        go true is filled = cc filled
+        go false other filled = grind (arith, nat_tests, other, same)
+
+    go : (stale : Bool) → is_stale es (s.mirrored m) (s.slot m) ≡ stale → (m ≡ k) ⊎ (m < k) → (run t ((if stale then empty_mirror a m ∷ [] else []) ++ empties s a es (m + 1) n)).mirrored k ≡ Some f → (m + 1 ≤ k → (run t (empties s a es (m + 1) n)).mirrored k ≡ Some f → is_stale es (s.mirrored k) (s.slot k) ≡ false) → (m + 1 ≤ k → (run (happens t (empty_mirror a m)) (empties s a es (m + 1) n)).mirrored k ≡ Some f → is_stale es (s.mirrored k) (s.slot k) ≡ false) → ((run (happens t (empty_mirror a m)) (empties s a es (m + 1) n)).mirrored k ≡ Some f → (happens t (empty_mirror a m)).mirrored k ≡ Some f) → is_stale es (s.mirrored k) (s.slot k) ≡ false
+    go true is (inl same) filled left emptied fill = absurd (emptied_here (sym same) (fill filled))
+    go true is (inr less) filled left emptied fill = emptied (omega (arith, less)) filled
+    go false is (inl same) filled left emptied fill = subst (λ (j : ℕ). is_stale es (s.mirrored j) (s.slot j) ≡ false) same is
+    go false is (inr less) filled left emptied fill = left (omega (arith, less)) filled
