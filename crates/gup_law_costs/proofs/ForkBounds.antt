@@ -1,6 +1,6 @@
 -- What a turn of any operation does to mapped pages and jobs, and what it takes of the cost: a fork's, and the others'.
 use Rattle.std.proofs.Common.{◌≡◌, ℕ, ◌+◌, ◌-◌, ◌*◌, ◌<◌, ◌≤◌, ◌==◌, ◌++◌, Bool, true, false, is_some, List, [], ◌∷◌, length, Option, Some, None, inl, inr, refl, ap, sym, subst, ◌∙◌, zero, suc, arith, nat_lt, eqb-true}
-use Rattle.std.specs.Prelude.{Ok, Err, ◌⊎◌, ◌&&◌, not, if◌then◌else◌}
+use Rattle.std.specs.Prelude.{Ok, Err, ◌&&◌, not, if◌then◌else◌}
 use Rattle.std.proofs.lemmas.Bool.Decides.{nat_tests}
 use Rattle.gup_base.specs.declared.entry.Entry.{Entry}
 use Rattle.gup_base.specs.declared.entry.Allowed.TheVariants.{Only}
@@ -21,7 +21,7 @@ use Rattle.gup_spec_events.specs.Fault.{Fault}
 use Rattle.gup_spec_events.specs.Failure.{are_gone, puts_entry, puts_entries, fails}
 use Rattle.gup_spec_events.proofs.Gone.{no_puts}
 use Rattle.gup_law_base.specs.Sound.{Forking, forking_of}
-use Rattle.gup_spec_journal.specs.Place.{Place, Doer, birth_by, birth_for, place_behind}
+use Rattle.gup_spec_journal.specs.Place.{Place, place_behind}
 use Rattle.gup_spec_turns.specs.Cost.{mapped_by, fork_turns, fork_left, move_turns, pin_turns, walk_turns, pins_turns, IsAnswered, GoesOn, IsWithinBound}
 use Rattle.gup_plain.specs.Pages.{mapped_pages}
 use Rattle.gup_spec_turns.specs.Pages.{pages_from}
@@ -33,7 +33,7 @@ use Rattle.gup_spec_turns.specs.WalkTurns.{begin_turn, walk_turn}
 use Rattle.gup_spec_turns.specs.ForkTurns.{first_behind, next_page, page_turn, next_turn, share_turn, frame_turn, copy_turn, copying_turn, fork_turn}
 use Rattle.gup_spec_turns.specs.MoveTurns.{restores, place_turn, counted_turn, move_turn}
 use Rattle.gup_spec_turns.proofs.TurnParts.{clear_turn_by}
-use Rattle.gup_spec_turns.specs.Turn.{op_turn, turn_at, failed_turn, turn_of}
+use Rattle.gup_spec_turns.specs.Turn.{op_turn, failed_turn}
 use Rattle.gup_law_costs.proofs.PageBounds.{StandsShort, IsMoved, still, TakesCost, takes_cost}
 use Rattle.gup_law_costs.proofs.WalkBounds.{LeavesOthers, stays, IsWalked, begins, walked, begin_more, walk_more}
 use Rattle.gup_law_costs.proofs.PinBounds.{LeavesPages, FaultLeaves, leaves_both, pin_fault_leaves, raises_leave, pinned_leaves, op_moved, kept_rights}
@@ -767,30 +767,15 @@ module _ (s : CoreState) (a p : ℕ) (place : Place) where
   StandsAt op = (s.job a ≡ idle) × StandsShort s a op place
 
   -- every operation of a born process, or of whoever waits for no birth
-  op_spent : (slots : ℕ) (op : Op) → (IsOfProcess op → s.birth p ≡ born) → mapped_pages (s.right p) ≤ 1024 → StandsAt op → IsSpent s a p place op (op_turn s a p slots place.far op)
+  pub op_spent : (slots : ℕ) (op : Op) → (IsOfProcess op → s.birth p ≡ born) → mapped_pages (s.right p) ≤ 1024 → StandsAt op → IsSpent s a p place op (op_turn s a p slots place.far op)
   op_spent slots (Pin handle page n want fast) birth few stands = pin_spent handle page n want fast (s.job a) refl stands
   op_spent slots (Move proc page zone) birth few stands = move_spent proc page zone (s.job a) refl stands
   op_spent slots (Fork child) birth few stands = fork_spent child (s.job a) refl stands few
   op_spent slots op birth few stands = search (page_op_spent slots op refl, handle_op_spent slots op refl, birth, stands)
 
   -- every operation of a failed process
-  failed_spent : (op : Op) → s.birth p ≡ failed → ((k : Forking) → forking_of (s.job a) ≡ Some k → s.birth k.proc ≡ born) → StandsAt op → IsSpent s a p place op (failed_turn a p op)
+  pub failed_spent : (op : Op) → s.birth p ≡ failed → ((k : Forking) → forking_of (s.job a) ≡ Some k → s.birth k.proc ≡ born) → StandsAt op → IsSpent s a p place op (failed_turn a p op)
   failed_spent (Pin handle page n want fast) lost parent stands = unborn_pinned handle page n want fast (s.job a) refl stands lost
   failed_spent (Move proc page zone) lost parent stands = unborn_moved proc page zone (s.job a) refl stands lost
   failed_spent (Fork child) lost parent stands = unborn_by child (s.job a) refl stands parent lost
   failed_spent op lost parent stands = refused_spent op refl stands
-
--- whatever waits for a birth is of a process
-failed_proc : (who : Doer) (births : ℕ → Birth) → birth_for births who ≡ failed → births who.proc ≡ failed
-failed_proc who births is = go who.of_process is
-  where
-    go : (t : Bool) → birth_by t (births who.proc) ≡ failed → births who.proc ≡ failed
-    go true lost = lost
-    go false lost = absurd (cc lost)
-
--- the turn of whoever is of a born process, or of a failed one
-pub turn_spent : (s : CoreState) (who : Doer) (place : Place) (op : Op) → (birth_for s.birth who ≡ born) ⊎ (birth_for s.birth who ≡ failed) → (IsOfProcess op → s.birth who.proc ≡ birth_for s.birth who) → ((k : Forking) → forking_of (s.job who.actor) ≡ Some k → s.birth k.proc ≡ born) → mapped_pages (s.right who.proc) ≤ 1024 → StandsAt s who.actor who.proc place op → IsSpent s who.actor who.proc place op (turn_of s who place.far op)
-turn_spent s who place op (inl birth) own parent few stands =
-    subst (λ (b : Birth). IsSpent s who.actor who.proc place op (turn_at b (failed_turn who.actor who.proc op) (op_turn s who.actor who.proc who.slots place.far op))) (sym birth) (op_spent s who.actor who.proc place who.slots op (λ of. own of ∙ birth) few stands)
-turn_spent s who place op (inr lost) own parent few stands =
-    subst (λ (b : Birth). IsSpent s who.actor who.proc place op (turn_at b (failed_turn who.actor who.proc op) (op_turn s who.actor who.proc who.slots place.far op))) (sym lost) (failed_spent s who.actor who.proc place op (failed_proc who s.birth lost) parent stands)

@@ -22,9 +22,12 @@ use Rattle.gup_spec_turns.specs.JobPlace.{JobPlace, job_place, place_in, IsForki
 use Rattle.gup_law_turns.specs.Standing.{IsStanding, StandsHandle, given_back, back_in}
 use Rattle.gup_spec_turns.specs.Run.{RunState, run_start, run_after, op_in, waiting_in, waiting_with, core_turn_by, core_turn_in, is_ready, can_go}
 use Rattle.gup_spec_turns.specs.Waits.{waits_born}
-use Rattle.gup_spec_turns.specs.Turn.{turn_at, failed_turn, op_turn}
+use Rattle.gup_spec_turns.specs.CoreTurn.{CoreTurn}
+use Rattle.gup_spec_turns.specs.Turn.{turn_at, failed_turn, op_turn, turn_of}
+use Rattle.gup_spec_turns.proofs.Unseen.{emptying_unseen}
 use Rattle.gup_law_costs.proofs.PageBounds.{TakesCost}
-use Rattle.gup_law_costs.proofs.ForkBounds.{IsSpent, StandsAt, place_by, turn_spent}
+use Rattle.gup_law_costs.proofs.ForkBounds.{IsSpent, StandsAt, place_by}
+use Rattle.gup_law_costs.proofs.EmptyingBounds.{turn_spent}
 use Rattle.gup_law_turns.proofs.MappedCounts.{mapped_none}
 use Rattle.gup_law_turns.proofs.Puts.{put_same, put_other, put_own}
 use Rattle.gup_law_costs.proofs.PinBounds.{kept_rights}
@@ -208,12 +211,19 @@ kept_at : (s : CoreState) (who : Doer) (far : ℕ) (op : Op) (b : Birth) → (Is
 kept_at s who far op failed none = kept_failed s who.actor who.proc op none
 kept_at s who far op b none = kept_rights s who.actor who.proc who.slots far op none
 
+-- and whatever slots it empties first
+kept_of : (s : CoreState) (who : Doer) (far : ℕ) (op : Op) → (IsOfProcess op → ⊥) → (run s (turn_of s who far op).events).right ≡ s.right
+kept_of s who far op none =
+    let b : Birth = birth_for s.birth who in
+    let turn : CoreTurn = turn_at b (failed_turn who.actor who.proc op) (op_turn s who.actor who.proc who.slots far op) in
+    ap (λ (t : CoreState). t.right) (emptying_unseen s who.actor turn) ∙ kept_at s who far op b none
+
 kept_turn : (script : ScriptValue) (r : RunState) (a : ℕ) (op : Op) → op_in script r a ≡ Some op → waiting_in script r a ≡ None → (IsOfProcess op → ⊥) → (run r.core (core_turn_in script r a).events).right ≡ r.core.right
 kept_turn script r a op is free none =
     let who : Doer = doer_of script a (Some op) in
     let far : ℕ = (r.places a).far in
     let P : Option Op → Option Waiting → Type 0 = λ o w. (run r.core (core_turn_by r.core (doer_of script a o) far o w).events).right ≡ r.core.right in
-    let kept : P (Some op) None = kept_at r.core who far op (birth_for r.core.birth who) none in
+    let kept : P (Some op) None = kept_of r.core who far op none in
     subst (λ (w : Option Waiting). P (op_in script r a) w) (sym free) (subst (λ (o : Option Op). P o None) (sym is) kept)
 
 -- the mapped pages of all processes change as those of the one process do
