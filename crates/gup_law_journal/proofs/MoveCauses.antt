@@ -22,7 +22,7 @@ use Rattle.gup_spec_journal.specs.Follows.{refuses}
 use Rattle.gup_spec_journal.specs.Place.{Place, Doer, doer_of, birth_for}
 use Rattle.gup_spec_journal.specs.Order.{waiting_at}
 use Rattle.gup_spec_turns.specs.Cause.{FindsUntouched, UntouchedExactly, HasCountedMore, BusyExactly}
-use Rattle.gup_spec_turns.specs.CoreTurn.{CoreTurn, free_in}
+use Rattle.gup_spec_turns.specs.CoreTurn.{free_in}
 use Rattle.gup_spec_turns.specs.JobPlace.{JobPlace, job_place, place_in, moving_page}
 use Rattle.gup_spec_turns.specs.MoveTurns.{place_turn, move_turn}
 use Rattle.gup_spec_turns.specs.Run.{RunState, turned, run_start, run_after, op_in, waiting_with, waiting_in, core_turn_by, core_turn_in, turn_in}
@@ -147,15 +147,15 @@ module _ (script : ScriptValue) (valid : IsScript script) (r : RunState) (h : St
   abbrev s : CoreState
   s = r.core
 
-  -- the turn of a move that waits for nothing, of a born process
-  move_now : (p page : ℕ) (zone : Zone) → op_in script r a ≡ Some (Move p page zone) → waiting_in script r a ≡ None → s.birth p ≡ born → core_turn_in script r a ≡ move_turn s a p page zone (s.job a)
-  move_now p page zone is free birth =
-      ap (λ (w : Option Waiting). core_turn_by s (doer_of script a (op_in script r a)) (r.places a).far (op_in script r a) w) free
-      ∙ ap (λ (o : Option Op). core_turn_by s (doer_of script a o) (r.places a).far o None) is
-      ∙ ap (λ (b : Birth). turn_at b (failed_turn a p (Move p page zone)) (move_turn s a p page zone (s.job a))) birth
-
   abbrev Whats : List What
   Whats = (core_turn_in script r a).whats
+
+  -- what the turn of a move says that waits for nothing, of a born process
+  move_now : (p page : ℕ) (zone : Zone) → op_in script r a ≡ Some (Move p page zone) → waiting_in script r a ≡ None → s.birth p ≡ born → Whats ≡ (move_turn s a p page zone (s.job a)).whats
+  move_now p page zone is free birth =
+      ap (λ (w : Option Waiting). (core_turn_by s (doer_of script a (op_in script r a)) (r.places a).far (op_in script r a) w).whats) free
+      ∙ ap (λ (o : Option Op). (core_turn_by s (doer_of script a o) (r.places a).far o None).whats) is
+      ∙ ap (λ (b : Birth). (turn_at b (failed_turn a p (Move p page zone)) (move_turn s a p page zone (s.job a))).whats) birth
 
   shape_says : HaveCause (Goes (plain_of s) (doer_of script a (op_in script r a)) (op_in script r a) (waiting_in script r a)) (λ count. Goes (plain_of s) (doer_of script a (op_in script r a)) (op_in script r a) (waiting_in script r a)) Whats
   shape_says = turn_goes (taken script valid r h a).shape
@@ -170,7 +170,7 @@ module _ (script : ScriptValue) (valid : IsScript script) (r : RunState) (h : St
 
     causes : HaveCause (IsUntouched s a p page zone (r.places a)) (IsBusy s a p page zone (r.places a)) Whats
     causes =
-        subst (λ (turn : CoreTurn). HaveCause (IsUntouched s a p page zone (r.places a)) (IsBusy s a p page zone (r.places a)) turn.whats)
+        subst (HaveCause (IsUntouched s a p page zone (r.places a)) (IsBusy s a p page zone (r.places a)))
         (sym (move_now p page zone is free born_now)) (move_cause s a p page zone (r.places a) (s.job a) refl fits_now)
 
     finds_untouched : Contains Whats (Done answers.Untouched) → FindsUntouched script r a
@@ -197,8 +197,8 @@ module _ (script : ScriptValue) (valid : IsScript script) (r : RunState) (h : St
 
   untouched_always : FindsUntouched script r a → Contains Whats (Done answers.Untouched)
   untouched_always (p, page, zone, is, free, birth, job, some, none) =
-      let turn = move_now p page zone is free birth ∙ ap (move_turn s a p page zone) job in
-      let says : Whats ≡ Done answers.Untouched ∷ [] = ap (λ (u : CoreTurn). u.whats) turn ∙ clear_says s a p page zone (r.places a) (s.right p page) (s.entry p page) some none in
+      let turn = move_now p page zone is free birth ∙ ap (λ (j : Job). (move_turn s a p page zone j).whats) job in
+      let says : Whats ≡ Done answers.Untouched ∷ [] = turn ∙ clear_says s a p page zone (r.places a) (s.right p page) (s.entry p page) some none in
       subst (λ (whats : List What). Contains whats (Done answers.Untouched)) (sym says) (0, omega arith, refl)
 
   pub untouched_exactly : UntouchedExactly script r (turn_in script r a)
@@ -216,8 +216,8 @@ module _ (script : ScriptValue) (valid : IsScript script) (r : RunState) (h : St
       let job = moving_job g e (counted_more count) (s.job a) (s.prepared a) place in
       let fits = subst (λ (j : Job). FitsMove s a p page zone (r.places a) j) job.2 ((subst (λ (o : Option Op). FitsAt s (doer_of script a o) o (r.places a)) is (h.fits a)).2) in
       let birth = fits.1.4.birth in
-      let turn = move_now p page zone is (counted_goes p page job.0 g zone e job.1 (counted_more count) is birth job.2) birth ∙ ap (move_turn s a p page zone) job.2 in
-      subst (λ (turn : CoreTurn). Contains turn.whats (Done (answers.Busy count))) (sym turn) (0, omega arith, refl)
+      let turn = move_now p page zone is (counted_goes p page job.0 g zone e job.1 (counted_more count) is birth job.2) birth ∙ ap (λ (j : Job). (move_turn s a p page zone j).whats) job.2 in
+      subst (λ (whats : List What). Contains whats (Done (answers.Busy count))) (sym turn) (0, omega arith, refl)
 
   pub busy_exactly : BusyExactly script r (turn_in script r a)
   busy_exactly = λ count. (busy_only count, busy_always count)

@@ -25,7 +25,6 @@ use Rattle.gup_spec_journal.specs.Plain.{refusal_by_cause}
 use Rattle.gup_plain.specs.State.{PlainState, Birth, born}
 use Rattle.gup_spec_journal.specs.Order.{waiting_at}
 use Rattle.gup_spec_turns.specs.Cause.{HasPinnedMore, RefusesUnmovable, UnmovableExactly}
-use Rattle.gup_spec_turns.specs.CoreTurn.{CoreTurn}
 use Rattle.gup_spec_turns.specs.JobPlace.{JobPlace, job_place, place_in, unbegun, from_page, at_page, wants_frame, at_word, moving_page, in_walk}
 use Rattle.gup_spec_turns.specs.PinPlace.{StandsAtPage}
 use Rattle.gup_spec_turns.specs.PinTurns.{ends_pin, pin_turn, pin_turn_in}
@@ -192,15 +191,15 @@ module _ (script : ScriptValue) (r : RunState) (h : Stands script r) (a handle p
       ∙ ap (λ (l : Option ℕ). waits_for_locks (both_if needed) a None l) at.4.moving.locked
       ∙ own_lock a needed
 
-  turn : core_turn_in script r a ≡ pin_turn_in s a who.proc handle page n (length (s.taken a)) want fast far (moving job.0 g e job.1 (counted_more count))
-  turn =
-      ap (λ (w : Option Waiting). core_turn_by s (doer_of script a (op_in script r a)) (r.places a).far (op_in script r a) w) free
-      ∙ ap (λ (o : Option Op). core_turn_by s (doer_of script a o) (r.places a).far o None) is
-      ∙ ap (λ (b : Birth). turn_at b (failed_turn a who.proc op) (pin_turn s a who.proc handle page n want fast far)) birth
-      ∙ ap (pin_turn_in s a who.proc handle page n (length (s.taken a)) want fast far) job.2
+  says : (core_turn_in script r a).whats ≡ (pin_turn_in s a who.proc handle page n (length (s.taken a)) want fast far (moving job.0 g e job.1 (counted_more count))).whats
+  says =
+      ap (λ (w : Option Waiting). (core_turn_by s (doer_of script a (op_in script r a)) (r.places a).far (op_in script r a) w).whats) free
+      ∙ ap (λ (o : Option Op). (core_turn_by s (doer_of script a o) (r.places a).far o None).whats) is
+      ∙ ap (λ (b : Birth). (turn_at b (failed_turn a who.proc op) (pin_turn s a who.proc handle page n want fast far)).whats) birth
+      ∙ ap (λ (j : Job). (pin_turn_in s a who.proc handle page n (length (s.taken a)) want fast far j).whats) job.2
 
   refuses_it : RefusesUnmovable (turn_in script r a).whats count
-  refuses_it = subst (λ (turn : CoreTurn). RefusesUnmovable turn.whats count) (sym turn) (ended_says _ a handle n (length (s.taken a)) count)
+  refuses_it = subst (λ (whats : List What). RefusesUnmovable whats count) (sym says) (ended_says _ a handle n (length (s.taken a)) count)
 
 pub unmovable_exactly : (script : ScriptValue) (valid : IsScript script) (r : RunState) → Stands script r → (a : ℕ) → UnmovableExactly script r (turn_in script r a)
 unmovable_exactly script valid r h a =
