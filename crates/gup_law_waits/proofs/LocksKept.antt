@@ -28,6 +28,8 @@ use Rattle.gup_spec_turns.specs.ForkTurns.{next_page, page_turn, next_turn, shar
 use Rattle.gup_spec_turns.specs.Run.{RunState, op_in, waiting_with, waiting_in, core_turn_by, core_turn_in}
 use Rattle.gup_spec_turns.specs.Turn.{turn_at, failed_turn, op_turn}
 use Rattle.gup_spec_turns.proofs.TurnParts.{clear_turn_by, waits_at}
+use Rattle.gup_spec_turns.specs.Emptying.{emptying}
+use Rattle.gup_spec_turns.proofs.Unseen.{emptying_reads, emptying_unseen}
 use Rattle.gup_law_turns.proofs.CalmStates.{MayMove}
 use Rattle.gup_spec_turns.specs.PinPlace.{StandsAtPage}
 use Rattle.gup_spec_turns.specs.PinTurns.{pins_behind, ends_moved, pins_moved, moved_turn, begins_or_pins, pin_turn_in, pin_turn}
@@ -299,9 +301,21 @@ module _ (law : Law) (script : ScriptValue) (valid : IsScript script) (r : RunSt
   abbrev pub IsStill : Type 0
   IsStill = wakes op (place_in t a) ≡ everybody → ⊥
 
+  -- The slots that a turn empties first change nothing of all this.
+  place_emptied : (u : CoreTurn) → place_in (run s (emptying s a u).events) a ≡ place_in (run s u.events) a
+  place_emptied u = emptying_reads (λ v. place_in v a) (λ f v. refl) s a u
+
+  out_emptied : (q d : ℕ) (u : CoreTurn) → KeepsOut s (run s u.events) q d → KeepsOut s (run s (emptying s a u).events) q d
+  out_emptied q d u kept =
+      subst (λ (v : CoreState). KeepsOut s v q d) (sym (emptying_unseen s a u)) (record { locked = kept.locked; absent = kept.absent; barred = kept.barred })
+
+  pages_emptied : (q : ℕ) (u : CoreTurn) → KeepsPages q s (run s u.events) → KeepsPages q s (run s (emptying s a u).events)
+  pages_emptied q u kept =
+      subst (λ (v : CoreState). KeepsPages q s v) (sym (emptying_unseen s a u)) (record { right = kept.right; entry = kept.entry; table = kept.table; unforked = kept.unforked })
+
   -- What is so of a turn without events, and of the operation's own, by the birth of its process, is so of the actor's turn.
-  turn_is : (P : CoreTurn → Type 0) (o : Op) → op ≡ Some o → ((u : CoreTurn) → u.events ≡ [] → P u) → ((b : Birth) → birth_for s.birth (doer_of script a (Some o)) ≡ b → P (turn_at b (failed_turn a (doer_of script a (Some o)).proc o) (op_turn s a (doer_of script a (Some o)).proc (doer_of script a (Some o)).slots place.far o))) → P turn
-  turn_is P o is none by_birth = go (waiting_in script r a) refl
+  turn_is : (P : CoreTurn → Type 0) (o : Op) → op ≡ Some o → ((u : CoreTurn) → P u → P (emptying s a u)) → ((u : CoreTurn) → u.events ≡ [] → P u) → ((b : Birth) → birth_for s.birth (doer_of script a (Some o)) ≡ b → P (turn_at b (failed_turn a (doer_of script a (Some o)).proc o) (op_turn s a (doer_of script a (Some o)).proc (doer_of script a (Some o)).slots place.far o))) → P turn
+  turn_is P o is unseen none by_birth = go (waiting_in script r a) refl
     where
       same : (w : Option Waiting) → waiting_in script r a ≡ w → P (core_turn_by s (doer_of script a (Some o)) place.far (Some o) w) → P turn
       same w waits there =
@@ -310,7 +324,10 @@ module _ (law : Law) (script : ScriptValue) (valid : IsScript script) (r : RunSt
 
       go : (w : Option Waiting) → waiting_in script r a ≡ w → P turn
       go (Some w) waits = same (Some w) waits (none (core_turn_by s (doer_of script a (Some o)) place.far (Some o) (Some w)) refl)
-      go None waits = same None waits (by_birth (birth_for s.birth (doer_of script a (Some o))) refl)
+      go None waits =
+          let who : Doer = doer_of script a (Some o) in
+          let b : Birth = birth_for s.birth who in
+          same None waits (unseen (turn_at b (failed_turn a who.proc o) (op_turn s a who.proc who.slots place.far o)) (by_birth b refl))
 
   -- A fork of actor d keeps the structure lock of process q: the turn of another actor gives no page of it an entry, nor one that
   -- allows a store, unless it wakes whoever waits.
@@ -334,6 +351,7 @@ module _ (law : Law) (script : ScriptValue) (valid : IsScript script) (r : RunSt
           let here : s.structure proc ≡ Some d = ap s.structure (sym own) ∙ locked in
           subst (λ (k : ℕ). KeepsOut s t k d) (sym own)
           (turn_is (λ (u : CoreTurn). (place_in (run s u.events) a ≡ unbegun → ⊥) → KeepsOut s (run s u.events) proc d) (Move proc page zone) is
+          (λ u kept never. out_emptied proc d u (kept (λ there. never (place_emptied u ∙ there))))
           (λ u none never. subst (λ (es : List CoreEvent). KeepsOut s (run s es) proc d) (sym none) (same_keeps s s proc d here refl))
           (by_birth here) (λ over. still (ap (λ (o : Option Op). wakes o (place_in t a)) is ∙ ap (wakes (Some (Move proc page zone))) over)))
         where
@@ -373,7 +391,7 @@ module _ (law : Law) (script : ScriptValue) (valid : IsScript script) (r : RunSt
               ∙ ap (λ (o : Option Op). (core_turn_by s (doer_of script a o) place.far o (Some (waitings.Holder d))).events) is in
               subst (λ (es : List CoreEvent). KeepsOut s (run s es) k d) (sym none) (same_keeps s s k d here refl)
           by_lock false needed =
-              turn_is (λ (u : CoreTurn). KeepsOut s (run s u.events) k d) (Pin handle page n want fast) is
+              turn_is (λ (u : CoreTurn). KeepsOut s (run s u.events) k d) (Pin handle page n want fast) is (out_emptied k d)
               (λ u none. subst (λ (es : List CoreEvent). KeepsOut s (run s es) k d) (sym none) (same_keeps s s k d here refl)) by_birth
             where
               by_birth : (b : Birth) → birth_for s.birth (doer script a) ≡ b → KeepsOut s (run s (turn_at b (answers_with answers.Unborn) (pin_turn s a k handle page n want fast place.far)).events) k d
@@ -402,15 +420,15 @@ module _ (law : Law) (script : ScriptValue) (valid : IsScript script) (r : RunSt
     fits_now = (subst (λ (o : Option Op). FitsAt s (doer_of script a o) o place) forks (h.fits a)).1
 
     -- what is so of a turn without events, and of the fork's, is so of its actor's
-    fork_now : (P : CoreTurn → Type 0) → ((u : CoreTurn) → u.events ≡ [] → P u) → P (fork_turn s a mine child (s.job a)) → P turn
-    fork_now P none goes =
-        turn_is P (Fork child) forks none
+    fork_now : (P : CoreTurn → Type 0) → ((u : CoreTurn) → P u → P (emptying s a u)) → ((u : CoreTurn) → u.events ≡ [] → P u) → P (fork_turn s a mine child (s.job a)) → P turn
+    fork_now P unseen none goes =
+        turn_is P (Fork child) forks unseen none
         (λ b is. subst (λ (x : Birth). P (turn_at x (failed_turn a mine (Fork child)) (fork_turn s a mine child (s.job a)))) (sym born_now ∙ is) goes)
 
     pub own_keeps : s.birth mine ≡ born → s.structure mine ≡ Some a → (answers_it turn.whats ≡ true → ⊥) → KeepsOut s t mine a
     own_keeps lives locked never =
         fork_now (λ (u : CoreTurn). (answers_it u.whats ≡ true → ⊥) → KeepsOut s (run s u.events) mine a)
-        (λ u none over. subst (λ (es : List CoreEvent). KeepsOut s (run s es) mine a) (sym none) (same_keeps s s mine a locked refl))
+        (λ u kept over. out_emptied mine a u (kept over)) (λ u none over. subst (λ (es : List CoreEvent). KeepsOut s (run s es) mine a) (sym none) (same_keeps s s mine a locked refl))
         (λ over. fork_left s a mine child place (s.job a) (s.prepared a) fits_now far lives over) never
 
   -- An actor that keeps a table lock has it after its turn too, and the process has its entries, unless the turn wakes others.
@@ -419,6 +437,10 @@ module _ (law : Law) (script : ScriptValue) (valid : IsScript script) (r : RunSt
 
   abbrev Stays : Op → (q : ℕ) → CoreTurn → Type 0
   Stays o q u = (answers_it u.whats ≡ true → ⊥) → (wakes (Some o) (place_in (run s u.events) a) ≡ everybody → ⊥) → KeepsPages q s (run s u.events)
+
+  stays_emptied : (o : Op) (q : ℕ) (u : CoreTurn) → Stays o q u → Stays o q (emptying s a u)
+  stays_emptied o q u kept over still =
+      pages_emptied q u (kept over (λ all. still (ap (wakes (Some o)) (place_emptied u) ∙ all)))
 
   module _ (q : ℕ) where
     moved_pages : (proc page : ℕ) (zone : Zone) (e : Entry) (count : Counted) → Stays (Move proc page zone) q (counted_turn s a proc page e (Only zone) count)
@@ -510,17 +532,18 @@ module _ (law : Law) (script : ScriptValue) (valid : IsScript script) (r : RunSt
       go : (o : Option Op) → op ≡ o → HasTable s a (doer_of script a o).proc place o → KeepsPages q s t
       go o is (by_fork child fits) =
           let begun = fork_keeps s a (process_of script a) child q place (s.job a) (s.prepared a) fits (inr keeps) in
-          fork_now child is begun.begun.0 (Stays (Fork child) q) (λ u none over still. same_pages u q none)
+          fork_now child is begun.begun.0 (Stays (Fork child) q) (stays_emptied (Fork child) q) (λ u none over still. same_pages u q none)
           (fork_pages q child (process_of script a) (s.job a) keeps fits refl) (over (Fork child) is refl) (still_of (Fork child) is)
       go o is (by_pin handle page n want fast at) =
           let o : Op = Pin handle page n want fast in
-          turn_is (λ (u : CoreTurn). (wakes (Some o) (place_in (run s u.events) a) ≡ everybody → ⊥) → KeepsPages q s (run s u.events)) o is (λ u none still. same_pages u q none) by_birth (still_of o is)
+          turn_is (λ (u : CoreTurn). (wakes (Some o) (place_in (run s u.events) a) ≡ everybody → ⊥) → KeepsPages q s (run s u.events)) o is
+          (λ u kept still. pages_emptied q u (kept (λ all. still (ap (wakes (Some o)) (place_emptied u) ∙ all)))) (λ u none still. same_pages u q none) by_birth (still_of o is)
         where
           by_birth : (b : Birth) → birth_for s.birth (doer script a) ≡ b → (wakes (Some (Pin handle page n want fast)) (place_in (run s (turn_at b (answers_with answers.Unborn) (pin_turn s a (process_of script a) handle page n want fast place.far)).events) a) ≡ everybody → ⊥) → KeepsPages q s (run s (turn_at b (answers_with answers.Unborn) (pin_turn s a (process_of script a) handle page n want fast place.far)).events)
           by_birth failed lost = λ still. same_pages (answers_with answers.Unborn) q refl
           by_birth b birth = pin_pages q handle page n want fast (process_of script a) (length (s.taken a)) (s.job a) keeps at
       go o is (by_move proc page zone fits) =
-          turn_is (Stays (Move proc page zone) q) (Move proc page zone) is (λ u none over still. same_pages u q none) by_birth (over (Move proc page zone) is refl) (still_of (Move proc page zone) is)
+          turn_is (Stays (Move proc page zone) q) (Move proc page zone) is (stays_emptied (Move proc page zone) q) (λ u none over still. same_pages u q none) by_birth (over (Move proc page zone) is refl) (still_of (Move proc page zone) is)
         where
           by_birth : (b : Birth) → birth_for s.birth (doer_of script a (Some (Move proc page zone))) ≡ b → Stays (Move proc page zone) q (turn_at b (answers_with answers.Unborn) (move_turn s a proc page zone (s.job a)))
           by_birth failed lost = λ over still. same_pages (answers_with answers.Unborn) q refl
