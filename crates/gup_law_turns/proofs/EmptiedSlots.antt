@@ -1,6 +1,6 @@
 -- What the emptying of slots at the front of a turn comes to: it can happen, it says nothing, and it leaves no slot of a page that the
 -- turn invalidates filled.
-use Rattle.std.proofs.Common.{◌≡◌, ℕ, ◌+◌, ◌<◌, ◌≤◌, ◌==◌, Bool, true, false, List, [], ◌∷◌, ◌++◌, Option, Some, None, IsSome, refl, sym, ap, ◌∙◌, subst, zero, suc, if◌then◌else◌, ◌⊎◌, inl, inr, eq-or-lt_of_le, arith}
+use Rattle.std.proofs.Common.{◌≡◌, ℕ, ◌+◌, ◌<◌, ◌≤◌, ◌==◌, Bool, true, false, List, [], ◌∷◌, ◌++◌, Option, Some, None, IsSome, refl, sym, ap, ◌∙◌, subst, zero, suc, if◌then◌else◌, ◌⊎◌, inl, inr, eq-or-lt_of_le, arith, ◌||◌}
 use Rattle.std.proofs.lemmas.Bool.Decides.{nat_tests}
 use Rattle.gup_plain.specs.State.{Noted}
 use Rattle.gup_spec_events.specs.State.{CoreState}
@@ -8,7 +8,7 @@ use Rattle.gup_spec_events.specs.Event.{CoreEvent, happens, run, empty_mirror}
 use Rattle.gup_spec_events.specs.Invariant.{AllCan}
 use Rattle.gup_law_events.specs.Law.{all_told}
 use Rattle.gup_spec_turns.specs.CoreTurn.{CoreTurn}
-use Rattle.gup_spec_turns.specs.Emptying.{has_page, invalidated_by, invalidate, is_stale, empties, emptying, mirror_slots}
+use Rattle.gup_spec_turns.specs.Emptying.{has_page, invalidated_by, invalidate, is_stale, left_in, empties, emptying, mirror_slots}
 use Rattle.gup_law_turns.proofs.CalmStates.{Strand, AreTurnEvents, AreHandleEvents, IsHandleEvent, emptying_slot, unpinning}
 
 -- ---- a turn that invalidates nothing
@@ -114,3 +114,66 @@ empties_leave s t a es m (suc n) k f least most filled =
     go true is (inr less) filled left emptied fill = emptied (omega (arith, less)) filled
     go false is (inl same) filled left emptied fill = subst (λ (j : ℕ). is_stale es (s.mirrored j) (s.slot j) ≡ false) same is
     go false is (inr less) filled left emptied fill = left (omega (arith, less)) filled
+
+-- ---- what is left
+
+empties_none : (s : CoreState) (a : ℕ) (es : List CoreEvent) (m n p g : ℕ) → invalidate (empties s a es m n) p g ≡ false
+empties_none s a es m zero p g = refl
+empties_none s a es m (suc n) p g = go (is_stale es (s.mirrored m) (s.slot m)) (empties_none s a es (m + 1) n p g)
+  where
+    go : (stale : Bool) → invalidate (empties s a es (m + 1) n) p g ≡ false → invalidate ((if stale then empty_mirror a m ∷ [] else []) ++ empties s a es (m + 1) n) p g ≡ false
+    go true none = none
+    go false none = none
+
+behind_none : (before es : List CoreEvent) (p g : ℕ) → invalidate before p g ≡ false → invalidate (before ++ es) p g ≡ invalidate es p g
+behind_none [] es p g none = refl
+behind_none (e ∷ before) es p g none = go (has_page (invalidated_by e) p g) none (behind_none before es p g)
+  where
+    go : (has : Bool) → (has || invalidate before p g) ≡ false → (invalidate before p g ≡ false → invalidate (before ++ es) p g ≡ invalidate es p g) → (has || invalidate (before ++ es) p g) ≡ invalidate es p g
+    go true is later = absurd (cc is)
+    go false is later = later is
+
+-- the events that empty slots invalidate no page
+pub emptying_stale : (s : CoreState) (a : ℕ) (turn : CoreTurn) (frame : Option ℕ) (noted : Option Noted) → left_in (emptying s a turn).events frame noted ≡ left_in turn.events frame noted
+emptying_stale s a turn None noted = refl
+emptying_stale s a turn (Some f) None = refl
+emptying_stale s a turn (Some f) (Some noted) =
+    ap (λ (stale : Bool). if stale then None else Some f)
+    (behind_none (empties s a turn.events 0 mirror_slots) turn.events noted.proc noted.page (empties_none s a turn.events 0 mirror_slots noted.proc noted.page))
+
+-- slots below the first of them stay
+empties_below : (s t : CoreState) (a : ℕ) (es : List CoreEvent) (m n k : ℕ) → k < m → (run t (empties s a es m n)).mirrored k ≡ t.mirrored k
+empties_below s t a es m zero k less = refl
+empties_below s t a es m (suc n) k less =
+    go (is_stale es (s.mirrored m) (s.slot m)) (empties_below s t a es (m + 1) n k (omega (arith, less)))
+    (empties_below s (happens t (empty_mirror a m)) a es (m + 1) n k (omega (arith, less)))
+  where
+    other : (b : Bool) → (k == m) ≡ b → (if b then None else t.mirrored k) ≡ t.mirrored k
+    other true same = absurd (grind (arith, nat_tests, same, less))
+    other false apart = refl
+
+    go : (stale : Bool) → (run t (empties s a es (m + 1) n)).mirrored k ≡ t.mirrored k → (run (happens t (empty_mirror a m)) (empties s a es (m + 1) n)).mirrored k ≡ (happens t (empty_mirror a m)).mirrored k → (run t ((if stale then empty_mirror a m ∷ [] else []) ++ empties s a es (m + 1) n)).mirrored k ≡ t.mirrored k
+    go true left emptied = emptied ∙ other (k == m) refl
+    go false left emptied = left
+
+-- and each of them is left filled unless it is stale
+pub empties_left : (s t : CoreState) (a : ℕ) (es : List CoreEvent) (m n k : ℕ) → m ≤ k → k < m + n → ((j : ℕ) → m ≤ j → t.mirrored j ≡ s.mirrored j) → (run t (empties s a es m n)).mirrored k ≡ left_in es (s.mirrored k) (s.slot k)
+empties_left s t a es m zero k least most same = absurd (omega (arith, least, most))
+empties_left s t a es m (suc n) k least most same =
+    go (is_stale es (s.mirrored m) (s.slot m)) refl (eq-or-lt_of_le least)
+    (λ less. empties_left s t a es (m + 1) n k less (omega (arith, most)) (λ j more. same j (omega (arith, more))))
+    (λ less. empties_left s (happens t (empty_mirror a m)) a es (m + 1) n k less (omega (arith, most)) (λ j more. other_slot m j t.mirrored (omega (arith, more)) ∙ same j (omega (arith, more))))
+  where
+    emptied_here : (b : Bool) → (k == m) ≡ b → k ≡ m → (if b then None else t.mirrored k) ≡ None
+    emptied_here true is here = refl
+    emptied_here false apart here = absurd (grind (arith, nat_tests, apart, here))
+
+    go : (stale : Bool) → is_stale es (s.mirrored m) (s.slot m) ≡ stale → (m ≡ k) ⊎ (m < k) → (m + 1 ≤ k → (run t (empties s a es (m + 1) n)).mirrored k ≡ left_in es (s.mirrored k) (s.slot k)) → (m + 1 ≤ k → (run (happens t (empty_mirror a m)) (empties s a es (m + 1) n)).mirrored k ≡ left_in es (s.mirrored k) (s.slot k)) → (run t ((if stale then empty_mirror a m ∷ [] else []) ++ empties s a es (m + 1) n)).mirrored k ≡ left_in es (s.mirrored k) (s.slot k)
+    go true is (inl here) left emptied =
+        empties_below s (happens t (empty_mirror a m)) a es (m + 1) n k (omega (arith, here)) ∙ emptied_here (k == m) refl (sym here)
+        ∙ sym (ap (λ (b : Bool). if b then None else s.mirrored k) (subst (λ (j : ℕ). is_stale es (s.mirrored j) (s.slot j) ≡ true) here is))
+    go true is (inr less) left emptied = emptied (omega (arith, less))
+    go false is (inl here) left emptied =
+        empties_below s t a es (m + 1) n k (omega (arith, here)) ∙ same k (omega (arith, here))
+        ∙ sym (ap (λ (b : Bool). if b then None else s.mirrored k) (subst (λ (j : ℕ). is_stale es (s.mirrored j) (s.slot j) ≡ false) here is))
+    go false is (inr less) left emptied = left (omega (arith, less))

@@ -1,6 +1,6 @@
 -- A turn that empties slots first is what it is without that, in a state in which no slot is filled: it can happen, it has its shape,
 -- and the actor stands right after it.
-use Rattle.std.proofs.Common.{◌≡◌, ℕ, ◌+◌, ◌<◌, ◌||◌, Bool, true, false, List, [], ◌∷◌, ◌++◌, Option, Some, None, IsSome, refl, sym, ap, ◌∙◌, subst, arith}
+use Rattle.std.proofs.Common.{◌≡◌, ℕ, ◌+◌, ◌<◌, ◌||◌, Bool, true, false, List, [], ◌∷◌, ◌++◌, Option, Some, None, IsSome, refl, sym, ap, ◌∙◌, subst, arith, ◌⊎◌, inl, inr, nat_lt, if◌then◌else◌, ◌≤◌}
 use Rattle.std.proofs.lemmas.Bool.Decides.{nat_tests}
 use Rattle.gup_base.specs.declared.entry.Entry.{Entry}
 use Rattle.gup_base.specs.declared.entry.Want.{Want}
@@ -16,15 +16,15 @@ use Rattle.gup_spec_events.specs.Invariant.{AllCan, frame_of}
 use Rattle.gup_law_base.specs.Sound.{View, IsSound}
 use Rattle.gup_spec_journal.specs.Place.{Place, Doer, place_after}
 use Rattle.gup_spec_turns.specs.CoreTurn.{CoreTurn}
-use Rattle.gup_spec_turns.specs.Emptying.{PageRange, one_page, has_page, invalidated_by, invalidate, is_stale, empties, emptying, mirror_slots}
+use Rattle.gup_spec_turns.specs.Emptying.{PageRange, one_page, has_page, invalidated_by, invalidate, is_stale, left_in, empties, emptying, mirror_slots}
 use Rattle.gup_spec_turns.specs.JobPlace.{JobPlace, IsForking, HasCounted, StandsFork, IsMoving, StandsMove, place_in}
 use Rattle.gup_spec_turns.specs.PinPlace.{IsMovingPin, IsReadThere, IsWalkingPin, StandsAtPage}
 use Rattle.gup_spec_turns.proofs.Unseen.{mirroring, IsButFor, run_unseen, emptying_unseen, empties_unseen}
 use Rattle.gup_law_turns.proofs.CalmStates.{IsCalm, Strand, AreTurnEvents, IsTurnEvent, IsHandleEvent, emptying_slot, handling, unpinning, breaking, lowering, protecting, dropping, discarding, clearing, sharing_entry}
 use Rattle.gup_law_turns.proofs.TurnShapes.{FitsFork, FitsMove, FitsPin, FitsAt, TurnAt, AtRest, child_of, strand_of, references_of}
-use Rattle.gup_law_turns.proofs.ShownTurns.{FitsNext, MakesPin, kinds_behind, can_behind, told_behind}
+use Rattle.gup_law_turns.proofs.ShownTurns.{FitsNext, MakesPin, kinds_behind, can_behind, run_behind, told_behind}
 use Rattle.gup_law_turns.proofs.StandingStates.{IsTaken}
-use Rattle.gup_law_turns.proofs.EmptiedSlots.{empties_kinds, empties_told, empties_can, empties_fill, empties_leave}
+use Rattle.gup_law_turns.proofs.EmptiedSlots.{empties_kinds, empties_told, empties_can, empties_fill, empties_leave, empties_left, emptying_stale}
 
 -- the state with all slots empty
 abbrev pub calmed : CoreState → CoreState
@@ -188,6 +188,30 @@ all_can filled s a p c strand (e ∷ es) kinds clear can =
       subst (λ (t : CoreState). AllCan t es) (sym (event_keeps filled s a p c strand kinds.0 can.0)) later,
     )
 
+-- so the slots are after the events what they were before
+all_keep : (filled : ℕ → Option ℕ) (s : CoreState) (a p c : ℕ) (strand : Strand) (es : List CoreEvent) → AreTurnEvents a p c strand es → AllCan (calmed s) es → (run (mirroring filled s) es ≡ mirroring filled (run s es)) × ((run s es).slot ≡ s.slot)
+all_keep filled s a p c strand [] kinds can = (refl, refl)
+all_keep filled s a p c strand (e ∷ es) kinds can =
+    let next : CoreState = happens s e in
+    let none : happens (calmed s) e ≡ calmed next = event_keeps (λ m. None) s a p c strand kinds.0 can.0 in
+    let later = all_keep filled next a p c strand es kinds.1 (subst (λ (t : CoreState). AllCan t es) none can.1) in
+    (ap (λ (t : CoreState). run t es) (event_keeps filled s a p c strand kinds.0 can.0) ∙ later.0, later.1 ∙ event_notes filled s a p c strand kinds.0)
+
+-- A turn leaves each slot filled that is of no page which its events invalidate, and empties the others. What they were filled with
+-- stays noted.
+pub record EmptiesSlots (s : CoreState) (turn : CoreTurn) : Type 0 where
+  pub left : (m : ℕ) → (run s turn.events).mirrored m ≡ left_in turn.events (s.mirrored m) (s.slot m)
+  pub notes : (run s turn.events).slot ≡ s.slot
+
+-- one without events does
+pub silent_slots : (s : CoreState) (whats : List What) → EmptiesSlots s (record { events = []; whats = whats })
+silent_slots s whats = record { left = λ m. go (s.mirrored m) (s.slot m); notes = refl }
+  where
+    go : (frame : Option ℕ) (noted : Option Noted) → frame ≡ left_in [] frame noted
+    go None noted = refl
+    go (Some f) None = refl
+    go (Some f) (Some noted) = refl
+
 -- ---- the whole turn
 
 module _ (s : CoreState) (who : Doer) (place : Place) (op : Op) (turn : CoreTurn) (within : (m f : ℕ) → s.mirrored m ≡ Some f → m < mirror_slots) (h : IsTaken (calmed s) who place (Some op) None turn) where
@@ -250,3 +274,33 @@ module _ (s : CoreState) (who : Doer) (place : Place) (op : Op) (turn : CoreTurn
         emptied = λ child page is lost.
             ap (λ (t : CoreState). t.entry child page) same ∙ h.emptied child page is (sym (ap (λ (t : CoreState). t.birth child) same) ∙ lost);
       }
+
+  front_slot : front.slot ≡ s.slot
+  front_slot = ap (λ (t : CoreState). t.slot) at_front
+
+  is_left : (m : ℕ) → (m < mirror_slots) ⊎ (mirror_slots ≤ m) → front.mirrored m ≡ left_in es (s.mirrored m) (s.slot m)
+  is_left m (inl less) = empties_left s s who.actor es 0 mirror_slots m (omega arith) less (λ j least. refl)
+  is_left m (inr past) = by_none (front.mirrored m) (s.mirrored m) refl refl
+    where
+      by_none : (now was : Option ℕ) → front.mirrored m ≡ now → s.mirrored m ≡ was → now ≡ left_in es was (s.slot m)
+      by_none None None now_is was_is = refl
+      by_none (Some f) was now_is was_is =
+          let less = within m f (empties_fill s s who.actor es 0 mirror_slots m f now_is) in
+          absurd (omega (arith, less, past))
+      by_none None (Some f) now_is was_is = absurd (let less = within m f was_is in omega (arith, less, past))
+
+  pub emptied_slots : EmptiesSlots s (emptying s who.actor turn)
+  emptied_slots =
+      let kept = all_keep front.mirrored s who.actor who.proc (child_of who.proc (Some op)) (strand_of (Some op)) es h.done.kinds h.done.can in
+      let ran : behind ≡ mirroring front.mirrored (run s es) = run_after s before es ∙ ap (λ (t : CoreState). run t es) at_front ∙ kept.0 in
+      record {
+        left = λ m. ap (λ (t : CoreState). t.mirrored m) ran ∙ is_left m (le_or_lt m mirror_slots) ∙ sym (emptying_stale s who.actor turn (s.mirrored m) (s.slot m));
+        notes = ap (λ (t : CoreState). t.slot) ran ∙ kept.1;
+      }
+    where
+      le_or_lt : (m n : ℕ) → (m < n) ⊎ (n ≤ m)
+      le_or_lt m n = go (nat_lt m n) refl
+        where
+          go : (b : Bool) → nat_lt m n ≡ b → (m < n) ⊎ (n ≤ m)
+          go true is = inl (grind (arith, nat_tests, is))
+          go false is = inr (grind (arith, nat_tests, is))

@@ -9,11 +9,11 @@ use Rattle.gup_spec_journal.specs.Order.{Turn, journal_of}
 use Rattle.gup_spec_journal.specs.Place.{doer, ops_of}
 use Rattle.gup_spec_journal.specs.Denial.{References}
 use Rattle.gup_spec_journal.specs.Plain.{Judged, AreSo}
-use Rattle.gup_spec_turns.specs.Run.{turned, actors_of, RunState, Runs, AreTurns, turn_in, run_after, core_turn_in}
+use Rattle.gup_spec_turns.specs.Run.{run_start, turned, actors_of, RunState, Runs, AreTurns, turn_in, run_after, core_turn_in}
 use Rattle.gup_law_turns.proofs.Puts.{some_same}
 use Rattle.gup_law_turns.proofs.NoteRightness.{IsBothAt, turn_right, plain_append}
 use Rattle.gup_law_turns.proofs.ReferenceNotes.{same_references}
-use Rattle.gup_law_turns.proofs.StandingTurns.{stands_on, same_plain, plain_can}
+use Rattle.gup_law_turns.proofs.StandingTurns.{stands_on, same_plain, plain_can, Starts, stands_first}
 use Rattle.gup_law_turns.proofs.StandingStates.{Stands}
 use Rattle.gup_law_turns.proofs.TurnShapes.{references_of}
 use Rattle.gup_law_turns.proofs.TurnSteps.{taken}
@@ -75,3 +75,9 @@ plain_turns law script valid (turn ∷ turns) number r end h are =
     let after = subst₂ (λ (s : PlainState) (references : References). AreSo IsBothAt script (record { plain = s; references = references; places = next.places }) (journal_of (number + 1) next.places turns)) (same_plain law script valid r h a) (sym (same_references script valid r h a)) later in
     let both = plain_append script number a ((r.places a).answered + 1) whats (journal_of (number + 1) next.places turns) (judged_of r) right after in
     subst (λ (t : Turn). AreSo IsBothAt script (judged_of r) (journal_of number r.places (t ∷ turns))) (sym are.0) both
+
+-- what stands in the state that turns of these actors lead to
+pub turned_stands : Law → Starts → (script : ScriptValue) → IsScript script → (actors : List ℕ) → Stands script (turned script (run_start script) actors)
+turned_stands law starts script valid actors =
+    let led = turns_by script actors (run_start script) in
+    stands_turns law script valid led.0 (run_start script) (turned script (run_start script) actors) (stands_first starts script valid) led.2

@@ -3,7 +3,7 @@ use Rattle.std.proofs.Common.{◌≡◌, ℕ, ◌+◌, length, ◌≤◌, ◌<�
 use Rattle.gup_plain.specs.State.{Birth, unborn, born, failed}
 use Rattle.gup_plain.specs.declared.answer.Answer.TheVariants as answers
 use Rattle.gup_plain.specs.declared.event.PlainEvent.TheVariants as events
-use Rattle.gup_plain.specs.declared.note.What.TheVariants.{Event, Done}
+use Rattle.gup_plain.specs.declared.note.What.TheVariants.{Idle, Wait, Event, Done}
 use Rattle.gup_plain.specs.declared.note.Waiting.{Waiting}
 use Rattle.gup_script.specs.Valid.{IsScript, IsOp, IsOfDevice, IsOfThread, FitsKind, made_by}
 use Rattle.gup_base.specs.Counts.{most_slots}
@@ -30,7 +30,7 @@ use Rattle.gup_spec_turns.specs.Emptying.{mirror_slots}
 use Rattle.gup_spec_turns.proofs.UnseenTurns.{turn_unseen, waits_unseen}
 use Rattle.gup_law_base.specs.Sound.{IsSound}
 use Rattle.gup_law_turns.proofs.CountedFrames.{AreCountedThere}
-use Rattle.gup_law_turns.proofs.EmptiedTurns.{calmed, calmed_calm, calmed_sound, emptied_taken, fits_with}
+use Rattle.gup_law_turns.proofs.EmptiedTurns.{EmptiesSlots, calmed, calmed_calm, calmed_sound, emptied_slots, emptied_taken, fits_with, silent_slots}
 use Rattle.gup_law_turns.proofs.CalmStates.{failing_unborn}
 use Rattle.gup_law_turns.proofs.ForkFails.{unborn_empty}
 use Rattle.gup_law_turns.proofs.ForkOps.{IsEmptied, fork_turned, fork_emptied}
@@ -263,6 +263,21 @@ calmed_quiet s a h =
 calmed_known : (s : CoreState) (who : Doer) (place : Place) (op : Option Op) → IsKnown s who place op → IsKnown (calmed s) who place op
 calmed_known s who place op h = let fits = fits_with (λ m. None) s who op place h.fits in assumption
 
+-- the turn of an operation before slots are emptied
+abbrev bare_turn : (s : CoreState) (who : Doer) (place : Place) → Op → CoreTurn
+bare_turn s who place op =
+    turn_at (birth_for s.birth who) (failed_turn who.actor who.proc op) (op_turn s who.actor who.proc who.slots place.far op)
+
+bare_taken : (s : CoreState) (who : Doer) (place : Place) (op : Op) → IsQuietly s who.actor → IsKnown s who place (Some op) → waiting_with s who place.far (Some op) ≡ None → IsTaken (calmed s) who place (Some op) None (bare_turn s who place op)
+bare_taken s who place op quiet h is =
+    let t : CoreState = calmed s in
+    let b : Birth = birth_for s.birth who in
+    let free : waits_at b who.proc (waits_born t who.actor who.proc place.far op) ≡ None =
+    ap (waits_at b who.proc) (waits_unseen (λ m. None) s who.actor who.proc place.far op) ∙ is in
+    let step : IsTaken t who place (Some op) None (turn_at b (failed_turn who.actor who.proc op) (op_turn t who.actor who.proc who.slots place.far op)) =
+    step_by t who place (calmed_quiet s who.actor quiet) op (calmed_known s who place (Some op) h) b refl free in
+    subst (λ (u : CoreTurn). IsTaken t who place (Some op) None (turn_at b (failed_turn who.actor who.proc op) u)) (turn_unseen (λ m. None) s who.actor who.proc who.slots place.far op) step
+
 take : (s : CoreState) (who : Doer) (place : Place) (op : Option Op) (waiting : Option Waiting) → IsQuietly s who.actor → IsKnown s who place op → waiting_with s who place.far op ≡ waiting → IsTaken s who place op waiting (core_turn_by s who place.far op waiting)
 take s who place None waiting quiet h is =
     record {
@@ -281,23 +296,23 @@ take s who place (Some op) (Some waiting) quiet h is =
       emptied = λ child page same lost. h.emptied child page lost;
     }
 take s who place (Some op) None quiet h is =
-    let t : CoreState = calmed s in
-    let b : Birth = birth_for s.birth who in
-    let free : waits_at b who.proc (waits_born t who.actor who.proc place.far op) ≡ None =
-    ap (waits_at b who.proc) (waits_unseen (λ m. None) s who.actor who.proc place.far op) ∙ is in
-    let step : IsTaken t who place (Some op) None (turn_at b (failed_turn who.actor who.proc op) (op_turn t who.actor who.proc who.slots place.far op)) =
-    step_by t who place (calmed_quiet s who.actor quiet) op (calmed_known s who place (Some op) h) b refl free in
-    let turn : CoreTurn = turn_at b (failed_turn who.actor who.proc op) (op_turn s who.actor who.proc who.slots place.far op) in
-    emptied_taken s who place op turn quiet.slots
-    (subst (λ (u : CoreTurn). IsTaken t who place (Some op) None (turn_at b (failed_turn who.actor who.proc op) u)) (turn_unseen (λ m. None) s who.actor who.proc who.slots place.far op) step)
+    emptied_taken s who place op (bare_turn s who place op) quiet.slots (bare_taken s who place op quiet h is)
 
--- the turn of an actor
-pub taken : (script : ScriptValue) → IsScript script → (r : RunState) → Stands script r → (a : ℕ) → IsTaken r.core (doer_of script a (op_in script r a)) (r.places a) (op_in script r a) (waiting_in script r a) (core_turn_in script r a)
-taken script valid r h a =
+-- and what it leaves of slots
+take_slots : (s : CoreState) (who : Doer) (place : Place) (op : Option Op) (waiting : Option Waiting) → IsQuietly s who.actor → IsKnown s who place op → waiting_with s who place.far op ≡ waiting → EmptiesSlots s (core_turn_by s who place.far op waiting)
+take_slots s who place None waiting quiet h is = silent_slots s (Idle ∷ [])
+take_slots s who place (Some op) (Some waiting) quiet h is = silent_slots s (Wait waiting ∷ [])
+take_slots s who place (Some op) None quiet h is =
+    emptied_slots s who place op (bare_turn s who place op) quiet.slots (bare_taken s who place op quiet h is)
+
+-- what is known of the turn of an actor
+is_quietly : (script : ScriptValue) (r : RunState) → Stands script r → (a : ℕ) → IsQuietly r.core a
+is_quietly script r h a = record { sound = h.sound; slots = h.slots; there = h.there; rest = h.rest a }
+
+is_known : (script : ScriptValue) → IsScript script → (r : RunState) → Stands script r → (a : ℕ) → IsKnown r.core (doer_of script a (op_in script r a)) (r.places a) (op_in script r a)
+is_known script valid r h a =
     let k : ℕ = (r.places a).answered in
-    take r.core (doer_of script a (op_in script r a)) (r.places a) (op_in script r a) (waiting_in script r a)
-    (record { sound = h.sound; slots = h.slots; there = h.there; rest = h.rest a })
-    (record {
+    record {
       range = op_is_op script valid a k;
       thread = λ o is own. subst (λ (x : Option Op). (doer_of script a x).of_process ≡ true) (sym is) (has_own_process script valid a k o is (of_no_device o own));
       unlike_transfer = λ o is own. no_transfer (actor_at script a) o (op_fits_kind script valid a k o is) (subst (λ (x : Option Op). (doer_of script a x).of_process ≡ true) is own);
@@ -307,5 +322,15 @@ taken script valid r h a =
       begun = h.begun a;
       fresh = h.fresh a;
       emptied = h.emptied;
-    })
-    refl
+    }
+
+-- the turn of an actor
+pub taken : (script : ScriptValue) → IsScript script → (r : RunState) → Stands script r → (a : ℕ) → IsTaken r.core (doer_of script a (op_in script r a)) (r.places a) (op_in script r a) (waiting_in script r a) (core_turn_in script r a)
+taken script valid r h a =
+    take r.core (doer_of script a (op_in script r a)) (r.places a) (op_in script r a) (waiting_in script r a)
+    (is_quietly script r h a) (is_known script valid r h a) refl
+
+pub slots_left : (script : ScriptValue) → IsScript script → (r : RunState) → Stands script r → (a : ℕ) → EmptiesSlots r.core (core_turn_in script r a)
+slots_left script valid r h a =
+    take_slots r.core (doer_of script a (op_in script r a)) (r.places a) (op_in script r a) (waiting_in script r a)
+    (is_quietly script r h a) (is_known script valid r h a) refl

@@ -8,6 +8,7 @@ ghost use Rattle.gup_script.specs.Valid.{IsScript};
 ghost use Rattle.gup_spec_events.specs.State.{plain_of};
 ghost use Rattle.gup_spec_events.specs.Invariant.{AllCan};
 ghost use Rattle.gup_spec_journal.specs.Order.{Turn, plain_behind};
+ghost use Rattle.gup_spec_turns.specs.Emptying.{left_in};
 ghost use Rattle.gup_spec_turns.specs.Run.{RunState, Runs, AreTurns, run_start, run_after, core_turn_in, IsCoreRun};
 ghost use Rattle.gup_spec_turns.specs.Run.{turned, actors_of};
 ghost use Rattle.gup_law_turns.specs.Standing.{IsStanding};
@@ -43,6 +44,20 @@ pub fn turns_can_happen()
     ensures same { (script : ScriptValue) (actors : List ℕ) (a : ℕ) → IsScript script →
         let r : RunState = turned script (run_start script) actors in
         plain_of (run_after script r a).core ≡ plain_behind (plain_of r.core) (core_turn_in script r a).whats }
+{
+    gup_law_events::simulates();
+    gup_law_events::starts_sound();
+}
+
+/// Whichever actors have taken turns: a turn empties each filled mirror slot of a page that one of its events invalidates, and
+/// leaves the others filled as they are. What a slot was filled with stays noted.
+pub fn turns_empty_slots()
+    ensures slots { (script : ScriptValue) (actors : List ℕ) (a m : ℕ) → IsScript script →
+        let r : RunState = turned script (run_start script) actors in
+        (run_after script r a).core.mirrored m ≡ left_in (core_turn_in script r a).events (r.core.mirrored m) (r.core.slot m) }
+    ensures notes { (script : ScriptValue) (actors : List ℕ) (a : ℕ) → IsScript script →
+        let r : RunState = turned script (run_start script) actors in
+        (run_after script r a).core.slot ≡ r.core.slot }
 {
     gup_law_events::simulates();
     gup_law_events::starts_sound();

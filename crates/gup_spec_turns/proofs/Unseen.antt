@@ -78,7 +78,7 @@ run_unseen filled s (e ∷ es) =
     let step : next ≡ mirroring next.mirrored (happens s e) = happens_unseen filled s e in
     subst (λ (t : CoreState). IsButFor (run (happens s e) es) (run t es)) (sym step) (run_unseen next.mirrored (happens s e) es)
 
-pub run_after : (s : CoreState) (before es : List CoreEvent) → run s (before ++ es) ≡ run (run s before) es
+run_after : (s : CoreState) (before es : List CoreEvent) → run s (before ++ es) ≡ run (run s before) es
 run_after s [] es = refl
 run_after s (e ∷ before) es = run_after (happens s e) before es
 

@@ -45,6 +45,10 @@ abbrev pub is_stale : List CoreEvent → (frame : Option ℕ) → Option Noted �
 is_stale es (Some f) (Some noted) = invalidate es noted.proc noted.page
 is_stale es frame noted = false
 
+-- what is left in a slot by a turn of these events
+abbrev pub left_in : List CoreEvent → (frame : Option ℕ) → Option Noted → Option ℕ
+left_in es frame noted = if is_stale es frame noted then None else frame
+
 -- those of n slots from this one on are emptied
 abbrev pub empties : CoreState → (a : ℕ) → List CoreEvent → (m n : ℕ) → List CoreEvent
 empties s a es m zero = []
