@@ -1,6 +1,6 @@
 -- A turn that empties slots first is what it is without that, in a state in which no slot is filled: it can happen, it has its shape,
 -- and the actor stands right after it.
-use Rattle.std.proofs.Common.{◌≡◌, ℕ, ◌+◌, ◌<◌, ◌||◌, Bool, true, false, List, [], ◌∷◌, ◌++◌, Option, Some, None, IsSome, refl, sym, ap, ◌∙◌, subst, arith, ◌⊎◌, inl, inr, nat_lt, if◌then◌else◌, ◌≤◌}
+use Rattle.std.proofs.Common.{◌≡◌, ℕ, ◌+◌, ◌<◌, ◌||◌, Bool, true, false, List, [], ◌∷◌, ◌++◌, Option, Some, None, IsSome, refl, sym, ap, ◌∙◌, subst, arith, ◌⊎◌, inl, inr, nat_lt, ◌≤◌}
 use Rattle.std.proofs.lemmas.Bool.Decides.{nat_tests}
 use Rattle.gup_base.specs.declared.entry.Entry.{Entry}
 use Rattle.gup_base.specs.declared.entry.Want.{Want}
@@ -292,7 +292,7 @@ module _ (s : CoreState) (who : Doer) (place : Place) (op : Op) (turn : CoreTurn
   pub emptied_slots : EmptiesSlots s (emptying s who.actor turn)
   emptied_slots =
       let kept = all_keep front.mirrored s who.actor who.proc (child_of who.proc (Some op)) (strand_of (Some op)) es h.done.kinds h.done.can in
-      let ran : behind ≡ mirroring front.mirrored (run s es) = run_after s before es ∙ ap (λ (t : CoreState). run t es) at_front ∙ kept.0 in
+      let ran : behind ≡ mirroring front.mirrored (run s es) = run_behind s before es ∙ ap (λ (t : CoreState). run t es) at_front ∙ kept.0 in
       record {
         left = λ m. ap (λ (t : CoreState). t.mirrored m) ran ∙ is_left m (le_or_lt m mirror_slots) ∙ sym (emptying_stale s who.actor turn (s.mirrored m) (s.slot m));
         notes = ap (λ (t : CoreState). t.slot) ran ∙ kept.1;
