@@ -167,10 +167,10 @@ impl Inner {
             actor,
             op: seat.answered + 1,
         };
-        let (over, job) = take_at(&mut self.parts, journal, &head, proc, &seat, op);
-        let woken = woken_by(op, &job);
-        let next = seats::behind(&seat, op, over, job);
-        set_seat(&mut self.seats, actor, &next);
+        let here = &mut self.seats[actor.get() as usize];
+        let over = take_at(&mut self.parts, journal, &head, proc, seat.far, &mut here.job, op);
+        let woken = woken_by(op, &here.job);
+        seats::go_on(here, op, over);
         self.turns = turn;
         Advanced::Moved(woken)
     }

@@ -49,25 +49,20 @@ pub fn set_seat(seats: &mut Vec<Seat>, actor: ActorNo, seat: &Seat)
     seats[actor.get() as usize] = *seat;
 }
 
-/// After a turn of its present operation an actor stands at the next page or word, or at the next operation, and its job
-/// there.
-pub fn behind(seat: &Seat, op: &Op, answered: bool, job: JobPlace) -> Seat
-    requires few { seat.now.answered + 1 < 2 ^ 32 }
+/// After a turn of its present operation, which ended it or didn't, an actor stands at the next operation, or at the next page,
+/// word or turn. Its job stands there already.
+#[inline(always)]
+pub fn go_on(seat: &mut Seat, op: &Op, answered: bool)
+    requires few { seat.old.answered + 1 < 2 ^ 32 }
     requires op { IsOp op.now }
-    requires far { HasFar op.now seat.now.far }
-    ensures { result ≡ seat_behind seat.now op.now answered job }
+    requires far { HasFar op.now seat.old.far }
+    ensures { seat.new ≡ seat_behind seat.old op.now answered seat.old.job }
 {
     if answered {
-        return Seat {
-            answered: seat.answered + 1,
-            far: 0,
-            job,
-        };
-    }
-    Seat {
-        answered: seat.answered,
-        far: far_of(op, seat.far),
-        job,
+        seat.answered += 1;
+        seat.far = 0;
+    } else {
+        seat.far = far_of(op, seat.far);
     }
 }
 

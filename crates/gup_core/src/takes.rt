@@ -71,45 +71,50 @@ pub fn waits_at(
     waits_for(parts, actor, proc, seat.far, seat.job, op)
 }
 
-/// Takes a turn of the operation, before which its actor stands there, and which is of this process if it is of one. It puts
-/// the notes on at the journal's end, and answers whether the operation is over and where the actor's job stands then. Where
-/// the process has failed, the operation is refused.
+/// Takes a turn of the operation, which has come so far, of whose actor the job stands there, and which is of this process if it
+/// is of one. It puts the notes on at the journal's end, leaves the job where it stands then, and answers whether the operation
+/// is over. Where the process has failed, the operation is refused.
 #[inline(always)]
 pub fn take_at(
     parts: &mut Parts,
     journal: &mut Journal,
     head: &Head,
     proc: Option<ProcNo>,
-    seat: &Seat,
+    far: u16,
+    job: &mut JobPlace,
     op: &Op,
-) -> (bool, JobPlace)
+) -> bool
     requires process { HasProcess op.now → IsSome proc }
     requires birth { IfSome proc (λ p. p < length parts.old.births.items) }
     requires child { (child : ℕ) → op.now ≡ Fork child → child < length parts.old.births.items }
     requires ready { (p : ℕ) → (HasFailed parts.old.births.items proc → ⊥) → IfSome proc (λ q. q ≡ p)
-        → IsReady parts.old head.now.actor p op.now seat.now.far seat.now.job }
+        → IsReady parts.old head.now.actor p op.now far job.old }
     requires room { 3 ≤ journal.old.room }
     ensures spaces { length parts.new.spaces.items ≡ length parts.old.spaces.items }
     ensures births { length parts.new.births.items ≡ length parts.old.births.items }
     ensures taken { length parts.new.taken.items ≡ length parts.old.taken.items }
     ensures stores { length parts.new.stores.items ≡ length parts.old.stores.items }
     ensures slots { KeepsSlots parts.old.stores.items parts.new.stores.items }
-    ensures turn { TellsTurn head.now journal.old journal.new result.0
+    ensures turn { TellsTurn head.now journal.old journal.new result
         (λ said. (who : Doer) (k : ℕ) (others : ℕ → Place) (left : ℕ → List Taken) → who.actor ≡ head.now.actor → IsProcessOf who proc
-        → HasSlots parts.old head.now.actor who.slots → seat.now.far ≡ far_in (Some op.now) k
+        → HasSlots parts.old head.now.actor who.slots → far ≡ far_in (Some op.now) k
         → IsTurnOf (ShowsAll head.now.actor op.now) (StandsFree head.now.actor who k op.now)
-        (all_view parts.old seat.now.job others left) (all_view parts.new result.1 others left)
+        (all_view parts.old job.old others left) (all_view parts.new job.new others left)
         (λ s. turn_of s who k op.now) (whats_of said)) }
 {
     if has_failed(&parts.births, &proc) {
         refuse(&mut parts.births, journal, head, op);
-        return (true, seat.job);
+        return true;
     }
     if let Some(child) = child_of(op) {
-        return take_fork(parts, journal, head, proc.unwrap(), child, seat.job);
+        let (over, next) = take_fork(parts, journal, head, proc.unwrap(), child, *job);
+        *job = next;
+        return over;
     }
     if let Op::Move { page, zone, .. } = op {
-        return move_page(parts, journal, head, proc.unwrap(), *page, *zone, seat.job);
+        let (over, next) = move_page(parts, journal, head, proc.unwrap(), *page, *zone, *job);
+        *job = next;
+        return over;
     }
     if let Op::Pin {
         handle,
@@ -127,10 +132,11 @@ pub fn take_at(
             want: *want,
             fast: *fast,
         };
-        return take_pin(parts, journal, head, call, seat.far, seat.job);
+        let (over, next) = take_pin(parts, journal, head, call, far, *job);
+        *job = next;
+        return over;
     }
-    let over = take_single(parts, journal, head, proc, seat.far, op);
-    (over, seat.job)
+    take_single(parts, journal, head, proc, far, op)
 }
 
 // Refuses an operation of a failed process. The child of a fork fails too.
