@@ -150,13 +150,20 @@ impl Mirrors {
 
     /// Empties each slot that is filled with one of the `n` pages of the process from `page` on, and no other, as
     /// [`Mirrors::invalidate`] does for one page. It goes over the slots once, and over none where none is filled.
+    #[inline]
     pub fn invalidate_pages(&mut self, p: ProcNo, page: PageNo, n: u16)
         ensures emptied { mirrors_of self.new ≡ without p page n (mirrors_of self.old) }
         ensures state { IsInvalidation p page n (mirrors_of self.old) (mirrors_of self.new) }
     {
-        if !self.is_any_filled() {
-            return;
+        if self.is_any_filled() {
+            self.invalidate_slots(p, page, n);
         }
+    }
+
+    // Goes over all slots, and empties those that are filled with one of these pages.
+    fn invalidate_slots(&mut self, p: ProcNo, page: PageNo, n: u16)
+        ensures { (m : ℕ) → mirrors_of self.new m ≡ without p page n (mirrors_of self.old) m }
+    {
         self.are_numbered();
         for at in 0..SLOTS {
             self.invalidate_slot(at, p, page, n);
@@ -167,7 +174,7 @@ impl Mirrors {
     #[inline]
     fn invalidate_slot(&mut self, at: usize, p: ProcNo, page: PageNo, n: u16)
         requires { at < 64 }
-        ensures { mirrors_of self.new ≡ put at (without p page n (mirrors_of self.old) at) (mirrors_of self.old) }
+        ensures { (m : ℕ) → mirrors_of self.new m ≡ put at (without p page n (mirrors_of self.old) at) (mirrors_of self.old) m }
     {
         let Some(mirror) = self.slots[at] else {
             return;
