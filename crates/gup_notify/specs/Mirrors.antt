@@ -17,6 +17,7 @@ MirrorsValue = ℕ → Option Filled
 abbrev pub mirrors_of : List (Option Filled) → MirrorsValue
 mirrors_of slots m = slice_index_or slots m None
 
+-- all slots are empty
 abbrev pub no_mirrors : MirrorsValue
 no_mirrors m = None
 
