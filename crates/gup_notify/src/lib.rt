@@ -1,0 +1,6 @@
+//! The mirror slots of devices, and the notifier that empties them before a page changes.
+#![tactic(auto)]
+
+mod mirrors;
+
+pub use mirrors::Mirrors;
