@@ -17,3 +17,4 @@ pub mod Starting
 pub mod FreeFrames
 pub mod Advancing
 pub mod WordTurns
+pub mod Emptied

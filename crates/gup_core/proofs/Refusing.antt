@@ -27,7 +27,9 @@ use Rattle.gup_op_waits.specs.declared.births.Birth.TheVariants.{Unborn, Growing
 use Rattle.gup_op_waits.specs.declared.parts.Parts.{Parts}
 use Rattle.gup_op_waits.specs.Births.{HasFailed}
 use Rattle.gup_op_waits.specs.Doers.{IsProcessOf}
-use Rattle.gup_core.specs.Goes.{HasSlots, EndsAt}
+use Rattle.gup_spec_turns.specs.Emptying.{emptying}
+use Rattle.gup_core.specs.Goes.{HasSlots, EndsAt, all_view}
+use Rattle.gup_core.proofs.Emptied.{leads_emptied}
 use Rattle.gup_op_waits.specs.Parts.{IsBirth, ShowsSpaces, ShowsBirths, ShowsParts}
 use Rattle.gup_core.proofs.Owning.{Pins, pins_of}
 use Rattle.gup_core.proofs.Scripts.{process_of_doer}
@@ -68,9 +70,12 @@ of_born old new a proc far op place next whats unfailed within turn who k rest l
     let refused_so : CoreTurn = failed_turn who.actor who.proc op in
     let other = birth_unfailed old.births.items proc who s unfailed within of_who shown.parts.births in
     let is_born : birth_for s.birth who ≡ born = (born_and_free (birth_for s.birth who) who.proc (waits_born s who.actor who.proc k op) other stands.free).0 in
-    let is : turn_of s who k op ≡ op_turn s a who.proc who.slots k op =
-    ap (λ (b : CoreBirth). turn_at b refused_so (op_turn s who.actor who.proc who.slots k op)) is_born ∙ ap (λ (b : ℕ). op_turn s b who.proc who.slots k op) own in
-    leads_alike is (turn who.proc who.slots (process_of_doer who proc of_who) slots k rest left far_is s shown stands.at)
+    let is : turn_of s who k op ≡ emptying s who.actor (op_turn s a who.proc who.slots k op) =
+    ap (λ (b : CoreBirth). emptying s who.actor (turn_at b refused_so (op_turn s who.actor who.proc who.slots k op))) is_born
+    ∙ ap (λ (b : ℕ). emptying s who.actor (op_turn s b who.proc who.slots k op)) own in
+    leads_alike is
+    (leads_emptied a who.actor op (all_view new next rest left) s (op_turn s a who.proc who.slots k op) whats
+    (turn who.proc who.slots (process_of_doer who proc of_who) slots k rest left far_is s shown stands.at))
 
 -- ---- a refusal
 
@@ -162,7 +167,7 @@ refused old new a proc far op place whats has frames spaces handles taken stores
     let t : CoreTurn = failed_turn who.actor p op in
     let made : IsRefusal who.actor p op t.events = refusal who.actor p op in
     let has_so : birth_for s.birth who ≡ failed = birth_failed old.births.items proc who s has of_who shown.parts.births in
-    let is : turn_of s who k op ≡ t = ap (λ (b : CoreBirth). turn_at b t (op_turn s who.actor p who.slots k op)) has_so in
+    let is : turn_of s who k op ≡ emptying s who.actor t = ap (λ (b : CoreBirth). emptying s who.actor (turn_at b t (op_turn s who.actor p who.slots k op))) has_so in
     let unmapped : (child : ℕ) → op ≡ Fork child → (g : ℕ) → s.right child g ≡ None =
     λ child same. no_maps s a p child (s.job a) (s.prepared a) stands.sound (stands.at.fork child same) refl (failed_process old.births.items proc who s has of_who shown.parts.births) in
     let led : Leads ShowsBirths new.births.items s t whats = turn who.actor p s shown.parts.births tt in
@@ -177,6 +182,7 @@ refused old new a proc far op place whats has frames spaces handles taken stores
       stores = stores_shown old new s (run s t.events) stores (ap (λ (k : Pins). k.3) stay) shown.parts.stores;
     } in
     leads_alike is
+    (leads_emptied a who.actor op (all_view new place rest left) s t whats
     (record {
       says = led.says;
       shown = record {
@@ -186,4 +192,4 @@ refused old new a proc far op place whats has frames spaces handles taken stores
         left = λ b apart. ap (λ (k : Pins). k.2 b) stay ∙ shown.left b apart;
         others = λ b apart. places_left who.actor p op s made b ∙ shown.others b apart;
       };
-    })
+    }))

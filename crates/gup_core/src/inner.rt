@@ -168,7 +168,15 @@ impl Inner {
             op: seat.answered + 1,
         };
         let here = &mut self.seats[actor.get() as usize];
-        let over = take_at(&mut self.parts, journal, &head, proc, seat.far, &mut here.job, op);
+        let over = take_at(
+            &mut self.parts,
+            journal,
+            &head,
+            proc,
+            seat.far,
+            &mut here.job,
+            op,
+        );
         let woken = woken_by(op, &here.job);
         seats::go_on(here, op, over);
         self.turns = turn;

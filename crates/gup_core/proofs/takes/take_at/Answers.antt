@@ -58,11 +58,11 @@ returns-in-Some-clause-turn c =
       tells = told.tells;
       ends = told.ends;
       is_so =
-          of_born a.parts.now t.new.parts actor a.proc a.far a.op.now a.job.now c.JOBNEW (whats_of told.said)
+          of_born a.parts.now t.new.parts actor a.proc a.far a.op.now a.job.now t.result.1 (whats_of told.said)
           (λ has. absurd (cc (c.has_failed.ensures.other has))) c.requires.birth
           (λ p slots of_p has.
-          subst (λ (q : ℕ). IsTurnAmong a.parts.now t.new.parts actor q slots a.far a.op.now a.job.now (whats_of told.said) c.JOBNEW) (some_is a.proc c.unwrap.result p c.unwrap.ensures of_p)
-          (subst (λ (op : Op). IsTurnAmong a.parts.now t.new.parts actor c.unwrap.result slots a.far op a.job.now (whats_of told.said) c.JOBNEW) (sym is) (λ k rest left far_is. told.is_so slots k rest left)));
+          subst (λ (q : ℕ). IsTurnAmong a.parts.now t.new.parts actor q slots a.far a.op.now a.job.now (whats_of told.said) t.result.1) (some_is a.proc c.unwrap.result p c.unwrap.ensures of_p)
+          (subst (λ (op : Op). IsTurnAmong a.parts.now t.new.parts actor c.unwrap.result slots a.far op a.job.now (whats_of told.said) t.result.1) (sym is) (λ k rest left far_is. told.is_so slots k rest left)));
     }
 
 -- ---- a move
@@ -95,11 +95,11 @@ returns-in-Move-clause-turn c =
       tells = told.tells;
       ends = told.ends;
       is_so =
-          of_born a.parts.now t.new.parts actor a.proc a.far a.op.now a.job.now c.JOBNEW (whats_of told.said)
+          of_born a.parts.now t.new.parts actor a.proc a.far a.op.now a.job.now t.result.1 (whats_of told.said)
           (λ has. absurd (cc (c.has_failed.ensures.other has))) c.requires.birth
           (λ p slots of_p has.
-          subst (λ (q : ℕ). IsTurnAmong a.parts.now t.new.parts actor q slots a.far a.op.now a.job.now (whats_of told.said) c.JOBNEW) (some_is a.proc of p c.unwrap-in-Move.ensures of_p)
-          (subst (λ (op : Op). IsTurnAmong a.parts.now t.new.parts actor of slots a.far op a.job.now (whats_of told.said) c.JOBNEW) (sym move.is) (λ k rest left far_is. told.is_so move.proc slots k rest left)));
+          subst (λ (q : ℕ). IsTurnAmong a.parts.now t.new.parts actor q slots a.far a.op.now a.job.now (whats_of told.said) t.result.1) (some_is a.proc of p c.unwrap-in-Move.ensures of_p)
+          (subst (λ (op : Op). IsTurnAmong a.parts.now t.new.parts actor of slots a.far op a.job.now (whats_of told.said) t.result.1) (sym move.is) (λ k rest left far_is. told.is_so move.proc slots k rest left)));
     }
 
 -- ---- a pin
@@ -178,12 +178,12 @@ returns-in-Pin-clause-turn c =
       tells = told.tells;
       ends = told.ends;
       is_so =
-          of_born a.parts.now t.new.parts actor a.proc a.far a.op.now a.job.now c.JOBNEW (whats_of told.said)
+          of_born a.parts.now t.new.parts actor a.proc a.far a.op.now a.job.now t.result.1 (whats_of told.said)
           (λ has. absurd (cc (c.has_failed.ensures.other has))) c.requires.birth
           (λ p slots of_p has.
-          subst (λ (q : ℕ). IsTurnAmong a.parts.now t.new.parts actor q slots a.far a.op.now a.job.now (whats_of told.said) c.JOBNEW) (some_is a.proc of p c.unwrap-in-Pin.ensures of_p)
-          (subst (λ (op : Op). IsTurnAmong a.parts.now t.new.parts actor of slots a.far op a.job.now (whats_of told.said) c.JOBNEW) (sym pin.is)
-          (pinned a.parts.now t.new.parts actor of slots a.far pin.handle pin.page pin.n pin.want pin.fast a.job.now c.JOBNEW (whats_of told.said)
+          subst (λ (q : ℕ). IsTurnAmong a.parts.now t.new.parts actor q slots a.far a.op.now a.job.now (whats_of told.said) t.result.1) (some_is a.proc of p c.unwrap-in-Pin.ensures of_p)
+          (subst (λ (op : Op). IsTurnAmong a.parts.now t.new.parts actor of slots a.far op a.job.now (whats_of told.said) t.result.1) (sym pin.is)
+          (pinned a.parts.now t.new.parts actor of slots a.far pin.handle pin.page pin.n pin.want pin.fast a.job.now t.result.1 (whats_of told.said)
           (ready.there (subst HasProcess (sym pin.is) tt)) t.ensures.spaces ready.actor_taken t.ensures.taken t.ensures.births t.ensures.stores t.ensures.other_spaces t.ensures.others_taken told.is_so)));
     }
 

@@ -1,11 +1,17 @@
-use Rattle.std.proofs.Common.{◌≡◌, ◌+◌, Some, None, slice_get, refl, sym, ap, ◌∙◌, subst, arith}
+use Rattle.std.proofs.Common.{◌≡◌, ℕ, ◌+◌, Bool, Some, None, List, get_or, slice_get, slice_set, refl, sym, ap, ◌∙◌, subst, arith}
+use Rattle.std.proofs.lemmas.Option.{slice_get_within}
 use Rattle.gup_law_turns.proofs.ScriptLemmas.{op_is_op}
 use Rattle.gup_op_base.specs.Said.{whats_of}
 use Rattle.gup_spec_journal.specs.Follows.{notes_of_turn}
 use Rattle.gup_core.specs.Machine.{MachineValue, machine_of, TakesTurns}
 use Rattle.gup_core.specs.Going.{CanGo, WaitsFor, WritesTurn, MayWakeOf}
+use Rattle.gup_core.specs.Goes.{IsReady}
 use Rattle.gup_core.specs.Rest.{IsAtRest}
 use Rattle.gup_core.specs.Seats.{seat_behind}
+use Rattle.gup_core.specs.declared.seats.Seat.{Seat}
+use Rattle.gup_core.proofs.Parting.{was_there, now_there, other_there, set_length}
+use Rattle.gup_op_base.specs.declared.jobs.JobPlace.{JobPlace}
+use Rattle.gup_core.proofs.Turning.{IsTurnBy}
 use Rattle.gup_core.proofs.Ready.{is_ready, still_parts, process_found_so, process_within, child_within, few}
 use Rattle.gup_core.proofs.Advancing.{goes_so, few_more, wakes_so}
 use Rattle.gup_core.proofs.Taking.{still_machine, waiting_is, goes, IsWaiting}
@@ -74,6 +80,12 @@ take_at-over-requires-clause-child c child same =
     let op = sym (ap (λ ops. slice_get ops c.seat-seat.result.answered) c.ops.ensures) ∙ c.in-Some.ensures in
     (child_within m a child c.seat-seat.result c.in-Some.op.now rest op same).1
 
+-- the seat that is lent is the one that was read
+lent_seat : (seats : List Seat) (i a : ℕ) (lent seat : Seat) → lent ≡ get_or seats i lent → i ≡ a → slice_get seats a ≡ Some seat → lent ≡ seat
+lent_seat seats i a lent seat is same here =
+    let there : Some lent ≡ Some seat = sym (was_there seats i a lent is same (slice_get_within seats a seat here)) ∙ here in
+    cc
+
 pub take_at-over-requires-clause-ready : goal.take_at-over-requires-clause-ready
 take_at-over-requires-clause-ready c p unfailed of_p =
     let i = c.self.inside in
@@ -84,9 +96,10 @@ take_at-over-requires-clause-ready c p unfailed of_p =
     let op = sym (ap (λ ops. slice_get ops c.seat-seat.result.answered) c.ops.ensures) ∙ c.in-Some.ensures in
     let known : IsWaiting m a c.process.result c.seat-seat.result c.in-Some.op.now None =
     λ s who far shown actor of_who fits place at. sym c.in_default-waits_at.is ∙ c.waits_at.ensures s who far shown actor of_who fits place at in
-    is_ready m a c.process-proc.result c.seat-seat.result c.in-Some.op.now c.reached_states_stand.ensures c.self.invariant rest c.process-proc.ensures here op
+    subst (λ (x : Seat). IsReady i.parts a p c.in-Some.op.now c.seat-seat.result.far x.job) (sym (lent_seat i.seats.items c.get.result a c.index_mut-here.result.now c.seat-seat.result c.index_mut-here.ensures.value c.get.ensures.value here))
+    (is_ready m a c.process-proc.result c.seat-seat.result c.in-Some.op.now c.reached_states_stand.ensures c.self.invariant rest c.process-proc.ensures here op
     (waiting_is m a c.process.result c.seat-seat.result c.in-Some.op.now None c.reached_states_stand.ensures rest c.process.ensures here op known)
-    unfailed p of_p
+    unfailed p of_p)
 
 pub overflow_add-head : goal.overflow_add-head
 overflow_add-head c =
@@ -98,17 +111,19 @@ overflow_add-head c =
     let below = few m a c.seat-seat.result rest here in
     omega arith
 
-pub behind-next-requires-clause-few : goal.behind-next-requires-clause-few
-behind-next-requires-clause-few c =
+pub go_on-requires-clause-few : goal.go_on-requires-clause-few
+go_on-requires-clause-few c =
     let i = c.self.inside in
     let a = c.args.actor in
     let m = machine_of i.script i.parts i.seats.items i.turns in
     let rest = subst (λ (x : MachineValue). IsAtRest x) (sym c.self.view_is) c.rests.ensures in
     let here = subst (λ (x : MachineValue). slice_get x.seats a ≡ Some c.seat-seat.result) (sym c.self.view_is) c.seat-seat.ensures in
-    few m a c.seat-seat.result rest here
+    let below = few m a c.seat-seat.result rest here in
+    let same = ap (λ (x : Seat). x.answered) (lent_seat i.seats.items c.get.result a c.index_mut-here.result.now c.seat-seat.result c.index_mut-here.ensures.value c.get.ensures.value here) in
+    omega (arith, below, same)
 
-pub behind-next-requires-clause-op : goal.behind-next-requires-clause-op
-behind-next-requires-clause-op c =
+pub go_on-requires-clause-op : goal.go_on-requires-clause-op
+go_on-requires-clause-op c =
     let i = c.self.inside in
     let a = c.args.actor in
     let m = machine_of i.script i.parts i.seats.items i.turns in
@@ -132,52 +147,63 @@ returns-in-Some-waits_at-clause-advances c =
     (subst (λ (x : MachineValue). WaitsFor x a waiting) c.self.view_is (λ r h. sym (waits r h)), record { machine = refl; notes = refl; room = omega arith })
 
 -- it goes
-turn-taken : (c : goal.After-self-1) → TakesTurns (machine_of c.self.inside.script c.self.inside.parts c.self.inside.seats.items c.self.inside.turns)
-    (machine_of c.self.inside.script c.take_at-over.new.parts c.set_seat.new.seats.items c.next_turn-turn.result) c.args.actor
+turn-taken : (c : goal.After-self-2-1) → TakesTurns (machine_of c.self.inside.script c.self.inside.parts c.self.inside.seats.items c.self.inside.turns)
+    (machine_of c.self.inside.script c.take_at-over.new.parts (slice_set c.self.inside.seats.items c.get.result c.go_on.new.seat) c.next_turn-turn.result) c.args.actor
     (notes_of_turn c.next_turn-turn.result c.args.actor (c.seat-seat.result.answered + 1) (whats_of c.take_at-over.ensures.turn.said))
 turn-taken c =
     let i = c.self.inside in
     let a = c.args.actor in
     let m = machine_of i.script i.parts i.seats.items i.turns in
+    let seat = c.seat-seat.result in
+    let job = c.take_at-over.new.job in
     let rest = subst (λ (x : MachineValue). IsAtRest x) (sym c.self.view_is) c.rests.ensures in
-    let here = subst (λ (x : MachineValue). slice_get x.seats a ≡ Some c.seat-seat.result) (sym c.self.view_is) c.seat-seat.ensures in
-    let op = sym (ap (λ ops. slice_get ops c.seat-seat.result.answered) c.ops.ensures) ∙ c.in-Some.ensures in
-    let known : IsWaiting m a c.process.result c.seat-seat.result c.in-Some.op.now None =
+    let here = subst (λ (x : MachineValue). slice_get x.seats a ≡ Some seat) (sym c.self.view_is) c.seat-seat.ensures in
+    let op = sym (ap (λ ops. slice_get ops seat.answered) c.ops.ensures) ∙ c.in-Some.ensures in
+    let known : IsWaiting m a c.process.result seat c.in-Some.op.now None =
     λ s who far shown actor of_who fits place at. sym c.in_default-waits_at.is ∙ c.waits_at.ensures s who far shown actor of_who fits place at in
     let told = c.take_at-over.ensures.turn in
-    goes m a c.process-proc.result c.seat-seat.result c.behind-next.result c.in-Some.op.now c.take_at-over.new.parts c.set_seat.new.seats.items c.next_turn-turn.result told.said c.take_at-over.result.1
+    let next = c.go_on.new.seat in
+    goes m a c.process-proc.result seat next c.in-Some.op.now c.take_at-over.new.parts (slice_set i.seats.items c.get.result next) c.next_turn-turn.result told.said job
     c.reached_states_stand.ensures rest c.process-proc.ensures here op c.next_turn-turn.ensures
-    (waiting_is m a c.process.result c.seat-seat.result c.in-Some.op.now None c.reached_states_stand.ensures rest c.process.ensures here op known)
-    (c.behind-next.ensures ∙ ap (λ b. seat_behind c.seat-seat.result c.in-Some.op.now b c.take_at-over.result.1) told.ends)
-    c.set_seat.ensures.here c.set_seat.ensures.others told.is_so
+    (waiting_is m a c.process.result seat c.in-Some.op.now None c.reached_states_stand.ensures rest c.process.ensures here op known)
+    (c.go_on.ensures ∙ ap (λ (x : Seat). seat_behind x c.in-Some.op.now c.take_at-over.result job) (lent_seat i.seats.items c.get.result a c.index_mut-here.result.now seat c.index_mut-here.ensures.value c.get.ensures.value here) ∙ ap (λ (b : Bool). seat_behind seat c.in-Some.op.now b job) told.ends)
+    (now_there i.seats.items c.get.result a next c.get.ensures.value (slice_get_within i.seats.items a seat here))
+    (λ b other. other_there i.seats.items c.get.result b next (λ same. other (same ∙ c.get.ensures.value)))
+    (subst (λ (x : Seat). IsTurnBy i.parts c.take_at-over.new.parts a c.process-proc.result seat.far c.in-Some.op.now x.job (whats_of told.said) job) (lent_seat i.seats.items c.get.result a c.index_mut-here.result.now seat c.index_mut-here.ensures.value c.get.ensures.value here) told.is_so)
 
 pub invariant_of-self : goal.invariant_of-self
 invariant_of-self c =
     let i = c.self.inside in
-    still_machine (machine_of i.script i.parts i.seats.items i.turns) (machine_of i.script c.take_at-over.new.parts c.set_seat.new.seats.items c.next_turn-turn.result) c.args.actor
+    let items = slice_set i.seats.items c.get.result c.go_on.new.seat in
+    still_machine (machine_of i.script i.parts i.seats.items i.turns) (machine_of i.script c.take_at-over.new.parts items c.next_turn-turn.result) c.args.actor
     (notes_of_turn c.next_turn-turn.result c.args.actor (c.seat-seat.result.answered + 1) (whats_of c.take_at-over.ensures.turn.said))
     c.self.invariant (still_parts c.self.inside.script c.self.inside.parts c.take_at-over.new.parts c.self.invariant.parts c.take_at-over.ensures.spaces c.take_at-over.ensures.births c.take_at-over.ensures.taken c.take_at-over.ensures.stores c.take_at-over.ensures.slots)
-    (c.set_seat.ensures.many ∙ c.self.invariant.seats) (turn-taken c)
+    (set_length i.seats.items c.get.result c.go_on.new.seat ∙ c.self.invariant.seats) (turn-taken c)
 
 pub returns-clause-advances : goal.returns-clause-advances
 returns-clause-advances c =
     let i = c.self.inside in
     let a = c.args.actor in
     let m = machine_of i.script i.parts i.seats.items i.turns in
+    let seat = c.seat-seat.result in
+    let job = c.take_at-over.new.job in
+    let next = c.go_on.new.seat in
     let rest = subst (λ (x : MachineValue). IsAtRest x) (sym c.self.view_is) c.rests.ensures in
-    let here = subst (λ (x : MachineValue). slice_get x.seats a ≡ Some c.seat-seat.result) (sym c.self.view_is) c.seat-seat.ensures in
-    let op = sym (ap (λ ops. slice_get ops c.seat-seat.result.answered) c.ops.ensures) ∙ c.in-Some.ensures in
-    let known : IsWaiting m a c.process.result c.seat-seat.result c.in-Some.op.now None =
+    let here = subst (λ (x : MachineValue). slice_get x.seats a ≡ Some seat) (sym c.self.view_is) c.seat-seat.ensures in
+    let op = sym (ap (λ ops. slice_get ops seat.answered) c.ops.ensures) ∙ c.in-Some.ensures in
+    let known : IsWaiting m a c.process.result seat c.in-Some.op.now None =
     λ s who far shown actor of_who fits place at. sym c.in_default-waits_at.is ∙ c.waits_at.ensures s who far shown actor of_who fits place at in
-    let ready = waiting_is m a c.process.result c.seat-seat.result c.in-Some.op.now None c.reached_states_stand.ensures rest c.process.ensures here op known in
-    let n = machine_of i.script c.take_at-over.new.parts c.set_seat.new.seats.items c.next_turn-turn.result in
+    let ready = waiting_is m a c.process.result seat c.in-Some.op.now None c.reached_states_stand.ensures rest c.process.ensures here op known in
+    let n = machine_of i.script c.take_at-over.new.parts (slice_set i.seats.items c.get.result next) c.next_turn-turn.result in
     let told = c.take_at-over.ensures.turn in
-    let notes = notes_of_turn c.next_turn-turn.result a (c.seat-seat.result.answered + 1) (whats_of told.said) in
+    let notes = notes_of_turn c.next_turn-turn.result a (seat.answered + 1) (whats_of told.said) in
     let taken = turn-taken c in (
-      subst (λ (x : MachineValue). CanGo x a) c.self.view_is (goes_so m a c.seat-seat.result c.in-Some.op.now here op ready),
+      subst (λ (x : MachineValue). CanGo x a) c.self.view_is (goes_so m a seat c.in-Some.op.now here op ready),
       subst (λ (x : MachineValue). WritesTurn x n c.args.journal.now c.take_at-over.new.journal a) c.self.view_is (λ r h. (notes, told.tells.notes, taken r h)),
       subst (λ (x : MachineValue). MayWakeOf x a c.woken_by-woken.result) c.self.view_is
-          (wakes_so m n a c.seat-seat.result c.behind-next.result c.in-Some.op.now c.take_at-over.result.0 c.take_at-over.result.1 notes c.woken_by-woken.result here op c.behind-next.ensures c.set_seat.ensures.here taken c.woken_by-woken.ensures),
+          (wakes_so m n a seat next c.in-Some.op.now c.take_at-over.result job notes c.woken_by-woken.result here op
+          (c.go_on.ensures ∙ ap (λ (x : Seat). seat_behind x c.in-Some.op.now c.take_at-over.result job) (lent_seat i.seats.items c.get.result a c.index_mut-here.result.now seat c.index_mut-here.ensures.value c.get.ensures.value here))
+          (now_there i.seats.items c.get.result a next c.get.ensures.value (slice_get_within i.seats.items a seat here)) taken c.woken_by-woken.ensures),
     )
 
 pub returns-clause-more : goal.returns-clause-more
