@@ -1,5 +1,5 @@
-//! Tests of what a machine keeps its state in: mappings, frames, handles, processes and stores, and of moves and walks
-//! over them.
+//! Tests of what a machine keeps its state in: mappings, frames, handles, processes, stores and mirror slots, and of moves
+//! and walks over them.
 #![tactic(auto)]
 
 #[cfg(test)]
@@ -8,6 +8,8 @@ mod frames;
 mod handles;
 #[cfg(test)]
 mod maps;
+#[cfg(test)]
+mod mirrors;
 #[cfg(test)]
 mod moves;
 #[cfg(test)]
