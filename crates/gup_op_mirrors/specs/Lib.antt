@@ -1,0 +1,2 @@
+pub mod Invalidated
+pub mod Ranges
