@@ -1,22 +1,22 @@
 -- Which pages the turns of a pin invalidate, of those that have an entry.
-use Rattle.std.proofs.Common.{◌≡◌, ℕ, ◌+◌, ◌==◌, ◌&&◌, ◌||◌, not, nat_lt, Bool, true, false, cond, List, [], ◌∷◌, ◌++◌, length, Option, Some, None, is_some, Ok, Err, refl, sym, ap, ◌∙◌, subst, zero, suc, if◌then◌else◌, arith}
+use Rattle.std.proofs.Common.{◌≡◌, ℕ, ◌+◌, ◌==◌, ◌&&◌, ◌||◌, not, nat_lt, Bool, true, false, cond, List, [], ◌∷◌, ◌++◌, length, Option, Some, None, is_some, Ok, Err, refl, ap, ◌∙◌, subst, zero, suc, if◌then◌else◌, arith}
 use Rattle.std.proofs.Math.Bool.{or-false}
 use Rattle.std.proofs.lemmas.Bool.Decides.{nat_tests}
 use Rattle.gup_base.specs.declared.entry.Entry.{Entry}
 use Rattle.gup_base.specs.declared.entry.Rights.{Rights}
 use Rattle.gup_base.specs.declared.entry.Rights.TheVariants.{R, RW}
 use Rattle.gup_base.specs.declared.entry.Want.{Want}
-use Rattle.gup_plain.specs.Denial.{load_denial, store_denial, pin_denial}
+use Rattle.gup_plain.specs.Denial.{pin_denial}
 use Rattle.gup_plain.specs.Put.{put2}
 use Rattle.gup_plain.specs.declared.answer.Answer.{Answer}
 use Rattle.gup_plain.specs.declared.answer.Answer.TheVariants as answers
-use Rattle.gup_spec_events.specs.State.{CoreState, Taken, Job, moving, walking, Counted, unread, one, more, WalkStep, entered, ready, read, grabbed, rechecked, differed, refused, stopped, dropping, over}
+use Rattle.gup_spec_events.specs.State.{CoreState, Taken, Job, moving, walking, Counted, unread, one, more, WalkStep, entered, ready, read, grabbed, refused, stopped, dropping}
 use Rattle.gup_spec_events.specs.Event.{CoreEvent, is_odd, run, entry_of, take_frame, fill, upgrade, put_entry, break_entry, clear_entry, pin_page, make_handle, raise_flag, restore_entry}
 use Rattle.gup_spec_events.specs.Fault.{Fault, breaks, marks, makes_writable, write_fault, unshares, unshare_fault}
-use Rattle.gup_spec_turns.specs.CoreTurn.{CoreTurn, entry_in, free_in, zones_of}
-use Rattle.gup_spec_turns.specs.Emptying.{PageRange, one_page, has_page, invalidate}
-use Rattle.gup_spec_turns.specs.PinTurns.{raises, pin_fault, makes_if, pins_behind, moves_first, clears_or_pins, pins_in, pins, ends_pin, pin_turn_by, begins_or_pins, ends_moved, pins_moved, moved_turn, pin_turn_in}
-use Rattle.gup_spec_turns.specs.WalkTurns.{leaves_if, sequence_turn, grab_turn, is_same, recheck_turn, is_none_left, all_turn, again_turn, ready_turn, split_last, last_turn, first_turn, walk_turn}
+use Rattle.gup_spec_turns.specs.CoreTurn.{entry_in, free_in, zones_of}
+use Rattle.gup_spec_turns.specs.Emptying.{PageRange, one_page, has_page}
+use Rattle.gup_spec_turns.specs.PinTurns.{raises, pin_fault, makes_if, pins_behind, moves_first, clears_or_pins, pins, ends_pin, pin_turn_by, begins_or_pins, ends_moved, pins_moved, moved_turn, pin_turn_in}
+use Rattle.gup_spec_turns.specs.WalkTurns.{leaves_if, grab_turn, is_same, recheck_turn, is_none_left, all_turn, ready_turn, split_last, last_turn, first_turn, walk_turn}
 use Rattle.gup_op_mirrors.specs.Invalidated.{page_if, copies, changes_in, changes_page, pinned_in, range_from}
 use Rattle.gup_op_mirrors.proofs.Invalidates.{Invalidates, behind, absent, tailed, headed}
 
@@ -97,7 +97,7 @@ module _ (s : CoreState) (a p : ℕ) where
         let t : CoreState = run s es in
         let d : Entry = entry_in (t.entry p page) in
         let moves : moves_first t want d ≡ moves_first s want e =
-            ap (λ (m : ℕ). want.long && nat_lt d.frame m) same.0 ∙ ap (λ (f : ℕ). want.long && nat_lt f s.movable) same.1 in
+        ap (λ (m : ℕ). want.long && nat_lt d.frame m) same.0 ∙ ap (λ (f : ℕ). want.long && nat_lt f s.movable) same.1 in
         subst (λ (b : Bool). Invalidates s (pins s es a p handle page n want (got + 1 == n)).events (of_page b)) moves
         (then_clears (moves_first t want d) es d (headed s first before None none is))
 

@@ -1,37 +1,36 @@
 -- A turn invalidates the pages of which it is to empty the slots, and no others that have an entry.
-use Rattle.std.proofs.Common.{◌≡◌, ℕ, ◌+◌, ◌==◌, ◌<◌, ◌≤◌, ◌&&◌, ◌||◌, not, nat_le, nat_lt, Bool, true, false, cond, List, [], ◌∷◌, ◌++◌, length, Option, Some, None, IsSome, is_some, Ok, Err, refl, sym, ap, ◌∙◌, subst, zero, suc, if◌then◌else◌, arith}
+use Rattle.std.proofs.Common.{◌≡◌, ℕ, ◌+◌, ◌==◌, ◌<◌, ◌≤◌, ◌||◌, not, nat_lt, Bool, true, false, List, [], ◌∷◌, length, Option, Some, None, IsSome, is_some, refl, sym, ap, ◌∙◌, zero, suc, if◌then◌else◌, arith}
 use Rattle.std.proofs.Math.Bool.{or-false}
 use Rattle.std.proofs.lemmas.Bool.Decides.{nat_tests}
-use Rattle.gup_base.specs.Parts.{Part, words_of, word_at}
+use Rattle.gup_base.specs.Parts.{words_of, word_at}
 use Rattle.gup_base.specs.declared.entry.Allowed.{Allowed}
 use Rattle.gup_base.specs.declared.entry.Allowed.TheVariants.{Only}
 use Rattle.gup_base.specs.declared.entry.Entry.{Entry}
 use Rattle.gup_base.specs.declared.entry.Rights.{Rights}
 use Rattle.gup_base.specs.declared.entry.Rights.TheVariants.{R, RW}
 use Rattle.gup_base.specs.declared.entry.Zone.{Zone}
-use Rattle.gup_plain.specs.Denial.{any_mapped, any_unmapped, map_denial, protect_denial, load_denial, is_held_by, holder_denial, transfer_denial}
+use Rattle.gup_plain.specs.Denial.{any_mapped, any_unmapped, map_denial, protect_denial, is_held_by, transfer_denial}
 use Rattle.gup_plain.specs.Event.{page_numbers, words}
 use Rattle.gup_plain.specs.declared.answer.Answer.{Answer}
 use Rattle.gup_plain.specs.declared.event.PlainEvent.{PlainEvent}
 use Rattle.gup_script.specs.Valid.{IsOp}
 use Rattle.gup_script.specs.declared.op.Op.{Op}
 use Rattle.gup_script.specs.declared.op.Op.TheVariants.{Map, Unmap, Protect, Discard, Load, Store, Pin, Unpin, Give, Take, Get, Put, Transfer, Mirror, Look, Fork, Exit, Move}
-use Rattle.gup_spec_events.specs.State.{CoreState, Job, idle, moving, forking, Counted, unread, one, more, ForkStep, between, counted, copying}
-use Rattle.gup_spec_events.specs.Event.{CoreEvent, lower_entry, protect_pages, drop_entry, discard_entry, load, store, get_reference, fail_fork}
-use Rattle.gup_spec_events.specs.Failure.{are_gone, puts_entry, puts_entries, fails}
-use Rattle.gup_spec_events.specs.Fault.{Fault, gives_back}
+use Rattle.gup_spec_events.specs.State.{CoreState, Job, idle, moving, forking, Counted, unread, one, more, between, counted, copying}
+use Rattle.gup_spec_events.specs.Event.{CoreEvent, lower_entry, protect_pages, drop_entry, discard_entry, load, store, get_reference}
+use Rattle.gup_spec_events.specs.Failure.{are_gone, puts_entry, puts_entries}
+use Rattle.gup_spec_events.specs.Fault.{gives_back}
 use Rattle.gup_spec_journal.specs.Denial.{has_reference}
-use Rattle.gup_spec_turns.specs.CoreTurn.{CoreTurn, denied_or, free_in, free_frame}
+use Rattle.gup_spec_turns.specs.CoreTurn.{free_in, free_frame}
 use Rattle.gup_spec_turns.specs.PageTurns.{loads, load_turn, stores, store_turn, load_fault, store_fault, mapped_turn, lowers_entry, lowers, lowers_for, exit_turn_by, lowest_page}
 use Rattle.gup_spec_turns.specs.PinTurns.{gets, get_turn, got_by, got_frame}
-use Rattle.gup_spec_turns.specs.DeviceTurns.{moves_at, moves_from, frame_at}
-use Rattle.gup_spec_turns.specs.MoveTurns.{clear_turn, place_turn, counted_turn, move_turn}
-use Rattle.gup_spec_turns.specs.ForkTurns.{next_page, page_turn, next_turn, frame_turn, copy_turn, copying_turn, fork_step_turn, fork_turn}
+use Rattle.gup_spec_turns.specs.MoveTurns.{place_turn, counted_turn, move_turn}
+use Rattle.gup_spec_turns.specs.ForkTurns.{next_page, page_turn, next_turn, frame_turn, copy_turn, copying_turn, fork_turn}
 use Rattle.gup_spec_turns.specs.Turn.{op_turn}
 use Rattle.gup_spec_turns.specs.Emptying.{PageRange, one_page, has_page, invalidated_by, invalidate}
-use Rattle.gup_spec_turns.proofs.TurnParts.{map_turn_by, unmap_turn_by, protect_turn_by, discard_turn_by, unpin_turn_by, give_turn_by, put_turn_by, clear_turn_by, transfer_turn_by}
-use Rattle.gup_op_mirrors.specs.Invalidated.{page_if, for_store, changes_page, range_from, moved_in, shared_in, page_in, pages_in, invalidated_in}
-use Rattle.gup_op_mirrors.proofs.Invalidates.{Invalidates, behind, absent, tailed, headed, faulted, goes, load_none, store_changes}
+use Rattle.gup_spec_turns.proofs.TurnParts.{map_turn_by, protect_turn_by, unpin_turn_by, give_turn_by, put_turn_by, clear_turn_by, transfer_turn_by}
+use Rattle.gup_op_mirrors.specs.Invalidated.{page_if, for_store, changes_page, range_from, moved_in, shared_in, invalidated_in}
+use Rattle.gup_op_mirrors.proofs.Invalidates.{Invalidates, behind, absent, tailed, faulted, goes, load_none, store_changes}
 use Rattle.gup_op_mirrors.proofs.InvalidatingPins.{pin_invalidates}
 
 -- the range has the page
