@@ -88,7 +88,7 @@ module _ (s : CoreState) where
     load_none None q g some = read_none (s.right p page) (free_frame s) q g some
     load_none (Some e) q g some = refl
 
-    pub broken : (e : Entry) (writable : Bool) (free : Option ℕ) → Invalidates s (events_of (breaks a p page e writable free)) (range_from p 1 (page_if (is_some free) page))
+    broken : (e : Entry) (writable : Bool) (free : Option ℕ) → Invalidates s (events_of (breaks a p page e writable free)) (range_from p 1 (page_if (is_some free) page))
     broken e writable None q g some = refl
     broken e writable (Some f) q g some = or-false (has_page (one_page p page) q g)
 
