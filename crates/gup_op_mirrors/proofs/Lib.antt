@@ -1,0 +1,6 @@
+pub mod FreeFrames
+pub mod Invalidates
+pub mod InvalidatingPins
+pub mod InvalidatingTurns
+pub mod MappedPages
+pub mod StandingPlaces
