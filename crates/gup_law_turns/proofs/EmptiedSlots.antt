@@ -8,7 +8,8 @@ use Rattle.gup_spec_events.specs.Event.{CoreEvent, happens, run, empty_mirror}
 use Rattle.gup_spec_events.specs.Invariant.{AllCan}
 use Rattle.gup_law_events.specs.Law.{all_told}
 use Rattle.gup_spec_turns.specs.CoreTurn.{CoreTurn}
-use Rattle.gup_spec_turns.specs.Emptying.{has_page, invalidated_by, invalidate, is_stale, left_in, empties, emptying, mirror_slots}
+use Rattle.gup_spec_turns.specs.Emptying.{has_page, invalidated_by, invalidate, is_stale, left_in, empties, emptying}
+use Rattle.gup_script.specs.Limits.{most_mirrors}
 use Rattle.gup_law_turns.proofs.CalmStates.{Strand, AreTurnEvents, AreHandleEvents, IsHandleEvent, emptying_slot, unpinning}
 
 -- ---- a turn that invalidates nothing
@@ -33,7 +34,7 @@ handles_none a h (e ∷ es) about p g = rw (handle_none a h p g about.0) (handle
 -- so a turn about a handle is as it was
 pub about_same : (s : CoreState) (a h : ℕ) (turn : CoreTurn) → AreHandleEvents a h turn.events → emptying s a turn ≡ turn
 about_same s a h turn about =
-    ap (λ (es : List CoreEvent). record { events = es ++ turn.events; whats = turn.whats }) (none_emptied s a turn.events 0 mirror_slots (handles_none a h turn.events about))
+    ap (λ (es : List CoreEvent). record { events = es ++ turn.events; whats = turn.whats }) (none_emptied s a turn.events 0 most_mirrors (handles_none a h turn.events about))
 
 pub about_emptying : (s : CoreState) (a h : ℕ) (turn : CoreTurn) → AreHandleEvents a h turn.events → AreHandleEvents a h (emptying s a turn).events
 about_emptying s a h turn about = subst (λ (t : CoreTurn). AreHandleEvents a h t.events) (sym (about_same s a h turn about)) about
@@ -139,7 +140,7 @@ emptying_stale s a turn None noted = refl
 emptying_stale s a turn (Some f) None = refl
 emptying_stale s a turn (Some f) (Some noted) =
     ap (λ (stale : Bool). if stale then None else Some f)
-    (behind_none (empties s a turn.events 0 mirror_slots) turn.events noted.proc noted.page (empties_none s a turn.events 0 mirror_slots noted.proc noted.page))
+    (behind_none (empties s a turn.events 0 most_mirrors) turn.events noted.proc noted.page (empties_none s a turn.events 0 most_mirrors noted.proc noted.page))
 
 -- slots below the first of them stay
 empties_below : (s t : CoreState) (a : ℕ) (es : List CoreEvent) (m n k : ℕ) → k < m → (run t (empties s a es m n)).mirrored k ≡ t.mirrored k

@@ -16,7 +16,8 @@ use Rattle.gup_spec_events.specs.Invariant.{AllCan, frame_of}
 use Rattle.gup_law_base.specs.Sound.{View, IsSound}
 use Rattle.gup_spec_journal.specs.Place.{Place, Doer, place_after}
 use Rattle.gup_spec_turns.specs.CoreTurn.{CoreTurn}
-use Rattle.gup_spec_turns.specs.Emptying.{PageRange, one_page, has_page, invalidated_by, invalidate, is_stale, left_in, empties, emptying, mirror_slots}
+use Rattle.gup_spec_turns.specs.Emptying.{PageRange, one_page, has_page, invalidated_by, invalidate, is_stale, left_in, empties, emptying}
+use Rattle.gup_script.specs.Limits.{most_mirrors}
 use Rattle.gup_spec_turns.specs.JobPlace.{JobPlace, IsForking, HasCounted, StandsFork, IsMoving, StandsMove, place_in}
 use Rattle.gup_spec_turns.specs.PinPlace.{IsMovingPin, IsReadThere, IsWalkingPin, StandsAtPage}
 use Rattle.gup_spec_turns.proofs.Unseen.{mirroring, IsButFor, run_unseen, emptying_unseen, empties_unseen}
@@ -214,12 +215,12 @@ silent_slots s whats = record { left = λ m. go (s.mirrored m) (s.slot m); notes
 
 -- ---- the whole turn
 
-module _ (s : CoreState) (who : Doer) (place : Place) (op : Op) (turn : CoreTurn) (within : (m f : ℕ) → s.mirrored m ≡ Some f → m < mirror_slots) (h : IsTaken (calmed s) who place (Some op) None turn) where
+module _ (s : CoreState) (who : Doer) (place : Place) (op : Op) (turn : CoreTurn) (within : (m f : ℕ) → s.mirrored m ≡ Some f → m < most_mirrors) (h : IsTaken (calmed s) who place (Some op) None turn) where
   abbrev es : List CoreEvent
   es = turn.events
 
   abbrev before : List CoreEvent
-  before = empties s who.actor es 0 mirror_slots
+  before = empties s who.actor es 0 most_mirrors
 
   abbrev front : CoreState
   front = run s before
@@ -232,16 +233,16 @@ module _ (s : CoreState) (who : Doer) (place : Place) (op : Op) (turn : CoreTurn
   clear : IsClear front.mirrored s.slot es
   clear m noted some slot =
       let left = is_filled (front.mirrored m) some in
-      let was : s.mirrored m ≡ Some left.0 = empties_fill s s who.actor es 0 mirror_slots m left.0 left.1 in
-      let fresh : is_stale es (s.mirrored m) (s.slot m) ≡ false = empties_leave s s who.actor es 0 mirror_slots m left.0 (omega arith) (within m left.0 was) left.1 in
+      let was : s.mirrored m ≡ Some left.0 = empties_fill s s who.actor es 0 most_mirrors m left.0 left.1 in
+      let fresh : is_stale es (s.mirrored m) (s.slot m) ≡ false = empties_leave s s who.actor es 0 most_mirrors m left.0 (omega arith) (within m left.0 was) left.1 in
       ap (is_stale es (Some left.0)) (sym slot) ∙ ap (λ (frame : Option ℕ). is_stale es frame (s.slot m)) (sym was) ∙ fresh
 
   at_front : IsButFor s front
-  at_front = empties_unseen s s who.actor es 0 mirror_slots
+  at_front = empties_unseen s s who.actor es 0 most_mirrors
 
   can : AllCan s (before ++ es)
   can =
-      can_behind s before es (empties_can s s who.actor es 0 mirror_slots (λ k least. refl))
+      can_behind s before es (empties_can s s who.actor es 0 most_mirrors (λ k least. refl))
       (subst (λ (t : CoreState). AllCan t es) (sym at_front)
       (all_can front.mirrored s who.actor who.proc (child_of who.proc (Some op)) (strand_of (Some op)) es h.done.kinds clear h.done.can))
 
@@ -263,10 +264,10 @@ module _ (s : CoreState) (who : Doer) (place : Place) (op : Op) (turn : CoreTurn
       record {
         done = record {
           kinds = kinds_behind who.actor who.proc (child_of who.proc (Some op)) (strand_of (Some op)) before es
-              (empties_kinds s who.actor who.proc (child_of who.proc (Some op)) (strand_of (Some op)) es 0 mirror_slots) h.done.kinds;
+              (empties_kinds s who.actor who.proc (child_of who.proc (Some op)) (strand_of (Some op)) es 0 most_mirrors) h.done.kinds;
           can = can;
           rest = subst (λ (t : CoreState). AtRest t who.actor) (sym same) (record { prepared = h.done.rest.prepared; owed = h.done.rest.owed });
-          told = told_behind before es (empties_told s who.actor es 0 mirror_slots) ∙ h.done.told;
+          told = told_behind before es (empties_told s who.actor es 0 most_mirrors) ∙ h.done.told;
         };
         shape = subst (λ (at : JobPlace). TurnAt (plain_of s) (references_of s) who place (Some op) None (place_in s who.actor) turn.whats at) (sym same_place) h.shape;
         next = subst (λ (t : CoreState). FitsNext t who (Some op) place turn.whats) (sym same) (next_with behind.mirrored bare who (Some op) place turn.whats h.next);
@@ -278,14 +279,14 @@ module _ (s : CoreState) (who : Doer) (place : Place) (op : Op) (turn : CoreTurn
   front_slot : front.slot ≡ s.slot
   front_slot = ap (λ (t : CoreState). t.slot) at_front
 
-  is_left : (m : ℕ) → (m < mirror_slots) ⊎ (mirror_slots ≤ m) → front.mirrored m ≡ left_in es (s.mirrored m) (s.slot m)
-  is_left m (inl less) = empties_left s s who.actor es 0 mirror_slots m (omega arith) less (λ j least. refl)
+  is_left : (m : ℕ) → (m < most_mirrors) ⊎ (most_mirrors ≤ m) → front.mirrored m ≡ left_in es (s.mirrored m) (s.slot m)
+  is_left m (inl less) = empties_left s s who.actor es 0 most_mirrors m (omega arith) less (λ j least. refl)
   is_left m (inr past) = by_none (front.mirrored m) (s.mirrored m) refl refl
     where
       by_none : (now was : Option ℕ) → front.mirrored m ≡ now → s.mirrored m ≡ was → now ≡ left_in es was (s.slot m)
       by_none None None now_is was_is = refl
       by_none (Some f) was now_is was_is =
-          let less = within m f (empties_fill s s who.actor es 0 mirror_slots m f now_is) in
+          let less = within m f (empties_fill s s who.actor es 0 most_mirrors m f now_is) in
           absurd (omega (arith, less, past))
       by_none None (Some f) now_is was_is = absurd (let less = within m f was_is in omega (arith, less, past))
 
@@ -294,7 +295,7 @@ module _ (s : CoreState) (who : Doer) (place : Place) (op : Op) (turn : CoreTurn
       let kept = all_keep front.mirrored s who.actor who.proc (child_of who.proc (Some op)) (strand_of (Some op)) es h.done.kinds h.done.can in
       let ran : behind ≡ mirroring front.mirrored (run s es) = run_behind s before es ∙ ap (λ (t : CoreState). run t es) at_front ∙ kept.0 in
       record {
-        left = λ m. ap (λ (t : CoreState). t.mirrored m) ran ∙ is_left m (le_or_lt m mirror_slots) ∙ sym (emptying_stale s who.actor turn (s.mirrored m) (s.slot m));
+        left = λ m. ap (λ (t : CoreState). t.mirrored m) ran ∙ is_left m (le_or_lt m most_mirrors) ∙ sym (emptying_stale s who.actor turn (s.mirrored m) (s.slot m));
         notes = ap (λ (t : CoreState). t.slot) ran ∙ kept.1;
       }
     where

@@ -17,7 +17,7 @@ use Rattle.gup_spec_turns.specs.JobPlace.{place_in}
 use Rattle.gup_law_turns.specs.Standing.{StandsHandle, back_in, IsUnmade}
 use Rattle.gup_spec_turns.specs.Run.{RunState, op_in}
 use Rattle.gup_spec_turns.specs.CoreTurn.{CoreTurn}
-use Rattle.gup_spec_turns.specs.Emptying.{mirror_slots}
+use Rattle.gup_script.specs.Limits.{most_mirrors}
 use Rattle.gup_law_turns.proofs.CountedFrames.{AreCountedThere}
 use Rattle.gup_law_turns.proofs.TurnShapes.{references_of, FitsAt, TurnAt, AtRest, IsDone, child_of, strand_of}
 use Rattle.gup_law_turns.proofs.ShownTurns.{FitsNext, MakesPin}
@@ -43,7 +43,7 @@ IsAhead place k = (place.answered < k) ⊎ ((place.answered ≡ k) × (place.far
 pub record Stands (script : ScriptValue) (r : RunState) : Type 0 where
   pub sound : IsSound r.core
   -- no slot past the last one is filled
-  pub slots : (m f : ℕ) → r.core.mirrored m ≡ Some f → m < mirror_slots
+  pub slots : (m f : ℕ) → r.core.mirrored m ≡ Some f → m < most_mirrors
   pub there : AreCountedThere r.core
   pub rest : (a : ℕ) → AtRest r.core a
   pub few : IsFew (length script.processes) r.core

@@ -26,7 +26,7 @@ use Rattle.gup_spec_turns.specs.CoreTurn.{CoreTurn, answers_with}
 use Rattle.gup_spec_turns.proofs.TurnParts.{waits_at}
 use Rattle.gup_spec_turns.specs.Waits.{waits_born, first_waiting, waits_for_locks, no_lock}
 use Rattle.gup_spec_turns.specs.Turn.{failed_turn, turn_at, op_turn}
-use Rattle.gup_spec_turns.specs.Emptying.{mirror_slots}
+use Rattle.gup_script.specs.Limits.{most_mirrors}
 use Rattle.gup_spec_turns.proofs.UnseenTurns.{turn_unseen, waits_unseen}
 use Rattle.gup_law_base.specs.Sound.{IsSound}
 use Rattle.gup_law_turns.proofs.CountedFrames.{AreCountedThere}
@@ -247,7 +247,7 @@ module _ (s : CoreState) (who : Doer) (place : Place) (quiet : IsQuiet s who.act
 -- What holds of a state, and of the same one with all slots empty.
 record IsQuietly (s : CoreState) (a : ℕ) : Type 0 where
   sound : IsSound s
-  slots : (m f : ℕ) → s.mirrored m ≡ Some f → m < mirror_slots
+  slots : (m f : ℕ) → s.mirrored m ≡ Some f → m < most_mirrors
   there : AreCountedThere s
   rest : AtRest s a
 

@@ -13,6 +13,9 @@ most_devices = 16
 abbrev pub most_handles : ℕ
 most_handles = 1024
 
+abbrev pub most_mirrors : ℕ
+most_mirrors = 64
+
 -- the pages of a pin, and the words of a transfer
 abbrev pub most_pinned : ℕ
 most_pinned = 16

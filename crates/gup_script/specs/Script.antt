@@ -43,6 +43,9 @@ actor_at s a = slice_get s.actors a
 abbrev pub handle_at : ScriptValue → ℕ → Option (List ℕ)
 handle_at s h = slice_get s.handles h
 
+abbrev pub mirror_at : ScriptValue → ℕ → Option (List ℕ)
+mirror_at s m = slice_get s.mirrors m
+
 -- the operations of an actor, in order
 abbrev pub ops_in : Option Actor → List Op
 ops_in None = []

@@ -7,10 +7,10 @@ use Rattle.gup_script.specs.declared.op.Kind.TheVariants.{Thread, Device, Mover}
 use Rattle.gup_script.specs.declared.op.Op.{Op}
 use Rattle.gup_script.specs.declared.op.Op.TheVariants.{Map, Unmap, Protect, Discard, Load, Store, Pin, Unpin, Give, Take, Get, Put, Transfer, Mirror, Look, Move, Fork}
 use Rattle.gup_script.specs.Script.{ScriptValue, Process, Actor, process_at, ops_of}
-use Rattle.gup_script.specs.Limits.{most_handles, most_operations, most_pinned, most_turns, most_words}
+use Rattle.gup_script.specs.Limits.{most_handles, most_mirrors, most_operations, most_pinned, most_turns, most_words}
 use Rattle.gup_base.specs.Counts.{most_slots}
 
--- the numbers of an operation are in range, and its kind is built
+-- the numbers of an operation are in range
 
 abbrev pub IsPages : (page n : ℕ) → Type 0
 IsPages page n = (1 ≤ n) × (n ≤ 1024) × (page + n ≤ 2 ^ 35)
@@ -31,9 +31,8 @@ IsOp (Pin handle page n want fast) = (1 ≤ n) × (n ≤ most_pinned) × (page +
 IsOp (Transfer handle outward slot parts) = AreParts parts × (slot < 2 ^ 32)
 IsOp (Get handle page) = page < 2 ^ 35
 IsOp (Move proc page zone) = page < 2 ^ 35
--- mirrors aren't built
-IsOp (Mirror mirror proc page) = ⊥
-IsOp (Look mirror word) = ⊥
+IsOp (Mirror mirror proc page) = (mirror < most_mirrors) × (page < 2 ^ 35)
+IsOp (Look mirror word) = (mirror < most_mirrors) × (word < 512)
 IsOp op = Unit {0}
 
 -- a process that is declared, and not born at the start
@@ -41,8 +40,8 @@ abbrev pub IsChild : Option Process → Type 0
 IsChild None = ⊥
 IsChild (Some process) = process.born ≡ false
 
--- What an operation names, beside its own process, is declared: the child of a fork, the process of a move, the handle of a
--- pin or of a reference, and whom that is given to.
+-- What an operation names, beside its own process, is declared: the child of a fork, the process of a move or a mirror, the slot of
+-- a mirror or a look, the handle of a pin or of a reference, and whom that is given to.
 abbrev pub AreDeclared : ScriptValue → Op → Type 0
 AreDeclared s (Fork child) = IsChild (process_at s child)
 AreDeclared s (Pin handle page n want fast) = handle < length s.handles
@@ -52,6 +51,8 @@ AreDeclared s (Take handle) = handle < length s.handles
 AreDeclared s (Transfer handle outward slot parts) = handle < length s.handles
 AreDeclared s (Get handle page) = handle < length s.handles
 AreDeclared s (Put handle) = handle < length s.handles
+AreDeclared s (Mirror mirror proc page) = (mirror < length s.mirrors) × (proc < length s.processes)
+AreDeclared s (Look mirror word) = mirror < length s.mirrors
 AreDeclared s (Move proc page zone) = proc < length s.processes
 AreDeclared s op = Unit {0}
 
@@ -75,9 +76,11 @@ KindFits s (Thread p) = p < length s.processes
 KindFits s (Device slots) = (1 ≤ slots) × (slots ≤ most_slots)
 KindFits s Mover = Unit {0}
 
--- only a device moves words, and only the mover pages
+-- only a device moves words and has mirrors, and only the mover moves pages
 abbrev pub IsOfThread : Op → Type 0
 IsOfThread (Transfer handle outward slot parts) = ⊥
+IsOfThread (Mirror mirror proc page) = ⊥
+IsOfThread (Look mirror word) = ⊥
 IsOfThread (Move proc page zone) = ⊥
 IsOfThread op = Unit {0}
 
@@ -87,6 +90,8 @@ IsOfDevice (Unpin handle) = Unit {0}
 IsOfDevice (Give handle to) = Unit {0}
 IsOfDevice (Take handle) = Unit {0}
 IsOfDevice (Transfer handle outward slot parts) = Unit {0}
+IsOfDevice (Mirror mirror proc page) = Unit {0}
+IsOfDevice (Look mirror word) = Unit {0}
 IsOfDevice op = ⊥
 
 -- and that is all that the mover does
@@ -106,6 +111,7 @@ pub record IsScript (s : ScriptValue) : Type 0 where
   pub few_processes : length s.processes ≤ 16
   pub few_actors : length s.actors ≤ 81
   pub few_handles : length s.handles ≤ most_handles
+  pub few_mirrors : length s.mirrors ≤ most_mirrors
   pub kinds : All (λ (a : Actor). KindFits s a.kind) s.actors
   pub ops : All (λ (a : Actor). All IsOp a.ops) s.actors
   pub ops_fit : All (λ (a : Actor). All (FitsKind a.kind) a.ops) s.actors

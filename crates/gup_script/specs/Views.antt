@@ -1,5 +1,5 @@
 -- How the fields of a `Script` are read as its value.
-use Rattle.std.specs.Prelude.{[], map, string_bytes}
+use Rattle.std.specs.Prelude.{map, string_bytes}
 use Rattle.gup_script.specs.declared.script.Process.{Process as ProcessFields}
 use Rattle.gup_script.specs.declared.script.Actor.{Actor as ActorFields}
 use Rattle.gup_script.specs.declared.script.Contents.{Contents}
@@ -20,7 +20,7 @@ script_value s =
       processes = map process_value s.processes.items;
       actors = map actor_value s.actors.items;
       handles = map string_bytes s.handles.items;
-      mirrors = [];
+      mirrors = map string_bytes s.mirrors.items;
       turns = s.turns.items;
       seed = s.seed;
     }

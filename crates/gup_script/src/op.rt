@@ -1,6 +1,6 @@
 use gup_base::{ActorNo, HandleNo, MirrorNo, PageNo, Parts, ProcNo, Rights, Want, WordNo, Zone};
 
-/// An operation of an actor. Fast pins, transfers in several parts and mirrors are not built yet: no script has them.
+/// An operation of an actor. Transfers in several parts are not built yet: no script has them.
 #[derive(Clone, Debug, Drop)]
 pub enum Op {
     /// `map p n r` or `map p n rw`: n pages from p on get these rights (`mmap`).
@@ -86,7 +86,7 @@ pub enum Op {
         proc: ProcNo,
         page: PageNo,
     },
-    /// `look M w`: reads a word through the device's slot.
+    /// `look M w`: reads a word through the device's slot, if that is still filled.
     Look {
         mirror: MirrorNo,
         word: WordNo,

@@ -1,9 +1,9 @@
 ghost use Rattle.std.specs.Prelude.{◌≡◌, ℕ, ◌<◌, List, length, Some, IfOk};
-ghost use Rattle.gup_script.specs.Script.{Process as ProcessValue, Actor as ActorValue, process_at, actor_at, handle_at};
+ghost use Rattle.gup_script.specs.Script.{Process as ProcessValue, Actor as ActorValue, process_at, actor_at, handle_at, mirror_at};
 ghost use Rattle.gup_script.specs.Valid.{IsScript};
 
 use crate::op::{Kind, Op};
-use gup_base::{ActorNo, HandleNo, NoMemory, ProcNo};
+use gup_base::{ActorNo, HandleNo, MirrorNo, NoMemory, ProcNo};
 use std::marker::Model;
 
 /// A process as its line declares it: born at the start, or brought by a fork.
@@ -31,6 +31,8 @@ pub struct Contents {
     pub actors: Vec<Actor>,
     /// The names of the handles.
     pub handles: Vec<String>,
+    /// The names of the mirror slots.
+    pub mirrors: Vec<String>,
     pub turns: Vec<ActorNo>,
     pub seed: u64,
 }
@@ -146,6 +148,22 @@ impl Script {
         ensures { (name : List ℕ) → handle_at self.now h ≡ Some name → result.now ≡ name }
     {
         self.contents.handles[h.get() as usize].as_str()
+    }
+
+    /// How many mirror slots the script declares, at most 64.
+    pub fn mirrors(&self) -> u8
+        ensures count { result ≡ length self.now.mirrors }
+        ensures valid { IsScript self.now }
+    {
+        self.contents.mirrors.len() as u8
+    }
+
+    /// The mirror slot's name.
+    pub fn mirror_name(&self, m: MirrorNo) -> &str
+        requires { m < length self.now.mirrors }
+        ensures { (name : List ℕ) → mirror_at self.now m ≡ Some name → result.now ≡ name }
+    {
+        self.contents.mirrors[m.get() as usize].as_str()
     }
 
     /// Whether the process is born at the start. Others are brought by a fork.

@@ -12,8 +12,8 @@ use Rattle.gup_script.specs.declared.op.Op.{Op}
 use Rattle.gup_script.specs.declared.op.Op.TheVariants as ops
 use Rattle.gup_script.specs.Script.{ScriptValue, FrameCounts, actor_at, is_thread}
 use Rattle.gup_spec_grammar.specs.Said.{Word, Said, a_process, a_child, a_thread, a_device, a_mover, a_seed, some_turns, random_turns, said_words, Action, maps, unmaps, protects, discards, loads, stores, exits, pins, gets, puts, forks, unpins, takes, gives, transfers, transfers_parts, mirrors, looks, moves, action_words, IsShaped, op_words_of}
-use Rattle.gup_spec_grammar.specs.Outline.{Outline, empty_outline, with_process, with_actor, with_handle, with_reference, with_operation, with_turns, with_seed, is_device, how_many, has_mover, is_child, is_forked, is_receiver, draws}
-use Rattle.gup_script.specs.Limits.{most_processes, most_threads, most_devices, most_handles, most_pinned, most_words, most_operations, most_turns, most_frames, most_tables}
+use Rattle.gup_spec_grammar.specs.Outline.{Outline, empty_outline, with_process, with_actor, with_handle, with_reference, with_slot, with_operation, with_turns, with_seed, is_device, how_many, has_mover, is_child, is_forked, is_receiver, draws}
+use Rattle.gup_script.specs.Limits.{most_processes, most_threads, most_devices, most_handles, most_mirrors, most_pinned, most_words, most_operations, most_turns, most_frames, most_tables}
 use Rattle.gup_base.specs.Counts.{most_slots}
 
 -- 1. Numbers: those that a line has are spelled right and in range
@@ -77,6 +77,10 @@ IsGotName st word = (h : ℕ) × NamesGot st word h
 -- a mirror slot of this device
 abbrev pub IsMirrorOf : Outline → ℕ → Word → Type 0
 IsMirrorOf st a word = (m : ℕ) × (find st.names word ≡ Some (named.Mirror m a))
+
+-- a mirror slot, of whichever device
+abbrev pub NamesMirror : Outline → Word → ℕ → Type 0
+NamesMirror st word m = (a : ℕ) × (find st.names word ≡ Some (named.Mirror m a))
 
 abbrev pub IsUnused : Outline → Word → Type 0
 IsUnused st word = find st.names word ≡ None
@@ -149,13 +153,15 @@ SaidLimits st (random_turns start count) = (n : ℕ) × IsNumber count n × (len
 SaidLimits st said = Unit {0}
 
 -- there may be what the action declares
-abbrev pub HandleLimits : Outline → Action → Type 0
-HandleLimits st (pins fast handle first count write long) = length st.script.handles < most_handles
-HandleLimits st (gets handle page) = length st.script.handles < most_handles
-HandleLimits st action = Unit {0}
+abbrev pub DeclaredLimits : Outline → Action → Type 0
+DeclaredLimits st (pins fast handle first count write long) = length st.script.handles < most_handles
+DeclaredLimits st (gets handle page) = length st.script.handles < most_handles
+DeclaredLimits st (mirrors mirror process page) =
+    ((m : ℕ) × NamesMirror st mirror m) ⊎ (length st.script.mirrors < most_mirrors)
+DeclaredLimits st action = Unit {0}
 
 abbrev pub ActionLimits : Outline → Action → Type 0
-ActionLimits st action = HandleLimits st action × (st.operations < most_operations)
+ActionLimits st action = DeclaredLimits st action × (st.operations < most_operations)
 
 -- 5. What a right line makes
 
@@ -164,7 +170,7 @@ abbrev pub want_of : (write long : Bool) → Want
 want_of write long = record { write = write; long = long }
 
 -- The operation that an action is. Those that none is said of come later: a line with one is right, and refused for
--- that alone. A pin makes the next handle.
+-- that alone. A pin makes the next handle, and a mirror whose slot isn't declared yet the next slot.
 abbrev pub Means : Outline → Action → Op → Type 0
 Means st (maps first count rights) op = (page n : ℕ) × IsRange 1024 first count page n × (op ≡ ops.Map page n rights)
 Means st (unmaps first count) op = (page n : ℕ) × IsRange 1024 first count page n × (op ≡ ops.Unmap page n)
@@ -182,6 +188,10 @@ Means st (gets handle page) op =
     (p : ℕ) × IsPage page p × (op ≡ ops.Get (length st.script.handles) p)
 Means st (puts handle) op = (h : ℕ) × NamesGot st handle h × (op ≡ ops.Put h)
 Means st (forks child) op = (p : ℕ) × NamesProcess st child p × (op ≡ ops.Fork p)
+Means st (mirrors mirror process page) op =
+    (m p g : ℕ) × (NamesMirror st mirror m ⊎ (IsUnused st mirror × (m ≡ length st.script.mirrors)))
+    × NamesProcess st process p × IsPage page g × (op ≡ ops.Mirror m p g)
+Means st (looks mirror word) op = (m w : ℕ) × NamesMirror st mirror m × IsWordNo word w × (op ≡ ops.Look m w)
 Means st (moves process page zone) op =
     (p g : ℕ) × NamesProcess st process p × IsPage page g × (op ≡ ops.Move p g zone)
 Means st (unpins handle) op = (h : ℕ) × NamesPin st handle h × (op ≡ ops.Unpin h)
@@ -192,18 +202,17 @@ Means st (transfers outward handle index slot count) op =
     × (op ≡ ops.Transfer h outward s ((i, n) ∷ []))
 Means st action op = ⊥
 
--- The action is an operation that is built: all are but mirrors, and transfers of several parts.
+-- The action is an operation that is built: all are but transfers of several parts.
 abbrev pub IsBuilt : Action → Type 0
-IsBuilt (mirrors mirror process page) = ⊥
-IsBuilt (looks mirror word) = ⊥
 IsBuilt (transfers_parts outward handle slot first more) = ⊥
 IsBuilt action = Unit {0}
 
--- the outline with what the action declares: the handle of a pin or of a reference
-abbrev pub with_declared : Action → Outline → Outline
-with_declared (pins fast handle first count write long) st = with_handle handle st
-with_declared (gets handle page) st = with_reference handle st
-with_declared action st = st
+-- the outline with what this actor's action declares: the handle of a pin or of a reference, or the slot of a mirror
+abbrev pub with_declared : (actor : ℕ) → Action → Outline → Outline
+with_declared a (pins fast handle first count write long) st = with_handle handle st
+with_declared a (gets handle page) st = with_reference handle st
+with_declared a (mirrors mirror process page) st = with_slot a mirror (find st.names mirror) st
+with_declared a action st = st
 
 abbrev pub Becomes : Outline → Said → Outline → Type 0
 Becomes st (a_process name) next = next ≡ with_process name true st
@@ -226,7 +235,7 @@ Declares st said next =
 abbrev pub Does : Outline → (actor : ℕ) → Action → Outline → Type 0
 Does st a action next =
     IsShaped action × ActionNumbers action × ActionNames st a action × ActionOnce st action × ActionLimits st action
-    × IsBuilt action × ((op : Op) × Means st action op × (next ≡ with_operation a op (with_declared action st)))
+    × IsBuilt action × ((op : Op) × Means st action op × (next ≡ with_operation a op (with_declared a action st)))
 
 -- is the operation with this word one of the actor's kind?
 abbrev pub IsOpOf : Outline → (actor : ℕ) → Word → Type 0

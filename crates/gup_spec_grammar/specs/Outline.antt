@@ -9,7 +9,7 @@ use Rattle.gup_script.specs.declared.op.Kind.TheVariants.{Thread, Device, Mover}
 use Rattle.gup_script.specs.declared.op.Op.{Op}
 use Rattle.gup_script.specs.declared.op.Op.TheVariants.{Fork}
 use Rattle.gup_script.specs.Script.{ScriptValue, Process, Actor, FrameCounts}
-use Rattle.gup_script.specs.Limits.{most_handles}
+use Rattle.gup_script.specs.Limits.{most_handles, most_mirrors}
 
 pub record Outline : Type 0 where
   pub script : ScriptValue
@@ -33,7 +33,7 @@ empty_outline counts =
       seeded = false;
     }
 
--- one more process, actor, handle or operation; more written turns; the seed
+-- one more process, actor, handle, mirror slot or operation; more written turns; the seed
 
 abbrev pub with_process : List ℕ → Bool → Outline → Outline
 with_process name born st =
@@ -64,6 +64,19 @@ with_handle name st = with_named name (named.Pin (length st.script.handles)) st
 -- the handle of a reference
 abbrev pub with_reference : List ℕ → Outline → Outline
 with_reference name st = with_named name (named.Got (length st.script.handles)) st
+
+-- a mirror slot of this device
+abbrev pub with_mirror : (device : ℕ) → List ℕ → Outline → Outline
+with_mirror device name st =
+    record st {
+      script = record st.script { mirrors = st.script.mirrors ++ name ∷ [] };
+      names = declared st.names name (named.Mirror (length st.script.mirrors) device);
+    }
+
+-- the same, unless the name names something already
+abbrev pub with_slot : (device : ℕ) → List ℕ → Option Named → Outline → Outline
+with_slot device name None st = with_mirror device name st
+with_slot device name (Some what) st = st
 
 abbrev pub with_op : ℕ → Op → List Actor → List Actor
 with_op k op [] = []
@@ -120,6 +133,12 @@ is_forked st p = list_any (λ (a : Actor). list_any (forks_child p) a.ops) st.sc
 -- the number of the next handle, if there may be one more
 abbrev pub next_handle : Outline → Option ℕ
 next_handle st = if nat_lt (length st.script.handles) most_handles then Some (length st.script.handles) else None
+
+-- the number of the mirror slot that a name names, or of the next slot where it names nothing, if there may be one more
+abbrev pub slot_of : Outline → Option Named → Option ℕ
+slot_of st None = if nat_lt (length st.script.mirrors) most_mirrors then Some (length st.script.mirrors) else None
+slot_of st (Some (named.Mirror m device)) = Some m
+slot_of st _ = None
 
 -- an actor to which a handle can be given: a thread or a device
 abbrev pub is_receiver_at : Option Actor → Bool

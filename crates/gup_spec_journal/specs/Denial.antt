@@ -4,7 +4,7 @@ use Rattle.gup_plain.specs.State.{PlainState}
 use Rattle.gup_plain.specs.Denial.{denial_at, any_mapped, any_unmapped, load_denial, store_denial, map_denial, protect_denial, pin_denial, holder_denial, is_held_by, transfer_denial}
 use Rattle.gup_plain.specs.declared.answer.Answer.{Answer}
 use Rattle.gup_script.specs.declared.op.Op.{Op}
-use Rattle.gup_script.specs.declared.op.Op.TheVariants.{Map, Protect, Load, Store, Pin, Unpin, Give, Get, Put, Transfer, Move}
+use Rattle.gup_script.specs.declared.op.Op.TheVariants.{Map, Protect, Load, Store, Pin, Unpin, Give, Get, Put, Transfer, Mirror, Move}
 use Rattle.gup_spec_journal.specs.Place.{Doer, birth_for}
 
 -- Who has got a reference under each handle, and not put it back. References change nothing of the plain state.
@@ -31,6 +31,7 @@ op_denial s references who got (Get handle page) = load_denial (s.right who.proc
 op_denial s references who got (Put handle) = holder_denial (has_reference (references handle) who.actor)
 op_denial s references who got (Transfer handle outward slot parts) =
     transfer_denial (s.handle handle) who.actor outward who.slots slot parts
+op_denial s references who got (Mirror mirror proc page) = load_denial (s.right who.proc page)
 op_denial s references who got (Move proc page zone) = load_denial (s.right who.proc page)
 op_denial s references who got op = None
 

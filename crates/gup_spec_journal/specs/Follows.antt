@@ -14,7 +14,7 @@ use Rattle.gup_plain.specs.declared.event.PlainEvent.TheVariants as events
 use Rattle.gup_plain.specs.declared.note.What.{What}
 use Rattle.gup_plain.specs.declared.note.What.TheVariants.{Silent, Idle, Wait, Event, Done}
 use Rattle.gup_script.specs.declared.op.Op.{Op}
-use Rattle.gup_script.specs.declared.op.Op.TheVariants.{Map, Unmap, Protect, Discard, Load, Store, Pin, Unpin, Give, Take, Get, Put, Transfer, Fork, Exit, Move}
+use Rattle.gup_script.specs.declared.op.Op.TheVariants.{Map, Unmap, Protect, Discard, Load, Store, Pin, Unpin, Give, Take, Get, Put, Transfer, Mirror, Look, Fork, Exit, Move}
 use Rattle.gup_script.specs.Script.{ScriptValue}
 use Rattle.gup_spec_journal.specs.Place.{process_of, ops_of}
 use Rattle.gup_spec_journal.specs.Plain.{refusal_by_cause}
@@ -78,6 +78,10 @@ refuses (Transfer handle outward slot parts) answers.NotHeld = true
 refuses (Transfer handle outward slot parts) answers.Forbidden = not outward
 refuses (Transfer handle outward slot parts) answers.Range = true
 refuses (Transfer handle outward slot parts) answers.Unborn = false
+refuses (Mirror mirror proc page) answers.Missing = true
+refuses (Mirror mirror proc page) answers.NoFrame = true
+refuses (Look mirror word) answers.Stale = true
+refuses (Look mirror word) answers.Unborn = false
 refuses (Move proc page zone) answers.Missing = true
 refuses (Move proc page zone) answers.Untouched = true
 refuses (Move proc page zone) (answers.Busy count) = true
@@ -328,12 +332,14 @@ Completes who (Take handle) notes = IsTurn who (Event (events.Take who.actor han
 Completes who (Get handle page) notes = IsTurn who (Done answers.Plain ∷ []) notes
 Completes who (Put handle) notes = IsTurn who (Done answers.Plain ∷ []) notes
 Completes who (Transfer handle outward slot parts) notes = MovesWords who handle outward slot parts 0 (words_of parts) notes
+Completes who (Mirror mirror proc page) notes =
+    IsTurn who (Event (events.MirrorFill who.actor mirror proc page) ∷ Done answers.Plain ∷ []) notes
+Completes who (Look mirror word) notes =
+    (value : ℕ) × IsTurn who (Event (events.Look who.actor mirror word value) ∷ Done (answers.Value value) ∷ []) notes
 Completes who (Move proc page zone) notes = IsThirdTurn who (Done answers.Plain ∷ []) notes
 Completes who (Fork child) notes =
     Forks who child notes ⊎ IsTurn who (Event (events.ForkFail child) ∷ Done answers.Unborn ∷ []) notes
 Completes who Exit notes = (pages : ℕ) × TakesDownWhole who pages notes
--- nothing else is built
-Completes who op notes = ⊥
 
 -- the shapes of an operation's notes
 abbrev pub Shape : Who → Op → List NoteValue → Type 0

@@ -4,3 +4,4 @@ pub mod Plain
 pub mod Thorough
 pub mod Follows
 pub mod Order
+pub mod Stale

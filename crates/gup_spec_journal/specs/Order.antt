@@ -9,7 +9,7 @@ use Rattle.gup_plain.specs.declared.note.What.TheVariants.{Idle, Wait}
 use Rattle.gup_plain.specs.declared.note.Waiting.{Waiting}
 use Rattle.gup_plain.specs.declared.note.Waiting.TheVariants as waitings
 use Rattle.gup_script.specs.declared.op.Op.{Op}
-use Rattle.gup_script.specs.declared.op.Op.TheVariants.{Map, Unmap, Protect, Discard, Load, Store, Pin, Take, Get, Fork, Exit, Move}
+use Rattle.gup_script.specs.declared.op.Op.TheVariants.{Map, Unmap, Protect, Discard, Load, Store, Pin, Take, Get, Mirror, Fork, Exit, Move}
 use Rattle.gup_script.specs.Script.{ScriptValue}
 use Rattle.gup_spec_journal.specs.Place.{Place, first_place, place_behind, doer_of, birth_for, present_op, has_finished, starts_born}
 use Rattle.gup_spec_journal.specs.Plain.{plain_after}
@@ -73,7 +73,7 @@ KeepsLock (Some (Move proc page zone)) = Unit {0}
 KeepsLock (Some (Fork child)) = Unit {0}
 KeepsLock op = ⊥
 
--- the operations of which a turn may need a lock: what is done with a pin or a reference that is there needs none
+-- the operations of which a turn may need a lock: what is done with a pin, a reference or a mirror that is there needs none
 abbrev pub MayNeedLock : Option Op → Type 0
 MayNeedLock (Some (Map page n rights)) = Unit {0}
 MayNeedLock (Some (Unmap page n)) = Unit {0}
@@ -83,6 +83,7 @@ MayNeedLock (Some (Load page word)) = Unit {0}
 MayNeedLock (Some (Store page word value)) = Unit {0}
 MayNeedLock (Some (Pin handle page n want fast)) = Unit {0}
 MayNeedLock (Some (Get handle page)) = Unit {0}
+MayNeedLock (Some (Mirror mirror proc page)) = Unit {0}
 MayNeedLock (Some (Move proc page zone)) = Unit {0}
 MayNeedLock (Some (Fork child)) = Unit {0}
 MayNeedLock (Some Exit) = Unit {0}

@@ -5,7 +5,7 @@ use Rattle.gup_plain.specs.declared.note.What.TheVariants.{Silent, Idle, Wait, E
 use Rattle.gup_script.specs.declared.op.Kind.{Kind}
 use Rattle.gup_script.specs.declared.op.Kind.TheVariants.{Thread, Device, Mover}
 use Rattle.gup_script.specs.declared.op.Op.{Op}
-use Rattle.gup_script.specs.declared.op.Op.TheVariants.{Move}
+use Rattle.gup_script.specs.declared.op.Op.TheVariants.{Mirror, Move}
 pub use Rattle.gup_script.specs.Script.{ops_in, ops_of}
 use Rattle.gup_script.specs.Limits.{most_processes}
 use Rattle.gup_script.specs.Script.{ScriptValue, Process, Actor, actor_at, is_thread}
@@ -72,16 +72,18 @@ doer_in a actor = record { actor = a; of_process = thread_in actor; proc = proce
 abbrev pub doer : ScriptValue → ℕ → Doer
 doer script a = doer_in a (actor_at script a)
 
--- a move is of the process that it names; any other operation is of its thread's own, if it is one of a thread
+-- a move and a mirror are of the process that they name; any other operation is of its thread's own, if it is one of a thread
 abbrev pub is_of_process : (own : Bool) → Option Op → Bool
+is_of_process own (Some (Mirror mirror proc page)) = true
 is_of_process own (Some (Move proc page zone)) = true
 is_of_process own op = own
 
 abbrev pub process_of_op : (own : ℕ) → Option Op → ℕ
+process_of_op own (Some (Mirror mirror proc page)) = proc
 process_of_op own (Some (Move proc page zone)) = proc
 process_of_op own op = own
 
--- The same by the operation: of the process that this is of. So a move waits for the birth of that, as a thread's operation does.
+-- The same by the operation: of the process that this is of. So a move or a mirror waits for the birth of that, as a thread's operation does.
 abbrev pub concerned : Doer → Option Op → Doer
 concerned who op =
     record who { of_process = is_of_process who.of_process op; proc = process_of_op who.proc op }

@@ -3,7 +3,8 @@ use Rattle.std.proofs.Common.{◌≡◌, ℕ, ◌+◌, Bool, true, false, List, 
 use Rattle.gup_spec_events.specs.State.{CoreState}
 use Rattle.gup_spec_events.specs.Event.{CoreEvent, happens, run, take_frame, fill, count_one, set_mark, upgrade, break_entry, put_entry, raise_flag, pin_page, make_handle, unpin_page, give_handle, take_handle, get_reference, put_reference, clear_entry, count_moved, place_frame, restore_entry, begin_fork, count_page, share_entry, share_mark, share_child, copy_word, place_child, pass_page, end_fork, fail_fork, put_child, fail_unborn, map_pages, lower_entry, protect_pages, drop_entry, discard_entry, load, store, move_out, move_in, empty_mirror, fill_mirror, look, enter_walk, read_sequence, read_entry, grab_frame, miss_frame, recheck_same, recheck_other, read_mark, read_again, drop_grab, drop_last, drop_first, leave_walk}
 use Rattle.gup_spec_turns.specs.CoreTurn.{CoreTurn}
-use Rattle.gup_spec_turns.specs.Emptying.{empties, is_stale, emptying, mirror_slots}
+use Rattle.gup_spec_turns.specs.Emptying.{empties, is_stale, emptying}
+use Rattle.gup_script.specs.Limits.{most_mirrors}
 
 -- the state with these slots filled, and no others
 abbrev pub mirroring : (ℕ → Option ℕ) → CoreState → CoreState
@@ -94,9 +95,9 @@ empties_unseen s t a es m (suc n) = go (is_stale es (t.mirrored m) (t.slot m)) (
 -- a turn that empties slots first leads to the same state as without that, but for the slots
 pub emptying_unseen : (s : CoreState) (a : ℕ) (turn : CoreTurn) → IsButFor (run s turn.events) (run s (emptying s a turn).events)
 emptying_unseen s a turn =
-    let before : List CoreEvent = empties s a turn.events 0 mirror_slots in
+    let before : List CoreEvent = empties s a turn.events 0 most_mirrors in
     let t : CoreState = run s before in
-    let at_front : t ≡ mirroring t.mirrored s = empties_unseen s s a turn.events 0 mirror_slots in
+    let at_front : t ≡ mirroring t.mirrored s = empties_unseen s s a turn.events 0 most_mirrors in
     subst (λ (u : CoreState). IsButFor (run s turn.events) u) (sym (run_after s before turn.events))
     (subst (λ (u : CoreState). IsButFor (run s turn.events) (run u turn.events)) (sym at_front) (run_unseen t.mirrored s turn.events))
 

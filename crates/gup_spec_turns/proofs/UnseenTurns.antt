@@ -1,4 +1,4 @@
--- The turn of an operation and what an actor waits for are the same whatever mirror slots are filled.
+-- The turn of an operation, but for a look, and what an actor waits for are the same whatever mirror slots are filled.
 use Rattle.std.proofs.Common.{◌≡◌, ℕ, ◌+◌, ◌==◌, ◌&&◌, nat_lt, Bool, true, false, List, ◌++◌, length, Option, Some, None, Ok, Err, refl, ap, ◌∙◌}
 use Rattle.gup_base.specs.declared.entry.Allowed.{Allowed}
 use Rattle.gup_base.specs.declared.entry.Allowed.TheVariants.{Any, Only}
@@ -7,7 +7,7 @@ use Rattle.gup_base.specs.declared.entry.Want.{Want}
 use Rattle.gup_base.specs.declared.entry.Zone.{Zone}
 use Rattle.gup_base.specs.declared.entry.Zone.TheVariants.{Movable, Normal}
 use Rattle.gup_script.specs.declared.op.Op.{Op}
-use Rattle.gup_script.specs.declared.op.Op.TheVariants.{Load, Store, Pin, Get, Transfer, Fork, Exit, Move}
+use Rattle.gup_script.specs.declared.op.Op.TheVariants.{Load, Store, Pin, Get, Transfer, Mirror, Look, Fork, Exit, Move}
 use Rattle.gup_spec_events.specs.State.{CoreState, Job, moving, forking, walking, Counted, unread, one, more, between, copying, WalkStep, ready}
 use Rattle.gup_spec_events.specs.Event.{CoreEvent, run}
 use Rattle.gup_spec_events.specs.Fault.{Fault}
@@ -19,12 +19,18 @@ use Rattle.gup_spec_turns.specs.CoreTurn.{CoreTurn, after_fault, denied_or, entr
 use Rattle.gup_spec_turns.specs.PageTurns.{loads, loads_in, stores, stores_to, load_fault, store_fault, exit_turn_by, lowest_page}
 use Rattle.gup_spec_turns.specs.PinTurns.{pins, pins_in, pin_fault, pin_turn_by, pin_turn_in, begins_or_pins, raises, gets, gets_by, moved_turn, pins_moved}
 use Rattle.gup_spec_turns.specs.ForkTurns.{fork_turn, copy_turn, copying_turn, frame_turn, next_page, next_turn, page_turn}
+use Rattle.gup_spec_turns.specs.MirrorTurns.{fills, fills_by}
 use Rattle.gup_spec_turns.specs.MoveTurns.{counted_turn, move_turn, place_turn}
 use Rattle.gup_spec_turns.specs.DeviceTurns.{frame_at, moves_from}
 use Rattle.gup_spec_turns.specs.WalkTurns.{ready_turn, walk_turn}
 use Rattle.gup_spec_turns.specs.Turn.{op_turn}
 use Rattle.gup_spec_turns.specs.Waits.{Locks, first_waiting, locks_needed, waits_born, waits_for_locks}
 use Rattle.gup_spec_turns.proofs.Unseen.{mirroring, run_unseen}
+
+-- a look reads which slots are filled, and no other operation does
+abbrev pub IsNoLook : Op → Type 0
+IsNoLook (Look mirror word) = ⊥
+IsNoLook op = Unit {0}
 
 module _ (filled : ℕ → Option ℕ) (s : CoreState) where
   abbrev with_slots : CoreState
@@ -47,6 +53,10 @@ module _ (filled : ℕ → Option ℕ) (s : CoreState) where
   gets_unseen : (a p handle page : ℕ) (before : List CoreEvent) → gets with_slots before a p handle page ≡ gets s before a p handle page
   gets_unseen a p handle page before =
       after_unseen (λ t. gets_by before a p handle page (entry_in (t.entry p page))) (λ f t. refl) before
+
+  fills_unseen : (a p mirror page : ℕ) (before : List CoreEvent) → fills with_slots before a p mirror page ≡ fills s before a p mirror page
+  fills_unseen a p mirror page before =
+      after_unseen (λ t. fills_by before a p mirror page (entry_in (t.entry p page))) (λ f t. refl) before
 
   pins_unseen : (a p handle page n : ℕ) (want : Want) (last : Bool) (before : List CoreEvent) → pins with_slots before a p handle page n want last ≡ pins s before a p handle page n want last
   pins_unseen a p handle page n want last before =
@@ -140,27 +150,31 @@ module _ (filled : ℕ → Option ℕ) (s : CoreState) where
   load_unseen a p page None = refl
   load_unseen a p page (Some e) = refl
 
-  pub turn_unseen : (a p slots far : ℕ) (op : Op) → op_turn with_slots a p slots far op ≡ op_turn s a p slots far op
-  turn_unseen a p slots far (Load page word) =
+  pub turn_unseen : (a p slots far : ℕ) (op : Op) → IsNoLook op → op_turn with_slots a p slots far op ≡ op_turn s a p slots far op
+  turn_unseen a p slots far (Load page word) no_look =
       ap (λ (fault : Fault). after_fault fault (λ before. loads with_slots before a p page word)) (load_unseen a p page (s.entry p page))
       ∙ faulted (load_fault s a p page (s.entry p page)) (λ before. loads with_slots before a p page word) (λ before. loads s before a p page word) (loads_unseen a p page word)
-  turn_unseen a p slots far (Store page word value) =
+  turn_unseen a p slots far (Store page word value) no_look =
       faulted (store_fault s a p page (s.entry p page)) (λ before. stores with_slots before a p page word value) (λ before. stores s before a p page word value) (stores_unseen a p page word value)
-  turn_unseen a p slots far (Get handle page) =
+  turn_unseen a p slots far (Get handle page) no_look =
       ap (λ (fault : Fault). after_fault fault (λ before. gets with_slots before a p handle page)) (load_unseen a p page (s.entry p page))
       ∙ faulted (load_fault s a p page (s.entry p page)) (λ before. gets with_slots before a p handle page) (λ before. gets s before a p handle page) (gets_unseen a p handle page)
-  turn_unseen a p slots far (Pin handle page n want fast) = pin_unseen a p handle page n (length (s.taken a)) want fast far (s.job a)
-  turn_unseen a p slots far (Transfer handle outward slot parts) =
+  turn_unseen a p slots far (Mirror mirror proc page) no_look =
+      ap (λ (fault : Fault). after_fault fault (λ before. fills with_slots before a p mirror page)) (load_unseen a p page (s.entry p page))
+      ∙ faulted (load_fault s a p page (s.entry p page)) (λ before. fills with_slots before a p mirror page) (λ before. fills s before a p mirror page) (fills_unseen a p mirror page)
+  turn_unseen a p slots far (Pin handle page n want fast) no_look = pin_unseen a p handle page n (length (s.taken a)) want fast far (s.job a)
+  turn_unseen a p slots far (Transfer handle outward slot parts) no_look =
       ap (denied_or (transfer_denial (s.handle handle) a outward slots slot parts))
       (transfer_unseen a handle outward (far + 1 == words_of parts) (word_at parts far) (slot + far) (frame_at (s.pinned handle) (word_at parts far)))
-  turn_unseen a p slots far (Move proc page zone) = move_unseen a p page zone (s.job a)
-  turn_unseen a p slots far (Fork child) = fork_unseen a p child (s.job a)
-  turn_unseen a p slots far Exit = exit_unseen (lowest_page (s.right p))
+  turn_unseen a p slots far (Move proc page zone) no_look = move_unseen a p page zone (s.job a)
+  turn_unseen a p slots far (Fork child) no_look = fork_unseen a p child (s.job a)
+  turn_unseen a p slots far Exit no_look = exit_unseen (lowest_page (s.right p))
     where
       exit_unseen : (page : Option ℕ) → exit_turn_by with_slots a p page ≡ exit_turn_by s a p page
       exit_unseen None = refl
       exit_unseen (Some page) = refl
-  turn_unseen a p slots far op = refl
+  turn_unseen a p slots far (Look mirror word) no_look = absurd no_look
+  turn_unseen a p slots far op no_look = refl
 
   locks_unseen : (a p far : ℕ) (op : Op) → locks_needed with_slots a p far op ≡ locks_needed s a p far op
   locks_unseen a p far op = refl

@@ -1,4 +1,4 @@
--- Why an operation of a core run finds no frame, which answers it has at all, and what an actor waits for.
+-- Why an operation of a core run is refused, where the plain state doesn't say it, and what an actor waits for.
 use Rattle.std.specs.Prelude.{◌≡◌, ℕ, ◌+◌, ◌<◌, ◌==◌, ◌&&◌, ◌⊎◌, Bool, true, false, Option, Some, None, IsSome, List, [], ◌∷◌, length, map, Contains}
 use Rattle.std.specs.List.{AllByRecursion}
 use Rattle.gup_base.specs.declared.entry.Allowed.{Allowed}
@@ -17,7 +17,7 @@ use Rattle.gup_plain.specs.declared.note.What.TheVariants.{Done}
 use Rattle.gup_plain.specs.declared.note.Waiting.{Waiting}
 use Rattle.gup_plain.specs.declared.note.Waiting.TheVariants as waitings
 use Rattle.gup_script.specs.declared.op.Op.{Op}
-use Rattle.gup_script.specs.declared.op.Op.TheVariants.{Load, Store, Pin, Get, Fork, Move}
+use Rattle.gup_script.specs.declared.op.Op.TheVariants.{Load, Store, Pin, Get, Mirror, Look, Fork, Move}
 use Rattle.gup_script.specs.Script.{ScriptValue}
 use Rattle.gup_spec_events.specs.State.{CoreState, idle, one, more}
 use Rattle.gup_spec_events.specs.Event.{IsAllowed}
@@ -51,7 +51,7 @@ NeedsWritable s None = Unit {0}
 NeedsWritable s (Some e) = (e.writable ≡ false) × MayBeShared s e.frame
 
 -- A page needs a frame for a load, a store, a pin or a reference, if its rights allow that: a load of a page needs one where
--- it has no entry, and so does a reference; and a pin to read also where others may have its frame.
+-- it has no entry, and so do a reference and a mirror; and a pin to read also where others may have its frame.
 abbrev pub NeedsForLoad : CoreState → (p page : ℕ) → Type 0
 NeedsForLoad s p page = IsSome (s.right p page) × (s.entry p page ≡ None)
 
@@ -75,7 +75,7 @@ NeedsIfSlow true s p page write (moving_page g e count) = NeedsAtPage s p page w
 NeedsIfSlow true s p page write place = ⊥
 NeedsIfSlow false s p page write place = NeedsAtPage s p page write place
 
--- An operation needs a frame at its next turn: a load, a store, a get and a pin for their page, a pin's being the one after
+-- An operation needs a frame at its next turn: a load, a store, a get, a mirror and a pin for their page, a pin's being the one after
 -- those that it has taken, and none while it walks, a fork for the page that it copies, where it has none for it yet, and a move after a count of 1.
 abbrev pub NeedsFor : CoreState → (a p far : ℕ) → Op → Type 0
 NeedsFor s a p far (Load page word) = NeedsForLoad s p page
@@ -83,6 +83,7 @@ NeedsFor s a p far (Store page word value) = NeedsForStore s p page
 NeedsFor s a p far (Pin handle page n want fast) =
     NeedsIfSlow (fast && far == 0) s p (page + length (s.taken a)) want.write (place_in s a)
 NeedsFor s a p far (Get handle page) = NeedsForLoad s p page
+NeedsFor s a p far (Mirror mirror proc page) = NeedsForLoad s p page
 NeedsFor s a p far (Move proc page zone) = (g : ℕ) × (e : Entry) × (place_in s a ≡ moving_page g e one)
 NeedsFor s a p far (Fork child) = (page : ℕ) × (place_in s a ≡ wants_frame page)
 NeedsFor s a p far op = ⊥
@@ -117,13 +118,19 @@ HasPinnedMore script r a count =
     (handle page n g : ℕ) × (want : Want) × (fast : Bool) × (e : Entry) × (op_in script r a ≡ Some (Pin handle page n want fast))
     × (want.long ≡ true) × (place_in r.core a ≡ moving_page g e (more count)) × (count ≡ 1 → ⊥)
 
+-- the actor's next turn is one of a look, which it waits for nothing to do, through a slot that is empty
+abbrev pub FindsStale : ScriptValue → RunState → (a : ℕ) → Type 0
+FindsStale script r a =
+    (m word : ℕ) × (op_in script r a ≡ Some (Look m word)) × (waiting_in script r a ≡ None) × (r.core.mirrored m ≡ None)
+
 -- what there must be in the state before an actor's turn that refuses its operation so, or a page of its pin, where it isn't
--- the plain state that denies it: no other refusal of this kind comes so far
+-- the plain state that denies it: no other refusal of this kind comes
 abbrev pub CoreCause : ScriptValue → RunState → (a : ℕ) → Answer → Type 0
 CoreCause script r a answers.NoFrame = FindsNoFrame script r a
 CoreCause script r a answers.Untouched = FindsUntouched script r a
 CoreCause script r a (answers.Busy count) = HasCountedMore script r a count
 CoreCause script r a (answers.Unmovable count) = HasPinnedMore script r a count
+CoreCause script r a answers.Stale = FindsStale script r a
 CoreCause script r a answer = ⊥
 
 -- the turn answers for want of a frame, or that is the cause of its short pin
@@ -150,6 +157,12 @@ UntouchedExactly script r turn =
     (Contains turn.whats (Done answers.Untouched) → FindsUntouched script r turn.actor)
     × (FindsUntouched script r turn.actor → Contains turn.whats (Done answers.Untouched))
 
+-- and that a slot is empty exactly where it finds that
+abbrev pub StaleExactly : ScriptValue → RunState → Turn → Type 0
+StaleExactly script r turn =
+    (Contains turn.whats (Done answers.Stale) → FindsStale script r turn.actor)
+    × (FindsStale script r turn.actor → Contains turn.whats (Done answers.Stale))
+
 -- it answers that a page is busy, or that it can't be moved, exactly where its operation has counted so many references
 abbrev pub BusyExactly : ScriptValue → RunState → Turn → Type 0
 BusyExactly script r turn =
@@ -162,18 +175,6 @@ UnmovableExactly script r turn =
     (count : ℕ)
     → (RefusesUnmovable turn.whats count → HasPinnedMore script r turn.actor count)
     × (HasPinnedMore script r turn.actor count → RefusesUnmovable turn.whats count)
-
--- the answers that operations have so far; a short pin may have any cause
-abbrev pub IsKnownAnswer : Answer → Type 0
-IsKnownAnswer answers.Stale = ⊥
-IsKnownAnswer answer = Unit {0}
-
-abbrev pub IsKnown : What → Type 0
-IsKnown (Done answer) = IsKnownAnswer answer
-IsKnown what = Unit {0}
-
-abbrev pub AreKnown : List NoteValue → Type 0
-AreKnown notes = AllByRecursion (λ (note : NoteValue). IsKnown note.what) notes
 
 -- how many operations notes answer
 abbrev pub answers_in : List What → ℕ

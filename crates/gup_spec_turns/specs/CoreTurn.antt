@@ -38,10 +38,6 @@ abbrev pub after_fault : Fault → (List CoreEvent → CoreTurn) → CoreTurn
 after_fault (Err answer) turn = answers_with answer
 after_fault (Ok before) turn = turn before
 
--- a turn of an operation that isn't built
-abbrev pub unbuilt_turn : CoreTurn
-unbuilt_turn = record { events = []; whats = Silent ∷ [] }
-
 -- the lowest free frame of n from the first on
 abbrev pub free_from : CoreState → (first n : ℕ) → Option ℕ
 free_from s first n = lowest first n (λ f. s.count f == 0)

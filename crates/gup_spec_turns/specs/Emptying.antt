@@ -3,13 +3,10 @@
 -- comes to allow a store, leaves them filled.
 use Rattle.std.specs.Prelude.{ℕ, ◌+◌, ◌==◌, ◌&&◌, ◌||◌, nat_le, nat_lt, Bool, false, if◌then◌else◌, List, [], ◌∷◌, ◌++◌, Option, Some, None, zero, suc}
 use Rattle.gup_plain.specs.State.{Noted}
+use Rattle.gup_script.specs.Limits.{most_mirrors}
 use Rattle.gup_spec_events.specs.State.{CoreState}
 use Rattle.gup_spec_events.specs.Event.{CoreEvent, break_entry, clear_entry, share_entry, lower_entry, protect_pages, drop_entry, discard_entry, empty_mirror}
 use Rattle.gup_spec_turns.specs.CoreTurn.{CoreTurn}
-
--- how many mirror slots there are
-abbrev pub mirror_slots : ℕ
-mirror_slots = 64
 
 -- n pages of a process, from this one on
 pub record PageRange : Type 0 where
@@ -58,4 +55,4 @@ empties s a es m (suc n) =
 -- the turn with that before its events, in this one place for all turns
 abbrev pub emptying : CoreState → (a : ℕ) → CoreTurn → CoreTurn
 emptying s a turn =
-    record { events = empties s a turn.events 0 mirror_slots ++ turn.events; whats = turn.whats }
+    record { events = empties s a turn.events 0 most_mirrors ++ turn.events; whats = turn.whats }

@@ -11,6 +11,7 @@ pub mod WalkTurns
 pub mod PinTurns
 pub mod DeviceTurns
 pub mod Emptying
+pub mod MirrorTurns
 pub mod ForkTurns
 pub mod Waits
 pub mod CoreTurn

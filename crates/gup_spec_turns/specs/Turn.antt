@@ -4,15 +4,16 @@ use Rattle.gup_plain.specs.State.{Birth, failed}
 use Rattle.gup_plain.specs.declared.answer.Answer.TheVariants as answers
 use Rattle.gup_plain.specs.declared.event.PlainEvent.TheVariants as events
 use Rattle.gup_script.specs.declared.op.Op.{Op}
-use Rattle.gup_script.specs.declared.op.Op.TheVariants.{Map, Unmap, Protect, Discard, Load, Store, Pin, Unpin, Give, Take, Get, Put, Transfer, Fork, Exit, Move}
+use Rattle.gup_script.specs.declared.op.Op.TheVariants.{Map, Unmap, Protect, Discard, Load, Store, Pin, Unpin, Give, Take, Get, Put, Transfer, Mirror, Look, Fork, Exit, Move}
 use Rattle.gup_spec_events.specs.State.{CoreState}
 use Rattle.gup_spec_events.specs.Event.{fail_unborn}
 use Rattle.gup_spec_journal.specs.Place.{Doer, birth_for}
-use Rattle.gup_spec_turns.specs.CoreTurn.{CoreTurn, answers_with, ends_with, unbuilt_turn}
+use Rattle.gup_spec_turns.specs.CoreTurn.{CoreTurn, answers_with, ends_with}
 use Rattle.gup_spec_turns.specs.Emptying.{emptying}
 use Rattle.gup_spec_turns.specs.PageTurns.{load_turn, store_turn, map_turn, unmap_turn, protect_turn, discard_turn, exit_turn}
 use Rattle.gup_spec_turns.specs.PinTurns.{pin_turn, unpin_turn, give_turn, take_turn, get_turn, put_turn}
 use Rattle.gup_spec_turns.specs.DeviceTurns.{transfer_turn}
+use Rattle.gup_spec_turns.specs.MirrorTurns.{mirror_turn, look_turn}
 use Rattle.gup_spec_turns.specs.MoveTurns.{move_turn}
 use Rattle.gup_spec_turns.specs.ForkTurns.{fork_turn}
 
@@ -33,11 +34,11 @@ op_turn s a p slots far (Get handle page) = get_turn s a p handle page (s.entry 
 op_turn s a p slots far (Put handle) = put_turn s a handle
 op_turn s a p slots far (Transfer handle outward slot parts) =
     transfer_turn s a slots handle outward slot parts far
+op_turn s a p slots far (Mirror mirror proc page) = mirror_turn s a p mirror page (s.entry p page)
+op_turn s a p slots far (Look mirror word) = look_turn s a mirror word (s.mirrored mirror)
 op_turn s a p slots far (Move proc page zone) = move_turn s a p page zone (s.job a)
 op_turn s a p slots far (Fork child) = fork_turn s a p child (s.job a)
 op_turn s a p slots far Exit = exit_turn s a p
--- no script has any other so far
-op_turn s a p slots far op = unbuilt_turn
 
 -- an operation of a failed process is refused; a fork makes its child failed too
 abbrev pub failed_turn : (a p : ℕ) → Op → CoreTurn

@@ -4,7 +4,7 @@ use Rattle.gup_base.specs.declared.entry.Rights.{Rights}
 use Rattle.gup_plain.specs.declared.note.Waiting.{Waiting}
 use Rattle.gup_plain.specs.declared.note.Waiting.TheVariants as waitings
 use Rattle.gup_script.specs.declared.op.Op.{Op}
-use Rattle.gup_script.specs.declared.op.Op.TheVariants.{Map, Unmap, Protect, Discard, Load, Store, Pin, Get, Fork, Exit, Move}
+use Rattle.gup_script.specs.declared.op.Op.TheVariants.{Map, Unmap, Protect, Discard, Load, Store, Pin, Get, Mirror, Fork, Exit, Move}
 use Rattle.gup_spec_events.specs.State.{CoreState, Job, idle, forking, between, walking}
 use Rattle.gup_spec_journal.specs.Order.{handle_waits, waiting_at}
 use Rattle.gup_spec_journal.specs.Place.{Doer, birth_for}
@@ -44,8 +44,8 @@ abbrev pub pin_locks : (fast : Bool) → (far : ℕ) → Job → Locks
 pin_locks fast far (walking p write long sequence step) = no_lock
 pin_locks fast far job = both_if (not (fast && far == 0))
 
--- A load or a store needs both where its entry doesn't allow it, and what is done with a pin or a reference that is there
--- needs none.
+-- A load or a store needs both where its entry doesn't allow it, and what is done with a pin, a reference or a mirror that is
+-- there needs none.
 abbrev pub locks_needed : CoreState → (a p far : ℕ) → Op → Locks
 locks_needed s a p far (Load page word) = both_if (is_none (s.entry p page))
 locks_needed s a p far (Store page word value) = both_if (not (allows_store (s.entry p page)))
@@ -57,6 +57,7 @@ locks_needed s a p far (Protect page n rights) = both_locks
 locks_needed s a p far (Discard page n) = both_locks
 locks_needed s a p far (Pin handle page n want fast) = pin_locks fast far (s.job a)
 locks_needed s a p far (Get handle page) = both_locks
+locks_needed s a p far (Mirror mirror proc page) = both_locks
 locks_needed s a p far Exit = both_locks
 locks_needed s a p far op = no_lock
 
