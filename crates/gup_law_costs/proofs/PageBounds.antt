@@ -24,7 +24,8 @@ use Rattle.gup_spec_events.specs.Fault.{Fault, fills, fills_writable, breaks, ma
 use Rattle.gup_spec_journal.specs.Place.{Place, place_behind}
 use Rattle.gup_spec_turns.specs.Cost.{mapped_by, op_left, IsAnswered, IsWithinBound}
 use Rattle.gup_plain.specs.Pages.{mapped_pages}
-use Rattle.gup_spec_turns.specs.CoreTurn.{CoreTurn, answers_with, free_frame, done_if, silent_or_done}
+use Rattle.gup_spec_turns.specs.MirrorTurns.{fills as fills_slot, mirror_turn, look_turn}
+use Rattle.gup_spec_turns.specs.CoreTurn.{CoreTurn, after_fault, answers_with, free_frame, done_if, silent_or_done}
 use Rattle.gup_spec_turns.proofs.TurnParts.{loads_after, gets_after, stores_after, store_fault_by, map_turn_by, unmap_turn_by, protect_turn_by, discard_turn_by}
 use Rattle.gup_spec_turns.specs.PageTurns.{load_turn, lowers_entry, lowers, lowers_for, lowest_page, exit_turn_by}
 use Rattle.gup_spec_turns.specs.PinTurns.{get_turn}
@@ -45,16 +46,13 @@ pub answer_bound : (op : Op) (a p : ℕ) (place next : Place) (s t : CoreState) 
 answer_bound (Unmap page n) a p place next s t is = inl is
 answer_bound op a p place next s t is = search (is, inl)
 
--- where a turn of an operation stands: short of the last page or word that it goes over; forks, moves and pins stand aside, and
--- what isn't built
+-- where a turn of an operation stands: short of the last page or word that it goes over; forks, moves and pins stand aside
 abbrev pub StandsShort : CoreState → (a : ℕ) → Op → Place → Type 0
 StandsShort s a (Unmap page n) place = place.far < n
 StandsShort s a (Discard page n) place = place.far < n
 StandsShort s a (Pin handle page n want fast) place = ⊥
 StandsShort s a (Unpin handle) place = (place.far < most_pinned) × HasLeft s a handle place.far
 StandsShort s a (Transfer handle outward slot parts) place = place.far < words_of parts
-StandsShort s a (Mirror mirror proc page) place = ⊥
-StandsShort s a (Look mirror word) place = ⊥
 StandsShort s a (Move proc page zone) place = ⊥
 StandsShort s a (Fork child) place = ⊥
 StandsShort s a op place = Unit {0}
@@ -141,6 +139,22 @@ module _ (s : CoreState) (a p : ℕ) (place : Place) (rests : s.job a ≡ idle) 
       fault None free = still (Get handle page) (answers_with answers.Missing) refl refl refl refl
       fault (Some rights) None = still (Get handle page) (answers_with answers.NoFrame) refl refl refl refl
       fault (Some rights) (Some f) = still_using f (Get handle page) (gets_after s (fills a p page (Some f)) a p handle page) refl refl refl refl
+
+  pub mirror_moved : (mirror proc page : ℕ) (entry : Option Entry) → IsMoved s a p place (Mirror mirror proc page) (mirror_turn s a p mirror page entry)
+  mirror_moved mirror proc page (Some e) = still (Mirror mirror proc page) (mirror_turn s a p mirror page (Some e)) refl refl refl refl
+  mirror_moved mirror proc page None = fault (s.right p page) (free_frame s)
+    where
+      filled_by : Fault → CoreTurn
+      filled_by before = after_fault before (λ es. fills_slot s es a p mirror page)
+
+      fault : (rights : Option Rights) (free : Option ℕ) → IsMoved s a p place (Mirror mirror proc page) (filled_by (read_fault a p page rights None free))
+      fault None free = still (Mirror mirror proc page) (answers_with answers.Missing) refl refl refl refl
+      fault (Some rights) None = still (Mirror mirror proc page) (answers_with answers.NoFrame) refl refl refl refl
+      fault (Some rights) (Some f) = still_using f (Mirror mirror proc page) (filled_by (fills a p page (Some f))) refl refl refl refl
+
+  pub look_moved : (mirror word : ℕ) (frame : Option ℕ) → IsMoved s a p place (Look mirror word) (look_turn s a mirror word frame)
+  look_moved mirror word None = still (Look mirror word) (answers_with answers.Stale) refl refl refl refl
+  look_moved mirror word (Some f) = still (Look mirror word) (look_turn s a mirror word (Some f)) refl refl refl refl
 
   pub store_moved : (page word value : ℕ) (entry : Option Entry) (allowed : Bool) → IsMoved s a p place (Store page word value) (stores_after s (store_fault_by allowed s a p page entry) a p page word value)
   store_moved page word value entry true = still (Store page word value) (stores_after s (Ok []) a p page word value) refl refl refl refl

@@ -13,7 +13,7 @@ use Rattle.gup_plain.specs.Denial.{any_mapped, any_unmapped, map_denial, protect
 use Rattle.gup_plain.specs.declared.answer.Answer.{Answer}
 use Rattle.gup_plain.specs.declared.answer.Answer.TheVariants as answers
 use Rattle.gup_script.specs.declared.op.Op.{Op}
-use Rattle.gup_script.specs.declared.op.Op.TheVariants.{Map, Unmap, Protect, Discard, Load, Store, Unpin, Give, Take, Get, Put, Transfer, Exit}
+use Rattle.gup_script.specs.declared.op.Op.TheVariants.{Map, Unmap, Protect, Discard, Load, Store, Unpin, Give, Take, Get, Put, Transfer, Mirror, Look, Exit}
 use Rattle.gup_spec_events.specs.State.{CoreState, Job, idle, marking}
 use Rattle.gup_spec_events.specs.Event.{take_frame, fill, break_entry, put_entry, pin_page, upgrade, run}
 use Rattle.gup_spec_events.specs.Fault.{Fault, fills, fills_writable, breaks, marks, makes_writable, unshares, unshare_fault, write_fault}
@@ -26,7 +26,8 @@ use Rattle.gup_spec_turns.specs.PinTurns.{raises, pin_fault, makes_if, but_last,
 use Rattle.gup_spec_turns.proofs.TurnParts.{unpin_turn_by, give_turn_by, put_turn_by, transfer_turn_by}
 use Rattle.gup_spec_turns.specs.DeviceTurns.{frame_at, moves_from}
 use Rattle.gup_spec_turns.specs.Turn.{op_turn}
-use Rattle.gup_law_costs.proofs.PageBounds.{StandsShort, KeepsJobs, IsMoved, same_prepared, used_prepared, same_jobs, keeping, still, goes_less, load_moved, get_moved, store_moved, map_moved, protect_moved, unmap_moved, discard_moved, exit_moved}
+use Rattle.gup_law_costs.proofs.PageBounds.{StandsShort, KeepsJobs, IsMoved, same_prepared, used_prepared, same_jobs, keeping, still, goes_less, load_moved, get_moved, mirror_moved, look_moved, store_moved, map_moved, protect_moved, unmap_moved, discard_moved, exit_moved}
+use Rattle.gup_law_turns.proofs.MirrorOps.{look_leaves}
 use Rattle.gup_law_turns.proofs.Puts.{put_same, put_other}
 use Rattle.gup_law_turns.proofs.TurnShapes.{HasLeft, IsOfProcess}
 
@@ -201,6 +202,8 @@ module _ (s : CoreState) (a p : ℕ) (place : Place) (rests : s.job a ≡ idle) 
   op_moved slots (Put handle) short = put_moved handle (has_reference (got_by (s.got handle)) a) (got_frame (s.got handle))
   op_moved slots (Transfer handle outward slot parts) short =
       transfer_moved handle outward slot parts (transfer_denial (s.handle handle) a outward slots slot parts) (place.far + 1 == words_of parts) short refl
+  op_moved slots (Mirror mirror proc page) short = mirror_moved s a p place rests mirror proc page (s.entry p page)
+  op_moved slots (Look mirror word) short = look_moved s a p place rests mirror word (s.mirrored mirror)
   op_moved slots Exit short = exit_moved s a p place rests (lowest_page (s.right p)) refl
   op_moved slots op short = absurd short
 
@@ -225,4 +228,5 @@ kept_rights s a p slots far (Give handle to) none = kept_give s a handle to (is_
 kept_rights s a p slots far (Take handle) none = refl
 kept_rights s a p slots far (Transfer handle outward slot parts) none =
     kept_word s a handle outward (far + 1 == words_of parts) (word_at parts far) (slot + far) (transfer_denial (s.handle handle) a outward slots slot parts)
+kept_rights s a p slots far (Look mirror word) none = ap (λ (t : CoreState). t.right) (look_leaves s a mirror word (s.mirrored mirror))
 kept_rights s a p slots far op none = absurd (none tt)

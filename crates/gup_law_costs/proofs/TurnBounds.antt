@@ -29,7 +29,7 @@ use Rattle.gup_law_turns.proofs.MappedCounts.{mapped_lost}
 use Rattle.gup_law_turns.proofs.Puts.{put_same, put_other, put_own, some_same}
 use Rattle.gup_law_turns.proofs.ReachedStates.{IsReached, Published, is_standing, reached_on}
 use Rattle.gup_law_turns.proofs.TurnShapes.{FitsMove, FitsOp, FitsAt, child_of}
-use Rattle.gup_law_costs.proofs.TurnCosts.{idle_by, next_place, spent_turn, fork_stays, process_no_device}
+use Rattle.gup_law_costs.proofs.TurnCosts.{idle_by, next_place, spent_turn, fork_stays}
 use Rattle.gup_law_turns.proofs.StandingTurns.{at_others}
 use Rattle.gup_law_turns.proofs.StandingStates.{Stands}
 use Rattle.gup_law_turns.proofs.Sums.{sum_le, sum_same, sum_at, sum_of_list}
@@ -230,7 +230,7 @@ module _ (law : Law) (published : Published) (script : ScriptValue) (valid : IsS
     where
       born_process : present_op script a (r.places a) ≡ Some Exit → 0 < (r.places a).far → r.core.birth (process_of script a) ≡ born
       born_process now begun =
-          sym (thread_birth (doer script a) r.core.birth (is_of_thread script valid a (r.places a).answered Exit now (process_no_device Exit tt) (λ moves. moves)))
+          sym (thread_birth (doer script a) r.core.birth (is_of_thread script valid a (r.places a).answered Exit now (λ device. device) (λ moves. moves)))
           ∙ subst (λ (o : Option Op). birth_for r.core.birth (doer_of script a o) ≡ born) now (h.stands.begun a begun)
 
       exit : present_op script a (r.places a) ≡ Some Exit → (far : ℕ) → (r.places a).far ≡ far → (r.places a).far + mapped_pages (t.right (process_of script a)) + yet ≤ most_pages + map_pages script

@@ -32,6 +32,7 @@ use Rattle.gup_law_turns.proofs.MappedCounts.{mapped_none}
 use Rattle.gup_law_turns.proofs.Puts.{put_same, put_other, put_own}
 use Rattle.gup_law_costs.proofs.PinBounds.{kept_rights}
 use Rattle.gup_law_turns.proofs.ScriptLemmas.{has_ops_declared, op_is_op, child_declared, has_own_process, thread_birth, op_has_process}
+use Rattle.gup_law_turns.proofs.TurnSteps.{of_no_device}
 use Rattle.gup_law_turns.proofs.TurnShapes.{HasLeft, IsOfProcess, child_of}
 use Rattle.gup_law_turns.proofs.ShownTurns.{idle_place, waits_no_birth}
 use Rattle.gup_law_turns.proofs.Sums.{sum_at, sum_same, sum_zero, sum_of_list}
@@ -119,16 +120,12 @@ op_stays script r h t b job kept grown (Fork child) is =
     fork_stays fork_left (λ f g. refl) r.core t b p child (r.core.job b) (r.core.prepared b) (h.forks b child is) refl refl job kept (grown child p)
 op_stays script r h t b job kept grown op is = refl
 
--- an operation of a process is none of a device
-pub process_no_device : (op : Op) → IsOfProcess op → IsOfDevice op → ⊥
-process_no_device op of device = grind arith
-
 -- the pages of its process, or of the child that it brings, are those of a declared one; or it is of no process
 pub has_child : (script : ScriptValue) → IsScript script → (a k : ℕ) (op : Op) → slice_get (ops_of script a) k ≡ Some op → (child_of (doer_of script a (Some op)).proc (Some op) < length script.processes) ⊎ (IsOfProcess op → ⊥)
 has_child script valid a k op there = go op there
   where
     own : (o : Op) → IsOfProcess o → slice_get (ops_of script a) k ≡ Some o → (doer_of script a (Some o)).proc < length script.processes
-    own o of is = op_has_process script valid a k o is (has_own_process script valid a k o is (process_no_device o of))
+    own o of is = op_has_process script valid a k o is (has_own_process script valid a k o is (of_no_device o of))
 
     go : (o : Op) → slice_get (ops_of script a) k ≡ Some o → (child_of (doer_of script a (Some o)).proc (Some o) < length script.processes) ⊎ (IsOfProcess o → ⊥)
     go (Fork child) is = inl (child_declared script valid a k child is)
@@ -198,7 +195,7 @@ spent_turn script valid r h a op is free =
     let k : ℕ = (r.places a).answered in
     let P : Option Op → Option Waiting → Type 0 = λ o w. IsSpent r.core a p (r.places a) op (core_turn_by r.core (doer_of script a o) (r.places a).far o w) in
     let own : IsOfProcess op → r.core.birth p ≡ birth_for r.core.birth who =
-    λ of. sym (thread_birth who r.core.birth (has_own_process script valid a k op is (process_no_device op of))) in
+    λ of. sym (thread_birth who r.core.birth (has_own_process script valid a k op is (of_no_device op of))) in
     let spent : P (Some op) None = turn_spent r.core who (r.places a) op (goes_by script r a op is free) own (forked_born script r h a) (h.few_pages p) (stands_at script valid r h a op is) in
     subst (λ (w : Option Waiting). P (op_in script r a) w) (sym free) (subst (λ (o : Option Op). P o None) (sym is) spent)
 

@@ -55,7 +55,7 @@ first_of_both None second free = refl
 first_of_both (Some waiting) second free = absurd (cc free)
 
 -- an operation of a process is none that a device does by itself
-of_no_device : (op : Op) → IsOfProcess op → IsOfNoDevice op
+pub of_no_device : (op : Op) → IsOfProcess op → IsOfNoDevice op
 of_no_device (Unpin handle) own = λ device. own
 of_no_device (Give handle to) own = λ device. own
 of_no_device (Take handle) own = λ device. own
