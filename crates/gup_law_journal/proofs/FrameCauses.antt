@@ -21,7 +21,7 @@ use Rattle.gup_plain.specs.declared.note.Waiting.{Waiting}
 use Rattle.gup_plain.specs.Denial.{any_mapped, any_unmapped, map_denial, protect_denial, is_held_by, has_words, has_slots, range_denial, transfer_denial_by, transfer_denial}
 use Rattle.gup_plain.specs.Event.{may_write, words}
 use Rattle.gup_script.specs.declared.op.Op.{Op}
-use Rattle.gup_script.specs.declared.op.Op.TheVariants.{Map, Unmap, Protect, Discard, Load, Store, Pin, Unpin, Give, Take, Get, Put, Transfer, Fork, Exit, Move}
+use Rattle.gup_script.specs.declared.op.Op.TheVariants.{Map, Unmap, Protect, Discard, Load, Store, Pin, Unpin, Give, Take, Get, Put, Transfer, Mirror, Look, Fork, Exit, Move}
 use Rattle.gup_script.specs.Script.{ScriptValue}
 use Rattle.gup_spec_events.specs.State.{CoreState, Job, idle, moving, Counted, unread, one as counted_one, more as counted_more, forking, between, counted, copying, walking, Taken, WalkStep, ready, read, grabbed, refused as refused_step, dropping}
 use Rattle.gup_spec_events.specs.Event.{CoreEvent, upgrade, restore_entry, run}
@@ -32,13 +32,14 @@ use Rattle.gup_spec_journal.specs.Place.{Doer, doer_of, birth_for}
 use Rattle.gup_spec_turns.specs.Cause.{AreHeld, allowed_of, MayBeShared, NeedsOwn, NeedsWritable, NeedsForPin, NeedsAtPage, NeedsIfSlow, NeedsFor, NeedsFrame, LacksFrame, LacksExactly}
 use Rattle.gup_spec_turns.specs.JobPlace.{JobPlace, copying_place, job_place, unbegun, from_page, at_page, wants_frame, at_word, moving_page, in_walk}
 use Rattle.gup_spec_turns.specs.Run.{RunState, op_in, waiting_in, waiting_with, core_turn_by, turn_in}
-use Rattle.gup_spec_turns.specs.CoreTurn.{CoreTurn, answers_with, free_in, free_frame, zones_of, entry_in, allows_store, silent_or_done}
+use Rattle.gup_spec_turns.specs.CoreTurn.{CoreTurn, answers_with, free_in, free_frame, zones_of, entry_in, allows_store, silent_or_done, after_fault}
 use Rattle.gup_spec_turns.specs.ForkTurns.{first_behind, next_page, page_turn, next_turn, frame_turn, copy_turn, copying_turn, fork_turn}
 use Rattle.gup_spec_turns.specs.MoveTurns.{place_turn, counted_turn, move_turn}
 use Rattle.gup_spec_turns.specs.Waits.{waits_born}
 use Rattle.gup_spec_turns.proofs.TurnParts.{loads_after, stores_after, store_fault_by, map_turn_by, unmap_turn_by, protect_turn_by, discard_turn_by, unpin_turn_by, give_turn_by, gets_after, put_turn_by, transfer_turn_by, clear_turn_by}
 use Rattle.gup_spec_turns.specs.PageTurns.{load_turn, store_turn, lowest_page, exit_turn_by}
 use Rattle.gup_spec_turns.specs.Turn.{op_turn, failed_turn, turn_at}
+use Rattle.gup_spec_turns.specs.MirrorTurns.{fills as fills_slot, mirror_turn, look_turn}
 use Rattle.gup_spec_turns.specs.PinTurns.{pin_fault, pinned_if, cause_of, ends_pin, pin_turn_by, but_last, unpinned, get_turn, got_by, got_frame, raises, moves_first, clears_or_pins, pins_moved, moved_turn, pin_turn_at, begins_or_pins, pin_turn_in}
 use Rattle.gup_spec_turns.specs.WalkTurns.{begin_turn, is_same, all_turn, ready_turn, grab_turn, recheck_turn, split_last, last_turn, first_turn, walk_turn}
 use Rattle.gup_law_turns.proofs.Puts.{some_same}
@@ -158,6 +159,11 @@ module _ (s : CoreState) (a p : ℕ) (allowed : Allowed) where
       record { only = ((λ e. absurd e), ((λ e. absurd e), tt)); always = λ need none. absurd (exact need none) }
   stores_exact needs page word value (Err answer) exact = refused_exact needs answer exact
 
+  mirrors_exact : (needs : Type 0) (mirror page : ℕ) (fault : Fault) → IsExactFault s allowed needs fault → IsExact s allowed needs (after_fault fault (λ before. fills_slot s before a p mirror page))
+  mirrors_exact needs mirror page (Ok events) exact =
+      record { only = ((λ e. absurd e), ((λ e. absurd e), tt)); always = λ need none. absurd (exact need none) }
+  mirrors_exact needs mirror page (Err answer) exact = refused_exact needs answer exact
+
   gets_exact : (needs : Type 0) (handle page : ℕ) (fault : Fault) → IsExactFault s allowed needs fault → IsExact s allowed needs (gets_after s fault a p handle page)
   gets_exact needs handle page (Ok events) exact = record { only = ((λ e. absurd e), tt); always = λ need none. absurd (exact need none) }
   gets_exact needs handle page (Err answer) exact = refused_exact needs answer exact
@@ -271,6 +277,11 @@ module _ (s : CoreState) (a p : ℕ) where
   get_exact handle page None =
       gets_exact s a p Any (IsSome (s.right p page) × IsAbsent None) handle page (read_fault a p page (s.right p page) None (free_frame s)) (read_exact s a p Any page (s.right p page) (free_frame s) refl)
 
+  mirror_exact : (mirror page : ℕ) (entry : Option Entry) → IsExact s Any (IsSome (s.right p page) × (entry ≡ None)) (mirror_turn s a p mirror page entry)
+  mirror_exact mirror page (Some e) = mirrors_exact s a p Any (IsSome (s.right p page) × (Some e ≡ None)) mirror page (Ok []) (λ need none. absurd (cc need.1))
+  mirror_exact mirror page None =
+      mirrors_exact s a p Any (IsSome (s.right p page) × IsAbsent None) mirror page (read_fault a p page (s.right p page) None (free_frame s)) (read_exact s a p Any page (s.right p page) (free_frame s) refl)
+
   store_exact : (page word value : ℕ) (entry : Option Entry) → IsExact s Any ((s.right p page ≡ Some RW) × NeedsWritable s entry) (store_turn s a p page word value entry)
   store_exact page word value entry =
       stores_exact s a p Any ((s.right p page ≡ Some RW) × NeedsWritable s entry) page word value (store_fault_by (allows_store entry) s a p page entry) (by_entry (allows_store entry) refl)
@@ -283,7 +294,11 @@ module _ (s : CoreState) (a p : ℕ) where
       by_entry true is = λ need none. writes entry is need.1
       by_entry false is = write_exact s a p Any page (s.right p page) entry
 
-  -- what is done with a pin or a reference that is there wants no frame
+  -- what is done with a pin, a reference or a mirror that is there wants no frame
+
+  look_cause : (mirror word : ℕ) (frame : Option ℕ) → NeverWants (look_turn s a mirror word frame)
+  look_cause mirror word None = ((λ e. absurd e), tt)
+  look_cause mirror word (Some f) = ((λ e. absurd e), ((λ e. absurd e), tt))
 
   unpin_cause : (held : Bool) (handle : ℕ) (pinned : List ℕ) → NeverWants (unpin_turn_by held a handle pinned)
   unpin_cause false handle pinned = ((λ e. absurd e), tt)
@@ -542,10 +557,11 @@ module _ (s : CoreState) (a p : ℕ) where
   op_exact slots far (Transfer handle outward slot parts) =
       never s Any (op_turn s a p slots far (Transfer handle outward slot parts))
       (transfer_cause slots handle outward (far + 1 == words_of parts) slot (word_at parts far) (slot + far) parts (transfer_denial (s.handle handle) a outward slots slot parts) refl)
+  op_exact slots far (Mirror mirror proc page) = mirror_exact mirror page (s.entry p page)
+  op_exact slots far (Look mirror word) = never s Any (op_turn s a p slots far (Look mirror word)) (look_cause mirror word (s.mirrored mirror))
   op_exact slots far (Move proc page zone) = move_exact page zone (s.job a)
   op_exact slots far (Fork child) = fork_exact child (s.job a)
   op_exact slots far Exit = never s Any (op_turn s a p slots far Exit) (exit_cause (lowest_page (s.right p)))
-  op_exact slots far op = never s Any (op_turn s a p slots far op) ((λ e. absurd e), tt)
 
   -- of a process that failed every operation is refused as unborn
   failed_cause : (op : Op) → NeverWants (failed_turn a p op)

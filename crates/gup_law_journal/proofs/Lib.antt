@@ -12,3 +12,4 @@ pub mod RunEnds
 pub mod FrameCauses
 pub mod MoveCauses
 pub mod PinCauses
+pub mod LookCauses

@@ -28,7 +28,7 @@ use Rattle.gup_spec_journal.specs.Follows.{RefusesPage, EndsPin}
 use Rattle.gup_spec_journal.specs.Place.{Place, Doer, concerned, process_of_op, place_behind}
 use Rattle.gup_spec_turns.specs.JobPlace.{JobPlace, unbegun, from_page, at_page, wants_frame, at_word, moving_page, in_walk}
 use Rattle.gup_law_turns.proofs.Puts.{some_same}
-use Rattle.gup_law_turns.proofs.TurnShapes.{IsAtOnce, IsAlwaysSlow, IsSlowTurn, WalksTo, began_walk, walked, kept_all, refused_slowly, TriesAt, RefusesAt, TurnOf, refused, loaded, took, took_last, passed, passed_last, took_lowest, took_all, cleared_page, counted_cleared, lacked_frame, found_unmovable, pinned_page, pinned_all, pinned_short, unpinned_page, unpinned_last, moved_word, moved_last, cleared_entry, counted_frame, placed_frame, found_no_frame, found_busy, began, passed_page, counted_page, shared_page, ended, counted_copy, took_frame, copied_word, placed_copy, failed_fork, GoesOver, unmaps, discards, TurnAt, idles, waits, goes, unborn_refused, unborn_fork}
+use Rattle.gup_law_turns.proofs.TurnShapes.{IsAtOnce, IsAlwaysSlow, IsSlowTurn, WalksTo, began_walk, walked, kept_all, refused_slowly, TriesAt, RefusesAt, TurnOf, refused, loaded, looked, took, took_last, passed, passed_last, took_lowest, took_all, cleared_page, counted_cleared, lacked_frame, found_unmovable, pinned_page, pinned_all, pinned_short, unpinned_page, unpinned_last, moved_word, moved_last, cleared_entry, counted_frame, placed_frame, found_no_frame, found_busy, began, passed_page, counted_page, shared_page, ended, counted_copy, took_frame, copied_word, placed_copy, failed_fork, GoesOver, unmaps, discards, TurnAt, idles, waits, goes, unborn_refused, unborn_fork}
 use Rattle.gup_law_journal.proofs.PendingPages.{first_pending}
 use Rattle.gup_law_journal.proofs.WalkNotes.{one_pending, walk_before, walk_behind, kept_all as all_kept}
 use Rattle.gup_law_journal.proofs.PinRests.{PinsThird, IsLateCause, IsLateRefusal, LeftThird, RefusesSlowly, PinRest, SlowRest, RestOfPin, slow_left, left_slow, later_slow, page_refused, walk_shape, unbegun_shape, first_refused, shape_left, begun_slow, slow_refused, unborn_refused as pin_unborn, walk_left, walk_place}
@@ -576,6 +576,7 @@ module _ (who : Doer) (t : ℕ) (place : Place) (ops : List Op) (later : List No
       ends op unbegun whats
       (left_slow present handle page n want true place.far got (now whats) begun
       (inr (answer, (refusal, λ walks. living), (sym has ∙ no_page, page_refused present handle page n want true answer (Done answer ∷ []) (now whats) refusal once (t, refl))))) (none refl) left
+  op_left op whats (looked mirror word value first) is has grows starts follows fresh none left = ends op unbegun whats (inl (value, (t, refl))) (none refl) left
   op_left op whats (unpinned_page handle free less) is has grows starts follows fresh none left =
       unpins_on handle whats (t, refl) (subst (λ (os : List Op). Left who.actor who.proc (place.answered + 1) os (place.far + 1) more head_after unbegun later) is left)
   op_left op whats (unpinned_last handle silent free last) is has grows starts follows fresh none left = ends op unbegun whats (inl (zero, (t, refl))) (none refl) left

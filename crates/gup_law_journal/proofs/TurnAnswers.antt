@@ -1,4 +1,4 @@
--- Which answers turns have, and how many.
+-- How many answers turns have.
 use Rattle.std.proofs.Common.{◌≡◌, ℕ, ◌+◌, ◌<◌, Bool, true, false, IsTrue, List, [], ◌∷◌, ◌++◌, length, Option, Some, None, refl, sym, ap, subst, ◌∙◌, arith, leb-true, leb-false, nat_le, rules}
 use Rattle.std.proofs.lemmas.Option.{slice_get_past}
 use Rattle.gup_plain.specs.Put.{put}
@@ -18,7 +18,7 @@ use Rattle.gup_spec_journal.specs.Denial.{References}
 use Rattle.gup_spec_journal.specs.Follows.{refuses, notes_of_turn}
 use Rattle.gup_spec_journal.specs.Order.{Turn, journal_of, places_behind}
 use Rattle.gup_spec_journal.specs.Place.{Place, place_after, place_behind, ops_of, ops_in, Doer, doer_of}
-use Rattle.gup_spec_turns.specs.Cause.{IsKnownAnswer, IsKnown, AreKnown, answers_in, answered_in, HaveFinished}
+use Rattle.gup_spec_turns.specs.Cause.{answers_in, answered_in, HaveFinished}
 use Rattle.gup_spec_turns.specs.Cost.{operations}
 use Rattle.gup_plain.specs.Pages.{sum_below}
 use Rattle.gup_spec_turns.specs.JobPlace.{JobPlace}
@@ -33,48 +33,6 @@ use Rattle.gup_law_turns.proofs.StandingStates.{Stands}
 use Rattle.gup_law_turns.proofs.TurnSteps.{taken}
 use Rattle.gup_law_turns.proofs.Sums.{sum_at, sum_zero, sum_of_list}
 use Rattle.gup_law_turns.proofs.EventLists.{Law}
-
--- no operation is refused by an answer that comes of what none has as yet
-
-stale_never : (op : Op) → refuses op answers.Stale ≡ false
-stale_never op = grind arith
-
-known_refusal : (op : Op) (answer : Answer) → IsTrue (refuses op answer) → IsKnownAnswer answer
-known_refusal op answers.Stale is = not_both (refuses op answers.Stale) (stale_never op) is
-known_refusal op answer is = tt
-
--- the notes of a turn
-abbrev pub AreKnownWhats : List What → Type 0
-AreKnownWhats [] = Unit {0}
-AreKnownWhats (what ∷ whats) = IsKnown what × AreKnownWhats whats
-
-known_walk : {s : PlainState} {who : Doer} {page n got : ℕ} {write : Bool} {sequence : ℕ} {step : WalkStep} {whats : List What} {to : JobPlace} → WalksTo s who page n got write sequence step whats to → AreKnownWhats whats
-known_walk found_fork = (tt, tt)
-known_walk turn = search rules
-
-known_turn : {s : PlainState} {references : References} {who : Doer} {place : Place} {op : Op} {from to : JobPlace} {whats : List What} → TurnOf s references who place op from whats to → AreKnownWhats whats
-known_turn (refused op answer first refusal at_once slow right passes) = (known_refusal op answer refusal, tt)
-known_turn (walked handle page n want sequence step whats to walks room free) = known_walk walks
-known_turn (refused_slowly handle page n want answer begun none refusal living at_once right) = (known_refusal (Pin handle page n want true) answer refusal, tt)
-known_turn turn = search rules
-
-known_taken : {s : PlainState} {references : References} {who : Doer} {place : Place} {op : Option Op} {waiting : Option Waiting} {from to : JobPlace} {whats : List What} → TurnAt s references who place op waiting from whats to → AreKnownWhats whats
-known_taken (goes op whats from to birth own turn) = known_turn turn
-known_taken turn = search rules
-
-known_notes : (number actor op : ℕ) (whats : List What) (rest : List NoteValue) → AreKnownWhats whats → AreKnown rest → AreKnown (notes_of_turn number actor op whats ++ rest)
-known_notes number actor op [] rest known later = later
-known_notes number actor op (what ∷ whats) rest known later = (known.0, known_notes number actor op whats rest known.1 later)
-
-pub known_turns : Law → (script : ScriptValue) → IsScript script → (turns : List Turn) (number : ℕ) (r end : RunState) → Stands script r → AreTurns script r turns end → AreKnown (journal_of number r.places turns)
-known_turns law script valid [] number r end h are = tt
-known_turns law script valid (turn ∷ turns) number r end h are =
-    let a = turn.actor in
-    let next = run_after script r a in
-    let later = known_turns law script valid turns (number + 1) next end (stands_on law script valid r h a) are.1 in
-    let here = known_taken (taken script valid r h a).shape in
-    let both = known_notes number a ((r.places a).answered + 1) (core_turn_in script r a).whats (journal_of (number + 1) next.places turns) here later in
-    subst (λ (t : Turn). AreKnown (journal_of number r.places (t ∷ turns))) (sym are.0) both
 
 -- how many operations are answered
 

@@ -13,7 +13,7 @@ ghost use Rattle.gup_spec_journal.specs.Thorough.{IsThorough};
 ghost use Rattle.gup_spec_journal.specs.Follows.{Follows};
 ghost use Rattle.gup_spec_journal.specs.Order.{Turn, InOrder, journal_of};
 ghost use Rattle.gup_spec_turns.specs.Run.{RunState, Runs, AreTurns, AreBetween, turned, run_start, turn_in, waiting_in, can_go, IsCoreRun};
-ghost use Rattle.gup_spec_turns.specs.Cause.{LacksExactly, UntouchedExactly, BusyExactly, UnmovableExactly, AreKnown, answered_in, HaveFinished, WaitsForBirthOrPin};
+ghost use Rattle.gup_spec_turns.specs.Cause.{LacksExactly, UntouchedExactly, BusyExactly, UnmovableExactly, StaleExactly, answered_in, HaveFinished, WaitsForBirthOrPin};
 ghost use Rattle.gup_spec_turns.specs.Cost.{operations};
 
 /// Turns in any order follow the script, where each actor stands between two operations after them, as it does where nobody
@@ -48,15 +48,6 @@ pub fn core_run_is_plain()
 pub fn core_run_is_thorough()
     ensures turns { (script : ScriptValue) (turns : List Turn) (end : RunState) → IsScript script → AreTurns script (run_start script) turns end → IsThorough script (journal_of 1 (λ _. first_place) turns) }
     ensures run { (script : ScriptValue) (notes : List NoteValue) (end : RunState) → IsScript script → IsCoreRun script notes end → IsThorough script notes }
-{
-    gup_law_events::simulates();
-    gup_law_events::starts_sound();
-}
-
-/// The answers that turns in any order have, and so the core run of a script.
-pub fn core_run_is_known()
-    ensures turns { (script : ScriptValue) (turns : List Turn) (end : RunState) → IsScript script → AreTurns script (run_start script) turns end → AreKnown (journal_of 1 (λ _. first_place) turns) }
-    ensures run { (script : ScriptValue) (notes : List NoteValue) (end : RunState) → IsScript script → IsCoreRun script notes end → AreKnown notes }
 {
     gup_law_events::simulates();
     gup_law_events::starts_sound();
@@ -98,6 +89,17 @@ pub fn pins_have_their_causes()
     ensures { (script : ScriptValue) (actors : List ℕ) (a : ℕ) → IsScript script →
         let r : RunState = turned script (run_start script) actors in
         UnmovableExactly script r (turn_in script r a) }
+{
+    gup_law_events::simulates();
+    gup_law_events::starts_sound();
+}
+
+/// Whichever actors have taken turns: a turn answers that a mirror slot is stale exactly where it is one of a look, which waits for
+/// nothing, through a slot that is empty.
+pub fn looks_have_their_cause()
+    ensures { (script : ScriptValue) (actors : List ℕ) (a : ℕ) → IsScript script →
+        let r : RunState = turned script (run_start script) actors in
+        StaleExactly script r (turn_in script r a) }
 {
     gup_law_events::simulates();
     gup_law_events::starts_sound();
