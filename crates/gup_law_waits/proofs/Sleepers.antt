@@ -9,7 +9,7 @@ use Rattle.gup_plain.specs.declared.note.Waiting.{Waiting}
 use Rattle.gup_script.specs.Script.{ScriptValue}
 use Rattle.gup_script.specs.Valid.{IsScript}
 use Rattle.gup_script.specs.declared.op.Op.{Op}
-use Rattle.gup_script.specs.declared.op.Op.TheVariants.{Map, Unmap, Protect, Discard, Load, Store, Pin, Take, Get, Fork, Exit, Move}
+use Rattle.gup_script.specs.declared.op.Op.TheVariants.{Map, Unmap, Protect, Discard, Load, Store, Pin, Take, Get, Mirror, Fork, Exit, Move}
 use Rattle.gup_spec_events.specs.State.{CoreState, Job, idle, plain_of, forking, between}
 use Rattle.gup_spec_journal.specs.Order.{handle_waits, taking_waits, is_given_to, plain_behind}
 use Rattle.gup_spec_journal.specs.Place.{Place, Doer, doer_of, place_behind, birth_by, birth_for, present_op, process_of}
@@ -96,6 +96,7 @@ module _ (s t : CoreState) (b q d far : ℕ) (kept : KeepsOut s t q d) where
   needs_still (Discard page n) job is = refl
   needs_still (Pin handle page n want fast) job is = ap (λ (j : Job). (pin_locks fast far j).structure) job ∙ is
   needs_still (Get handle page) job is = refl
+  needs_still (Mirror mirror proc page) job is = refl
   needs_still Exit job is = refl
   needs_still op job is = absurd (cc is)
 
