@@ -9,7 +9,7 @@ use Rattle.gup_plain.specs.State.{Noted, born}
 use Rattle.gup_plain.specs.declared.note.What.{What}
 use Rattle.gup_plain.specs.declared.note.What.TheVariants.{Done}
 use Rattle.gup_script.specs.declared.op.Op.{Op}
-use Rattle.gup_script.specs.declared.op.Op.TheVariants.{Pin, Mirror, Fork, Move}
+use Rattle.gup_script.specs.declared.op.Op.TheVariants.{Pin, Fork, Move}
 use Rattle.gup_spec_events.specs.State.{CoreState, Job, idle, moving, forking, walking, Taken, between, counted, copying, WalkStep, read, plain_of}
 use Rattle.gup_spec_events.specs.Event.{CoreEvent, IsUnmirrored, Can, happens, run}
 use Rattle.gup_spec_events.specs.Invariant.{AllCan, frame_of}
@@ -24,6 +24,7 @@ use Rattle.gup_spec_turns.proofs.Unseen.{mirroring, IsButFor, run_unseen, emptyi
 use Rattle.gup_law_turns.proofs.CalmStates.{IsCalm, Strand, AreTurnEvents, IsTurnEvent, IsHandleEvent, emptying_slot, handling, unpinning, looking_on, filling_slot, looking, breaking, lowering, protecting, dropping, discarding, clearing, sharing_entry}
 use Rattle.gup_law_turns.proofs.TurnShapes.{FitsFork, FitsMove, FitsPin, FitsAt, TurnAt, AtRest, child_of, strand_of, references_of}
 use Rattle.gup_law_turns.proofs.ShownTurns.{FitsNext, MakesPin, kinds_behind, can_behind, run_behind, told_behind}
+use Rattle.gup_law_turns.specs.Slots.{EmptiesSlots}
 use Rattle.gup_law_turns.proofs.KeptParts.{FillsNone}
 use Rattle.gup_law_turns.proofs.StandingStates.{IsTaken}
 use Rattle.gup_law_turns.proofs.EmptiedSlots.{empties_kinds, empties_told, empties_can, empties_fill, empties_leave, empties_left, emptying_stale}
@@ -203,17 +204,7 @@ all_keep filled s a p c strand (e ∷ es) fills kinds can =
     let later = all_keep filled next a p c strand es fills kinds.1 (subst (λ (t : CoreState). AllCan t es) none can.1) in
     (ap (λ (t : CoreState). run t es) (event_keeps filled s a p c strand fills kinds.0 can.0) ∙ later.0, later.1 ∙ event_notes filled s a p c strand fills kinds.0)
 
--- the operation is no mirror of this slot
-abbrev pub LeavesSlot : Option Op → (m : ℕ) → Type 0
-LeavesSlot op m = (proc page : ℕ) → op ≡ Some (Mirror m proc page) → ⊥
-
--- A turn leaves each slot filled that is of no page which its events invalidate, and empties the others, but for the slot that its
--- operation fills. What they were filled with stays noted.
-pub record EmptiesSlots (s : CoreState) (op : Option Op) (turn : CoreTurn) : Type 0 where
-  pub left : (m : ℕ) → LeavesSlot op m → (run s turn.events).mirrored m ≡ left_in turn.events (s.mirrored m) (s.slot m)
-  pub notes : (m : ℕ) → LeavesSlot op m → (run s turn.events).slot m ≡ s.slot m
-
--- one without events does
+-- a turn without events leaves all slots
 pub silent_slots : (s : CoreState) (op : Option Op) (whats : List What) → EmptiesSlots s op (record { events = []; whats = whats })
 silent_slots s op whats = record { left = λ m other. go (s.mirrored m) (s.slot m); notes = λ m other. refl }
   where

@@ -24,7 +24,8 @@ use Rattle.gup_spec_turns.specs.MirrorTurns.{fills, mirror_turn, look_turn}
 use Rattle.gup_spec_turns.specs.Waits.{waits_for_locks, both_locks}
 use Rattle.gup_law_turns.proofs.CalmStates.{of_mirror, filling_slot, looking}
 use Rattle.gup_law_turns.proofs.EmptiedSlots.{stale_by}
-use Rattle.gup_law_turns.proofs.EmptiedTurns.{calmed, EmptiesSlots, LeavesSlot}
+use Rattle.gup_law_turns.proofs.EmptiedTurns.{calmed}
+use Rattle.gup_law_turns.specs.Slots.{EmptiesSlots, LeavesSlot}
 use Rattle.gup_law_turns.proofs.FaultTurns.{IsReady, MayFault, may_fault, filled}
 use Rattle.gup_law_turns.proofs.PageOps.{named_load}
 use Rattle.gup_law_turns.proofs.PageSearches.{free_frame_free}

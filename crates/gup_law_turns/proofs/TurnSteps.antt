@@ -30,8 +30,9 @@ use Rattle.gup_script.specs.Limits.{most_mirrors}
 use Rattle.gup_spec_turns.specs.Emptying.{invalidate, emptying}
 use Rattle.gup_spec_turns.proofs.UnseenTurns.{IsNoLook, turn_unseen, waits_unseen}
 use Rattle.gup_law_base.specs.Sound.{IsSound}
+use Rattle.gup_law_turns.specs.Slots.{EmptiesSlots}
 use Rattle.gup_law_turns.proofs.CountedFrames.{AreCountedThere}
-use Rattle.gup_law_turns.proofs.EmptiedTurns.{EmptiesSlots, calmed, calmed_calm, calmed_sound, emptied_slots, emptied_taken, fits_with, silent_slots}
+use Rattle.gup_law_turns.proofs.EmptiedTurns.{calmed, calmed_calm, calmed_sound, emptied_slots, emptied_taken, fits_with, silent_slots}
 use Rattle.gup_law_turns.proofs.CalmStates.{failing_unborn}
 use Rattle.gup_law_turns.proofs.ForkFails.{unborn_empty}
 use Rattle.gup_law_turns.proofs.ForkOps.{IsEmptied, fork_turned, fork_emptied}
