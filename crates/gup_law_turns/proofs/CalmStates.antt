@@ -1,18 +1,18 @@
 -- A state in which no mirror slot is filled, and of which events turns are made.
-use Rattle.std.proofs.Common.{◌≡◌, ℕ, Bool, List, [], ◌∷◌, Option, None}
+use Rattle.std.proofs.Common.{◌≡◌, ℕ, ◌<◌, Bool, List, [], ◌∷◌, Option, None}
 use Rattle.gup_base.specs.declared.entry.Allowed.{Allowed}
 use Rattle.gup_base.specs.declared.entry.Entry.{Entry}
 use Rattle.gup_base.specs.declared.entry.Rights.{Rights}
 use Rattle.gup_spec_events.specs.State.{CoreState, ForkStep, Counted, WalkStep, Taken}
-use Rattle.gup_spec_events.specs.Event.{CoreEvent, take_frame, fill, count_one, set_mark, upgrade, break_entry, put_entry, map_pages, lower_entry, protect_pages, drop_entry, discard_entry, load, store, raise_flag, pin_page, make_handle, unpin_page, give_handle, take_handle, get_reference, put_reference, move_out, move_in, begin_fork, count_page, share_entry, share_mark, share_child, copy_word, place_child, pass_page, end_fork, fail_fork, put_child, fail_unborn, clear_entry, count_moved, place_frame, restore_entry, enter_walk, read_sequence, read_entry, grab_frame, miss_frame, recheck_same, recheck_other, read_mark, read_again, drop_grab, drop_last, drop_first, leave_walk, empty_mirror}
+use Rattle.gup_spec_events.specs.Event.{CoreEvent, take_frame, fill, count_one, set_mark, upgrade, break_entry, put_entry, map_pages, lower_entry, protect_pages, drop_entry, discard_entry, load, store, raise_flag, pin_page, make_handle, unpin_page, give_handle, take_handle, get_reference, put_reference, move_out, move_in, begin_fork, count_page, share_entry, share_mark, share_child, copy_word, place_child, pass_page, end_fork, fail_fork, put_child, fail_unborn, clear_entry, count_moved, place_frame, restore_entry, enter_walk, read_sequence, read_entry, grab_frame, miss_frame, recheck_same, recheck_other, read_mark, read_again, drop_grab, drop_last, drop_first, leave_walk, empty_mirror, fill_mirror, look}
+use Rattle.gup_script.specs.Limits.{most_mirrors}
 
 -- no mirror is filled
 pub record IsCalm (s : CoreState) : Type 0 where
   pub unmirrored : (m : ℕ) → s.mirrored m ≡ None
 
 -- What an operation is about, beside its process: pages alone, the page that it moves, the pin that it makes, one that it
--- gives, takes, gives back or
--- moves words of, or the reference that it gets or puts back.
+-- gives, takes, gives back or moves words of, the reference that it gets or puts back, or the mirror slot that it fills.
 pub data Strand : Type 0 where
   of_pages : Strand
   of_move : Strand
@@ -20,6 +20,7 @@ pub data Strand : Type 0 where
   of_handle : (handle : ℕ) → Strand
   of_get : (handle : ℕ) → Strand
   of_put : (handle : ℕ) → Strand
+  of_mirror : (mirror : ℕ) → Strand
 
 -- a move and a pin, if that is for long, may move a page
 abbrev pub MayMove : Strand → Type 0
@@ -27,13 +28,15 @@ MayMove of_move = Unit {0}
 MayMove (of_pin handle) = Unit {0}
 MayMove strand = ⊥
 
--- The events of a turn of actor a that gives, takes or gives back a pin, or moves a word of one: they are of no process.
+-- The events of a turn of actor a that gives, takes or gives back a pin, or moves a word of one, or that looks through a mirror
+-- slot: they are of no process.
 pub data IsHandleEvent (a h : ℕ) : CoreEvent → Type 0 where
   unpinning : (f : ℕ) (left : List ℕ) → IsHandleEvent a h (unpin_page a h f left)
   giving : (to : ℕ) → IsHandleEvent a h (give_handle a h to)
   taking_over : IsHandleEvent a h (take_handle a h)
   moving_out : (index slot f value : ℕ) → IsHandleEvent a h (move_out a h index slot f value)
   moving_in : (index slot f value : ℕ) → IsHandleEvent a h (move_in a h index slot f value)
+  looking_on : (m word f value : ℕ) → IsHandleEvent a h (look a m word f value)
 
 abbrev pub AreHandleEvents : (a h : ℕ) → List CoreEvent → Type 0
 AreHandleEvents a h [] = Unit {0}
@@ -92,6 +95,8 @@ pub data IsTurnEvent (a p c : ℕ) (strand : Strand) : CoreEvent → Type 0 wher
   putting_child : (done : List ℕ) (page : ℕ) (e : Entry) (ends : Bool) → IsTurnEvent a p c strand (put_child a p c done page e ends)
   failing_unborn : IsTurnEvent a p c strand (fail_unborn a p c)
   emptying_slot : (m : ℕ) → IsTurnEvent a p c strand (empty_mirror a m)
+  filling_slot : (m : ℕ) → strand ≡ of_mirror m → m < most_mirrors → (page f : ℕ) (writable : Bool) → IsTurnEvent a p c strand (fill_mirror a m p page f writable)
+  looking : (m word f value : ℕ) → IsTurnEvent a p c strand (look a m word f value)
 
 abbrev pub AreTurnEvents : (a p c : ℕ) → Strand → List CoreEvent → Type 0
 AreTurnEvents a p c strand [] = Unit {0}

@@ -14,12 +14,12 @@ use Rattle.gup_law_turns.proofs.CalmStates.{Strand, AreTurnEvents, AreHandleEven
 
 -- ---- a turn that invalidates nothing
 
-stale_by : (es : List CoreEvent) → ((p g : ℕ) → invalidate es p g ≡ false) → (frame : Option ℕ) (noted : Option Noted) → is_stale es frame noted ≡ false
+pub stale_by : (es : List CoreEvent) → ((p g : ℕ) → invalidate es p g ≡ false) → (frame : Option ℕ) (noted : Option Noted) → is_stale es frame noted ≡ false
 stale_by es none None noted = refl
 stale_by es none (Some f) None = refl
 stale_by es none (Some f) (Some noted) = none noted.proc noted.page
 
-pub none_emptied : (s : CoreState) (a : ℕ) (es : List CoreEvent) (m n : ℕ) → ((p g : ℕ) → invalidate es p g ≡ false) → empties s a es m n ≡ []
+none_emptied : (s : CoreState) (a : ℕ) (es : List CoreEvent) (m n : ℕ) → ((p g : ℕ) → invalidate es p g ≡ false) → empties s a es m n ≡ []
 none_emptied s a es m zero none = refl
 none_emptied s a es m (suc n) none = rw (stale_by es none (s.mirrored m) (s.slot m)) (none_emptied s a es (m + 1) n none)
 
@@ -31,10 +31,14 @@ handles_none : (a h : ℕ) (es : List CoreEvent) → AreHandleEvents a h es → 
 handles_none a h [] about p g = refl
 handles_none a h (e ∷ es) about p g = rw (handle_none a h p g about.0) (handles_none a h es about.1 p g)
 
--- so a turn about a handle is as it was
+-- such a turn empties none
+pub none_emptying : (s : CoreState) (a : ℕ) (turn : CoreTurn) → ((p g : ℕ) → invalidate turn.events p g ≡ false) → emptying s a turn ≡ turn
+none_emptying s a turn none =
+    ap (λ (es : List CoreEvent). record { events = es ++ turn.events; whats = turn.whats }) (none_emptied s a turn.events 0 most_mirrors none)
+
+-- and so is a turn about a handle
 pub about_same : (s : CoreState) (a h : ℕ) (turn : CoreTurn) → AreHandleEvents a h turn.events → emptying s a turn ≡ turn
-about_same s a h turn about =
-    ap (λ (es : List CoreEvent). record { events = es ++ turn.events; whats = turn.whats }) (none_emptied s a turn.events 0 most_mirrors (handles_none a h turn.events about))
+about_same s a h turn about = none_emptying s a turn (handles_none a h turn.events about)
 
 pub about_emptying : (s : CoreState) (a h : ℕ) (turn : CoreTurn) → AreHandleEvents a h turn.events → AreHandleEvents a h (emptying s a turn).events
 about_emptying s a h turn about = subst (λ (t : CoreTurn). AreHandleEvents a h t.events) (sym (about_same s a h turn about)) about

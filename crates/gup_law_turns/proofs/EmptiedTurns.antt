@@ -9,7 +9,7 @@ use Rattle.gup_plain.specs.State.{Noted, born}
 use Rattle.gup_plain.specs.declared.note.What.{What}
 use Rattle.gup_plain.specs.declared.note.What.TheVariants.{Done}
 use Rattle.gup_script.specs.declared.op.Op.{Op}
-use Rattle.gup_script.specs.declared.op.Op.TheVariants.{Pin, Fork, Move}
+use Rattle.gup_script.specs.declared.op.Op.TheVariants.{Pin, Mirror, Fork, Move}
 use Rattle.gup_spec_events.specs.State.{CoreState, Job, idle, moving, forking, walking, Taken, between, counted, copying, WalkStep, read, plain_of}
 use Rattle.gup_spec_events.specs.Event.{CoreEvent, IsUnmirrored, Can, happens, run}
 use Rattle.gup_spec_events.specs.Invariant.{AllCan, frame_of}
@@ -21,9 +21,10 @@ use Rattle.gup_script.specs.Limits.{most_mirrors}
 use Rattle.gup_spec_turns.specs.JobPlace.{JobPlace, IsForking, HasCounted, StandsFork, IsMoving, StandsMove, place_in}
 use Rattle.gup_spec_turns.specs.PinPlace.{IsMovingPin, IsReadThere, IsWalkingPin, StandsAtPage}
 use Rattle.gup_spec_turns.proofs.Unseen.{mirroring, IsButFor, run_unseen, emptying_unseen, empties_unseen}
-use Rattle.gup_law_turns.proofs.CalmStates.{IsCalm, Strand, AreTurnEvents, IsTurnEvent, IsHandleEvent, emptying_slot, handling, unpinning, breaking, lowering, protecting, dropping, discarding, clearing, sharing_entry}
+use Rattle.gup_law_turns.proofs.CalmStates.{IsCalm, Strand, AreTurnEvents, IsTurnEvent, IsHandleEvent, emptying_slot, handling, unpinning, looking_on, filling_slot, looking, breaking, lowering, protecting, dropping, discarding, clearing, sharing_entry}
 use Rattle.gup_law_turns.proofs.TurnShapes.{FitsFork, FitsMove, FitsPin, FitsAt, TurnAt, AtRest, child_of, strand_of, references_of}
 use Rattle.gup_law_turns.proofs.ShownTurns.{FitsNext, MakesPin, kinds_behind, can_behind, run_behind, told_behind}
+use Rattle.gup_law_turns.proofs.KeptParts.{FillsNone}
 use Rattle.gup_law_turns.proofs.StandingStates.{IsTaken}
 use Rattle.gup_law_turns.proofs.EmptiedSlots.{empties_kinds, empties_told, empties_can, empties_fill, empties_leave, empties_left, emptying_stale}
 
@@ -136,14 +137,16 @@ unmirrored filled s range clear p page has m noted some slot proc of_page =
     let same : has_page range noted.proc noted.page ≡ has_page range p page = ap (λ (q : ℕ). has_page range q noted.page) proc ∙ ap (has_page range p) of_page in
     absurd (cc (sym has ∙ sym same ∙ none))
 
-module _ (filled : ℕ → Option ℕ) (s : CoreState) (a p c : ℕ) (strand : Strand) where
+module _ (filled : ℕ → Option ℕ) (s : CoreState) (a p c : ℕ) (strand : Strand) (fills_none : FillsNone strand) where
   handle_can : (h : ℕ) {e : CoreEvent} → IsHandleEvent a h e → Can (calmed s) e → Can (mirroring filled s) e
   handle_can h (unpinning f left) can = can
+  handle_can h (looking_on m word f value) can = absurd (cc can.0)
   handle_can h event can = can
 
   event_can : {e : CoreEvent} → IsTurnEvent a p c strand e → ((m : ℕ) (noted : Noted) → IsSome (filled m) → s.slot m ≡ Some noted → has_page (invalidated_by e) noted.proc noted.page ≡ false) → Can (calmed s) e → Can (mirroring filled s) e
   event_can (handling h is event) clear can = handle_can h event can
   event_can (emptying_slot m) clear can = absurd (cc can)
+  event_can (looking m word f value) clear can = absurd (cc can.0)
   event_can (breaking page old new was writable) clear can =
       (can.0, can.1, can.2, can.3, can.4, can.5, can.6, can.7, unmirrored filled s (one_page p page) clear p page (has_own p page))
   event_can (lowering page f) clear can = (can.0, can.1, can.2, unmirrored filled s (one_page p page) clear p page (has_own p page))
@@ -159,10 +162,11 @@ module _ (filled : ℕ → Option ℕ) (s : CoreState) (a p c : ℕ) (strand : S
   handle_keeps h (unpinning f left) = refl
   handle_keeps h event = refl
 
-  -- any event but the emptying of a slot leaves them filled so
+  -- any event but the emptying and the filling of a slot leaves them filled so
   event_keeps : {e : CoreEvent} → IsTurnEvent a p c strand e → Can (calmed s) e → happens (mirroring filled s) e ≡ mirroring filled (happens s e)
   event_keeps (handling h is event) can = handle_keeps h event
   event_keeps (emptying_slot m) can = absurd (cc can)
+  event_keeps (filling_slot m is less page f writable) can = absurd (fills_none m is)
   event_keeps event can = refl
 
   handle_notes : (h : ℕ) {e : CoreEvent} → IsHandleEvent a h e → (happens s e).slot ≡ s.slot
@@ -171,42 +175,47 @@ module _ (filled : ℕ → Option ℕ) (s : CoreState) (a p c : ℕ) (strand : S
 
   event_notes : {e : CoreEvent} → IsTurnEvent a p c strand e → (happens s e).slot ≡ s.slot
   event_notes (handling h is event) = handle_notes h event
+  event_notes (filling_slot m is less page f writable) = absurd (fills_none m is)
   event_notes event = refl
 
-all_can : (filled : ℕ → Option ℕ) (s : CoreState) (a p c : ℕ) (strand : Strand) (es : List CoreEvent) → AreTurnEvents a p c strand es → IsClear filled s.slot es → AllCan (calmed s) es → AllCan (mirroring filled s) es
-all_can filled s a p c strand [] kinds clear can = tt
-all_can filled s a p c strand (e ∷ es) kinds clear can =
+all_can : (filled : ℕ → Option ℕ) (s : CoreState) (a p c : ℕ) (strand : Strand) (es : List CoreEvent) → FillsNone strand → AreTurnEvents a p c strand es → IsClear filled s.slot es → AllCan (calmed s) es → AllCan (mirroring filled s) es
+all_can filled s a p c strand [] fills kinds clear can = tt
+all_can filled s a p c strand (e ∷ es) fills kinds clear can =
     let split : (m : ℕ) (noted : Noted) → IsSome (filled m) → s.slot m ≡ Some noted → (has_page (invalidated_by e) noted.proc noted.page ≡ false) × (invalidate es noted.proc noted.page ≡ false) =
     λ m noted some slot. none_of (has_page (invalidated_by e) noted.proc noted.page) (invalidate es noted.proc noted.page) (clear m noted some slot) in
     let next : CoreState = happens s e in
-    let notes : next.slot ≡ s.slot = event_notes filled s a p c strand kinds.0 in
-    let none : happens (calmed s) e ≡ calmed next = event_keeps (λ m. None) s a p c strand kinds.0 can.0 in
+    let notes : next.slot ≡ s.slot = event_notes filled s a p c strand fills kinds.0 in
+    let none : happens (calmed s) e ≡ calmed next = event_keeps (λ m. None) s a p c strand fills kinds.0 can.0 in
     let later : AllCan (mirroring filled next) es =
-    all_can filled next a p c strand es kinds.1
+    all_can filled next a p c strand es fills kinds.1
     (λ m noted some slot. (split m noted some (ap (λ (f : ℕ → Option Noted). f m) (sym notes) ∙ slot)).1)
     (subst (λ (t : CoreState). AllCan t es) none can.1) in (
-      event_can filled s a p c strand kinds.0 (λ m noted some slot. (split m noted some slot).0) can.0,
-      subst (λ (t : CoreState). AllCan t es) (sym (event_keeps filled s a p c strand kinds.0 can.0)) later,
+      event_can filled s a p c strand fills kinds.0 (λ m noted some slot. (split m noted some slot).0) can.0,
+      subst (λ (t : CoreState). AllCan t es) (sym (event_keeps filled s a p c strand fills kinds.0 can.0)) later,
     )
 
 -- so the slots are after the events what they were before
-all_keep : (filled : ℕ → Option ℕ) (s : CoreState) (a p c : ℕ) (strand : Strand) (es : List CoreEvent) → AreTurnEvents a p c strand es → AllCan (calmed s) es → (run (mirroring filled s) es ≡ mirroring filled (run s es)) × ((run s es).slot ≡ s.slot)
-all_keep filled s a p c strand [] kinds can = (refl, refl)
-all_keep filled s a p c strand (e ∷ es) kinds can =
+all_keep : (filled : ℕ → Option ℕ) (s : CoreState) (a p c : ℕ) (strand : Strand) (es : List CoreEvent) → FillsNone strand → AreTurnEvents a p c strand es → AllCan (calmed s) es → (run (mirroring filled s) es ≡ mirroring filled (run s es)) × ((run s es).slot ≡ s.slot)
+all_keep filled s a p c strand [] fills kinds can = (refl, refl)
+all_keep filled s a p c strand (e ∷ es) fills kinds can =
     let next : CoreState = happens s e in
-    let none : happens (calmed s) e ≡ calmed next = event_keeps (λ m. None) s a p c strand kinds.0 can.0 in
-    let later = all_keep filled next a p c strand es kinds.1 (subst (λ (t : CoreState). AllCan t es) none can.1) in
-    (ap (λ (t : CoreState). run t es) (event_keeps filled s a p c strand kinds.0 can.0) ∙ later.0, later.1 ∙ event_notes filled s a p c strand kinds.0)
+    let none : happens (calmed s) e ≡ calmed next = event_keeps (λ m. None) s a p c strand fills kinds.0 can.0 in
+    let later = all_keep filled next a p c strand es fills kinds.1 (subst (λ (t : CoreState). AllCan t es) none can.1) in
+    (ap (λ (t : CoreState). run t es) (event_keeps filled s a p c strand fills kinds.0 can.0) ∙ later.0, later.1 ∙ event_notes filled s a p c strand fills kinds.0)
 
--- A turn leaves each slot filled that is of no page which its events invalidate, and empties the others. What they were filled with
--- stays noted.
-pub record EmptiesSlots (s : CoreState) (turn : CoreTurn) : Type 0 where
-  pub left : (m : ℕ) → (run s turn.events).mirrored m ≡ left_in turn.events (s.mirrored m) (s.slot m)
-  pub notes : (run s turn.events).slot ≡ s.slot
+-- the operation is no mirror of this slot
+abbrev pub LeavesSlot : Option Op → (m : ℕ) → Type 0
+LeavesSlot op m = (proc page : ℕ) → op ≡ Some (Mirror m proc page) → ⊥
+
+-- A turn leaves each slot filled that is of no page which its events invalidate, and empties the others, but for the slot that its
+-- operation fills. What they were filled with stays noted.
+pub record EmptiesSlots (s : CoreState) (op : Option Op) (turn : CoreTurn) : Type 0 where
+  pub left : (m : ℕ) → LeavesSlot op m → (run s turn.events).mirrored m ≡ left_in turn.events (s.mirrored m) (s.slot m)
+  pub notes : (m : ℕ) → LeavesSlot op m → (run s turn.events).slot m ≡ s.slot m
 
 -- one without events does
-pub silent_slots : (s : CoreState) (whats : List What) → EmptiesSlots s (record { events = []; whats = whats })
-silent_slots s whats = record { left = λ m. go (s.mirrored m) (s.slot m); notes = refl }
+pub silent_slots : (s : CoreState) (op : Option Op) (whats : List What) → EmptiesSlots s op (record { events = []; whats = whats })
+silent_slots s op whats = record { left = λ m other. go (s.mirrored m) (s.slot m); notes = λ m other. refl }
   where
     go : (frame : Option ℕ) (noted : Option Noted) → frame ≡ left_in [] frame noted
     go None noted = refl
@@ -215,7 +224,7 @@ silent_slots s whats = record { left = λ m. go (s.mirrored m) (s.slot m); notes
 
 -- ---- the whole turn
 
-module _ (s : CoreState) (who : Doer) (place : Place) (op : Op) (turn : CoreTurn) (within : (m f : ℕ) → s.mirrored m ≡ Some f → m < most_mirrors) (h : IsTaken (calmed s) who place (Some op) None turn) where
+module _ (s : CoreState) (who : Doer) (place : Place) (op : Op) (turn : CoreTurn) (fills_none : FillsNone (strand_of (Some op))) (within : (m f : ℕ) → s.mirrored m ≡ Some f → m < most_mirrors) (h : IsTaken (calmed s) who place (Some op) None turn) where
   abbrev es : List CoreEvent
   es = turn.events
 
@@ -244,7 +253,7 @@ module _ (s : CoreState) (who : Doer) (place : Place) (op : Op) (turn : CoreTurn
   can =
       can_behind s before es (empties_can s s who.actor es 0 most_mirrors (λ k least. refl))
       (subst (λ (t : CoreState). AllCan t es) (sym at_front)
-      (all_can front.mirrored s who.actor who.proc (child_of who.proc (Some op)) (strand_of (Some op)) es h.done.kinds clear h.done.can))
+      (all_can front.mirrored s who.actor who.proc (child_of who.proc (Some op)) (strand_of (Some op)) es fills_none h.done.kinds clear h.done.can))
 
   abbrev bare : CoreState
   bare = run (calmed s) es
@@ -290,13 +299,13 @@ module _ (s : CoreState) (who : Doer) (place : Place) (op : Op) (turn : CoreTurn
           absurd (omega (arith, less, past))
       by_none None (Some f) now_is was_is = absurd (let less = within m f was_is in omega (arith, less, past))
 
-  pub emptied_slots : EmptiesSlots s (emptying s who.actor turn)
+  pub emptied_slots : EmptiesSlots s (Some op) (emptying s who.actor turn)
   emptied_slots =
-      let kept = all_keep front.mirrored s who.actor who.proc (child_of who.proc (Some op)) (strand_of (Some op)) es h.done.kinds h.done.can in
+      let kept = all_keep front.mirrored s who.actor who.proc (child_of who.proc (Some op)) (strand_of (Some op)) es fills_none h.done.kinds h.done.can in
       let ran : behind ≡ mirroring front.mirrored (run s es) = run_behind s before es ∙ ap (λ (t : CoreState). run t es) at_front ∙ kept.0 in
       record {
-        left = λ m. ap (λ (t : CoreState). t.mirrored m) ran ∙ is_left m (le_or_lt m most_mirrors) ∙ sym (emptying_stale s who.actor turn (s.mirrored m) (s.slot m));
-        notes = ap (λ (t : CoreState). t.slot) ran ∙ kept.1;
+        left = λ m other. ap (λ (t : CoreState). t.mirrored m) ran ∙ is_left m (le_or_lt m most_mirrors) ∙ sym (emptying_stale s who.actor turn (s.mirrored m) (s.slot m));
+        notes = λ m other. ap (λ (t : CoreState). t.slot m) ran ∙ ap (λ (f : ℕ → Option Noted). f m) kept.1;
       }
     where
       le_or_lt : (m n : ℕ) → (m < n) ⊎ (n ≤ m)

@@ -1,5 +1,5 @@
 -- What the events of a turn leave as it is.
-use Rattle.std.proofs.Common.{◌≡◌, ℕ, ◌==◌, ◌⊎◌, inl, inr, Bool, true, false, if◌then◌else◌, List, [], ◌∷◌, ◌++◌, Option, Some, None, refl, sym, ap, subst, ◌∙◌, eqb-true, arith}
+use Rattle.std.proofs.Common.{◌≡◌, ℕ, ◌<◌, ◌==◌, ◌⊎◌, inl, inr, Bool, true, false, if◌then◌else◌, List, [], ◌∷◌, ◌++◌, Option, Some, None, refl, sym, ap, subst, ◌∙◌, eqb-true, arith}
 use Rattle.std.proofs.lemmas.Bool.Decides.{nat_tests}
 use Rattle.gup_base.specs.declared.entry.Allowed.{Allowed}
 use Rattle.gup_base.specs.declared.entry.Entry.{Entry}
@@ -7,11 +7,12 @@ use Rattle.gup_base.specs.declared.entry.Rights.{Rights}
 use Rattle.gup_plain.specs.Event.{IsHeldBy, IsGivenTo, given_to, held_by, words}
 use Rattle.gup_plain.specs.Put.{put, put2}
 use Rattle.gup_plain.specs.State.{Birth, unborn, growing, born, failed, Handle, unmade, held, gone}
+use Rattle.gup_script.specs.Limits.{most_mirrors}
 use Rattle.gup_spec_events.specs.State.{CoreState, Taken, marking, moving, Counted, one, forking, ForkStep, between, counted, lowered, cleared, copying, failing}
 use Rattle.gup_spec_events.specs.Event.{CoreEvent, Can, MayFail, happens, put_child, fail_fork, raise_flag, pin_page, make_handle, unpin_page, give_handle, take_handle, taken_frames, objects_taken, writes_taken, run, recheck_same, drop_last, drop_first}
 use Rattle.gup_spec_events.specs.Invariant.{AllCan}
 use Rattle.gup_law_base.specs.Sound.{IsSound, Forking, forking_of, birth_of_child, is_failing, moving_of, marking_of, step_page}
-use Rattle.gup_law_turns.proofs.CalmStates.{IsCalm, Strand, of_pin, of_handle, of_get, of_put, getting, putting_back, IsTurnEvent, AreTurnEvents, raising, pinning, making, handling, IsHandleEvent, AreHandleEvents, unpinning, giving, taking_over, beginning, ending, failing_at, putting_child, failing_unborn, marking_it, clearing, placing_frame, restoring, sharing_entry, sharing_child, placing, MayMove, finding_same, dropping_last, dropping_first, emptying_slot}
+use Rattle.gup_law_turns.proofs.CalmStates.{IsCalm, Strand, of_pin, of_handle, of_get, of_put, of_mirror, emptying_slot, filling_slot, getting, putting_back, IsTurnEvent, AreTurnEvents, raising, pinning, making, handling, IsHandleEvent, AreHandleEvents, unpinning, giving, taking_over, beginning, ending, failing_at, putting_child, failing_unborn, marking_it, clearing, placing_frame, restoring, sharing_entry, sharing_child, placing, MayMove, finding_same, dropping_last, dropping_first, emptying_slot}
 use Rattle.gup_law_turns.proofs.Puts.{put_same, put_other, some_same}
 use Rattle.gup_law_turns.proofs.EventLists.{Law}
 
@@ -64,6 +65,10 @@ child_unborn : (p : ℕ) (failing : Bool) → (if failing then failed else growi
 child_unborn p true e = cc e
 child_unborn p false e = cc e
 
+-- the operation fills no mirror slot
+abbrev pub FillsNone : Strand → Type 0
+FillsNone strand = (m : ℕ) → strand ≡ of_mirror m → ⊥
+
 module _ (s : CoreState) (a p c : ℕ) (strand : Strand) where
   leaves_handle : {e : CoreEvent} (h : ℕ) → IsHandleEvent a h e → Leaves a p c s (happens s e)
   leaves_handle h (unpinning f left) = record { process = λ q other child. refl; birth = λ q child. refl; job = λ b other. refl; prepared = λ b other. refl; owed = λ b other. refl }
@@ -75,20 +80,21 @@ module _ (s : CoreState) (a p c : ℕ) (strand : Strand) where
   leaves_event (putting_child done page e true) = record { process = λ q other child. simp (other, child); birth = λ q child. refl; job = λ b other. simp other; prepared = λ b other. refl; owed = λ b other. refl }
   leaves_event event = record { process = λ q other child. first_of (simp other, simp child, simp (other, child), cc); birth = λ q child. first_of (simp child, cc); job = λ b other. first_of (simp other, cc); prepared = λ b other. first_of (simp other, cc); owed = λ b other. first_of (simp other, cc) }
 
-  -- nothing of a turn mirrors
+  -- nothing of a turn mirrors, but of one that fills a slot
 
   calm_handle : {e : CoreEvent} (h : ℕ) → IsHandleEvent a h e → IsCalm s → IsCalm (happens s e)
   calm_handle h (unpinning f left) calm = assumption
   calm_handle h event calm = assumption
 
-  calm_event : {e : CoreEvent} → IsTurnEvent a p c strand e → IsCalm s → IsCalm (happens s e)
-  calm_event (handling handle is event) h = calm_handle handle event h
-  calm_event (emptying_slot m) h = record { unmirrored = λ k. go k (k == m) }
+  calm_event : {e : CoreEvent} → IsTurnEvent a p c strand e → FillsNone strand → IsCalm s → IsCalm (happens s e)
+  calm_event (handling handle is event) none h = calm_handle handle event h
+  calm_event (filling_slot m is less page f writable) none h = absurd (none m is)
+  calm_event (emptying_slot m) none h = record { unmirrored = λ k. go k (k == m) }
     where
       go : (k : ℕ) (t : Bool) → (if t then None else s.mirrored k) ≡ None
       go k true = refl
       go k false = h.unmirrored k
-  calm_event event h = assumption
+  calm_event event none h = assumption
 
   -- a born process stays born: the child of a fork that fails was growing, and that of a failed process was unborn
   births_event : {e : CoreEvent} → IsTurnEvent a p c strand e → IsSound s → Can s e → (q : ℕ) → s.birth q ≡ born → (happens s e).birth q ≡ born
@@ -224,28 +230,36 @@ leaves s a p c strand (e ∷ es) kinds =
       owed = λ b other. later.owed b other ∙ first.owed b other;
     }
 
-pub stays_calm : (s : CoreState) (a p c : ℕ) (strand : Strand) (es : List CoreEvent) → AreTurnEvents a p c strand es → IsCalm s → IsCalm (run s es)
-stays_calm s a p c strand [] kinds h = h
-stays_calm s a p c strand (e ∷ es) kinds h = stays_calm (happens s e) a p c strand es kinds.1 (calm_event s a p c strand kinds.0 h)
+pub stays_calm : (s : CoreState) (a p c : ℕ) (strand : Strand) (es : List CoreEvent) → AreTurnEvents a p c strand es → FillsNone strand → IsCalm s → IsCalm (run s es)
+stays_calm s a p c strand [] kinds none h = h
+stays_calm s a p c strand (e ∷ es) kinds none h = stays_calm (happens s e) a p c strand es kinds.1 none (calm_event s a p c strand kinds.0 none h)
 
--- no slot is filled
-filled_handle : (s : CoreState) (a h m f : ℕ) {e : CoreEvent} → IsHandleEvent a h e → (happens s e).mirrored m ≡ Some f → s.mirrored m ≡ Some f
-filled_handle s a h m f (unpinning g left) is = is
-filled_handle s a h m f event is = is
+-- no slot is filled past the last one
+abbrev pub AreWithin : CoreState → Type 0
+AreWithin s = (m f : ℕ) → s.mirrored m ≡ Some f → m < most_mirrors
 
-filled_event : (s : CoreState) (a p c : ℕ) (strand : Strand) (m f : ℕ) {e : CoreEvent} → IsTurnEvent a p c strand e → (happens s e).mirrored m ≡ Some f → s.mirrored m ≡ Some f
-filled_event s a p c strand m f (handling h is event) filled = filled_handle s a h m f event filled
-filled_event s a p c strand m f (emptying_slot k) filled = go (m == k) filled
+within_handle : (s : CoreState) (a h : ℕ) {e : CoreEvent} → IsHandleEvent a h e → AreWithin s → AreWithin (happens s e)
+within_handle s a h (unpinning g left) within = within
+within_handle s a h event within = within
+
+within_event : (s : CoreState) (a p c : ℕ) (strand : Strand) {e : CoreEvent} → IsTurnEvent a p c strand e → AreWithin s → AreWithin (happens s e)
+within_event s a p c strand (handling h is event) within = within_handle s a h event within
+within_event s a p c strand (emptying_slot k) within = λ m f. go m f (m == k)
   where
-    go : (t : Bool) → (if t then None else s.mirrored m) ≡ Some f → s.mirrored m ≡ Some f
-    go true is = absurd (cc is)
-    go false is = is
-filled_event s a p c strand m f event filled = filled
+    go : (m f : ℕ) (t : Bool) → (if t then None else s.mirrored m) ≡ Some f → m < most_mirrors
+    go m f true is = absurd (cc is)
+    go m f false is = within m f is
+within_event s a p c strand (filling_slot k is less page f writable) within = λ m g. go m g (m == k) refl
+  where
+    go : (m g : ℕ) (t : Bool) → (m == k) ≡ t → (if t then Some f else s.mirrored m) ≡ Some g → m < most_mirrors
+    go m g true same filled = subst (λ (j : ℕ). j < most_mirrors) (sym (eqb-true m k same)) less
+    go m g false other filled = within m g filled
+within_event s a p c strand event within = within
 
-pub stays_filled : (s : CoreState) (a p c : ℕ) (strand : Strand) (es : List CoreEvent) → AreTurnEvents a p c strand es → (m f : ℕ) → (run s es).mirrored m ≡ Some f → s.mirrored m ≡ Some f
-stays_filled s a p c strand [] kinds m f filled = filled
-stays_filled s a p c strand (e ∷ es) kinds m f filled =
-    filled_event s a p c strand m f kinds.0 (stays_filled (happens s e) a p c strand es kinds.1 m f filled)
+pub stays_within : (s : CoreState) (a p c : ℕ) (strand : Strand) (es : List CoreEvent) → AreTurnEvents a p c strand es → AreWithin s → AreWithin (run s es)
+stays_within s a p c strand [] kinds within = within
+stays_within s a p c strand (e ∷ es) kinds within =
+    stays_within (happens s e) a p c strand es kinds.1 (within_event s a p c strand kinds.0 within)
 
 pub stays_born : Law → (s : CoreState) (a p c : ℕ) (strand : Strand) (es : List CoreEvent) → AreTurnEvents a p c strand es → IsSound s → AllCan s es → (q : ℕ) → s.birth q ≡ born → (run s es).birth q ≡ born
 stays_born law s a p c strand [] kinds sound can q is = is

@@ -4,6 +4,7 @@ pub mod PinChanges
 pub mod ForkFails
 pub mod ForkOps
 pub mod HandleOps
+pub mod MirrorOps
 pub mod MoveOps
 pub mod PinPace
 pub mod PinOps

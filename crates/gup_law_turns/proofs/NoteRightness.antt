@@ -27,7 +27,7 @@ use Rattle.gup_spec_journal.specs.Plain.{Judgement, Judged, AreSo, references_af
 use Rattle.gup_spec_journal.specs.Thorough.{Passes, IsDue, IsThoroughAt, IsThoroughOf}
 use Rattle.gup_law_turns.proofs.Puts.{put_same, put_twice, put_own}
 use Rattle.gup_spec_turns.specs.JobPlace.{JobPlace}
-use Rattle.gup_law_turns.proofs.TurnShapes.{WalksTo, took_page, dropped_page, dropped_first, dropped_last, walked, kept_all, refused_slowly, TurnOf, refused, mapped, protected, loaded, stored, gave, took_over, got_one, put_back, took, took_last, passed, passed_last, took_lowest, took_all, pinned_page, pinned_all, pinned_short, unpinned_last, moved_word, moved_last, began, passed_page, shared_page, ended, copied_word, failed_fork, GoesOver, unmaps, discards, TurnAt, idles, waits, goes, unborn_refused, unborn_fork, AtFirst, placed_frame, found_no_frame, found_busy, lacked_frame, found_unmovable}
+use Rattle.gup_law_turns.proofs.TurnShapes.{WalksTo, took_page, dropped_page, dropped_first, dropped_last, walked, kept_all, refused_slowly, TurnOf, refused, mapped, protected, loaded, filled_slot, looked, stored, gave, took_over, got_one, put_back, took, took_last, passed, passed_last, took_lowest, took_all, pinned_page, pinned_all, pinned_short, unpinned_last, moved_word, moved_last, began, passed_page, shared_page, ended, copied_word, failed_fork, GoesOver, unmaps, discards, TurnAt, idles, waits, goes, unborn_refused, unborn_fork, AtFirst, placed_frame, found_no_frame, found_busy, lacked_frame, found_unmovable}
 use Rattle.gup_law_turns.proofs.EventLists.{events_of, AllCanHappen}
 
 -- a note is right, and misses no page
@@ -301,6 +301,10 @@ module _ (ops : List Op) (actor : Doer) (s : PlainState) (references : Reference
       let e = events.Protect who.actor who.proc page n rights in then_right op e answers.Plain is (event_right op e can.0 free tt) birth refl tt
   op_right op whats (loaded page word value first free) is can =
       let e = events.Load who.actor who.proc page word value in then_right op e (answers.Value value) is (event_right op e can.0 free tt) birth refl tt
+  op_right op whats (filled_slot mirror proc page named first free) is can =
+      let e = events.MirrorFill who.actor mirror who.proc page in then_right op e answers.Plain is (event_right op e can.0 free tt) birth refl tt
+  op_right op whats (looked mirror word value first) is can =
+      let e = events.Look who.actor mirror word value in then_right op e (answers.Value value) is (event_right op e can.0 refl tt) birth refl tt
   op_right op whats (stored page word value first free) is can =
       let e = events.Store who.actor who.proc page word value in then_right op e answers.Plain is (event_right op e can.0 free tt) birth refl tt
   op_right op whats (gave handle to first free) is can =

@@ -13,7 +13,7 @@ use Rattle.gup_plain.specs.declared.note.What.{What}
 use Rattle.gup_plain.specs.declared.note.Waiting.{Waiting}
 use Rattle.gup_script.specs.Script.{ScriptValue}
 use Rattle.gup_script.specs.declared.op.Op.{Op}
-use Rattle.gup_script.specs.declared.op.Op.TheVariants.{Pin, Unpin, Give, Take, Get, Put, Transfer, Fork, Move}
+use Rattle.gup_script.specs.declared.op.Op.TheVariants.{Pin, Unpin, Give, Take, Get, Put, Transfer, Fork, Move, Mirror}
 use Rattle.gup_spec_events.specs.State.{CoreState, plain_of}
 use Rattle.gup_spec_events.specs.Event.{unpin_page, run}
 use Rattle.gup_spec_events.specs.Invariant.{AllCan}
@@ -255,6 +255,7 @@ module _ (script : ScriptValue) (s : CoreState) (who : Doer) (place : Place) whe
       (transfer_change handle outward slot parts (going (Transfer handle outward slot parts)) birth is turns) is turns
   op_changes h (Get handle page) birth is turns = other_change h (Some (Get handle page)) None (going (Get handle page)) is (λ far. refl) (λ e. cc e) (λ e. cc e) turns
   op_changes h (Put handle) birth is turns = other_change h (Some (Put handle)) None (going (Put handle)) is (λ far. refl) (λ e. cc e) (λ e. cc e) turns
+  op_changes h (Mirror mirror proc page) birth is turns = other_change h (Some (Mirror mirror proc page)) None (going (Mirror mirror proc page)) is (λ far. refl) (λ e. cc e) (λ e. cc e) turns
   op_changes h (Move proc page zone) birth is turns = other_change h (Some (Move proc page zone)) None (going (Move proc page zone)) is (λ far. refl) (λ e. cc e) (λ e. cc e) turns
   op_changes h op birth is turns = pages_change h op (λ far. refl) refl is turns
 

@@ -404,7 +404,7 @@ module _ (s : CoreState) (who : Doer) (place : Place) (h : IsOpen s who.actor wh
         let none = unprepared cleared_in a led.rest led.job in
         let behind : behind_it.job a ≡ moves = put_same a moves cleared_in.job in
         let free : pin_denial want.write (behind_it.right p here) ≡ None = ap (pin_denial want.write) ready.right ∙ undenied in
-        let calm = stays_calm s a p p (of_pin handle) es led.kinds h.calm in
+        let calm = stays_calm s a p p (of_pin handle) es led.kinds (λ m fills. cc fills) h.calm in
         let least : got + 0 ≤ place.far = subst (λ (j : Job). got + turns_over j ≤ place.far) job fits.least in
         let most : place.far ≤ walked + pin_turns want.long got + 0 = subst (λ (j : Job). place.far ≤ most_over fast want.long n got j) job fits.most in
         let page_then : IsMovingPin behind_it a p here want gone = record {

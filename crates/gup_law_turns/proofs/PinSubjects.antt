@@ -10,7 +10,7 @@ use Rattle.gup_script.specs.declared.op.Op.TheVariants.{Pin, Unpin, Give, Take, 
 use Rattle.gup_spec_journal.specs.Place.{present_op}
 use Rattle.gup_law_turns.specs.Standing.{StandsHandle}
 use Rattle.gup_law_turns.proofs.ScriptLemmas.{ops_at}
-use Rattle.gup_law_turns.proofs.CalmStates.{Strand, of_pages, of_pin, of_handle, of_get, of_put, of_move}
+use Rattle.gup_law_turns.proofs.CalmStates.{Strand, of_pin, of_handle, of_get}
 use Rattle.gup_law_turns.proofs.KeptParts.{same_or_apart}
 use Rattle.gup_law_turns.proofs.PinChanges.{same_pin, same_handle}
 use Rattle.gup_law_turns.proofs.ScriptPlaces.{fresh_place}
@@ -37,11 +37,7 @@ gets_or_not (of_get k) h =
       | inl same ↦ inl (ap of_get same)
       | inr other ↦ inr (λ e. other (same_get e))
     ]
-gets_or_not of_pages h = inr (λ e. cc e)
-gets_or_not (of_pin k) h = inr (λ e. cc e)
-gets_or_not (of_handle k) h = inr (λ e. cc e)
-gets_or_not (of_put k) h = inr (λ e. cc e)
-gets_or_not of_move h = inr (λ e. cc e)
+gets_or_not strand h = inr (λ e. cc e)
 
 got_declared : (script : ScriptValue) (op : Op) (h : ℕ) → AreDeclared script op → strand_of (Some op) ≡ of_get h → h < length script.handles
 got_declared script (Get handle page) h there about = subst (λ (k : ℕ). k < length script.handles) (same_get about) there
@@ -57,8 +53,6 @@ abbrev pub IsAbout : Strand → (h : ℕ) → Type 0
 IsAbout strand h = (strand ≡ of_pin h) ⊎ (strand ≡ of_handle h)
 
 pub about_or_not : (strand : Strand) (h : ℕ) → IsAbout strand h ⊎ (strand ≡ of_pin h → ⊥) × (strand ≡ of_handle h → ⊥)
-about_or_not of_pages h = inr ((λ e. cc e), (λ e. cc e))
-about_or_not of_move h = inr ((λ e. cc e), (λ e. cc e))
 about_or_not (of_pin k) h =
     elim (same_or_apart k h) [
       | inl same ↦ inl (inl (ap of_pin same))
@@ -69,8 +63,7 @@ about_or_not (of_handle k) h =
       | inl same ↦ inl (inr (ap of_handle same))
       | inr other ↦ inr ((λ e. cc e), (λ e. other (same_handle e)))
     ]
-about_or_not (of_get k) h = inr ((λ e. cc e), (λ e. cc e))
-about_or_not (of_put k) h = inr ((λ e. cc e), (λ e. cc e))
+about_or_not strand h = inr ((λ e. cc e), (λ e. cc e))
 
 -- that is declared
 about_declared : (script : ScriptValue) (op : Op) (h : ℕ) → AreDeclared script op → IsAbout (strand_of (Some op)) h → h < length script.handles

@@ -29,7 +29,7 @@ use Rattle.gup_law_turns.proofs.TurnShapes.{AtFirst, FitsOp, Rests, refused, got
 
 -- get
 
-entry_is : (entry : Option Entry) → IsSome entry → entry ≡ Some (entry_of (entry_in entry).frame (entry_in entry).writable)
+pub entry_is : (entry : Option Entry) → IsSome entry → entry ≡ Some (entry_of (entry_in entry).frame (entry_in entry).writable)
 entry_is None is = absurd (cc is)
 entry_is (Some e) is = refl
 

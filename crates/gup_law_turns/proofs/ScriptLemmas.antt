@@ -9,7 +9,7 @@ use Rattle.gup_script.specs.declared.op.Kind.TheVariants.{Thread, Device, Mover}
 use Rattle.gup_plain.specs.State.{Birth}
 use Rattle.gup_spec_journal.specs.Place.{Doer, doer, doer_of, thread_in, birth_by, birth_for, slots_of_kind, slots_in, process_of, process_in, process_of_kind, ops_of, ops_in}
 use Rattle.gup_script.specs.declared.op.Op.{Op}
-use Rattle.gup_script.specs.declared.op.Op.TheVariants.{Move, Fork}
+use Rattle.gup_script.specs.declared.op.Op.TheVariants.{Mirror, Move, Fork}
 
 -- an actor that is declared has operations of its kind
 abbrev pub FitsIn : Option Actor → Op → Type 0
@@ -72,9 +72,14 @@ pub is_of_thread : (script : ScriptValue) → IsScript script → (a k : ℕ) (o
 is_of_thread script valid a k op there other unmoved =
     thread_in_kind (actor_at script a) op (op_fits_kind script valid a k op there) other unmoved
 
--- one that is none of a device is of a process, a thread's or the one that it names
-pub has_own_process : (script : ScriptValue) → IsScript script → (a k : ℕ) (op : Op) → slice_get (ops_of script a) k ≡ Some op → (IsOfDevice op → ⊥) → (doer_of script a (Some op)).of_process ≡ true
+-- one that is none that a device does by itself is of a process, a thread's or the one that it names
+abbrev pub IsOfNoDevice : Op → Type 0
+IsOfNoDevice (Mirror mirror proc page) = Unit {0}
+IsOfNoDevice op = IsOfDevice op → ⊥
+
+pub has_own_process : (script : ScriptValue) → IsScript script → (a k : ℕ) (op : Op) → slice_get (ops_of script a) k ≡ Some op → IsOfNoDevice op → (doer_of script a (Some op)).of_process ≡ true
 has_own_process script valid a k (Move proc page zone) there other = refl
+has_own_process script valid a k (Mirror mirror proc page) there other = refl
 has_own_process script valid a k op there other = is_of_thread script valid a k op there other (λ moves. moves)
 
 -- so its process is born where the actor waits for no birth
@@ -111,5 +116,6 @@ has_process script valid a thread = process_declared script valid a (actor_at sc
 
 -- and so is the one that an operation is of
 pub op_has_process : (script : ScriptValue) → IsScript script → (a k : ℕ) (op : Op) → slice_get (ops_of script a) k ≡ Some op → (doer_of script a (Some op)).of_process ≡ true → (doer_of script a (Some op)).proc < length script.processes
+op_has_process script valid a k (Mirror mirror proc page) there is = (ops_at (AreDeclared script) script valid.declared a k (Mirror mirror proc page) (actor_at script a) refl there).1
 op_has_process script valid a k (Move proc page zone) there is = ops_at (AreDeclared script) script valid.declared a k (Move proc page zone) (actor_at script a) refl there
 op_has_process script valid a k op there is = has_process script valid a is

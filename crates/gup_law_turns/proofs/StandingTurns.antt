@@ -32,7 +32,7 @@ use Rattle.gup_spec_turns.specs.CoreTurn.{CoreTurn}
 use Rattle.gup_law_turns.proofs.CalmStates.{of_get}
 use Rattle.gup_law_turns.proofs.StandingStates.{IsFew, Stands, IsAhead, IsTaken}
 use Rattle.gup_law_turns.proofs.FewPages.{few_kept, few_handles, few_first}
-use Rattle.gup_law_turns.proofs.KeptParts.{OfProcess, of_process, Leaves, apart, same_or_apart, put_apart, leaves, stays_filled, stays_born, stays_barred, LeavesAll, handles_leave, LeavesPinsOf, leaves_pins, LeavesGot, leaves_got, one_holder, held_ungiven, held_made, KeepsPages, stays_locked, stays_flagged}
+use Rattle.gup_law_turns.proofs.KeptParts.{OfProcess, of_process, Leaves, apart, same_or_apart, put_apart, leaves, stays_within, stays_born, stays_barred, LeavesAll, handles_leave, LeavesPinsOf, leaves_pins, LeavesGot, leaves_got, one_holder, held_ungiven, held_made, KeepsPages, stays_locked, stays_flagged}
 use Rattle.gup_law_turns.proofs.PinSubjects.{pins_here, gets_here, gets_or_not, reference_declared, about_or_not, handle_declared, is_holder, all_left, transfer_held}
 use Rattle.gup_law_turns.proofs.KeptMarks.{stays_marked}
 use Rattle.gup_law_turns.proofs.TurnSubjects.{ahead_before, answered_least, IsGoing, IsAboutHandle, still_or_going, keeps_begun, keeps_fresh}
@@ -613,7 +613,7 @@ module _ (script : ScriptValue) (valid : IsScript script) (r : RunState) (h : St
   stands law =
       record {
         sound = (leads law s turn.events h.sound turns.done.can).sound;
-        slots = λ m f filled. h.slots m f (stays_filled s a p c (strand_of op) turn.events turns.done.kinds m f filled);
+        slots = stays_within s a p c (strand_of op) turn.events turns.done.kinds h.slots;
         there = stays_counted law s a p c (strand_of op) turn.events turns.done.kinds h.sound turns.done.can h.there;
         rest = rest_on;
         few = few_on law;

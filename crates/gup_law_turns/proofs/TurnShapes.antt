@@ -17,7 +17,7 @@ use Rattle.gup_plain.specs.declared.note.What.{What}
 use Rattle.gup_plain.specs.declared.note.What.TheVariants.{Silent, Idle, Wait, Event, Done}
 use Rattle.gup_plain.specs.declared.note.Waiting.{Waiting}
 use Rattle.gup_script.specs.declared.op.Op.{Op}
-use Rattle.gup_script.specs.declared.op.Op.TheVariants.{Map, Unmap, Protect, Discard, Load, Store, Pin, Unpin, Give, Take, Get, Put, Transfer, Fork, Exit, Move}
+use Rattle.gup_script.specs.declared.op.Op.TheVariants.{Map, Unmap, Protect, Discard, Load, Store, Pin, Unpin, Give, Take, Get, Put, Transfer, Mirror, Look, Fork, Exit, Move}
 use Rattle.gup_spec_events.specs.State.{CoreState, Job, idle, forking, copying, moving, Counted, unread, one, more, Taken, WalkStep, entered, ready, read, grabbed, rechecked, differed, refused as refused_step, stopped, dropping}
 use Rattle.gup_spec_events.specs.Invariant.{AllCan}
 use Rattle.gup_spec_events.specs.Event.{run}
@@ -33,7 +33,7 @@ use Rattle.gup_spec_turns.specs.Cost.{move_turns, pins_turns}
 use Rattle.gup_spec_turns.specs.CoreTurn.{CoreTurn}
 use Rattle.gup_spec_turns.specs.PinTurns.{got_by}
 use Rattle.gup_law_turns.proofs.EventLists.{events_of}
-use Rattle.gup_law_turns.proofs.CalmStates.{Strand, of_pages, of_pin, of_handle, of_get, of_put, AreTurnEvents, of_move}
+use Rattle.gup_law_turns.proofs.CalmStates.{Strand, of_pages, of_pin, of_handle, of_get, of_put, of_mirror, AreTurnEvents, of_move}
 
 -- an operation stands at its first turn
 abbrev pub AtFirst : Place → Type 0
@@ -122,12 +122,13 @@ pub data GoesOver (a p : ℕ) : Op → (page n : ℕ) → (ℕ → PlainEvent) �
   unmaps : (page n : ℕ) → GoesOver a p (Unmap page n) page n (events.Unmap a p)
   discards : (page n : ℕ) → GoesOver a p (Discard page n) page n (events.Discard a p)
 
--- the operations of a born process: all but those of a device
+-- the operations of a born process, a thread's or one that they name: all but those that a device does by itself
 abbrev pub IsOfProcess : Op → Type 0
 IsOfProcess (Unpin handle) = ⊥
 IsOfProcess (Give handle to) = ⊥
 IsOfProcess (Take handle) = ⊥
 IsOfProcess (Transfer handle outward slot parts) = ⊥
+IsOfProcess (Look mirror word) = ⊥
 IsOfProcess op = Unit {0}
 
 -- no pin that walks
@@ -197,6 +198,8 @@ pub data TurnOf (s : PlainState) (references : References) (who : Doer) (place :
   mapped : (page n : ℕ) (rights : Rights) → AtFirst place → op_denial s references who (pages_got s who.actor) (Map page n rights) ≡ None → TurnOf s references who place (Map page n rights) unbegun (Event (events.Map who.actor who.proc page n rights) ∷ Done answers.Plain ∷ []) unbegun
   protected : (page n : ℕ) (rights : Rights) → AtFirst place → op_denial s references who (pages_got s who.actor) (Protect page n rights) ≡ None → TurnOf s references who place (Protect page n rights) unbegun (Event (events.Protect who.actor who.proc page n rights) ∷ Done answers.Plain ∷ []) unbegun
   loaded : (page word value : ℕ) → AtFirst place → op_denial s references who (pages_got s who.actor) (Load page word) ≡ None → TurnOf s references who place (Load page word) unbegun (Event (events.Load who.actor who.proc page word value) ∷ Done (answers.Value value) ∷ []) unbegun
+  filled_slot : (mirror proc page : ℕ) → who.proc ≡ proc → AtFirst place → op_denial s references who (pages_got s who.actor) (Mirror mirror proc page) ≡ None → TurnOf s references who place (Mirror mirror proc page) unbegun (Event (events.MirrorFill who.actor mirror who.proc page) ∷ Done answers.Plain ∷ []) unbegun
+  looked : (mirror word value : ℕ) → AtFirst place → TurnOf s references who place (Look mirror word) unbegun (Event (events.Look who.actor mirror word value) ∷ Done (answers.Value value) ∷ []) unbegun
   stored : (page word value : ℕ) → AtFirst place → op_denial s references who (pages_got s who.actor) (Store page word value) ≡ None → TurnOf s references who place (Store page word value) unbegun (Event (events.Store who.actor who.proc page word value) ∷ Done answers.Plain ∷ []) unbegun
   gave : (handle to : ℕ) → AtFirst place → op_denial s references who (pages_got s who.actor) (Give handle to) ≡ None → TurnOf s references who place (Give handle to) unbegun (Event (events.Give who.actor handle to) ∷ Done answers.Plain ∷ []) unbegun
   took_over : (handle : ℕ) → AtFirst place → TurnOf s references who place (Take handle) unbegun (Event (events.Take who.actor handle) ∷ Done answers.Plain ∷ []) unbegun
@@ -293,6 +296,7 @@ strand_of (Some (Take handle)) = of_handle handle
 strand_of (Some (Transfer handle outward slot parts)) = of_handle handle
 strand_of (Some (Get handle page)) = of_get handle
 strand_of (Some (Put handle)) = of_put handle
+strand_of (Some (Mirror mirror proc page)) = of_mirror mirror
 strand_of (Some (Move proc page zone)) = of_move
 strand_of op = of_pages
 

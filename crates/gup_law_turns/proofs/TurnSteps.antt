@@ -5,7 +5,7 @@ use Rattle.gup_plain.specs.declared.answer.Answer.TheVariants as answers
 use Rattle.gup_plain.specs.declared.event.PlainEvent.TheVariants as events
 use Rattle.gup_plain.specs.declared.note.What.TheVariants.{Idle, Wait, Event, Done}
 use Rattle.gup_plain.specs.declared.note.Waiting.{Waiting}
-use Rattle.gup_script.specs.Valid.{IsScript, IsOp, IsOfDevice, IsOfThread, FitsKind, made_by}
+use Rattle.gup_script.specs.Valid.{IsScript, IsOp, IsOfThread, FitsKind, made_by}
 use Rattle.gup_base.specs.Counts.{most_slots}
 use Rattle.gup_base.specs.declared.entry.Want.{Want}
 use Rattle.gup_base.specs.declared.entry.Zone.{Zone}
@@ -14,7 +14,7 @@ use Rattle.gup_script.specs.Script.{ScriptValue, Actor, actor_at, is_thread}
 use Rattle.gup_script.specs.declared.op.Kind.{Kind}
 use Rattle.gup_script.specs.declared.op.Kind.TheVariants.{Thread, Device, Mover}
 use Rattle.gup_script.specs.declared.op.Op.{Op}
-use Rattle.gup_script.specs.declared.op.Op.TheVariants.{Map, Unmap, Protect, Discard, Load, Store, Pin, Unpin, Give, Take, Get, Put, Transfer, Fork, Exit, Move}
+use Rattle.gup_script.specs.declared.op.Op.TheVariants.{Map, Unmap, Protect, Discard, Load, Store, Pin, Unpin, Give, Take, Get, Put, Transfer, Mirror, Look, Fork, Exit, Move}
 use Rattle.gup_spec_events.specs.State.{CoreState, Job, idle, forking, plain_of, moving, unread, one, more, walking}
 use Rattle.gup_spec_events.specs.Event.{run}
 use Rattle.gup_spec_journal.specs.Follows.{refuses}
@@ -27,13 +27,16 @@ use Rattle.gup_spec_turns.proofs.TurnParts.{waits_at}
 use Rattle.gup_spec_turns.specs.Waits.{waits_born, first_waiting, waits_for_locks, no_lock}
 use Rattle.gup_spec_turns.specs.Turn.{failed_turn, turn_at, op_turn}
 use Rattle.gup_script.specs.Limits.{most_mirrors}
-use Rattle.gup_spec_turns.proofs.UnseenTurns.{turn_unseen, waits_unseen}
+use Rattle.gup_spec_turns.specs.Emptying.{invalidate, emptying}
+use Rattle.gup_spec_turns.proofs.UnseenTurns.{IsNoLook, turn_unseen, waits_unseen}
 use Rattle.gup_law_base.specs.Sound.{IsSound}
 use Rattle.gup_law_turns.proofs.CountedFrames.{AreCountedThere}
 use Rattle.gup_law_turns.proofs.EmptiedTurns.{EmptiesSlots, calmed, calmed_calm, calmed_sound, emptied_slots, emptied_taken, fits_with, silent_slots}
 use Rattle.gup_law_turns.proofs.CalmStates.{failing_unborn}
 use Rattle.gup_law_turns.proofs.ForkFails.{unborn_empty}
 use Rattle.gup_law_turns.proofs.ForkOps.{IsEmptied, fork_turned, fork_emptied}
+use Rattle.gup_law_turns.proofs.EmptiedSlots.{none_emptying}
+use Rattle.gup_law_turns.proofs.MirrorOps.{mirror_turned, mirror_none, mirror_slots, look_turned, look_none, look_slots}
 use Rattle.gup_law_turns.proofs.MoveOps.{move_turned}
 use Rattle.gup_law_turns.proofs.HandleOps.{unpin_turned, give_turned, take_turned, transfer_turned}
 use Rattle.gup_law_turns.proofs.PageOps.{map_turned, unmap_turned, load_turned, store_turned, protect_turned, discard_turned, exit_turned}
@@ -41,7 +44,7 @@ use Rattle.gup_law_turns.proofs.PinOps.{none_taken}
 use Rattle.gup_law_turns.proofs.WalkOps.{pin_turned}
 use Rattle.gup_law_turns.proofs.Puts.{some_same}
 use Rattle.gup_law_turns.proofs.ReferenceOps.{get_turned, put_turned}
-use Rattle.gup_law_turns.proofs.ScriptLemmas.{FitsIn, op_is_op, op_fits_kind, thread_birth, few_slots, has_own_process}
+use Rattle.gup_law_turns.proofs.ScriptLemmas.{FitsIn, op_is_op, op_fits_kind, thread_birth, few_slots, has_own_process, IsOfNoDevice}
 use Rattle.gup_law_turns.proofs.TurnShapes.{references_of, AtRest, AtFirst, FitsFork, FitsOp, FitsAt, Rests, IsOfProcess, TurnAt, idles, waits, goes, unborn_refused, unborn_fork, FitsMove, has_begun}
 use Rattle.gup_law_turns.proofs.StandingStates.{Stands, IsTaken}
 use Rattle.gup_law_turns.proofs.ShownTurns.{IsOpen, IsQuiet, MakesPin, IsTurned, idle_place}
@@ -51,13 +54,15 @@ first_of_both : (first second : Option Waiting) → first_waiting first second �
 first_of_both None second free = refl
 first_of_both (Some waiting) second free = absurd (cc free)
 
--- an operation of a process is none of a device
-of_no_device : (op : Op) → IsOfProcess op → IsOfDevice op → ⊥
-of_no_device (Unpin handle) own device = own
-of_no_device (Give handle to) own device = own
-of_no_device (Take handle) own device = own
-of_no_device (Transfer handle outward slot parts) own device = own
-of_no_device op own device = device
+-- an operation of a process is none that a device does by itself
+of_no_device : (op : Op) → IsOfProcess op → IsOfNoDevice op
+of_no_device (Unpin handle) own = λ device. own
+of_no_device (Give handle to) own = λ device. own
+of_no_device (Take handle) own = λ device. own
+of_no_device (Transfer handle outward slot parts) own = λ device. own
+of_no_device (Look mirror word) own = λ device. own
+of_no_device (Mirror mirror proc page) own = tt
+of_no_device op own = λ device. device
 
 -- an operation of a thread is one of threads
 of_kind : (kind : Kind) (op : Op) → FitsKind kind op → is_thread kind ≡ true → IsOfThread op
@@ -69,14 +74,26 @@ of_actor : (actor : Option Actor) (op : Op) → FitsIn actor op → thread_in ac
 of_actor None op fits is = absurd fits
 of_actor (Some actor) op fits is = of_kind actor.kind op fits is
 
--- one that is of a process is no transfer
-abbrev IsNoTransfer : Op → Type 0
-IsNoTransfer (Transfer handle outward slot parts) = ⊥
-IsNoTransfer op = Unit {0}
+-- one that is of a process, which may have failed, is no transfer and no look
+abbrev MayBeUnborn : Op → Type 0
+MayBeUnborn (Transfer handle outward slot parts) = ⊥
+MayBeUnborn (Look mirror word) = ⊥
+MayBeUnborn op = Unit {0}
 
-no_transfer : (actor : Option Actor) (op : Op) → FitsIn actor op → is_of_process (thread_in actor) (Some op) ≡ true → IsNoTransfer op
-no_transfer actor (Transfer handle outward slot parts) fits is = of_actor actor (Transfer handle outward slot parts) fits is
-no_transfer actor op fits is = tt
+may_be_unborn : (actor : Option Actor) (op : Op) → FitsIn actor op → is_of_process (thread_in actor) (Some op) ≡ true → MayBeUnborn op
+may_be_unborn actor (Transfer handle outward slot parts) fits is = of_actor actor (Transfer handle outward slot parts) fits is
+may_be_unborn actor (Look mirror word) fits is = of_actor actor (Look mirror word) fits is
+may_be_unborn actor op fits is = tt
+
+-- an operation that neither fills a mirror slot nor looks through one
+abbrev IsNoMirror : Op → Type 0
+IsNoMirror (Mirror mirror proc page) = ⊥
+IsNoMirror (Look mirror word) = ⊥
+IsNoMirror op = Unit {0}
+
+no_look : (op : Op) → IsNoMirror op → IsNoLook op
+no_look (Look mirror word) apart = apart
+no_look op apart = tt
 
 -- whatever is of no process waits for no birth
 failed_proc : (of_process : Bool) (birth : Birth) → birth_by of_process birth ≡ failed → (of_process ≡ true) × (birth ≡ failed)
@@ -93,6 +110,7 @@ same_child is = cc
 -- gets isn't got, and whoever does it waits for nothing.
 record CanTake (s : CoreState) (who : Doer) (place : Place) (op : Op) : Type 0 where
   range : IsOp op
+  apart : IsNoMirror op
   birth : IsOfProcess op → s.birth who.proc ≡ born
   slots : who.slots ≤ most_slots
   ungot : (handle : ℕ) → made_by op ≡ Some handle → s.got handle ≡ None
@@ -104,7 +122,7 @@ module _ (s : CoreState) (who : Doer) (place : Place) (quiet : IsQuiet s who.act
   opened : s.birth who.proc ≡ born → IsOpen s who.actor who.proc
   opened birth = record { sound = quiet.sound; calm = quiet.calm; there = quiet.there; rest = quiet.rest; birth = birth }
 
-  -- the turn of any operation
+  -- the turn of any operation but a mirror and a look
   op_turned : (op : Op) → CanTake s who place op → IsTurned s who place op (op_turn s who.actor who.proc who.slots place.far op)
   op_turned (Map page n rights) h = map_turned s who place (opened (h.birth tt)) page n rights h.range h.fits h.free
   op_turned (Unmap page n) h = unmap_turned s who place (opened (h.birth tt)) page n h.fits h.free
@@ -124,7 +142,8 @@ module _ (s : CoreState) (who : Doer) (place : Place) (quiet : IsQuiet s who.act
   op_turned (Move proc page zone) h = move_turned s who proc page zone place (opened (h.birth tt)) h.fits h.free
   op_turned (Fork child) h = fork_turned s who child place (opened (h.birth tt)) h.fits h.free
   op_turned Exit h = exit_turned s who place (opened (h.birth tt)) h.fits h.free
-  op_turned op h = absurd h.range
+  op_turned (Mirror mirror proc page) h = absurd h.apart
+  op_turned (Look mirror word) h = absurd h.apart
 
 -- an operation at its first turn is in the middle of nothing, and has taken no page
 module _ (s : CoreState) (who : Doer) (place : Place) (first : place.far ≡ 0) where
@@ -160,13 +179,13 @@ module _ (s : CoreState) (who : Doer) (place : Place) (first : place.far ≡ 0) 
   rests_at (Some op) fits = rests_first op fits
 
 -- an operation of a failed process, at its first turn
-module _ (s : CoreState) (who : Doer) (place : Place) (quiet : IsQuiet s who.actor) (lost : birth_for s.birth who ≡ failed) (first : AtFirst place) where
+module _ (s : CoreState) (who : Doer) (place : Place) (sound : IsSound s) (rest : AtRest s who.actor) (lost : birth_for s.birth who ≡ failed) (first : AtFirst place) where
   -- its operation is refused
   refuses_op : (op : Op) → IsTrue (refuses op answers.Unborn) → ((child : ℕ) → Some op ≡ Some (Fork child) → ⊥) → FitsOp s who op place → IsTaken s who place (Some op) None (answers_with answers.Unborn)
   refuses_op op refusal no_fork fits =
       let still = rests_first s who place first.0 op fits in
       record {
-        done = record { kinds = tt; can = tt; rest = quiet.rest; told = refl };
+        done = record { kinds = tt; can = tt; rest = rest; told = refl };
         shape = subst (λ (at : JobPlace). TurnAt (plain_of s) (references_of s) who place (Some op) None at (Done answers.Unborn ∷ []) at) (sym (idle_place s who.actor still.0)) (unborn_refused op lost first refusal);
         next = still;
         pin = λ o same free birth. absurd (not_failed birth lost);
@@ -182,17 +201,18 @@ module _ (s : CoreState) (who : Doer) (place : Place) (quiet : IsQuiet s who.act
         done = record {
           kinds = (failing_unborn, tt);
           can = ((proc, still.1), tt);
-          rest = record { prepared = quiet.rest.prepared; owed = quiet.rest.owed };
+          rest = record { prepared = rest.prepared; owed = rest.owed };
           told = refl;
         };
         shape = subst (λ (at : JobPlace). TurnAt (plain_of s) (references_of s) who place (Some (Fork child)) None at (Event (events.ForkFail child) ∷ Done answers.Unborn ∷ []) at) (sym (idle_place s who.actor still.0)) (unborn_fork child lost proc first);
         next = (still.0, fits.0);
         pin = λ o same free birth. absurd (not_failed birth lost);
-        emptied = λ c page same gone. ap (λ (k : ℕ). s.entry k page) (same_child same) ∙ unborn_empty s child page quiet.sound still.1;
+        emptied = λ c page same gone. ap (λ (k : ℕ). s.entry k page) (same_child same) ∙ unborn_empty s child page sound still.1;
       }
 
-  failed_step : (op : Op) → IsNoTransfer op → FitsOp s who op place → IsTaken s who place (Some op) None (failed_turn who.actor who.proc op)
+  failed_step : (op : Op) → MayBeUnborn op → FitsOp s who op place → IsTaken s who place (Some op) None (failed_turn who.actor who.proc op)
   failed_step (Transfer handle outward slot parts) own fits = absurd own
+  failed_step (Look mirror word) own fits = absurd own
   failed_step (Fork child) own fits = fails_child child fits
   failed_step op own fits = refuses_op op refl (λ child same. cc same) fits
 
@@ -200,7 +220,8 @@ module _ (s : CoreState) (who : Doer) (place : Place) (quiet : IsQuiet s who.act
 record IsKnown (s : CoreState) (who : Doer) (place : Place) (op : Option Op) : Type 0 where
   range : (o : Op) → op ≡ Some o → IsOp o
   thread : (o : Op) → op ≡ Some o → IsOfProcess o → who.of_process ≡ true
-  unlike_transfer : (o : Op) → op ≡ Some o → who.of_process ≡ true → IsNoTransfer o
+  unlike_device : (o : Op) → op ≡ Some o → who.of_process ≡ true → MayBeUnborn o
+  named : (mirror proc page : ℕ) → op ≡ Some (Mirror mirror proc page) → who.proc ≡ proc
   slots : who.slots ≤ most_slots
   ungot : (o : Op) → op ≡ Some o → (handle : ℕ) → made_by o ≡ Some handle → s.got handle ≡ None
   fits : FitsAt s who op place
@@ -208,26 +229,20 @@ record IsKnown (s : CoreState) (who : Doer) (place : Place) (op : Option Op) : T
   fresh : place.far ≡ 0 → place.had ≡ false
   emptied : (p page : ℕ) → s.birth p ≡ failed → s.entry p page ≡ None
 
-module _ (s : CoreState) (who : Doer) (place : Place) (quiet : IsQuiet s who.actor) (op : Op) (h : IsKnown s who place (Some op)) where
-  -- of a born process, or of a device
-  born_step : birth_for s.birth who ≡ born → waits_born s who.actor who.proc place.far op ≡ None → IsTaken s who place (Some op) None (op_turn s who.actor who.proc who.slots place.far op)
-  born_step birth free =
-      let own_birth : IsOfProcess op → s.birth who.proc ≡ born = λ own. sym (thread_birth who s.birth (h.thread op refl own)) ∙ birth in
-      let turn : CoreTurn = op_turn s who.actor who.proc who.slots place.far op in
-      let at : IsTurned s who place op turn = op_turned s who place quiet op (record { range = h.range op refl; birth = own_birth; slots = h.slots; ungot = h.ungot op refl; fits = h.fits; fresh = h.fresh; free = free }) in
-      record {
-        done = at.done;
-        shape = goes op turn.whats (place_in s who.actor) (place_in (run s turn.events) who.actor) birth own_birth at.shape;
-        next = at.next;
-        pin = λ o same none lives. subst (MakesPin s (run s turn.events) who.actor) (some_same same) at.pin;
-        emptied = λ child page same. by_fork child (some_same same) page own_birth;
-      }
-    where
-      by_fork : (child : ℕ) → op ≡ Fork child → (page : ℕ) → (IsOfProcess op → s.birth who.proc ≡ born) → (run s (op_turn s who.actor who.proc who.slots place.far op).events).birth child ≡ failed → (run s (op_turn s who.actor who.proc who.slots place.far op).events).entry child page ≡ None
-      by_fork child is page own_birth lost =
-          let fork_birth : s.birth who.proc ≡ born = own_birth (subst IsOfProcess (sym is) tt) in
-          let all = subst (λ (o : Op). IsEmptied (run s (op_turn s who.actor who.proc who.slots place.far o).events) child) (sym is) (fork_emptied s who child place (opened s who place quiet fork_birth) (subst (λ (o : Op). FitsOp s who o place) is h.fits)) in
-          all lost page
+-- what is shown of the turn of a born process, or of a device, is what is shown of any turn
+as_taken : (s : CoreState) (who : Doer) (place : Place) (op : Op) (turn : CoreTurn) → birth_for s.birth who ≡ born → (IsOfProcess op → s.birth who.proc ≡ born) → IsTurned s who place op turn → ((child page : ℕ) → op ≡ Fork child → (run s turn.events).birth child ≡ failed → (run s turn.events).entry child page ≡ None) → IsTaken s who place (Some op) None turn
+as_taken s who place op turn birth own_birth at emptied =
+    record {
+      done = at.done;
+      shape = goes op turn.whats (place_in s who.actor) (place_in (run s turn.events) who.actor) birth own_birth at.shape;
+      next = at.next;
+      pin = λ o same none lives. subst (MakesPin s (run s turn.events) who.actor) (some_same same) at.pin;
+      emptied = λ child page same. emptied child page (some_same same);
+    }
+
+module _ (s : CoreState) (who : Doer) (place : Place) (op : Op) (h : IsKnown s who place (Some op)) where
+  own_birth : birth_for s.birth who ≡ born → IsOfProcess op → s.birth who.proc ≡ born
+  own_birth birth own = sym (thread_birth who s.birth (h.thread op refl own)) ∙ birth
 
   -- an operation in the middle is of a born process
   at_first : birth_for s.birth who ≡ failed → AtFirst place
@@ -237,11 +252,30 @@ module _ (s : CoreState) (who : Doer) (place : Place) (quiet : IsQuiet s who.act
       by_far zero is = (is, h.fresh is)
       by_far (suc far) is = absurd (not_failed (h.begun (omega (arith, is))) lost)
 
+  -- one of a failed process is refused
+  lost_step : IsSound s → AtRest s who.actor → birth_for s.birth who ≡ failed → IsTaken s who place (Some op) None (failed_turn who.actor who.proc op)
+  lost_step sound rest lost =
+      failed_step s who place sound rest lost (at_first lost) op (h.unlike_device op refl (failed_proc who.of_process (s.birth who.proc) lost).0) h.fits
+
+module _ (s : CoreState) (who : Doer) (place : Place) (quiet : IsQuiet s who.actor) (op : Op) (apart : IsNoMirror op) (h : IsKnown s who place (Some op)) where
+  -- of a born process, or of a device
+  born_step : birth_for s.birth who ≡ born → waits_born s who.actor who.proc place.far op ≡ None → IsTaken s who place (Some op) None (op_turn s who.actor who.proc who.slots place.far op)
+  born_step birth free =
+      let own : IsOfProcess op → s.birth who.proc ≡ born = own_birth s who place op h birth in
+      let turn : CoreTurn = op_turn s who.actor who.proc who.slots place.far op in
+      let at : IsTurned s who place op turn = op_turned s who place quiet op (record { range = h.range op refl; apart = apart; birth = own; slots = h.slots; ungot = h.ungot op refl; fits = h.fits; fresh = h.fresh; free = free }) in
+      as_taken s who place op turn birth own at (λ child page same. by_fork child same page own)
+    where
+      by_fork : (child : ℕ) → op ≡ Fork child → (page : ℕ) → (IsOfProcess op → s.birth who.proc ≡ born) → (run s (op_turn s who.actor who.proc who.slots place.far op).events).birth child ≡ failed → (run s (op_turn s who.actor who.proc who.slots place.far op).events).entry child page ≡ None
+      by_fork child is page own lost =
+          let fork_birth : s.birth who.proc ≡ born = own (subst IsOfProcess (sym is) tt) in
+          let all = subst (λ (o : Op). IsEmptied (run s (op_turn s who.actor who.proc who.slots place.far o).events) child) (sym is) (fork_emptied s who child place (opened s who place quiet fork_birth) (subst (λ (o : Op). FitsOp s who o place) is h.fits)) in
+          all lost page
+
   -- by the birth that it waits for
   step_by : (birth : Birth) → birth_for s.birth who ≡ birth → waits_at birth who.proc (waits_born s who.actor who.proc place.far op) ≡ None → IsTaken s who place (Some op) None (turn_at birth (failed_turn who.actor who.proc op) (op_turn s who.actor who.proc who.slots place.far op))
   step_by born is free = born_step is free
-  step_by failed is free =
-      failed_step s who place quiet is (at_first is) op (h.unlike_transfer op refl (failed_proc who.of_process (s.birth who.proc) is).0) h.fits
+  step_by failed is free = lost_step s who place op h quiet.sound quiet.rest is
   step_by birth is free = absurd (cc free)
 
 -- What holds of a state, and of the same one with all slots empty.
@@ -268,15 +302,87 @@ abbrev bare_turn : (s : CoreState) (who : Doer) (place : Place) → Op → CoreT
 bare_turn s who place op =
     turn_at (birth_for s.birth who) (failed_turn who.actor who.proc op) (op_turn s who.actor who.proc who.slots place.far op)
 
-bare_taken : (s : CoreState) (who : Doer) (place : Place) (op : Op) → IsQuietly s who.actor → IsKnown s who place (Some op) → waiting_with s who place.far (Some op) ≡ None → IsTaken (calmed s) who place (Some op) None (bare_turn s who place op)
-bare_taken s who place op quiet h is =
+bare_taken : (s : CoreState) (who : Doer) (place : Place) (op : Op) → IsQuietly s who.actor → IsKnown s who place (Some op) → IsNoMirror op → waiting_with s who place.far (Some op) ≡ None → IsTaken (calmed s) who place (Some op) None (bare_turn s who place op)
+bare_taken s who place op quiet h apart is =
     let t : CoreState = calmed s in
     let b : Birth = birth_for s.birth who in
     let free : waits_at b who.proc (waits_born t who.actor who.proc place.far op) ≡ None =
     ap (waits_at b who.proc) (waits_unseen (λ m. None) s who.actor who.proc place.far op) ∙ is in
     let step : IsTaken t who place (Some op) None (turn_at b (failed_turn who.actor who.proc op) (op_turn t who.actor who.proc who.slots place.far op)) =
-    step_by t who place (calmed_quiet s who.actor quiet) op (calmed_known s who place (Some op) h) b refl free in
-    subst (λ (u : CoreTurn). IsTaken t who place (Some op) None (turn_at b (failed_turn who.actor who.proc op) u)) (turn_unseen (λ m. None) s who.actor who.proc who.slots place.far op) step
+    step_by t who place (calmed_quiet s who.actor quiet) op apart (calmed_known s who place (Some op) h) b refl free in
+    subst (λ (u : CoreTurn). IsTaken t who place (Some op) None (turn_at b (failed_turn who.actor who.proc op) u)) (turn_unseen (λ m. None) s who.actor who.proc who.slots place.far op (no_look op apart)) step
+
+-- What is asked of the turn of a mirror or a look: it empties no slot, so that it is what it is by itself.
+record TakesSlots (s : CoreState) (who : Doer) (place : Place) (op : Op) : Type 0 where
+  turned : birth_for s.birth who ≡ born → waits_born s who.actor who.proc place.far op ≡ None → IsTurned s who place op (op_turn s who.actor who.proc who.slots place.far op)
+  none : (q g : ℕ) → invalidate (op_turn s who.actor who.proc who.slots place.far op).events q g ≡ false
+  silent : failed_turn who.actor who.proc op ≡ answers_with answers.Unborn
+  no_fork : (child : ℕ) → op ≡ Fork child → ⊥
+  slots : EmptiesSlots s (Some op) (op_turn s who.actor who.proc who.slots place.far op)
+
+module _ (s : CoreState) (who : Doer) (place : Place) (op : Op) (quiet : IsQuietly s who.actor) (h : IsKnown s who place (Some op)) (takes : TakesSlots s who place op) where
+  abbrev born_turn : CoreTurn
+  born_turn = op_turn s who.actor who.proc who.slots place.far op
+
+  abbrev lost_turn : CoreTurn
+  lost_turn = failed_turn who.actor who.proc op
+
+  born_same : emptying s who.actor born_turn ≡ born_turn
+  born_same = none_emptying s who.actor born_turn takes.none
+
+  lost_same : emptying s who.actor lost_turn ≡ lost_turn
+  lost_same = none_emptying s who.actor lost_turn (λ q g. ap (λ (turn : CoreTurn). invalidate turn.events q g) takes.silent)
+
+  slots_step : (birth : Birth) → birth_for s.birth who ≡ birth → waits_at birth who.proc (waits_born s who.actor who.proc place.far op) ≡ None → IsTaken s who place (Some op) None (emptying s who.actor (turn_at birth lost_turn born_turn))
+  slots_step born is free =
+      subst (IsTaken s who place (Some op) None) (sym born_same)
+      (as_taken s who place op born_turn is (own_birth s who place op h is) (takes.turned is free) (λ child page same. absurd (takes.no_fork child same)))
+  slots_step failed is free = subst (IsTaken s who place (Some op) None) (sym lost_same) (lost_step s who place op h quiet.sound quiet.rest is)
+  slots_step birth is free = absurd (cc free)
+
+  slots_kept : (birth : Birth) → waits_at birth who.proc (waits_born s who.actor who.proc place.far op) ≡ None → EmptiesSlots s (Some op) (emptying s who.actor (turn_at birth lost_turn born_turn))
+  slots_kept born free = subst (EmptiesSlots s (Some op)) (sym born_same) takes.slots
+  slots_kept failed free = subst (EmptiesSlots s (Some op)) (sym (lost_same ∙ takes.silent)) (silent_slots s (Some op) (Done answers.Unborn ∷ []))
+  slots_kept birth free = absurd (cc free)
+
+mirror_takes : (s : CoreState) (who : Doer) (place : Place) (mirror proc page : ℕ) → IsQuietly s who.actor → IsKnown s who place (Some (Mirror mirror proc page)) → TakesSlots s who place (Mirror mirror proc page)
+mirror_takes s who place mirror proc page quiet h =
+    record {
+      turned = λ birth free.
+          mirror_turned s who place quiet.sound
+          (opened (calmed s) who place (calmed_quiet s who.actor quiet) (own_birth s who place (Mirror mirror proc page) h birth tt))
+          quiet.rest mirror proc page (h.named mirror proc page refl) (h.range (Mirror mirror proc page) refl).0 h.fits free;
+      none = λ q g. mirror_none s who.actor who.proc mirror page q g (s.entry who.proc page);
+      silent = refl;
+      no_fork = λ child same. cc same;
+      slots = mirror_slots s who.actor who.proc mirror proc page;
+    }
+
+look_takes : (s : CoreState) (who : Doer) (place : Place) (mirror word : ℕ) → IsQuietly s who.actor → IsKnown s who place (Some (Look mirror word)) → TakesSlots s who place (Look mirror word)
+look_takes s who place mirror word quiet h =
+    record {
+      turned = λ birth free. look_turned s who place quiet.rest mirror word (h.range (Look mirror word) refl).1 h.fits;
+      none = λ q g. look_none s who.actor mirror word q g (s.mirrored mirror);
+      silent = refl;
+      no_fork = λ child same. cc same;
+      slots = look_slots s who.actor mirror word;
+    }
+
+op_taken : (s : CoreState) (who : Doer) (place : Place) (op : Op) → IsQuietly s who.actor → IsKnown s who place (Some op) → waiting_with s who place.far (Some op) ≡ None → IsTaken s who place (Some op) None (core_turn_by s who place.far (Some op) None)
+op_taken s who place (Mirror mirror proc page) quiet h is =
+    slots_step s who place (Mirror mirror proc page) quiet h (mirror_takes s who place mirror proc page quiet h) (birth_for s.birth who) refl is
+op_taken s who place (Look mirror word) quiet h is =
+    slots_step s who place (Look mirror word) quiet h (look_takes s who place mirror word quiet h) (birth_for s.birth who) refl is
+op_taken s who place op quiet h is =
+    emptied_taken s who place op (bare_turn s who place op) (λ m fills. cc fills) quiet.slots (bare_taken s who place op quiet h tt is)
+
+op_slots : (s : CoreState) (who : Doer) (place : Place) (op : Op) → IsQuietly s who.actor → IsKnown s who place (Some op) → waiting_with s who place.far (Some op) ≡ None → EmptiesSlots s (Some op) (core_turn_by s who place.far (Some op) None)
+op_slots s who place (Mirror mirror proc page) quiet h is =
+    slots_kept s who place (Mirror mirror proc page) quiet h (mirror_takes s who place mirror proc page quiet h) (birth_for s.birth who) is
+op_slots s who place (Look mirror word) quiet h is =
+    slots_kept s who place (Look mirror word) quiet h (look_takes s who place mirror word quiet h) (birth_for s.birth who) is
+op_slots s who place op quiet h is =
+    emptied_slots s who place op (bare_turn s who place op) (λ m fills. cc fills) quiet.slots (bare_taken s who place op quiet h tt is)
 
 take : (s : CoreState) (who : Doer) (place : Place) (op : Option Op) (waiting : Option Waiting) → IsQuietly s who.actor → IsKnown s who place op → waiting_with s who place.far op ≡ waiting → IsTaken s who place op waiting (core_turn_by s who place.far op waiting)
 take s who place None waiting quiet h is =
@@ -295,15 +401,13 @@ take s who place (Some op) (Some waiting) quiet h is =
       pin = λ o same free birth. absurd (cc free);
       emptied = λ child page same lost. h.emptied child page lost;
     }
-take s who place (Some op) None quiet h is =
-    emptied_taken s who place op (bare_turn s who place op) quiet.slots (bare_taken s who place op quiet h is)
+take s who place (Some op) None quiet h is = op_taken s who place op quiet h is
 
 -- and what it leaves of slots
-take_slots : (s : CoreState) (who : Doer) (place : Place) (op : Option Op) (waiting : Option Waiting) → IsQuietly s who.actor → IsKnown s who place op → waiting_with s who place.far op ≡ waiting → EmptiesSlots s (core_turn_by s who place.far op waiting)
-take_slots s who place None waiting quiet h is = silent_slots s (Idle ∷ [])
-take_slots s who place (Some op) (Some waiting) quiet h is = silent_slots s (Wait waiting ∷ [])
-take_slots s who place (Some op) None quiet h is =
-    emptied_slots s who place op (bare_turn s who place op) quiet.slots (bare_taken s who place op quiet h is)
+take_slots : (s : CoreState) (who : Doer) (place : Place) (op : Option Op) (waiting : Option Waiting) → IsQuietly s who.actor → IsKnown s who place op → waiting_with s who place.far op ≡ waiting → EmptiesSlots s op (core_turn_by s who place.far op waiting)
+take_slots s who place None waiting quiet h is = silent_slots s None (Idle ∷ [])
+take_slots s who place (Some op) (Some waiting) quiet h is = silent_slots s (Some op) (Wait waiting ∷ [])
+take_slots s who place (Some op) None quiet h is = op_slots s who place op quiet h is
 
 -- what is known of the turn of an actor
 is_quietly : (script : ScriptValue) (r : RunState) → Stands script r → (a : ℕ) → IsQuietly r.core a
@@ -315,7 +419,8 @@ is_known script valid r h a =
     record {
       range = op_is_op script valid a k;
       thread = λ o is own. subst (λ (x : Option Op). (doer_of script a x).of_process ≡ true) (sym is) (has_own_process script valid a k o is (of_no_device o own));
-      unlike_transfer = λ o is own. no_transfer (actor_at script a) o (op_fits_kind script valid a k o is) (subst (λ (x : Option Op). (doer_of script a x).of_process ≡ true) is own);
+      unlike_device = λ o is own. may_be_unborn (actor_at script a) o (op_fits_kind script valid a k o is) (subst (λ (x : Option Op). (doer_of script a x).of_process ≡ true) is own);
+      named = λ mirror proc page is. ap (λ (x : Option Op). (doer_of script a x).proc) is;
       slots = few_slots script valid a;
       ungot = λ o is handle makes. (h.yet_unmade a k handle (o, is, makes) (omega arith)).1;
       fits = h.fits a;
@@ -330,7 +435,7 @@ taken script valid r h a =
     take r.core (doer_of script a (op_in script r a)) (r.places a) (op_in script r a) (waiting_in script r a)
     (is_quietly script r h a) (is_known script valid r h a) refl
 
-pub slots_left : (script : ScriptValue) → IsScript script → (r : RunState) → Stands script r → (a : ℕ) → EmptiesSlots r.core (core_turn_in script r a)
+pub slots_left : (script : ScriptValue) → IsScript script → (r : RunState) → Stands script r → (a : ℕ) → EmptiesSlots r.core (op_in script r a) (core_turn_in script r a)
 slots_left script valid r h a =
     take_slots r.core (doer_of script a (op_in script r a)) (r.places a) (op_in script r a) (waiting_in script r a)
     (is_quietly script r h a) (is_known script valid r h a) refl

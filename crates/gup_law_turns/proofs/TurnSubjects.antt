@@ -8,7 +8,7 @@ use Rattle.gup_plain.specs.declared.answer.Answer.TheVariants as answers
 use Rattle.gup_plain.specs.declared.note.What.{What}
 use Rattle.gup_plain.specs.declared.note.Waiting.{Waiting}
 use Rattle.gup_script.specs.declared.op.Op.{Op}
-use Rattle.gup_script.specs.declared.op.Op.TheVariants.{Unpin, Give, Take, Transfer, Fork}
+use Rattle.gup_script.specs.declared.op.Op.TheVariants.{Unpin, Give, Take, Transfer, Look, Fork}
 use Rattle.gup_spec_events.specs.State.{CoreState, plain_of}
 use Rattle.gup_spec_events.specs.Event.{CoreEvent, run}
 use Rattle.gup_spec_journal.specs.Denial.{References}
@@ -20,11 +20,12 @@ use Rattle.gup_spec_turns.specs.CoreTurn.{CoreTurn}
 use Rattle.gup_spec_turns.specs.Turn.{turn_at, failed_turn, op_turn}
 use Rattle.gup_spec_turns.specs.PinTurns.{unpin_turn, last_of, but_last, give_turn, take_turn}
 use Rattle.gup_spec_turns.proofs.TurnParts.{unpin_turn_by, give_turn_by, transfer_turn_by}
+use Rattle.gup_spec_turns.specs.MirrorTurns.{look_turn}
 use Rattle.gup_spec_turns.specs.DeviceTurns.{transfer_turn, word_turn, frame_at, moves_value}
 use Rattle.gup_spec_turns.specs.Emptying.{emptying}
 use Rattle.gup_spec_turns.proofs.Unseen.{emptying_reads}
 use Rattle.gup_law_turns.proofs.EmptiedSlots.{about_emptying}
-use Rattle.gup_law_turns.proofs.CalmStates.{AreHandleEvents, unpinning, giving, taking_over, moving_out, moving_in}
+use Rattle.gup_law_turns.proofs.CalmStates.{AreHandleEvents, unpinning, giving, taking_over, moving_out, moving_in, looking_on}
 use Rattle.gup_law_turns.proofs.ActorPlaces.{IsBehind, goes_on, is_over, IsBehindTurn, stays_there, goes_by, op_behind}
 use Rattle.gup_law_turns.proofs.ScriptPlaces.{fresh_place}
 use Rattle.gup_law_turns.proofs.TurnShapes.{references_of, IsOfProcess, TurnAt, idles, waits, goes, unborn_refused, unborn_fork}
@@ -76,6 +77,10 @@ about_word : (a h : ℕ) (outward last : Bool) (index slot f value : ℕ) → Ar
 about_word a h true last index slot f value = (moving_out index slot f value, tt)
 about_word a h false last index slot f value = (moving_in index slot f value, tt)
 
+about_look : (s : CoreState) (a mirror word : ℕ) (frame : Option ℕ) → AreHandleEvents a 0 (look_turn s a mirror word frame).events
+about_look s a mirror word None = tt
+about_look s a mirror word (Some f) = (looking_on mirror word f (s.word f word), tt)
+
 about_transfer : (denied : Option Answer) (s : CoreState) (a h : ℕ) (outward last : Bool) (index slot : ℕ) → AreHandleEvents a h (transfer_turn_by denied s a h outward last index slot).events
 about_transfer (Some answer) s a h outward last index slot = tt
 about_transfer None s a h outward last index slot =
@@ -119,6 +124,12 @@ going_by s who far (Transfer handle outward slot parts) own later =
       handle,
       about_at s who handle (birth_for s.birth who) (failed_turn who.actor who.proc (Transfer handle outward slot parts)) (transfer_turn s who.actor who.slots handle outward slot parts far) refl
           (about_transfer (transfer_denial (s.handle handle) who.actor outward who.slots slot parts) s who.actor handle outward (far + 1 == words_of parts) (word_at parts far) (slot + far)),
+    )
+going_by s who far (Look mirror word) own later =
+    inl (
+      0,
+      about_at s who 0 (birth_for s.birth who) (failed_turn who.actor who.proc (Look mirror word)) (look_turn s who.actor mirror word (s.mirrored mirror)) refl
+          (about_look s who.actor mirror word (s.mirrored mirror)),
     )
 going_by s who far op own later = inr (record { birth = inl (own tt); later = later })
 

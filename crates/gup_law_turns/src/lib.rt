@@ -1,16 +1,17 @@
 //! The laws of turns: each can happen from every state that turns lead to, and what stands between two of them.
 #![tactic(auto)]
 
-ghost use Rattle.std.specs.Prelude.{◌≡◌, ℕ, List};
+ghost use Rattle.std.specs.Prelude.{◌≡◌, ℕ, List, Some};
 ghost use Rattle.gup_plain.specs.Note.{NoteValue};
 ghost use Rattle.gup_script.specs.Script.{ScriptValue};
 ghost use Rattle.gup_script.specs.Valid.{IsScript};
+ghost use Rattle.gup_script.specs.declared.op.Op.TheVariants.{Mirror};
 ghost use Rattle.gup_spec_events.specs.State.{plain_of};
 ghost use Rattle.gup_spec_events.specs.Invariant.{AllCan};
 ghost use Rattle.gup_spec_journal.specs.Order.{Turn, plain_behind};
 ghost use Rattle.gup_spec_turns.specs.Emptying.{left_in};
 ghost use Rattle.gup_spec_turns.specs.Run.{RunState, Runs, AreTurns, run_start, run_after, core_turn_in, IsCoreRun};
-ghost use Rattle.gup_spec_turns.specs.Run.{turned, actors_of};
+ghost use Rattle.gup_spec_turns.specs.Run.{turned, actors_of, op_in};
 ghost use Rattle.gup_law_turns.specs.Standing.{IsStanding};
 
 /// A script has one core run, and that has one end.
@@ -50,14 +51,17 @@ pub fn turns_can_happen()
 }
 
 /// Whichever actors have taken turns: a turn empties each filled mirror slot of a page that one of its events invalidates, and
-/// leaves the others filled as they are. What a slot was filled with stays noted.
+/// leaves the others filled as they are, but for the slot that its operation, a mirror, fills. What the others were filled with
+/// stays noted.
 pub fn turns_empty_slots()
     ensures slots { (script : ScriptValue) (actors : List ℕ) (a m : ℕ) → IsScript script →
         let r : RunState = turned script (run_start script) actors in
+        ((proc page : ℕ) → op_in script r a ≡ Some (Mirror m proc page) → ⊥) →
         (run_after script r a).core.mirrored m ≡ left_in (core_turn_in script r a).events (r.core.mirrored m) (r.core.slot m) }
-    ensures notes { (script : ScriptValue) (actors : List ℕ) (a : ℕ) → IsScript script →
+    ensures notes { (script : ScriptValue) (actors : List ℕ) (a m : ℕ) → IsScript script →
         let r : RunState = turned script (run_start script) actors in
-        (run_after script r a).core.slot ≡ r.core.slot }
+        ((proc page : ℕ) → op_in script r a ≡ Some (Mirror m proc page) → ⊥) →
+        (run_after script r a).core.slot m ≡ r.core.slot m }
 {
     gup_law_events::simulates();
     gup_law_events::starts_sound();

@@ -5,9 +5,9 @@ use Rattle.gup_law_turns.proofs.TurnSteps.{slots_left}
 use Rattle.gup_law_turns.proofs.turns_empty_slots.Goals as goal
 
 pub returns-clause-slots : goal.returns-clause-slots
-returns-clause-slots c script actors a m valid =
-    (slots_left script valid (turned script (run_start script) actors) (turned_stands c.simulates.ensures c.starts_sound.ensures script valid actors) a).left m
+returns-clause-slots c script actors a m valid other =
+    (slots_left script valid (turned script (run_start script) actors) (turned_stands c.simulates.ensures c.starts_sound.ensures script valid actors) a).left m other
 
 pub returns-clause-notes : goal.returns-clause-notes
-returns-clause-notes c script actors a valid =
-    (slots_left script valid (turned script (run_start script) actors) (turned_stands c.simulates.ensures c.starts_sound.ensures script valid actors) a).notes
+returns-clause-notes c script actors a m valid other =
+    (slots_left script valid (turned script (run_start script) actors) (turned_stands c.simulates.ensures c.starts_sound.ensures script valid actors) a).notes m other
