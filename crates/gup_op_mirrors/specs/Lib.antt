@@ -1,3 +1,4 @@
 pub mod Invalidated
 pub mod Places
 pub mod Ranges
+pub mod Emptied

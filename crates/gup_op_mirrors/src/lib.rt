@@ -3,6 +3,8 @@
 #![tactic(auto)]
 
 mod changes;
+mod empties;
 mod ranges;
 
+pub use empties::empty_slots;
 pub use ranges::{Pages, invalidated};
