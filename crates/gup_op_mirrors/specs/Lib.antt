@@ -1,3 +1,2 @@
-pub mod Invalidated
 pub mod Places
 pub mod Ranges
