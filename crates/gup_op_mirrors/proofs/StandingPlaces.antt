@@ -17,7 +17,7 @@ use Rattle.gup_op_base.specs.Far.{far_in}
 use Rattle.gup_op_base.specs.Tidy.{IsTidy}
 use Rattle.gup_op_base.proofs.Searching.{any_same}
 use Rattle.gup_op_waits.specs.Stands.{StandsAt}
-use Rattle.gup_op_mirrors.specs.Invalidated.{page_if, changes_page, pinned_in, page_in}
+use Rattle.gup_law_mirrors.specs.Invalidated.{page_if, changes_page, pinned_in, page_in}
 use Rattle.gup_op_mirrors.specs.Places.{at_beginning}
 
 -- each page with an entry is mapped

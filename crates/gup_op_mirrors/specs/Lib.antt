@@ -1,4 +1,3 @@
-pub mod Invalidated
 pub mod Places
 pub mod Ranges
 pub mod Emptied

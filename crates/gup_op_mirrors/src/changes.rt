@@ -7,7 +7,7 @@ ghost use Rattle.gup_spec_events.specs.State.{CoreState};
 ghost use Rattle.gup_spec_turns.specs.CoreTurn.{zones_of};
 ghost use Rattle.gup_plain.specs.Denial.{pin_denial};
 ghost use Rattle.gup_op_base.specs.Tidy.{IsTidy};
-ghost use Rattle.gup_op_mirrors.specs.Invalidated.{copies as copied, changes_entry as entry_changes, changes_page as page_changes};
+ghost use Rattle.gup_law_mirrors.specs.Invalidated.{copies as copied, changes_entry as entry_changes, changes_page as page_changes};
 
 use gup_base::{Entry, FrameNo, PageNo, Rights, Want, Zone};
 use gup_frames::Frames;

@@ -14,7 +14,7 @@ ghost use Rattle.gup_op_base.specs.Far.{HasFar, far_in};
 ghost use Rattle.gup_op_base.specs.Jobs.{place_of};
 ghost use Rattle.gup_op_base.specs.Tidy.{IsTidy, AreNumbered};
 ghost use Rattle.gup_op_waits.specs.Stands.{StandsAt};
-ghost use Rattle.gup_op_mirrors.specs.Invalidated.{page_if as if_page, for_store, changes_page as page_changes, page_in, pages_in};
+ghost use Rattle.gup_law_mirrors.specs.Invalidated.{page_if as if_page, for_store, changes_page as page_changes, page_in, pages_in};
 ghost use Rattle.gup_op_mirrors.specs.Places.{at_beginning, shared_at};
 ghost use Rattle.gup_op_mirrors.specs.Ranges.{range_of};
 

@@ -2,7 +2,7 @@ use Rattle.std.proofs.Common.{◌≡◌, ◌+◌, ◌==◌, ◌&&◌, not, Bool,
 use Rattle.gup_space.specs.Space.{space_of}
 use Rattle.gup_spec_turns.specs.JobPlace.{JobPlace}
 use Rattle.gup_op_base.specs.Jobs.{place_of}
-use Rattle.gup_op_mirrors.specs.Invalidated.{page_if, changes_page}
+use Rattle.gup_law_mirrors.specs.Invalidated.{page_if, changes_page}
 use Rattle.gup_op_mirrors.specs.Places.{at_beginning}
 use Rattle.gup_op_mirrors.proofs.StandingPlaces.{protect_page, pin_less, pin_page}
 use Rattle.gup_op_mirrors.proofs.ranges.first_page.Goals as goal

@@ -2,10 +2,10 @@ use Rattle.std.proofs.Common.{◌≡◌, ℕ, Option, None, Some, sym, ap, ◌�
 use Rattle.gup_frames.specs.Frames.{frames_of}
 use Rattle.gup_space.specs.Space.{space_of}
 use Rattle.gup_spec_turns.specs.Emptying.{has_page}
-use Rattle.gup_op_mirrors.specs.Invalidated.{page_in, pages_in, range_from}
+use Rattle.gup_law_mirrors.specs.Invalidated.{page_in, pages_in, range_from}
 use Rattle.gup_op_mirrors.specs.Ranges.{range_of}
 use Rattle.gup_op_mirrors.specs.declared.ranges.Pages.{Pages}
-use Rattle.gup_op_mirrors.proofs.InvalidatingTurns.{invalidated_is}
+use Rattle.gup_law_mirrors.proofs.InvalidatingTurns.{invalidated_is}
 use Rattle.gup_op_mirrors.proofs.StandingPlaces.{maps_each}
 use Rattle.gup_op_mirrors.proofs.ranges.invalidated.Goals as goal
 

@@ -29,9 +29,10 @@ use Rattle.gup_spec_turns.specs.ForkTurns.{next_page, page_turn, next_turn, fram
 use Rattle.gup_spec_turns.specs.Turn.{op_turn}
 use Rattle.gup_spec_turns.specs.Emptying.{PageRange, one_page, has_page, invalidated_by, invalidate}
 use Rattle.gup_spec_turns.proofs.TurnParts.{map_turn_by, protect_turn_by, unpin_turn_by, give_turn_by, put_turn_by, clear_turn_by, transfer_turn_by}
-use Rattle.gup_op_mirrors.specs.Invalidated.{page_if, for_store, changes_page, range_from, moved_in, shared_in, invalidated_in}
-use Rattle.gup_op_mirrors.proofs.Invalidates.{Invalidates, behind, absent, tailed, faulted, goes, load_none, store_changes}
-use Rattle.gup_op_mirrors.proofs.InvalidatingPins.{pin_invalidates}
+use Rattle.gup_law_turns.proofs.MirrorOps.{mirror_none, look_none}
+use Rattle.gup_law_mirrors.specs.Invalidated.{page_if, for_store, changes_page, range_from, moved_in, shared_in, invalidated_in}
+use Rattle.gup_law_mirrors.proofs.Invalidates.{Invalidates, behind, absent, tailed, faulted, goes, load_none, store_changes}
+use Rattle.gup_law_mirrors.proofs.InvalidatingPins.{pin_invalidates}
 
 -- the range has the page
 inside : (p base m page g q : ℕ) → base ≤ page → page < base + m → has_page (one_page p page) q g ≡ true → has_page (Some (record { proc = p; page = base; n = m })) q g ≡ true
@@ -208,8 +209,8 @@ invalidated_is s a p slots far (Get handle page) valid maps = got s a p handle p
 invalidated_is s a p slots far (Put handle) valid maps = put_none s a p (has_reference (got_by (s.got handle)) a) handle
 invalidated_is s a p slots far (Transfer handle outward slot parts) valid maps =
     transferred s a p (transfer_denial (s.handle handle) a outward slots slot parts) handle outward (far + 1 == words_of parts) (word_at parts far) (slot + far)
-invalidated_is s a p slots far (Mirror mirror proc page) valid maps = absurd valid
-invalidated_is s a p slots far (Look mirror word) valid maps = absurd valid
+invalidated_is s a p slots far (Mirror mirror proc page) valid maps = λ q g some. mirror_none s a p mirror page q g (s.entry p page)
+invalidated_is s a p slots far (Look mirror word) valid maps = λ q g some. look_none s a mirror word q g (s.mirrored mirror)
 invalidated_is s a p slots far (Move proc page zone) valid maps = moved s a p maps page zone (s.job a)
 invalidated_is s a p slots far (Fork child) valid maps = forked s a p child (s.job a)
 invalidated_is s a p slots far Exit valid maps = exited s a p (lowest_page (s.right p))

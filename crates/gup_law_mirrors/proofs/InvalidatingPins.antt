@@ -17,8 +17,8 @@ use Rattle.gup_spec_turns.specs.CoreTurn.{entry_in, free_in, zones_of}
 use Rattle.gup_spec_turns.specs.Emptying.{PageRange, one_page, has_page}
 use Rattle.gup_spec_turns.specs.PinTurns.{raises, pin_fault, makes_if, pins_behind, moves_first, clears_or_pins, pins, ends_pin, pin_turn_by, begins_or_pins, ends_moved, pins_moved, moved_turn, pin_turn_in}
 use Rattle.gup_spec_turns.specs.WalkTurns.{leaves_if, grab_turn, is_same, recheck_turn, is_none_left, all_turn, ready_turn, split_last, last_turn, first_turn, walk_turn}
-use Rattle.gup_op_mirrors.specs.Invalidated.{page_if, copies, changes_in, changes_page, pinned_in, range_from}
-use Rattle.gup_op_mirrors.proofs.Invalidates.{Invalidates, behind, absent, tailed, headed}
+use Rattle.gup_law_mirrors.specs.Invalidated.{page_if, copies, changes_in, changes_page, pinned_in, range_from}
+use Rattle.gup_law_mirrors.proofs.Invalidates.{Invalidates, behind, absent, tailed, headed}
 
 twice : (b : Bool) → (b || (b || false)) ≡ b
 twice true = refl

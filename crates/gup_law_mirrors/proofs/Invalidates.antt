@@ -12,7 +12,7 @@ use Rattle.gup_spec_events.specs.Fault.{Fault, events_of, fills, fills_writable,
 use Rattle.gup_spec_turns.specs.CoreTurn.{CoreTurn, after_fault, allows_store, free_frame}
 use Rattle.gup_spec_turns.specs.PageTurns.{load_fault, store_fault}
 use Rattle.gup_spec_turns.specs.Emptying.{PageRange, one_page, has_page, invalidated_by, invalidate}
-use Rattle.gup_op_mirrors.specs.Invalidated.{page_if, copies, changes_in, range_from}
+use Rattle.gup_law_mirrors.specs.Invalidated.{page_if, copies, changes_in, range_from}
 
 -- the events invalidate these pages, and no others that have an entry
 abbrev pub Invalidates : CoreState → List CoreEvent → Option PageRange → Type 0

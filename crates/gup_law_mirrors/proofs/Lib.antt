@@ -1,0 +1,3 @@
+pub mod Invalidates
+pub mod InvalidatingPins
+pub mod InvalidatingTurns
