@@ -45,7 +45,7 @@ kept_failed Born b is so = absurd (cc (sym is ∙ so))
 kept_failed Failed b is so = refl
 
 -- the machine has it so where the actor's process has failed
-birth_failed : (births : List Birth) (proc : Option ℕ) (who : Doer) (s : CoreState) → HasFailed births proc → IsProcessOf who proc → ShowsBirths births s → birth_for s.birth who ≡ failed
+pub birth_failed : (births : List Birth) (proc : Option ℕ) (who : Doer) (s : CoreState) → HasFailed births proc → IsProcessOf who proc → ShowsBirths births s → birth_for s.birth who ≡ failed
 birth_failed births None who s has of_who shown = absurd has
 birth_failed births (Some p) who s has of_who shown =
     ap (λ (t : Bool). birth_by t (s.birth who.proc)) of_who.0 ∙ ap (λ (q : ℕ). s.birth q) of_who.1 ∙ shown p Failed has
@@ -80,11 +80,11 @@ of_born old new a proc far op place next whats unfailed within turn who k rest l
 -- ---- a refusal
 
 -- no event, or that a fork's child fails too
-data IsRefusal (a p : ℕ) (op : Op) : List CoreEvent → Type 0 where
+pub data IsRefusal (a p : ℕ) (op : Op) : List CoreEvent → Type 0 where
   nothing : IsRefusal a p op []
   fails_too : (child : ℕ) → op ≡ Fork child → IsRefusal a p op (fail_unborn a p child ∷ [])
 
-refusal : (a p : ℕ) (op : Op) → IsRefusal a p op (failed_turn a p op).events
+pub refusal : (a p : ℕ) (op : Op) → IsRefusal a p op (failed_turn a p op).events
 refusal a p (Fork child) = fails_too child refl
 refusal a p op = nothing
 

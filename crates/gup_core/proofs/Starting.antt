@@ -1,5 +1,5 @@
 -- A machine that has taken no turn shows the start.
-use Rattle.std.proofs.Common.{◌≡◌, ℕ, List, [], replicate, slice_get, Some, zero, suc, refl, sym, ap, ◌∙◌, subst}
+use Rattle.std.proofs.Common.{◌≡◌, ℕ, List, [], replicate, slice_get, Option, Some, None, zero, suc, refl, sym, ap, ◌∙◌, subst}
 use Rattle.gup_script.specs.Script.{ScriptValue}
 use Rattle.gup_spec_journal.specs.Place.{present_op, first_place}
 use Rattle.gup_spec_turns.specs.Run.{run_start}
@@ -10,6 +10,8 @@ use Rattle.gup_core.specs.declared.seats.Seat.{Seat}
 use Rattle.gup_op_waits.specs.declared.parts.Parts.{Parts}
 use Rattle.gup_core.specs.Machine.{machine_of, Shows}
 use Rattle.gup_op_waits.specs.Parts.{ShowsParts}
+use Rattle.gup_notify.specs.Mirrors.{Filled, mirrors_of, no_mirrors}
+use Rattle.gup_notify.specs.Shows.{IsMirror}
 use Rattle.gup_core.specs.Seats.{IsSeat, first_seats}
 use Rattle.gup_core.proofs.Taking.{first_far}
 
@@ -27,11 +29,12 @@ one_of_first n seats a seat first here = same_seat n no_turn a seat (ap (λ xs. 
 first_seat : (script : ScriptValue) (a : ℕ) (seat : Seat) → seat ≡ no_turn → IsSeat (present_op script a first_place) first_place seat
 first_seat script a seat is = subst (λ (s : Seat). IsSeat (present_op script a first_place) first_place s) (sym is) (refl, first_far (present_op script a first_place))
 
-pub shows_start : (script : ScriptValue) (parts : Parts) (seats : List Seat) (n : ℕ) → ShowsParts parts (run_start script).core → seats ≡ first_seats n → Shows (machine_of script parts seats 0) (run_start script)
-shows_start script parts seats n shown first =
+pub shows_start : (script : ScriptValue) (parts : Parts) (mirrors : List (Option Filled)) (seats : List Seat) (n : ℕ) → ShowsParts parts (run_start script).core → mirrors_of mirrors ≡ no_mirrors → seats ≡ first_seats n → Shows (machine_of script parts mirrors seats 0) (run_start script)
+shows_start script parts mirrors seats n shown empty first =
     record {
       reached = ([], refl);
       parts = shown;
+      mirrors = λ m. subst (λ (f : ℕ → Option Filled). IsMirror (f m) None None) (sym empty) refl;
       seats = λ a seat here. first_seat script a seat (one_of_first n seats a seat first here);
       jobs = λ a seat here. ap (λ (s : Seat). place_of s.job) (one_of_first n seats a seat first here);
       ends = λ a handle page k want fast seat here is. subst (λ (s : Seat). EndAt (last_page s.job) []) (sym (one_of_first n seats a seat first here)) tt;

@@ -20,7 +20,7 @@ use Rattle.gup_spec_events.specs.Event.{run}
 use Rattle.gup_spec_turns.specs.CoreTurn.{CoreTurn}
 use Rattle.gup_spec_turns.specs.Turn.{turn_of}
 use Rattle.gup_spec_turns.specs.Waits.{waiting_for}
-use Rattle.gup_spec_turns.specs.Run.{RunState, op_in, waiting_with, waiting_in, core_turn_by, core_turn_in, run_after, written_in}
+use Rattle.gup_spec_turns.specs.Run.{RunState, op_in, waiting_with, waiting_in, core_turn_by, core_turn_in, run_after, run_start, turned, written_in}
 use Rattle.gup_law_turns.specs.Standing.{IsStanding}
 use Rattle.gup_spec_turns.specs.JobPlace.{job_place, place_in, unbegun}
 use Rattle.gup_op_base.specs.declared.jobs.JobPlace.{JobPlace}
@@ -34,27 +34,31 @@ use Rattle.gup_op_waits.specs.declared.parts.Parts.{Parts}
 use Rattle.gup_core.specs.declared.seats.Seat.{Seat}
 use Rattle.gup_op_waits.specs.Doers.{IsProcessOf}
 use Rattle.gup_op_waits.specs.Stands.{StandsAt}
-use Rattle.gup_core.specs.Goes.{ShowsAll, EndsAt, all_view}
+use Rattle.gup_core.specs.Goes.{ShowsAll, StandsWith, TakesMirrors, EndsAt, all_view}
+use Rattle.gup_notify.specs.Mirrors.{Filled, mirrors_of}
+use Rattle.gup_notify.specs.Shows.{ShowsMirrors}
+use Rattle.gup_script.specs.Valid.{IsScript}
+use Rattle.gup_law_turns.specs.Slots.{EmptiesSlots}
 use Rattle.gup_core.specs.Machine.{MachineValue, machine_of, counted, Shows, TakesTurns, IsMachine, IsReached}
 use Rattle.gup_op_waits.specs.Parts.{ShowsParts, AreParts}
 use Rattle.gup_core.specs.Rest.{IsAtRest, op_of_seat}
 use Rattle.gup_core.specs.Seats.{IsSeat, far_behind, seat_behind}
 use Rattle.gup_core.proofs.Notes.{NoTwo, turn_two}
 use Rattle.gup_core.proofs.Resting.{Stand, standing, reached_behind, op_there, stands_at}
-use Rattle.gup_core.proofs.Turning.{IsTurnBy, differ, replaced}
+use Rattle.gup_core.proofs.Turning.{IsTurnWith, differ, replaced}
 
 -- the number of the next turn
 counted_next : (m t : ℕ) → m ≡ min t (2 ^ 32 - 1) → counted m ≡ min (t + 1) (2 ^ 32 - 1)
 counted_next m t is = grind (arith, nat_tests)
 
 -- What the machine is after a turn t of an actor shows the state after it.
-shows_behind : (m : MachineValue) (parts : Parts) (seats : List Seat) (turns : ℕ) (r : RunState) (a : ℕ) (t : CoreTurn)
-    → core_turn_in m.script r a ≡ t → Shows m r → turns ≡ counted m.turns → ShowsParts parts (run r.core t.events)
+shows_behind : (m : MachineValue) (parts : Parts) (mirrors : List (Option Filled)) (seats : List Seat) (turns : ℕ) (r : RunState) (a : ℕ) (t : CoreTurn)
+    → core_turn_in m.script r a ≡ t → Shows m r → turns ≡ counted m.turns → ShowsParts parts (run r.core t.events) → ShowsMirrors (mirrors_of mirrors) (run r.core t.events)
     → ((b : ℕ) (seat : Seat) → slice_get seats b ≡ Some seat → IsSeat (present_op m.script b (places_behind r.places (record { actor = a; whats = t.whats }) b)) (places_behind r.places (record { actor = a; whats = t.whats }) b) seat)
     → ((b : ℕ) (seat : Seat) → slice_get seats b ≡ Some seat → place_of seat.job ≡ place_in (run r.core t.events) b)
     → ((b handle page n : ℕ) (want : Want) (fast : Bool) (seat : Seat) → slice_get seats b ≡ Some seat → present_op m.script b (places_behind r.places (record { actor = a; whats = t.whats }) b) ≡ Some (Pin handle page n want fast) → EndAt (last_page seat.job) ((run r.core t.events).taken b))
-    → Shows (machine_of m.script parts seats turns) (run_after m.script r a)
-shows_behind m parts seats turns r a t is h count shown places jobs ends =
+    → Shows (machine_of m.script parts mirrors seats turns) (run_after m.script r a)
+shows_behind m parts mirrors seats turns r a t is h count shown slots places jobs ends =
     let behind : CoreTurn → RunState =
     λ u. record {
       core = run r.core u.events;
@@ -65,6 +69,7 @@ shows_behind m parts seats turns r a t is h count shown places jobs ends =
     record {
       reached = reached_behind m.script r a h.reached;
       parts = subst (λ (u : CoreTurn). ShowsParts parts (behind u).core) (sym is) shown;
+      mirrors = subst (λ (u : CoreTurn). ShowsMirrors (mirrors_of mirrors) (behind u).core) (sym is) slots;
       seats =
           subst (λ (u : CoreTurn). (b : ℕ) (seat : Seat) → slice_get seats b ≡ Some seat → IsSeat (present_op m.script b ((behind u).places b)) ((behind u).places b) seat) (sym is) places;
       jobs = subst (λ (u : CoreTurn). (b : ℕ) (seat : Seat) → slice_get seats b ≡ Some seat → place_of seat.job ≡ place_in (behind u).core b) (sym is) jobs;
@@ -122,9 +127,9 @@ same_places script places a what same b = go (b == a) refl
 -- a turn without an event leaves all but its number
 pub stays : (m : MachineValue) (r : RunState) (a : ℕ) (seat : Seat) (turns : ℕ) (what : What) → Shows m r → slice_get m.seats a ≡ Some seat → turns ≡ counted m.turns
     → core_turn_in m.script r a ≡ record { events = []; whats = what ∷ [] } → place_behind (r.places a) (what ∷ []) ≡ r.places a
-    → Shows (machine_of m.script m.parts m.seats turns) (run_after m.script r a)
+    → Shows (machine_of m.script m.parts m.mirrors m.seats turns) (run_after m.script r a)
 stays m r a seat turns what h here count is same =
-    shows_behind m m.parts m.seats turns r a (record { events = []; whats = what ∷ [] }) is h count h.parts
+    shows_behind m m.parts m.mirrors m.seats turns r a (record { events = []; whats = what ∷ [] }) is h count h.parts h.mirrors
     (seats_behind m.script r.places m.seats m.seats a (record { actor = a; whats = what ∷ [] }) seat refl h.seats (λ b apart. refl) here
     (subst (λ (x : Place). IsSeat (present_op m.script a x) x seat) (sym same) (h.seats a seat here)))
     h.jobs (λ b handle page n want fast s found now. h.ends b handle page n want fast s found (sym (ap (present_op m.script b) (same_places m.script r.places a what same b)) ∙ now))
@@ -138,7 +143,7 @@ says_so m r a seat turns t whats h here count is says =
     ∙ ap (λ (u : CoreTurn). notes_of_turn (counted m.turns) a ((r.places a).answered + 1) u.whats) (sym is)
 
 pub idles : (m : MachineValue) (a : ℕ) (seat : Seat) (turns : ℕ) → slice_get m.seats a ≡ Some seat → op_of_seat m a seat ≡ None → turns ≡ counted m.turns
-    → TakesTurns m (machine_of m.script m.parts m.seats turns) a (notes_of_turn turns a (seat.answered + 1) (Idle ∷ []))
+    → TakesTurns m (machine_of m.script m.parts m.mirrors m.seats turns) a (notes_of_turn turns a (seat.answered + 1) (Idle ∷ []))
 idles m a seat turns here none count r h =
     let is : core_turn_in m.script r a ≡ record { events = []; whats = Idle ∷ [] } =
     ap (λ o. core_turn_by r.core (doer_of m.script a o) (r.places a).far o (waiting_in m.script r a)) (op_there m r a seat None h here none) in
@@ -165,7 +170,7 @@ waiting_is m a proc seat op waiting stand rest of_a here present is r h =
 
 pub waits : (m : MachineValue) (a : ℕ) (seat : Seat) (op : Op) (turns : ℕ) (waiting : Waiting) → slice_get m.seats a ≡ Some seat → op_of_seat m a seat ≡ Some op → turns ≡ counted m.turns
     → ((r : RunState) → Shows m r → Some waiting ≡ waiting_in m.script r a)
-    → TakesTurns m (machine_of m.script m.parts m.seats turns) a (notes_of_turn turns a (seat.answered + 1) (Wait waiting ∷ []))
+    → TakesTurns m (machine_of m.script m.parts m.mirrors m.seats turns) a (notes_of_turn turns a (seat.answered + 1) (Wait waiting ∷ []))
 waits m a seat op turns waiting here present count waiting_so r h =
     let is : core_turn_in m.script r a ≡ record { events = []; whats = Wait waiting ∷ [] } =
     ap (λ o. core_turn_by r.core (doer_of m.script a o) (r.places a).far o (waiting_in m.script r a)) (op_there m r a seat (Some op) h here present)
@@ -260,13 +265,23 @@ taken_is m r a op is none =
     ap (λ o. core_turn_by r.core (doer_of m.script a o) (r.places a).far o (waiting_in m.script r a)) is
     ∙ ap (λ w. core_turn_by r.core (doer_of m.script a (Some op)) (r.places a).far (Some op) w) none
 
-pub goes : (m : MachineValue) (a : ℕ) (proc : Option ℕ) (seat next : Seat) (op : Op) (parts : Parts) (seats : List Seat) (turns : ℕ) (said : Said) (job : JobPlace)
-    → Stand → IsAtRest m → IsProcessOf (doer_of m.script a (Some op)) proc → slice_get m.seats a ≡ Some seat → op_of_seat m a seat ≡ Some op → turns ≡ counted m.turns
+-- what the turns' law says of slots
+abbrev pub Empties : Type 0
+Empties = (script : ScriptValue) (actors : List ℕ) (a : ℕ) → IsScript script →
+    EmptiesSlots (turned script (run_start script) actors).core (op_in script (turned script (run_start script) actors) a) (core_turn_in script (turned script (run_start script) actors) a)
+
+empties_at : (m : MachineValue) (r : RunState) (a : ℕ) → Empties → IsScript m.script → Shows m r → EmptiesSlots r.core (op_in m.script r a) (core_turn_in m.script r a)
+empties_at m r a empties valid h =
+    subst (λ (x : RunState). EmptiesSlots x.core (op_in m.script x a) (core_turn_in m.script x a)) (sym h.reached.1) (empties m.script h.reached.0 a valid)
+
+pub goes : (m : MachineValue) (a : ℕ) (proc : Option ℕ) (seat next : Seat) (op : Op) (parts : Parts) (mirrors : List (Option Filled)) (seats : List Seat) (turns : ℕ) (said : Said) (job : JobPlace)
+    → Stand → Empties → IsAtRest m → IsProcessOf (doer_of m.script a (Some op)) proc → slice_get m.seats a ≡ Some seat → op_of_seat m a seat ≡ Some op → turns ≡ counted m.turns
     → ((r : RunState) → Shows m r → None ≡ waiting_in m.script r a)
     → next ≡ seat_behind seat op (is_some said.answer) job → slice_get seats a ≡ Some next → ((b : ℕ) → (b ≡ a → ⊥) → slice_get seats b ≡ slice_get m.seats b)
-    → IsTurnBy m.parts parts a proc seat.far op seat.job (whats_of said) job
-    → TakesTurns m (machine_of m.script parts seats turns) a (notes_of_turn turns a (seat.answered + 1) (whats_of said))
-goes m a proc seat next op parts seats turns said job stand rest of_a here present count ready next_is seated unseated turn r h =
+    → IsTurnWith (mirrors_of m.mirrors) m.parts parts a proc seat.far op seat.job (whats_of said) job
+    → TakesMirrors m.parts a proc seat.far op seat.job (mirrors_of m.mirrors) (mirrors_of mirrors)
+    → TakesTurns m (machine_of m.script parts mirrors seats turns) a (notes_of_turn turns a (seat.answered + 1) (whats_of said))
+goes m a proc seat next op parts mirrors seats turns said job stand empties rest of_a here present count ready next_is seated unseated turn slots r h =
     let far : ℕ = (r.places a).far in
     let who : Doer = doer_of m.script a (Some op) in
     let stands : IsStanding m.script r = standing m r stand rest.valid h in
@@ -276,10 +291,14 @@ goes m a proc seat next op parts seats turns said job stand rest of_a here prese
     let t : CoreTurn = turn_of r.core who far op in
     let is : core_turn_in m.script r a ≡ t = taken_is m r a op op_is (sym (ready r h)) in
     let forks = place_in r.core in
+    let shown : ShowsAll a op (all_view m.parts seat.job forks r.core.taken) r.core =
+    record { parts = h.parts; job = h.jobs a seat here; ends = ends_now op r.core.taken (λ handle page n want fast same. h.ends a handle page n want fast seat here (op_is ∙ ap (λ (o : Op). Some o) same)); others = λ b apart. refl; left = λ b apart. refl } in
+    let stands_with : StandsWith (mirrors_of m.mirrors) a who far op r.core =
+    record { free = record { sound = stands.sound; at = stands_at m.script r a op stands op_is; free = free }; mirrors = h.mirrors } in
     let led : Leads (ShowsAll a op) (all_view parts job forks r.core.taken) r.core t (whats_of said) =
-    turn who far forks r.core.taken refl of_a (rest.parts.slots a) at.1 r.core
-    (record { parts = h.parts; job = h.jobs a seat here; ends = ends_now op r.core.taken (λ handle page n want fast same. h.ends a handle page n want fast seat here (op_is ∙ ap (λ (o : Op). Some o) same)); others = λ b apart. refl; left = λ b apart. refl })
-    (record { sound = stands.sound; at = stands_at m.script r a op stands op_is; free = free }) in
+    turn who far forks r.core.taken refl of_a (rest.parts.slots a) at.1 r.core shown stands_with in
+    let emptied : EmptiesSlots r.core (Some op) t =
+    subst (EmptiesSlots r.core (Some op)) is (subst (λ (o : Option Op). EmptiesSlots r.core o (core_turn_in m.script r a)) op_is (empties_at m r a empties rest.valid h)) in
     let seated_so : slice_get seats a ≡ Some (seat_behind seat op (is_some said.answer) job) = seated ∙ ap (λ (s : Seat). Some s) next_is in
     let two : NoTwo (whats_of said) = subst (λ (ws : List What). NoTwo ws) led.says (turn_two (birth_for r.core.birth who) r.core a who.proc who.slots far op) in
     let reached : IsReached m.script (run_after m.script r a) = reached_behind m.script r a h.reached in
@@ -292,7 +311,7 @@ goes m a proc seat next op parts seats turns said job stand rest of_a here prese
     record {
       said = says_so m r a seat turns t (whats_of said) h here count is led.says;
       shown =
-          shows_behind m parts seats turns r a t is h count led.shown.parts
+          shows_behind m parts mirrors seats turns r a t is h count led.shown.parts (slots r.core who far forks r.core.taken refl of_a at.1 shown stands_with emptied)
           (seats_behind m.script r.places m.seats seats a (record { actor = a; whats = t.whats }) (seat_behind seat op (is_some said.answer) job) refl h.seats unseated seated_so
           (subst (λ (ws : List What). IsSeat (present_op m.script a (place_behind (r.places a) ws)) (place_behind (r.places a) ws) (seat_behind seat op (is_some said.answer) job)) (sym led.says)
           (seat_next m.script a (r.places a) seat op job said.event said.next said.answer op_is at two)))

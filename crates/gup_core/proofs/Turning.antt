@@ -40,7 +40,8 @@ use Rattle.gup_op_waits.specs.declared.births.Birth.{Birth}
 use Rattle.gup_op_waits.specs.Births.{birth_by}
 use Rattle.gup_op_waits.specs.declared.parts.Parts.{Parts}
 use Rattle.gup_op_waits.specs.Stands.{StandsAt}
-use Rattle.gup_core.specs.Goes.{ShowsAll, StandsFree, all_view, EndsAt, HasSlots}
+use Rattle.gup_core.specs.Goes.{ShowsAll, StandsFree, StandsWith, all_view, EndsAt, HasSlots}
+use Rattle.gup_notify.specs.Mirrors.{MirrorsValue}
 use Rattle.gup_op_waits.specs.Doers.{IsProcessOf}
 use Rattle.gup_op_waits.specs.Parts.{ShowsSpaces, IsBirth, ShowsBirths, ShowsTaken, ShowsStores, ShowsParts}
 use Rattle.gup_core.proofs.Owning.{AreOwn, are_of, turn_is_own, births_stay, IsUnforked, forks_stay, Pins, pins_of, own_leave_pins}
@@ -61,6 +62,17 @@ abbrev pub IsTurnBy : (old new : Parts) → (a : ℕ) → (proc : Option ℕ) �
 IsTurnBy old new a proc far op place whats next =
     (who : Doer) (k : ℕ) (others : ℕ → Place) (left : ℕ → List TakenPage) → who.actor ≡ a → IsProcessOf who proc → HasSlots old a who.slots → far ≡ far_in (Some op) k
     → IsTurnOf (ShowsAll a op) (StandsFree a who k op) (all_view old place others left) (all_view new next others left) (λ s. turn_of s who k op) whats
+
+-- the same from states that have these mirror slots
+abbrev pub IsTurnWith : MirrorsValue → (old new : Parts) → (a : ℕ) → (proc : Option ℕ) → (far : ℕ) → Op → (place : JobPlace) → List What → (next : JobPlace) → Type 0
+IsTurnWith mirrors old new a proc far op place whats next =
+    (who : Doer) (k : ℕ) (others : ℕ → Place) (left : ℕ → List TakenPage) → who.actor ≡ a → IsProcessOf who proc → HasSlots old a who.slots → far ≡ far_in (Some op) k
+    → IsTurnOf (ShowsAll a op) (StandsWith mirrors a who k op) (all_view old place others left) (all_view new next others left) (λ s. turn_of s who k op) whats
+
+-- so is a turn that asks for no slots
+pub with_mirrors : (mirrors : MirrorsValue) (old new : Parts) (a : ℕ) (proc : Option ℕ) (far : ℕ) (op : Op) (place : JobPlace) (whats : List What) (next : JobPlace) → IsTurnBy old new a proc far op place whats next → IsTurnWith mirrors old new a proc far op place whats next
+with_mirrors mirrors old new a proc far op place whats next turn who k others left own of_who slots far_is s shown stands =
+    turn who k others left own of_who slots far_is s shown stands.free
 
 -- a turn of a pin, by what is kept of its process and of what it has taken
 abbrev pub IsPinTurn : (old new : Parts) → (x y : SpaceParts) → (was now : ArrayVec ℕ) → (a : ℕ) → PinCall → (far : ℕ) → (place next : JobPlace) → List What → Type 0

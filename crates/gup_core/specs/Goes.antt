@@ -5,17 +5,22 @@ use Rattle.gup_base.specs.declared.entry.Want.{Want}
 use Rattle.gup_script.specs.Valid.{IsOp, made_by}
 use Rattle.gup_base.specs.declared.entry.Zone.{Zone}
 use Rattle.gup_script.specs.declared.op.Op.{Op}
-use Rattle.gup_script.specs.declared.op.Op.TheVariants.{Pin, Take, Move, Fork}
+use Rattle.gup_script.specs.declared.op.Op.TheVariants.{Pin, Take, Mirror, Look, Move, Fork}
 use Rattle.gup_frames.specs.Frames.{FramesValue, frames_of}
 use Rattle.gup_space.specs.Space.{SpaceParts, space_of}
 use Rattle.gup_handles.specs.Handles.{handles_of, unmade, IsGivenTo as IsKeptFor}
 use Rattle.gup_spec_events.specs.State.{CoreState, Taken}
 use Rattle.gup_law_base.specs.Sound.{IsSound}
 use Rattle.gup_spec_journal.specs.Place.{Doer}
+use Rattle.gup_spec_events.specs.Event.{run}
+use Rattle.gup_spec_turns.specs.Turn.{turn_of}
 use Rattle.gup_spec_turns.specs.Waits.{waiting_for}
+use Rattle.gup_law_turns.specs.Slots.{EmptiesSlots}
+use Rattle.gup_notify.specs.Mirrors.{MirrorsValue}
+use Rattle.gup_notify.specs.Shows.{ShowsMirrors}
 use Rattle.gup_spec_turns.specs.JobPlace.{JobPlace as Place, place_in}
 use Rattle.gup_op_base.specs.declared.jobs.JobPlace.{JobPlace}
-use Rattle.gup_op_base.specs.Far.{HasFar}
+use Rattle.gup_op_base.specs.Far.{HasFar, far_in}
 use Rattle.gup_op_base.specs.Jobs.{place_of}
 use Rattle.gup_op_fork.specs.Forked.{IsReadyAt}
 use Rattle.gup_op_pins.specs.Pins.{IsReferred, IsWeighed}
@@ -25,7 +30,7 @@ use Rattle.gup_op_pins.specs.Held.{slots_in}
 use Rattle.gup_op_base.specs.Tidy.{IsTidy, needs_table}
 use Rattle.gup_op_waits.specs.declared.births.Birth.{Birth}
 use Rattle.gup_op_waits.specs.declared.parts.Parts.{Parts}
-use Rattle.gup_op_waits.specs.Doers.{HasProcess}
+use Rattle.gup_op_waits.specs.Doers.{HasProcess, IsProcessOf}
 use Rattle.gup_op_waits.specs.Parts.{EachSpace, ShowsParts}
 use Rattle.gup_op_waits.specs.Stands.{StandsAt}
 
@@ -57,6 +62,24 @@ pub record StandsFree (a : ℕ) (who : Doer) (far : ℕ) (op : Op) (s : CoreStat
   pub sound : IsSound s
   pub at : StandsAt s a who.proc far op
   pub free : waiting_for s who far op ≡ None
+
+-- the same, where the state has these mirror slots
+pub record StandsWith (mirrors : MirrorsValue) (a : ℕ) (who : Doer) (far : ℕ) (op : Op) (s : CoreState) : Type 0 where
+  pub free : StandsFree a who far op s
+  pub mirrors : ShowsMirrors mirrors s
+
+-- From each such state a turn that empties the slots which it is to empty leads to one that has the new ones.
+abbrev pub TakesMirrors : (parts : Parts) → (a : ℕ) → (proc : Option ℕ) → (far : ℕ) → Op → JobPlace → (old new : MirrorsValue) → Type 0
+TakesMirrors parts a proc far op job old new =
+    (s : CoreState) (who : Doer) (k : ℕ) (others : ℕ → Place) (left : ℕ → List Taken) → who.actor ≡ a → IsProcessOf who proc
+    → far ≡ far_in (Some op) k → ShowsAll a op (all_view parts job others left) s → StandsWith old a who k op s
+    → EmptiesSlots s (Some op) (turn_of s who k op) → ShowsMirrors new (run s (turn_of s who k op).events)
+
+-- an operation that neither fills a mirror slot nor looks through one
+abbrev pub IsNoMirror : Op → Type 0
+IsNoMirror (Mirror mirror proc page) = ⊥
+IsNoMirror (Look mirror word) = ⊥
+IsNoMirror op = Unit {0}
 
 -- the store of the actor has so many slots
 abbrev pub HasSlots : Parts → (a slots : ℕ) → Type 0

@@ -1,5 +1,5 @@
 -- The machine, and the states of the core run that it shows.
-use Rattle.std.specs.Prelude.{◌≡◌, ℕ, ◌+◌, ◌-◌, ◌^◌, Bool, List, Some, length, min, slice_get}
+use Rattle.std.specs.Prelude.{◌≡◌, ℕ, ◌+◌, ◌-◌, ◌^◌, Bool, List, Option, Some, length, min, slice_get}
 use Rattle.gup_base.specs.declared.entry.Zone.{Zone}
 use Rattle.gup_plain.specs.Note.{NoteValue}
 use Rattle.gup_script.specs.Script.{ScriptValue}
@@ -17,16 +17,20 @@ use Rattle.gup_op_waits.specs.declared.parts.Parts.{Parts}
 use Rattle.gup_core.specs.declared.seats.Seat.{Seat}
 use Rattle.gup_core.specs.Seats.{IsSeat}
 use Rattle.gup_op_waits.specs.Parts.{ShowsParts, AreParts}
+use Rattle.gup_notify.specs.Mirrors.{Filled, mirrors_of}
+use Rattle.gup_notify.specs.Shows.{ShowsMirrors}
 
--- A machine: its script, the parts of it, the actors' seats, and how many turns are over.
+-- A machine: its script, the parts of it, the mirror slots, the actors' seats, and how many turns are over.
 pub record MachineValue : Type 0 where
   pub script : ScriptValue
   pub parts : Parts
+  pub mirrors : List (Option Filled)
   pub seats : List Seat
   pub turns : ℕ
 
-abbrev pub machine_of : ScriptValue → Parts → List Seat → (turns : ℕ) → MachineValue
-machine_of script parts seats turns = record { script = script; parts = parts; seats = seats; turns = turns }
+abbrev pub machine_of : ScriptValue → Parts → (mirrors : List (Option Filled)) → List Seat → (turns : ℕ) → MachineValue
+machine_of script parts mirrors seats turns =
+    record { script = script; parts = parts; mirrors = mirrors; seats = seats; turns = turns }
 
 -- the number of a turn stays at the last value of 32 bits
 abbrev pub counted : ℕ → ℕ
@@ -47,6 +51,7 @@ IsReached script r = (actors : List ℕ) × (r ≡ turned script (run_start scri
 pub record Shows (m : MachineValue) (r : RunState) : Type 0 where
   pub reached : IsReached m.script r
   pub parts : ShowsParts m.parts r.core
+  pub mirrors : ShowsMirrors (mirrors_of m.mirrors) r.core
   pub seats : (a : ℕ) (seat : Seat) → slice_get m.seats a ≡ Some seat → IsSeat (present_op m.script a (r.places a)) (r.places a) seat
   pub jobs : (a : ℕ) (seat : Seat) → slice_get m.seats a ≡ Some seat → place_of seat.job ≡ place_in r.core a
   pub ends : (a handle page n : ℕ) (want : Want) (fast : Bool) (seat : Seat) → slice_get m.seats a ≡ Some seat → present_op m.script a (r.places a) ≡ Some (Pin handle page n want fast) → EndAt (last_page seat.job) (r.core.taken a)

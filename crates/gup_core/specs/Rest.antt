@@ -9,7 +9,8 @@ use Rattle.gup_script.specs.declared.op.Op.TheVariants.{Pin, Fork, Move}
 use Rattle.gup_script.specs.Limits.{most_handles}
 use Rattle.gup_script.specs.Valid.{IsScript, made_by}
 use Rattle.gup_spec_journal.specs.Place.{ops_of, process_of}
-use Rattle.gup_frames.specs.Frames.{FramesValue, frames_of}
+use Rattle.gup_frames.specs.Frames.{FramesValue, frames_of, IsFrame}
+use Rattle.gup_notify.specs.Mirrors.{Filled, mirrors_of}
 use Rattle.gup_space.specs.Space.{SpaceValue, SpaceParts, space_of}
 use Rattle.gup_handles.specs.Handles.{handles_of, unmade}
 use Rattle.gup_spec_events.specs.Event.{bias}
@@ -46,7 +47,7 @@ IsReadyPin frames taken page n want a place space = ⊥
 -- actor that does no fork and no move holds no lock, what a fork has counted it can share or copy, a page that a move has cleared
 -- is mapped, and what a pin has taken are its first pages. No actor has answered more operations than it has, and one that
 -- goes over pages or words stands at one of them, a pin at one of its turns. Pins have the weight of their pages and references that of theirs,
--- and no handle is made before its operation.
+-- and no handle is made before its operation. The frame of a filled mirror slot is there.
 pub record IsAtRest (m : MachineValue) : Type 0 where
   pub valid : IsScript m.script
   pub parts : AreParts m.script m.parts
@@ -61,6 +62,7 @@ pub record IsAtRest (m : MachineValue) : Type 0 where
   pub far : (a : ℕ) (seat : Seat) (op : Op) → slice_get m.seats a ≡ Some seat → op_of_seat m a seat ≡ Some op → HasFar op seat.far
   pub weighed : (h : ℕ) → IsWeighed (frames_of m.parts.frames) (handles_of m.parts.handles h)
   pub referred : (h : ℕ) → IsReferred (frames_of m.parts.frames) (handles_of m.parts.handles h)
+  pub mirrored : (slot : ℕ) (filled : Filled) → mirrors_of m.mirrors slot ≡ Some filled → IsFrame (frames_of m.parts.frames) filled.frame
   pub yet : (a handle : ℕ) (op : Op) (seat : Seat) → slice_get m.seats a ≡ Some seat → op_of_seat m a seat ≡ Some op → made_by op ≡ Some handle → handles_of m.parts.handles handle ≡ unmade
   pub taken : (a handle page n : ℕ) (want : Want) (fast : Bool) (seat : Seat) (pages : ArrayVec ℕ) → slice_get m.seats a ≡ Some seat → slice_get m.parts.taken.items a ≡ Some pages → op_of_seat m a seat ≡ Some (Pin handle page n want fast) → IsWithinPin n (length pages.items) (place_of seat.job)
   pub pins : (a handle page n : ℕ) (want : Want) (fast : Bool) (seat : Seat) (space : SpaceParts) (pages : ArrayVec ℕ) → slice_get m.seats a ≡ Some seat → op_of_seat m a seat ≡ Some (Pin handle page n want fast) → slice_get m.parts.spaces.items (process_of m.script a) ≡ Some space → slice_get m.parts.taken.items a ≡ Some pages → IsReadyPin (frames_of m.parts.frames) pages.items (page + length pages.items) n want a (place_of seat.job) (space_of space)

@@ -1,4 +1,4 @@
-//! The machine but for what it keeps of notes: its script and parts, and where each actor stands.
+//! The machine but for what it keeps of notes: its script and parts, the mirror slots, and where each actor stands.
 ghost use Rattle.std.specs.Prelude.{◌≡◌, ℕ, ◌+◌, ◌<◌, ◌≤◌, [], ◌∷◌, length, slice_get, Some, IfOk, IsTrue, false};
 ghost use Rattle.gup_spec_journal.specs.Place.{has_finished};
 ghost use Rattle.gup_spec_turns.specs.Run.{RunState, waiting_in};
@@ -13,9 +13,11 @@ ghost use Rattle.gup_core.specs.Rest.{IsAtRest};
 use crate::copies::{copy_at, seat_after, take_copy};
 use crate::outcome::{Advanced, Woken, woken_by};
 use crate::seats::{self, Seat, seat_of, set_seat};
-use crate::takes::{take_at, waits_at};
+use crate::slots::take_turn;
+use crate::takes::waits_at;
 use crate::turns::{next_turn, op_at, ops, process};
 use gup_base::{ActorNo, NoMemory, Zone};
+use gup_notify::Mirrors;
 use gup_op_base::{Head, JobPlace};
 use gup_op_waits::parts::{self, Parts};
 use gup_plain::{Journal, Waiting, What};
@@ -28,6 +30,7 @@ use std::marker::Model;
 pub(crate) struct Inner {
     script: Script,
     parts: Parts,
+    mirrors: Mirrors,
     seats: Vec<Seat>,
     turns: u32,
 }
@@ -40,6 +43,7 @@ impl Model for Inner {
     ghost view = { λ m. record {
       script = m.script;
       parts = m.parts;
+      mirrors = m.mirrors;
       seats = m.seats.items;
       turns = m.turns;
     } };
@@ -47,6 +51,7 @@ impl Model for Inner {
     ghost invariant = { λ m. IsMachine (record {
       script = m.script;
       parts = m.parts;
+      mirrors = m.mirrors;
       seats = m.seats.items;
       turns = m.turns;
     }) };
@@ -58,10 +63,12 @@ impl Inner {
         ensures { IfOk result (IsNew script) }
     {
         let parts = parts::first(alloc, &script)?;
+        let mirrors = Mirrors::new(alloc)?;
         let seats = seats::first(alloc, script.actors())?;
         Ok(Inner {
             script,
             parts,
+            mirrors,
             seats,
             turns: 0,
         })
@@ -114,6 +121,7 @@ impl Inner {
     {
         self.rests();
         gup_law_turns::reached_states_stand();
+        gup_law_turns::turns_empty_slots();
         let seat = self.seat(actor);
         let Some(op) = op_at(ops(&self.script, actor), seat.answered) else {
             return false;
@@ -147,6 +155,7 @@ impl Inner {
     {
         self.rests();
         gup_law_turns::reached_states_stand();
+        gup_law_turns::turns_empty_slots();
         let seat = self.seat(actor);
         let Some(op) = op_at(ops(&self.script, actor), seat.answered) else {
             return Advanced::Finished;
@@ -168,8 +177,9 @@ impl Inner {
             op: seat.answered + 1,
         };
         let here = &mut self.seats[actor.get() as usize];
-        let over = take_at(
+        let over = take_turn(
             &mut self.parts,
+            &mut self.mirrors,
             journal,
             &head,
             proc,

@@ -1,5 +1,5 @@
 //! The machine for many processes, threads and devices: it takes the turns of a script's core run, on frames, processes,
-//! pins and stores that take no more memory than they had at the start.
+//! pins, stores and mirror slots that take no more memory than they had at the start.
 #![tactic(auto)]
 
 mod copies;
@@ -7,6 +7,7 @@ mod inner;
 mod machine;
 mod outcome;
 mod seats;
+mod slots;
 mod takes;
 mod turn;
 mod turns;

@@ -33,7 +33,7 @@ ghost use Rattle.gup_op_waits.specs.Births.{HasFailed, birth_by};
 ghost use Rattle.gup_op_waits.specs.Doers.{HasProcess, IsProcessOf};
 ghost use Rattle.gup_op_waits.specs.Parts.{EachSpace, ShowsBirths, ShowsParts};
 ghost use Rattle.gup_op_waits.specs.Stands.{StandsAt};
-ghost use Rattle.gup_core.specs.Goes.{ShowsAll, StandsFree, all_view, IsReady, IsForkReady, IsSingle, HasSlots, KeepsSlots};
+ghost use Rattle.gup_core.specs.Goes.{ShowsAll, StandsFree, all_view, IsReady, IsForkReady, IsSingle, IsNoMirror, HasSlots, KeepsSlots};
 ghost use Rattle.gup_op_waits.specs.Locks.{child_in};
 
 use crate::seats::Seat;
@@ -45,7 +45,7 @@ use gup_op_fork::{Forked, fork};
 use gup_op_move::take_move;
 use gup_op_pages::take;
 use gup_op_pins::{PinCall, get, give, pin, put, take_over, unpin};
-use gup_op_waits::{Birth, Parts, child_of, has_failed, set_birth, waits_for};
+use gup_op_waits::{Birth, Parts, child_of, set_birth, waits_for};
 use gup_plain::{Answer, Journal, PlainEvent, Waiting};
 use gup_script::Op;
 use gup_space::Space;
@@ -71,9 +71,9 @@ pub fn waits_at(
     waits_for(parts, actor, proc, seat.far, seat.job, op)
 }
 
-/// Takes a turn of the operation, which has come so far, of whose actor the job stands there, and which is of this process if it
-/// is of one. It puts the notes on at the journal's end, leaves the job where it stands then, and answers whether the operation
-/// is over. Where the process has failed, the operation is refused.
+/// Takes a turn of the operation, which has come so far, of whose actor the job stands there, and which is of this process, that
+/// hasn't failed, if it is of one. It puts the notes on at the journal's end, leaves the job where it stands then, and answers
+/// whether the operation is over. The operation neither fills a mirror slot nor looks through one.
 #[inline(always)]
 pub fn take_at(
     parts: &mut Parts,
@@ -87,8 +87,9 @@ pub fn take_at(
     requires process { HasProcess op.now → IsSome proc }
     requires birth { IfSome proc (λ p. p < length parts.old.births.items) }
     requires child { (child : ℕ) → op.now ≡ Fork child → child < length parts.old.births.items }
-    requires ready { (p : ℕ) → (HasFailed parts.old.births.items proc → ⊥) → IfSome proc (λ q. q ≡ p)
-        → IsReady parts.old head.now.actor p op.now far job.old }
+    requires unfailed { HasFailed parts.old.births.items proc → ⊥ }
+    requires ready { (p : ℕ) → IfSome proc (λ q. q ≡ p) → IsReady parts.old head.now.actor p op.now far job.old }
+    requires apart { IsNoMirror op.now }
     requires room { 3 ≤ journal.old.room }
     ensures spaces { length parts.new.spaces.items ≡ length parts.old.spaces.items }
     ensures births { length parts.new.births.items ≡ length parts.old.births.items }
@@ -102,10 +103,6 @@ pub fn take_at(
         (all_view parts.old job.old others left) (all_view parts.new job.new others left)
         (λ s. turn_of s who k op.now) (whats_of said)) }
 {
-    if has_failed(&parts.births, &proc) {
-        refuse(&mut parts.births, journal, head, op);
-        return true;
-    }
     if let Some(child) = child_of(op) {
         let (over, next) = take_fork(parts, journal, head, proc.unwrap(), child, *job);
         *job = next;
@@ -139,9 +136,9 @@ pub fn take_at(
     take_single(parts, journal, head, proc, far, op)
 }
 
-// Refuses an operation of a failed process. The child of a fork fails too.
+/// Refuses an operation of a failed process. The child of a fork fails too.
 #[inline(never)]
-fn refuse(births: &mut Vec<Birth>, journal: &mut Journal, head: &Head, op: &Op)
+pub fn refuse(births: &mut Vec<Birth>, journal: &mut Journal, head: &Head, op: &Op)
     requires child { (child : ℕ) → op.now ≡ Fork child → child < length births.old.items }
     requires room { 3 ≤ journal.old.room }
     ensures births { length births.new.items ≡ length births.old.items }
@@ -171,6 +168,7 @@ fn take_single(
     requires ready { (p : ℕ) → IfSome proc (λ q. q ≡ p)
         → (place : JobPlace) × IsReady parts.old head.now.actor p op.now far place }
     requires single { IsSingle op.now }
+    requires apart { IsNoMirror op.now }
     requires room { 3 ≤ journal.old.room }
     ensures spaces { length parts.new.spaces.items ≡ length parts.old.spaces.items }
     ensures births { length parts.new.births.items ≡ length parts.old.births.items }

@@ -31,17 +31,17 @@ pub fn ops(script: &Script, actor: ActorNo) -> &[Op]
     script.ops(actor)
 }
 
-/// The process of this operation of the actor: that of a thread, and the one that a move names. Operations of devices are of
-/// none.
+/// The process of this operation of the actor: that of a thread, and the one that a move or a mirror names. What a device does
+/// by itself is of none.
 #[inline(always)]
 pub fn process(script: &Script, actor: ActorNo, op: &Op) -> Option<ProcNo>
     requires { actor < length script.now.actors }
     ensures { IsProcessOf (doer_of script.now actor (Some op.now)) result }
 {
-    if let Op::Move { proc, .. } = op {
-        return Some(*proc);
+    match op {
+        Op::Move { proc, .. } | Op::Mirror { proc, .. } => Some(*proc),
+        _ => process_named(script.kind(actor)),
     }
-    process_named(script.kind(actor))
 }
 
 fn process_named(kind: Kind) -> Option<ProcNo>

@@ -134,11 +134,11 @@ module _ (s : CoreState) (a p : ℕ) where
 
   -- ---- pins that are made, and references
 
-  unpinned_none : (held : Bool) (handle : ℕ) → Invalidates s (unpin_turn_by held a handle (s.pinned handle)).events None
+  pub unpinned_none : (held : Bool) (handle : ℕ) → Invalidates s (unpin_turn_by held a handle (s.pinned handle)).events None
   unpinned_none true handle q g some = refl
   unpinned_none false handle q g some = refl
 
-  given_none : (held : Bool) (handle to : ℕ) → Invalidates s (give_turn_by held a handle to).events None
+  pub given_none : (held : Bool) (handle to : ℕ) → Invalidates s (give_turn_by held a handle to).events None
   given_none true handle to q g some = refl
   given_none false handle to q g some = refl
 
@@ -146,7 +146,7 @@ module _ (s : CoreState) (a p : ℕ) where
   put_none true handle q g some = refl
   put_none false handle q g some = refl
 
-  transferred : (denied : Option Answer) (handle : ℕ) (outward last : Bool) (index slot : ℕ) → Invalidates s (transfer_turn_by denied s a handle outward last index slot).events None
+  pub transferred : (denied : Option Answer) (handle : ℕ) (outward last : Bool) (index slot : ℕ) → Invalidates s (transfer_turn_by denied s a handle outward last index slot).events None
   transferred (Some denied) handle outward last index slot q g some = refl
   transferred None handle true last index slot q g some = refl
   transferred None handle false last index slot q g some = refl
@@ -183,7 +183,7 @@ module _ (s : CoreState) (a p : ℕ) where
   next_none c done None = λ q g some. refl
   next_none c done (Some page) = passed c done page (s.entry p page)
 
-  forked : (c : ℕ) (job : Job) → Invalidates s (fork_turn s a p c job).events (range_from p 1 (shared_in job))
+  pub forked : (c : ℕ) (job : Job) → Invalidates s (fork_turn s a p c job).events (range_from p 1 (shared_in job))
   forked c (forking q d done between) = next_none c done (next_page (s.right c) done)
   forked c (forking q d done (counted page)) = λ r g some. or-false (has_page (one_page p page) r g)
   forked c (forking q d done (copying page word)) = copying_none c done page word (s.prepared a)

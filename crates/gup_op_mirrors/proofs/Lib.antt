@@ -1,3 +1,4 @@
 pub mod FreeFrames
 pub mod MappedPages
 pub mod StandingPlaces
+pub mod EmptiedSlots

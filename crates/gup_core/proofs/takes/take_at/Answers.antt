@@ -11,39 +11,24 @@ use Rattle.gup_core.proofs.Turning.{IsTurnAmong, pinned}
 use Rattle.gup_op_waits.proofs.Waits.{forks_into}
 use Rattle.gup_core.proofs.takes.take_at.Goals as goal
 
--- ---- of a failed process
-
-pub returns-then-has_failed-clause-turn : goal.returns-then-has_failed-clause-turn
-returns-then-has_failed-clause-turn c =
-    let a = c.args in
-    let old = a.parts.now in
-    let new : Parts = record old { births = c.refuse.new.births } in
-    let told = c.refuse.ensures.turn in
-    record {
-      said = told.said;
-      tells = told.tells;
-      ends = told.ends;
-      is_so = refused old new a.head.now.actor a.proc a.far a.op.now a.job.now (whats_of told.said) (c.has_failed.ensures.failed c.if-has_failed.true) refl refl refl refl refl told.is_so;
-    }
-
 -- ---- a fork
 
 pub take_fork-over-requires-clause-there : goal.take_fork-over-requires-clause-there
 take_fork-over-requires-clause-there c =
-    let ready = c.requires.ready c.unwrap.result (λ has. absurd (cc (c.has_failed.ensures.other has))) (process_is c.args.proc c.unwrap.result c.unwrap.ensures) in
+    let ready = c.requires.ready c.unwrap.result (process_is c.args.proc c.unwrap.result c.unwrap.ensures) in
     ready.there (subst HasProcess (sym (forks_into c.args.op.now c.in-Some.child (sym c.child_of.ensures ∙ c.in-Some.is))) tt)
 
 pub take_fork-over-requires-clause-tidy : goal.take_fork-over-requires-clause-tidy
 take_fork-over-requires-clause-tidy c =
-    (c.requires.ready c.unwrap.result (λ has. absurd (cc (c.has_failed.ensures.other has))) (process_is c.args.proc c.unwrap.result c.unwrap.ensures)).tidy
+    (c.requires.ready c.unwrap.result (process_is c.args.proc c.unwrap.result c.unwrap.ensures)).tidy
 
 pub take_fork-over-requires-clause-few_counts : goal.take_fork-over-requires-clause-few_counts
 take_fork-over-requires-clause-few_counts c =
-    (c.requires.ready c.unwrap.result (λ has. absurd (cc (c.has_failed.ensures.other has))) (process_is c.args.proc c.unwrap.result c.unwrap.ensures)).few_counts
+    (c.requires.ready c.unwrap.result (process_is c.args.proc c.unwrap.result c.unwrap.ensures)).few_counts
 
 pub take_fork-over-requires-clause-fork : goal.take_fork-over-requires-clause-fork
 take_fork-over-requires-clause-fork c =
-    let ready = c.requires.ready c.unwrap.result (λ has. absurd (cc (c.has_failed.ensures.other has))) (process_is c.args.proc c.unwrap.result c.unwrap.ensures) in
+    let ready = c.requires.ready c.unwrap.result (process_is c.args.proc c.unwrap.result c.unwrap.ensures) in
     ready.fork c.in-Some.child (forks_into c.args.op.now c.in-Some.child (sym c.child_of.ensures ∙ c.in-Some.is))
 
 pub returns-in-Some-clause-turn : goal.returns-in-Some-clause-turn
@@ -59,7 +44,7 @@ returns-in-Some-clause-turn c =
       ends = told.ends;
       is_so =
           of_born a.parts.now t.new.parts actor a.proc a.far a.op.now a.job.now t.result.1 (whats_of told.said)
-          (λ has. absurd (cc (c.has_failed.ensures.other has))) c.requires.birth
+          c.requires.unfailed c.requires.birth
           (λ p slots of_p has.
           subst (λ (q : ℕ). IsTurnAmong a.parts.now t.new.parts actor q slots a.far a.op.now a.job.now (whats_of told.said) t.result.1) (some_is a.proc c.unwrap.result p c.unwrap.ensures of_p)
           (subst (λ (op : Op). IsTurnAmong a.parts.now t.new.parts actor c.unwrap.result slots a.far op a.job.now (whats_of told.said) t.result.1) (sym is) (λ k rest left far_is. told.is_so slots k rest left)));
@@ -69,17 +54,17 @@ returns-in-Some-clause-turn c =
 
 pub move_page-over-requires-clause-there : goal.move_page-over-requires-clause-there
 move_page-over-requires-clause-there c =
-    let ready = c.requires.ready c.unwrap-in-Move.result (λ has. absurd (cc (c.has_failed.ensures.other has))) (process_is c.args.proc c.unwrap-in-Move.result c.unwrap-in-Move.ensures) in
+    let ready = c.requires.ready c.unwrap-in-Move.result (process_is c.args.proc c.unwrap-in-Move.result c.unwrap-in-Move.ensures) in
     ready.there (subst HasProcess (sym c.in-Move.is) tt)
 
 pub move_page-over-requires-clause-tidy : goal.move_page-over-requires-clause-tidy
 move_page-over-requires-clause-tidy c =
-    (c.requires.ready c.unwrap-in-Move.result (λ has. absurd (cc (c.has_failed.ensures.other has))) (process_is c.args.proc c.unwrap-in-Move.result c.unwrap-in-Move.ensures)).tidy
+    (c.requires.ready c.unwrap-in-Move.result (process_is c.args.proc c.unwrap-in-Move.result c.unwrap-in-Move.ensures)).tidy
 
 pub move_page-over-requires-clause-ready : goal.move_page-over-requires-clause-ready
 move_page-over-requires-clause-ready c space here =
     let move = c.in-Move in
-    let ready = c.requires.ready c.unwrap-in-Move.result (λ has. absurd (cc (c.has_failed.ensures.other has))) (process_is c.args.proc c.unwrap-in-Move.result c.unwrap-in-Move.ensures) in
+    let ready = c.requires.ready c.unwrap-in-Move.result (process_is c.args.proc c.unwrap-in-Move.result c.unwrap-in-Move.ensures) in
     ready.move move.proc move.page move.zone space move.is here
 
 pub returns-in-Move-clause-turn : goal.returns-in-Move-clause-turn
@@ -96,7 +81,7 @@ returns-in-Move-clause-turn c =
       ends = told.ends;
       is_so =
           of_born a.parts.now t.new.parts actor a.proc a.far a.op.now a.job.now t.result.1 (whats_of told.said)
-          (λ has. absurd (cc (c.has_failed.ensures.other has))) c.requires.birth
+          c.requires.unfailed c.requires.birth
           (λ p slots of_p has.
           subst (λ (q : ℕ). IsTurnAmong a.parts.now t.new.parts actor q slots a.far a.op.now a.job.now (whats_of told.said) t.result.1) (some_is a.proc of p c.unwrap-in-Move.ensures of_p)
           (subst (λ (op : Op). IsTurnAmong a.parts.now t.new.parts actor of slots a.far op a.job.now (whats_of told.said) t.result.1) (sym move.is) (λ k rest left far_is. told.is_so move.proc slots k rest left)));
@@ -107,61 +92,61 @@ returns-in-Move-clause-turn c =
 pub take_pin-over-requires-clause-there : goal.take_pin-over-requires-clause-there
 take_pin-over-requires-clause-there c =
     let pin = c.in-Pin in
-    let ready = c.requires.ready c.unwrap-in-Pin.result (λ has. absurd (cc (c.has_failed.ensures.other has))) (process_is c.args.proc c.unwrap-in-Pin.result c.unwrap-in-Pin.ensures) in
+    let ready = c.requires.ready c.unwrap-in-Pin.result (process_is c.args.proc c.unwrap-in-Pin.result c.unwrap-in-Pin.ensures) in
     ready.there (subst HasProcess (sym pin.is) tt)
 
 pub take_pin-over-requires-clause-actor : goal.take_pin-over-requires-clause-actor
 take_pin-over-requires-clause-actor c =
     let pin = c.in-Pin in
-    let ready = c.requires.ready c.unwrap-in-Pin.result (λ has. absurd (cc (c.has_failed.ensures.other has))) (process_is c.args.proc c.unwrap-in-Pin.result c.unwrap-in-Pin.ensures) in
+    let ready = c.requires.ready c.unwrap-in-Pin.result (process_is c.args.proc c.unwrap-in-Pin.result c.unwrap-in-Pin.ensures) in
     ready.actor_taken
 
 pub take_pin-over-requires-clause-tidy : goal.take_pin-over-requires-clause-tidy
 take_pin-over-requires-clause-tidy c =
     let pin = c.in-Pin in
-    let ready = c.requires.ready c.unwrap-in-Pin.result (λ has. absurd (cc (c.has_failed.ensures.other has))) (process_is c.args.proc c.unwrap-in-Pin.result c.unwrap-in-Pin.ensures) in
+    let ready = c.requires.ready c.unwrap-in-Pin.result (process_is c.args.proc c.unwrap-in-Pin.result c.unwrap-in-Pin.ensures) in
     ready.tidy
 
 pub take_pin-over-requires-clause-ready : goal.take_pin-over-requires-clause-ready
 take_pin-over-requires-clause-ready c space pages here taken =
     let pin = c.in-Pin in
-    let ready = c.requires.ready c.unwrap-in-Pin.result (λ has. absurd (cc (c.has_failed.ensures.other has))) (process_is c.args.proc c.unwrap-in-Pin.result c.unwrap-in-Pin.ensures) in
+    let ready = c.requires.ready c.unwrap-in-Pin.result (process_is c.args.proc c.unwrap-in-Pin.result c.unwrap-in-Pin.ensures) in
     ready.pin space pages pin.handle pin.page pin.n pin.want pin.fast pin.is here taken
 
 pub take_pin-over-requires-clause-few : goal.take_pin-over-requires-clause-few
 take_pin-over-requires-clause-few c =
     let pin = c.in-Pin in
-    let ready = c.requires.ready c.unwrap-in-Pin.result (λ has. absurd (cc (c.has_failed.ensures.other has))) (process_is c.args.proc c.unwrap-in-Pin.result c.unwrap-in-Pin.ensures) in
+    let ready = c.requires.ready c.unwrap-in-Pin.result (process_is c.args.proc c.unwrap-in-Pin.result c.unwrap-in-Pin.ensures) in
     ready.few_counts
 
 pub take_pin-over-requires-clause-unmade : goal.take_pin-over-requires-clause-unmade
 take_pin-over-requires-clause-unmade c =
     let pin = c.in-Pin in
-    let ready = c.requires.ready c.unwrap-in-Pin.result (λ has. absurd (cc (c.has_failed.ensures.other has))) (process_is c.args.proc c.unwrap-in-Pin.result c.unwrap-in-Pin.ensures) in
+    let ready = c.requires.ready c.unwrap-in-Pin.result (process_is c.args.proc c.unwrap-in-Pin.result c.unwrap-in-Pin.ensures) in
     ready.yet pin.handle (ap made_by pin.is)
 
 pub take_pin-over-requires-clause-taken : goal.take_pin-over-requires-clause-taken
 take_pin-over-requires-clause-taken c pages here =
     let pin = c.in-Pin in
-    let ready = c.requires.ready c.unwrap-in-Pin.result (λ has. absurd (cc (c.has_failed.ensures.other has))) (process_is c.args.proc c.unwrap-in-Pin.result c.unwrap-in-Pin.ensures) in
+    let ready = c.requires.ready c.unwrap-in-Pin.result (process_is c.args.proc c.unwrap-in-Pin.result c.unwrap-in-Pin.ensures) in
     ready.taken pages pin.handle pin.page pin.n pin.want pin.fast here pin.is
 
 pub take_pin-over-requires-clause-some : goal.take_pin-over-requires-clause-some
 take_pin-over-requires-clause-some c =
     let pin = c.in-Pin in
-    let ready = c.requires.ready c.unwrap-in-Pin.result (λ has. absurd (cc (c.has_failed.ensures.other has))) (process_is c.args.proc c.unwrap-in-Pin.result c.unwrap-in-Pin.ensures) in
+    let ready = c.requires.ready c.unwrap-in-Pin.result (process_is c.args.proc c.unwrap-in-Pin.result c.unwrap-in-Pin.ensures) in
     (subst (λ (op : Op). IsOp op) pin.is ready.in_range).0
 
 pub take_pin-over-requires-clause-most : goal.take_pin-over-requires-clause-most
 take_pin-over-requires-clause-most c =
     let pin = c.in-Pin in
-    let ready = c.requires.ready c.unwrap-in-Pin.result (λ has. absurd (cc (c.has_failed.ensures.other has))) (process_is c.args.proc c.unwrap-in-Pin.result c.unwrap-in-Pin.ensures) in
+    let ready = c.requires.ready c.unwrap-in-Pin.result (process_is c.args.proc c.unwrap-in-Pin.result c.unwrap-in-Pin.ensures) in
     (subst (λ (op : Op). IsOp op) pin.is ready.in_range).1
 
 pub take_pin-over-requires-clause-range : goal.take_pin-over-requires-clause-range
 take_pin-over-requires-clause-range c =
     let pin = c.in-Pin in
-    let ready = c.requires.ready c.unwrap-in-Pin.result (λ has. absurd (cc (c.has_failed.ensures.other has))) (process_is c.args.proc c.unwrap-in-Pin.result c.unwrap-in-Pin.ensures) in
+    let ready = c.requires.ready c.unwrap-in-Pin.result (process_is c.args.proc c.unwrap-in-Pin.result c.unwrap-in-Pin.ensures) in
     (subst (λ (op : Op). IsOp op) pin.is ready.in_range).2
 
 pub returns-in-Pin-clause-turn : goal.returns-in-Pin-clause-turn
@@ -172,14 +157,14 @@ returns-in-Pin-clause-turn c =
     let told = t.ensures.turn in
     let pin = c.in-Pin in
     let of = c.unwrap-in-Pin.result in
-    let ready = c.requires.ready c.unwrap-in-Pin.result (λ has. absurd (cc (c.has_failed.ensures.other has))) (process_is c.args.proc c.unwrap-in-Pin.result c.unwrap-in-Pin.ensures) in
+    let ready = c.requires.ready c.unwrap-in-Pin.result (process_is c.args.proc c.unwrap-in-Pin.result c.unwrap-in-Pin.ensures) in
     record {
       said = told.said;
       tells = told.tells;
       ends = told.ends;
       is_so =
           of_born a.parts.now t.new.parts actor a.proc a.far a.op.now a.job.now t.result.1 (whats_of told.said)
-          (λ has. absurd (cc (c.has_failed.ensures.other has))) c.requires.birth
+          c.requires.unfailed c.requires.birth
           (λ p slots of_p has.
           subst (λ (q : ℕ). IsTurnAmong a.parts.now t.new.parts actor q slots a.far a.op.now a.job.now (whats_of told.said) t.result.1) (some_is a.proc of p c.unwrap-in-Pin.ensures of_p)
           (subst (λ (op : Op). IsTurnAmong a.parts.now t.new.parts actor of slots a.far op a.job.now (whats_of told.said) t.result.1) (sym pin.is)
@@ -193,7 +178,7 @@ pub take_single-requires-clause-single : goal.take_single-requires-clause-single
 take_single-requires-clause-single c = single_op c.args.op.now (sym c.child_of.ensures ∙ c.in_default.is) c.in_default-op.not-Move c.in_default-op-2.not-Pin
 
 pub take_single-requires-clause-ready : goal.take_single-requires-clause-ready
-take_single-requires-clause-ready c p of_p = (c.args.job.now, c.requires.ready p (λ has. absurd (cc (c.has_failed.ensures.other has))) of_p)
+take_single-requires-clause-ready c p of_p = (c.args.job.now, c.requires.ready p of_p)
 
 pub returns-clause-turn : goal.returns-clause-turn
 returns-clause-turn c =
@@ -205,5 +190,5 @@ returns-clause-turn c =
       ends = told.ends;
       is_so =
           of_born a.parts.now c.take_single.new.parts a.head.now.actor a.proc a.far a.op.now a.job.now a.job.now (whats_of told.said)
-          (λ has. absurd (cc (c.has_failed.ensures.other has))) c.requires.birth (λ p slots of_p has. told.is_so p slots a.job.now of_p has);
+          c.requires.unfailed c.requires.birth (λ p slots of_p has. told.is_so p slots a.job.now of_p has);
     }

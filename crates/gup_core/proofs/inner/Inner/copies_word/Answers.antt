@@ -29,7 +29,7 @@ pub overflow_add-head : goal.overflow_add-head
 overflow_add-head c =
     let i = c.self.inside in
     let a = c.args.actor in
-    let m = machine_of i.script i.parts i.seats.items i.turns in
+    let m = machine_of i.script i.parts i.mirrors i.seats.items i.turns in
     let seat = c.seat-seat.result in
     let rest = subst (λ (x : MachineValue). IsAtRest x) (sym c.self.view_is) c.rests.ensures in
     let here = subst (λ (x : MachineValue). slice_get x.seats a ≡ Some seat) (sym c.self.view_is) c.seat-seat.ensures in
@@ -40,7 +40,7 @@ pub take_copy-requires-clause-there : goal.take_copy-requires-clause-there
 take_copy-requires-clause-there c =
     let i = c.self.inside in
     let a = c.args.actor in
-    let m = machine_of i.script i.parts i.seats.items i.turns in
+    let m = machine_of i.script i.parts i.mirrors i.seats.items i.turns in
     let seat = c.seat-seat.result in
     let rest = subst (λ (x : MachineValue). IsAtRest x) (sym c.self.view_is) c.rests.ensures in
     let here = subst (λ (x : MachineValue). slice_get x.seats a ≡ Some seat) (sym c.self.view_is) c.seat-seat.ensures in
@@ -59,7 +59,7 @@ pub take_copy-requires-clause-fork : goal.take_copy-requires-clause-fork
 take_copy-requires-clause-fork c =
     let i = c.self.inside in
     let a = c.args.actor in
-    let m = machine_of i.script i.parts i.seats.items i.turns in
+    let m = machine_of i.script i.parts i.mirrors i.seats.items i.turns in
     let seat = c.seat-seat.result in
     let rest = subst (λ (x : MachineValue). IsAtRest x) (sym c.self.view_is) c.rests.ensures in
     let here = subst (λ (x : MachineValue). slice_get x.seats a ≡ Some seat) (sym c.self.view_is) c.seat-seat.ensures in
@@ -72,13 +72,13 @@ take_copy-requires-clause-fork c =
     subst (λ (job : JobPlace). IsForkReady (frames_of i.parts.frames) i.parts.spaces.items i.parts.births.items a copy.proc copy.child job) is.stands
     (free.turn.fork copy.child is.is_fork)
 
-turn-taken : (c : goal.After-self-1) → TakesTurns (machine_of c.self.inside.script c.self.inside.parts c.self.inside.seats.items c.self.inside.turns)
-    (machine_of c.self.inside.script c.take_copy.new.parts c.set_seat.new.seats.items c.next_turn-turn.result) c.args.actor
+turn-taken : (c : goal.After-self-1) → TakesTurns (machine_of c.self.inside.script c.self.inside.parts c.self.inside.mirrors c.self.inside.seats.items c.self.inside.turns)
+    (machine_of c.self.inside.script c.take_copy.new.parts c.self.inside.mirrors c.set_seat.new.seats.items c.next_turn-turn.result) c.args.actor
     (notes_of_turn c.next_turn-turn.result c.args.actor (c.seat-seat.result.answered + 1) (whats_of c.take_copy.ensures.turn.said))
 turn-taken c =
     let i = c.self.inside in
     let a = c.args.actor in
-    let m = machine_of i.script i.parts i.seats.items i.turns in
+    let m = machine_of i.script i.parts i.mirrors i.seats.items i.turns in
     let seat = c.seat-seat.result in
     let rest = subst (λ (x : MachineValue). IsAtRest x) (sym c.self.view_is) c.rests.ensures in
     let here = subst (λ (x : MachineValue). slice_get x.seats a ≡ Some seat) (sym c.self.view_is) c.seat-seat.ensures in
@@ -110,7 +110,7 @@ invariant_of-self c =
     λ b was now was_is now_is.
     let same : Some now ≡ Some was = sym now_is ∙ ap (λ stores. slice_get stores.items b) took.stores ∙ was_is in
     ap slots_in (cc same) in
-    still_machine (machine_of i.script i.parts i.seats.items i.turns) (machine_of i.script c.take_copy.new.parts c.set_seat.new.seats.items c.next_turn-turn.result) c.args.actor
+    still_machine (machine_of i.script i.parts i.mirrors i.seats.items i.turns) (machine_of i.script c.take_copy.new.parts i.mirrors c.set_seat.new.seats.items c.next_turn-turn.result) c.args.actor
     (notes_of_turn c.next_turn-turn.result c.args.actor (c.seat-seat.result.answered + 1) (whats_of took.turn.said))
     c.self.invariant
     (still_parts i.script i.parts c.take_copy.new.parts c.self.invariant.parts (ap (λ spaces. length spaces.items) took.spaces) took.births
@@ -121,7 +121,7 @@ pub returns-clause-advances : goal.returns-clause-advances
 returns-clause-advances c moved =
     let i = c.self.inside in
     let a = c.args.actor in
-    let m = machine_of i.script i.parts i.seats.items i.turns in
+    let m = machine_of i.script i.parts i.mirrors i.seats.items i.turns in
     let seat = c.seat-seat.result in
     let rest = subst (λ (x : MachineValue). IsAtRest x) (sym c.self.view_is) c.rests.ensures in
     let here = subst (λ (x : MachineValue). slice_get x.seats a ≡ Some seat) (sym c.self.view_is) c.seat-seat.ensures in
@@ -131,7 +131,7 @@ returns-clause-advances c moved =
     let is = c.in-Some-copy_at.ensures in
     let present = sym (ap (λ ops. slice_get ops seat.answered) c.ops.ensures) ∙ c.in-Some.ensures in
     let free = is_free m a proc seat op copy c.reached_states_stand.ensures c.self.invariant rest c.process-proc.ensures here present is in
-    let n = machine_of i.script c.take_copy.new.parts c.set_seat.new.seats.items c.next_turn-turn.result in
+    let n = machine_of i.script c.take_copy.new.parts i.mirrors c.set_seat.new.seats.items c.next_turn-turn.result in
     let told = c.take_copy.ensures.turn in
     let notes = notes_of_turn c.next_turn-turn.result a (seat.answered + 1) (whats_of told.said) in
     let taken = turn-taken c in (

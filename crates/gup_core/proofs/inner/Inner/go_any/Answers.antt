@@ -21,7 +21,7 @@ pub waits_at-requires-clause-there : goal.waits_at-requires-clause-there
 waits_at-requires-clause-there c =
     let i = c.self.inside in
     let a = c.args.actor in
-    let m = machine_of i.script i.parts i.seats.items i.turns in
+    let m = machine_of i.script i.parts i.mirrors i.seats.items i.turns in
     let rest = subst (λ (x : MachineValue). IsAtRest x) (sym c.self.view_is) c.rests.ensures in
     let op = sym (ap (λ ops. slice_get ops c.seat-seat.result.answered) c.ops.ensures) ∙ c.in-Some.ensures in
     process_found_so m a c.process.result c.seat-seat.result c.in-Some.op.now rest c.process.ensures op
@@ -30,7 +30,7 @@ pub waits_at-requires-clause-space : goal.waits_at-requires-clause-space
 waits_at-requires-clause-space c =
     let i = c.self.inside in
     let a = c.args.actor in
-    let m = machine_of i.script i.parts i.seats.items i.turns in
+    let m = machine_of i.script i.parts i.mirrors i.seats.items i.turns in
     let rest = subst (λ (x : MachineValue). IsAtRest x) (sym c.self.view_is) c.rests.ensures in
     let op = sym (ap (λ ops. slice_get ops c.seat-seat.result.answered) c.ops.ensures) ∙ c.in-Some.ensures in
     (process_within m a c.process.result c.seat-seat.result c.in-Some.op.now rest c.process.ensures op).0
@@ -39,7 +39,7 @@ pub waits_at-requires-clause-birth : goal.waits_at-requires-clause-birth
 waits_at-requires-clause-birth c =
     let i = c.self.inside in
     let a = c.args.actor in
-    let m = machine_of i.script i.parts i.seats.items i.turns in
+    let m = machine_of i.script i.parts i.mirrors i.seats.items i.turns in
     let rest = subst (λ (x : MachineValue). IsAtRest x) (sym c.self.view_is) c.rests.ensures in
     let op = sym (ap (λ ops. slice_get ops c.seat-seat.result.answered) c.ops.ensures) ∙ c.in-Some.ensures in
     (process_within m a c.process.result c.seat-seat.result c.in-Some.op.now rest c.process.ensures op).1
@@ -48,34 +48,34 @@ pub waits_at-requires-clause-child : goal.waits_at-requires-clause-child
 waits_at-requires-clause-child c child same =
     let i = c.self.inside in
     let a = c.args.actor in
-    let m = machine_of i.script i.parts i.seats.items i.turns in
+    let m = machine_of i.script i.parts i.mirrors i.seats.items i.turns in
     let rest = subst (λ (x : MachineValue). IsAtRest x) (sym c.self.view_is) c.rests.ensures in
     let op = sym (ap (λ ops. slice_get ops c.seat-seat.result.answered) c.ops.ensures) ∙ c.in-Some.ensures in
     (child_within m a child c.seat-seat.result c.in-Some.op.now rest op same).0
 
-pub take_at-over-requires-clause-process : goal.take_at-over-requires-clause-process
-take_at-over-requires-clause-process c =
+pub take_turn-over-requires-clause-process : goal.take_turn-over-requires-clause-process
+take_turn-over-requires-clause-process c =
     let i = c.self.inside in
     let a = c.args.actor in
-    let m = machine_of i.script i.parts i.seats.items i.turns in
+    let m = machine_of i.script i.parts i.mirrors i.seats.items i.turns in
     let rest = subst (λ (x : MachineValue). IsAtRest x) (sym c.self.view_is) c.rests.ensures in
     let op = sym (ap (λ ops. slice_get ops c.seat-seat.result.answered) c.ops.ensures) ∙ c.in-Some.ensures in
     process_found_so m a c.process-proc.result c.seat-seat.result c.in-Some.op.now rest c.process-proc.ensures op
 
-pub take_at-over-requires-clause-birth : goal.take_at-over-requires-clause-birth
-take_at-over-requires-clause-birth c =
+pub take_turn-over-requires-clause-birth : goal.take_turn-over-requires-clause-birth
+take_turn-over-requires-clause-birth c =
     let i = c.self.inside in
     let a = c.args.actor in
-    let m = machine_of i.script i.parts i.seats.items i.turns in
+    let m = machine_of i.script i.parts i.mirrors i.seats.items i.turns in
     let rest = subst (λ (x : MachineValue). IsAtRest x) (sym c.self.view_is) c.rests.ensures in
     let op = sym (ap (λ ops. slice_get ops c.seat-seat.result.answered) c.ops.ensures) ∙ c.in-Some.ensures in
     (process_within m a c.process-proc.result c.seat-seat.result c.in-Some.op.now rest c.process-proc.ensures op).1
 
-pub take_at-over-requires-clause-child : goal.take_at-over-requires-clause-child
-take_at-over-requires-clause-child c child same =
+pub take_turn-over-requires-clause-child : goal.take_turn-over-requires-clause-child
+take_turn-over-requires-clause-child c child same =
     let i = c.self.inside in
     let a = c.args.actor in
-    let m = machine_of i.script i.parts i.seats.items i.turns in
+    let m = machine_of i.script i.parts i.mirrors i.seats.items i.turns in
     let rest = subst (λ (x : MachineValue). IsAtRest x) (sym c.self.view_is) c.rests.ensures in
     let op = sym (ap (λ ops. slice_get ops c.seat-seat.result.answered) c.ops.ensures) ∙ c.in-Some.ensures in
     (child_within m a child c.seat-seat.result c.in-Some.op.now rest op same).1
@@ -86,11 +86,11 @@ lent_seat seats i a lent seat is same here =
     let there : Some lent ≡ Some seat = sym (was_there seats i a lent is same (slice_get_within seats a seat here)) ∙ here in
     cc
 
-pub take_at-over-requires-clause-ready : goal.take_at-over-requires-clause-ready
-take_at-over-requires-clause-ready c p unfailed of_p =
+pub take_turn-over-requires-clause-ready : goal.take_turn-over-requires-clause-ready
+take_turn-over-requires-clause-ready c p unfailed of_p =
     let i = c.self.inside in
     let a = c.args.actor in
-    let m = machine_of i.script i.parts i.seats.items i.turns in
+    let m = machine_of i.script i.parts i.mirrors i.seats.items i.turns in
     let rest = subst (λ (x : MachineValue). IsAtRest x) (sym c.self.view_is) c.rests.ensures in
     let here = subst (λ (x : MachineValue). slice_get x.seats a ≡ Some c.seat-seat.result) (sym c.self.view_is) c.seat-seat.ensures in
     let op = sym (ap (λ ops. slice_get ops c.seat-seat.result.answered) c.ops.ensures) ∙ c.in-Some.ensures in
@@ -105,7 +105,7 @@ pub overflow_add-head : goal.overflow_add-head
 overflow_add-head c =
     let i = c.self.inside in
     let a = c.args.actor in
-    let m = machine_of i.script i.parts i.seats.items i.turns in
+    let m = machine_of i.script i.parts i.mirrors i.seats.items i.turns in
     let rest = subst (λ (x : MachineValue). IsAtRest x) (sym c.self.view_is) c.rests.ensures in
     let here = subst (λ (x : MachineValue). slice_get x.seats a ≡ Some c.seat-seat.result) (sym c.self.view_is) c.seat-seat.ensures in
     let below = few m a c.seat-seat.result rest here in
@@ -115,7 +115,7 @@ pub go_on-requires-clause-few : goal.go_on-requires-clause-few
 go_on-requires-clause-few c =
     let i = c.self.inside in
     let a = c.args.actor in
-    let m = machine_of i.script i.parts i.seats.items i.turns in
+    let m = machine_of i.script i.parts i.mirrors i.seats.items i.turns in
     let rest = subst (λ (x : MachineValue). IsAtRest x) (sym c.self.view_is) c.rests.ensures in
     let here = subst (λ (x : MachineValue). slice_get x.seats a ≡ Some c.seat-seat.result) (sym c.self.view_is) c.seat-seat.ensures in
     let below = few m a c.seat-seat.result rest here in
@@ -126,7 +126,7 @@ pub go_on-requires-clause-op : goal.go_on-requires-clause-op
 go_on-requires-clause-op c =
     let i = c.self.inside in
     let a = c.args.actor in
-    let m = machine_of i.script i.parts i.seats.items i.turns in
+    let m = machine_of i.script i.parts i.mirrors i.seats.items i.turns in
     let rest = subst (λ (x : MachineValue). IsAtRest x) (sym c.self.view_is) c.rests.ensures in
     let op = sym (ap (λ ops. slice_get ops c.seat-seat.result.answered) c.ops.ensures) ∙ c.in-Some.ensures in
     op_is_op i.script rest.valid a c.seat-seat.result.answered c.in-Some.op.now op
@@ -136,7 +136,7 @@ pub returns-in-Some-waits_at-clause-advances : goal.returns-in-Some-waits_at-cla
 returns-in-Some-waits_at-clause-advances c =
     let i = c.self.inside in
     let a = c.args.actor in
-    let m = machine_of i.script i.parts i.seats.items i.turns in
+    let m = machine_of i.script i.parts i.mirrors i.seats.items i.turns in
     let rest = subst (λ (x : MachineValue). IsAtRest x) (sym c.self.view_is) c.rests.ensures in
     let here = subst (λ (x : MachineValue). slice_get x.seats a ≡ Some c.seat-seat.result) (sym c.self.view_is) c.seat-seat.ensures in
     let op = sym (ap (λ ops. slice_get ops c.seat-seat.result.answered) c.ops.ensures) ∙ c.in-Some.ensures in
@@ -147,46 +147,46 @@ returns-in-Some-waits_at-clause-advances c =
     (subst (λ (x : MachineValue). WaitsFor x a waiting) c.self.view_is (λ r h. sym (waits r h)), record { machine = refl; notes = refl; room = omega arith })
 
 -- it goes
-turn-taken : (c : goal.After-self-2-1) → TakesTurns (machine_of c.self.inside.script c.self.inside.parts c.self.inside.seats.items c.self.inside.turns)
-    (machine_of c.self.inside.script c.take_at-over.new.parts (slice_set c.self.inside.seats.items c.get.result c.go_on.new.seat) c.next_turn-turn.result) c.args.actor
-    (notes_of_turn c.next_turn-turn.result c.args.actor (c.seat-seat.result.answered + 1) (whats_of c.take_at-over.ensures.turn.said))
+turn-taken : (c : goal.After-self-2-1) → TakesTurns (machine_of c.self.inside.script c.self.inside.parts c.self.inside.mirrors c.self.inside.seats.items c.self.inside.turns)
+    (machine_of c.self.inside.script c.take_turn-over.new.parts c.take_turn-over.new.mirrors (slice_set c.self.inside.seats.items c.get.result c.go_on.new.seat) c.next_turn-turn.result) c.args.actor
+    (notes_of_turn c.next_turn-turn.result c.args.actor (c.seat-seat.result.answered + 1) (whats_of c.take_turn-over.ensures.turn.said))
 turn-taken c =
     let i = c.self.inside in
     let a = c.args.actor in
-    let m = machine_of i.script i.parts i.seats.items i.turns in
+    let m = machine_of i.script i.parts i.mirrors i.seats.items i.turns in
     let seat = c.seat-seat.result in
-    let job = c.take_at-over.new.job in
+    let job = c.take_turn-over.new.job in
     let rest = subst (λ (x : MachineValue). IsAtRest x) (sym c.self.view_is) c.rests.ensures in
     let here = subst (λ (x : MachineValue). slice_get x.seats a ≡ Some seat) (sym c.self.view_is) c.seat-seat.ensures in
     let op = sym (ap (λ ops. slice_get ops seat.answered) c.ops.ensures) ∙ c.in-Some.ensures in
     let known : IsWaiting m a c.process.result seat c.in-Some.op.now None =
     λ s who far shown actor of_who fits place at. sym c.in_default-waits_at.is ∙ c.waits_at.ensures s who far shown actor of_who fits place at in
-    let told = c.take_at-over.ensures.turn in
+    let told = c.take_turn-over.ensures.turn in
     let next = c.go_on.new.seat in
-    goes m a c.process-proc.result seat next c.in-Some.op.now c.take_at-over.new.parts (slice_set i.seats.items c.get.result next) c.next_turn-turn.result told.said job
+    goes m a c.process-proc.result seat next c.in-Some.op.now c.take_turn-over.new.parts c.take_turn-over.new.mirrors (slice_set i.seats.items c.get.result next) c.next_turn-turn.result told.said job
     c.reached_states_stand.ensures rest c.process-proc.ensures here op c.next_turn-turn.ensures
     (waiting_is m a c.process.result seat c.in-Some.op.now None c.reached_states_stand.ensures rest c.process.ensures here op known)
-    (c.go_on.ensures ∙ ap (λ (x : Seat). seat_behind x c.in-Some.op.now c.take_at-over.result job) (lent_seat i.seats.items c.get.result a c.index_mut-here.result.now seat c.index_mut-here.ensures.value c.get.ensures.value here) ∙ ap (λ (b : Bool). seat_behind seat c.in-Some.op.now b job) told.ends)
+    (c.go_on.ensures ∙ ap (λ (x : Seat). seat_behind x c.in-Some.op.now c.take_turn-over.result job) (lent_seat i.seats.items c.get.result a c.index_mut-here.result.now seat c.index_mut-here.ensures.value c.get.ensures.value here) ∙ ap (λ (b : Bool). seat_behind seat c.in-Some.op.now b job) told.ends)
     (now_there i.seats.items c.get.result a next c.get.ensures.value (slice_get_within i.seats.items a seat here))
     (λ b other. other_there i.seats.items c.get.result b next (λ same. other (same ∙ c.get.ensures.value)))
-    (subst (λ (x : Seat). IsTurnBy i.parts c.take_at-over.new.parts a c.process-proc.result seat.far c.in-Some.op.now x.job (whats_of told.said) job) (lent_seat i.seats.items c.get.result a c.index_mut-here.result.now seat c.index_mut-here.ensures.value c.get.ensures.value here) told.is_so)
+    (subst (λ (x : Seat). IsTurnBy i.parts c.take_turn-over.new.parts a c.process-proc.result seat.far c.in-Some.op.now x.job (whats_of told.said) job) (lent_seat i.seats.items c.get.result a c.index_mut-here.result.now seat c.index_mut-here.ensures.value c.get.ensures.value here) told.is_so)
 
 pub invariant_of-self : goal.invariant_of-self
 invariant_of-self c =
     let i = c.self.inside in
     let items = slice_set i.seats.items c.get.result c.go_on.new.seat in
-    still_machine (machine_of i.script i.parts i.seats.items i.turns) (machine_of i.script c.take_at-over.new.parts items c.next_turn-turn.result) c.args.actor
-    (notes_of_turn c.next_turn-turn.result c.args.actor (c.seat-seat.result.answered + 1) (whats_of c.take_at-over.ensures.turn.said))
-    c.self.invariant (still_parts c.self.inside.script c.self.inside.parts c.take_at-over.new.parts c.self.invariant.parts c.take_at-over.ensures.spaces c.take_at-over.ensures.births c.take_at-over.ensures.taken c.take_at-over.ensures.stores c.take_at-over.ensures.slots)
+    still_machine (machine_of i.script i.parts i.mirrors i.seats.items i.turns) (machine_of i.script c.take_turn-over.new.parts c.take_turn-over.new.mirrors items c.next_turn-turn.result) c.args.actor
+    (notes_of_turn c.next_turn-turn.result c.args.actor (c.seat-seat.result.answered + 1) (whats_of c.take_turn-over.ensures.turn.said))
+    c.self.invariant (still_parts c.self.inside.script c.self.inside.parts c.take_turn-over.new.parts c.self.invariant.parts c.take_turn-over.ensures.spaces c.take_turn-over.ensures.births c.take_turn-over.ensures.taken c.take_turn-over.ensures.stores c.take_turn-over.ensures.slots)
     (set_length i.seats.items c.get.result c.go_on.new.seat ∙ c.self.invariant.seats) (turn-taken c)
 
 pub returns-clause-advances : goal.returns-clause-advances
 returns-clause-advances c =
     let i = c.self.inside in
     let a = c.args.actor in
-    let m = machine_of i.script i.parts i.seats.items i.turns in
+    let m = machine_of i.script i.parts i.mirrors i.seats.items i.turns in
     let seat = c.seat-seat.result in
-    let job = c.take_at-over.new.job in
+    let job = c.take_turn-over.new.job in
     let next = c.go_on.new.seat in
     let rest = subst (λ (x : MachineValue). IsAtRest x) (sym c.self.view_is) c.rests.ensures in
     let here = subst (λ (x : MachineValue). slice_get x.seats a ≡ Some seat) (sym c.self.view_is) c.seat-seat.ensures in
@@ -194,22 +194,22 @@ returns-clause-advances c =
     let known : IsWaiting m a c.process.result seat c.in-Some.op.now None =
     λ s who far shown actor of_who fits place at. sym c.in_default-waits_at.is ∙ c.waits_at.ensures s who far shown actor of_who fits place at in
     let ready = waiting_is m a c.process.result seat c.in-Some.op.now None c.reached_states_stand.ensures rest c.process.ensures here op known in
-    let n = machine_of i.script c.take_at-over.new.parts (slice_set i.seats.items c.get.result next) c.next_turn-turn.result in
-    let told = c.take_at-over.ensures.turn in
+    let n = machine_of i.script c.take_turn-over.new.parts c.take_turn-over.new.mirrors (slice_set i.seats.items c.get.result next) c.next_turn-turn.result in
+    let told = c.take_turn-over.ensures.turn in
     let notes = notes_of_turn c.next_turn-turn.result a (seat.answered + 1) (whats_of told.said) in
     let taken = turn-taken c in (
       subst (λ (x : MachineValue). CanGo x a) c.self.view_is (goes_so m a seat c.in-Some.op.now here op ready),
-      subst (λ (x : MachineValue). WritesTurn x n c.args.journal.now c.take_at-over.new.journal a) c.self.view_is (λ r h. (notes, told.tells.notes, taken r h)),
+      subst (λ (x : MachineValue). WritesTurn x n c.args.journal.now c.take_turn-over.new.journal a) c.self.view_is (λ r h. (notes, told.tells.notes, taken r h)),
       subst (λ (x : MachineValue). MayWakeOf x a c.woken_by-woken.result) c.self.view_is
-          (wakes_so m n a seat next c.in-Some.op.now c.take_at-over.result job notes c.woken_by-woken.result here op
-          (c.go_on.ensures ∙ ap (λ (x : Seat). seat_behind x c.in-Some.op.now c.take_at-over.result job) (lent_seat i.seats.items c.get.result a c.index_mut-here.result.now seat c.index_mut-here.ensures.value c.get.ensures.value here))
+          (wakes_so m n a seat next c.in-Some.op.now c.take_turn-over.result job notes c.woken_by-woken.result here op
+          (c.go_on.ensures ∙ ap (λ (x : Seat). seat_behind x c.in-Some.op.now c.take_turn-over.result job) (lent_seat i.seats.items c.get.result a c.index_mut-here.result.now seat c.index_mut-here.ensures.value c.get.ensures.value here))
           (now_there i.seats.items c.get.result a next c.get.ensures.value (slice_get_within i.seats.items a seat here)) taken c.woken_by-woken.ensures),
     )
 
 pub returns-clause-more : goal.returns-clause-more
 returns-clause-more c moved =
-    let told = c.take_at-over.ensures.turn in
-    few_more c.args.journal.now c.take_at-over.new.journal c.next_turn-turn.result c.args.actor (c.seat-seat.result.answered + 1) told.said told.tells.notes
+    let told = c.take_turn-over.ensures.turn in
+    few_more c.args.journal.now c.take_turn-over.new.journal c.next_turn-turn.result c.args.actor (c.seat-seat.result.answered + 1) told.said told.tells.notes
 
 pub returns-clause-kept : goal.returns-clause-kept
-returns-clause-kept c = c.take_at-over.ensures.turn.tells.kept
+returns-clause-kept c = c.take_turn-over.ensures.turn.tells.kept

@@ -6,8 +6,8 @@ use Rattle.gup_core.proofs.Starting.{no_turn, shows_start}
 use Rattle.gup_core.proofs.inner.Inner.of.Goals as goal
 
 -- what was made shows the start of the script
-starts : (c : goal.In_ok-seats) → Shows (machine_of c.args.script c.in_ok-parts.parts c.in_ok-seats.seats.items 0) (run_start c.args.script)
-starts c = shows_start c.args.script c.in_ok-parts.parts c.in_ok-seats.seats.items c.actors.result c.in_ok-parts.ensures.shown c.in_ok-seats.ensures
+starts : (c : goal.In_ok-seats) → Shows (machine_of c.args.script c.in_ok-parts.parts c.in_ok-mirrors.mirrors c.in_ok-seats.seats.items 0) (run_start c.args.script)
+starts c = shows_start c.args.script c.in_ok-parts.parts c.in_ok-mirrors.mirrors c.in_ok-seats.seats.items c.actors.result c.in_ok-parts.ensures.shown c.in_ok-mirrors.ensures c.in_ok-seats.ensures
 
 pub invariant_of-result : goal.invariant_of-result
 invariant_of-result c =
