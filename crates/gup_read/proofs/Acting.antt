@@ -1,22 +1,22 @@
 -- An action of an actor, with all its tests: what it comes to when its operation is put after the actor's others.
-use Rattle.std.proofs.Common.{◌≡◌, ℕ, ◌<◌, List, [], ◌∷◌, Option, Some, unwrap_or, Result, Ok, Err, refl, sym, ap, subst, ◌∙◌, lit<}
+use Rattle.std.proofs.Common.{◌≡◌, ℕ, ◌<◌, List, [], ◌∷◌, Option, Some, unwrap_or, Result, Ok, Err, refl, sym, ap, subst, ◌∙◌, lit<, inl, inr}
 use Rattle.std.specs.Prelude.{nat_lt}
 use Rattle.std.proofs.lemmas.Bool.Decides.{Decides-ltb}
-use Rattle.gup_read_words.proofs.SpelledNumbers.{number_read, page_read, index_read, count_read}
+use Rattle.gup_read_words.proofs.SpelledNumbers.{number_read, page_read, word_no_read, index_read, count_read}
 use Rattle.gup_read_words.proofs.SpelledPlaces.{address_read, range_read}
-use Rattle.gup_read_words.specs.Text.{page_in, address_in, range_in, index_in, count_in}
+use Rattle.gup_read_words.specs.Text.{page_in, word_no_in, address_in, range_in, index_in, count_in}
 use Rattle.gup_script.specs.declared.op.Op.{Op}
 use Rattle.gup_spec_grammar.specs.declared.fault.Reason.{Reason}
 use Rattle.gup_spec_grammar.specs.declared.fault.Reason.TheVariants as reasons
-use Rattle.gup_spec_grammar.specs.Spelling.{IsRange, IsPage, IsAddress, IsIndex, IsCount}
-use Rattle.gup_spec_grammar.specs.Said.{Word, Action, maps, unmaps, protects, discards, loads, stores, exits, pins, gets, puts, forks, unpins, takes, gives, transfers, write_word, action_words, IsShaped, moves, long_words}
+use Rattle.gup_spec_grammar.specs.Spelling.{IsRange, IsPage, IsWordNo, IsAddress, IsIndex, IsCount}
+use Rattle.gup_spec_grammar.specs.Said.{Word, Action, maps, unmaps, protects, discards, loads, stores, exits, pins, gets, puts, forks, unpins, takes, gives, transfers, mirrors, looks, write_word, action_words, IsShaped, moves, long_words}
 use Rattle.gup_spec_grammar.specs.Outline.{Outline, with_operation}
 use Rattle.gup_script.specs.Limits.{most_operations, most_pinned, most_words}
-use Rattle.gup_spec_grammar.specs.Grammar.{ActionNumbers, ActionNames, ActionOnce, ActionLimits, NamesPin, NamesGot, NamesActor, Means, IsBuilt, with_declared, Does}
+use Rattle.gup_spec_grammar.specs.Grammar.{ActionNumbers, ActionNames, ActionOnce, ActionLimits, NamesPin, NamesGot, NamesActor, NamesMirror, Means, IsBuilt, with_declared, Does}
 use Rattle.gup_spec_grammar.specs.Fault.{ActionFault}
 use Rattle.gup_read.specs.Reading.{◌>>=◌, check, need, with_made}
 use Rattle.gup_read.proofs.Chains.{Tried, stops, goes, checked, both, carried, tried_ok, tried_err, tried_pass, tried_stop}
-use Rattle.gup_read.proofs.Judged.{Ends, built, later, Judged}
+use Rattle.gup_read.proofs.Judged.{Ends, built, later, Judged, IsSlot}
 
 -- ---- what an action means
 
@@ -52,6 +52,18 @@ one_got st word m n h g = cc
 one_page : (word : Word) (m n : ℕ) → IsPage word m → IsPage word n → m ≡ n
 one_page word m n h g = one_number (page_in word) m n (page_read word m h) (page_read word n g)
 
+one_word_no : (word : Word) (m n : ℕ) → IsWordNo word m → IsWordNo word n → m ≡ n
+one_word_no word m n h g = one_number (word_no_in word) m n (word_no_read word m h) (word_no_read word n g)
+
+one_mirror : (st : Outline) (word : Word) (m n : ℕ) → NamesMirror st word m → NamesMirror st word n → m ≡ n
+one_mirror st word m n h g = cc (h.1, g.1)
+
+one_slot : (st : Outline) (word : Word) (m n : ℕ) → IsSlot st word m → IsSlot st word n → m ≡ n
+one_slot st word m n (inl h) (inl g) = one_mirror st word m n h g
+one_slot st word m n (inl h) (inr g) = absurd (cc (h.1, g.0))
+one_slot st word m n (inr h) (inl g) = absurd (cc (h.0, g.1))
+one_slot st word m n (inr h) (inr g) = h.1 ∙ sym g.1
+
 one_actor : (st : Outline) (word : Word) (m n : ℕ) → NamesActor st word m → NamesActor st word n → m ≡ n
 one_actor st word m n h g = cc
 
@@ -83,6 +95,14 @@ means_one st (transfers outward handle index slot count) x y h g =
     let other = one_index slot h.2 g.2 h.6 g.6 in
     let n = one_count count h.3 g.3 h.7 g.7 in
     cc (h.8, g.8)
+means_one st (mirrors mirror process page) x y h g =
+    let same = one_slot st mirror h.0 g.0 h.3 g.3 in
+    let at = one_page page h.2 g.2 h.5 g.5 in
+    cc (h.4, h.6, g.4, g.6)
+means_one st (looks mirror word) x y h g =
+    let same = one_mirror st mirror h.0 g.0 h.2 g.2 in
+    let at = one_word_no word h.1 g.1 h.3 g.3 in
+    cc (h.4, g.4)
 means_one st _ x y h g = absurd h
 
 -- ---- what an action declares
@@ -91,34 +111,38 @@ abbrev pub behind_first : List Word → List Word
 behind_first [] = []
 behind_first (word ∷ words) = words
 
--- the name of its handle is the first word after the operation's own
-pub made_declared : (st : Outline) (action : Action) (op : Op) (word : Word) (fields : List Word) → Means st action op → word ∷ fields ≡ action_words action → with_made op fields st ≡ with_declared action st
-made_declared st (maps first count rights) op word fields m same = rw m.3 refl
-made_declared st (unmaps first count) op word fields m same = rw m.3 refl
-made_declared st (protects first count rights) op word fields m same = rw m.3 refl
-made_declared st (discards first count) op word fields m same = rw m.3 refl
-made_declared st (loads address) op word fields m same = rw m.3 refl
-made_declared st (stores address value) op word fields m same = rw m.5 refl
-made_declared st exits op word fields m same = rw m refl
-made_declared st (pins fast handle first count write long) op word fields m same =
+-- the name of its handle, or of its slot, is the first word after the operation's own
+pub made_declared : (st : Outline) (a : ℕ) (action : Action) (op : Op) (word : Word) (fields : List Word) → Means st action op → word ∷ fields ≡ action_words action → with_made a op fields st ≡ with_declared a action st
+made_declared st a (maps first count rights) op word fields m same = rw m.3 refl
+made_declared st a (unmaps first count) op word fields m same = rw m.3 refl
+made_declared st a (protects first count rights) op word fields m same = rw m.3 refl
+made_declared st a (discards first count) op word fields m same = rw m.3 refl
+made_declared st a (loads address) op word fields m same = rw m.3 refl
+made_declared st a (stores address value) op word fields m same = rw m.5 refl
+made_declared st a exits op word fields m same = rw m refl
+made_declared st a (pins fast handle first count write long) op word fields m same =
     let behind : fields ≡ handle ∷ first ∷ count ∷ write_word write ∷ long_words long = ap behind_first same in
     rw (m.3, behind) refl
-made_declared st (gets handle page) op word fields m same =
+made_declared st a (gets handle page) op word fields m same =
     let behind : fields ≡ handle ∷ page ∷ [] = ap behind_first same in
     rw (m.2, behind) refl
-made_declared st (puts handle) op word fields m same = rw m.2 refl
-made_declared st (forks child) op word fields m same = rw m.2 refl
-made_declared st (moves process page zone) op word fields m same = rw m.4 refl
-made_declared st (unpins handle) op word fields m same = rw m.2 refl
-made_declared st (takes handle) op word fields m same = rw m.2 refl
-made_declared st (gives handle to) op word fields m same = rw m.4 refl
-made_declared st (transfers outward handle index slot count) op word fields m same = rw m.8 refl
-made_declared st _ op word fields m same = absurd m
+made_declared st a (puts handle) op word fields m same = rw m.2 refl
+made_declared st a (forks child) op word fields m same = rw m.2 refl
+made_declared st a (moves process page zone) op word fields m same = rw m.4 refl
+made_declared st a (unpins handle) op word fields m same = rw m.2 refl
+made_declared st a (takes handle) op word fields m same = rw m.2 refl
+made_declared st a (gives handle to) op word fields m same = rw m.4 refl
+made_declared st a (transfers outward handle index slot count) op word fields m same = rw m.8 refl
+made_declared st a (mirrors mirror process page) op word fields m same =
+    let behind : fields ≡ mirror ∷ process ∷ page ∷ [] = ap behind_first same in
+    rw (m.6, behind) refl
+made_declared st a (looks mirror word) op first fields m same = rw m.4 refl
+made_declared st a _ op word fields m same = absurd m
 
 -- ---- an action of an actor, with all its tests
 
 abbrev Done : Outline → (actor : ℕ) → Action → Result Outline Reason → Type 0
-Done st a action result = (op : Op) × Means st action op × (result ≡ Ok (with_operation a op (with_declared action st)))
+Done st a action result = (op : Op) × Means st action op × (result ≡ Ok (with_operation a op (with_declared a action st)))
 
 abbrev Limited : Outline → (actor : ℕ) → Action → Result Outline Reason → Type 0
 Limited st a action = Tried reasons.Limit (ActionLimits st action) (Tried reasons.Later (IsBuilt action) (Done st a action))
@@ -133,12 +157,12 @@ Acts st a action =
 -- what is left to do once the words are judged
 abbrev pub placed : Outline → (actor : ℕ) → (fields : List Word) → Option Op → Result Outline Reason
 placed st a fields op =
-    check reasons.Limit (nat_lt st.operations most_operations) >>= λ _. need reasons.Later op >>= λ o. Ok (with_operation a o (with_made o fields st))
+    check reasons.Limit (nat_lt st.operations most_operations) >>= λ _. need reasons.Later op >>= λ o. Ok (with_operation a o (with_made a o fields st))
 
 ended : (st : Outline) (a : ℕ) (action : Action) (word : Word) (fields : List Word) (result : Result (Option Op) Reason) → word ∷ fields ≡ action_words action → Ends st action result → Tried reasons.Limit (st.operations < most_operations) (Tried reasons.Later (IsBuilt action) (Done st a action)) (result >>= placed st a fields)
 ended st a action word fields result same (built op given now means) =
     subst (λ (r : Result (Option Op) Reason). Tried reasons.Limit (st.operations < most_operations) (Tried reasons.Later (IsBuilt action) (Done st a action)) (r >>= placed st a fields)) (sym given)
-    (checked _ (Decides-ltb st.operations most_operations) (λ l. goes now (op, means, ap (λ (next : Outline). Ok (with_operation a op next)) (made_declared st action op word fields means same))))
+    (checked _ (Decides-ltb st.operations most_operations) (λ l. goes now (op, means, ap (λ (next : Outline). Ok (with_operation a op next)) (made_declared st a action op word fields means same))))
 ended st a action word fields result same (later given unbuilt) =
     subst (λ (r : Result (Option Op) Reason). Tried reasons.Limit (st.operations < most_operations) (Tried reasons.Later (IsBuilt action) (Done st a action)) (r >>= placed st a fields)) (sym given)
     (checked _ (Decides-ltb st.operations most_operations) (λ l. stops refl unbuilt))
@@ -159,7 +183,7 @@ acts_ok st a action result next t e =
     let limits = tried_ok once.1 e in
     let all = tried_ok limits.1 e in
     let done = all.1 in
-    let given : all_right (with_operation a done.0 (with_declared action st)) ≡ all_right next = sym done.2 ∙ e in
+    let given : all_right (with_operation a done.0 (with_declared a action st)) ≡ all_right next = sym done.2 ∙ e in
     (shaped.0, numbers.0, names.0, once.0, limits.0, all.0, (done.0, done.1, cc))
 
 pub acts_read : (st : Outline) (a : ℕ) (action : Action) (result : Result Outline Reason) (next : Outline) → Acts st a action result → Does st a action next → result ≡ Ok next
@@ -172,7 +196,7 @@ acts_read st a action result next t h =
     let does = h.6 in
     let done = tried_pass all h.5 in
     let one = means_one st action done.0 does.0 done.1 does.1 in
-    done.2 ∙ ap (λ (op : Op). Ok (with_operation a op (with_declared action st))) one ∙ ap (λ (s : Outline). Ok s) (sym does.2)
+    done.2 ∙ ap (λ (op : Op). Ok (with_operation a op (with_declared a action st))) one ∙ ap (λ (s : Outline). Ok s) (sym does.2)
 
 pub acts_err : (st : Outline) (a : ℕ) (action : Action) (result : Result Outline Reason) (q : Reason) → Acts st a action result → result ≡ Err q → ActionFault st a action q
 acts_err st a action result q t e =

@@ -1,5 +1,5 @@
 -- The forks, pins and gets of a script: what they name is declared, no two forks bring one child, and no two pins or gets make
--- one handle. This stays so while lines add processes, actors, handles and operations.
+-- one handle. This stays so while lines add processes, actors, handles, mirror slots and operations.
 use Rattle.std.proofs.Common.{◌≡◌, ◌⊎◌, ◌==◌, ℕ, ◌<◌, ◌≤◌, zero, suc, true, false, List, [], ◌∷◌, ◌++◌, length, slice_get, All, Option, Some, None, refl, sym, ap, subst, ◌∙◌, inl, inr, arith}
 use Rattle.std.specs.List.{AllByRecursion, list_any}
 use Rattle.std.proofs.lemmas.Bool.{not-true}
@@ -25,29 +25,29 @@ child_stays (x ∷ xs) ys zero h = h
 child_stays (x ∷ xs) ys (suc p) h = child_stays xs ys p h
 
 -- what an operation names stays declared when more is
-still_declared : (s t : ScriptValue) (more : List Process) → t.processes ≡ s.processes ++ more → length s.handles ≤ length t.handles → length s.actors ≤ length t.actors → (op : Op) → AreDeclared s op → AreDeclared t op
-still_declared s t more e handles actors (Fork child) h = rw e (child_stays s.processes more child h)
-still_declared s t more e handles actors (Pin handle page n want fast) h = omega arith
-still_declared s t more e handles actors (Unpin handle) h = omega arith
-still_declared s t more e handles actors (Give handle to) h = (omega (arith, h.0), omega (arith, h.1))
-still_declared s t more e handles actors (Take handle) h = omega arith
-still_declared s t more e handles actors (Transfer handle outward slot parts) h = omega arith
-still_declared s t more e handles actors (Map page n rights) h = tt
-still_declared s t more e handles actors (Unmap page n) h = tt
-still_declared s t more e handles actors (Protect page n rights) h = tt
-still_declared s t more e handles actors (Discard page n) h = tt
-still_declared s t more e handles actors (Load page word) h = tt
-still_declared s t more e handles actors (Store page word value) h = tt
-still_declared s t more e handles actors Exit h = tt
-still_declared s t more e handles actors (Get handle page) h = omega arith
-still_declared s t more e handles actors (Put handle) h = omega arith
-still_declared s t more e handles actors (Mirror mirror proc page) h = tt
-still_declared s t more e handles actors (Look mirror word) h = tt
-still_declared s t more e handles actors (Move proc page zone) h = rw e (omega (arith, h, length-append s.processes more))
+still_declared : (s t : ScriptValue) (more : List Process) → t.processes ≡ s.processes ++ more → length s.handles ≤ length t.handles → length s.mirrors ≤ length t.mirrors → length s.actors ≤ length t.actors → (op : Op) → AreDeclared s op → AreDeclared t op
+still_declared s t more e handles mirrors actors (Fork child) h = rw e (child_stays s.processes more child h)
+still_declared s t more e handles mirrors actors (Pin handle page n want fast) h = omega arith
+still_declared s t more e handles mirrors actors (Unpin handle) h = omega arith
+still_declared s t more e handles mirrors actors (Give handle to) h = (omega (arith, h.0), omega (arith, h.1))
+still_declared s t more e handles mirrors actors (Take handle) h = omega arith
+still_declared s t more e handles mirrors actors (Transfer handle outward slot parts) h = omega arith
+still_declared s t more e handles mirrors actors (Map page n rights) h = tt
+still_declared s t more e handles mirrors actors (Unmap page n) h = tt
+still_declared s t more e handles mirrors actors (Protect page n rights) h = tt
+still_declared s t more e handles mirrors actors (Discard page n) h = tt
+still_declared s t more e handles mirrors actors (Load page word) h = tt
+still_declared s t more e handles mirrors actors (Store page word value) h = tt
+still_declared s t more e handles mirrors actors Exit h = tt
+still_declared s t more e handles mirrors actors (Get handle page) h = omega arith
+still_declared s t more e handles mirrors actors (Put handle) h = omega arith
+still_declared s t more e handles mirrors actors (Mirror mirror proc page) h = (omega (arith, h.0), rw e (omega (arith, h.1, length-append s.processes more)))
+still_declared s t more e handles mirrors actors (Look mirror word) h = omega arith
+still_declared s t more e handles mirrors actors (Move proc page zone) h = rw e (omega (arith, h, length-append s.processes more))
 
-pub declared_stay : (s t : ScriptValue) (more : List Process) → t.processes ≡ s.processes ++ more → length s.handles ≤ length t.handles → length s.actors ≤ length t.actors → (all : List Actor) → AllByRecursion (λ (a : Actor). All (AreDeclared s) a.ops) all → AllByRecursion (λ (a : Actor). All (AreDeclared t) a.ops) all
-declared_stay s t more e handles actors all h =
-    each_like (λ (a : Actor). All (AreDeclared s) a.ops) (λ (a : Actor). All (AreDeclared t) a.ops) all (λ a each k d lt. still_declared s t more e handles actors _ (each k d lt)) h
+pub declared_stay : (s t : ScriptValue) (more : List Process) → t.processes ≡ s.processes ++ more → length s.handles ≤ length t.handles → length s.mirrors ≤ length t.mirrors → length s.actors ≤ length t.actors → (all : List Actor) → AllByRecursion (λ (a : Actor). All (AreDeclared s) a.ops) all → AllByRecursion (λ (a : Actor). All (AreDeclared t) a.ops) all
+declared_stay s t more e handles mirrors actors all h =
+    each_like (λ (a : Actor). All (AreDeclared s) a.ops) (λ (a : Actor). All (AreDeclared t) a.ops) all (λ a each k d lt. still_declared s t more e handles mirrors actors _ (each k d lt)) h
 
 -- ---- operations by their places
 

@@ -1,6 +1,6 @@
 -- What an `on` line's action comes to: its tests in their order, and then an operation, or none where its kind comes
 -- later. For each form that a test has in the reader, the condition in the grammar that it tests.
-use Rattle.std.proofs.Common.{◌≡◌, ℕ, ◌^◌, ◌<◌, Bool, true, false, not, cond, ltb, List, length, Option, Some, None, Result, Ok, Err, refl, ap, ◌⊎◌, inl, inr}
+use Rattle.std.proofs.Common.{◌≡◌, ℕ, ◌^◌, ◌<◌, Bool, true, false, not, cond, ltb, List, length, Option, Some, None, Result, Ok, Err, refl, ap, ◌⊎◌, inl, inr, ◌==◌, ◌∙◌}
 use Rattle.std.specs.Bool.{Decides}
 use Rattle.std.proofs.lemmas.Bool.{ltb-true, lt-ltb}
 use Rattle.std.proofs.lemmas.Bool.Decides.{Decides-eqb}
@@ -16,11 +16,11 @@ use Rattle.gup_script.specs.declared.op.Op.{Op}
 use Rattle.gup_spec_grammar.specs.declared.fault.Reason.{Reason}
 use Rattle.gup_spec_grammar.specs.declared.fault.Reason.TheVariants as reasons
 use Rattle.gup_spec_grammar.specs.Said.{Word, Action, action_words, IsShaped}
-use Rattle.gup_spec_grammar.specs.Outline.{Outline, is_child, is_forked, next_handle, is_receiver}
-use Rattle.gup_script.specs.Limits.{most_handles}
-use Rattle.gup_spec_grammar.specs.Grammar.{ActionNumbers, ActionNames, ActionOnce, HandleLimits, Means, IsBuilt, NamesProcess, NamesActor, NamesPin, NamesGot}
+use Rattle.gup_spec_grammar.specs.Outline.{Outline, is_child, is_forked, next_handle, slot_of, is_receiver}
+use Rattle.gup_script.specs.Limits.{most_handles, most_mirrors}
+use Rattle.gup_spec_grammar.specs.Grammar.{ActionNumbers, ActionNames, ActionOnce, DeclaredLimits, Means, IsBuilt, NamesProcess, NamesActor, NamesPin, NamesGot, IsUnused, IsMirrorOf, NamesMirror}
 use Rattle.gup_read.specs.Reading.{◌>>=◌, check, need}
-use Rattle.gup_read_outline.specs.Named.{process_of, actor_of, pin_of, got_of, is_mirror_of, may_mirror}
+use Rattle.gup_read_outline.specs.Named.{process_of, actor_of, pin_of, got_of, mirror_of, is_mirror_of, may_mirror}
 use Rattle.gup_read.proofs.Chains.{Tried, stops, goes, needed}
 use Rattle.gup_read.proofs.ActionWords.{action_in}
 
@@ -36,7 +36,7 @@ Judged st a action =
     (Tried reasons.Number (ActionNumbers action)
     (Tried reasons.Name (ActionNames st a action)
     (Tried reasons.Twice (ActionOnce st action)
-    (Tried reasons.Limit (HandleLimits st action) (Ends st action)))))
+    (Tried reasons.Limit (DeclaredLimits st action) (Ends st action)))))
 
 -- what words come to: they say an action, or none
 abbrev pub Told : Outline → (actor : ℕ) → List Word → Result (Option Op) Reason → Type 0
@@ -159,6 +159,8 @@ handle_step st f {behind} next = way (ltb (length st.script.handles) most_handle
   way true e = goes (ltb-true _ _ e) next
   way false e = stops refl (λ lt. absurd (cc (e, lt-ltb _ _ lt)))
 
+-- ---- mirror slots
+
 pub mirror_Decides : (a : ℕ) (o : Option Named) → Decides (is_mirror_of a o) ((m : ℕ) × (o ≡ Some (named.Mirror m a)))
 mirror_Decides a (Some (named.Mirror m b)) = (λ e. (m, ap (λ (n : ℕ). Some (named.Mirror m n)) ((Decides-eqb b a).0 e)), λ h. (Decides-eqb b a).1 (cc h.1))
 mirror_Decides a _ = (λ e. absurd cc, λ h. absurd (cc h.1))
@@ -167,3 +169,36 @@ mirror_Decides a _ = (λ e. absurd cc, λ h. absurd (cc h.1))
 pub slot_Decides : (a : ℕ) (word : Word) (o : Option Named) → Decides (may_mirror a word o) ((IsName word × (o ≡ None)) ⊎ ((m : ℕ) × (o ≡ Some (named.Mirror m a))))
 slot_Decides a word None = (λ e. inl (name_found word e, refl), λ h. elim h [ inl n ↦ name_read word n.0 | inr m ↦ absurd (cc m.1) ])
 slot_Decides a word (Some n) = (λ e. inr ((mirror_Decides a (Some n)).0 e), λ h. elim h [ inl u ↦ absurd (cc u.1) | inr m ↦ (mirror_Decides a (Some n)).1 m ])
+
+-- a slot of this device: its name, and then its number
+pub own_step : {B : Type 0} (st : Outline) (a : ℕ) (word : Word) (f : Unit → ℕ → Result B Reason) {behind : Result B Reason → Type 0} → ((m : ℕ) → NamesMirror st word m → behind (f tt m)) → Tried reasons.Name (IsMirrorOf st a word) behind (check reasons.Name (is_mirror_of a (find st.names word)) >>= λ u. need reasons.Name (mirror_of (find st.names word)) >>= f u)
+own_step st a word f {behind} next = way (find st.names word) refl where
+  tested : (m owner : ℕ) → find st.names word ≡ Some (named.Mirror m owner) → (b : Bool) → (owner == a) ≡ b → Tried reasons.Name (IsMirrorOf st a word) behind (check reasons.Name b >>= λ u. f u m)
+  tested m owner e true own = goes (m, e ∙ ap (λ (n : ℕ). Some (named.Mirror m n)) ((Decides-eqb owner a).0 own)) (next m (owner, e))
+  tested m owner e false own = stops refl (λ h. let same : owner ≡ a = cc (e, h.1) in absurd (cc (own, (Decides-eqb owner a).1 same)))
+
+  way : (o : Option Named) → find st.names word ≡ o → Tried reasons.Name (IsMirrorOf st a word) behind (check reasons.Name (is_mirror_of a o) >>= λ u. need reasons.Name (mirror_of o) >>= f u)
+  way (Some (named.Mirror m owner)) e = tested m owner e (owner == a) refl
+  way None e = stops refl (λ h. absurd (cc (e, h.1)))
+  way (Some (named.Process p)) e = stops refl (λ h. absurd (cc (e, h.1)))
+  way (Some (named.Actor b)) e = stops refl (λ h. absurd (cc (e, h.1)))
+  way (Some (named.Pin h)) e = stops refl (λ g. absurd (cc (e, g.1)))
+  way (Some (named.Got h)) e = stops refl (λ g. absurd (cc (e, g.1)))
+
+-- the slot of a mirror: the one that the name names, or the next
+abbrev pub IsSlot : Outline → Word → ℕ → Type 0
+IsSlot st word m = NamesMirror st word m ⊎ (IsUnused st word × (m ≡ length st.script.mirrors))
+
+pub slot_step : {B : Type 0} (st : Outline) (a : ℕ) (word : Word) (f : ℕ → Result B Reason) {behind : Result B Reason → Type 0} → (IsName word × IsUnused st word) ⊎ IsMirrorOf st a word → ((m : ℕ) → IsSlot st word m → behind (f m)) → Tried reasons.Limit (((m : ℕ) × NamesMirror st word m) ⊎ (length st.script.mirrors < most_mirrors)) behind (need reasons.Limit (slot_of st (find st.names word)) >>= f)
+slot_step st a word f {behind} names next = way (find st.names word) refl where
+  tested : find st.names word ≡ None → (b : Bool) → ltb (length st.script.mirrors) most_mirrors ≡ b → Tried reasons.Limit (((m : ℕ) × NamesMirror st word m) ⊎ (length st.script.mirrors < most_mirrors)) behind (need reasons.Limit (cond b (Some (length st.script.mirrors)) None) >>= f)
+  tested e true few = goes (inr (ltb-true _ _ few)) (next (length st.script.mirrors) (inr (e, refl)))
+  tested e false many = stops refl (λ h. elim h [ inl m ↦ absurd (cc (e, m.1.1)) | inr lt ↦ absurd (cc (many, lt-ltb _ _ lt)) ])
+
+  way : (o : Option Named) → find st.names word ≡ o → Tried reasons.Limit (((m : ℕ) × NamesMirror st word m) ⊎ (length st.script.mirrors < most_mirrors)) behind (need reasons.Limit (slot_of st o) >>= f)
+  way None e = tested e (ltb (length st.script.mirrors) most_mirrors) refl
+  way (Some (named.Mirror m owner)) e = goes (inl (m, (owner, e))) (next m (inl (owner, e)))
+  way (Some (named.Process p)) e = absurd (elim names [ inl new ↦ cc (e, new.1) | inr own ↦ cc (e, own.1) ])
+  way (Some (named.Actor b)) e = absurd (elim names [ inl new ↦ cc (e, new.1) | inr own ↦ cc (e, own.1) ])
+  way (Some (named.Pin h)) e = absurd (elim names [ inl new ↦ cc (e, new.1) | inr own ↦ cc (e, own.1) ])
+  way (Some (named.Got h)) e = absurd (elim names [ inl new ↦ cc (e, new.1) | inr own ↦ cc (e, own.1) ])

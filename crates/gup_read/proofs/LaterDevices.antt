@@ -1,17 +1,15 @@
--- What the words of a device's operations that come later come to: transfers of parts, mirrors.
+-- What the words of a device's operations that come later come to: transfers of several parts.
 use Rattle.std.proofs.Common.{◌≡◌, ℕ, ◌+◌, ◌≤◌, Bool, true, false, List, [], ◌∷◌, length, Option, Some, None, refl, sym, ap, inl, inr}
-use Rattle.std.specs.Prelude.{codes}
 use Rattle.std.specs.Bool.{Decides}
 use Rattle.std.proofs.lemmas.Bool.{leb-true, le-leb}
 use Rattle.gup_read_words.specs.Text.{segment_in}
 use Rattle.gup_read_words.proofs.SpelledPlaces.{segment_found, segment_read}
-use Rattle.gup_spec_grammar.specs.Names.{find}
-use Rattle.gup_spec_grammar.specs.Said.{Word, transfers_parts, mirrors, looks, parts_word}
+use Rattle.gup_spec_grammar.specs.Said.{Word, transfers_parts, parts_word}
 use Rattle.gup_spec_grammar.specs.Outline.{Outline}
 use Rattle.gup_spec_grammar.specs.Grammar.{AreSegments}
-use Rattle.gup_read.specs.Reading.{segments_in, at_most_64, parts_in, mirror_in, look_in}
+use Rattle.gup_read.specs.Reading.{segments_in, at_most_64, parts_in}
 use Rattle.gup_read.proofs.Chains.{goes, checked, both}
-use Rattle.gup_read.proofs.Judged.{later, Told, index_step, page_step, word_no_step, process_step, pin_step, mirror_Decides, slot_Decides}
+use Rattle.gup_read.proofs.Judged.{later, Told, index_step, pin_step}
 
 -- ---- the parts of a transfer
 
@@ -54,27 +52,3 @@ parts_told st a outward (handle ∷ slot ∷ first ∷ more) =
     )
 parts_told st a true _ = inr (refl, refl)
 parts_told st a false _ = inr (refl, refl)
-
--- ---- mirrors
-
-pub mirror_told : (st : Outline) (a : ℕ) (fields : List Word) → Told st a (codes "mirror" ∷ fields) (mirror_in st a fields)
-unfolding mirror_in
-mirror_told st a (mirror ∷ process ∷ page ∷ []) =
-    inl (
-      mirrors mirror process page,
-      refl,
-      goes tt (page_step page _ (λ p h.
-          both (checked _ (slot_Decides a mirror (find st.names mirror)) (λ m. process_step st process _ (λ q g. goes tt (goes tt (later refl (λ b. b)))))))),
-    )
-mirror_told st a _ = inr (refl, refl)
-
-pub look_told : (st : Outline) (a : ℕ) (fields : List Word) → Told st a (codes "look" ∷ fields) (look_in st a fields)
-unfolding look_in
-look_told st a (mirror ∷ word ∷ []) =
-    inl (
-      looks mirror word,
-      refl,
-      goes tt (word_no_step word _ (λ w h.
-          checked _ (mirror_Decides a (find st.names mirror)) (λ m. goes tt (goes tt (later refl (λ b. b)))))),
-    )
-look_told st a _ = inr (refl, refl)

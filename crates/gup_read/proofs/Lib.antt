@@ -14,6 +14,7 @@ pub mod ActionWords
 pub mod Judged
 pub mod BuiltActions
 pub mod BuiltHandles
+pub mod BuiltMirrors
 pub mod LaterDevices
 pub mod Choices
 pub mod OpChoices

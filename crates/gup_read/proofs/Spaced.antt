@@ -1,7 +1,7 @@
 -- No word of a line that is right is empty, since no name is.
 use Rattle.gup_base.specs.declared.entry.Zone.{Zone}
 use Rattle.gup_base.specs.declared.entry.Zone.TheVariants.{Movable, Normal}
-use Rattle.std.proofs.Common.{◌≡◌, ℕ, ◌^◌, ◌<◌, Bool, true, false, cond, List, [], ◌∷◌, ◌++◌, length, refl, sym, ap, subst, ◌∙◌, Option, Some, None, inl, inr, arith}
+use Rattle.std.proofs.Common.{◌≡◌, ℕ, ◌^◌, ◌<◌, Bool, true, false, cond, List, [], ◌∷◌, ◌++◌, length, refl, sym, ap, subst, ◌∙◌, Option, Some, None, ◌⊎◌, inl, inr, arith}
 use Rattle.std.specs.Prelude.{codes, bytes_eq, decimal}
 use Rattle.std.specs.List.{AllByRecursion}
 use Rattle.std.proofs.lemmas.Fmt.{decimal_nonempty}
@@ -10,9 +10,9 @@ use Rattle.gup_base.specs.declared.entry.Rights.TheVariants.{R, RW}
 use Rattle.gup_spec_grammar.specs.Spelling.{parts, IsName, turn_word, address}
 use Rattle.gup_spec_grammar.specs.Names.{NamedEntry, find, declared}
 use Rattle.gup_spec_grammar.specs.declared.named.Named.{Named}
-use Rattle.gup_spec_grammar.specs.Outline.{Outline}
-use Rattle.gup_spec_grammar.specs.Said.{Word, Said, a_process, a_child, a_thread, a_device, a_mover, a_seed, some_turns, random_turns, said_words, Action, maps, unmaps, protects, discards, loads, stores, exits, pins, gets, puts, forks, unpins, takes, gives, transfers, action_words, rights_word, write_word, transfer_word, moves, zone_word}
-use Rattle.gup_spec_grammar.specs.Grammar.{TurnsAnActor, Declares, ActionNames, with_declared, Does, IsNext, IsSaid, IsRightLine, Stage, before_head, before_frames, open_at}
+use Rattle.gup_spec_grammar.specs.Outline.{Outline, with_slot}
+use Rattle.gup_spec_grammar.specs.Said.{Word, Said, a_process, a_child, a_thread, a_device, a_mover, a_seed, some_turns, random_turns, said_words, Action, maps, unmaps, protects, discards, loads, stores, exits, pins, gets, puts, forks, unpins, takes, gives, transfers, mirrors, looks, action_words, rights_word, write_word, transfer_word, moves, zone_word}
+use Rattle.gup_spec_grammar.specs.Grammar.{IsUnused, IsMirrorOf, TurnsAnActor, Declares, ActionNames, with_declared, Does, IsNext, IsSaid, IsRightLine, Stage, before_head, before_frames, open_at}
 use Rattle.gup_spec_grammar.specs.Fault.{AreSpaced}
 use Rattle.gup_read.proofs.Verdicts.{given}
 
@@ -52,14 +52,19 @@ stays_declared st next (a_seed number) h d = subst AreNamed (sym d.4.2) h
 stays_declared st next (some_turns first more) h d = subst AreNamed (sym d.4.2) h
 stays_declared st next (random_turns start count) h d = subst AreNamed (sym d.4.4) h
 
-stays_handle : (st : Outline) (a : ℕ) (action : Action) → AreNamed st → ActionNames st a action → AreNamed (with_declared action st)
-stays_handle st a (pins fast handle first count write long) h names = unnamed_declared st.names handle _ (some_name handle names) h
-stays_handle st a (gets handle page) h names = unnamed_declared st.names handle _ (some_name handle names) h
-stays_handle st a _ h names = h
+stays_slot : (st : Outline) (a : ℕ) (mirror : Word) → AreNamed st → (IsName mirror × IsUnused st mirror) ⊎ IsMirrorOf st a mirror → AreNamed (with_slot a mirror (find st.names mirror) st)
+stays_slot st a mirror h (inl new) = rw new.1 (unnamed_declared st.names mirror _ (some_name mirror new.0) h)
+stays_slot st a mirror h (inr own) = rw own.1 h
+
+stays_made : (st : Outline) (a : ℕ) (action : Action) → AreNamed st → ActionNames st a action → AreNamed (with_declared a action st)
+stays_made st a (pins fast handle first count write long) h names = unnamed_declared st.names handle _ (some_name handle names) h
+stays_made st a (gets handle page) h names = unnamed_declared st.names handle _ (some_name handle names) h
+stays_made st a (mirrors mirror process page) h names = stays_slot st a mirror h names.0
+stays_made st a _ h names = h
 
 stays_next : (st next : Outline) (words : List Word) → AreNamed st → IsNext st words next → AreNamed next
 stays_next st next words h (inl s) = stays_declared st next s.0 h s.2
-stays_next st next words h (inr o) = let d = o.6 in subst AreNamed (sym d.6.2) (stays_handle st o.1 o.2 h d.2)
+stays_next st next words h (inr o) = let d = o.6 in subst AreNamed (sym d.6.2) (stays_made st o.1 o.2 h d.2)
 
 stays_said : (stage next : Stage) (words : List Word) → AreNamedAt stage → IsSaid stage words next → AreNamedAt next
 stays_said before_head next words h s = subst AreNamedAt (sym s.1) tt
@@ -124,6 +129,10 @@ some_address page w e = way (decimal page) e where
   way [] f = cc
   way (c ∷ cs) f = cc
 
+some_mirror : (st : Outline) (a : ℕ) (word : Word) → AreNamed st → (IsName word × IsUnused st word) ⊎ IsMirrorOf st a word → word ≡ [] → ⊥
+some_mirror st a word h (inl new) = some_name word new.0
+some_mirror st a word h (inr own) = found_name st word _ h own.1
+
 spaced_action : (st next : Outline) (a : ℕ) (action : Action) → AreNamed st → Does st a action next → AreSpaced (action_words action)
 spaced_action st next a (maps first count rights) h d = let n = d.1 in (λ e. cc, (some_decimal first n.0 n.2.0 (omega (arith, n.2.4)), (some_decimal count n.1 n.2.1 (omega (arith, n.2.3)), (some_rights rights, tt))))
 spaced_action st next a (unmaps first count) h d = let n = d.1 in (λ e. cc, (some_decimal first n.0 n.2.0 (omega (arith, n.2.4)), (some_decimal count n.1 n.2.1 (omega (arith, n.2.3)), tt)))
@@ -149,6 +158,11 @@ spaced_action st next a (transfers outward handle index slot count) h d =
     let s = n.1 in
     let k = n.2 in
     (some_transfer outward, (found_name st handle _ h d.2.1, (some_decimal index i.0 i.1.0 (omega (arith, i.1.1)), (some_decimal slot s.0 s.1.0 (omega (arith, s.1.1)), (some_decimal count k.0 k.1.0 (omega (arith, k.1.2)), tt)))))
+spaced_action st next a (mirrors mirror process page) h d =
+    let n = d.1 in
+    (λ e. cc, (some_mirror st a mirror h d.2.0, (found_name st process _ h d.2.1.1, (some_decimal page n.0 n.1.0 (omega (arith, n.1.1)), tt))))
+spaced_action st next a (looks mirror word) h d =
+    let n = d.1 in (λ e. cc, (found_name st mirror _ h d.2.1, (some_decimal word n.0 n.1.0 (omega (arith, n.1.1)), tt)))
 spaced_action st next a _ h d = absurd d.6.1
 
 spaced_next : (st next : Outline) (words : List Word) → AreNamed st → IsNext st words next → AreSpaced words

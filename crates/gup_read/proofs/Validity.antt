@@ -128,6 +128,7 @@ stands_script st h =
       kinds = All-from_recursion (λ (a : Actor). KindFits st.script a.kind) actors h.kinds;
       ops = All-from_recursion (λ (a : Actor). All IsOp a.ops) actors h.ops;
       few_handles = h.few_handles;
+      few_mirrors = h.few_mirrors;
       ops_fit = All-from_recursion (λ (a : Actor). All (FitsKind a.kind) a.ops) actors h.ops_fit;
       declared = All-from_recursion (λ (a : Actor). All (AreDeclared st.script) a.ops) actors h.declared;
       forks_once = λ a b j k child e f. h.forks_once a b j k child (Fork child, e, refl) (Fork child, f, refl);

@@ -19,8 +19,8 @@ use Rattle.gup_spec_grammar.specs.declared.fault.Reason.TheVariants as reasons
 use Rattle.gup_spec_grammar.specs.declared.fault.ScriptFault.{ScriptFault}
 use Rattle.gup_script.specs.Script.{Actor, FrameCounts, actor_at, is_thread}
 use Rattle.gup_spec_grammar.specs.Grammar.{Stage, before_head, before_frames, open_at, most_bytes, want_of}
-use Rattle.gup_spec_grammar.specs.Outline.{Outline, frame_counts, empty_outline, with_process, with_actor, with_handle, with_reference, with_operation, with_turns, with_seed, is_device, how_many, has_mover, is_child, is_forked, next_handle, is_receiver, draws}
-use Rattle.gup_read_outline.specs.Named.{process_of, actor_of, pin_of, got_of, is_mirror_of, may_mirror}
+use Rattle.gup_spec_grammar.specs.Outline.{Outline, frame_counts, empty_outline, with_process, with_actor, with_handle, with_reference, with_slot, with_operation, with_turns, with_seed, is_device, how_many, has_mover, is_child, is_forked, next_handle, slot_of, is_receiver, draws}
+use Rattle.gup_read_outline.specs.Named.{process_of, actor_of, pin_of, got_of, mirror_of, is_mirror_of, may_mirror}
 use Rattle.gup_script.specs.Limits.{most_processes, most_threads, most_devices, most_pinned, most_words, most_operations, most_turns, most_frames, most_tables}
 use Rattle.gup_base.specs.Counts.{most_slots}
 
@@ -200,17 +200,19 @@ parts_in st _ = Err reasons.Shape
 
 unfoldable pub mirror_in : Outline → (actor : ℕ) → List (List ℕ) → Result (Option Op) Reason
 mirror_in st a (mirror ∷ process ∷ page ∷ []) = do
-  _ ← need reasons.Number (page_in page)
+  g ← need reasons.Number (page_in page)
   _ ← check reasons.Name (may_mirror a mirror (find st.names mirror))
-  _ ← need reasons.Name (process_of (find st.names process))
-  Ok None
+  p ← need reasons.Name (process_of (find st.names process))
+  m ← need reasons.Limit (slot_of st (find st.names mirror))
+  Ok (Some (ops.Mirror m p g))
 mirror_in st a _ = Err reasons.Shape
 
 unfoldable pub look_in : Outline → (actor : ℕ) → List (List ℕ) → Result (Option Op) Reason
 look_in st a (mirror ∷ word ∷ []) = do
-  _ ← need reasons.Number (word_no_in word)
+  w ← need reasons.Number (word_no_in word)
   _ ← check reasons.Name (is_mirror_of a (find st.names mirror))
-  Ok None
+  m ← need reasons.Name (mirror_of (find st.names mirror))
+  Ok (Some (ops.Look m w))
 look_in st a _ = Err reasons.Shape
 
 unfoldable pub move_in : Outline → List (List ℕ) → Result (Option Op) Reason
@@ -267,11 +269,13 @@ abbrev pub op_of_actor : Outline → (actor : ℕ) → Option Actor → (word : 
 op_of_actor st a None word fields = Err reasons.Word
 op_of_actor st a (Some actor) word fields = op_of_kind st a actor.kind word fields
 
--- the outline with the handle of a pin or of a reference, whose name is the first word after the operation's own
-abbrev pub with_made : Op → List (List ℕ) → Outline → Outline
-with_made (ops.Pin handle page n want fast) (name ∷ fields) st = with_handle name st
-with_made (ops.Get handle page) (name ∷ fields) st = with_reference name st
-with_made op fields st = st
+-- the outline with the handle of a pin or of a reference, or the slot of a mirror, which this actor's operation declares; its
+-- name is the first word after the operation's own
+abbrev pub with_made : (actor : ℕ) → Op → List (List ℕ) → Outline → Outline
+with_made a (ops.Pin handle page n want fast) (name ∷ fields) st = with_handle name st
+with_made a (ops.Get handle page) (name ∷ fields) st = with_reference name st
+with_made a (ops.Mirror mirror proc page) (name ∷ fields) st = with_slot a name (find st.names name) st
+with_made a op fields st = st
 
 -- the words after `on`
 unfoldable pub on_in : Outline → List (List ℕ) → Result Outline Reason
@@ -280,7 +284,7 @@ on_in st (name ∷ word ∷ fields) = do
   built ← op_of_actor st a (actor_at st.script a) word fields
   _ ← check reasons.Limit (nat_lt st.operations most_operations)
   op ← need reasons.Later built
-  Ok (with_operation a op (with_made op fields st))
+  Ok (with_operation a op (with_made a op fields st))
 on_in st _ = Err reasons.Shape
 
 -- declarations: the words after the first

@@ -4,7 +4,7 @@ use Rattle.std.specs.Prelude.{◌≡◌, ℕ, ◌<◌, true, List, ◌∷◌, le
 use Rattle.gup_spec_grammar.specs.Names.{is_unused}
 use Rattle.gup_script.specs.declared.op.Op.{Op}
 use Rattle.gup_script.specs.declared.op.Op.TheVariants as ops
-use Rattle.gup_script.specs.Limits.{most_handles}
+use Rattle.gup_script.specs.Limits.{most_handles, most_mirrors}
 use Rattle.gup_spec_grammar.specs.declared.fault.Reason.{Reason}
 use Rattle.gup_read.specs.declared.refusal.Trouble.{Trouble}
 use Rattle.gup_read.specs.declared.refusal.Trouble.TheVariants as trouble
@@ -24,12 +24,17 @@ abbrev pub Makes : Result Outline Reason → Outline → Result Unit Trouble →
 Makes found next (Ok done) = found ≡ Ok next
 Makes found next (Err e) = IsTrouble found e
 
--- the handle of a pin or of a reference, named by the first of the words, may be declared
+-- there may be one more mirror slot where the name isn't declared yet
+abbrev pub MayHaveSlot : (name : List ℕ) → Outline → Type 0
+MayHaveSlot name st = is_unused st.names name ≡ true → length st.script.mirrors < most_mirrors
+
+-- the handle of a pin or of a reference, or the slot of a mirror, named by the first of the words, may be declared
 abbrev pub IsDeclarable : Op → List (List ℕ) → Outline → Type 0
 IsDeclarable (ops.Pin handle page n want fast) (name ∷ fields) st =
     (is_unused st.names name ≡ true) × (length st.script.handles < most_handles)
 IsDeclarable (ops.Get handle page) (name ∷ fields) st =
     (is_unused st.names name ≡ true) × (length st.script.handles < most_handles)
+IsDeclarable (ops.Mirror mirror proc page) (name ∷ fields) st = MayHaveSlot name st
 IsDeclarable op fields st = Unit {0}
 
 -- the refusal for a line's trouble

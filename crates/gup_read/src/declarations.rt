@@ -1,12 +1,15 @@
 //! The lines after the `frames` line: each adds what it declares, an operation or turns to a `Reader`, or is refused
 //! for the first fault that it has.
 ghost use Rattle.std.specs.Prelude.{◌≡◌, map, OnOk};
-ghost use Rattle.gup_read.specs.Steps.{Makes, IsDeclarable};
+ghost use Rattle.gup_read.specs.Steps.{Makes, MayHaveSlot, IsDeclarable};
+ghost use Rattle.gup_spec_grammar.specs.Names.{find};
+ghost use Rattle.gup_spec_grammar.specs.Outline.{with_slot};
 ghost use Rattle.gup_read.specs.Reading.{with_made, on_in, process_in, thread_in, device_in, mover_in, seed_in, next_in};
 
 use crate::operations::actor_op;
 use crate::refusal::{Trouble, check};
 use crate::turns::{random_line, turns_line};
+use gup_base::ActorNo;
 use gup_read_outline::Reader;
 use gup_read_words::{count, is_name, number};
 use gup_script::{Kind, Op};
@@ -22,14 +25,33 @@ const MAX_DEVICES: usize = 16;
 /// How many words the store of a device may have.
 const MAX_SLOTS: u64 = 4_096;
 
-/// Declares the handle of a pin or of a reference, whose name is the first word after the operation's own.
-fn declare_made(reader: &mut Reader, op: &Op, fields: &[&str]) -> Result<(), AllocError>
+/// Declares a mirror slot of this device, unless it is one already.
+fn declare_slot(reader: &mut Reader, device: ActorNo, name: &str) -> Result<(), AllocError>
+    requires { MayHaveSlot name.now reader.old }
+    ensures { OnOk result (reader.new ≡ with_slot device name.now (find reader.old.names name.now) reader.old) }
+{
+    if reader.is_unused(name) {
+        reader.add_mirror(device, name)
+    } else {
+        Ok(())
+    }
+}
+
+/// Declares the handle of a pin or of a reference, or the slot of a mirror, which this actor's operation brings. Its name is the
+/// first word after the operation's own.
+fn declare_made(
+    reader: &mut Reader,
+    actor: ActorNo,
+    op: &Op,
+    fields: &[&str],
+) -> Result<(), AllocError>
     requires { IsDeclarable op.now (map (λ word. word.now) fields.now) reader.old }
-    ensures { OnOk result (reader.new ≡ with_made op.now (map (λ word. word.now) fields.now) reader.old) }
+    ensures { OnOk result (reader.new ≡ with_made actor op.now (map (λ word. word.now) fields.now) reader.old) }
 {
     match (op, fields) {
         (Op::Pin { .. }, [name, ..]) => reader.add_handle(name),
         (Op::Get { .. }, [name, ..]) => reader.add_reference(name),
+        (Op::Mirror { .. }, [name, ..]) => declare_slot(reader, actor, name),
         _ => Ok(()),
     }
 }
@@ -45,7 +67,7 @@ fn on_line(reader: &mut Reader, fields: &[&str]) -> Result<(), Trouble>
     let op = actor_op(reader, actor, word, fields)?;
     check(reader.has_room(), Reason::Limit)?;
     let op = op.ok_or(Reason::Later)?;
-    declare_made(reader, &op, fields)?;
+    declare_made(reader, actor, &op, fields)?;
     reader.add_operation(actor, op)?;
     Ok(())
 }

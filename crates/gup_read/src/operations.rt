@@ -314,10 +314,11 @@ fn mirror_op(reader: &Reader, device: ActorNo, fields: &[&str]) -> Result<Option
     let [mirror, process, page_word] = fields else {
         return Err(Reason::Shape);
     };
-    page(page_word).ok_or(Reason::Number)?;
+    let page = page(page_word).ok_or(Reason::Number)?;
     check(reader.may_be_mirror(device, mirror), Reason::Name)?;
-    reader.process(process).ok_or(Reason::Name)?;
-    Ok(None)
+    let proc = reader.process(process).ok_or(Reason::Name)?;
+    let mirror = reader.slot(mirror).ok_or(Reason::Limit)?;
+    Ok(Some(Op::Mirror { mirror, proc, page }))
 }
 
 #[tactic(auto, unfolding(crate::specs::Reading::look_in))]
@@ -327,9 +328,10 @@ fn look_op(reader: &Reader, device: ActorNo, fields: &[&str]) -> Result<Option<O
     let [mirror, word] = fields else {
         return Err(Reason::Shape);
     };
-    word_no(word).ok_or(Reason::Number)?;
+    let word = word_no(word).ok_or(Reason::Number)?;
     check(reader.is_mirror(device, mirror), Reason::Name)?;
-    Ok(None)
+    let mirror = reader.mirror(mirror).ok_or(Reason::Name)?;
+    Ok(Some(Op::Look { mirror, word }))
 }
 
 fn zone(word: &str) -> Option<Zone>

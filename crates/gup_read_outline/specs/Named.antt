@@ -20,6 +20,11 @@ abbrev pub got_of : Option Named → Option ℕ
 got_of (Some (named.Got h)) = Some h
 got_of _ = None
 
+-- a mirror slot, of whichever device
+abbrev pub mirror_of : Option Named → Option ℕ
+mirror_of (Some (named.Mirror m device)) = Some m
+mirror_of _ = None
+
 -- a mirror slot of this device
 abbrev pub is_mirror_of : ℕ → Option Named → Bool
 is_mirror_of a (Some (named.Mirror m owner)) = owner == a

@@ -3,13 +3,13 @@ ghost use Rattle.std.specs.Prelude.{◌≡◌, ◌↔◌, ◌<◌, ◌≤◌, �
 ghost use Rattle.std.specs.List.{list_any};
 ghost use Rattle.gup_spec_grammar.specs.Names.{find, is_unused};
 ghost use Rattle.gup_script.specs.Script.{actor_at, process_at};
-ghost use Rattle.gup_spec_grammar.specs.Outline.{frame_counts, empty_outline, with_process, with_actor, with_handle, with_reference, with_operation, with_turns, with_seed, draws, is_device, is_mover, how_many, has_mover, is_child, forks_child, is_forked, next_handle, is_receiver};
+ghost use Rattle.gup_spec_grammar.specs.Outline.{frame_counts, empty_outline, with_process, with_actor, with_handle, with_reference, with_mirror, with_operation, with_turns, with_seed, draws, is_device, is_mover, how_many, has_mover, is_child, forks_child, is_forked, next_handle, slot_of, is_receiver};
 ghost use Rattle.gup_script.specs.Script.{is_thread};
 ghost use Rattle.gup_read_outline.specs.Room.{HasRoomFor};
-ghost use Rattle.gup_read_outline.specs.Named.{process_of, actor_of, pin_of, got_of, is_mirror_of, may_mirror};
+ghost use Rattle.gup_read_outline.specs.Named.{process_of, actor_of, pin_of, got_of, mirror_of, is_mirror_of, may_mirror};
 
 use crate::drawing::{push_drawn, push_times};
-use gup_base::{ActorNo, HandleNo, ProcNo};
+use gup_base::{ActorNo, HandleNo, MirrorNo, ProcNo};
 use gup_read_names::Names;
 use gup_read_words::is_name;
 use gup_script::{Actor, Contents, Kind, Op, Process};
@@ -67,6 +67,7 @@ impl Reader {
                 processes: Vec::new(alloc),
                 actors: Vec::new(alloc),
                 handles: Vec::new(alloc),
+                mirrors: Vec::new(alloc),
                 turns: Vec::new(alloc),
                 seed: 0,
             },
@@ -139,6 +140,17 @@ impl Reader {
         }
     }
 
+    /// The mirror slot that the word names, of whichever device.
+    pub fn mirror(&self, word: &str) -> Option<MirrorNo>
+        ensures { result ≡ mirror_of (find self.now.names word.now) }
+    {
+        let named = self.names.find(word)?;
+        match named {
+            Named::Mirror(m, _) => Some(m),
+            _ => None,
+        }
+    }
+
     /// Whether the word names a mirror slot of this device.
     pub fn is_mirror(&self, device: ActorNo, word: &str) -> bool
         ensures { result ≡ is_mirror_of device (find self.now.names word.now) }
@@ -196,6 +208,20 @@ impl Reader {
         ensures { result ≡ next_handle self.now }
     {
         HandleNo::new(self.contents.handles.len() as u64)
+    }
+
+    /// The number of the mirror slot that the name names, or of the next one where it names nothing; `None` where there may be
+    /// no more.
+    pub fn slot(&self, name: &str) -> Option<MirrorNo>
+        ensures { result ≡ slot_of self.now (find self.now.names name.now) }
+    {
+        let Some(named) = self.names.find(name) else {
+            return MirrorNo::new(self.contents.mirrors.len() as u64);
+        };
+        match named {
+            Named::Mirror(m, _) => Some(m),
+            _ => None,
+        }
     }
 
     /// Whether a handle can be given to the actor: a thread or a device.
@@ -324,6 +350,18 @@ impl Reader {
         let number = HandleNo::new(self.contents.handles.len() as u64).unwrap();
         self.contents.handles.push(String::from_str(alloc, name)?)?;
         self.names.declare(name, Named::Got(number))
+    }
+
+    /// One more mirror slot, of this device.
+    pub fn add_mirror(&mut self, device: ActorNo, name: &str) -> Result<(), AllocError>
+        requires unused { is_unused self.old.names name.now ≡ true }
+        requires room { length self.old.script.mirrors < 64 }
+        ensures { OnOk result (self.new ≡ with_mirror device name.now self.old) }
+    {
+        let alloc = *self.contents.mirrors.allocator();
+        let number = MirrorNo::new(self.contents.mirrors.len() as u64).unwrap();
+        self.contents.mirrors.push(String::from_str(alloc, name)?)?;
+        self.names.declare(name, Named::Mirror(number, device))
     }
 
     /// One more operation of the actor.

@@ -1,4 +1,4 @@
-use gup_base::{ActorNo, HandleNo, ProcNo};
+use gup_base::{ActorNo, HandleNo, MirrorNo, ProcNo};
 use gup_read::read_script;
 use gup_script::Script;
 use gup_spec_grammar::{ReadRefusal, Reason, ScriptFault};
@@ -11,7 +11,7 @@ const DECLARED: &str =
     "gup 1\nframes 8 8 64\nprocess p\nchild c\nthread t p\ndevice d 64\nmover m\n";
 
 /// What stands after the seven lines, and its first fault. Where a line has a second fault, the first goes before it.
-const LINES: [(&str, u32, Reason); 157] = [
+const LINES: [(&str, u32, Reason); 189] = [
     ("process q\t\n", 8, Reason::Byte),
     ("# \u{e9}\n", 8, Reason::Byte),
     (" \u{7f}wrong\n", 8, Reason::Byte),
@@ -137,7 +137,6 @@ const LINES: [(&str, u32, Reason); 157] = [
     ("random 1 1000001\n", 8, Reason::Limit),
     ("turns t\nrandom 1 1000000\n", 9, Reason::Limit),
     ("random 1 18446744073709551615\n", 8, Reason::Limit),
-    ("on d mirror s c 0\n", 8, Reason::Later),
     ("on t pin h 0 1 read\non d outv h 0 0:1\n", 9, Reason::Later),
     (
         "on t pin h 0 1 read\non d inv h 0 0:1 1:63\n",
@@ -187,7 +186,60 @@ const LINES: [(&str, u32, Reason); 157] = [
     ("on t move p 0 normal\n", 8, Reason::Word),
     ("on d move p 0 movable\n", 8, Reason::Word),
     ("on m get g 0\n", 8, Reason::Word),
-    ("# x\n\n#\non d mirror s p 34359738367\n", 11, Reason::Later),
+    (
+        "# x\n\n#\non t pin h 0 1 read\non d inv h 0 0:64\n",
+        12,
+        Reason::Later,
+    ),
+    ("on t mirror s p 0\n", 8, Reason::Word),
+    ("on t look s\n", 8, Reason::Word),
+    ("on m mirror s p 0\n", 8, Reason::Word),
+    ("on d mirror s p 0\non t look s 0\n", 9, Reason::Word),
+    ("on d mirror 9 q\n", 8, Reason::Shape),
+    ("on d mirror 9 q 00 1\n", 8, Reason::Shape),
+    ("on d look 9\n", 8, Reason::Shape),
+    ("on d mirror s p 0\non d look s 512 1\n", 9, Reason::Shape),
+    ("on d mirror t q 34359738368\n", 8, Reason::Number),
+    (
+        "on d mirror s p 0\non d mirror s p 34359738368\n",
+        9,
+        Reason::Number,
+    ),
+    ("on d mirror s p 0\non d look s 512\n", 9, Reason::Number),
+    ("on d look s 0\non d mirror s p 0\n", 8, Reason::Name),
+    ("on d mirror S p 0\n", 8, Reason::Name),
+    ("on d mirror a2345678901234567 p 0\n", 8, Reason::Name),
+    ("on d mirror p p 0\n", 8, Reason::Name),
+    ("on d mirror d p 0\n", 8, Reason::Name),
+    ("on d mirror s q 0\n", 8, Reason::Name),
+    ("on d mirror s p 0\non d mirror s q 0\n", 9, Reason::Name),
+    ("on d mirror s p 0\non d mirror r s 0\n", 9, Reason::Name),
+    ("on t pin h 0 1 read\non d mirror h p 0\n", 9, Reason::Name),
+    ("on t pin h 0 1 read\non d look h 0\n", 9, Reason::Name),
+    ("on t get g 0\non d mirror g p 0\n", 9, Reason::Name),
+    ("on d look c 0\n", 8, Reason::Name),
+    (
+        "device e 1\non d mirror s p 0\non e mirror s p 0\n",
+        10,
+        Reason::Name,
+    ),
+    (
+        "device e 1\non d mirror s p 0\non e look s 0\n",
+        10,
+        Reason::Name,
+    ),
+    ("on d mirror s p 0\non t unpin s\n", 9, Reason::Name),
+    ("on d mirror s p 0\non t put s\n", 9, Reason::Name),
+    ("on d mirror s p 0\non s look s 0\n", 9, Reason::Name),
+    ("on d mirror s p 0\nthread u s\n", 9, Reason::Name),
+    ("on d mirror s p 0\nchild s\n", 9, Reason::Twice),
+    ("on d mirror s p 0\non t pin s 0 1 read\n", 9, Reason::Twice),
+    ("on d mirror s p 0\non t get s 0\n", 9, Reason::Twice),
+    (
+        "on d mirror s p 0\non d mirror s c 34359738367\non d look s 511\nwrong\n",
+        11,
+        Reason::Word,
+    ),
     ("process q\n\nwrong\nwrong  too\n", 10, Reason::Word),
     ("process q\nprocess q\nprocess q\n", 9, Reason::Twice),
     ("on u exit\nthread u p\n", 8, Reason::Name),
@@ -240,6 +292,11 @@ const WHOLE: &str =
 const HELD: &str =
     "gup 1\nframes 8 8 64\nprocess p\nthread t p\ndevice d 64\nmover m\non t pin h 5 16 write\non t pin g 34359738367 1 read\non t give h d\non d take h\non d out h 4294967295 0 64\non d in g 0 4294967295 1\non d give g t\non t take g\non t unpin h\non d unpin g\non t pin k 7 2 read long\non t get f 9\non t put f\non m move p 34359738367 movable\n";
 
+/// Two devices that mirror pages of both processes, one through two slots, and fill a slot again with another page, and look
+/// through the slots.
+const MIRRORED: &str =
+    "gup 1\nframes 8 8 64\nprocess p\nchild c\nthread t p\ndevice d 1\ndevice e 1\non d mirror s p 5\non e mirror a2345678r p 34359738367\non d look s 511\non d mirror b p 0\non d mirror s c 7\non t pin h 5 1 read\non e look a2345678r 0\non d look b 1\n";
+
 /// The fault for which the text is refused.
 fn fault(alloc: Global, text: &[u8]) -> Result<ScriptFault, Fail> {
     match read_script(alloc, text) {
@@ -279,7 +336,7 @@ fn faults_of_texts(rt: HostRuntime) -> Result<(), Fail> {
 
 /// A script that is as long as a limit allows has so many lines after the seven, each of this prefix, a number and
 /// this suffix; with one line more it has this fault in that line.
-const LIMITS: [(u32, &str, &str, &str, Reason); 12] = [
+const LIMITS: [(u32, &str, &str, &str, Reason); 18] = [
     (14, "process q", "", "child r\n", Reason::Limit),
     (14, "child q", "", "process p\n", Reason::Twice),
     (63, "thread u", " p", "thread v c\n", Reason::Limit),
@@ -315,6 +372,42 @@ const LIMITS: [(u32, &str, &str, &str, Reason); 12] = [
         " 0 1 read",
         "on t pinfast g 0 1 write long\n",
         Reason::Limit,
+    ),
+    (
+        64,
+        "on d mirror s",
+        " p 0",
+        "on d mirror r p 0\n",
+        Reason::Limit,
+    ),
+    (
+        64,
+        "on d mirror s",
+        " p 0",
+        "on d mirror r q 0\n",
+        Reason::Name,
+    ),
+    (64, "on d mirror s", " p 0", "on d look r 0\n", Reason::Name),
+    (
+        64,
+        "on d mirror s",
+        " p 0",
+        "on d mirror s63 p 00\n",
+        Reason::Number,
+    ),
+    (
+        16_384,
+        "on t load ",
+        ".0",
+        "on d mirror s p 0\n",
+        Reason::Limit,
+    ),
+    (
+        16_384,
+        "on t load ",
+        ".0",
+        "on d mirror t p 0\n",
+        Reason::Name,
     ),
 ];
 
@@ -394,6 +487,10 @@ fn told(alloc: Global, script: &Script) -> Result<String, Fail> {
         let handle = HandleNo::new(u64::from(h)).ok_or("a handle")?;
         write!(text, "{}\n", script.handle_name(handle))?;
     }
+    for m in 0..script.mirrors() {
+        let slot = MirrorNo::new(u64::from(m)).ok_or("a mirror slot")?;
+        write!(text, "slot {}\n", script.mirror_name(slot))?;
+    }
     for turn in script.turns() {
         write!(text, "{} ", turn.get())?;
     }
@@ -426,4 +523,34 @@ const HELD_TOLD: &str =
 #[test]
 fn script_with_handles(rt: HostRuntime) -> Result<(), Fail> {
     expect_script(&rt, rt.alloc(), HELD, HELD_TOLD)
+}
+
+const MIRRORED_TOLD: &str =
+    "(8, 8, 64) 0\np true\nc false\nt Thread(ProcNo { number: 0 })\nPin { handle: HandleNo { number: 0 }, page: PageNo { number: 5 }, n: 1, want: Want { write: false, long: false }, fast: false }\nd Device(1)\nMirror { mirror: MirrorNo { number: 0 }, proc: ProcNo { number: 0 }, page: PageNo { number: 5 } }\nLook { mirror: MirrorNo { number: 0 }, word: WordNo { number: 511 } }\nMirror { mirror: MirrorNo { number: 2 }, proc: ProcNo { number: 0 }, page: PageNo { number: 0 } }\nMirror { mirror: MirrorNo { number: 0 }, proc: ProcNo { number: 1 }, page: PageNo { number: 7 } }\nLook { mirror: MirrorNo { number: 2 }, word: WordNo { number: 1 } }\ne Device(1)\nMirror { mirror: MirrorNo { number: 1 }, proc: ProcNo { number: 0 }, page: PageNo { number: 34359738367 } }\nLook { mirror: MirrorNo { number: 1 }, word: WordNo { number: 0 } }\nh\nslot s\nslot a2345678r\nslot b\n";
+
+#[test]
+fn script_with_mirrors(rt: HostRuntime) -> Result<(), Fail> {
+    expect_script(&rt, rt.alloc(), MIRRORED, MIRRORED_TOLD)
+}
+
+/// With 64 slots declared, each is used again as before, and one more is too many.
+#[test]
+fn last_slots(rt: HostRuntime) -> Result<(), Fail> {
+    let mut text = String::from_str(rt.alloc(), DECLARED)?;
+    with_lines(&mut text, 64, "on d mirror s", " p 0")?;
+    with_lines(&mut text, 64, "on d mirror s", " c 1")?;
+    text.push_str("on d look s0 0\non d look s63 511\n")?;
+    let script = read_script(rt.alloc(), text.as_bytes())
+        .ok()
+        .ok_or("the text is a script")?;
+    assert_eq!(rt; script.mirrors(), 64);
+    let last = MirrorNo::new(63).ok_or("a mirror slot")?;
+    assert_eq!(rt; script.mirror_name(last), "s63");
+    text.push_str("on d mirror r p 0\n")?;
+    let expected = ScriptFault {
+        line: 138,
+        reason: Reason::Limit,
+    };
+    assert_eq!(rt; fault(rt.alloc(), text.as_bytes())?, expected);
+    Ok(())
 }

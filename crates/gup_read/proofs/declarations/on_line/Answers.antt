@@ -12,4 +12,4 @@ pub add_operation-requires-clause-there : goal.add_operation-requires-clause-the
 add_operation-requires-clause-there c =
     let within = actor_within c.args.reader.now c.in_ok-actor.actor _ _ c.in_ok-op.op (sym c.actor_op.ensures ∙ c.in_ok-op.was) in
     subst (λ (st : Outline). c.in_ok-actor.actor < length st.script.actors) (sym c.in_ok-declare_made.ensures)
-    (still_within c.in_ok-op-2.op _ c.args.reader.now c.in_ok-actor.actor within)
+    (still_within c.in_ok-op-2.op _ c.args.reader.now c.in_ok-actor.actor c.in_ok-actor.actor within)
