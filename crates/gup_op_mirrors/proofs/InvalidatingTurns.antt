@@ -17,13 +17,14 @@ use Rattle.gup_script.specs.Valid.{IsOp}
 use Rattle.gup_script.specs.declared.op.Op.{Op}
 use Rattle.gup_script.specs.declared.op.Op.TheVariants.{Map, Unmap, Protect, Discard, Load, Store, Pin, Unpin, Give, Take, Get, Put, Transfer, Mirror, Look, Fork, Exit, Move}
 use Rattle.gup_spec_events.specs.State.{CoreState, Job, idle, moving, forking, Counted, unread, one, more, between, counted, copying}
-use Rattle.gup_spec_events.specs.Event.{CoreEvent, lower_entry, protect_pages, drop_entry, discard_entry, load, store, get_reference}
+use Rattle.gup_spec_events.specs.Event.{CoreEvent, lower_entry, protect_pages, drop_entry, discard_entry, load, store, get_reference, fill_mirror}
 use Rattle.gup_spec_events.specs.Failure.{are_gone, puts_entry, puts_entries}
 use Rattle.gup_spec_events.specs.Fault.{gives_back}
 use Rattle.gup_spec_journal.specs.Denial.{has_reference}
 use Rattle.gup_spec_turns.specs.CoreTurn.{free_in, free_frame}
 use Rattle.gup_spec_turns.specs.PageTurns.{loads, load_turn, stores, store_turn, load_fault, store_fault, mapped_turn, lowers_entry, lowers, lowers_for, exit_turn_by, lowest_page}
 use Rattle.gup_spec_turns.specs.PinTurns.{gets, get_turn, got_by, got_frame}
+use Rattle.gup_spec_turns.specs.MirrorTurns.{fills, mirror_turn, look_turn}
 use Rattle.gup_spec_turns.specs.MoveTurns.{place_turn, counted_turn, move_turn}
 use Rattle.gup_spec_turns.specs.ForkTurns.{next_page, page_turn, next_turn, frame_turn, copy_turn, copying_turn, fork_turn}
 use Rattle.gup_spec_turns.specs.Turn.{op_turn}
@@ -150,6 +151,17 @@ module _ (s : CoreState) (a p : ℕ) where
   transferred None handle true last index slot q g some = refl
   transferred None handle false last index slot q g some = refl
 
+  -- ---- mirrors
+
+  filled : (mirror page : ℕ) → Invalidates s (mirror_turn s a p mirror page (s.entry p page)).events None
+  filled mirror page =
+      faulted s (load_fault s a p page (s.entry p page)) (λ before. fills s before a p mirror page) None
+      (λ before none. tailed s before (fill_mirror a mirror p page _ _ ∷ []) None none (λ q g some. refl)) (load_none s a p page (s.entry p page))
+
+  looked : (mirror word : ℕ) (frame : Option ℕ) → Invalidates s (look_turn s a mirror word frame).events None
+  looked mirror word None q g some = refl
+  looked mirror word (Some f) q g some = refl
+
   -- ---- forks
 
   entry_put : (c : ℕ) (done : List ℕ) (page : ℕ) (entry : Option Entry) (ends : Bool) → Invalidates s (puts_entry a p c done page entry ends) None
@@ -208,8 +220,8 @@ invalidated_is s a p slots far (Get handle page) valid maps = got s a p handle p
 invalidated_is s a p slots far (Put handle) valid maps = put_none s a p (has_reference (got_by (s.got handle)) a) handle
 invalidated_is s a p slots far (Transfer handle outward slot parts) valid maps =
     transferred s a p (transfer_denial (s.handle handle) a outward slots slot parts) handle outward (far + 1 == words_of parts) (word_at parts far) (slot + far)
-invalidated_is s a p slots far (Mirror mirror proc page) valid maps = absurd valid
-invalidated_is s a p slots far (Look mirror word) valid maps = absurd valid
+invalidated_is s a p slots far (Mirror mirror proc page) valid maps = filled s a p mirror page
+invalidated_is s a p slots far (Look mirror word) valid maps = looked s a p mirror word (s.mirrored mirror)
 invalidated_is s a p slots far (Move proc page zone) valid maps = moved s a p maps page zone (s.job a)
 invalidated_is s a p slots far (Fork child) valid maps = forked s a p child (s.job a)
 invalidated_is s a p slots far Exit valid maps = exited s a p (lowest_page (s.right p))
