@@ -1,5 +1,6 @@
 -- Which slots are left where those of the pages are emptied that a turn invalidates.
-use Rattle.std.proofs.Common.{◌≡◌, ℕ, ◌+◌, ◌<◌, ◌==◌, ◌&&◌, Bool, true, false, if◌then◌else◌, List, Option, Some, None, IsSome, refl, sym, ap, ◌∙◌, subst, nat_le, nat_lt, length, slice_get}
+use Rattle.std.proofs.Common.{◌≡◌, ℕ, ◌+◌, ◌<◌, ◌==◌, ◌&&◌, Bool, true, false, if◌then◌else◌, List, [], ◌∷◌, suc, Option, Some, None, IsSome, refl, sym, ap, ◌∙◌, subst, nat_le, nat_lt, length, slice_get, inl, inr, arith}
+use Rattle.std.proofs.lemmas.Option.{slice_get_cases}
 use Rattle.gup_base.specs.Parts.{words_of, word_at}
 use Rattle.gup_base.specs.declared.entry.Entry.{Entry}
 use Rattle.gup_plain.specs.Denial.{is_held_by, transfer_denial}
@@ -7,8 +8,8 @@ use Rattle.gup_plain.specs.Put.{within}
 use Rattle.gup_plain.specs.State.{Noted}
 use Rattle.gup_script.specs.declared.op.Op.{Op}
 use Rattle.gup_script.specs.declared.op.Op.TheVariants.{Unpin, Give, Take, Transfer, Look}
-use Rattle.gup_spec_events.specs.State.{CoreState}
-use Rattle.gup_spec_events.specs.Event.{CoreEvent}
+use Rattle.gup_spec_events.specs.State.{CoreState, Taken}
+use Rattle.gup_spec_events.specs.Event.{CoreEvent, taken_frames}
 use Rattle.gup_spec_events.specs.Invariant.{frame_of}
 use Rattle.gup_law_base.specs.Sound.{IsSound}
 use Rattle.gup_spec_turns.specs.Emptying.{PageRange, has_page, invalidate, left_in}
@@ -19,6 +20,11 @@ use Rattle.gup_law_turns.proofs.MirrorOps.{look_none}
 use Rattle.gup_law_mirrors.proofs.InvalidatingTurns.{unpinned_none, given_none, transferred}
 use Rattle.gup_op_waits.specs.Doers.{HasProcess}
 
+-- each page that is taken has a frame
+pub length_frames : (taken : List Taken) → length (taken_frames taken) ≡ length taken
+length_frames [] = refl
+length_frames (t ∷ taken) = ap (λ n. suc n) (length_frames taken)
+
 -- a filled slot's page has an entry
 pub has_entry : (s : CoreState) (mirrors : MirrorsValue) → IsSound s → ShowsMirrors mirrors s → (m : ℕ) (filled : Filled) → mirrors m ≡ Some filled → IsSome (s.entry filled.proc filled.page)
 has_entry s mirrors sound shown m filled is = go (subst (λ (o : Option Filled). IsMirror o (s.mirrored m) (s.slot m)) is (shown m))
@@ -28,7 +34,7 @@ has_entry s mirrors sound shown m filled is = go (subst (λ (o : Option Filled).
     some (Some e) found = refl
 
     go : IsMirror (Some filled) (s.mirrored m) (s.slot m) → IsSome (s.entry filled.proc filled.page)
-    go (frame, it, noted, proc, page) =
+    go (frame, (it, noted, proc, page)) =
         some (s.entry filled.proc filled.page)
         (ap (λ (p : ℕ). frame_of (s.entry p filled.page)) (sym proc) ∙ ap (λ (g : ℕ). frame_of (s.entry it.proc g)) (sym page)
         ∙ sound.1.mirror_entry m filled.frame it frame noted)
@@ -44,7 +50,7 @@ left_shown old new s t es shown left notes some none m = go (old m) refl (shown 
     go None is empty =
         subst (λ (n : Option Filled). IsMirror n (t.mirrored m) (t.slot m)) (sym (none m is))
         (left m ∙ ap (λ (frame : Option ℕ). left_in es frame (s.slot m)) empty)
-    go (Some filled) is (frame, it, noted, proc, page) = by_stale (invalidate es filled.proc filled.page) refl
+    go (Some filled) is (frame, (it, noted, proc, page)) = by_stale (invalidate es filled.proc filled.page) refl
       where
         frame_left : t.mirrored m ≡ (if invalidate es filled.proc filled.page then None else Some filled.frame)
         frame_left =
@@ -58,7 +64,7 @@ left_shown old new s t es shown left notes some none m = go (old m) refl (shown 
             (frame_left ∙ ap (λ (b : Bool). if b then None else Some filled.frame) stale)
         by_stale false fresh =
             subst (λ (n : Option Filled). IsMirror n (t.mirrored m) (t.slot m)) (sym (some m filled is ∙ ap (λ (b : Bool). if b then None else Some filled) fresh))
-            (frame_left ∙ ap (λ (b : Bool). if b then None else Some filled.frame) fresh, it, notes m ∙ noted, proc, page)
+            (frame_left ∙ ap (λ (b : Bool). if b then None else Some filled.frame) fresh, (it, notes m ∙ noted, proc, page))
 
 -- a turn that invalidates none of their pages leaves them
 pub none_left : (old : MirrorsValue) (s t : CoreState) (es : List CoreEvent) → ShowsMirrors old s
@@ -90,3 +96,11 @@ device_none s a p slots far (Transfer handle outward slot parts) none q g some =
     transferred s a p (transfer_denial (s.handle handle) a outward slots slot parts) handle outward (far + 1 == words_of parts) (word_at parts far) (slot + far) q g some
 device_none s a p slots far (Look mirror word) none q g some = look_none s a mirror word q g (s.mirrored mirror)
 device_none s a p slots far op none q g some = absurd (none tt)
+
+-- a list has an element at each of its places
+pub element_there : {X : Type 0} (xs : List X) (i : ℕ) → i < length xs → (x : X) × (slice_get xs i ≡ Some x)
+element_there xs i within =
+    elim (slice_get_cases xs i).1 [
+      | inl found ↦ (found.0, found.2)
+      | inr past ↦ absurd (omega (arith, past.0))
+    ]
