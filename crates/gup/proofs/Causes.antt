@@ -16,7 +16,7 @@ use Rattle.gup_spec_journal.specs.Place.{Place, Doer, doer_of, present_op}
 use Rattle.gup_plain.specs.Denial.{is_denial}
 use Rattle.gup_spec_journal.specs.Denial.{References, denial}
 use Rattle.gup_spec_journal.specs.Plain.{Judged, judged_by, judged_before, got_at, refusal_in, IsAnswerAfter, IsRightAt, AreSo}
-use Rattle.gup_spec_turns.specs.Cause.{CoreCause, LacksFrame, LacksExactly, UntouchedExactly, BusyExactly, UnmovableExactly, RefusesUnmovable, IsKnownAnswer, IsKnown, AreKnown, answers_in, answered_in}
+use Rattle.gup_spec_turns.specs.Cause.{CoreCause, LacksFrame, LacksExactly, UntouchedExactly, BusyExactly, UnmovableExactly, StaleExactly, RefusesUnmovable, answers_in, answered_in}
 use Rattle.gup_spec_turns.specs.Run.{RunState, Runs, run_start, run_after, turned, turn_in}
 use Rattle.gup_core.specs.Machine.{IsReached}
 use Rattle.gup_core.proofs.Resting.{reached_behind}
@@ -36,29 +36,30 @@ IsLost answers.NoFrame = Unit {0}
 IsLost (answers.Busy count) = Unit {0}
 IsLost answers.Untouched = Unit {0}
 IsLost (answers.Unmovable count) = Unit {0}
+IsLost answers.Stale = Unit {0}
 IsLost answer = ⊥
 
-by_answer : (core : Answer → Type 0) (op : Op) (had : Bool) (d : Option Answer) (a : Answer) → IsKnownAnswer a → ((lost : Answer) → IsLost lost → refusal_in a ≡ lost → core lost) → IsAnswerAfter (judged_before op had a) d (refusal_in a) → IsCausedBy core d (refusal_in a)
-by_answer core op had d answers.Plain known wants is = tt
-by_answer core op had d (answers.Value v) known wants is = tt
-by_answer core op had d (answers.Pinned n) known wants is = tt
-by_answer core op had d answers.Words known wants is = tt
-by_answer core op had d (answers.Short g w causes.Missing) known wants is = denied_so (judged_before op had (answers.Short g w causes.Missing)) d answers.Missing refl is
-by_answer core op had d (answers.Short g w causes.Forbidden) known wants is = denied_so (judged_before op had (answers.Short g w causes.Forbidden)) d answers.Forbidden refl is
-by_answer core op had d (answers.Short g w causes.NoFrame) known wants is = wants answers.NoFrame tt refl
-by_answer core op had d (answers.Short g w (causes.Unmovable c)) known wants is = wants (answers.Unmovable c) tt refl
-by_answer core op had d answers.Missing known wants is = denied_so (judged_before op had answers.Missing) d answers.Missing refl is
-by_answer core op had d answers.Forbidden known wants is = denied_so (judged_before op had answers.Forbidden) d answers.Forbidden refl is
-by_answer core op had d answers.NoFrame known wants is = wants answers.NoFrame tt refl
-by_answer core op had d answers.NotHeld known wants is = denied_so (judged_before op had answers.NotHeld) d answers.NotHeld refl is
-by_answer core op had d answers.Range known wants is = denied_so (judged_before op had answers.Range) d answers.Range refl is
-by_answer core op had d answers.Overlap known wants is = denied_so (judged_before op had answers.Overlap) d answers.Overlap refl is
-by_answer core op had d answers.Full known wants is = denied_so (judged_before op had answers.Full) d answers.Full refl is
-by_answer core op had d answers.Unborn known wants is = denied_so (judged_before op had answers.Unborn) d answers.Unborn refl is
-by_answer core op had d (answers.Unmovable c) known wants is = wants (answers.Unmovable c) tt refl
-by_answer core op had d (answers.Busy c) known wants is = wants (answers.Busy c) tt refl
-by_answer core op had d answers.Untouched known wants is = wants answers.Untouched tt refl
-by_answer core op had d answers.Stale known wants is = absurd known
+by_answer : (core : Answer → Type 0) (op : Op) (had : Bool) (d : Option Answer) (a : Answer) → ((lost : Answer) → IsLost lost → refusal_in a ≡ lost → core lost) → IsAnswerAfter (judged_before op had a) d (refusal_in a) → IsCausedBy core d (refusal_in a)
+by_answer core op had d answers.Plain wants is = tt
+by_answer core op had d (answers.Value v) wants is = tt
+by_answer core op had d (answers.Pinned n) wants is = tt
+by_answer core op had d answers.Words wants is = tt
+by_answer core op had d (answers.Short g w causes.Missing) wants is = denied_so (judged_before op had (answers.Short g w causes.Missing)) d answers.Missing refl is
+by_answer core op had d (answers.Short g w causes.Forbidden) wants is = denied_so (judged_before op had (answers.Short g w causes.Forbidden)) d answers.Forbidden refl is
+by_answer core op had d (answers.Short g w causes.NoFrame) wants is = wants answers.NoFrame tt refl
+by_answer core op had d (answers.Short g w (causes.Unmovable c)) wants is = wants (answers.Unmovable c) tt refl
+by_answer core op had d answers.Missing wants is = denied_so (judged_before op had answers.Missing) d answers.Missing refl is
+by_answer core op had d answers.Forbidden wants is = denied_so (judged_before op had answers.Forbidden) d answers.Forbidden refl is
+by_answer core op had d answers.NoFrame wants is = wants answers.NoFrame tt refl
+by_answer core op had d answers.NotHeld wants is = denied_so (judged_before op had answers.NotHeld) d answers.NotHeld refl is
+by_answer core op had d answers.Range wants is = denied_so (judged_before op had answers.Range) d answers.Range refl is
+by_answer core op had d answers.Overlap wants is = denied_so (judged_before op had answers.Overlap) d answers.Overlap refl is
+by_answer core op had d answers.Full wants is = denied_so (judged_before op had answers.Full) d answers.Full refl is
+by_answer core op had d answers.Unborn wants is = denied_so (judged_before op had answers.Unborn) d answers.Unborn refl is
+by_answer core op had d (answers.Unmovable c) wants is = wants (answers.Unmovable c) tt refl
+by_answer core op had d (answers.Busy c) wants is = wants (answers.Busy c) tt refl
+by_answer core op had d answers.Untouched wants is = wants answers.Untouched tt refl
+by_answer core op had d answers.Stale wants is = wants answers.Stale tt refl
 
 -- an answer for want of a frame is one that a turn gives for that
 lacks_first : (answer : Answer) (whats : List What) → refusal_in answer ≡ answers.NoFrame → LacksFrame (Done answer ∷ whats)
@@ -121,6 +122,7 @@ pub record HasCore (core : Answer → Type 0) (whats : List What) : Type 0 where
   pub untouched : Contains whats (Done answers.Untouched) → core answers.Untouched
   pub busy : (count : ℕ) → Contains whats (Done (answers.Busy count)) → core (answers.Busy count)
   pub unmovable : (count : ℕ) → RefusesUnmovable whats count → core (answers.Unmovable count)
+  pub stale : Contains whats (Done answers.Stale) → core answers.Stale
 
 contains_later : (what x : What) (whats : List What) → Contains whats x → Contains (what ∷ whats) x
 contains_later what x whats (k, less, is) = (suc k, omega (arith, less), is)
@@ -132,6 +134,7 @@ has_later core what whats h =
       untouched = λ there. h.untouched (contains_later what (Done answers.Untouched) whats there);
       busy = λ count there. h.busy count (contains_later what (Done (answers.Busy count)) whats there);
       unmovable = λ count there. h.unmovable count (unmovable_later what whats count there);
+      stale = λ there. h.stale (contains_later what (Done answers.Stale) whats there);
     }
 
 -- an answer of this kind alone is its own refusal
@@ -149,25 +152,27 @@ lost_first core answer whats h (answers.Busy count) kind is =
 lost_first core answer whats h answers.Untouched kind is =
     h.untouched (0, omega arith, ap (λ (x : Answer). Done x) (itself answer answers.Untouched is (λ same. absurd (cc same)) (λ c same. absurd (cc same)) tt))
 lost_first core answer whats h (answers.Unmovable count) kind is = h.unmovable count (unmovable_first answer count whats is)
+lost_first core answer whats h answers.Stale kind is =
+    h.stale (0, omega arith, ap (λ (x : Answer). Done x) (itself answer answers.Stale is (λ same. absurd (cc same)) (λ c same. absurd (cc same)) tt))
 lost_first core answer whats h lost kind is = absurd kind
 
 module _ (core : Answer → Type 0) where
-  caused_at : (s : PlainState) (references : References) (who : Doer) (place : Place) (op : Option Op) (what : What) (whats : List What) → HasCore core (what ∷ whats) → IsKnown what → IsRightAt s references who place op what → IsCausedAt core s references who op what
-  caused_at s references who place None what whats lacks known right = tt
-  caused_at s references who place (Some op) (Done answer) whats lacks known right =
-      by_answer core op place.had (denial s references who (got_at s who.actor answer) op) answer known (lost_first core answer whats lacks) right.1
-  caused_at s references who place (Some op) Silent whats lacks known right = tt
-  caused_at s references who place (Some op) Idle whats lacks known right = tt
-  caused_at s references who place (Some op) (Wait waiting) whats lacks known right = tt
-  caused_at s references who place (Some op) (Event event) whats lacks known right = tt
+  caused_at : (s : PlainState) (references : References) (who : Doer) (place : Place) (op : Option Op) (what : What) (whats : List What) → HasCore core (what ∷ whats) → IsRightAt s references who place op what → IsCausedAt core s references who op what
+  caused_at s references who place None what whats lacks right = tt
+  caused_at s references who place (Some op) (Done answer) whats lacks right =
+      by_answer core op place.had (denial s references who (got_at s who.actor answer) op) answer (lost_first core answer whats lacks) right.1
+  caused_at s references who place (Some op) Silent whats lacks right = tt
+  caused_at s references who place (Some op) Idle whats lacks right = tt
+  caused_at s references who place (Some op) (Wait waiting) whats lacks right = tt
+  caused_at s references who place (Some op) (Event event) whats lacks right = tt
 
-  -- the notes of a turn are caused, and the rest is plain and known after them
-  caused_turn : (script : ScriptValue) (j : Judged) (t a n : ℕ) (whats : List What) (rest : List NoteValue) → HasCore core whats → AreSo IsRightAt script j (notes_of_turn t a n whats ++ rest) → AreKnown (notes_of_turn t a n whats ++ rest) → IsCausedTurn core script j a whats × AreSo IsRightAt script (judged_turn script j a whats) rest × AreKnown rest
-  caused_turn script j t a n [] rest lacks plain known = (tt, plain, known)
-  caused_turn script j t a n (what ∷ whats) rest lacks plain known =
-      let later = caused_turn script (judged_by script j a what) t a n whats rest (has_later core what whats lacks) plain.1 known.1 in
+  -- the notes of a turn are caused, and the rest is plain after them
+  caused_turn : (script : ScriptValue) (j : Judged) (t a n : ℕ) (whats : List What) (rest : List NoteValue) → HasCore core whats → AreSo IsRightAt script j (notes_of_turn t a n whats ++ rest) → IsCausedTurn core script j a whats × AreSo IsRightAt script (judged_turn script j a whats) rest
+  caused_turn script j t a n [] rest lacks plain = (tt, plain)
+  caused_turn script j t a n (what ∷ whats) rest lacks plain =
+      let later = caused_turn script (judged_by script j a what) t a n whats rest (has_later core what whats lacks) plain.1 in
       let place : Place = j.places a in
-      ((caused_at j.plain j.references (doer_of script a (present_op script a place)) place (present_op script a place) what whats lacks known.0 plain.0, later.0), later.1, later.2)
+      ((caused_at j.plain j.references (doer_of script a (present_op script a place)) place (present_op script a place) what whats lacks plain.0, later.0), later.1)
 
 -- what is known of the refusals of every turn from a state that turns lead to
 pub record AreExact : Type 0 where
@@ -175,6 +180,7 @@ pub record AreExact : Type 0 where
   pub untouched : (script : ScriptValue) (actors : List ℕ) (a : ℕ) → IsScript script → UntouchedExactly script (turned script (run_start script) actors) (turn_in script (turned script (run_start script) actors) a)
   pub busy : (script : ScriptValue) (actors : List ℕ) (a : ℕ) → IsScript script → BusyExactly script (turned script (run_start script) actors) (turn_in script (turned script (run_start script) actors) a)
   pub unmovable : (script : ScriptValue) (actors : List ℕ) (a : ℕ) → IsScript script → UnmovableExactly script (turned script (run_start script) actors) (turn_in script (turned script (run_start script) actors) a)
+  pub stale : (script : ScriptValue) (actors : List ℕ) (a : ℕ) → IsScript script → StaleExactly script (turned script (run_start script) actors) (turn_in script (turned script (run_start script) actors) a)
 
 exact_at : AreExact → (script : ScriptValue) (r : RunState) (a : ℕ) → IsScript script → IsReached script r → IsExact script r (turn_in script r a)
 exact_at exact script r a valid reached = (
@@ -182,12 +188,13 @@ exact_at exact script r a valid reached = (
   subst (λ (x : RunState). UntouchedExactly script x (turn_in script x a)) (sym reached.1) (exact.untouched script reached.0 a valid),
   subst (λ (x : RunState). BusyExactly script x (turn_in script x a)) (sym reached.1) (exact.busy script reached.0 a valid),
   subst (λ (x : RunState). UnmovableExactly script x (turn_in script x a)) (sym reached.1) (exact.unmovable script reached.0 a valid),
+  subst (λ (x : RunState). StaleExactly script x (turn_in script x a)) (sym reached.1) (exact.stale script reached.0 a valid),
 )
 
--- in a plain journal of known answers, whose turns refuse so only for these causes, each refusal has its cause
-pub caused : AreExact → (script : ScriptValue) → IsScript script → (j : Judged) (number : ℕ) (places : ℕ → Place) (turns : List Turn) (r end : RunState) → IsReached script r → Runs script r turns end → AreSo IsRightAt script j (journal_of number places turns) → AreKnown (journal_of number places turns) → AreCaused script r j turns
-caused exact script valid j number places [] r end reached run plain known = tt
-caused exact script valid j number places (turn ∷ turns) r end reached run plain known =
+-- in a plain journal, whose turns refuse so only for these causes, each refusal has its cause
+pub caused : AreExact → (script : ScriptValue) → IsScript script → (j : Judged) (number : ℕ) (places : ℕ → Place) (turns : List Turn) (r end : RunState) → IsReached script r → Runs script r turns end → AreSo IsRightAt script j (journal_of number places turns) → AreCaused script r j turns
+caused exact script valid j number places [] r end reached run plain = tt
+caused exact script valid j number places (turn ∷ turns) r end reached run plain =
     let a : ℕ = turn.actor in
     let here : IsExact script r turn = subst (λ (t : Turn). IsExact script r (record { actor = a; whats = t.whats })) (sym run.1) (exact_at exact script r a valid reached) in
     let core : HasCore (CoreCause script r a) turn.whats =
@@ -196,10 +203,11 @@ caused exact script valid j number places (turn ∷ turns) r end reached run pla
       untouched = here.1.0;
       busy = λ count. (here.2 count).0;
       unmovable = λ count. (here.3 count).0;
+      stale = here.4.0;
     } in
     let rest : List NoteValue = journal_of (number + 1) (places_behind places turn) turns in
-    let now = caused_turn (CoreCause script r a) script j number a ((places a).answered + 1) turn.whats rest core plain known in
-    let later = caused exact script valid (judged_turn script j a turn.whats) (number + 1) (places_behind places turn) turns (run_after script r a) end (reached_behind script r a reached) run.2 now.1 now.2 in
+    let now = caused_turn (CoreCause script r a) script j number a ((places a).answered + 1) turn.whats rest core plain in
+    let later = caused exact script valid (judged_turn script j a turn.whats) (number + 1) (places_behind places turn) turns (run_after script r a) end (reached_behind script r a reached) run.2 now.1 in
     (now.0, here, later)
 
 -- as many outcomes as answers, whatever words were moved before

@@ -12,7 +12,7 @@ use Rattle.gup_spec_journal.specs.Denial.{References, denial}
 use Rattle.gup_spec_journal.specs.Order.{Turn, journal_of}
 use Rattle.gup_spec_journal.specs.Place.{Doer, first_place, doer_of, present_op}
 use Rattle.gup_spec_journal.specs.Plain.{Judged, judged_first, judged_by, got_at, refusal_in}
-use Rattle.gup_spec_turns.specs.Cause.{CoreCause, LacksExactly, UntouchedExactly, BusyExactly, UnmovableExactly}
+use Rattle.gup_spec_turns.specs.Cause.{CoreCause, LacksExactly, UntouchedExactly, BusyExactly, UnmovableExactly, StaleExactly}
 use Rattle.gup_spec_turns.specs.Run.{RunState, Runs, run_start, run_after}
 
 -- What causes an answer, by what it says: a denial, that the plain state denies the operation so; another refusal, what the
@@ -48,10 +48,12 @@ IsCausedTurn core script j a (what ∷ whats) =
     IsCausedAt core j.plain j.references (doer_of script a op) op what
     × IsCausedTurn core script (judged_by script j a what) a whats
 
--- a turn refuses for want of a frame, or an untouched, busy or unmovable page, exactly where its operation finds it so
+-- a turn refuses for want of a frame, or an untouched, busy or unmovable page, or a stale slot, exactly where its operation finds it
+-- so
 abbrev pub IsExact : ScriptValue → RunState → Turn → Type 0
 IsExact script r turn =
     LacksExactly script r turn × UntouchedExactly script r turn × BusyExactly script r turn × UnmovableExactly script r turn
+    × StaleExactly script r turn
 
 -- the same of each turn of a core run from here on
 abbrev pub AreCaused : ScriptValue → RunState → Judged → List Turn → Type 0
@@ -63,7 +65,8 @@ AreCaused script r j (turn ∷ turns) =
 
 -- Every refusal is the plain state's, or the core state's of its turn in the core run whose journal it is. One for want of a
 -- frame comes exactly where the turn needs a frame and none is free that it may take; that a page is untouched, busy or can't be
--- moved comes exactly where its entry is not there, or where that many references of its frame were counted.
+-- moved comes exactly where its entry is not there, or where that many references of its frame were counted. A look is stale exactly
+-- where its slot is empty.
 abbrev pub HasCauses : ScriptValue → List NoteValue → Type 0
 HasCauses script notes =
     (turns : List Turn) × (end : RunState) × (notes ≡ journal_of 1 (λ _. first_place) turns)

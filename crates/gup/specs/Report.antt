@@ -16,6 +16,7 @@ use Rattle.gup_law_owners.specs.Owners.{OwnsBytes, journal_events}
 use Rattle.gup.specs.declared.top.Unread.{Unread}
 use Rattle.gup.specs.declared.top.Unread.TheVariants.{Failed, Fault, NoMemory}
 use Rattle.gup.specs.Cause.{HasCauses}
+use Rattle.gup_spec_journal.specs.Stale.{AreStaleSeen}
 use Rattle.gup.specs.Stuck.{IsFinishedRun, IsStuckRun, AreWaiting, run_text}
 use Rattle.gup_spec_grammar.specs.Fault.{HasFault}
 use Rattle.gup_spec_grammar.specs.Grammar.{Accepts}
@@ -100,6 +101,7 @@ pub record IsRunOf (script : ScriptValue) (stuck : Bool) (notes : List NoteValue
   pub thorough : IsThorough script notes
   pub owned : OwnsBytes (starts_born script) (journal_events notes)
   pub causes : HasCauses script notes
+  pub stale : AreStaleSeen script notes
   pub end : RunState
   pub core : IsCoreRun script notes end
   pub ends : SaysStuck stuck script end

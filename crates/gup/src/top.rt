@@ -14,6 +14,7 @@ ghost use Rattle.gup_spec_turns.specs.Cost.{operations};
 ghost use Rattle.gup_spec_turns.specs.Run.{RunState, IsCoreRun};
 ghost use Rattle.gup_lines.specs.Text.{text_of, outcomes_of};
 ghost use Rattle.gup.specs.Cause.{HasCauses};
+ghost use Rattle.gup_spec_journal.specs.Stale.{AreStaleSeen};
 ghost use Rattle.gup.specs.Stuck.{IsFinishedRun, IsStuckRun, run_text};
 ghost use Rattle.gup.specs.Report.{IsRun, IsCommand, IsStatus, HasRun, OfScript, AreScript, IsRunOf, IsPartlyTold, IsEnd, IsScriptOf, IsUnreadFor, IsRefusedFor, IsReadThrough, IfFault, usage, refusal_text};
 
@@ -22,10 +23,11 @@ use gup_base::NoMemory;
 use gup_core::Machine;
 use gup_io::{ReadToEnd, Sink, Source, read_up_to, write_all};
 use gup_law_journal::{
-    core_run_follows, core_run_is_in_order, core_run_is_known, core_run_is_plain,
-    core_run_is_thorough, finished_runs_answer_all, moves_have_their_causes,
-    no_frame_has_its_cause, pins_have_their_causes, runs_end_at_waits,
+    core_run_follows, core_run_is_in_order, core_run_is_plain,
+    core_run_is_thorough, finished_runs_answer_all, looks_have_their_cause,
+    moves_have_their_causes, no_frame_has_its_cause, pins_have_their_causes, runs_end_at_waits,
 };
+use gup_law_mirrors::looks_are_stale_with_cause;
 use gup_law_owners::plain_journals_are_owned;
 use gup_plain::Journal;
 use gup_read::{one_script, read_script, scripts_have_no_fault};
@@ -126,10 +128,11 @@ fn run_script(alloc: Global, script: Script) -> Result<Told, NoMemory>
     core_run_is_plain();
     core_run_is_thorough();
     plain_journals_are_owned();
-    core_run_is_known();
     no_frame_has_its_cause();
     moves_have_their_causes();
     pins_have_their_causes();
+    looks_have_their_cause();
+    looks_are_stale_with_cause();
     runs_end_at_waits();
     finished_runs_answer_all();
     let _actors = script.actors();
@@ -266,11 +269,17 @@ pub fn gup<S: Source, K: Sink>(
         (λ script. OwnsBytes (starts_born script) (journal_events result.journal.notes)) }
 
     // Each operation has one answer, where all have finished, and each refusal its cause: the plain state denies the
-    // operation so, or its turn needs a frame and none is free that it may take; and where that is so it is refused.
+    // operation so, or its turn needs a frame and none is free that it may take, or finds a page untouched, busy or unmovable, or a
+    // slot empty; and where that is so it is refused.
     ensures lines { IsRun (map string_bytes words.now) → result.status ≡ 0 → OfScript (S.remaining source.old)
         (λ script. length (outcomes_of result.journal.notes) ≡ operations script) }
     ensures causes { IsRun (map string_bytes words.now) → HasRun result.status
         → OfScript (S.remaining source.old) (λ script. HasCauses script result.journal.notes) }
+
+    // A look is stale only where, behind the last fill of its slot, there is a note of a fork or an exit of the page's process, or of
+    // an unmap, a discard, a protect, a store, a pin or a move of the page; or where the slot was never filled.
+    ensures stale { IsRun (map string_bytes words.now) → HasRun result.status
+        → OfScript (S.remaining source.old) (λ script. AreStaleSeen script result.journal.notes) }
 
     // Which statuses `run` has. Bytes that are a script give status 0, where all actors finish, or 4, where some are stuck,
     // where neither the source nor the sink has failed, unless memory runs out.

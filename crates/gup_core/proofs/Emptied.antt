@@ -1,21 +1,17 @@
 -- The slots that a turn empties first are none of the machine's parts: what a state shows it shows whatever slots are filled.
-use Rattle.std.proofs.Common.{◌≡◌, ℕ, List, Option, Some, None, refl, sym, subst}
+use Rattle.std.proofs.Common.{ℕ, List, Option, Some, None, sym, subst}
 use Rattle.gup_plain.specs.declared.note.What.{What}
 use Rattle.gup_script.specs.declared.op.Op.{Op}
-use Rattle.gup_script.specs.declared.op.Op.TheVariants.{Pin}
-use Rattle.gup_space.specs.Space.{SpaceParts}
-use Rattle.gup_spec_events.specs.State.{CoreState, Taken}
+use Rattle.gup_spec_events.specs.State.{CoreState}
 use Rattle.gup_spec_events.specs.Event.{run}
 use Rattle.gup_spec_turns.specs.CoreTurn.{CoreTurn}
 use Rattle.gup_spec_turns.specs.Emptying.{emptying}
 use Rattle.gup_spec_turns.proofs.Unseen.{mirroring, emptying_unseen}
 use Rattle.gup_op_base.specs.Turns.{Leads}
-use Rattle.gup_op_base.specs.declared.jobs.JobPlace.{JobPlace}
 use Rattle.gup_op_pins.specs.Held.{ShowsStore}
 use Rattle.gup_op_waits.specs.Parts.{ShowsParts}
-use Rattle.gup_op_waits.specs.declared.births.Birth.{Birth}
 use Rattle.gup_op_waits.specs.declared.parts.Parts.{Parts}
-use Rattle.gup_core.specs.Goes.{AllView, ShowsAll, EndsAt}
+use Rattle.gup_core.specs.Goes.{AllView, ShowsAll}
 
 module _ (filled : ℕ → Option ℕ) (s : CoreState) where
   abbrev with_slots : CoreState

@@ -11,6 +11,7 @@ pub mod Singles
 pub mod Resting
 pub mod Turning
 pub mod Refusing
+pub mod SlotTurns
 pub mod Taking
 pub mod Ready
 pub mod Starting

@@ -15,7 +15,7 @@ use Rattle.gup_plain.specs.declared.answer.Answer.TheVariants as answers
 use Rattle.gup_plain.specs.declared.note.What.{What}
 use Rattle.gup_plain.specs.declared.note.What.TheVariants.{Event}
 use Rattle.gup_script.specs.declared.op.Op.{Op}
-use Rattle.gup_script.specs.declared.op.Op.TheVariants.{Map, Unmap, Protect, Discard, Load, Store, Pin, Unpin, Give, Get, Put, Transfer, Fork, Exit, Move}
+use Rattle.gup_script.specs.declared.op.Op.TheVariants.{Map, Unmap, Protect, Discard, Load, Store, Pin, Unpin, Give, Get, Put, Transfer, Fork, Exit, Move, Mirror, Look}
 use Rattle.gup_spec_events.specs.State.{CoreState, Job, forking, ForkStep, between, copying, idle, moving, Counted, unread, one, more, walking, Taken, WalkStep, entered, ready, read, grabbed, rechecked, differed, refused, stopped, dropping, over}
 use Rattle.gup_spec_events.specs.Event.{CoreEvent, entry_of, take_frame, put_entry, place_frame, restore_entry, run}
 use Rattle.gup_spec_events.specs.Fault.{Fault}
@@ -27,7 +27,8 @@ use Rattle.gup_spec_turns.specs.PinTurns.{pin_fault, ends_pin, pin_turn_by, but_
 use Rattle.gup_spec_turns.specs.WalkTurns.{all_turn, ready_turn, grab_turn, is_same, recheck_turn, split_last, last_turn, first_turn, walk_turn}
 use Rattle.gup_spec_turns.specs.MoveTurns.{place_turn, counted_turn, move_turn}
 use Rattle.gup_spec_turns.specs.ForkTurns.{page_turn, next_page, next_turn, frame_turn, copy_turn, copying_turn, fork_step_turn, fork_turn}
-use Rattle.gup_spec_turns.specs.CoreTurn.{free_frame, free_in, entry_in, zones_of}
+use Rattle.gup_spec_turns.specs.MirrorTurns.{fills as fills_slot, look_turn}
+use Rattle.gup_spec_turns.specs.CoreTurn.{free_frame, free_in, entry_in, zones_of, after_fault}
 
 abbrev pub NoTwo : List What → Type 0
 NoTwo (Event event ∷ Event next ∷ []) = ⊥
@@ -156,6 +157,14 @@ get_two : (s : CoreState) (fault : Fault) (a p handle page : ℕ) → NoTwo (get
 get_two s (Err answer) a p handle page = tt
 get_two s (Ok before) a p handle page = tt
 
+mirror_two : (s : CoreState) (fault : Fault) (a p mirror page : ℕ) → NoTwo (after_fault fault (λ before. fills_slot s before a p mirror page)).whats
+mirror_two s (Err answer) a p mirror page = tt
+mirror_two s (Ok before) a p mirror page = tt
+
+look_two : (s : CoreState) (a mirror word : ℕ) (frame : Option ℕ) → NoTwo (look_turn s a mirror word frame).whats
+look_two s a mirror word None = tt
+look_two s a mirror word (Some f) = tt
+
 put_two : (held : Bool) (a handle f : ℕ) → NoTwo (put_turn_by held a handle f).whats
 put_two false a handle f = tt
 put_two true a handle f = tt
@@ -228,6 +237,8 @@ no_two s a p slots far (Get handle page) = get_two s (load_fault s a p page (s.e
 no_two s a p slots far (Put handle) = put_two (has_reference (got_by (s.got handle)) a) a handle (got_frame (s.got handle))
 no_two s a p slots far (Transfer handle outward slot parts) =
     transfer_two (transfer_denial (s.handle handle) a outward slots slot parts) s a handle outward (far + 1 == words_of parts) (word_at parts far) (slot + far)
+no_two s a p slots far (Mirror mirror proc page) = mirror_two s (load_fault s a p page (s.entry p page)) a p mirror page
+no_two s a p slots far (Look mirror word) = look_two s a mirror word (s.mirrored mirror)
 no_two s a p slots far (Move proc page zone) = move_two s a p page zone (s.job a)
 no_two s a p slots far (Fork child) = fork_two s a p child (s.job a)
 no_two s a p slots far Exit = exit_two s a p (lowest_page (s.right p))

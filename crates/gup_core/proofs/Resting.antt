@@ -21,7 +21,9 @@ use Rattle.gup_handles.specs.Handles.{HandleValue, handles_of}
 use Rattle.gup_handles.specs.Handles as kept
 use Rattle.gup_handles.specs.Shows.{IsShown}
 use Rattle.gup_spec_events.specs.Event.{bias, taken_frames as frames_taken}
-use Rattle.gup_spec_events.specs.Invariant.{grabbed_frame}
+use Rattle.gup_spec_events.specs.Invariant.{frame_of, grabbed_frame}
+use Rattle.gup_notify.specs.Mirrors.{Filled, MirrorsValue, mirrors_of}
+use Rattle.gup_notify.specs.Shows.{IsMirror, ShowsMirrors}
 use Rattle.gup_spec_events.specs.State.{CoreState, Taken, Job, idle, moving, walking, Counted, forking, between, counted, copying, WalkStep, read, rechecked, differed, refused, dropping}
 use Rattle.gup_law_base.specs.Sound.{IsSound, Moving, moving_of, Walking, walking_of, keeps_table, keeps_structure}
 use Rattle.gup_law_base.proofs.Lonely.{whole_counts}
@@ -347,6 +349,20 @@ stands_at script r a op h is =
     own : (o : Op) → (doer_of script a (Some o)).proc ≡ process_of script a → op ≡ o → process_of script a ≡ (doer_of script a (Some op)).proc
     own o names same = sym (ap (λ (x : Op). (doer_of script a (Some x)).proc) same ∙ names)
 
+-- the frame of a filled mirror slot is that of an entry
+mirrored_there : (s : CoreState) (F : FramesValue) (mirrors : MirrorsValue) → IsSound s → ((p page : ℕ) (e : Entry) → s.entry p page ≡ Some e → s.count e.frame ≡ 0 → ⊥) → ((f : ℕ) → (F.count f ≡ 0 → ⊥) → IsFrame F f) → ShowsFrames F s → ShowsMirrors mirrors s
+    → (slot : ℕ) (filled : Filled) → mirrors slot ≡ Some filled → IsFrame F filled.frame
+mirrored_there s F mirrors sound counted_so there frames shown slot filled is = go (subst (λ (o : Option Filled). IsMirror o (s.mirrored slot) (s.slot slot)) is (shown slot))
+  where
+    of_entry : (p page : ℕ) (o : Option Entry) → s.entry p page ≡ o → frame_of o ≡ Some filled.frame → IsFrame F filled.frame
+    of_entry p page None is none = absurd (cc none)
+    of_entry p page (Some e) is same =
+        let frame : e.frame ≡ filled.frame = cc in
+        subst (λ (f : ℕ). IsFrame F f) frame (there e.frame (λ none. counted_so p page e is (frames.count e.frame ∙ none)))
+
+    go : IsMirror (Some filled) (s.mirrored slot) (s.slot slot) → IsFrame F filled.frame
+    go (frame, (it, noted, proc, page)) = of_entry it.proc it.page (s.entry it.proc it.page) refl (sound.1.mirror_entry slot filled.frame it frame noted)
+
 pub at_rest : (m : MachineValue) → IsScript m.script → IsMachine m → ((f : ℕ) → ((frames_of m.parts.frames).count f ≡ 0 → ⊥) → IsFrame (frames_of m.parts.frames) f) → Stand → IsAtRest m
 at_rest m valid is there stand =
     let r : RunState = is.shown.0 in
@@ -357,6 +373,7 @@ at_rest m valid is there stand =
       valid = valid;
       parts = is.parts;
       seats = is.seats;
+      mirrored = mirrored_there r.core (frames_of m.parts.frames) (mirrors_of m.mirrors) h.sound h.counted there parts.frames shown.mirrors;
       tidy = λ p space here. tidy_in m.script r (frames_of m.parts.frames) (space_of space) p valid h there parts.frames (parts.spaces p space here);
       few_forks = λ p space here. subst (λ (k : ℕ). k ≤ 32) (parts.spaces p space here).sequence (h.few_forks p);
       few_counts = λ f. subst (λ (k : ℕ). k ≤ 16 * page_numbers + most_handles + 81 + bias * 17761) (parts.frames.count f) (h.few_counts f);

@@ -2,12 +2,12 @@
 use Rattle.std.proofs.Common.{◌≡◌, ℕ, ◌+◌, Bool, true, false, ◌<◌, ◌≤◌, Option, Some, None, IsSome, IfSome, List, [], ◌∷◌, length, slice_get, sum_by, zero, suc, refl, sym, ap, ◌∙◌, arith}
 use Rattle.std.proofs.lemmas.List.Sums.{sum_by-cons}
 use Rattle.gup_script.specs.declared.op.Op.{Op}
-use Rattle.gup_script.specs.declared.op.Op.TheVariants.{Unmap, Pin}
+use Rattle.gup_script.specs.declared.op.Op.TheVariants.{Unmap, Pin, Unpin, Give, Take, Transfer, Mirror, Look}
 use Rattle.gup_script.specs.Script.{ScriptValue, Actor, actor_at}
 use Rattle.gup_script.specs.Limits.{most_pinned}
-use Rattle.gup_script.specs.Valid.{IsScript, IsOp, IsOfDevice}
+use Rattle.gup_script.specs.Valid.{IsScript, IsOp}
 use Rattle.gup_spec_journal.specs.Place.{Doer, doer_of, ops_in, ops_of}
-use Rattle.gup_law_turns.proofs.ScriptLemmas.{has_own_process, op_has_process}
+use Rattle.gup_law_turns.proofs.ScriptLemmas.{IsOfNoDevice, has_own_process, op_has_process}
 use Rattle.gup_spec_turns.specs.Cost.{pins_turns}
 use Rattle.gup_op_waits.specs.Doers.{HasProcess, IsProcessOf}
 use Rattle.gup_op_base.specs.Far.{HasFar}
@@ -15,11 +15,17 @@ use Rattle.gup_core.specs.Seats.{far_behind}
 
 -- the process of an operation is a declared one
 
--- an operation of a process is none of a device
-no_device : (op : Op) → HasProcess op → IsOfDevice op → ⊥
-no_device op has of_device = grind arith
+-- an operation of a process is none that a device does by itself
+no_device : (op : Op) → HasProcess op → IsOfNoDevice op
+no_device (Unpin handle) has = λ device. has
+no_device (Give handle to) has = λ device. has
+no_device (Take handle) has = λ device. has
+no_device (Transfer handle outward slot parts) has = λ device. has
+no_device (Look mirror word) has = λ device. has
+no_device (Mirror mirror proc page) has = tt
+no_device op has = λ device. device
 
--- so its actor is a thread, or moves a page of a process
+-- so its actor is a thread, or it names the process
 pub thread_there : (script : ScriptValue) → IsScript script → (a k : ℕ) (op : Op) → slice_get (ops_of script a) k ≡ Some op → HasProcess op → (doer_of script a (Some op)).of_process ≡ true
 thread_there script valid a k op is has = has_own_process script valid a k op is (no_device op has)
 

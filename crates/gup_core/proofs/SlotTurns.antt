@@ -1,18 +1,17 @@
 -- What turns do to mirror slots: a mirror fills its slot, a look reads through one, a refusal leaves all, and any other turn leaves
 -- those of pages that it doesn't invalidate.
-use Rattle.std.proofs.Common.{◌≡◌, ℕ, ◌<◌, ◌++◌, List, [], ◌∷◌, length, slice_get, Option, Some, None, Ok, Err, IfSome, refl, sym, ap, ◌∙◌, subst, arith}
-use Rattle.gup_plain.specs.State.{Birth as CoreBirth, Noted, born}
+use Rattle.std.proofs.Common.{◌≡◌, ℕ, ◌<◌, Bool, false, List, [], ◌∷◌, length, slice_get, Option, Some, None, Ok, Err, IfSome, refl, sym, ap, ◌∙◌, subst, arith}
+use Rattle.gup_plain.specs.State.{Birth as CoreBirth, born}
 use Rattle.gup_plain.specs.declared.note.What.{What}
 use Rattle.gup_script.specs.declared.op.Op.{Op}
-use Rattle.gup_script.specs.declared.op.Op.TheVariants.{Mirror, Look, Fork}
-use Rattle.gup_frames.specs.Frames.{frames_of}
+use Rattle.gup_script.specs.declared.op.Op.TheVariants.{Mirror, Look}
 use Rattle.gup_space.specs.Space.{SpaceValue, SpaceParts, space_of}
 use Rattle.gup_space.specs.Shows.{ShowsSpace}
 use Rattle.gup_space.proofs.ShowsLemmas.{leave_other}
 use Rattle.gup_notify.specs.Mirrors.{Filled, MirrorsValue, mirrors_of}
 use Rattle.gup_notify.specs.Shows.{ShowsMirrors}
 use Rattle.gup_spec_journal.specs.Place.{Doer, birth_for}
-use Rattle.gup_spec_events.specs.State.{CoreState, Taken as TakenPage, Job, idle, forking, between, counted, copying}
+use Rattle.gup_spec_events.specs.State.{CoreState, Taken as TakenPage, Job, forking, counted}
 use Rattle.gup_spec_events.specs.Event.{CoreEvent, happens, fill_mirror, run}
 use Rattle.gup_spec_events.specs.Fault.{Fault, events_of}
 use Rattle.gup_spec_turns.specs.CoreTurn.{CoreTurn, after_fault, entry_in}
@@ -30,7 +29,6 @@ use Rattle.gup_law_turns.proofs.MirrorOps.{mirror_none, look_none, look_leaves}
 use Rattle.gup_law_turns.proofs.ShownTurns.{run_behind}
 use Rattle.gup_op_base.specs.Turns.{Leads, IsTurnOf, Anywhere}
 use Rattle.gup_op_base.proofs.Leading.{leads_alike}
-use Rattle.gup_op_base.specs.Far.{far_in}
 use Rattle.gup_op_base.specs.Jobs.{place_of}
 use Rattle.gup_op_base.specs.declared.jobs.JobPlace.{JobPlace}
 use Rattle.gup_op_mirrors.specs.Emptied.{LeavesSlotsOf}
@@ -44,7 +42,7 @@ use Rattle.gup_op_waits.specs.declared.parts.Parts.{Parts}
 use Rattle.gup_op_waits.proofs.Waits.{born_and_free}
 use Rattle.gup_core.specs.Copies.{IsCopyAt}
 use Rattle.gup_core.specs.declared.copies.WordCopy.{WordCopy}
-use Rattle.gup_core.specs.Goes.{AllView, ShowsAll, StandsWith, TakesMirrors, IsNoMirror, EndsAt, all_view}
+use Rattle.gup_core.specs.Goes.{ShowsAll, TakesMirrors, IsNoMirror, EndsAt, all_view}
 use Rattle.gup_core.proofs.Owning.{AreOwn, are_of, load_fault_own, pins_of, own_leave_pins, births_stay, IsUnforked, forks_stay, Pins}
 use Rattle.gup_core.proofs.Refusing.{IsRefusal, nothing, fails_too, refusal, birth_failed, birth_unfailed}
 use Rattle.gup_core.proofs.Turning.{IsTurnWith, there, replaced, births_shown, pins_shown, taken_shown, stores_shown}
@@ -84,7 +82,7 @@ refused_mirrors parts a proc far op job mirrors has s who k others left own of_w
     let made : IsRefusal who.actor who.proc op t.events = refusal who.actor who.proc op in
     let is : turn_of s who k op ≡ t =
     turn_lost parts.births.items proc who s k op has of_who shown.parts.births ∙ none_emptying s who.actor t (λ q g. refusal_none who.actor who.proc op q g made) in
-    subst (λ (u : CoreTurn). ShowsMirrors mirrors (run s u.events)) (sym is) (refusal_shown mirrors who.actor who.proc op s made stands.mirrors)
+    subst (λ (u : CoreTurn). ShowsMirrors mirrors (run s u.events)) (sym is) (refusal_shown mirrors who.actor who.proc op s made stands.slots)
 
 -- an operation that is no mirror leaves every slot to what its turn empties
 no_mirror_leaves : (op : Op) (m : ℕ) → IsNoMirror op → LeavesSlot (Some op) m
@@ -113,7 +111,7 @@ pub left_mirrors : (parts : Parts) (a : ℕ) (proc : Option ℕ) (far : ℕ) (op
     → LeavesSlotsOf parts a proc far job op old new → TakesMirrors parts a proc far op job old new
 left_mirrors parts a proc far op job old new unfailed within apart leaves s who k others left own of_who far_is shown stands emptied =
     let is = turn_born parts.births.items proc who s k op unfailed within of_who shown.parts.births stands.free.free in
-    leaves s (run s (turn_of s who k op).events) who who.slots k shown.parts stands.mirrors stands.free.sound of_who far_is shown.job stands.free.at
+    leaves s (run s (turn_of s who k op).events) who who.slots k shown.parts stands.slots stands.free.sound of_who far_is shown.job stands.free.at
     (slots_left s who a k op own is apart emptied) (slots_noted s who a k op own is apart emptied)
 
 -- a fork that copies a word invalidates no page
@@ -130,11 +128,11 @@ copied_mirrors parts a proc far op job copy mirrors unfailed within copies s who
     let apart : IsNoMirror op = subst (λ (o : Op). IsNoMirror o) (sym copies.is_fork) tt in
     let at : place_in s a ≡ at_word copy.page copy.word copy.to = sym shown.job ∙ ap place_of copies.stands in
     let none : shared_in (s.job a) ≡ None = copying_shares_none (s.job a) (s.prepared a) copy.page copy.word copy.to at in
-    none_left mirrors s (run s (turn_of s who k op).events) (op_turn s a who.proc who.slots k op).events stands.mirrors
+    none_left mirrors s (run s (turn_of s who k op).events) (op_turn s a who.proc who.slots k op).events stands.slots
     (slots_left s who a k op own is apart emptied) (slots_noted s who a k op own is apart emptied)
     (λ m filled is_filled.
     ap (λ (o : Op). invalidate (op_turn s a who.proc who.slots k o).events filled.proc filled.page) copies.is_fork
-    ∙ forked s a who.proc copy.child (s.job a) filled.proc filled.page (has_entry s mirrors stands.free.sound stands.mirrors m filled is_filled)
+    ∙ forked s a who.proc copy.child (s.job a) filled.proc filled.page (has_entry s mirrors stands.free.sound stands.slots m filled is_filled)
     ∙ ap (λ (page : Option ℕ). has_page (range_from who.proc 1 page) filled.proc filled.page) none)
 
 -- ---- a mirror
@@ -237,13 +235,13 @@ module _ (old new : Parts) (a : ℕ) (proc : Option ℕ) (p m q page far : ℕ) 
       let none : IsUnforked (s.job a) = λ f. ap (λ job. job_place job f) (stands.free.at.idle_job tt) in
       leads_alike (turn_is s who k own of_who shown.parts.births stands.free.free)
       (shown_by old new a p m page op place others left y.0 now whats s by.births by.handles by.taken by.stores y.1 by.unmoved shown none
-      (load_fault s a p page (s.entry p page)) (load_fault_own s a p page (s.entry p page)) (leads s others left shown stands.mirrors y.0 y.1))
+      (load_fault s a p page (s.entry p page)) (load_fault_own s a p page (s.entry p page)) (leads s others left shown stands.slots y.0 y.1))
 
   pub filled_mirrors : TakesMirrors old a proc far op place (mirrors_of was) (mirrors_of now)
   filled_mirrors s who k others left own of_who far_is shown stands emptied =
       let y = new_space in
       subst (λ (u : CoreTurn). ShowsMirrors (mirrors_of now) (run s u.events)) (sym (turn_is s who k own of_who shown.parts.births stands.free.free))
-      (leads s others left shown stands.mirrors y.0 y.1).shown.mirrors
+      (leads s others left shown stands.slots y.0 y.1).shown.mirrors
 
 -- ---- a look
 
@@ -258,11 +256,11 @@ module _ (parts : Parts) (a : ℕ) (proc : Option ℕ) (m word far : ℕ) (place
 
   pub looked : IsTurnWith (mirrors_of mirrors) parts parts a proc far (Look m word) place whats place
   looked who k others left own of_who slots far_is s shown stands =
-      let led = turn s (record { frames = shown.parts.frames; mirrors = stands.mirrors }) tt in
+      let led = turn s (record { frames = shown.parts.frames; mirrors = stands.slots }) tt in
       leads_alike (look_is s who k own of_who shown.parts.births stands.free.free)
       (record { says = led.says; shown = subst (ShowsAll a (Look m word) (all_view parts place others left)) (sym (look_leaves s a m word (s.mirrored m))) shown })
 
   pub looked_mirrors : TakesMirrors parts a proc far (Look m word) place (mirrors_of mirrors) (mirrors_of mirrors)
   looked_mirrors s who k others left own of_who far_is shown stands emptied =
       subst (λ (u : CoreTurn). ShowsMirrors (mirrors_of mirrors) (run s u.events)) (sym (look_is s who k own of_who shown.parts.births stands.free.free))
-      (subst (ShowsMirrors (mirrors_of mirrors)) (sym (look_leaves s a m word (s.mirrored m))) stands.mirrors)
+      (subst (ShowsMirrors (mirrors_of mirrors)) (sym (look_leaves s a m word (s.mirrored m))) stands.slots)

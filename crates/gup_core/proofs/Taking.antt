@@ -294,7 +294,7 @@ goes m a proc seat next op parts mirrors seats turns said job stand empties rest
     let shown : ShowsAll a op (all_view m.parts seat.job forks r.core.taken) r.core =
     record { parts = h.parts; job = h.jobs a seat here; ends = ends_now op r.core.taken (λ handle page n want fast same. h.ends a handle page n want fast seat here (op_is ∙ ap (λ (o : Op). Some o) same)); others = λ b apart. refl; left = λ b apart. refl } in
     let stands_with : StandsWith (mirrors_of m.mirrors) a who far op r.core =
-    record { free = record { sound = stands.sound; at = stands_at m.script r a op stands op_is; free = free }; mirrors = h.mirrors } in
+    record { free = record { sound = stands.sound; at = stands_at m.script r a op stands op_is; free = free }; slots = h.mirrors } in
     let led : Leads (ShowsAll a op) (all_view parts job forks r.core.taken) r.core t (whats_of said) =
     turn who far forks r.core.taken refl of_a (rest.parts.slots a) at.1 r.core shown stands_with in
     let emptied : EmptiesSlots r.core (Some op) t =

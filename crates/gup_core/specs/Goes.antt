@@ -66,7 +66,7 @@ pub record StandsFree (a : ℕ) (who : Doer) (far : ℕ) (op : Op) (s : CoreStat
 -- the same, where the state has these mirror slots
 pub record StandsWith (mirrors : MirrorsValue) (a : ℕ) (who : Doer) (far : ℕ) (op : Op) (s : CoreState) : Type 0 where
   pub free : StandsFree a who far op s
-  pub mirrors : ShowsMirrors mirrors s
+  pub slots : ShowsMirrors mirrors s
 
 -- From each such state a turn that empties the slots which it is to empty leads to one that has the new ones.
 abbrev pub TakesMirrors : (parts : Parts) → (a : ℕ) → (proc : Option ℕ) → (far : ℕ) → Op → JobPlace → (old new : MirrorsValue) → Type 0

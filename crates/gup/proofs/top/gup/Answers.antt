@@ -11,6 +11,7 @@ use Rattle.gup_lines.specs.Text.{outcomes_of, text_of}
 use Rattle.gup_spec_turns.specs.Cost.{operations}
 use Rattle.gup_spec_turns.specs.Run.{RunState, IsCoreRun}
 use Rattle.gup.specs.Cause.{HasCauses}
+use Rattle.gup_spec_journal.specs.Stale.{AreStaleSeen}
 use Rattle.gup.specs.Report.{IsPartlyTold, IsEnd, IsUnreadFor}
 use Rattle.gup.specs.Stuck.{IsFinishedRun, IsStuckRun, run_text}
 use Rattle.gup.specs.declared.top.Unread.{Unread}
@@ -71,6 +72,15 @@ returns-in-Ok-clause-causes g c command has =
     let P : ScriptValue → Type 0 = λ s. HasCauses s report.journal.notes in
     of_script (g.S.Source.remaining c.args.source.now) script P c.one_script.ensures c.in-Ok.ensures.script
     (ran script report.journal.notes report.status W (P script) c.run_and_write.ensures.finished c.run_and_write.ensures.stuck (λ stuck text run. run.causes) has)
+
+pub returns-in-Ok-clause-stale : goal.returns-in-Ok-clause-stale
+returns-in-Ok-clause-stale g c command has =
+    let script = c.in-Ok.script in
+    let report = c.run_and_write.result in
+    let W : List ℕ → Type 0 = λ text. Appends (g.K.Sink.taken c.args.sink.now) (g.K.Sink.taken c.run_and_write.new.sink) text in
+    let P : ScriptValue → Type 0 = λ s. AreStaleSeen s report.journal.notes in
+    of_script (g.S.Source.remaining c.args.source.now) script P c.one_script.ensures c.in-Ok.ensures.script
+    (ran script report.journal.notes report.status W (P script) c.run_and_write.ensures.finished c.run_and_write.ensures.stuck (λ stuck text run. run.stale) has)
 
 pub returns-in-Ok-clause-core : goal.returns-in-Ok-clause-core
 returns-in-Ok-clause-core g c command is =

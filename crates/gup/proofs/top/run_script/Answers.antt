@@ -4,7 +4,7 @@ use Rattle.gup_plain.specs.declared.note.Waiting.{Waiting}
 use Rattle.gup_script.specs.Script.{ScriptValue}
 use Rattle.gup_spec_journal.specs.Place.{first_place}
 use Rattle.gup_spec_journal.specs.Plain.{AreSo, IsRightAt, judged_first}
-use Rattle.gup_spec_turns.specs.Cause.{AreKnown, HaveFinished, WaitsForBirthOrPin}
+use Rattle.gup_spec_turns.specs.Cause.{HaveFinished, WaitsForBirthOrPin}
 use Rattle.gup_spec_turns.specs.Cost.{operations, forks}
 use Rattle.gup_spec_turns.specs.Run.{RunState, run_start, waiting_in, IsCoreRun}
 use Rattle.gup_core.specs.Machine.{MachineValue, Shows}
@@ -50,11 +50,10 @@ returns c =
     let end : RunState = run.0 in
     let core = run.1 in
     let plain = c.core_run_is_plain.ensures.run script notes end valid core in
-    let known = c.core_run_is_known.ensures.run script notes end valid core in
     let stays = c.runs_end_at_waits.ensures.ends script core.0 end core.2 in
     let named = c.runs_end_at_waits.ensures.waits script core.0 end valid core.2 in
     let outcomes = outcomes_answered notes in
-    let exact : AreExact = record { lacks = c.no_frame_has_its_cause.ensures; untouched = c.moves_have_their_causes.ensures.untouched; busy = c.moves_have_their_causes.ensures.busy; unmovable = c.pins_have_their_causes.ensures } in
+    let exact : AreExact = record { lacks = c.no_frame_has_its_cause.ensures; untouched = c.moves_have_their_causes.ensures.untouched; busy = c.moves_have_their_causes.ensures.busy; unmovable = c.pins_have_their_causes.ensures; stale = c.looks_have_their_cause.ensures } in
     let of_lines : c.script.result.now ≡ script = c.script.ensures ∙ c.in_ok-ran.ensures.script ∙ made in
     let of_stuck : c.script-2.result.now ≡ script = c.script-2.ensures ∙ c.in_ok-ran.ensures.script ∙ made in
     record {
@@ -64,7 +63,8 @@ returns c =
       thorough = c.core_run_is_thorough.ensures.run script notes end valid core;
       owned = c.plain_journals_are_owned.ensures script notes plain;
       causes =
-          (core.0, end, core.1, core.2, caused exact script valid (judged_first script) 1 (λ _. first_place) core.0 (run_start script) end ([], refl) core.2 (subst (AreSo IsRightAt script (judged_first script)) core.1 plain) (subst AreKnown core.1 known));
+          (core.0, end, core.1, core.2, caused exact script valid (judged_first script) 1 (λ _. first_place) core.0 (run_start script) end ([], refl) core.2 (subst (AreSo IsRightAt script (judged_first script)) core.1 plain));
+      stale = c.looks_are_stale_with_cause.ensures.run script notes end valid core;
       end = end;
       core = core;
       ends = run.3;

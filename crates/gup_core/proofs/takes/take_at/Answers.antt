@@ -1,10 +1,9 @@
-use Rattle.std.proofs.Common.{ℕ, refl, sym, ap, ◌∙◌, subst}
+use Rattle.std.proofs.Common.{ℕ, sym, ap, ◌∙◌, subst}
 use Rattle.gup_script.specs.declared.op.Op.{Op}
 use Rattle.gup_script.specs.Valid.{IsOp, made_by}
 use Rattle.gup_op_base.specs.Said.{whats_of}
-use Rattle.gup_op_waits.specs.declared.parts.Parts.{Parts}
 use Rattle.gup_op_waits.specs.Doers.{HasProcess}
-use Rattle.gup_core.proofs.Refusing.{of_born, refused}
+use Rattle.gup_core.proofs.Refusing.{of_born}
 use Rattle.gup_op_waits.proofs.ScriptSlots.{some_is}
 use Rattle.gup_core.proofs.Singles.{process_is, single_op}
 use Rattle.gup_core.proofs.Turning.{IsTurnAmong, pinned}

@@ -221,7 +221,7 @@ returns-in-Transfer-clause-turn c =
 pub take_alone-requires : goal.take_alone-requires
 take_alone-requires c =
     let op = c.args.op.now in
-    let alone_so = is_alone op c.requires.single c.in_default.not-Unpin c.in_default.not-Give c.in_default.not-Take c.in_default.not-Get c.in_default.not-Put c.in_default.not-Transfer in
+    let alone_so = is_alone op c.requires.single c.requires.apart c.in_default.not-Unpin c.in_default.not-Give c.in_default.not-Take c.in_default.not-Get c.in_default.not-Put c.in_default.not-Transfer in
     let ready = (c.requires.ready c.unwrap-in_default.result (process_is c.args.proc c.unwrap-in_default.result c.unwrap-in_default.ensures)).1 in
     record {
       there = ready.there (alone_process op alone_so);
@@ -242,7 +242,7 @@ returns-in_default c =
     let t = c.take_alone in
     let told = t.ensures.turn in
     let new = record old { frames = t.new.frames; spaces = t.new.spaces } in
-    let alone_so = is_alone op c.requires.single c.in_default.not-Unpin c.in_default.not-Give c.in_default.not-Take c.in_default.not-Get c.in_default.not-Put c.in_default.not-Transfer in
+    let alone_so = is_alone op c.requires.single c.requires.apart c.in_default.not-Unpin c.in_default.not-Give c.in_default.not-Take c.in_default.not-Get c.in_default.not-Put c.in_default.not-Transfer in
     let q = c.unwrap-in_default.result in
     let within = (c.requires.ready q (process_is a.proc q c.unwrap-in_default.ensures)).1.there (alone_process op alone_so) in
     record {

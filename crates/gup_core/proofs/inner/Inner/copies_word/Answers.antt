@@ -21,7 +21,9 @@ use Rattle.gup_core.proofs.Advancing.{goes_so, wakes_so}
 use Rattle.gup_core.proofs.Ready.{still_parts, process_within, few}
 use Rattle.gup_core.proofs.Refusing.{of_born}
 use Rattle.gup_core.proofs.Taking.{still_machine, goes}
-use Rattle.gup_core.proofs.Turning.{IsTurnAmong}
+use Rattle.gup_core.proofs.Turning.{IsTurnAmong, with_mirrors}
+use Rattle.gup_core.proofs.SlotTurns.{copied_mirrors}
+use Rattle.gup_notify.specs.Mirrors.{mirrors_of}
 use Rattle.gup_core.proofs.WordTurns.{copy_unfailed, is_free}
 use Rattle.gup_core.proofs.inner.Inner.copies_word.Goals as goal
 
@@ -91,16 +93,18 @@ turn-taken c =
     let told = c.take_copy.ensures.turn in
     let whats = whats_of told.said in
     let new = c.take_copy.new.parts in
-    goes m a proc seat c.seat_after-next.result op new c.set_seat.new.seats.items c.next_turn-turn.result told.said (copied copy)
-    c.reached_states_stand.ensures rest c.process-proc.ensures here present c.next_turn-turn.ensures free.ready
+    goes m a proc seat c.seat_after-next.result op new i.mirrors c.set_seat.new.seats.items c.next_turn-turn.result told.said (copied copy)
+    c.reached_states_stand.ensures c.turns_empty_slots.ensures rest c.process-proc.ensures here present c.next_turn-turn.ensures free.ready
     (c.seat_after-next.ensures ∙ ap (λ (o : Op). seat_behind seat o false (copied copy)) (sym is.is_fork) ∙ ap (λ b. seat_behind seat op b (copied copy)) told.ends)
     c.set_seat.ensures.here c.set_seat.ensures.others
+    (with_mirrors (mirrors_of i.mirrors) i.parts new a proc seat.far op seat.job whats (copied copy)
     (of_born i.parts new a proc seat.far op seat.job (copied copy) whats
     (copy_unfailed i.parts.births.items proc seat.job op copy is) (process_within m a proc seat op rest c.process-proc.ensures present).1
     (λ p slots of_p has.
     subst (λ (q : ℕ). IsTurnAmong i.parts new a q slots seat.far op seat.job whats (copied copy)) (some_is proc copy.proc p is.proc_is of_p)
     (subst (λ (o : Op). IsTurnAmong i.parts new a copy.proc slots seat.far o seat.job whats (copied copy)) (sym is.is_fork)
-    (subst (λ (job : JobPlace). IsTurnAmong i.parts new a copy.proc slots seat.far (Fork copy.child) job whats (copied copy)) (sym is.stands) (λ k others left far_is. told.is_so slots k others left)))))
+    (subst (λ (job : JobPlace). IsTurnAmong i.parts new a copy.proc slots seat.far (Fork copy.child) job whats (copied copy)) (sym is.stands) (λ k others left far_is. told.is_so slots k others left))))))
+    (copied_mirrors i.parts a proc seat.far op seat.job copy (mirrors_of i.mirrors) (copy_unfailed i.parts.births.items proc seat.job op copy is) (process_within m a proc seat op rest c.process-proc.ensures present).1 is)
 
 pub invariant_of-self : goal.invariant_of-self
 invariant_of-self c =

@@ -5,13 +5,13 @@ use Rattle.gup_op_base.specs.Said.{whats_of}
 use Rattle.gup_spec_journal.specs.Follows.{notes_of_turn}
 use Rattle.gup_core.specs.Machine.{MachineValue, machine_of, TakesTurns}
 use Rattle.gup_core.specs.Going.{CanGo, WaitsFor, WritesTurn, MayWakeOf}
-use Rattle.gup_core.specs.Goes.{IsReady}
+use Rattle.gup_core.specs.Goes.{IsReady, TakesMirrors}
 use Rattle.gup_core.specs.Rest.{IsAtRest}
 use Rattle.gup_core.specs.Seats.{seat_behind}
 use Rattle.gup_core.specs.declared.seats.Seat.{Seat}
 use Rattle.gup_core.proofs.Parting.{was_there, now_there, other_there, set_length}
-use Rattle.gup_op_base.specs.declared.jobs.JobPlace.{JobPlace}
-use Rattle.gup_core.proofs.Turning.{IsTurnBy}
+use Rattle.gup_core.proofs.Turning.{IsTurnWith}
+use Rattle.gup_notify.specs.Mirrors.{mirrors_of}
 use Rattle.gup_core.proofs.Ready.{is_ready, still_parts, process_found_so, process_within, child_within, few}
 use Rattle.gup_core.proofs.Advancing.{goes_so, few_more, wakes_so}
 use Rattle.gup_core.proofs.Taking.{still_machine, waiting_is, goes, IsWaiting}
@@ -61,6 +61,18 @@ take_turn-over-requires-clause-process c =
     let rest = subst (λ (x : MachineValue). IsAtRest x) (sym c.self.view_is) c.rests.ensures in
     let op = sym (ap (λ ops. slice_get ops c.seat-seat.result.answered) c.ops.ensures) ∙ c.in-Some.ensures in
     process_found_so m a c.process-proc.result c.seat-seat.result c.in-Some.op.now rest c.process-proc.ensures op
+
+pub take_turn-over-requires-clause-space : goal.take_turn-over-requires-clause-space
+take_turn-over-requires-clause-space c =
+    let i = c.self.inside in
+    let a = c.args.actor in
+    let m = machine_of i.script i.parts i.mirrors i.seats.items i.turns in
+    let rest = subst (λ (x : MachineValue). IsAtRest x) (sym c.self.view_is) c.rests.ensures in
+    let op = sym (ap (λ ops. slice_get ops c.seat-seat.result.answered) c.ops.ensures) ∙ c.in-Some.ensures in
+    (process_within m a c.process-proc.result c.seat-seat.result c.in-Some.op.now rest c.process-proc.ensures op).0
+
+pub take_turn-over-requires-clause-there : goal.take_turn-over-requires-clause-there
+take_turn-over-requires-clause-there c = (subst (λ (x : MachineValue). IsAtRest x) (sym c.self.view_is) c.rests.ensures).mirrored
 
 pub take_turn-over-requires-clause-birth : goal.take_turn-over-requires-clause-birth
 take_turn-over-requires-clause-birth c =
@@ -164,12 +176,13 @@ turn-taken c =
     let told = c.take_turn-over.ensures.turn in
     let next = c.go_on.new.seat in
     goes m a c.process-proc.result seat next c.in-Some.op.now c.take_turn-over.new.parts c.take_turn-over.new.mirrors (slice_set i.seats.items c.get.result next) c.next_turn-turn.result told.said job
-    c.reached_states_stand.ensures rest c.process-proc.ensures here op c.next_turn-turn.ensures
+    c.reached_states_stand.ensures c.turns_empty_slots.ensures rest c.process-proc.ensures here op c.next_turn-turn.ensures
     (waiting_is m a c.process.result seat c.in-Some.op.now None c.reached_states_stand.ensures rest c.process.ensures here op known)
     (c.go_on.ensures ∙ ap (λ (x : Seat). seat_behind x c.in-Some.op.now c.take_turn-over.result job) (lent_seat i.seats.items c.get.result a c.index_mut-here.result.now seat c.index_mut-here.ensures.value c.get.ensures.value here) ∙ ap (λ (b : Bool). seat_behind seat c.in-Some.op.now b job) told.ends)
     (now_there i.seats.items c.get.result a next c.get.ensures.value (slice_get_within i.seats.items a seat here))
     (λ b other. other_there i.seats.items c.get.result b next (λ same. other (same ∙ c.get.ensures.value)))
-    (subst (λ (x : Seat). IsTurnBy i.parts c.take_turn-over.new.parts a c.process-proc.result seat.far c.in-Some.op.now x.job (whats_of told.said) job) (lent_seat i.seats.items c.get.result a c.index_mut-here.result.now seat c.index_mut-here.ensures.value c.get.ensures.value here) told.is_so)
+    (subst (λ (x : Seat). IsTurnWith (mirrors_of i.mirrors) i.parts c.take_turn-over.new.parts a c.process-proc.result seat.far c.in-Some.op.now x.job (whats_of told.said) job) (lent_seat i.seats.items c.get.result a c.index_mut-here.result.now seat c.index_mut-here.ensures.value c.get.ensures.value here) told.is_so)
+    (subst (λ (x : Seat). TakesMirrors i.parts a c.process-proc.result seat.far c.in-Some.op.now x.job (mirrors_of i.mirrors) (mirrors_of c.take_turn-over.new.mirrors)) (lent_seat i.seats.items c.get.result a c.index_mut-here.result.now seat c.index_mut-here.ensures.value c.get.ensures.value here) c.take_turn-over.ensures.mirrors)
 
 pub invariant_of-self : goal.invariant_of-self
 invariant_of-self c =
