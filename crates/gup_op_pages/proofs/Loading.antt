@@ -40,7 +40,7 @@ answers_so head was now {answer} {other} same h = subst (λ (x : Answer). Tells 
 -- ---- which fault it is
 
 -- a state's fault is the one that was read of frames and a process
-read_fault_same : (F : FramesValue) (S : SpaceValue) (a p page : ℕ) (s : CoreState) → S.entry page ≡ None → ShowsFrames F s → ShowsSpace p S s
+pub read_fault_same : (F : FramesValue) (S : SpaceValue) (a p page : ℕ) (s : CoreState) → S.entry page ≡ None → ShowsFrames F s → ShowsSpace p S s
     → load_fault s a p page (s.entry p page) ≡ read_fault a p page (S.right page) (S.entry page) (free_frame F Any)
 read_fault_same F S a p page s none frames space =
     ap (λ o. load_fault s a p page o) (space.entry page ∙ none)

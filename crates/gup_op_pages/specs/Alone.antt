@@ -1,7 +1,7 @@
 -- The operations whose turns are over one process and the frames, and what those are to a state.
 use Rattle.std.specs.Prelude.{ℕ}
 use Rattle.gup_script.specs.declared.op.Op.{Op}
-use Rattle.gup_script.specs.declared.op.Op.TheVariants.{Pin, Unpin, Give, Take, Transfer, Get, Put, Fork, Move}
+use Rattle.gup_script.specs.declared.op.Op.TheVariants.{Pin, Unpin, Give, Take, Transfer, Get, Put, Mirror, Look, Fork, Move}
 use Rattle.gup_frames.specs.Frames.{FramesValue, FrameLists, frames_of}
 use Rattle.gup_space.specs.Space.{SpaceValue, SpaceParts, space_of}
 use Rattle.gup_space.specs.Shows.{ShowsFrames, ShowsSpace}
@@ -15,6 +15,8 @@ IsAlone (Take handle) = ⊥
 IsAlone (Transfer handle outward slot parts) = ⊥
 IsAlone (Get handle page) = ⊥
 IsAlone (Put handle) = ⊥
+IsAlone (Mirror mirror proc page) = ⊥
+IsAlone (Look mirror word) = ⊥
 IsAlone (Move proc page zone) = ⊥
 IsAlone (Fork child) = ⊥
 IsAlone op = Unit {0}

@@ -6,5 +6,5 @@ mod mappings;
 mod ops;
 mod unmaps;
 
-pub use loads::allows_store;
+pub use loads::{allows_store, make_present};
 pub use ops::{needs_table, take};

@@ -1,9 +1,12 @@
 //! Loads and stores.
-ghost use Rattle.std.specs.Prelude.{◌≡◌, ◌≤◌, true, false, not, is_none, Some, None};
-ghost use Rattle.gup_frames.specs.Frames.{frames_of, IsFrame, with_word};
+ghost use Rattle.std.specs.Prelude.{◌≡◌, ◌≤◌, true, false, not, is_none, Some, None, IsSome, OnOk};
+ghost use Rattle.gup_base.specs.declared.entry.Allowed.TheVariants.{Any};
+ghost use Rattle.gup_spec_events.specs.Fault.{read_fault};
+ghost use Rattle.gup_frames.specs.Frames.{frames_of, IsFrame, free_frame, with_word};
 ghost use Rattle.gup_space.specs.Space.{space_of};
-ghost use Rattle.gup_fault.specs.Refused.{answer_of as answered};
-ghost use Rattle.gup_fault.specs.Faults.{HasEntry, page_word};
+ghost use Rattle.gup_space.specs.Shows.{change_of};
+ghost use Rattle.gup_fault.specs.Refused.{answer_of as answered, denial_of};
+ghost use Rattle.gup_fault.specs.Faults.{HasEntry, page_word, IsFault};
 ghost use Rattle.gup_spec_turns.specs.PageTurns.{load_turn, store_turn};
 ghost use Rattle.gup_spec_turns.specs.CoreTurn.{allows_store as is_allowed, frame_in};
 ghost use Rattle.gup_op_base.specs.Tidy.{IsTidy};
@@ -12,7 +15,7 @@ ghost use Rattle.gup_op_base.specs.Turns.{IsTurnOf, Anywhere};
 ghost use Rattle.gup_op_pages.specs.Alone.{ShowsAlone, alone_view};
 
 use gup_base::{Allowed, Entry, FrameNo, PageNo, ProcNo, WordNo};
-use gup_fault::{answer_of, ready_read, ready_write};
+use gup_fault::{Denied, answer_of, ready_read, ready_write};
 use gup_frames::Frames;
 use gup_op_base::Head;
 use gup_plain::{Answer, Journal, PlainEvent};
@@ -60,14 +63,27 @@ fn load_by_fault(
         (λ said. IsTurnOf (ShowsAlone proc) Anywhere (alone_view frames.old space.old) (alone_view frames.new space.new)
         (λ s. load_turn s head.now.actor proc page word (s.entry proc page)) (whats_of said)) }
 {
-    space.has_room(page);
-    match ready_read(space, frames, page, Allowed::Any) {
+    match make_present(space, frames, page) {
         Ok(()) => {
             frames.are_there();
             load_through(space, frames, journal, head, proc, page, word);
         }
         Err(denied) => head.answered(journal, answer_of(denied)),
     }
+}
+
+/// Makes the page present, as a load does it: any entry is enough, and a page that has none gets a frame of zeros. A page
+/// without a mapping is refused with `Missing`, and one that finds no frame with `NoFrame`; then nothing has changed.
+#[inline]
+pub fn make_present(space: &mut Space, frames: &mut Frames, page: PageNo) -> Result<(), Denied>
+    requires { IsTidy (frames_of frames.old) (space_of space.old) }
+    ensures fault { IsFault (change_of frames.old frames.new space.old space.new) (denial_of result)
+        (λ a p. read_fault a p page ((space_of space.old).right page) ((space_of space.old).entry page)
+        (free_frame (frames_of frames.old) Any)) }
+    ensures entry { OnOk result (IsSome ((space_of space.new).entry page)) }
+{
+    space.has_room(page);
+    ready_read(space, frames, page, Allowed::Any)
 }
 
 // The load through the page's entry, which it has.

@@ -74,7 +74,7 @@ pub fn take(
 }
 
 /// Whether a turn of the operation needs the table lock of its process: a load or a store does where its entry doesn't
-/// allow it, and what is done with a pin that is made does not.
+/// allow it, and what is done with a pin, a reference or a mirror that is there does not.
 pub fn needs_table(space: &Space, op: &Op) -> bool
     ensures { result ≡ table_needed (space_of space.now) op.now }
 {
@@ -82,8 +82,8 @@ pub fn needs_table(space: &Space, op: &Op) -> bool
         Op::Load { page, .. } => space.entry(*page).is_none(),
         Op::Store { page, .. } => !allows_store(space.entry(*page)),
         Op::Map { .. } | Op::Unmap { .. } | Op::Protect { .. } | Op::Discard { .. } => true,
-        Op::Pin { .. } | Op::Get { .. } | Op::Fork { .. } | Op::Exit => true,
+        Op::Pin { .. } | Op::Get { .. } | Op::Mirror { .. } | Op::Fork { .. } | Op::Exit => true,
         Op::Unpin { .. } | Op::Give { .. } | Op::Take { .. } | Op::Transfer { .. } => false,
-        Op::Put { .. } | Op::Mirror { .. } | Op::Look { .. } | Op::Move { .. } => false,
+        Op::Put { .. } | Op::Look { .. } | Op::Move { .. } => false,
     }
 }

@@ -11,17 +11,17 @@ use Rattle.gup_op_pages.proofs.loads.load_by_fault.Goals as goal
 pub load_through-requires-clause-entry : goal.load_through-requires-clause-entry
 load_through-requires-clause-entry c =
     let a = c.args in
-    let change = change_of a.frames.now c.ready_read.new.frames a.space.now c.ready_read.new.space in
+    let change = change_of a.frames.now c.make_present.new.frames a.space.now c.make_present.new.space in
     read_there change a.page c.requires.absent c.requires.table c.in-Ok.ensures.fault c.are_there.ensures.marked c.in-Ok.ensures.entry
 
 pub returns-in-Ok : goal.returns-in-Ok
 returns-in-Ok c =
     let a = c.args in
-    let change = change_of a.frames.now c.ready_read.new.frames a.space.now c.ready_read.new.space in
+    let change = change_of a.frames.now c.make_present.new.frames a.space.now c.make_present.new.space in
     record {
       said =
           loaded_said a.head.now.actor a.proc a.page a.word
-          (page_word (frames_of c.ready_read.new.frames) ((space_of c.ready_read.new.space).entry a.page) a.word);
+          (page_word (frames_of c.make_present.new.frames) ((space_of c.make_present.new.space).entry a.page) a.word);
       tells = c.load_through.ensures;
       ends = refl;
       is_so = load_by_fault change a.head.now.actor a.proc a.page a.word c.requires.absent c.requires.table c.in-Ok.ensures.fault c.in-Ok.ensures.entry;
@@ -30,7 +30,7 @@ returns-in-Ok c =
 pub returns-in-Err : goal.returns-in-Err
 returns-in-Err c =
     let a = c.args in
-    let change = change_of a.frames.now c.ready_read.new.frames a.space.now c.ready_read.new.space in
+    let change = change_of a.frames.now c.make_present.new.frames a.space.now c.make_present.new.space in
     record {
       said = answered_said (answer_of c.in-Err.denied);
       tells = answers_so a.head.now a.journal.now c.answered.new.journal c.answer_of.ensures c.answered.ensures;
