@@ -39,7 +39,7 @@ use Rattle.gup_law_turns.proofs.StandingTurns.{stands_on, Starts, stands_first}
 use Rattle.gup_law_turns.proofs.TurnShapes.{FitsAt}
 use Rattle.gup_law_turns.proofs.TurnSteps.{taken, slots_left}
 use Rattle.gup_law_mirrors.proofs.EmptiedPages.{empties_of, spares}
-use Rattle.gup_law_mirrors.proofs.SlotNotes.{slots_of_turn, AreStaleNotes, IsAnswerLast, stale_append, IsUnmirrored, AreOwn, own_last, own_stale, left_spared, own_spared, Own, turn_own}
+use Rattle.gup_law_mirrors.proofs.SlotNotes.{slots_of_turn, AreStaleNotes, IsAnswerLast, stale_append, IsNoMirror, AreOwn, own_last, own_stale, left_spared, own_spared, Own, turn_own}
 
 -- the slot is filled with this page
 pub record IsFilled (s : CoreState) (m : ℕ) (filled : PageOf) : Type 0 where
@@ -154,7 +154,7 @@ module _ (s : CoreState) where
 
   -- ---- any other operation
 
-  leaves : (op : Op) (m : ℕ) → IsUnmirrored op → LeavesSlot (Some op) m
+  leaves : (op : Op) (m : ℕ) → IsNoMirror op → LeavesSlot (Some op) m
   leaves (Mirror mirror proc page) m apart = absurd apart
   leaves op m apart = λ proc page is. cc is
 
@@ -163,7 +163,7 @@ module _ (s : CoreState) where
   has_entry (Some e) f is = refl
 
   -- a slot of a page that it doesn't empty is left filled
-  own_keeps : (p : ℕ) (op : Op) (turn : CoreTurn) → IsSound s → IsUnmirrored op → AreOwn turn.whats → EmptiesSlots s (Some op) turn → ((f : ℕ) (noted : Noted) → IsSome (s.entry noted.proc noted.page) → empties_of p op noted.proc noted.page ≡ false → left_in turn.events (Some f) (Some noted) ≡ Some f) → KeepsSlots s p (Some op) turn
+  own_keeps : (p : ℕ) (op : Op) (turn : CoreTurn) → IsSound s → IsNoMirror op → AreOwn turn.whats → EmptiesSlots s (Some op) turn → ((f : ℕ) (noted : Noted) → IsSome (s.entry noted.proc noted.page) → empties_of p op noted.proc noted.page ≡ false → left_in turn.events (Some f) (Some noted) ≡ Some f) → KeepsSlots s p (Some op) turn
   own_keeps p op turn sound apart own slots_left left =
       record {
         last = own_last turn.whats own;

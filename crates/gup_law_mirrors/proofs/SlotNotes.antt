@@ -69,10 +69,10 @@ module _ (script : ScriptValue) (t a n : ℕ) (op : Option Op) where
 
 -- ---- the notes of an operation that is neither a mirror nor a look
 
-abbrev pub IsUnmirrored : Op → Type 0
-IsUnmirrored (Mirror mirror proc page) = ⊥
-IsUnmirrored (Look mirror word) = ⊥
-IsUnmirrored op = Unit {0}
+abbrev pub IsNoMirror : Op → Type 0
+IsNoMirror (Mirror mirror proc page) = ⊥
+IsNoMirror (Look mirror word) = ⊥
+IsNoMirror op = Unit {0}
 
 -- one that isn't of waiting and fills no slot
 abbrev IsOwn : What → Type 0
@@ -104,11 +104,11 @@ own_last (what ∷ []) own = tt
 own_last (what ∷ other ∷ whats) own = own_last (other ∷ whats) own.1
 
 -- none is of a stale look
-no_look : (slots : Slots) (op : Op) (what : What) → IsUnmirrored op → IsStaleAt slots (Some op) what
+no_look : (slots : Slots) (op : Op) (what : What) → IsNoMirror op → IsStaleAt slots (Some op) what
 no_look slots (Look mirror word) what apart = absurd apart
 no_look slots op what apart = tt
 
-pub own_stale : (p : ℕ) (op : Op) (whats : List What) (slots : Slots) → IsUnmirrored op → AreStaleNotes p (Some op) whats slots
+pub own_stale : (p : ℕ) (op : Op) (whats : List What) (slots : Slots) → IsNoMirror op → AreStaleNotes p (Some op) whats slots
 own_stale p op [] slots apart = tt
 own_stale p op (what ∷ whats) slots apart = (no_look slots op what apart, own_stale p op whats (slots_after p op what slots) apart)
 
@@ -142,7 +142,7 @@ walk_own : {s : PlainState} {who : Doer} {page n got : ℕ} {write : Bool} {sequ
 walk_own found_fork = tt
 walk_own turn = search rules
 
-shape_own : {s : PlainState} {references : References} {who : Doer} {place : Place} {op : Op} {from to : JobPlace} {whats : List What} → TurnOf s references who place op from whats to → IsUnmirrored op → AreOwn whats
+shape_own : {s : PlainState} {references : References} {who : Doer} {place : Place} {op : Op} {from to : JobPlace} {whats : List What} → TurnOf s references who place op from whats to → IsNoMirror op → AreOwn whats
 shape_own (filled_slot mirror proc page named first undenied) apart = absurd apart
 shape_own (took op page n event (unmaps first many) less) apart = tt
 shape_own (took op page n event (discards first many) less) apart = tt
@@ -156,7 +156,7 @@ shape_own (moved_last handle false slot parts value is undenied) apart = (tt, re
 shape_own turn apart = search rules
 
 abbrev pub Own : Option Op → Option Waiting → List What → Type 0
-Own (Some op) None whats = IsUnmirrored op → AreOwn whats
+Own (Some op) None whats = IsNoMirror op → AreOwn whats
 Own op waiting whats = Unit {0}
 
 pub turn_own : {s : PlainState} {references : References} {who : Doer} {place : Place} {op : Option Op} {waiting : Option Waiting} {from to : JobPlace} {whats : List What} → TurnAt s references who place op waiting from whats to → Own op waiting whats
