@@ -21,6 +21,7 @@ ghost use Rattle.gup_op_mirrors.specs.Ranges.{range_of};
 use crate::changes::changes_page;
 use gup_base::{PageNo, ProcNo, Want};
 use gup_frames::Frames;
+use gup_law_mirrors::turns_invalidate_pages;
 use gup_op_base::{JobPlace, page_behind};
 use gup_script::Op;
 use gup_space::Space;
@@ -58,6 +59,7 @@ pub fn invalidated(
         → StandsAt s a proc k op.now → (q g : ℕ) → IsSome (s.entry q g)
         → invalidate (op_turn s a proc slots k op.now).events q g ≡ has_page (range_of result) q g }
 {
+    turns_invalidate_pages();
     let page = first_page(space, frames, far, got, place, op)?;
     let n = page_count(op);
     Some(Pages { proc, page, n })

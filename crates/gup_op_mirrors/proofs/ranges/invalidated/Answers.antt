@@ -5,7 +5,6 @@ use Rattle.gup_spec_turns.specs.Emptying.{has_page}
 use Rattle.gup_law_mirrors.specs.Invalidated.{page_in, pages_in, range_from}
 use Rattle.gup_op_mirrors.specs.Ranges.{range_of}
 use Rattle.gup_op_mirrors.specs.declared.ranges.Pages.{Pages}
-use Rattle.gup_law_mirrors.proofs.InvalidatingTurns.{invalidated_is}
 use Rattle.gup_op_mirrors.proofs.StandingPlaces.{maps_each}
 use Rattle.gup_op_mirrors.proofs.ranges.invalidated.Goals as goal
 
@@ -15,7 +14,7 @@ returns-in_err-page c s a slots k frames space place many fits at q g some =
     let op = c.args.op.now in
     let maps = maps_each (frames_of c.args.frames.now) (space_of c.args.space.now) s p c.requires.tidy space in
     let none : page_in s a p k op ≡ None = sym (c.first_page.ensures s a p k frames space place many fits at) ∙ c.in_err-page.was in
-    invalidated_is s a p slots k op c.requires.op maps q g some
+    c.turns_invalidate_pages.ensures s a p slots k op c.requires.op maps q g some
     ∙ ap (λ (page : Option ℕ). has_page (range_from p (pages_in op) page) q g) none
     ∙ sym (ap (λ (pages : Option Pages). has_page (range_of pages) q g) c.from_residual.ensures)
 
@@ -25,6 +24,6 @@ returns c s a slots k frames space place many fits at q g some =
     let op = c.args.op.now in
     let maps = maps_each (frames_of c.args.frames.now) (space_of c.args.space.now) s p c.requires.tidy space in
     let found : page_in s a p k op ≡ Some c.in_ok-page.page = sym (c.first_page.ensures s a p k frames space place many fits at) ∙ c.in_ok-page.was in
-    invalidated_is s a p slots k op c.requires.op maps q g some
+    c.turns_invalidate_pages.ensures s a p slots k op c.requires.op maps q g some
     ∙ ap (λ (page : Option ℕ). has_page (range_from p (pages_in op) page) q g) found
     ∙ ap (λ (n : ℕ). has_page (range_from p n (Some c.in_ok-page.page)) q g) (sym c.page_count-n.ensures)
