@@ -28,7 +28,7 @@ use Rattle.gup_spec_turns.specs.MirrorTurns.{fills, mirror_turn, look_turn}
 use Rattle.gup_spec_turns.specs.Run.{RunState, AreTurns, run_start, op_in, waiting_in, run_after, core_turn_by, core_turn_in}
 use Rattle.gup_spec_turns.specs.Turn.{turn_at, turn_of}
 use Rattle.gup_law_turns.proofs.EmptiedSlots.{none_emptying}
-use Rattle.gup_law_turns.proofs.EmptiedTurns.{EmptiesSlots, LeavesSlot}
+use Rattle.gup_law_turns.specs.Slots.{EmptiesSlots, LeavesSlot}
 use Rattle.gup_law_turns.proofs.EventLists.{Law}
 use Rattle.gup_law_turns.proofs.MirrorOps.{mirror_none, look_none}
 use Rattle.gup_law_turns.proofs.Puts.{some_same}
