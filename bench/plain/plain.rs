@@ -126,6 +126,8 @@ enum Op {
     Put { handle: usize },
     Move { process: usize, page: u64, zone: Zone },
     Transfer { handle: usize, outward: bool, index: u64, slot: u64, n: u64 },
+    Mirror { slot: usize, process: usize, page: u64 },
+    Look { slot: usize, word: usize },
     Fork { child: usize },
     Exit,
 }
@@ -166,6 +168,13 @@ enum Step {
     Dropping,
 }
 
+/// What a filled mirror slot is of, and the frame that it has without a reference.
+struct Mirrored {
+    process: usize,
+    page: u64,
+    frame: usize,
+}
+
 struct Actor<'s> {
     name: &'s str,
     process: Option<usize>,
@@ -182,6 +191,7 @@ enum Named {
     Process(usize),
     Actor(usize),
     Handle(usize),
+    Slot(usize),
 }
 
 enum Wait {
@@ -197,13 +207,30 @@ struct Machine<'s> {
     actors: Vec<Actor<'s>>,
     handles: Vec<Handle>,
     handle_names: Vec<&'s str>,
+    slots: Vec<Option<Mirrored>>,
     turns: Vec<u8>,
     out: Vec<u8>,
 }
 
-/// Whether a fault leaves the page as the access wants it; `None` says that it needs a frame, of this zone or of both, and finds
-/// none.
-fn ready(frames: &mut Frames, page: &mut Page, write: bool, pinned: bool, zone: Option<Zone>) -> Option<()> {
+/// Whether a page has another frame after a fault.
+#[derive(PartialEq)]
+enum Fault {
+    Kept,
+    Broken,
+}
+
+/// Empties the slots of these pages.
+fn invalidate(slots: &mut [Option<Mirrored>], p: usize, page: u64, n: u64) {
+    for slot in slots {
+        if slot.as_ref().is_some_and(|it| it.process == p && (page..page + n).contains(&it.page)) {
+            *slot = None;
+        }
+    }
+}
+
+/// What a fault that leaves the page as the access wants it does to its frame; `None` says that it needs a frame, of this zone or of
+/// both, and finds none.
+fn ready(frames: &mut Frames, page: &mut Page, write: bool, pinned: bool, zone: Option<Zone>) -> Option<Fault> {
     let entry = match page.entry {
         Some(entry) => entry,
         None => {
@@ -214,9 +241,10 @@ fn ready(frames: &mut Frames, page: &mut Page, write: bool, pinned: bool, zone: 
     };
     page.entry = Some(entry);
     if (write && entry.writable) || (!write && (!pinned || frames.marks[entry.frame])) {
-        return Some(());
+        return Some(Fault::Kept);
     }
     let mut frame = entry.frame;
+    let mut fault = Fault::Kept;
     if !frames.marks[frame] {
         if frames.counts[frame] == 1 {
             frames.marks[frame] = true;
@@ -226,10 +254,11 @@ fn ready(frames: &mut Frames, page: &mut Page, write: bool, pinned: bool, zone: 
             frames.marks[copy] = true;
             frames.put(frame, 1);
             frame = copy;
+            fault = Fault::Broken;
         }
     }
     page.entry = Some(Entry { frame, writable: write });
-    Some(())
+    Some(fault)
 }
 
 /// Moves the page of this entry to a frame of the zone; `None` where none is free.
@@ -252,6 +281,7 @@ impl<'s> Machine<'s> {
             actors: Vec::new(),
             handles: Vec::new(),
             handle_names: Vec::new(),
+            slots: Vec::new(),
             turns: Vec::new(),
             out: Vec::new(),
         };
@@ -354,6 +384,16 @@ impl<'s> Machine<'s> {
                 let page = number(words.next());
                 Op::Move { process, page, zone: if words.next() == Some("normal") { Zone::Normal } else { Zone::Movable } }
             }
+            "mirror" => {
+                let name = words.next().unwrap();
+                if !names.contains_key(name) {
+                    names.insert(name, Named::Slot(self.slots.len()));
+                    self.slots.push(None);
+                }
+                let process = process(names, words.next().unwrap());
+                Op::Mirror { slot: slot(names, name), process, page: number(words.next()) }
+            }
+            "look" => Op::Look { slot: slot(names, words.next().unwrap()), word: number(words.next()) as usize },
             way @ ("out" | "in") => {
                 let handle = handle(names, words.next().unwrap());
                 Op::Transfer { handle, outward: way == "out", index: number(words.next()), slot: number(words.next()), n: number(words.next()) }
@@ -367,7 +407,7 @@ impl<'s> Machine<'s> {
     /// The process that the operation is of, or names.
     fn concerned(&self, a: usize, op: &Op) -> Option<usize> {
         match op {
-            Op::Move { process, .. } => Some(*process),
+            Op::Move { process, .. } | Op::Mirror { process, .. } => Some(*process),
             _ => self.actors[a].process,
         }
     }
@@ -450,6 +490,8 @@ impl<'s> Machine<'s> {
             Op::Put { handle } => self.put(a, handle),
             Op::Move { process, page, zone } => self.migrate(a, process, page, zone),
             Op::Transfer { handle, outward, index, slot, n } => self.transfer(a, handle, outward, index, slot, n),
+            Op::Mirror { slot, process, page } => self.mirror(a, slot, process, page),
+            Op::Look { slot, word } => self.look(a, slot, word),
             Op::Fork { child } => self.fork(a, child),
             Op::Exit => self.exit(a),
         }
@@ -495,6 +537,7 @@ impl<'s> Machine<'s> {
         let far = self.actors[a].far;
         if let Some(at) = self.processes[p].find(page + far) {
             let pages = &mut self.processes[p].pages;
+            invalidate(&mut self.slots, p, page + far, 1);
             Self::lose(&mut self.frames, pages[at].1.entry);
             if keep {
                 pages[at].1.entry = None;
@@ -518,6 +561,7 @@ impl<'s> Machine<'s> {
         if process.pages.get(end - 1).is_none_or(|row| row.0 != page + n - 1) {
             return self.answer(a, "missing");
         }
+        invalidate(&mut self.slots, p, page, n);
         for row in process.pages.range_mut(at..end) {
             row.1.write = write;
             if let Some(entry) = &mut row.1.entry {
@@ -537,8 +581,10 @@ impl<'s> Machine<'s> {
             if write && !row.write {
                 return self.answer(a, "forbidden");
             }
-            if ready(&mut self.frames, row, write, false, None).is_none() {
-                return self.answer(a, "noframe");
+            match ready(&mut self.frames, row, write, false, None) {
+                None => return self.answer(a, "noframe"),
+                Some(Fault::Broken) => invalidate(&mut self.slots, p, page, 1),
+                Some(Fault::Kept) => {}
             }
         }
         let place = row.entry.unwrap().frame * WORDS + word;
@@ -592,12 +638,18 @@ impl<'s> Machine<'s> {
                 Some(row) if write && !row.write => Some("forbidden".to_string()),
                 Some(row) => match ready(&mut self.frames, row, write, true, zone) {
                     None => Some("noframe".to_string()),
-                    Some(()) if long && row.entry.unwrap().frame < self.frames.movable => {
+                    Some(_) if long && row.entry.unwrap().frame < self.frames.movable => {
+                        invalidate(&mut self.slots, p, at, 1);
                         self.actors[a].job = Job::Count(row.entry.take().unwrap());
                         process.table = Some(a);
                         return;
                     }
-                    Some(()) => None,
+                    Some(fault) => {
+                        if fault == Fault::Broken {
+                            invalidate(&mut self.slots, p, at, 1);
+                        }
+                        None
+                    }
                 },
             },
         };
@@ -755,11 +807,31 @@ impl<'s> Machine<'s> {
             _ => match row.entry.take() {
                 None => self.answer(a, "untouched"),
                 Some(entry) => {
+                    invalidate(&mut self.slots, p, page, 1);
                     process.table = Some(a);
                     self.actors[a].job = Job::Count(entry);
                 }
             },
         }
+    }
+
+    fn mirror(&mut self, a: usize, slot: usize, p: usize, page: u64) {
+        let Some(row) = self.processes[p].page(page) else {
+            return self.answer(a, "missing");
+        };
+        if ready(&mut self.frames, row, false, false, None).is_none() {
+            return self.answer(a, "noframe");
+        }
+        self.slots[slot] = Some(Mirrored { process: p, page, frame: row.entry.unwrap().frame });
+        self.answer(a, "ok");
+    }
+
+    fn look(&mut self, a: usize, slot: usize, word: usize) {
+        let text = match &self.slots[slot] {
+            Some(it) => format!("ok {}", self.frames.words[it.frame * WORDS + word]),
+            None => "stale".to_string(),
+        };
+        self.answer(a, &text);
     }
 
     fn transfer(&mut self, a: usize, handle: usize, outward: bool, index: u64, slot: u64, n: u64) {
@@ -826,6 +898,7 @@ impl<'s> Machine<'s> {
                 };
             }
             Job::Share(page) => {
+                invalidate(&mut self.slots, p, page, 1);
                 let row = parent.page(page).unwrap();
                 let entry = Entry { writable: false, ..row.entry.unwrap() };
                 row.entry = Some(entry);
@@ -867,9 +940,10 @@ impl<'s> Machine<'s> {
     fn exit(&mut self, a: usize) {
         let p = self.own(a);
         let pages = &mut self.processes[p].pages;
-        let Some((_, row)) = pages.pop_front() else {
+        let Some((page, row)) = pages.pop_front() else {
             return self.answer(a, "ok");
         };
+        invalidate(&mut self.slots, p, page, 1);
         Self::lose(&mut self.frames, row.entry);
     }
 
@@ -927,6 +1001,13 @@ fn handle(names: &HashMap<&str, Named>, word: &str) -> usize {
     match names[word] {
         Named::Handle(h) => h,
         _ => panic!("no handle: {word}"),
+    }
+}
+
+fn slot(names: &HashMap<&str, Named>, word: &str) -> usize {
+    match names[word] {
+        Named::Slot(slot) => slot,
+        _ => panic!("no mirror: {word}"),
     }
 }
 
