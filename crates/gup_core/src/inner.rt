@@ -160,6 +160,7 @@ impl Inner {
         let Some(op) = op_at(ops(&self.script, actor), seat.answered) else {
             return Advanced::Finished;
         };
+        let proc = process(&self.script, actor, op);
         if let Some(waiting) = waits_at(
             &self.parts,
             actor,
@@ -169,7 +170,6 @@ impl Inner {
         ) {
             return Advanced::Waits(waiting);
         }
-        let proc = process(&self.script, actor, op);
         let turn = next_turn(self.turns);
         let head = Head {
             turn,
